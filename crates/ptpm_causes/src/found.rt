@@ -13,6 +13,7 @@ ghost use Rattle.ptpm_causes.specs.Named.{has_key, key_cmp};
 ghost use Rattle.ptpm_causes.specs.Reasons.{first_of};
 
 use crate::cause::{Cause, Key, cause_in};
+use ptpm_site::domain::Domain;
 use ptpm_site::finding::{Finding, What};
 use ptpm_site::member::Member;
 use ptpm_site::site::Site;
@@ -64,7 +65,7 @@ impl Found {
     }
 
     /// The clock of the finding that other clocks of a domain lead, if there is one.
-    pub(crate) fn leaders_of(&self, domain: u8) -> Option<Source>
+    pub(crate) fn leaders_of(&self, domain: Domain) -> Option<Source>
         ensures { result ≡ find (in_domain domain) self.now.leaders.items }
     {
         self.leaders

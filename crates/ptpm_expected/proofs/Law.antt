@@ -33,6 +33,8 @@ use Rattle.ptpm_expected.specs.Senders.{announcing}
 use Rattle.ptpm_expected.specs.Telling.{Told}
 use Rattle.ptpm_expected.specs.Writing.{Closes, Excuses, Holds, Leads, Line, OfEach, Silences, Wants, clock_lines, clock_lines_in, clock_members, domain_lines, domains, excuse_in, leader_lines, line_of, line_of_rule, lines_of, member_line, port_lines, port_members, written}
 use Rattle.ptpm_expected.proofs.Tests.{all_among, all_append, all_flat, all_if, all_inserted, all_made, all_weaker, any_flat, any_left, any_right, any_weaker, flat_append, flat_flat, flat_none, flat_same, none_made, or_this, or_that}
+use Rattle.ptpm_site.specs.declared.domain.Domain.{Domain}
+use Rattle.ptpm_site.specs.Domains.{same_domain}
 
 -- ---- what a line names and closes
 
@@ -50,7 +52,7 @@ line_closes (Closes d) = d ∷ []
 line_closes _ = []
 
 module _ (t : SiteAnswers) where
-  names_line : (way : Naming) (d : ℕ) (r : Rule) → named_by_rule way d r ≡ line_names way (line_of_rule t d r)
+  names_line : (way : Naming) (d : Domain) (r : Rule) → named_by_rule way d r ≡ line_names way (line_of_rule t d r)
   unfolding line_names
   names_line naming.Demanded d (rule.Clock c presence.Wanted) = refl
   names_line naming.Demanded d r = refl
@@ -63,7 +65,7 @@ module _ (t : SiteAnswers) where
   names_line naming.Leading d (rule.Clock c presence.Wanted) = refl
   names_line naming.Leading d r = refl
 
-  closes_line : (d : ℕ) (r : Rule) → closed_by d r ≡ line_closes (line_of_rule t d r)
+  closes_line : (d : Domain) (r : Rule) → closed_by d r ≡ line_closes (line_of_rule t d r)
   unfolding line_closes
   closes_line d (rule.Clock c presence.Wanted) = refl
   closes_line d r = refl
@@ -97,7 +99,7 @@ module _ (t : SiteAnswers) where
   fits_seen (Holds s port m so) h = and_from (t.seen s) true (and_parts (t.seen s) so h).0 refl
   fits_seen line h = refl
 
-  tells_none : (d : ℕ) (r : Rule) → fits (line_of_rule t d r) ≡ true → rule_told t d r ≡ []
+  tells_none : (d : Domain) (r : Rule) → fits (line_of_rule t d r) ≡ true → rule_told t d r ≡ []
   unfolding fits
   tells_none d (rule.Leaders choices) h = cond-true _ _ _ h
   tells_none d (rule.Member c wanted) h = met (t.seen (in_domain_of d c)) _ _ (and_parts _ _ h).1
@@ -175,12 +177,12 @@ module _ (t : SiteAnswers) where
       ∙ flat_flat line_closes (port_lines t s) (t.ports s)
       ∙ flat_none (λ n. flat_map line_closes (port_lines t s n)) (λ n. members_close_none s (Some n) port_members) (t.ports s)
 
-  leaders_close_none : (d : ℕ) (xs : List ClockIdentity) → flat_map line_closes (leader_lines d xs) ≡ []
+  leaders_close_none : (d : Domain) (xs : List ClockIdentity) → flat_map line_closes (leader_lines d xs) ≡ []
   unfolding line_closes
   leaders_close_none d [] = refl
   leaders_close_none d (c ∷ xs) = refl
 
-  domain_closes : (d : ℕ) → flat_map line_closes (domain_lines t d) ≡ d ∷ []
+  domain_closes : (d : Domain) → flat_map line_closes (domain_lines t d) ≡ d ∷ []
   unfolding domain_lines line_closes
   domain_closes d =
       let L : List Line = leader_lines d (leaders_among t d t.clocks) in
@@ -204,7 +206,7 @@ module _ (t : SiteAnswers) where
   unfolding clock_lines names_it line_names
   wanted_itself s = or_this _ _ (or_this (same_source s s) false (source_itself s))
 
-  seen_in_domain : (s : Source) (d : ℕ) → (s.domain == d) ≡ true → list_any (same_source s) t.clocks ≡ true
+  seen_in_domain : (s : Source) (d : Domain) → (same_domain s.domain d) ≡ true → list_any (same_source s) t.clocks ≡ true
       → list_any (names_it naming.Demanded s) (domain_lines t d) ≡ true
   unfolding domain_lines
   seen_in_domain s d e among =
@@ -213,13 +215,13 @@ module _ (t : SiteAnswers) where
       any_right p (leader_lines d (leaders_among t d t.clocks) ++ Closes d ∷ [] ++ flat_map (excuse_in t d) (announcing t)) (flat_map (clock_lines_in t d) t.clocks)
       (any_flat p (clock_lines_in t d) t.clocks
       ∙ any_weaker (same_source s) (λ y. list_any p (clock_lines_in t d y))
-      (λ y same. subst here (same_is s y same) (any_if p (s.domain == d) (clock_lines t s) e (wanted_itself s))) t.clocks among)
+      (λ y same. subst here (same_is s y same) (any_if p (same_domain s.domain d) (clock_lines t s) e (wanted_itself s))) t.clocks among)
 
   excused_itself : (s : Source) → list_any (names_it naming.Excused s) (Excuses s ∷ []) ≡ true
   unfolding names_it line_names
   excused_itself s = or_this _ _ (or_this (same_source s s) false (source_itself s))
 
-  heard_in_domain : (s : Source) (d : ℕ) → (s.domain == d) ≡ true → t.seen s ≡ false → list_any (same_source s) (announcing t) ≡ true
+  heard_in_domain : (s : Source) (d : Domain) → (same_domain s.domain d) ≡ true → t.seen s ≡ false → list_any (same_source s) (announcing t) ≡ true
       → list_any (names_it naming.Excused s) (domain_lines t d) ≡ true
   unfolding domain_lines
   heard_in_domain s d e unseen among =
@@ -232,11 +234,11 @@ module _ (t : SiteAnswers) where
       (any_flat p (excuse_in t d) (announcing t)
       ∙ any_weaker (same_source s) (λ y. list_any p (excuse_in t d y))
       (λ y same. subst here (same_is s y same)
-      (any_if p (s.domain == d && not (t.seen s)) (Excuses s ∷ []) (and_from (s.domain == d) (not (t.seen s)) e (ap not unseen)) (excused_itself s)))
+      (any_if p (same_domain s.domain d && not (t.seen s)) (Excuses s ∷ []) (and_from (same_domain s.domain d) (not (t.seen s)) e (ap not unseen)) (excused_itself s)))
       (announcing t) among))
 
 module _ (t : SiteAnswers) (known : (s : Source) → t.seen s ≡ list_any (same_source s) t.clocks) where
-  leaders_fit : (d : ℕ) (xs : List ClockIdentity) → xs ≡ leaders_among t d t.clocks → list_all (fits t) (leader_lines d xs) ≡ true
+  leaders_fit : (d : Domain) (xs : List ClockIdentity) → xs ≡ leaders_among t d t.clocks → list_all (fits t) (leader_lines d xs) ≡ true
   unfolding fits
   leaders_fit d [] e = refl
   leaders_fit d (c ∷ xs) e =
@@ -264,7 +266,7 @@ module _ (t : SiteAnswers) (known : (s : Source) → t.seen s ≡ list_any (same
   all_seen =
       all_weaker (λ s. list_any (same_source s) t.clocks) t.seen (λ s h. known s ∙ h) t.clocks (all_among same_source source_itself t.clocks)
 
-  domain_fits : (d : ℕ) → list_all (fits t) (domain_lines t d) ≡ true
+  domain_fits : (d : Domain) → list_all (fits t) (domain_lines t d) ≡ true
   unfolding domain_lines fits
   domain_fits d =
       let L : List Line = leader_lines d (leaders_among t d t.clocks) in
@@ -306,8 +308,8 @@ module _ (t : SiteAnswers) (known : (s : Source) → t.seen s ≡ list_any (same
         all_closed t entries ∙ ap (flat_map line_closes) lines ∙ flat_flat line_closes (domain_lines t) (domains t)
         ∙ flat_same (λ d. flat_map line_closes (domain_lines t d)) (domain_closes t) (domains t)
 
-    in_closed : (s : Source) → is_closed entries s.domain ≡ true → list_any (λ d. s.domain == d) (domains t) ≡ true
-    in_closed s h = ap (list_any (λ d. s.domain == d)) (sym closed_domains) ∙ h
+    in_closed : (s : Source) → is_closed entries s.domain ≡ true → list_any (same_domain s.domain) (domains t) ≡ true
+    in_closed s h = ap (list_any (same_domain s.domain)) (sym closed_domains) ∙ h
 
     named_in : (way : Naming) (s : Source) → is_named_as way entries s ≡ list_any (λ d. list_any (names_it way s) (domain_lines t d)) (domains t)
     unfolding written names_it
@@ -322,7 +324,7 @@ module _ (t : SiteAnswers) (known : (s : Source) → t.seen s ≡ list_any (same
     named_if_seen s h k =
         or_this _ (is_named_as naming.Leading entries s) (or_this (is_named_as naming.Demanded entries s) _
         (named_in naming.Demanded s
-        ∙ any_weaker (λ d. s.domain == d) (λ d. list_any (names_it naming.Demanded s) (domain_lines t d))
+        ∙ any_weaker (same_domain s.domain) (λ d. list_any (names_it naming.Demanded s) (domain_lines t d))
         (λ d e. seen_in_domain t s d e (sym (known s) ∙ h)) (domains t) (in_closed s k)))
 
     named_if_heard : (s : Source) → t.seen s ≡ false → list_any (same_source s) (announcing t) ≡ true → is_closed entries s.domain ≡ true
@@ -330,7 +332,7 @@ module _ (t : SiteAnswers) (known : (s : Source) → t.seen s ≡ list_any (same
     named_if_heard s h among k =
         or_this _ (is_named_as naming.Leading entries s) (or_that (is_named_as naming.Demanded entries s) (is_named_as naming.Excused entries s)
         (named_in naming.Excused s
-        ∙ any_weaker (λ d. s.domain == d) (λ d. list_any (names_it naming.Excused s) (domain_lines t d))
+        ∙ any_weaker (same_domain s.domain) (λ d. list_any (names_it naming.Excused s) (domain_lines t d))
         (λ d e. heard_in_domain t s d e h among) (domains t) (in_closed s k)))
 
     expected_sender : (s : Source) (b : Bool) → t.seen s ≡ b → list_any (same_source s) (announcing t) ≡ true

@@ -22,6 +22,7 @@ use Rattle.ptpm_expected.specs.Meeting.{is_as_wanted}
 use Rattle.ptpm_expected.specs.Naming.{is_named_as}
 use Rattle.ptpm_expected.specs.Senders.{is_heard}
 use Rattle.ptpm_expected.specs.Telling.{Told, told_all}
+use Rattle.ptpm_site.specs.Domains.{same_domain}
 
 -- ---- what an inventory allows
 
@@ -39,7 +40,7 @@ is_quality_of_rule site s (rule.EachMember wanted) = has_quality site s wanted
 is_quality_of_rule site s _ = false
 
 abbrev pub is_quality_of : SiteAnswers → Source → Entry → Bool
-is_quality_of site s e = e.domain == s.domain && is_quality_of_rule site s e.rule
+is_quality_of site s e = same_domain e.domain s.domain && is_quality_of_rule site s e.rule
 
 -- a clock needs to answer nothing, and is heard
 abbrev pub is_mute : SiteAnswers → List Entry → Source → Bool

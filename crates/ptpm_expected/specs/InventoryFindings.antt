@@ -18,6 +18,7 @@ use Rattle.ptpm_expected.specs.Meeting.{is_as_wanted, rule_says}
 use Rattle.ptpm_expected.specs.Naming.{all_named_as, in_domain_of, is_closed, is_named, is_named_as}
 use Rattle.ptpm_expected.specs.Senders.{announcing}
 use Rattle.ptpm_expected.specs.Telling.{Absent, NotAsExpected, OtherLeaders, Told, Unexpected, told}
+use Rattle.ptpm_site.specs.declared.domain.Domain.{Domain}
 
 -- ---- `absent`
 
@@ -50,7 +51,7 @@ member_told site wanted s =
     else told s (NotAsExpected wanted.port wanted.member (rule_says site s wanted.port wanted.member) wanted.wanted.items) ∷ []
 
 -- of a clock of a domain
-abbrev pub member_told_in : SiteAnswers → ℕ → MemberRule → Source → List Told
+abbrev pub member_told_in : SiteAnswers → Domain → MemberRule → Source → List Told
 member_told_in site domain wanted s = if in_domain domain s then member_told site wanted s else []
 
 -- of a domain, at the first of the clocks that lead, or at an identity of zeros
@@ -60,11 +61,11 @@ first_of clocks = unwrap_or (slice_get clocks 0) (record { 0 = replicate 8 0 })
 abbrev pub are_leading : List ClockIdentity → List (List ClockIdentity) → Bool
 are_leading leading choices = list_any (λ clocks. pointwise same_clock clocks leading) choices
 
-abbrev pub leaders_told : ℕ → List (List ClockIdentity) → List ClockIdentity → List Told
+abbrev pub leaders_told : Domain → List (List ClockIdentity) → List ClockIdentity → List Told
 leaders_told domain choices leading =
     if are_leading leading choices then [] else told (in_domain_of domain (first_of leading)) (OtherLeaders leading choices) ∷ []
 
-abbrev pub rule_told : SiteAnswers → ℕ → Rule → List Told
+abbrev pub rule_told : SiteAnswers → Domain → Rule → List Told
 rule_told site domain (rule.Leaders choices) = leaders_told domain (map (λ clocks. clocks.items) choices.items) (leaders_among site domain site.clocks)
 rule_told site domain (rule.Member clock wanted) = member_told site wanted (in_domain_of domain clock)
 rule_told site domain (rule.EachMember wanted) = flat_map (member_told_in site domain wanted) site.clocks

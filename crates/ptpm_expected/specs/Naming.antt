@@ -12,8 +12,10 @@ use Rattle.ptpm_expected.specs.declared.inventory.Rule.{Rule}
 use Rattle.ptpm_expected.specs.declared.inventory.Rule.TheVariants as rule
 use Rattle.ptpm_expected.specs.declared.named.Naming.{Naming}
 use Rattle.ptpm_expected.specs.declared.named.Naming.TheVariants as naming
+use Rattle.ptpm_site.specs.declared.domain.Domain.{Domain}
+use Rattle.ptpm_site.specs.Domains.{same_domain}
 
-abbrev pub in_domain_of : ℕ → ClockIdentity → Source
+abbrev pub in_domain_of : Domain → ClockIdentity → Source
 in_domain_of domain clock = record { domain = domain; clock = clock }
 
 -- `clock`: it is to be seen. `optional`: it may be absent. `mute`: the same, and while it is heard it needs to answer nothing
@@ -25,7 +27,7 @@ is_named_so naming.Mute presence.Mute = true
 is_named_so way _ = false
 
 -- a line with a member demands its clock too, and `grandmaster` names those that may lead
-abbrev pub named_by_rule : Naming → ℕ → Rule → List Source
+abbrev pub named_by_rule : Naming → Domain → Rule → List Source
 named_by_rule way domain (rule.Clock clock said) = if is_named_so way said then in_domain_of domain clock ∷ [] else []
 named_by_rule naming.Demanded domain (rule.Member clock wanted) = in_domain_of domain clock ∷ []
 named_by_rule naming.Leading domain (rule.Leaders choices) = flat_map (λ clocks. map (in_domain_of domain) clocks.items) choices.items
@@ -48,12 +50,12 @@ abbrev pub is_named : List Entry → Source → Bool
 is_named entries s = is_named_as naming.Demanded entries s || is_named_as naming.Excused entries s || is_named_as naming.Leading entries s
 
 -- `only`: each clock of the domain is named
-abbrev pub closed_by : ℕ → Rule → List ℕ
+abbrev pub closed_by : Domain → Rule → List Domain
 closed_by domain rule.Only = domain ∷ []
 closed_by domain _ = []
 
-abbrev pub closed_in : Entry → List ℕ
+abbrev pub closed_in : Entry → List Domain
 closed_in e = closed_by e.domain e.rule
 
-abbrev pub is_closed : List Entry → ℕ → Bool
-is_closed entries domain = list_any (λ d. domain == d) (flat_map closed_in entries)
+abbrev pub is_closed : List Entry → Domain → Bool
+is_closed entries domain = list_any (same_domain domain) (flat_map closed_in entries)

@@ -13,6 +13,8 @@ use Rattle.ptpm_site.specs.declared.member.Member.{Member}
 use Rattle.ptpm_site.specs.declared.member.Member.TheVariants as member
 use Rattle.ptpm_site.specs.declared.member.Value.TheVariants as value
 use Rattle.ptpm_site.specs.declared.source.Source.{Source}
+use Rattle.ptpm_site.specs.Announces.{is_by_unicast}
+use Rattle.ptpm_site.specs.Announcing.{port_above}
 use Rattle.ptpm_site.specs.Following.{beside}
 use Rattle.ptpm_site.specs.Grandmasters.{leads}
 use Rattle.ptpm_site.specs.Leading.{has_source}
@@ -20,7 +22,9 @@ use Rattle.ptpm_site.specs.PortStates.{is_following, is_giving, measures_end_to_
 use Rattle.ptpm_site.specs.SiteAnswers.{SiteAnswers}
 use Rattle.ptpm_expected.specs.declared.profile.Profile.{Profile}
 use Rattle.ptpm_expected.specs.declared.ranges.Range.{Range}
-use Rattle.ptpm_expected.specs.Profiles.{allowed_mechanisms, announce_range, delay_request_range, domain_range, pdelay_request_range, priority_range, sync_range, timeout_range}
+use Rattle.ptpm_expected.specs.Profiles.{allowed_mechanisms, announce_range, delay_request_range, domain_range, pdelay_request_range, priority_range, sdo_range, sync_range, timeout_range}
+use Rattle.ptpm_site.specs.declared.domain.Domain.{Domain}
+use Rattle.ptpm_site.specs.Domains.{sdo_of}
 
 abbrev pub is_within : ℤ → Range → Bool
 is_within n r = int_le r.least n && int_le n r.greatest
@@ -36,9 +40,10 @@ member_outside port m n range = option_map
 
 -- ---- of a clock
 
-abbrev pub clock_outside : Profile → DefaultDataSet → List (Option Outside)
-clock_outside profile d =
-    member_outside None member.DomainNumber (pos d.domain) domain_range
+abbrev pub clock_outside : Profile → Domain → DefaultDataSet → List (Option Outside)
+clock_outside profile domain d =
+    member_outside None member.SdoId (pos (sdo_of domain)) (sdo_range profile)
+    ∷ member_outside None member.DomainNumber (pos d.domain) domain_range
     ∷ member_outside None member.Priority1 (pos d.priority1) (priority_range profile) ∷ []
 
 -- a clock of class 6 or 7 that leads gives TAI
@@ -100,7 +105,8 @@ unlike_parent n set above =
     if int_eq above.log_announce set.log_announce then None
     else Some (record { port = Some n; member = member.LogAnnounceInterval; value = value.Number set.log_announce; allowed = allowed.OfParent above.log_announce })
 
--- that of a port in SLAVE or UNCALIBRATED
+-- that of a port in SLAVE or UNCALIBRATED, if the parent port does not announce by unicast
 unfoldable pub parent_outside : SiteAnswers → Source → ℕ → PortDataSet → Option Outside
 parent_outside site s n set = if is_following set.state then option_and_then (λ p.
-    option_and_then (unlike_parent n set) (site.port (beside s p.parent.clock) p.parent.port)) (site.parent s) else None
+    if is_by_unicast site.heard (port_above s p.parent) then None
+    else option_and_then (unlike_parent n set) (site.port (beside s p.parent.clock) p.parent.port)) (site.parent s) else None

@@ -17,7 +17,7 @@ abbrev pub each_outside : Source → List (Option Outside) → List Finding
 each_outside s members = flat_map (found what.Profile s) members
 
 abbrev pub default_found : SiteAnswers → Profile → Source → List Finding
-default_found site profile s = option_map_or (λ d. each_outside s (clock_outside profile d)) (site.default s) []
+default_found site profile s = option_map_or (λ d. each_outside s (clock_outside profile s.domain d)) (site.default s) []
 
 unfoldable pub clock_found : SiteAnswers → Profile → Source → List Finding
 clock_found site profile s = default_found site profile s ++ found what.Profile s (timescale_outside site s)

@@ -14,6 +14,13 @@ from least greatest = Some (record { least = least; greatest = greatest })
 abbrev pub domain_range : Option Range
 domain_range = from (pos 0) (pos 127)
 
+-- 802.1AS has an sdoId of its own
+abbrev pub sdo_range : Profile → Option Range
+sdo_range profiles.Default = from (pos 0) (pos 0)
+sdo_range profiles.St2059 = from (pos 0) (pos 0)
+sdo_range profiles.Aes67 = from (pos 0) (pos 0)
+sdo_range profiles.Gptp = from (pos 256) (pos 256)
+
 abbrev pub priority_range : Profile → Option Range
 priority_range profiles.Default = None
 priority_range profiles.St2059 = None

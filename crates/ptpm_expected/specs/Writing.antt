@@ -2,7 +2,6 @@
 use Rattle.std.specs.Prelude.{ℕ, ◌++◌, ◌&&◌, Bool, true, not, is_some, List, [], ◌∷◌, Option, Some, None, map, if◌then◌else◌}
 use Rattle.std.specs.BTreeSet.{insert_key}
 use Rattle.std.specs.List.{flat_map, fold}
-use Rattle.std.specs.Ordering.{nat_cmp}
 use Rattle.ptpm_codec.specs.declared.identity.ClockIdentity.{ClockIdentity}
 use Rattle.ptpm_site.specs.declared.member.Member.{Member}
 use Rattle.ptpm_site.specs.declared.member.Member.TheVariants as member
@@ -17,18 +16,20 @@ use Rattle.ptpm_expected.specs.Leaders.{leaders_among}
 use Rattle.ptpm_expected.specs.Meeting.{is_as_wanted, rule_says}
 use Rattle.ptpm_expected.specs.Naming.{in_domain_of}
 use Rattle.ptpm_expected.specs.Senders.{announcing}
+use Rattle.ptpm_site.specs.declared.domain.Domain.{Domain}
+use Rattle.ptpm_site.specs.Domains.{domain_cmp}
 
 -- A line of an inventory, with lists for its vectors; of a member whether it is as it is wanted
 pub data Line : Type 0 where
-  Leads : (domain : ℕ) → (choices : List (List ClockIdentity)) → Line
-  Closes : (domain : ℕ) → Line
+  Leads : (domain : Domain) → (choices : List (List ClockIdentity)) → Line
+  Closes : (domain : Domain) → Line
   Wants : (clock : Source) → Line
   Excuses : (clock : Source) → Line
   Silences : (clock : Source) → Line
   Holds : (clock : Source) → (port : Option ℕ) → (member : Member) → (is_so : Bool) → Line
   OfEach : Line
 
-abbrev pub line_of_rule : SiteAnswers → ℕ → Rule → Line
+abbrev pub line_of_rule : SiteAnswers → Domain → Rule → Line
 line_of_rule site domain (rule.Leaders choices) = Leads domain (map (λ clocks. clocks.items) choices.items)
 line_of_rule site domain rule.Only = Closes domain
 line_of_rule site domain (rule.Clock clock presence.Wanted) = Wants (in_domain_of domain clock)
@@ -68,19 +69,19 @@ port_lines site s n = flat_map (member_line site s (Some n)) port_members
 unfoldable pub clock_lines : SiteAnswers → Source → List Line
 clock_lines site s = Wants s ∷ [] ++ flat_map (member_line site s None) clock_members ++ flat_map (port_lines site s) (site.ports s)
 
-abbrev pub clock_lines_in : SiteAnswers → ℕ → Source → List Line
+abbrev pub clock_lines_in : SiteAnswers → Domain → Source → List Line
 clock_lines_in site domain s = if in_domain domain s then clock_lines site s else []
 
 -- a clock that sends Announce and is not seen may be absent
-abbrev pub excuse_in : SiteAnswers → ℕ → Source → List Line
+abbrev pub excuse_in : SiteAnswers → Domain → Source → List Line
 excuse_in site domain s = if in_domain domain s && not (site.seen s) then Excuses s ∷ [] else []
 
 -- who leads, if anyone does
-abbrev pub leader_lines : ℕ → List ClockIdentity → List Line
+abbrev pub leader_lines : Domain → List ClockIdentity → List Line
 leader_lines domain [] = []
 leader_lines domain (clock ∷ others) = Leads domain ((clock ∷ others) ∷ []) ∷ []
 
-unfoldable pub domain_lines : SiteAnswers → ℕ → List Line
+unfoldable pub domain_lines : SiteAnswers → Domain → List Line
 domain_lines site domain =
     leader_lines domain (leaders_among site domain site.clocks)
     ++ Closes domain ∷ []
@@ -88,11 +89,11 @@ domain_lines site domain =
     ++ flat_map (clock_lines_in site domain) site.clocks
 
 -- the domains that have clocks, ascending
-abbrev pub domain_of : Source → List ℕ
+abbrev pub domain_of : Source → List Domain
 domain_of s = s.domain ∷ []
 
-unfoldable pub domains : SiteAnswers → List ℕ
-domains site = fold (insert_key nat_cmp) [] (flat_map domain_of site.clocks)
+unfoldable pub domains : SiteAnswers → List Domain
+domains site = fold (insert_key domain_cmp) [] (flat_map domain_of site.clocks)
 
 unfoldable pub written : SiteAnswers → List Line
 written site = flat_map (domain_lines site) (domains site)

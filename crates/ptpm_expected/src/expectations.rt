@@ -1,11 +1,12 @@
 //! What a site is expected to be, and the picture of a site that is held to it.
 
-ghost use Rattle.std.specs.Prelude.{◌≡◌, IfOk, OnOk, length};
+ghost use Rattle.std.specs.Prelude.{◌≡◌, IfOk, OnOk, length, option_map};
 ghost use Rattle.ptpm_site.specs.Findings.{findings_of, reported};
+ghost use Rattle.ptpm_site.specs.Open.{open_of};
 ghost use Rattle.ptpm_site.specs.Site.{site_answers};
-ghost use Rattle.ptpm_expected.specs.Expected.{said_by};
+ghost use Rattle.ptpm_expected.specs.Expected.{open_by, said_by};
 
-use crate::held_to_inventory::hold_to_inventory;
+use crate::held_to_inventory::{hold_to_inventory, keep_open};
 use crate::held_to_profile::hold_to_profile;
 use crate::inventory::Inventory;
 use crate::profile::Profile;
@@ -45,11 +46,19 @@ pub fn picture_of<'a>(
     ensures clocks { IfOk result (λ picture. picture.forest.sources.items ≡ (site_answers site.now).clocks) }
     ensures count { expectations.entry.inventory ≡ None → IfOk result (λ picture. length picture.findings.items
         ≡ length (said_by (site_answers site.now) expectations.entry.profile (findings_of (site_answers site.now) limits))) }
+    ensures unsettled { IfOk result (λ picture. picture.open_findings.items ≡ open_by (site_answers site.now)
+        (option_map (λ inventory. inventory.now.entries.items) expectations.entry.inventory) (open_of (site_answers site.now) limits)) }
 {
     let sources = site.sources(alloc)?;
     let mut picture = Picture::of(alloc, site, left_out, limits)?;
     let findings = &mut picture.findings;
     hold(alloc, site, sources.as_slice(), expectations, findings)?;
+    hold_open(
+        alloc,
+        site,
+        expectations.inventory,
+        &mut picture.open_findings,
+    )?;
     Ok(picture)
 }
 
@@ -71,6 +80,21 @@ fn hold<'a>(
             hold_to_inventory(alloc, site, sources, inventory, findings)
         }
         None => hold_to_any_profile(alloc, site, sources, expectations.profile, findings),
+    }
+}
+
+/// Holds what is open to an inventory, if there is one.
+fn hold_open(
+    alloc: Global,
+    site: &Site,
+    inventory: Option<&Inventory>,
+    findings: &mut Vec<Finding<'_>>,
+) -> Result<(), AllocError>
+    ensures { OnOk result (findings.new.items ≡ open_by (site_answers site.now) (option_map (λ inventory. inventory.now.entries.items) inventory) findings.old.items) }
+{
+    match inventory {
+        Some(inventory) => keep_open(alloc, site, inventory, findings),
+        None => Ok(()),
     }
 }
 

@@ -42,6 +42,20 @@ pub fn hold_to_inventory<'a>(
     Ok(())
 }
 
+/// Takes away of what is open what an inventory allows.
+pub fn keep_open(
+    alloc: Global,
+    site: &Site,
+    inventory: &Inventory,
+    findings: &mut Vec<Finding<'_>>,
+) -> Result<(), AllocError>
+    ensures { OnOk result (findings.new.items ≡ filter (stays (site_answers site.now) inventory.now.entries.items) findings.old.items) }
+{
+    let held = Held::of(alloc, site, inventory.entries.as_slice())?;
+    keep_what_stays(&held, findings);
+    Ok(())
+}
+
 /// Takes away what the inventory allows.
 fn keep_what_stays(held: &Held<'_>, findings: &mut Vec<Finding<'_>>)
     requires { IsHeld held.now }

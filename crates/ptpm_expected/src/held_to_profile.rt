@@ -11,6 +11,7 @@ ghost use Rattle.ptpm_expected.specs.Order.{finding_key};
 use crate::judging_profile::judge_profile;
 use crate::order::{FindingKey, put_in_order};
 use crate::profile::Profile;
+use ptpm_site::evidence::Evidence;
 use ptpm_site::finding::{Finding, What};
 use ptpm_site::leading::Degradation;
 use ptpm_site::site::Site;
@@ -56,7 +57,8 @@ pub fn hold_to_profile(
         ≡ length (said_by_profile (site_answers site.now) profile (reported findings.old.items))) }
 {
     keep_shown(profile, findings);
-    judge_profile(alloc, site, profile, sources, findings)?;
+    let evidence = Evidence::of(alloc, site.all_heard())?;
+    judge_profile(alloc, site, &evidence, profile, sources, findings)?;
     put_in_order(findings)?;
     Ok(())
 }

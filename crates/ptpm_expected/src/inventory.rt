@@ -1,6 +1,7 @@
 //! The inventory of a site: what its operator says of it.
 
 use ptpm_codec::ClockIdentity;
+use ptpm_site::domain::Domain;
 use ptpm_site::expected::Wanted;
 use ptpm_site::member::Member;
 
@@ -13,7 +14,7 @@ pub struct Inventory {
 /// What is said of a domain, or of a clock of it.
 #[derive(Drop)]
 pub struct Entry {
-    pub domain: u8,
+    pub domain: Domain,
     pub rule: Rule,
 }
 

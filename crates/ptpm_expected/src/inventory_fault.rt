@@ -19,7 +19,7 @@ pub enum InventoryFault {
 pub enum LineFault {
     NotText,
     NoDomain,
-    OtherSdo,
+    NoSdo,
     NoClock,
     NoMember,
     NotOfDomain,
@@ -44,7 +44,7 @@ impl LineFault {
         match self {
             LineFault::NotText => "it is no UTF-8",
             LineFault::NoDomain => "it begins with no domainNumber, 0 to 255",
-            LineFault::OtherSdo => "it has an sdoId, which is not looked at",
+            LineFault::NoSdo => "behind @ there is no sdoId, 0x0 to 0xfff",
             LineFault::NoClock => "its second word is no clockIdentity, * or -",
             LineFault::NoMember => "its third word is no member",
             LineFault::NotOfDomain => "a domain has 'grandmaster' and 'only' alone",

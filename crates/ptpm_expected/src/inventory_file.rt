@@ -6,6 +6,7 @@ use crate::members::{clock_member, port_member};
 use crate::wanted_values::{identity, wanted_values};
 use crate::words::{first_choice, first_word, without_note};
 use ptpm_codec::ClockIdentity;
+use ptpm_site::domain::Domain;
 use ptpm_site::member::Member;
 use std::alloc::Global;
 use std::str;
@@ -50,12 +51,25 @@ fn entry_of(alloc: Global, line: &[u8]) -> Result<Option<Entry>, ReadFault> {
     Ok(Some(Entry { domain, rule }))
 }
 
-/// A domainNumber. Its sdoId is not looked at.
-fn domain_of(word: &str) -> Result<u8, LineFault> {
-    if word.contains('@') {
-        return Err(LineFault::OtherSdo);
+/// A domainNumber, and @ with an sdoId, unless that is 0.
+fn domain_of(word: &str) -> Result<Domain, LineFault> {
+    let (number, sdo) = match word.split_once('@') {
+        Some((number, sdo)) => (number, sdo_of(sdo)?),
+        None => (word, 0),
+    };
+    match u8::from_str(number) {
+        Ok(number) => Ok(Domain::of(number, sdo)),
+        Err(_) => Err(LineFault::NoDomain),
     }
-    u8::from_str(word).map_err(|_| LineFault::NoDomain)
+}
+
+/// An sdoId: 0x, and one to three hexadecimal digits.
+fn sdo_of(word: &str) -> Result<u16, LineFault> {
+    let digits = word.strip_prefix("0x").ok_or(LineFault::NoSdo)?;
+    match u16::from_str_radix(digits, 16) {
+        Ok(sdo) if sdo <= 0xfff => Ok(sdo),
+        _ => Err(LineFault::NoSdo),
+    }
 }
 
 fn rule_of(alloc: Global, clock: &str, member: &str, value: &str) -> Result<Rule, ReadFault> {

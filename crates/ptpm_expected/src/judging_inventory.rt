@@ -13,6 +13,7 @@ use crate::inventory::{Entry, MemberRule, Rule};
 use crate::meeting::unmet;
 use crate::telling::tell;
 use ptpm_codec::ClockIdentity;
+use ptpm_site::domain::Domain;
 use ptpm_site::expected::OtherLeaders;
 use ptpm_site::finding::{Finding, What};
 use ptpm_site::site::Site;
@@ -82,7 +83,7 @@ fn judge_member<'a>(
 /// A member of each clock of a domain.
 fn judge_each<'a>(
     site: &'a Site,
-    domain: u8,
+    domain: Domain,
     rule: &'a MemberRule,
     sources: &[Source],
     findings: &mut Vec<Finding<'a>>,
@@ -100,7 +101,7 @@ fn judge_each<'a>(
 
 /// The clocks of a domain that lead, if they are none of those that are wanted.
 fn judge_leaders<'a>(
-    domain: u8,
+    domain: Domain,
     wanted: &'a [Vec<ClockIdentity>],
     leading: Vec<ClockIdentity>,
     findings: &mut Vec<Finding<'a>>,
@@ -152,7 +153,7 @@ fn first_of(leading: &[ClockIdentity]) -> ClockIdentity
 pub(crate) fn leading_in(
     alloc: Global,
     site: &Site,
-    domain: u8,
+    domain: Domain,
     sources: &[Source],
 ) -> Result<Vec<ClockIdentity>, AllocError>
     ensures { IfOk result (λ leading. leading.items ≡ leaders_among (site_answers site.now) domain sources.now) }

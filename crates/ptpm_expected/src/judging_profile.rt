@@ -2,6 +2,7 @@
 
 ghost use Rattle.std.specs.Prelude.{◌≡◌, ◌++◌, OnOk};
 ghost use Rattle.std.specs.List.{flat_map};
+ghost use Rattle.ptpm_site.specs.Evidence.{IsOf};
 ghost use Rattle.ptpm_site.specs.Findings.{found};
 ghost use Rattle.ptpm_site.specs.Site.{site_answers};
 ghost use Rattle.ptpm_site.specs.declared.finding.What.TheVariants as what;
@@ -10,6 +11,7 @@ ghost use Rattle.ptpm_expected.specs.ProfileFindings.{clock_found, default_found
 use crate::outside::{clock_outside, is_idle, parent_outside, port_outside, timescale_outside};
 use crate::profile::Profile;
 use ptpm_site::data_sets::PortDataSet;
+use ptpm_site::evidence::Evidence;
 use ptpm_site::expected::Outside;
 use ptpm_site::finding::{Finding, What, add_finding};
 use ptpm_site::site::Site;
@@ -21,14 +23,16 @@ use std::alloc::{AllocError, Global};
 pub fn judge_profile(
     alloc: Global,
     site: &Site,
+    evidence: &Evidence,
     profile: Profile,
     sources: &[Source],
     findings: &mut Vec<Finding<'_>>,
 ) -> Result<(), AllocError>
+    requires { IsOf (site_answers site.now).heard evidence.now }
     ensures { OnOk result (findings.new.items ≡ findings.old.items ++ flat_map (profile_found (site_answers site.now) profile) sources.now) }
 {
     for source in sources {
-        judge_clock(alloc, site, profile, *source, findings)?;
+        judge_clock(alloc, site, evidence, profile, *source, findings)?;
     }
     Ok(())
 }
@@ -37,15 +41,17 @@ pub fn judge_profile(
 fn judge_clock(
     alloc: Global,
     site: &Site,
+    evidence: &Evidence,
     profile: Profile,
     source: Source,
     findings: &mut Vec<Finding<'_>>,
 ) -> Result<(), AllocError>
+    requires { IsOf (site_answers site.now).heard evidence.now }
     ensures { OnOk result (findings.new.items ≡ findings.old.items ++ profile_found (site_answers site.now) profile source) }
 {
     judge_members(site, profile, source, findings)?;
     let ports = site.ports(alloc, source)?;
-    judge_ports(site, profile, source, ports.as_slice(), findings)
+    judge_ports(site, evidence, profile, source, ports.as_slice(), findings)
 }
 
 /// The members of the clock.
@@ -72,22 +78,28 @@ fn judge_default(
     ensures { OnOk result (findings.new.items ≡ findings.old.items ++ default_found (site_answers site.now) profile source) }
 {
     match site.default(source) {
-        Some(default) => add_all_outside(findings, source, &clock_outside(profile, &default)),
+        Some(default) => add_all_outside(
+            findings,
+            source,
+            &clock_outside(profile, source.domain, &default),
+        ),
         None => Ok(()),
     }
 }
 
 fn judge_ports(
     site: &Site,
+    evidence: &Evidence,
     profile: Profile,
     source: Source,
     ports: &[u16],
     findings: &mut Vec<Finding<'_>>,
 ) -> Result<(), AllocError>
+    requires { IsOf (site_answers site.now).heard evidence.now }
     ensures { OnOk result (findings.new.items ≡ findings.old.items ++ flat_map (port_found (site_answers site.now) profile source) ports.now) }
 {
     for port in ports {
-        judge_port(site, profile, source, *port, findings)?;
+        judge_port(site, evidence, profile, source, *port, findings)?;
     }
     Ok(())
 }
@@ -96,16 +108,18 @@ fn judge_ports(
 #[tactic(auto, unfolding(crate::specs::ProfileFindings::port_found))]
 fn judge_port(
     site: &Site,
+    evidence: &Evidence,
     profile: Profile,
     source: Source,
     port: u16,
     findings: &mut Vec<Finding<'_>>,
 ) -> Result<(), AllocError>
+    requires { IsOf (site_answers site.now).heard evidence.now }
     ensures { OnOk result (findings.new.items ≡ findings.old.items ++ port_found (site_answers site.now) profile source port) }
 {
     match site.port(source, port) {
         Some(set) if !is_idle(set.state) => {
-            judge_port_set(site, profile, source, port, &set, findings)
+            judge_port_set(site, evidence, profile, source, port, &set, findings)
         }
         _ => Ok(()),
     }
@@ -114,16 +128,22 @@ fn judge_port(
 #[tactic(auto, unfolding(crate::specs::ProfileFindings::port_set_found))]
 fn judge_port_set(
     site: &Site,
+    evidence: &Evidence,
     profile: Profile,
     source: Source,
     port: u16,
     set: &PortDataSet,
     findings: &mut Vec<Finding<'_>>,
 ) -> Result<(), AllocError>
+    requires { IsOf (site_answers site.now).heard evidence.now }
     ensures { OnOk result (findings.new.items ≡ findings.old.items ++ port_set_found (site_answers site.now) profile source port set.now) }
 {
     add_all_outside(findings, source, &port_outside(profile, port, set))?;
-    add_outside(findings, source, parent_outside(site, source, port, set))
+    add_outside(
+        findings,
+        source,
+        parent_outside(site, evidence, source, port, set),
+    )
 }
 
 /// Adds a finding for each of these members that is not allowed.

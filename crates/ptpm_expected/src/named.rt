@@ -3,14 +3,16 @@
 ghost use Rattle.std.specs.Prelude.{◌≡◌, ◌++◌, ℕ, IfOk, OnOk, map, flat_map};
 ghost use Rattle.std.specs.BTreeSet.{contains, insert_key, keys};
 ghost use Rattle.std.specs.List.{fold};
-ghost use Rattle.std.specs.Ordering.{nat_cmp};
 ghost use Rattle.ptpm_site.specs.declared.source.Source.{Source};
 ghost use Rattle.ptpm_site.specs.Answers.{source_cmp};
 ghost use Rattle.ptpm_expected.specs.Named.{IsOf};
 ghost use Rattle.ptpm_expected.specs.Naming.{all_named_as, closed_in, in_domain_of, is_closed, is_named, is_named_as, is_named_so, named_by};
+ghost use Rattle.ptpm_site.specs.declared.domain.Domain.{Domain};
+ghost use Rattle.ptpm_site.specs.Domains.{domain_cmp};
 
 use crate::inventory::{Entry, Presence, Rule};
 use ptpm_codec::ClockIdentity;
+use ptpm_site::domain::Domain;
 use ptpm_site::source::Source;
 use std::alloc::{AllocError, Global};
 use std::collections::BTreeSet;
@@ -40,7 +42,7 @@ pub(crate) struct Named {
     /// Those that need to answer nothing while they are heard.
     pub(crate) mute: BTreeSet<Source>,
     /// The domains that have no clock that is not named.
-    pub(crate) closed: BTreeSet<u8>,
+    pub(crate) closed: BTreeSet<Domain>,
 }
 
 impl Named {
@@ -125,7 +127,11 @@ fn is_named_so(naming: Naming, presence: Presence) -> bool
     }
 }
 
-fn add_clock(domain: u8, clock: ClockIdentity, set: &mut BTreeSet<Source>) -> Result<(), AllocError>
+fn add_clock(
+    domain: Domain,
+    clock: ClockIdentity,
+    set: &mut BTreeSet<Source>,
+) -> Result<(), AllocError>
     ensures { OnOk result (keys set.new ≡ insert_key source_cmp (keys set.old) (in_domain_of domain clock)) }
 {
     set.insert(Source { domain, clock })?;
@@ -134,7 +140,7 @@ fn add_clock(domain: u8, clock: ClockIdentity, set: &mut BTreeSet<Source>) -> Re
 
 /// Adds the clocks of each of these lists.
 fn add_choices(
-    domain: u8,
+    domain: Domain,
     choices: &[Vec<ClockIdentity>],
     set: &mut BTreeSet<Source>,
 ) -> Result<(), AllocError>
@@ -148,7 +154,7 @@ fn add_choices(
 }
 
 fn add_clocks(
-    domain: u8,
+    domain: Domain,
     clocks: &[ClockIdentity],
     set: &mut BTreeSet<Source>,
 ) -> Result<(), AllocError>
@@ -161,16 +167,16 @@ fn add_clocks(
 }
 
 /// The domains that have no clock that is not named.
-fn domain_set(alloc: Global, entries: &[Entry]) -> Result<BTreeSet<u8>, AllocError>
-    ensures { IfOk result (λ set. (d : ℕ) → contains nat_cmp set d ≡ is_closed entries.now d) }
+fn domain_set(alloc: Global, entries: &[Entry]) -> Result<BTreeSet<Domain>, AllocError>
+    ensures { IfOk result (λ set. (d : Domain) → contains domain_cmp set d ≡ is_closed entries.now d) }
 {
     let mut set = BTreeSet::new(alloc);
     add_closed(entries, &mut set)?;
     Ok(set)
 }
 
-fn add_closed(entries: &[Entry], set: &mut BTreeSet<u8>) -> Result<(), AllocError>
-    ensures { OnOk result (keys set.new ≡ fold (insert_key nat_cmp) (keys set.old) (flat_map closed_in entries.now)) }
+fn add_closed(entries: &[Entry], set: &mut BTreeSet<Domain>) -> Result<(), AllocError>
+    ensures { OnOk result (keys set.new ≡ fold (insert_key domain_cmp) (keys set.old) (flat_map closed_in entries.now)) }
 {
     for entry in entries {
         if matches!(entry.rule, Rule::Only) {

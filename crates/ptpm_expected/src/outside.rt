@@ -1,16 +1,20 @@
 //! The members of a clock and of its ports that are not what a profile allows.
 
 ghost use Rattle.std.specs.Prelude.{◌≡◌};
+ghost use Rattle.ptpm_site.specs.Evidence.{IsOf};
 ghost use Rattle.ptpm_site.specs.Site.{site_answers};
 ghost use Rattle.ptpm_expected.specs.Outside.{announce_outside, timeout_outside, unlike_parent, beyond, clock_outside, delay_request_outside, is_idle, mechanism_outside, member_outside, parent_outside, pdelay_request_outside, port_outside, sync_outside, timescale_outside};
 
 use crate::profile::Profile;
 use crate::ranges::{
     Range, allowed_mechanisms, announce_range, delay_request_range, domain_range,
-    pdelay_request_range, priority_range, sync_range, timeout_range,
+    pdelay_request_range, priority_range, sdo_range, sync_range, timeout_range,
 };
 use ptpm_data::PortState;
+use ptpm_site::announcing::port_above;
 use ptpm_site::data_sets::{DefaultDataSet, PortDataSet};
+use ptpm_site::domain::Domain;
+use ptpm_site::evidence::Evidence;
 use ptpm_site::expected::{Allowed, Outside};
 use ptpm_site::member::{Member, Value};
 use ptpm_site::port_groups::PortGroup;
@@ -46,13 +50,19 @@ fn member_outside(
     })
 }
 
-/// What of a clock's DEFAULT_DATA_SET is not allowed.
-pub fn clock_outside(profile: Profile, default: &DefaultDataSet) -> [Option<Outside>; 2]
-    ensures { result ≡ clock_outside profile default.now }
+/// What of a clock's domain and of its DEFAULT_DATA_SET is not allowed.
+pub fn clock_outside(
+    profile: Profile,
+    domain: Domain,
+    default: &DefaultDataSet,
+) -> [Option<Outside>; 3]
+    ensures { result ≡ clock_outside profile domain default.now }
 {
-    let (domain, priority1) = (default.domain as i64, default.priority1 as i64);
+    let (number, priority1) = (default.domain as i64, default.priority1 as i64);
+    let sdo = i64::from(domain.sdo());
     [
-        member_outside(None, Member::DomainNumber, domain, domain_range()),
+        member_outside(None, Member::SdoId, sdo, sdo_range(profile)),
+        member_outside(None, Member::DomainNumber, number, domain_range()),
         member_outside(None, Member::Priority1, priority1, priority_range(profile)),
     ]
 }
@@ -188,20 +198,25 @@ pub fn is_idle(state: Option<PortState>) -> bool
     matches!(state, Some(PortState::Disabled | PortState::Faulty))
 }
 
-/// logAnnounceInterval of a port that follows another, if it is not that of the other.
+/// logAnnounceInterval of a port that follows another, if it is not that of the other, and that one does not announce by unicast.
 #[tactic(auto, unfolding(crate::specs::Outside::parent_outside))]
 pub fn parent_outside(
     site: &Site,
+    evidence: &Evidence,
     source: Source,
     number: u16,
     set: &PortDataSet,
 ) -> Option<Outside>
+    requires { IsOf (site_answers site.now).heard evidence.now }
     ensures { result ≡ parent_outside (site_answers site.now) source number set.now }
 {
     if !set.is_following() {
         return None;
     }
     let parent = site.parent(source)?.parent;
+    if evidence.is_by_unicast(port_above(source, parent)) {
+        return None;
+    }
     let above = site.port(source.beside(parent.clock), parent.port)?;
     unlike_parent(number, set, &above)
 }

@@ -1,7 +1,7 @@
 //! What the profiles allow, in a table of their own: numbers from a least to a greatest, and mechanisms.
 
 ghost use Rattle.std.specs.Prelude.{◌≡◌};
-ghost use Rattle.ptpm_expected.specs.Profiles.{allowed_mechanisms, announce_range, delay_request_range, domain_range, pdelay_request_range, priority_range, sync_range, timeout_range};
+ghost use Rattle.ptpm_expected.specs.Profiles.{allowed_mechanisms, announce_range, delay_request_range, domain_range, pdelay_request_range, priority_range, sdo_range, sync_range, timeout_range};
 
 use crate::profile::Profile;
 use ptpm_site::data_sets::DelayMechanism;
@@ -26,6 +26,16 @@ pub fn domain_range() -> Option<Range>
     ensures { result ≡ domain_range }
 {
     numbers(0, 127)
+}
+
+/// sdoId: IEEE 802.1AS has one of its own.
+pub fn sdo_range(profile: Profile) -> Option<Range>
+    ensures { result ≡ sdo_range profile }
+{
+    match profile {
+        Profile::Default | Profile::St2059 | Profile::Aes67 => numbers(0, 0),
+        Profile::Gptp => numbers(0x100, 0x100),
+    }
 }
 
 /// priority1. `None`: any.

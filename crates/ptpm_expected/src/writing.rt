@@ -3,19 +3,20 @@
 ghost use Rattle.std.specs.Prelude.{◌≡◌, ◌++◌, [], ◌∷◌, IfOk, OnOk, true};
 ghost use Rattle.std.specs.BTreeSet.{insert_key, keys};
 ghost use Rattle.std.specs.List.{flat_map, fold};
-ghost use Rattle.std.specs.Ordering.{nat_cmp};
 ghost use Rattle.ptpm_site.specs.Members.{value_of};
 ghost use Rattle.ptpm_site.specs.Site.{site_answers};
 ghost use Rattle.ptpm_expected.specs.InventoryFindings.{told_by_inventory};
 ghost use Rattle.ptpm_expected.specs.Meeting.{is_met, meets};
 ghost use Rattle.ptpm_expected.specs.Senders.{announcing};
 ghost use Rattle.ptpm_expected.specs.Writing.{clock_lines, clock_lines_in, domain_lines, domain_of, excuse_in, leader_lines, line_of_rule, lines_of, member_line, port_lines, written};
+ghost use Rattle.ptpm_site.specs.Domains.{domain_cmp};
 
 use crate::inventory::{Entry, Inventory, MemberRule, Presence, Rule};
 use crate::judging_inventory::leading_in;
 use crate::meeting::rule_value;
 use crate::senders::announcing;
 use ptpm_codec::ClockIdentity;
+use ptpm_site::domain::Domain;
 use ptpm_site::expected::Wanted;
 use ptpm_site::member::{Member, Value};
 use ptpm_site::site::Site;
@@ -75,23 +76,23 @@ fn entries_of(alloc: Global, site: &Site) -> Result<Vec<Entry>, AllocError>
 }
 
 /// The domains of these clocks, ascending.
-fn domains_of(alloc: Global, sources: &[Source]) -> Result<Vec<u8>, AllocError>
-    ensures { IfOk result (λ found. found.items ≡ fold (insert_key nat_cmp) [] (flat_map domain_of sources.now)) }
+fn domains_of(alloc: Global, sources: &[Source]) -> Result<Vec<Domain>, AllocError>
+    ensures { IfOk result (λ found. found.items ≡ fold (insert_key domain_cmp) [] (flat_map domain_of sources.now)) }
 {
     let set = domain_set(alloc, sources)?;
     set.iter().copied().collect(alloc)
 }
 
-fn domain_set(alloc: Global, sources: &[Source]) -> Result<BTreeSet<u8>, AllocError>
-    ensures { IfOk result (λ set. keys set ≡ fold (insert_key nat_cmp) [] (flat_map domain_of sources.now)) }
+fn domain_set(alloc: Global, sources: &[Source]) -> Result<BTreeSet<Domain>, AllocError>
+    ensures { IfOk result (λ set. keys set ≡ fold (insert_key domain_cmp) [] (flat_map domain_of sources.now)) }
 {
     let mut set = BTreeSet::new(alloc);
     add_domains_of(sources, &mut set)?;
     Ok(set)
 }
 
-fn add_domains_of(sources: &[Source], set: &mut BTreeSet<u8>) -> Result<(), AllocError>
-    ensures { OnOk result (keys set.new ≡ fold (insert_key nat_cmp) (keys set.old) (flat_map domain_of sources.now)) }
+fn add_domains_of(sources: &[Source], set: &mut BTreeSet<Domain>) -> Result<(), AllocError>
+    ensures { OnOk result (keys set.new ≡ fold (insert_key domain_cmp) (keys set.old) (flat_map domain_of sources.now)) }
 {
     for source in sources {
         add_domain_of(*source, set)?;
@@ -99,8 +100,8 @@ fn add_domains_of(sources: &[Source], set: &mut BTreeSet<u8>) -> Result<(), Allo
     Ok(())
 }
 
-fn add_domain_of(source: Source, set: &mut BTreeSet<u8>) -> Result<(), AllocError>
-    ensures { OnOk result (keys set.new ≡ fold (insert_key nat_cmp) (keys set.old) (domain_of source)) }
+fn add_domain_of(source: Source, set: &mut BTreeSet<Domain>) -> Result<(), AllocError>
+    ensures { OnOk result (keys set.new ≡ fold (insert_key domain_cmp) (keys set.old) (domain_of source)) }
 {
     set.insert(source.domain)?;
     Ok(())
@@ -110,7 +111,7 @@ fn add_domain_of(source: Source, set: &mut BTreeSet<u8>) -> Result<(), AllocErro
 fn add_domains(
     alloc: Global,
     site: &Site,
-    domains: &[u8],
+    domains: &[Domain],
     sources: &[Source],
     senders: &[Source],
     entries: &mut Vec<Entry>,
@@ -132,7 +133,7 @@ fn add_domains(
 fn add_domain(
     alloc: Global,
     site: &Site,
-    domain: u8,
+    domain: Domain,
     sources: &[Source],
     senders: &[Source],
     entries: &mut Vec<Entry>,
@@ -153,7 +154,7 @@ fn add_domain(
 #[tactic(auto, using(crate::proofs::Lines::lines_more))]
 fn add_entry(
     site: &Site,
-    domain: u8,
+    domain: Domain,
     rule: Rule,
     entries: &mut Vec<Entry>,
 ) -> Result<(), AllocError>
@@ -168,7 +169,7 @@ fn add_entry(
 fn add_leaders(
     alloc: Global,
     site: &Site,
-    domain: u8,
+    domain: Domain,
     leading: Vec<ClockIdentity>,
     entries: &mut Vec<Entry>,
 ) -> Result<(), AllocError>
@@ -186,7 +187,7 @@ fn add_leaders(
 /// Adds the clocks of a domain that announce and are not seen.
 fn add_excused(
     site: &Site,
-    domain: u8,
+    domain: Domain,
     senders: &[Source],
     entries: &mut Vec<Entry>,
 ) -> Result<(), AllocError>
@@ -206,7 +207,7 @@ fn add_excused(
 fn add_clocks(
     alloc: Global,
     site: &Site,
-    domain: u8,
+    domain: Domain,
     sources: &[Source],
     entries: &mut Vec<Entry>,
 ) -> Result<(), AllocError>

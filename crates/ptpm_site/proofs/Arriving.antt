@@ -24,7 +24,7 @@ last_push xs x p =
     ap (λ l. option_map (λ a. a.from) (find (λ a. same_passage a.passage p) l)) (reverse-append xs (x ∷ []))
     ∙ mapped_if (same_passage x.passage p) x (find (λ a. same_passage a.passage p) (reverse xs))
 
-tied_ports : (a b : SourcePort) → eq_by_cmp port_cmp a b ≡ same_port a b
+pub tied_ports : (a b : SourcePort) → eq_by_cmp port_cmp a b ≡ same_port a b
 tied_ports a b = grind (arith, is_eq-slice_cmp)
 
 tied_questions : (a b : Question) → eq_by_cmp question_cmp a b ≡ same_question a b

@@ -1,5 +1,5 @@
 -- What counts of what was heard, line by line.
-use Rattle.std.proofs.Common.{◌≡◌, ◌==◌, ◌||◌, ◌∙◌, ◌+◌, ◌<◌, ◌++◌, ◌∷◌, ℕ, Bool, true, false, cond, List, [], Option, Some, None, length, get_or, take, drop, ap, append_assoc, arith, not, refl, sym}
+use Rattle.std.proofs.Common.{◌≡◌, ◌||◌, ◌∙◌, ◌+◌, ◌<◌, ◌++◌, ◌∷◌, ℕ, Bool, true, false, cond, List, [], Option, Some, None, length, get_or, take, drop, ap, append_assoc, arith, not, refl, sym}
 use Rattle.std.proofs.lemmas.Bool.Decides.{nat_tests}
 use Rattle.std.proofs.lemmas.List.{at_drop_more, take_more}
 use Rattle.std.proofs.lemmas.List.Elements.{filter_map-append}
@@ -7,41 +7,42 @@ use Rattle.std.proofs.lemmas.List.Folds.{list_any-append}
 use Rattle.std.specs.BTreeMap.{is_at}
 use Rattle.std.specs.BTreeSet.{BTreeSet, contains}
 use Rattle.std.specs.List.{cons_option, filter, filter_map, list_any}
-use Rattle.std.specs.Ordering.{nat_cmp}
 use Rattle.ptpm_site.specs.declared.clock.Clock.{Clock}
 use Rattle.ptpm_site.specs.declared.heard.Heard.{Heard}
 use Rattle.ptpm_site.specs.declared.source.Source.{Source}
 use Rattle.ptpm_site.specs.Counted.{begun_in, counted, counted_after, has_begun, if_counts}
-use Rattle.ptpm_site.proofs.Hearing.{tied_numbers}
+use Rattle.ptpm_site.proofs.Hearing.{tied_domains}
+use Rattle.ptpm_site.specs.declared.domain.Domain.{Domain}
+use Rattle.ptpm_site.specs.Domains.{domain_cmp, same_domain}
 
 -- ---- the last looks that began
 
-begun_push : (all before : List Heard) (h : Heard) (o : Option ℕ) → begun_in all h ≡ o
-    → (d : ℕ) → has_begun all (before ++ h ∷ []) d ≡ (has_begun all before d || list_any (λ n. d == n) (cons_option o []))
+begun_push : (all before : List Heard) (h : Heard) (o : Option Domain) → begun_in all h ≡ o
+    → (d : Domain) → has_begun all (before ++ h ∷ []) d ≡ (has_begun all before d || list_any (same_domain d) (cons_option o []))
 begun_push all before h o e d =
-    ap (list_any (λ n. d == n))
+    ap (list_any (same_domain d))
     (filter_map-append (begun_in all) before (h ∷ []) ∙ ap (λ o. filter_map (begun_in all) before ++ cons_option o []) e)
-    ∙ list_any-append (λ n. d == n) (filter_map (begun_in all) before) (cons_option o [])
+    ∙ list_any-append (same_domain d) (filter_map (begun_in all) before) (cons_option o [])
 
 or_none : (b : Bool) → b ≡ (b || false)
 or_none true = refl
 or_none false = refl
 
-or_if : (k d : ℕ) (b : Bool) → cond (k == d) true b ≡ (b || ((d == k) || false))
+or_if : (k d : Domain) (b : Bool) → cond (same_domain k d) true b ≡ (b || (same_domain d k || false))
 or_if k d true = grind (arith, nat_tests)
 or_if k d false = grind (arith, nat_tests)
 
-pub none_begins : (all before : List Heard) (h : Heard) (begun : BTreeSet ℕ) → begun_in all h ≡ None
-    → ((d : ℕ) → contains nat_cmp begun d ≡ has_begun all before d)
-    → (d : ℕ) → contains nat_cmp begun d ≡ has_begun all (before ++ h ∷ []) d
+pub none_begins : (all before : List Heard) (h : Heard) (begun : BTreeSet Domain) → begun_in all h ≡ None
+    → ((d : Domain) → contains domain_cmp begun d ≡ has_begun all before d)
+    → (d : Domain) → contains domain_cmp begun d ≡ has_begun all (before ++ h ∷ []) d
 none_begins all before h begun e kept d = kept d ∙ or_none (has_begun all before d) ∙ sym (begun_push all before h None e d)
 
-pub one_begins : (all before : List Heard) (h : Heard) (k : ℕ) (old new : BTreeSet ℕ) → begun_in all h ≡ Some k
-    → ((d : ℕ) → contains nat_cmp new d ≡ cond (is_at (nat_cmp k) d) true (contains nat_cmp old d))
-    → ((d : ℕ) → contains nat_cmp old d ≡ has_begun all before d)
-    → (d : ℕ) → contains nat_cmp new d ≡ has_begun all (before ++ h ∷ []) d
+pub one_begins : (all before : List Heard) (h : Heard) (k : Domain) (old new : BTreeSet Domain) → begun_in all h ≡ Some k
+    → ((d : Domain) → contains domain_cmp new d ≡ cond (is_at (domain_cmp k) d) true (contains domain_cmp old d))
+    → ((d : Domain) → contains domain_cmp old d ≡ has_begun all before d)
+    → (d : Domain) → contains domain_cmp new d ≡ has_begun all (before ++ h ∷ []) d
 one_begins all before h k old new e updates kept d =
-    updates d ∙ ap (λ b. cond b true (contains nat_cmp old d)) (tied_numbers k d) ∙ ap (cond (k == d) true) (kept d)
+    updates d ∙ ap (λ b. cond b true (contains domain_cmp old d)) (tied_domains k d) ∙ ap (cond (same_domain k d) true) (kept d)
     ∙ or_if k d (has_begun all before d) ∙ sym (begun_push all before h (Some k) e d)
 
 -- ---- one more that was heard

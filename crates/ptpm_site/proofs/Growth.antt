@@ -1,5 +1,6 @@
 -- Rows that are added to a tree: of which domain they are, and which clocks are roots.
-use Rattle.std.proofs.Common.{◌≡◌, ℕ, ◌<◌, ◌≤◌, true, false, List, [], ◌∷◌, ◌++◌, ◌+◌, ◌-◌, cond, length, length-append, get_or, map, append_assoc, append-nil, Option, Some, None, ⊎_elim, inl, inr, refl, sym, ap, subst, ◌∙◌, arith}
+use Rattle.std.proofs.Common.{◌≡◌, ◌==◌, ◌-◌, false, ℕ, ◌<◌, ◌≤◌, true, false, List, [], ◌∷◌, ◌++◌, ◌+◌, ◌-◌, cond, length, length-append, get_or, append_assoc, append-nil, Option, Some, None, ⊎_elim, refl, sym, ap, subst, ◌∙◌, arith}
+use Rattle.std.proofs.lemmas.Bool.Decides.{nat_tests}
 use Rattle.std.proofs.lemmas.Bool.{cases_lt, cond-true, false≢true}
 use Rattle.std.proofs.lemmas.List.{get_or-append_right, get_or_append_left, get_or-map, get_or_push}
 use Rattle.std.proofs.lemmas.List.Elements.{All-append, All-nil, All-push, All-weaker}
@@ -18,6 +19,7 @@ use Rattle.ptpm_site.specs.Following.{ArePlaced, beside, followed, is_own_grandm
 use Rattle.ptpm_site.specs.Forest.{AreBeside}
 use Rattle.ptpm_site.specs.Growing.{Adds, IsForestOf, IsInSubtree, IsRowOf, IsWithin, WaitBelow}
 use Rattle.ptpm_site.specs.SiteAnswers.{SiteAnswers}
+use Rattle.ptpm_site.specs.Forest.{bound_before}
 use Rattle.ptpm_site.specs.Tree.{IsRoot, IsRow, domain_at, row_domain}
 use Rattle.ptpm_site.proofs.Followed.{placed_within}
 use Rattle.ptpm_site.proofs.Placing.{AreWithin-placed}
@@ -39,17 +41,17 @@ Adds-more P Q a b c weaker h k = record {
 
 -- ---- domains
 
-pub domain-at : (clocks : List Source) (p : ℕ) (d : Source) → p < length clocks → domain_at clocks p ≡ (get_or clocks p d).domain
-domain-at clocks p d lt = get_or-map (λ (s : Source). s.domain) clocks p d 0 lt
+pub domain-at : (clocks : List Source) (p : ℕ) (d : Source) → p < length clocks → domain_at clocks p ≡ (get_or clocks p d).domain.0
+domain-at clocks p d lt = get_or-map (λ (s : Source). s.domain.0) clocks p d 0 lt
 
 parent_domain : (t : SiteAnswers) (s parent : Source) (o : Option PortIdentity)
     → option_and_then (λ p. cond (t.seen (beside s p.clock)) (Some (beside s p.clock)) None) o ≡ Some parent
-    → s.domain ≡ parent.domain
+    → s.domain.0 ≡ parent.domain.0
 parent_domain t s parent None h = absurd (none-some parent h)
-parent_domain t s parent (Some p) h = ap (λ (c : Source). c.domain) (cond_some (t.seen (beside s p.clock)) (beside s p.clock) parent h).1
+parent_domain t s parent (Some p) h = ap (λ (c : Source). c.domain.0) (cond_some (t.seen (beside s p.clock)) (beside s p.clock) parent h).1
 
 pub some_source : Source
-some_source = record { domain = 0; clock = record { 0 = [] } }
+some_source = record { domain = record { 0 = 0 }; clock = record { 0 = [] } }
 
 -- a clock is of the domain of the one that it follows
 pub AreBeside-placed : (t : SiteAnswers) (sources : List Source) (followed : List (Option ℕ)) → sources ≡ t.clocks → ArePlaced t followed → AreBeside sources followed
@@ -182,16 +184,35 @@ pub before-more : (t : SiteAnswers) (domain : ℕ) (old new : List TreeRow)
     → AreOfDomainsBefore t (domain + 1) new
 before-more t domain old new h adds = subst (AreOfDomainsBefore t (domain + 1)) (sym adds.is) (before_more t domain old adds.more h adds.each)
 
--- the rows of one domain more, from the four calls that add them
-pub domain-more : (t : SiteAnswers) (domain : ℕ) (first second third fourth last : List TreeRow)
-    → AreOfDomainsBefore t domain first
-    → Adds (IsRowOf t domain) first second
-    → Adds (IsRowOf t domain) second third
-    → Adds (IsRowOf t domain) third fourth
-    → Adds (IsRowOf t domain) fourth last
-    → AreOfDomainsBefore t (domain + 1) last
-domain-more t domain first second third fourth last h a b c d =
-    let P : TreeRow → Type 0 = IsRowOf t domain in
+-- ---- a number that the domains before a place are below
+
+pub bound-first : (xs : List Source) (p : ℕ) → p ≡ 0 → bound_before xs p ≡ 0
+bound-first xs p none = ap (bound_before xs) none
+
+pub bound-more : (xs : List Source) (p : ℕ) → bound_before xs (p + 1) ≡ domain_at xs p + 1
+bound-more xs p = grind (arith, nat_tests)
+
+pub bound-later : (xs : List Source) (p : ℕ) → 0 < p → bound_before xs p ≡ domain_at xs (p - 1) + 1
+bound-later xs p some = let is : p ≡ (p - 1) + 1 = omega (arith, some) in ap (bound_before xs) is ∙ bound-more xs (p - 1)
+
+pub above_other : (a b : ℕ) → a ≤ b → (a == b) ≡ false → a + 1 ≤ b
+above_other a b le other = grind (arith, nat_tests)
+
+pub before-higher : (t : SiteAnswers) (low high : ℕ) (rows : List TreeRow) → low ≤ high → AreOfDomainsBefore t low rows → AreOfDomainsBefore t high rows
+before-higher t low high rows le h = record {
+  each = h.each;
+  domains = h.domains;
+  low = All-weaker (λ r. row_domain t.clocks r < low) (λ r. row_domain t.clocks r < high) (λ r less. omega (arith, less, le)) rows h.low;
+}
+
+-- what the four calls add that make the rows of a domain
+pub domain-rows : (P : TreeRow → Type 0) (first second third fourth last : List TreeRow)
+    → Adds P first second
+    → Adds P second third
+    → Adds P third fourth
+    → Adds P fourth last
+    → Adds P first last
+domain-rows P first second third fourth last a b c d =
     let two : Adds P first third = Adds-more P P first second third (λ r k. k) a b in
     let three : Adds P first fourth = Adds-more P P first third fourth (λ r k. k) two c in
-    before-more t domain first last h (Adds-more P P first fourth last (λ r k. k) three d)
+    Adds-more P P first fourth last (λ r k. k) three d

@@ -17,6 +17,8 @@ use Rattle.ptpm_site.specs.declared.source.Source.{Source}
 use Rattle.ptpm_site.specs.Answers.{source_cmp}
 use Rattle.ptpm_site.specs.Evidence.{clock_cmp, domain_in, host_in, is_asked, is_host_of, is_sent, same_sender, sender_cmp, sent_in}
 use Rattle.ptpm_site.proofs.Sources.{exact_sources}
+use Rattle.ptpm_site.specs.declared.domain.Domain.{Domain}
+use Rattle.ptpm_site.specs.Domains.{domain_cmp, same_domain}
 
 -- ---- the orders distinguish what the tests of equality distinguish
 
@@ -28,6 +30,9 @@ tied_senders a b = grind (arith, is_eq-slice_cmp)
 
 pub tied_numbers : (a b : ℕ) → eq_by_cmp nat_cmp a b ≡ (a == b)
 tied_numbers a b = grind arith
+
+pub tied_domains : (a b : Domain) → eq_by_cmp domain_cmp a b ≡ same_domain a b
+tied_domains a b = tied_numbers a.0 b.0
 
 pub any_tied : {K : Type 0} (e f : K → K → Bool) → ((a b : K) → e a b ≡ f a b) → (xs : List K) (q : K) → list_any (e q) xs ≡ list_any (f q) xs
 any_tied e f h xs q = λ i. list_any (λ x. h q x i) xs
@@ -78,6 +83,11 @@ exact_clocks a b h = ap clock_from (exact_bytes a.0 b.0 h) where
   clock_from : List ℕ → ClockIdentity
   clock_from octets = record { 0 = octets }
 
+pub exact_domains : CmpEqualImpliesEq domain_cmp
+exact_domains a b h = ap domain_from (exact_unsigned a.0 b.0 h) where
+  domain_from : ℕ → Domain
+  domain_from n = record { 0 = n }
+
 exact_senders : CmpEqualImpliesEq sender_cmp
 exact_senders a b h = ap sender_from (exact_pairs source_cmp nat_cmp exact_sources exact_unsigned (a.source, a.kind) (b.source, b.kind) h) where
   sender_from : Source × ℕ → Sender
@@ -91,11 +101,11 @@ hosts_kept all ks e c =
     ap (list_any (eq_by_cmp clock_cmp c)) e ∙ has_all clock_cmp exact_clocks c [] (filter_map host_in all)
     ∙ any_tied (eq_by_cmp clock_cmp) same_clock tied_clocks (filter_map host_in all) c
 
-pub domains_kept : (all : List Heard) (ks : List ℕ) → ks ≡ fold (insert_key nat_cmp) [] (filter_map domain_in all)
-    → (d : ℕ) → list_any (eq_by_cmp nat_cmp d) ks ≡ is_asked all d
+pub domains_kept : (all : List Heard) (ks : List Domain) → ks ≡ fold (insert_key domain_cmp) [] (filter_map domain_in all)
+    → (d : Domain) → list_any (eq_by_cmp domain_cmp d) ks ≡ is_asked all d
 domains_kept all ks e d =
-    ap (list_any (eq_by_cmp nat_cmp d)) e ∙ has_all nat_cmp exact_unsigned d [] (filter_map domain_in all)
-    ∙ any_tied (eq_by_cmp nat_cmp) (λ a b. a == b) tied_numbers (filter_map domain_in all) d
+    ap (list_any (eq_by_cmp domain_cmp d)) e ∙ has_all domain_cmp exact_domains d [] (filter_map domain_in all)
+    ∙ any_tied (eq_by_cmp domain_cmp) same_domain tied_domains (filter_map domain_in all) d
 
 pub senders_kept : (all : List Heard) (ks : List Sender) → ks ≡ fold (insert_key sender_cmp) [] (filter_map sent_in all)
     → (s : Sender) → list_any (eq_by_cmp sender_cmp s) ks ≡ is_sent all s

@@ -13,6 +13,7 @@ pub mod Growth
 pub mod Hearing
 pub mod KeptAnswers
 pub mod KeptStatements
+pub mod LastAnnounces
 pub mod Links
 pub mod Looking
 pub mod Marking

@@ -106,7 +106,7 @@ ArePlacedTo-more t n places s place here h one = record {
 
 -- each place is one of the clocks'
 some_source : Source
-some_source = record { domain = 0; clock = record { 0 = [] } }
+some_source = record { domain = record { 0 = 0 }; clock = record { 0 = [] } }
 
 pub AreWithin-placed : (t : SiteAnswers) (places : List (Option ℕ)) → ArePlaced t places → AreWithin places
 AreWithin-placed t places h p q e = ⊎_elim

@@ -1,5 +1,5 @@
 -- What is reported of a clock comes after what was reported of those before it.
-use Rattle.std.proofs.Common.{◌≡◌, List, [], ◌∷◌, ◌++◌, append_assoc, append-nil, arith, cond, length, map, take, drop, Bool, true, false, ap, sym, ◌∙◌, ℕ, ◌≤◌}
+use Rattle.std.proofs.Common.{◌≡◌, List, [], ◌∷◌, ◌++◌, append_assoc, arith, length, map, take, drop, true, false, ap, sym, ◌∙◌, ◌≤◌}
 use Rattle.std.proofs.Math.Seq.{drop-append_seam, take-append_seam}
 use Rattle.std.proofs.lemmas.Bool.{cond-false, cond-true}
 use Rattle.std.proofs.lemmas.List.{drop-map, length-append, length-map, map-append, take-map}

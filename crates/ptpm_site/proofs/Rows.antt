@@ -9,6 +9,7 @@ use Rattle.ptpm_codec.specs.declared.identity.PortIdentity.{PortIdentity}
 use Rattle.ptpm_site.specs.declared.tree.TreeRow.{TreeRow}
 use Rattle.ptpm_site.specs.declared.tree.TreeRow.TheVariants as row
 use Rattle.ptpm_site.specs.Tree.{IsGrown, place_of, places_of, rows_at}
+use Rattle.ptpm_site.specs.declared.domain.Domain.{Domain}
 
 -- no mark past the last is as good as one that says no
 pub get_or-more_false : (xs : List Bool) (p : ℕ) → get_or (xs ++ false ∷ []) p false ≡ get_or xs p false
@@ -25,7 +26,7 @@ rows_at-clock rows p depth q =
     ∙ ap (λ n. rows_at q rows + n) (zero-add (cond (p == q) 1 0))
 
 -- one that names a port
-pub rows_at-not_seen : (rows : List TreeRow) (domain : ℕ) (parent : PortIdentity) (q : ℕ) → rows_at q (rows ++ row.NotSeen domain parent ∷ []) ≡ rows_at q rows
+pub rows_at-not_seen : (rows : List TreeRow) (domain : Domain) (parent : PortIdentity) (q : ℕ) → rows_at q (rows ++ row.NotSeen domain parent ∷ []) ≡ rows_at q rows
 rows_at-not_seen rows domain parent q =
     ap (count_by (λ p. p == q)) (filter_map-append place_of rows (row.NotSeen domain parent ∷ []) ∙ append-nil (places_of rows))
 
@@ -44,7 +45,7 @@ IsGrown-clock marks rows p depth h within none q =
     ∙ sym (ap (λ b. cond b 1 0) (get_or-set_other marks p q true false other)))
     (cases_eq p q)
 
-pub IsGrown-not_seen : (marks : List Bool) (rows : List TreeRow) (domain : ℕ) (parent : PortIdentity) → IsGrown marks rows → IsGrown marks (rows ++ row.NotSeen domain parent ∷ [])
+pub IsGrown-not_seen : (marks : List Bool) (rows : List TreeRow) (domain : Domain) (parent : PortIdentity) → IsGrown marks rows → IsGrown marks (rows ++ row.NotSeen domain parent ∷ [])
 IsGrown-not_seen marks rows domain parent h q = rows_at-not_seen rows domain parent q ∙ h q
 
 -- the same, with the marks covered first

@@ -1,5 +1,5 @@
 -- What is sorted comes by its first number.
-use Rattle.std.proofs.Common.{◌≡◌, ℕ, ◌+◌, ◌<◌, ◌≤◌, ◌==◌, Bool, true, false, cond, List, length, get_or, ⊎_elim, sym, ap, ◌∙◌, arith}
+use Rattle.std.proofs.Common.{◌≡◌, ℕ, ◌+◌, ◌<◌, ◌≤◌, ◌==◌, true, false, cond, List, get_or, ⊎_elim, sym, ap, ◌∙◌, arith}
 use Rattle.std.proofs.lemmas.Bool.{cases_lt, false≢true, lt-ltb}
 use Rattle.std.proofs.lemmas.List.Sorted.{IsNonDecreasingBy-from_all_adjacent}
 use Rattle.std.specs.declared.cmp.Ordering.{Ordering}
@@ -33,13 +33,13 @@ abbrev pub follower_cmp : Follower → Follower → Ordering
 follower_cmp a b = ordering_then (nat_cmp a.above b.above) (ordering_then (nat_cmp a.port b.port) (nat_cmp a.place b.place))
 
 abbrev pub lost_cmp : Lost → Lost → Ordering
-lost_cmp a b = ordering_then (nat_cmp a.domain b.domain) (ordering_then (identity_cmp a.parent b.parent) (nat_cmp a.place b.place))
+lost_cmp a b = ordering_then (nat_cmp a.domain.0 b.domain.0) (ordering_then (identity_cmp a.parent b.parent) (nat_cmp a.place b.place))
 
 pub by_above : (xs : List Follower) → IsSorted follower_cmp xs → IsNonDecreasingBy (λ (f : Follower). f.above) xs
 by_above xs h = by_first (λ (f : Follower). f.above) (λ a b. ordering_then (nat_cmp a.port b.port) (nat_cmp a.place b.place)) xs h
 
 pub by_domain : (xs : List Lost) → IsSorted lost_cmp xs → AreByDomain xs
-by_domain xs h = by_first (λ (l : Lost). l.domain) (λ a b. ordering_then (identity_cmp a.parent b.parent) (nat_cmp a.place b.place)) xs h
+by_domain xs h = by_first (λ (l : Lost). l.domain.0) (λ a b. ordering_then (identity_cmp a.parent b.parent) (nat_cmp a.place b.place)) xs h
 
 pub sources_by_domain : (xs : List Source) → IsStrictlySortedBy source_cmp xs → AreSourcesByDomain xs
-sources_by_domain xs h = by_first (λ (s : Source). s.domain) (λ a b. slice_cmp nat_cmp a.clock.0 b.clock.0) xs (rising xs h)
+sources_by_domain xs h = by_first (λ (s : Source). s.domain.0) (λ a b. slice_cmp nat_cmp a.clock.0 b.clock.0) xs (rising xs h)

@@ -1,5 +1,5 @@
 -- A port whose parent announces too seldom for it: `intervals`. An interval is 2 to its logarithm, in seconds (IEEE 1588-2019, 7.7.2).
-use Rattle.std.specs.Prelude.{ℕ, ℤ, ◌-ℤ◌, ◌^◌, ◌==◌, ◌&&◌, ◌||◌, Bool, true, false, not, nat_le, nat_lt, unsigned_abs, List, Option, Some, None, if◌then◌else◌, option_and_then}
+use Rattle.std.specs.Prelude.{ℕ, ℤ, ◌-◌, ◌*◌, ◌-ℤ◌, ◌^◌, ◌==◌, ◌&&◌, ◌||◌, Bool, true, false, not, nat_le, nat_lt, unsigned_abs, List, length, slice_get, find, Option, Some, None, if◌then◌else◌, is_some, option_and_then}
 use Rattle.std.specs.Int.{is_negative}
 use Rattle.std.specs.List.{list_any}
 use Rattle.std.specs.Option.{option_map_or}
@@ -7,19 +7,24 @@ use Rattle.ptpm_codec.specs.declared.identity.PortIdentity.{PortIdentity}
 use Rattle.ptpm_data.specs.declared.port_state.PortState.{PortState}
 use Rattle.ptpm_data.specs.declared.port_state.PortState.TheVariants as states
 use Rattle.ptpm_site.specs.declared.announcing.Seldom.{Seldom}
+use Rattle.ptpm_site.specs.declared.answer.Request.{Request}
+use Rattle.ptpm_site.specs.declared.arrival.SourcePort.{SourcePort}
 use Rattle.ptpm_site.specs.declared.clock.Received.{Received}
 use Rattle.ptpm_site.specs.declared.data_sets.PortDataSet.{PortDataSet}
 use Rattle.ptpm_site.specs.declared.source.Source.{Source}
+use Rattle.ptpm_site.specs.Announces.{announced_by_port, is_by_unicast}
 use Rattle.ptpm_site.specs.Following.{beside}
-use Rattle.ptpm_site.specs.PortStates.{is_following, is_slave}
+use Rattle.ptpm_site.specs.PortStates.{is_another, is_following, is_slave}
 use Rattle.ptpm_site.specs.SiteAnswers.{SiteAnswers}
+use Rattle.ptpm_site.specs.Stay.{time_between}
+use Rattle.ptpm_site.specs.StayLimits.{interval}
 
 -- the parent's interval is 2^n of the port's: more than four of them, or as long as the port waits for an Announce, or longer
 abbrev pub outlasts : ℤ → ℕ → Bool
 outlasts n timeout = if is_negative n then timeout == 0 else nat_lt 2 (unsigned_abs n) || nat_le timeout (2 ^ unsigned_abs n)
 
-abbrev pub is_too_seldom : PortDataSet → PortDataSet → Bool
-is_too_seldom own parent = outlasts (parent.log_announce -ℤ own.log_announce) own.receipt_timeout
+abbrev pub is_too_seldom : PortDataSet → ℤ → Bool
+is_too_seldom own log = outlasts (log -ℤ own.log_announce) own.receipt_timeout
 
 abbrev pub is_listening : Option PortState → Bool
 is_listening (Some states.Listening) = true
@@ -36,11 +41,56 @@ takes_time site s state = is_following state || is_listening state && has_one_po
 abbrev pub left_slave : List (Received PortDataSet) → Bool
 left_slave received = list_any (λ h. not (is_slave h.set.state)) received
 
-abbrev pub seldom_by : SiteAnswers → Source → ℕ → PortIdentity → PortDataSet → PortDataSet → Option Seldom
-seldom_by site s n parent own above =
-    if takes_time site s own.state && is_too_seldom own above && left_slave (site.port_answers s n)
-    then Some (record { log_announce = own.log_announce; timeout = own.receipt_timeout; parent = parent; parent_log = above.log_announce }) else None
+-- the port that a clock follows
+abbrev pub port_above : Source → PortIdentity → SourcePort
+port_above s parent = record { source = beside s parent.clock; port = parent.port }
+
+-- how often it announces: by the last of its Announces that was heard, or else by its PORT_DATA_SET
+abbrev pub parent_log : SiteAnswers → SourcePort → PortDataSet → ℤ
+parent_log site p above = option_map_or (λ a. a.log) (announced_by_port site.heard p) above.log_announce
+
+abbrev pub seldom_by : SiteAnswers → Source → PortIdentity → PortDataSet → ℤ → Option Seldom
+seldom_by site s parent own log =
+    if takes_time site s own.state && is_too_seldom own log
+    then Some (record { log_announce = own.log_announce; timeout = own.receipt_timeout; parent = parent; parent_log = log }) else None
+
+-- one that announces by unicast says no interval
+abbrev pub seldom_above : SiteAnswers → Source → PortIdentity → PortDataSet → PortDataSet → Option Seldom
+seldom_above site s parent own above = if is_by_unicast site.heard (port_above s parent) then None else seldom_by site s parent own (parent_log site (port_above s parent) above)
+
+-- by what both say
+abbrev pub too_seldom : SiteAnswers → Source → ℕ → Option Seldom
+too_seldom site s n = option_and_then (λ p. option_and_then (λ own. option_and_then (seldom_above site s p.parent own)
+    (site.port (beside s p.parent.clock) p.parent.port)) (site.port s n)) (site.parent s)
+
+-- it is certain if an Announce of the parent was heard, or the port was seen without a lock
+abbrev pub is_certain : SiteAnswers → Source → ℕ → PortIdentity → Bool
+is_certain site s n parent = is_some (announced_by_port site.heard (port_above s parent)) || left_slave (site.port_answers s n)
 
 abbrev pub seldom_announced : SiteAnswers → Source → ℕ → Option Seldom
-seldom_announced site s n = option_and_then (λ p. option_and_then (λ own. option_and_then (seldom_by site s n p.parent own)
-    (site.port (beside s p.parent.clock) p.parent.port)) (site.port s n)) (site.parent s)
+seldom_announced site s n = option_and_then (λ a. if is_certain site s n a.parent then Some a else None) (too_seldom site s n)
+
+-- ---- a port that is served by unicast: it stays in SLAVE for three looks, and two of its parent's intervals
+
+abbrev pub is_third : Request → Request → Request → Bool
+is_third request first last = is_another request last && is_another request first
+
+abbrev pub has_third : List (Received PortDataSet) → Received PortDataSet → Received PortDataSet → Bool
+has_third received first last = list_any (λ h. is_third h.request first.request last.request) received
+
+abbrev pub first_look : List (Received PortDataSet) → Received PortDataSet → Option (Received PortDataSet)
+first_look received last = find (λ h. is_another h.request last.request) received
+
+abbrev pub is_long : Received PortDataSet → Received PortDataSet → ℤ → Bool
+is_long first last log = option_map_or (λ time. nat_le (2 * interval log) time) (time_between last.at first.at) false
+
+abbrev pub is_served_to : List (Received PortDataSet) → Received PortDataSet → ℤ → Bool
+is_served_to received last log = option_map_or (λ first. has_third received first last && is_long first last log) (first_look received last) false
+
+abbrev pub is_served : List (Received PortDataSet) → ℤ → Bool
+is_served received log = option_map_or (λ last. is_served_to received last log) (slice_get received (length received - 1)) false
+
+-- otherwise it is open
+abbrev pub open_seldom : SiteAnswers → Source → ℕ → Option Seldom
+open_seldom site s n = option_and_then (λ a.
+    if is_certain site s n a.parent || is_served (site.port_answers s n) a.parent_log then None else Some a) (too_seldom site s n)

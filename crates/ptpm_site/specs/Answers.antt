@@ -21,6 +21,7 @@ use Rattle.ptpm_site.specs.declared.source.Source.{Source}
 use Rattle.ptpm_site.specs.declared.answer_content.AnswerContent.{AnswerContent}
 use Rattle.ptpm_site.specs.declared.answer_content.AnswerContent.TheVariants as contents
 use Rattle.ptpm_site.specs.Ids.{same_id}
+use Rattle.ptpm_site.specs.Domains.{domain_cmp, same_domain}
 
 -- a key goes to its place in the order, unless it is there already
 unfoldable pub place : {K : Type 0} → (K → K → Ordering) → List K → K → List K
@@ -30,7 +31,7 @@ place cmp keys k = if list_any (eq_by_cmp cmp k) keys then keys else insert_key 
 
 -- a clock of a domain: the same domainNumber, and the same clockIdentity
 abbrev pub same_source : Source → Source → Bool
-same_source a b = a.domain == b.domain && same_clock a.clock b.clock
+same_source a b = same_domain a.domain b.domain && same_clock a.clock b.clock
 
 -- the answers of a clock, in the order of their lines
 abbrev pub answers_of : Source → List Answer → List Answer
@@ -38,7 +39,7 @@ answers_of s answers = filter (λ a. same_source a.source s) answers
 
 -- by domain, and then by identity
 abbrev pub source_cmp : Source → Source → Ordering
-source_cmp a b = ordering_then (nat_cmp a.domain b.domain) (slice_cmp nat_cmp a.clock.0 b.clock.0)
+source_cmp a b = ordering_then (domain_cmp a.domain b.domain) (slice_cmp nat_cmp a.clock.0 b.clock.0)
 
 -- a clock is seen if it gave one answer, or one error, to one of the six ids
 abbrev pub is_seen : Source → List Answer → Bool

@@ -1,5 +1,5 @@
 -- From which address an answer came, and at which interface (IEEE 1588-2019, 15.3.3 and 15.4.1).
-use Rattle.std.specs.Prelude.{ℕ, ◌==◌, ◌&&◌, ◌||◌, Bool, not, List, Option, Some, None, if◌then◌else◌, option_and_then}
+use Rattle.std.specs.Prelude.{ℕ, ◌==◌, ◌||◌, not, List, Option, Some, None, if◌then◌else◌, option_and_then}
 use Rattle.ptpm_codec.specs.Message.{action_of, id_of}
 use Rattle.ptpm_codec.specs.Reading.{message_of}
 use Rattle.ptpm_codec.specs.declared.message.Action.{Action}

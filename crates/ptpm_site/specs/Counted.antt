@@ -1,24 +1,26 @@
 -- What counts of the messages that clocks send by themselves. Those of a clock that is gone count from the first of the last looks
 -- of its domain on.
-use Rattle.std.specs.Prelude.{ℕ, ◌==◌, ◌||◌, ◌++◌, Bool, true, not, List, [], ◌∷◌, Option, Some, None, if◌then◌else◌}
+use Rattle.std.specs.Prelude.{◌||◌, ◌++◌, Bool, true, not, List, [], ◌∷◌, Option, Some, None, if◌then◌else◌}
 use Rattle.std.specs.List.{filter_map, list_any}
 use Rattle.ptpm_site.specs.declared.heard.Heard.{Heard}
 use Rattle.ptpm_site.specs.declared.heard.Heard.TheVariants as heard
 use Rattle.ptpm_site.specs.declared.looks.Look.{Look}
 use Rattle.ptpm_site.specs.Gone.{is_gone}
 use Rattle.ptpm_site.specs.Looks.{is_latest, look_in}
+use Rattle.ptpm_site.specs.declared.domain.Domain.{Domain}
+use Rattle.ptpm_site.specs.Domains.{same_domain}
 
-abbrev pub domain_of_last : List Heard → Option Look → Option ℕ
+abbrev pub domain_of_last : List Heard → Option Look → Option Domain
 domain_of_last all (Some l) = if is_latest all l.topic l.request then Some l.topic.domain else None
 domain_of_last all None = None
 
 -- the domain of a last look
-abbrev pub begun_in : List Heard → Heard → Option ℕ
+abbrev pub begun_in : List Heard → Heard → Option Domain
 begun_in all h = domain_of_last all (look_in h)
 
 -- the last look of a domain began before
-abbrev pub has_begun : List Heard → List Heard → ℕ → Bool
-has_begun all before domain = list_any (λ d. domain == d) (filter_map (begun_in all) before)
+abbrev pub has_begun : List Heard → List Heard → Domain → Bool
+has_begun all before domain = list_any (same_domain domain) (filter_map (begun_in all) before)
 
 abbrev pub counts : List Heard → List Heard → Heard → Bool
 counts all before (heard.Sent s) = not (is_gone all s.source) || has_begun all before s.source.domain

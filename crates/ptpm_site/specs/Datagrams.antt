@@ -10,6 +10,7 @@ use Rattle.ptpm_site.specs.Heard.{heard_in}
 use Rattle.ptpm_site.specs.KeptAnswers.{Takes}
 use Rattle.ptpm_site.specs.Messages.{Answered, answer_of, answered}
 use Rattle.ptpm_site.specs.Origins.{origin_in}
+use Rattle.ptpm_site.specs.Announces.{announced_in}
 
 -- the answer that a datagram is, if it is one
 unfoldable pub answer_in : List ℕ → Option Answered
@@ -27,9 +28,9 @@ abbrev pub TakesAny : Site → Site → Option ℕ → Option Answered → Type 
 TakesAny old new at None = new ≡ old
 TakesAny old new at (Some says) = TakesAnswer old new at says
 
--- what it shows beside: what it is, and what time its sender has
+-- what it shows beside: what it is, what time its sender has, and which port announces
 abbrev pub all_heard_in : Option ℕ → List ℕ → List Heard
-all_heard_in at datagram = option_to_list (heard_in datagram) ++ option_to_list (option_map heard.Timed (origin_in at datagram))
+all_heard_in at datagram = option_to_list (heard_in datagram) ++ option_to_list (option_map heard.Timed (origin_in at datagram)) ++ option_to_list (option_map heard.Announces (announced_in datagram))
 
 -- its answer is taken, and what it shows beside is kept after all that was shown before
 pub record TakesDatagram (old new : Site) (at : Option ℕ) (datagram : List ℕ) : Type 0 where

@@ -1,5 +1,5 @@
--- What all lines show beside the answers: the host that asks, the domains that were asked, who sends by itself, and who is gone.
-use Rattle.std.specs.Prelude.{◌≡◌, ℕ, ◌==◌, ◌&&◌, Bool, List, Option, Some, None}
+-- What all lines show beside the answers: who asks, which domains were asked, who sends or announces, and who is gone.
+use Rattle.std.specs.Prelude.{◌≡◌, ◌==◌, ◌&&◌, Bool, List, Option, Some, None}
 use Rattle.std.specs.BTreeSet.{contains}
 use Rattle.std.specs.Cmp.Lexicographic.{slice_cmp}
 use Rattle.std.specs.List.{filter_map, list_any}
@@ -14,6 +14,12 @@ use Rattle.ptpm_site.specs.declared.evidence.Evidence.{Evidence}
 use Rattle.ptpm_site.specs.declared.source.Source.{Source}
 use Rattle.ptpm_site.specs.Answers.{same_source, source_cmp}
 use Rattle.ptpm_site.specs.Gone.{is_gone}
+use Rattle.ptpm_site.specs.declared.domain.Domain.{Domain}
+use Rattle.ptpm_site.specs.Domains.{domain_cmp, same_domain}
+use Rattle.std.specs.BTreeMap.{get}
+use Rattle.ptpm_site.specs.declared.arrival.SourcePort.{SourcePort}
+use Rattle.ptpm_site.specs.Announces.{announced_by_port}
+use Rattle.ptpm_site.specs.TwoAddresses.{port_cmp}
 
 -- the clock to which an answer goes is that of the host that asks
 abbrev pub host_in : Heard → Option ClockIdentity
@@ -24,12 +30,12 @@ abbrev pub is_host_of : List Heard → ClockIdentity → Bool
 is_host_of all clock = list_any (same_clock clock) (filter_map host_in all)
 
 -- the domain that a GET asks in
-abbrev pub domain_in : Heard → Option ℕ
+abbrev pub domain_in : Heard → Option Domain
 domain_in (heard.Asked q) = Some q.domain
 domain_in _ = None
 
-abbrev pub is_asked : List Heard → ℕ → Bool
-is_asked all domain = list_any (λ d. domain == d) (filter_map domain_in all)
+abbrev pub is_asked : List Heard → Domain → Bool
+is_asked all domain = list_any (same_domain domain) (filter_map domain_in all)
 
 -- the senders, each with the type of what it sends
 abbrev pub sent_in : Heard → Option Sender
@@ -52,6 +58,7 @@ sender_cmp a b = ordering_then (source_cmp a.source b.source) (nat_cmp a.kind b.
 
 pub record IsOf (all : List Heard) (e : Evidence) : Type 0 where
   pub hosts : (c : ClockIdentity) → contains clock_cmp e.hosts c ≡ is_host_of all c
-  pub domains : (d : ℕ) → contains nat_cmp e.domains d ≡ is_asked all d
+  pub domains : (d : Domain) → contains domain_cmp e.domains d ≡ is_asked all d
   pub senders : (s : Sender) → contains sender_cmp e.senders s ≡ is_sent all s
   pub gone : (s : Source) → contains source_cmp e.gone s ≡ is_gone all s
+  pub announced : (p : SourcePort) → get port_cmp e.announced p ≡ announced_by_port all p

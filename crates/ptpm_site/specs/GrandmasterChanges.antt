@@ -12,6 +12,7 @@ use Rattle.ptpm_site.specs.Answers.{same_source}
 use Rattle.ptpm_site.specs.Changes.{same_request}
 use Rattle.ptpm_site.specs.Following.{beside}
 use Rattle.ptpm_site.specs.SiteAnswers.{SiteAnswers}
+use Rattle.ptpm_site.specs.Domains.{same_domain}
 
 -- ---- of a clock
 
@@ -35,7 +36,7 @@ handover_of site s = last_handover s (site.parents s)
 
 -- two clocks of a domain went from one grandmaster to the same other one
 abbrev pub same_handover : Handover → Handover → Bool
-same_handover a b = a.source.domain == b.source.domain && same_clock a.before b.before && same_clock a.after b.after
+same_handover a b = same_domain a.source.domain b.source.domain && same_clock a.before b.before && same_clock a.after b.after
 
 abbrev pub clocks_with : List Handover → Handover → ℕ
 clocks_with all h = count_by (same_handover h) all

@@ -1,5 +1,5 @@
 -- Grandmasters of a domain: `two_grandmasters`, `no_master`, `grandmaster_not_seen`.
-use Rattle.std.specs.Prelude.{ℕ, ◌==◌, ◌&&◌, Bool, not, nat_le, nat_lt, List, Option, Some, None, if◌then◌else◌, option_and_then}
+use Rattle.std.specs.Prelude.{◌&&◌, Bool, not, nat_le, nat_lt, List, Option, Some, None, if◌then◌else◌, option_and_then}
 use Rattle.std.specs.List.{count_by, filter}
 use Rattle.ptpm_codec.specs.Identity.{same_clock}
 use Rattle.ptpm_codec.specs.declared.identity.ClockIdentity.{ClockIdentity}
@@ -10,6 +10,8 @@ use Rattle.ptpm_site.specs.declared.port_groups.PortGroup.TheVariants as groups
 use Rattle.ptpm_site.specs.declared.source.Source.{Source}
 use Rattle.ptpm_site.specs.Following.{beside, is_own_grandmaster}
 use Rattle.ptpm_site.specs.SiteAnswers.{SiteAnswers, has_port_of, has_ports_to}
+use Rattle.ptpm_site.specs.declared.domain.Domain.{Domain}
+use Rattle.ptpm_site.specs.Domains.{same_domain}
 
 -- a clock leads if it is its own grandmaster and has a port in MASTER
 abbrev pub leads : SiteAnswers → Source → Bool
@@ -18,8 +20,8 @@ leads site s = is_own_grandmaster site s && has_port_of site s groups.Master
 abbrev pub leading_clocks : SiteAnswers → List Source
 leading_clocks site = filter (leads site) site.clocks
 
-abbrev pub in_domain : ℕ → Source → Bool
-in_domain domain s = s.domain == domain
+abbrev pub in_domain : Domain → Source → Bool
+in_domain domain s = same_domain s.domain domain
 
 -- a clock that leads is one of two or more of its domain
 abbrev pub is_one_of_two : SiteAnswers → Source → Bool

@@ -1,5 +1,5 @@
 -- What datagrams show beside what the answers say (IEEE 1588-2019, 13.3 and 15.4.1).
-use Rattle.std.specs.Prelude.{ℕ, ◌==◌, ◌&&◌, ◌||◌, Bool, nat_le, List, length, Option, Some, None, if◌then◌else◌, option_and_then}
+use Rattle.std.specs.Prelude.{ℕ, ◌==◌, ◌&&◌, ◌||◌, Bool, not, nat_le, List, length, Option, Some, None, if◌then◌else◌, option_and_then}
 use Rattle.std.specs.Option.{option_map}
 use Rattle.ptpm_codec.specs.Identity.{every_clock, every_port, same_clock}
 use Rattle.ptpm_codec.specs.Layout as layout
@@ -16,6 +16,8 @@ use Rattle.ptpm_site.specs.declared.heard.Query.{Query}
 use Rattle.ptpm_site.specs.declared.heard.Sender.{Sender}
 use Rattle.ptpm_site.specs.declared.heard.Travel.{Travel}
 use Rattle.ptpm_site.specs.Messages.{asked_of, request_of, source_of}
+use Rattle.ptpm_site.specs.Domains.{domain_of}
+use Rattle.ptpm_site.specs.Octets.{flag_at}
 
 -- every port of every clock is meant (15.3.1)
 abbrev pub is_to_all : PortIdentity → Bool
@@ -24,7 +26,7 @@ is_to_all target = same_clock target.clock every_clock && target.port == every_p
 -- who asks is the sourcePortIdentity of a GET, and the targetPortIdentity of each answer to it (15.4.1.3)
 abbrev pub get_in : Asked → Message → Query
 get_in asked m = record {
-  domain = m.domain;
+  domain = domain_of m.domain m.sdo;
   asked = asked;
   is_to_all = is_to_all m.target;
   request = record { target = m.source; number = m.number };
@@ -47,11 +49,15 @@ heard_of m = option_and_then (λ a. heard_by (action_of m.body) a m) (asked_of (
 abbrev pub is_of_sender : ℕ → Bool
 is_of_sender kind = kind == 11 || kind == 0 || kind == 8 || kind == 1
 
--- a message of PTP version 2 with sdoId 0 that a clock sends by itself; a slave sends only the last of these
+-- the Announce of an alternate master: alternateMasterFlag is bit 0 of the first octet of flagField (table 37)
+abbrev pub is_alternate : ℕ → List ℕ → Bool
+is_alternate kind d = kind == 11 && flag_at 6 0 d
+
+-- a message of PTP version 2 that a clock sends by itself; a slave sends only the last of these
 abbrev pub sender_in : List ℕ → Option Sender
 sender_in d =
-    if nat_le 34 (length d) && layout.sdo_id d == 0 && layout.version_ptp d == 2 && is_of_sender (layout.message_type d)
-    then Some (record { source = record { domain = layout.domain_number d; clock = (layout.source_port_identity d).clock }; kind = layout.message_type d })
+    if nat_le 34 (length d) && layout.version_ptp d == 2 && is_of_sender (layout.message_type d) && not (is_alternate (layout.message_type d) d)
+    then Some (record { source = record { domain = domain_of (layout.domain_number d) (layout.sdo_id d); clock = (layout.source_port_identity d).clock }; kind = layout.message_type d })
     else None
 
 -- a message that is no management message may be one of these

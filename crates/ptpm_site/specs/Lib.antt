@@ -1,4 +1,5 @@
 pub mod Amounts
+pub mod Announces
 pub mod Announcing
 pub mod AnswerOrder
 pub mod Answers
@@ -8,6 +9,7 @@ pub mod Completeness
 pub mod Counted
 pub mod Datagrams
 pub mod Differences
+pub mod Domains
 pub mod Evidence
 pub mod Findings
 pub mod Following

@@ -1,5 +1,5 @@
 -- Requests to all clocks. The last one of a domain for an id is its last look.
-use Rattle.std.specs.Prelude.{◌≡◌, ℕ, ◌==◌, ◌&&◌, Bool, true, List, Option, Some, None, if◌then◌else◌, find, reverse}
+use Rattle.std.specs.Prelude.{◌≡◌, ◌==◌, ◌&&◌, Bool, true, List, Option, Some, None, if◌then◌else◌, find, reverse}
 use Rattle.std.specs.declared.cmp.Ordering.{Ordering}
 use Rattle.std.specs.BTreeMap.{get}
 use Rattle.std.specs.List.{filter_map}
@@ -14,13 +14,15 @@ use Rattle.ptpm_site.specs.declared.looks.Look.{Look}
 use Rattle.ptpm_site.specs.declared.looks.Topic.{Topic}
 use Rattle.ptpm_site.specs.Changes.{same_request}
 use Rattle.ptpm_site.specs.Ids.{number_of}
+use Rattle.ptpm_site.specs.declared.domain.Domain.{Domain}
+use Rattle.ptpm_site.specs.Domains.{domain_cmp, same_domain}
 
 -- what the clocks of a domain are asked for
-abbrev pub topic_of : ℕ → Asked → Topic
+abbrev pub topic_of : Domain → Asked → Topic
 topic_of domain asked = record { domain = domain; id = number_of asked }
 
 abbrev pub same_topic : Topic → Topic → Bool
-same_topic a b = a.domain == b.domain && a.id == b.id
+same_topic a b = same_domain a.domain b.domain && a.id == b.id
 
 -- a GET to all clocks
 abbrev pub look_in : Heard → Option Look
@@ -41,7 +43,7 @@ is_latest all t request = option_map_or (same_request request) (last_of (looks a
 -- ---- what is kept of it, for quick answers
 
 abbrev pub topic_cmp : Topic → Topic → Ordering
-topic_cmp a b = ordering_then (nat_cmp a.domain b.domain) (nat_cmp a.id b.id)
+topic_cmp a b = ordering_then (domain_cmp a.domain b.domain) (nat_cmp a.id b.id)
 
 pub record AreLast (all : List Heard) (l : LastLooks) : Type 0 where
   pub requests : (t : Topic) → get topic_cmp l.requests t ≡ last_of (looks all) t

@@ -25,6 +25,7 @@ use Rattle.ptpm_site.specs.declared.answer_content.AnswerContent.{AnswerContent}
 use Rattle.ptpm_site.specs.declared.answer_content.AnswerContent.TheVariants as contents
 use Rattle.ptpm_site.specs.Ids.{number_of, six}
 use Rattle.ptpm_site.specs.Octets.{current_read, default_read, parent_read, port_read, time_read}
+use Rattle.ptpm_site.specs.Domains.{domain_of}
 
 -- userDescription is a PTPText (5.3.9); octets that are no UTF-8 are replaced
 unfoldable pub description_read : List ℕ → Option (List ℕ)
@@ -74,7 +75,7 @@ content_of a m = if is_some (error_of m.body) then Some (Refused a) else data_co
 -- ---- which clock an answer is of, and which request it came to
 
 abbrev pub source_of : Message → Source
-source_of m = record { domain = m.domain; clock = m.source.clock }
+source_of m = record { domain = domain_of m.domain m.sdo; clock = m.source.clock }
 
 abbrev pub request_of : Message → Request
 request_of m = record { target = m.target; number = m.number }

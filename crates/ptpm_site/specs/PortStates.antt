@@ -1,11 +1,10 @@
 -- The states of ports (IEEE 1588-2019, 9.2.5), and how they measure delay (8.2.15.4.4).
-use Rattle.std.specs.Prelude.{ℕ, zero, suc, ◌==◌, ◌&&◌, ◌-◌, Bool, true, false, not, List, length, slice_get, take, reverse, Option, Some, None, if◌then◌else◌, option_and_then, find}
+use Rattle.std.specs.Prelude.{ℕ, zero, suc, ◌==◌, ◌&&◌, Bool, true, false, not, Option, Some}
 use Rattle.std.specs.Option.{option_map_or}
 use Rattle.ptpm_codec.specs.Identity.{same_identity}
 use Rattle.ptpm_data.specs.declared.port_state.PortState.{PortState}
 use Rattle.ptpm_data.specs.declared.port_state.PortState.TheVariants as states
 use Rattle.ptpm_site.specs.declared.answer.Request.{Request}
-use Rattle.ptpm_site.specs.declared.clock.Received.{Received}
 use Rattle.ptpm_site.specs.declared.data_sets.DelayMechanism.{DelayMechanism}
 use Rattle.ptpm_site.specs.declared.data_sets.DelayMechanism.TheVariants as mechanisms
 use Rattle.ptpm_site.specs.declared.data_sets.PortDataSet.{PortDataSet}

@@ -1,5 +1,5 @@
 -- How long a port may be on its way to another state, in nanoseconds (this project's profile).
-use Rattle.std.specs.Prelude.{ℕ, ℤ, ◌+◌, ◌*◌, ◌/◌, ◌^◌, min, max, unsigned_abs, Option, if◌then◌else◌}
+use Rattle.std.specs.Prelude.{ℕ, ℤ, ◌+◌, ◌*◌, ◌/◌, ◌^◌, min, max, unsigned_abs, if◌then◌else◌}
 use Rattle.std.specs.Int.{is_negative}
 use Rattle.std.specs.Option.{option_map_or}
 use Rattle.ptpm_data.specs.declared.port_state.PortState.{PortState}

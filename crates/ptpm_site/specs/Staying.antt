@@ -1,5 +1,5 @@
 -- A port that is FAULTY, or stays on its way to another state for too long: `port_state`, `not_locked`, and what is open of these.
-use Rattle.std.specs.Prelude.{ℕ, ◌&&◌, ◌||◌, Bool, true, false, not, is_some, Option, Some, None, if◌then◌else◌, option_and_then}
+use Rattle.std.specs.Prelude.{ℕ, ◌||◌, Bool, true, false, not, is_some, Option, Some, None, if◌then◌else◌, option_and_then}
 use Rattle.std.specs.Option.{option_map, option_map_or}
 use Rattle.ptpm_data.specs.declared.port_state.PortState.{PortState}
 use Rattle.ptpm_data.specs.declared.port_state.PortState.TheVariants as states

@@ -70,12 +70,12 @@ IsRow site (row.NotSeen domain parent) = (place : ℕ) × IsFollowed site place 
 
 -- the domain of the clock at a place
 abbrev pub domain_at : List Source → ℕ → ℕ
-domain_at clocks place = slice_index_or (map (λ (s : Source). s.domain) clocks) place 0
+domain_at clocks place = slice_index_or (map (λ (s : Source). s.domain.0) clocks) place 0
 
 -- the domain of a row
 abbrev pub row_domain : List Source → TreeRow → ℕ
 row_domain clocks (row.Clock place depth) = domain_at clocks place
-row_domain clocks (row.NotSeen domain parent) = domain
+row_domain clocks (row.NotSeen domain parent) = domain.0
 
 -- ---- while the tree grows
 

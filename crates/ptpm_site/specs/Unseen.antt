@@ -13,6 +13,7 @@ use Rattle.ptpm_site.specs.Following.{beside}
 use Rattle.ptpm_site.specs.Gone.{gone_clocks}
 use Rattle.ptpm_site.specs.Grandmasters.{in_domain}
 use Rattle.ptpm_site.specs.SiteAnswers.{SiteAnswers}
+use Rattle.ptpm_site.specs.declared.domain.Domain.{Domain}
 
 -- a clock of the same domain names another as its grandmaster, or as the clock of its parent
 abbrev pub names : SiteAnswers → Source → Source → Bool
@@ -28,7 +29,7 @@ abbrev pub own_host : SiteAnswers → Source → Option Absence
 own_host site s = if list_any (names site s) site.clocks then Some why.OwnHost else None
 
 -- a domain was asked in, or a clock of it answered
-abbrev pub was_asked : SiteAnswers → ℕ → Bool
+abbrev pub was_asked : SiteAnswers → Domain → Bool
 was_asked site domain = is_asked site.heard domain || list_any (in_domain domain) site.clocks
 
 -- of Announce, Sync and Follow_Up the first that a clock sends, by messageType

@@ -1,14 +1,21 @@
 //! Ports whose parent announces too seldom for them (7.7.2, 7.7.3).
 
 ghost use Rattle.std.specs.Prelude.{◌≡◌};
-ghost use Rattle.ptpm_site.specs.Announcing.{has_one_port, is_listening, is_too_seldom, left_slave, outlasts, seldom_announced, seldom_by, takes_time};
+ghost use Rattle.std.specs.Option.{option_copied};
+ghost use Rattle.ptpm_site.specs.Announcing.{first_look, has_one_port, has_third, is_certain, is_listening, is_long, is_served, is_served_to, is_third, is_too_seldom, left_slave, open_seldom, outlasts, parent_log, port_above, seldom_above, seldom_announced, seldom_by, takes_time, too_seldom};
+ghost use Rattle.ptpm_site.specs.Evidence.{IsOf};
 ghost use Rattle.ptpm_site.specs.PortStates.{is_slave};
 ghost use Rattle.ptpm_site.specs.Site.{site_answers};
 
+use crate::answer::Request;
+use crate::arrival::SourcePort;
 use crate::clock::Received;
 use crate::data_sets::PortDataSet;
+use crate::evidence::Evidence;
 use crate::site::Site;
 use crate::source::Source;
+use crate::stay::{is_another, time_between};
+use crate::stay_limits::interval;
 use ptpm_codec::PortIdentity;
 use ptpm_data::PortState;
 
@@ -21,7 +28,7 @@ pub struct Seldom {
     pub timeout: u8,
     /// The port that it follows.
     pub parent: PortIdentity,
-    /// logAnnounceInterval of that port.
+    /// logMessageInterval of the last Announce of that port that was heard, or else its logAnnounceInterval.
     pub parent_log: i8,
 }
 
@@ -38,11 +45,11 @@ fn outlasts(n: i16, timeout: u8) -> bool
 }
 
 /// Whether the parent announces too seldom for the port.
-fn is_too_seldom(own: &PortDataSet, parent: &PortDataSet) -> bool
-    ensures { result ≡ is_too_seldom own.now parent.now }
+fn is_too_seldom(own: &PortDataSet, parent_log: i8) -> bool
+    ensures { result ≡ is_too_seldom own.now parent_log }
 {
     outlasts(
-        parent.log_announce as i16 - own.log_announce as i16,
+        i16::from(parent_log) - i16::from(own.log_announce),
         own.receipt_timeout,
     )
 }
@@ -85,37 +92,180 @@ fn left_slave(received: &[Received<PortDataSet>]) -> bool
         .any(|received| !is_slave(received.set.state))
 }
 
+/// The port of a clock that another clock of its domain follows.
+pub fn port_above(source: Source, parent: PortIdentity) -> SourcePort
+    ensures { result ≡ port_above source parent }
+{
+    SourcePort {
+        source: source.beside(parent.clock),
+        port: parent.port,
+    }
+}
+
+/// How often the parent announces, by the last of its Announces that was heard, or else by its PORT_DATA_SET.
+fn parent_log(site: &Site, evidence: &Evidence, port: SourcePort, above: &PortDataSet) -> i8
+    requires { IsOf (site_answers site.now).heard evidence.now }
+    ensures { result ≡ parent_log (site_answers site.now) port above.now }
+{
+    match evidence.announced.get(&port) {
+        Some(announced) => announced.log,
+        None => above.log_announce,
+    }
+}
+
 fn seldom_by(
     site: &Site,
     source: Source,
-    port: u16,
     parent: PortIdentity,
     own: &PortDataSet,
-    above: &PortDataSet,
+    parent_log: i8,
 ) -> Option<Seldom>
-    ensures { result ≡ seldom_by (site_answers site.now) source port parent own.now above.now }
+    ensures { result ≡ seldom_by (site_answers site.now) source parent own.now parent_log }
 {
-    if takes_time(site, source, own)
-        && is_too_seldom(own, above)
-        && left_slave(site.port_answers(source, port))
-    {
+    if takes_time(site, source, own) && is_too_seldom(own, parent_log) {
         Some(Seldom {
             log_announce: own.log_announce,
             timeout: own.receipt_timeout,
             parent,
-            parent_log: above.log_announce,
+            parent_log,
         })
     } else {
         None
     }
 }
 
-/// What is said of a port whose parent announces too seldom for it, if it was seen without a lock.
-pub fn seldom_announced(site: &Site, source: Source, port: u16) -> Option<Seldom>
-    ensures { result ≡ seldom_announced (site_answers site.now) source port }
+fn seldom_above(
+    site: &Site,
+    evidence: &Evidence,
+    source: Source,
+    parent: PortIdentity,
+    own: &PortDataSet,
+    above: &PortDataSet,
+) -> Option<Seldom>
+    requires { IsOf (site_answers site.now).heard evidence.now }
+    ensures { result ≡ seldom_above (site_answers site.now) source parent own.now above.now }
+{
+    let port = port_above(source, parent);
+    if evidence.is_by_unicast(port) {
+        return None;
+    }
+    let log = parent_log(site, evidence, port, above);
+    seldom_by(site, source, parent, own, log)
+}
+
+/// A port whose parent announces too seldom for it, by what both say.
+fn too_seldom(site: &Site, evidence: &Evidence, source: Source, port: u16) -> Option<Seldom>
+    requires { IsOf (site_answers site.now).heard evidence.now }
+    ensures { result ≡ too_seldom (site_answers site.now) source port }
 {
     let parent = site.parent(source)?.parent;
     let own = site.port(source, port)?;
     let above = site.port(source.beside(parent.clock), parent.port)?;
-    seldom_by(site, source, port, parent, &own, &above)
+    seldom_above(site, evidence, source, parent, &own, &above)
+}
+
+/// Whether it is certain: an Announce of the parent was heard, or the port was seen without a lock.
+fn is_certain(
+    site: &Site,
+    evidence: &Evidence,
+    source: Source,
+    port: u16,
+    parent: PortIdentity,
+) -> bool
+    requires { IsOf (site_answers site.now).heard evidence.now }
+    ensures { result ≡ is_certain (site_answers site.now) source port parent }
+{
+    evidence.announced.contains_key(&port_above(source, parent))
+        || left_slave(site.port_answers(source, port))
+}
+
+/// What is said of a port whose parent announces too seldom for it, if it is certain.
+pub fn seldom_announced(
+    site: &Site,
+    evidence: &Evidence,
+    source: Source,
+    port: u16,
+) -> Option<Seldom>
+    requires { IsOf (site_answers site.now).heard evidence.now }
+    ensures { result ≡ seldom_announced (site_answers site.now) source port }
+{
+    let seldom = too_seldom(site, evidence, source, port)?;
+    if is_certain(site, evidence, source, port, seldom.parent) {
+        Some(seldom)
+    } else {
+        None
+    }
+}
+
+/// Whether there is an answer to a third request, beside the first and the last one.
+fn has_third(
+    received: &[Received<PortDataSet>],
+    first: &Received<PortDataSet>,
+    last: &Received<PortDataSet>,
+) -> bool
+    ensures { result ≡ has_third received.now first.now last.now }
+{
+    received.iter().any(|one| is_third(&one.request, &first.request, &last.request))
+}
+
+fn is_third(request: &Request, first: &Request, last: &Request) -> bool
+    ensures { result ≡ is_third request.now first.now last.now }
+{
+    is_another(request, last) && is_another(request, first)
+}
+
+/// The first of these answers that came to another request of the requester of the last one.
+fn first_look<'a>(
+    received: &'a [Received<PortDataSet>],
+    last: &Received<PortDataSet>,
+) -> Option<&'a Received<PortDataSet>>
+    ensures { option_copied result ≡ first_look received.now last.now }
+{
+    received
+        .iter()
+        .find(|one| is_another(&one.request, &last.request))
+}
+
+/// Whether the time from one answer to another is two intervals at least.
+fn is_long(first: &Received<PortDataSet>, last: &Received<PortDataSet>, log: i8) -> bool
+    ensures { result ≡ is_long first.now last.now log }
+{
+    match time_between(last.at, first.at) {
+        Some(time) => 2 * interval(log) <= time,
+        None => false,
+    }
+}
+
+fn is_served_to(received: &[Received<PortDataSet>], last: &Received<PortDataSet>, log: i8) -> bool
+    ensures { result ≡ is_served_to received.now last.now log }
+{
+    match first_look(received, last) {
+        Some(first) => has_third(received, first, last) && is_long(first, last, log),
+        None => false,
+    }
+}
+
+/// Whether a port stays as it is for three looks, and two of these intervals. Then one that is in SLAVE is served by unicast.
+fn is_served(received: &[Received<PortDataSet>], log: i8) -> bool
+    ensures { result ≡ is_served received.now log }
+{
+    match received.last() {
+        Some(last) => is_served_to(received, last, log),
+        None => false,
+    }
+}
+
+/// What is said of a port whose parent may announce too seldom for it: by multicast it does, and no Announce was heard.
+pub fn open_seldom(site: &Site, evidence: &Evidence, source: Source, port: u16) -> Option<Seldom>
+    requires { IsOf (site_answers site.now).heard evidence.now }
+    ensures { result ≡ open_seldom (site_answers site.now) source port }
+{
+    let seldom = too_seldom(site, evidence, source, port)?;
+    if is_certain(site, evidence, source, port, seldom.parent)
+        || is_served(site.port_answers(source, port), seldom.parent_log)
+    {
+        None
+    } else {
+        Some(seldom)
+    }
 }

@@ -11,6 +11,7 @@ use crate::data_sets::{
     CurrentDataSet, DefaultDataSet, ParentDataSet, PortDataSet, TimePropertiesDataSet,
 };
 use crate::description::Description;
+use crate::domain::Domain;
 use crate::source::Source;
 use ptpm_codec::{Action, PortIdentity, View};
 use std::alloc::{AllocError, Global};
@@ -73,7 +74,7 @@ pub fn source_of(message: &View<'_>) -> Source
     ensures { result ≡ source_of message.now }
 {
     Source {
-        domain: message.domain(),
+        domain: Domain::of_message(message),
         clock: message.source().clock,
     }
 }

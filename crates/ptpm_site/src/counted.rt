@@ -1,17 +1,19 @@
 //! What counts of a site whose clocks may be gone.
 
-ghost use Rattle.std.specs.Prelude.{◌≡◌, ℕ, ◌++◌, ◌∷◌, [], List, IfOk, OnOk, not};
+ghost use Rattle.std.specs.Prelude.{◌≡◌, ◌++◌, ◌∷◌, [], List, IfOk, OnOk, not};
 ghost use Rattle.std.specs.BTreeSet.{contains};
 ghost use Rattle.std.specs.List.{filter};
-ghost use Rattle.std.specs.Ordering.{nat_cmp};
+ghost use Rattle.ptpm_site.specs.declared.domain.Domain.{Domain};
 ghost use Rattle.ptpm_site.specs.declared.heard.Heard.{Heard};
 ghost use Rattle.ptpm_site.specs.declared.source.Source.{Source};
 ghost use Rattle.ptpm_site.specs.Answers.{source_cmp};
+ghost use Rattle.ptpm_site.specs.Domains.{domain_cmp};
 ghost use Rattle.ptpm_site.specs.Counted.{begun_in, counted, counts, has_begun, if_counts};
 ghost use Rattle.ptpm_site.specs.Gone.{is_gone};
 ghost use Rattle.ptpm_site.specs.Looks.{AreLast};
 
 use crate::clock::Clock;
+use crate::domain::Domain;
 use crate::gone::gone_set;
 use crate::heard::Heard;
 use crate::looks::{LastLooks, Look};
@@ -21,7 +23,7 @@ use std::alloc::{AllocError, Global};
 use std::collections::{BTreeMap, BTreeSet};
 
 /// The domain of a last look.
-fn begun_in(heard: &[Heard], last: &LastLooks, one: &Heard) -> Option<u8>
+fn begun_in(heard: &[Heard], last: &LastLooks, one: &Heard) -> Option<Domain>
     requires { AreLast heard.now last.now }
     ensures { result ≡ begun_in heard.now one.now }
 {
@@ -38,11 +40,11 @@ fn begin(
     heard: &[Heard],
     last: &LastLooks,
     one: &Heard,
-    begun: &mut BTreeSet<u8>,
+    begun: &mut BTreeSet<Domain>,
 ) -> Result<(), AllocError>
     requires { AreLast heard.now last.now }
-    ensures { OnOk result ((before : List Heard) → ((d : ℕ) → contains nat_cmp begun.old d ≡ has_begun heard.now before d)
-        → (d : ℕ) → contains nat_cmp begun.new d ≡ has_begun heard.now (before ++ one.now ∷ []) d) }
+    ensures { OnOk result ((before : List Heard) → ((d : Domain) → contains domain_cmp begun.old d ≡ has_begun heard.now before d)
+        → (d : Domain) → contains domain_cmp begun.new d ≡ has_begun heard.now (before ++ one.now ∷ []) d) }
 {
     if let Some(domain) = begun_in(heard, last, one) {
         begun.insert(domain)?;
@@ -51,9 +53,9 @@ fn begin(
 }
 
 /// Whether a datagram counts. `begun` has the domains of the last looks before it.
-fn counts(heard: &[Heard], gone: &BTreeSet<Source>, begun: &BTreeSet<u8>, one: &Heard) -> bool
+fn counts(heard: &[Heard], gone: &BTreeSet<Source>, begun: &BTreeSet<Domain>, one: &Heard) -> bool
     requires { (s : Source) → contains source_cmp gone.now s ≡ is_gone heard.now s }
-    ensures { (before : List Heard) → ((d : ℕ) → contains nat_cmp begun.now d ≡ has_begun heard.now before d) → result ≡ counts heard.now before one.now }
+    ensures { (before : List Heard) → ((d : Domain) → contains domain_cmp begun.now d ≡ has_begun heard.now before d) → result ≡ counts heard.now before one.now }
 {
     match one {
         Heard::Sent(sender) => {
@@ -67,12 +69,12 @@ fn counts(heard: &[Heard], gone: &BTreeSet<Source>, begun: &BTreeSet<u8>, one: &
 fn add_counted(
     heard: &[Heard],
     gone: &BTreeSet<Source>,
-    begun: &BTreeSet<u8>,
+    begun: &BTreeSet<Domain>,
     one: &Heard,
     found: &mut Vec<Heard>,
 ) -> Result<(), AllocError>
     requires { (s : Source) → contains source_cmp gone.now s ≡ is_gone heard.now s }
-    ensures { OnOk result ((before : List Heard) → ((d : ℕ) → contains nat_cmp begun.now d ≡ has_begun heard.now before d)
+    ensures { OnOk result ((before : List Heard) → ((d : Domain) → contains domain_cmp begun.now d ≡ has_begun heard.now before d)
         → found.new.items ≡ found.old.items ++ if_counts heard.now before one.now) }
 {
     if counts(heard, gone, begun, one) {

@@ -5,6 +5,7 @@ ghost use Rattle.std.specs.Option.{option_map, option_to_list};
 ghost use Rattle.ptpm_site.specs.Arrivals.{arrival_in};
 ghost use Rattle.ptpm_site.specs.Datagrams.{TakesAny, TakesDatagram, all_heard_in, answer_in};
 
+use crate::announces::announced_in;
 use crate::answer::Answer;
 use crate::arrival::{Way, arrival_in};
 use crate::heard::Heard;
@@ -41,7 +42,8 @@ impl Site {
         ensures heard { OnOk result (self.new.heard.items ≡ self.old.heard.items ++ all_heard_in at datagram.now) }
     {
         self.keep(Heard::of(datagram))?;
-        self.keep(origin_in(at, datagram).map(Heard::Timed))
+        self.keep(origin_in(at, datagram).map(Heard::Timed))?;
+        self.keep(announced_in(datagram).map(Heard::Announces))
     }
 
     /// Keeps from which address the answer came that a datagram is, and at which interface. If the line of the datagram says no

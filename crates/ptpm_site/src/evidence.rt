@@ -1,13 +1,19 @@
-//! What all lines show beside the answers: the host that asks, the domains that were asked, who sends by itself, and who is gone.
+//! What all lines show beside the answers: who asks, which domains were asked, who sends or announces, and who is gone.
 
-ghost use Rattle.std.specs.Prelude.{◌≡◌, ℕ, IfOk};
+ghost use Rattle.std.specs.Prelude.{◌≡◌, IfOk, List};
 ghost use Rattle.std.specs.BTreeSet.{contains};
 ghost use Rattle.std.specs.List.{filter_map};
-ghost use Rattle.std.specs.Ordering.{nat_cmp};
 ghost use Rattle.ptpm_codec.specs.declared.identity.ClockIdentity.{ClockIdentity};
+ghost use Rattle.ptpm_site.specs.declared.domain.Domain.{Domain};
+ghost use Rattle.ptpm_site.specs.declared.heard.Heard.{Heard};
 ghost use Rattle.ptpm_site.specs.declared.heard.Sender.{Sender};
+ghost use Rattle.ptpm_site.specs.Announces.{is_by_unicast};
+ghost use Rattle.ptpm_site.specs.Domains.{domain_cmp};
 ghost use Rattle.ptpm_site.specs.Evidence.{IsOf, clock_cmp, domain_in, host_in, is_asked, is_host_of, is_sent, sender_cmp, sent_in};
 
+use crate::announces::{Announced, last_announces};
+use crate::arrival::SourcePort;
+use crate::domain::Domain;
 use crate::gone::gone_set;
 use crate::heard::{Heard, Sender};
 use crate::looks::LastLooks;
@@ -15,7 +21,7 @@ use crate::sets::add_keys;
 use crate::source::Source;
 use ptpm_codec::ClockIdentity;
 use std::alloc::{AllocError, Global};
-use std::collections::BTreeSet;
+use std::collections::{BTreeMap, BTreeSet};
 
 /// What all lines show, for quick answers.
 #[derive(Drop)]
@@ -23,11 +29,13 @@ pub struct Evidence {
     /// The clocks that answers go to.
     pub hosts: BTreeSet<ClockIdentity>,
     /// The domains that a GET asks in.
-    pub domains: BTreeSet<u8>,
+    pub domains: BTreeSet<Domain>,
     /// The senders, each with the type of what it sends.
     pub senders: BTreeSet<Sender>,
     /// The clocks that are gone.
     pub gone: BTreeSet<Source>,
+    /// The last Announce of each port that announces.
+    pub announced: BTreeMap<SourcePort, Announced>,
 }
 
 impl Evidence {
@@ -40,7 +48,18 @@ impl Evidence {
             domains: domain_set(alloc, heard)?,
             senders: sender_set(alloc, heard)?,
             gone: gone_set(alloc, heard, &last)?,
+            announced: last_announces(alloc, heard)?,
         })
+    }
+
+    /// Whether the last Announce of a port was sent by unicast.
+    pub fn is_by_unicast(&self, port: SourcePort) -> bool
+        ensures { (heard : List Heard) → IsOf heard self.now → result ≡ is_by_unicast heard port }
+    {
+        match self.announced.get(&port) {
+            Some(announced) => announced.is_by_unicast(),
+            None => false,
+        }
     }
 }
 
@@ -53,8 +72,8 @@ fn host_set(alloc: Global, heard: &[Heard]) -> Result<BTreeSet<ClockIdentity>, A
     Ok(set)
 }
 
-fn domain_set(alloc: Global, heard: &[Heard]) -> Result<BTreeSet<u8>, AllocError>
-    ensures { IfOk result (λ set. (d : ℕ) → contains nat_cmp set d ≡ is_asked heard.now d) }
+fn domain_set(alloc: Global, heard: &[Heard]) -> Result<BTreeSet<Domain>, AllocError>
+    ensures { IfOk result (λ set. (d : Domain) → contains domain_cmp set d ≡ is_asked heard.now d) }
 {
     let mut set = BTreeSet::new(alloc);
     let all = domains(alloc, heard)?;
@@ -95,7 +114,7 @@ fn hosts(alloc: Global, heard: &[Heard]) -> Result<Vec<ClockIdentity>, AllocErro
 }
 
 /// The domain that a GET asks in.
-fn domain_in(heard: &Heard) -> Option<u8>
+fn domain_in(heard: &Heard) -> Option<Domain>
     ensures { result ≡ domain_in heard.now }
 {
     match heard {
@@ -104,7 +123,7 @@ fn domain_in(heard: &Heard) -> Option<u8>
     }
 }
 
-fn domains(alloc: Global, heard: &[Heard]) -> Result<Vec<u8>, AllocError>
+fn domains(alloc: Global, heard: &[Heard]) -> Result<Vec<Domain>, AllocError>
     ensures { IfOk result (λ found. found.items ≡ filter_map domain_in heard.now) }
 {
     let mut found = Vec::new(alloc);

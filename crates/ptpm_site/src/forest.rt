@@ -1,15 +1,16 @@
 //! Who follows whom, by the places of the clocks in their order.
 
-ghost use Rattle.std.specs.Prelude.{◌≡◌, ℕ, ◌<◌, ◌≤◌, false, None, IfOk, OnOk, MatchOption, length, slice_index_or, vec_len};
+ghost use Rattle.std.specs.Prelude.{◌≡◌, ℕ, ◌+◌, ◌<◌, ◌≤◌, false, None, IfOk, OnOk, MatchOption, length, slice_index_or, vec_len};
 ghost use Rattle.std.specs.List.{All, Contains, HoldsAt, list_any};
 ghost use Rattle.std.specs.List.Sorted.{IsStrictlySortedBy};
 ghost use Rattle.std.specs.Ordering.{eq_by_cmp};
 ghost use Rattle.ptpm_site.specs.Answers.{source_cmp};
 ghost use Rattle.ptpm_site.specs.Following.{ArePlaced, IsParentPlace};
-ghost use Rattle.ptpm_site.specs.Forest.{AreBeside, AreByDomain, AreFollowers, AreSourcesByDomain, IsFollower, IsLost};
+ghost use Rattle.ptpm_site.specs.Forest.{AreBeside, AreByDomain, AreFollowers, AreSourcesByDomain, IsFollower, IsLost, bound_before};
 ghost use Rattle.ptpm_site.specs.Site.{site_answers};
 ghost use Rattle.ptpm_site.specs.Tree.{domain_at};
 
+use crate::domain::Domain;
 use crate::site::Site;
 use crate::source::Source;
 use crate::walks::next;
@@ -30,7 +31,7 @@ pub struct Follower {
 /// the follower.
 #[derive(Clone, Copy, PartialEq, Eq, PartialOrd, Ord)]
 pub struct Lost {
-    domain: u8,
+    domain: Domain,
     pub parent: PortIdentity,
     pub place: usize,
 }
@@ -82,10 +83,10 @@ impl Forest {
     }
 
     /// The places of a domain's clocks.
-    pub fn places_of(&self, domain: u8) -> Range<usize>
+    pub fn places_of(&self, domain: Domain) -> Range<usize>
         ensures within { result.end ≤ vec_len self.now.sources }
-        ensures places { (p : ℕ) → result.start ≤ p → p < result.end → domain_at self.now.sources.items p ≡ domain }
-        ensures all { (p : ℕ) → p < vec_len self.now.sources → domain_at self.now.sources.items p ≡ domain → (result.start ≤ p) × (p < result.end) }
+        ensures places { (p : ℕ) → result.start ≤ p → p < result.end → domain_at self.now.sources.items p ≡ domain.0 }
+        ensures all { (p : ℕ) → p < vec_len self.now.sources → domain_at self.now.sources.items p ≡ domain.0 → (result.start ≤ p) × (p < result.end) }
     {
         let sources = self.sources.as_slice();
         let from = sources.partition_point(|source| source.domain < domain);
@@ -93,8 +94,21 @@ impl Forest {
         from..to
     }
 
+    /// The domain of the clock at a place, if that is the first clock of it.
+    pub fn domain_begun_at(&self, place: usize) -> Option<Domain>
+        requires { place < vec_len self.now.sources }
+        ensures { MatchOption result (bound_before self.now.sources.items place ≡ domain_at self.now.sources.items place + 1)
+            (λ d. (d.0 ≡ domain_at self.now.sources.items place) × (bound_before self.now.sources.items place ≤ d.0)) }
+    {
+        let domain = self.sources[place].domain;
+        if place != 0 && self.sources[place - 1].domain == domain {
+            return None;
+        }
+        Some(domain)
+    }
+
     /// The domain of the clock at a place.
-    pub fn domain_of(&self, place: usize) -> Option<u8> {
+    pub fn domain_of(&self, place: usize) -> Option<Domain> {
         match self.sources.get(place) {
             Some(source) => Some(source.domain),
             None => None,
@@ -112,7 +126,7 @@ impl Forest {
     }
 
     /// The clocks of a domain whose parent is not seen, by its port, and then by identity.
-    pub fn lost_of(&self, domain: u8) -> &[Lost]
+    pub fn lost_of(&self, domain: Domain) -> &[Lost]
         ensures { All (λ l. (l.domain ≡ domain) × Contains self.now.lost.items l) result.now }
     {
         let lost = self.lost.as_slice();

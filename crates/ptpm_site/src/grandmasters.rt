@@ -6,6 +6,7 @@ ghost use Rattle.ptpm_site.specs.Grandmasters.{in_domain, leads, masterless_foll
 ghost use Rattle.ptpm_site.specs.Site.{site_answers};
 
 use crate::data_sets::DefaultDataSet;
+use crate::domain::Domain;
 use crate::port_groups::PortGroup;
 use crate::site::Site;
 use crate::source::Source;
@@ -35,7 +36,7 @@ pub fn leading(alloc: Global, site: &Site, sources: &[Source]) -> Result<Vec<Sou
 }
 
 /// How many of these clocks a domain has.
-pub fn count_in(sources: &[Source], domain: u8) -> usize
+pub fn count_in(sources: &[Source], domain: Domain) -> usize
     ensures { result ≡ count_by (in_domain domain) sources.now }
 {
     sources

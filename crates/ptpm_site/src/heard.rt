@@ -1,12 +1,15 @@
 //! What datagrams show beside what the answers say: who asked, how far each answer came, and which clocks send by themselves.
 
-ghost use Rattle.std.specs.Prelude.{◌≡◌};
+ghost use Rattle.std.specs.Prelude.{◌≡◌, ◌≤◌, length};
 ghost use Rattle.std.specs.Option.{option_map};
-ghost use Rattle.ptpm_site.specs.Heard.{get_in, heard_in, heard_of, is_of_sender, is_to_all, sender_in, travel_in};
+ghost use Rattle.ptpm_site.specs.Heard.{get_in, heard_in, heard_of, is_alternate, is_of_sender, is_to_all, sender_in, travel_in};
 
+use crate::announces::Announced;
 use crate::answer::{Request, request_of, source_of};
 use crate::arrival::Arrival;
 use crate::asked::Asked;
+use crate::domain::Domain;
+use crate::numbers::flag_at;
 use crate::origin::Origin;
 use crate::source::Source;
 use ptpm_codec::{Action, ClockIdentity, PortIdentity, View, port_identity_at, view};
@@ -14,7 +17,7 @@ use ptpm_codec::{Action, ClockIdentity, PortIdentity, View, port_identity_at, vi
 /// A GET of one of the six ids.
 #[derive(Clone, Copy)]
 pub struct Query {
-    pub domain: u8,
+    pub domain: Domain,
     pub asked: Asked,
     /// Whether all ports of all clocks are asked.
     pub is_to_all: bool,
@@ -65,6 +68,8 @@ pub enum Heard {
     Timed(Origin),
     /// From which address an answer came.
     Came(Arrival),
+    /// Which port an Announce is of.
+    Announces(Announced),
 }
 
 impl Heard {
@@ -109,7 +114,7 @@ fn get_in(asked: Asked, message: &View<'_>) -> Query
     ensures { result ≡ get_in asked message.now }
 {
     Query {
-        domain: message.domain(),
+        domain: Domain::of_message(message),
         asked,
         is_to_all: is_to_all(message.target()),
         request: Request {
@@ -151,21 +156,30 @@ fn is_of_sender(kind: u8) -> bool
     kind == ANNOUNCE || kind == SYNC || kind == FOLLOW_UP || kind == DELAY_REQ
 }
 
-/// The clock that sends an Announce, a Sync, a Follow_Up or a Delay_Req with sdoId 0 (13.3).
+/// Whether an Announce is that of an alternate master: alternateMasterFlag is bit 0 of the first octet of flagField (table 37).
+fn is_alternate(kind: u8, datagram: &[u8]) -> bool
+    requires { 34 ≤ length datagram.now }
+    ensures { result ≡ is_alternate kind datagram.now }
+{
+    kind == ANNOUNCE && flag_at(datagram, 6, 0)
+}
+
+/// The clock that sends an Announce, a Sync, a Follow_Up or a Delay_Req (13.3). An Announce of an alternate master counts as
+/// nothing.
 pub fn sender_in(datagram: &[u8]) -> Option<Sender>
     ensures { result ≡ sender_in datagram.now }
 {
     if datagram.len() < 34 {
         return None;
     }
-    let sdo = datagram[0] as u16 / 16 * 256 + datagram[5] as u16;
     let kind = datagram[0] % 16;
-    if sdo != 0 || datagram[1] % 16 != 2 || !is_of_sender(kind) {
+    if datagram[1] % 16 != 2 || !is_of_sender(kind) || is_alternate(kind, datagram) {
         return None;
     }
+    let sdo = u16::from(datagram[0] / 16) * 256 + u16::from(datagram[5]);
     Some(Sender {
         source: Source {
-            domain: datagram[4],
+            domain: Domain::of(datagram[4], sdo),
             clock: port_identity_at(datagram, 20).clock,
         },
         kind,

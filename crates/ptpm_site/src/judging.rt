@@ -182,6 +182,7 @@ fn judge<'a>(
     requires leading { given.now.leading.now ≡ leading_clocks (site_answers site.now) }
     requires least { is_least ≡ is_some (loop_of (site_answers site.now) source) }
     requires sources { given.now.sources.now ≡ (site_answers site.now).clocks }
+    requires of { IsOf (site_answers site.now).heard given.now.evidence.now }
     requires reach { IsReach (site_answers site.now).heard given.now.reach.now }
     requires changes { given.now.changes.now ≡ grandmaster_changes (site_answers site.now) }
     requires twins { given.now.twins.now ≡ all_twins (site_answers site.now).heard }
@@ -234,6 +235,7 @@ fn judge_here(
 ) -> Result<(), AllocError>
     requires ports { ports.now ≡ (site_answers site.now).ports source }
     requires sources { given.now.sources.now ≡ (site_answers site.now).clocks }
+    requires of { IsOf (site_answers site.now).heard given.now.evidence.now }
     ensures { OnOk result (findings.new.items ≡ findings.old.items ++ found_here (site_answers site.now) given.now.limits source) }
 {
     let (sources, limits) = (given.sources, given.limits);
@@ -241,5 +243,5 @@ fn judge_here(
     judge_locks(site, source, ports, limits, findings)?;
     judge_amounts(site, source, ports, sources, limits, findings)?;
     judge_utc(site, source, findings)?;
-    judge_intervals(site, source, ports, findings)
+    judge_intervals(site, given.evidence, source, ports, findings)
 }

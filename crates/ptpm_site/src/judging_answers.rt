@@ -54,7 +54,7 @@ pub fn judge_answers<'a>(
 
 /// `identity_twice`, by two addresses.
 #[tactic(auto, unfolding(crate::specs::Findings::addresses_reported))]
-fn judge_addresses<'a>(
+pub fn judge_addresses<'a>(
     site: &'a Site,
     twins: &[Twins],
     source: Source,
@@ -133,7 +133,7 @@ fn judge_change(
 
 /// `identity_twice`. States of ports may differ by themselves while they change: these alone are no finding.
 #[tactic(auto, unfolding(crate::specs::Findings::twice_reported))]
-fn judge_twice<'a>(
+pub fn judge_twice<'a>(
     alloc: Global,
     site: &'a Site,
     source: Source,

@@ -2,6 +2,7 @@
 
 ghost use Rattle.std.specs.Prelude.{◌≡◌, ◌++◌, OnOk};
 ghost use Rattle.std.specs.List.{flat_map};
+ghost use Rattle.ptpm_site.specs.Evidence.{IsOf};
 ghost use Rattle.ptpm_site.specs.Findings.{interval_found, link_delay_found, lock_found, mechanism_found, state_found};
 ghost use Rattle.ptpm_site.specs.Site.{site_answers};
 
@@ -9,6 +10,7 @@ use crate::amounts::large_link_delay;
 use crate::announcing::{seldom_announced, takes_time};
 use crate::comparing::{Compared, add_differences};
 use crate::differences::mechanism_differs;
+use crate::evidence::Evidence;
 use crate::finding::{Finding, What, add_finding};
 use crate::limits::Limits;
 use crate::site::Site;
@@ -118,14 +120,16 @@ fn judge_link_delay(
 /// `intervals`, for these ports.
 pub fn judge_intervals(
     site: &Site,
+    evidence: &Evidence,
     source: Source,
     ports: &[u16],
     findings: &mut Vec<Finding<'_>>,
 ) -> Result<(), AllocError>
+    requires { IsOf (site_answers site.now).heard evidence.now }
     ensures { OnOk result (findings.new.items ≡ findings.old.items ++ flat_map (interval_found (site_answers site.now) source) ports.now) }
 {
     for port in ports {
-        judge_interval(site, source, *port, findings)?;
+        judge_interval(site, evidence, source, *port, findings)?;
     }
     Ok(())
 }
@@ -133,14 +137,16 @@ pub fn judge_intervals(
 #[tactic(auto, unfolding(crate::specs::Findings::interval_found))]
 fn judge_interval(
     site: &Site,
+    evidence: &Evidence,
     source: Source,
     port: u16,
     findings: &mut Vec<Finding<'_>>,
 ) -> Result<(), AllocError>
+    requires { IsOf (site_answers site.now).heard evidence.now }
     ensures { OnOk result (findings.new.items ≡ findings.old.items ++ interval_found (site_answers site.now) source port) }
 {
     judge_mechanism(site, source, port, findings)?;
-    match seldom_announced(site, source, port) {
+    match seldom_announced(site, evidence, source, port) {
         Some(seldom) => add_finding(findings, source, What::Announces(port, seldom)),
         None => Ok(()),
     }

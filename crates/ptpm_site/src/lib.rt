@@ -2,6 +2,7 @@
 #![tactic(auto)]
 
 pub mod amounts;
+pub mod announces;
 pub mod announcing;
 pub mod answer;
 pub mod answer_content;
@@ -16,6 +17,7 @@ pub mod data_sets;
 mod datagrams;
 pub mod description;
 pub mod differences;
+pub mod domain;
 pub mod evidence;
 pub mod expected;
 pub mod finding;

@@ -7,6 +7,7 @@ ghost use Rattle.ptpm_site.specs.Looks.{AreLast, is_latest, last_of, look_in, lo
 
 use crate::answer::Request;
 use crate::asked::Asked;
+use crate::domain::Domain;
 use crate::heard::Heard;
 use std::alloc::{AllocError, Global};
 use std::collections::BTreeMap;
@@ -14,7 +15,7 @@ use std::collections::BTreeMap;
 /// What the clocks of a domain are asked for.
 #[derive(Clone, Copy, PartialEq, Eq, PartialOrd, Ord)]
 pub struct Topic {
-    pub domain: u8,
+    pub domain: Domain,
     /// managementId.
     pub id: u16,
 }
@@ -27,7 +28,7 @@ pub struct Look {
 }
 
 impl Topic {
-    pub fn of(domain: u8, asked: Asked) -> Topic
+    pub fn of(domain: Domain, asked: Asked) -> Topic
         ensures { result ≡ topic_of domain asked }
     {
         Topic {

@@ -2,13 +2,14 @@
 
 ghost use Rattle.std.specs.Prelude.{◌≡◌};
 
+use crate::domain::Domain;
 use ptpm_codec::ClockIdentity;
 
-/// A clock of a domain: the header's domainNumber, and the clockIdentity of sourcePortIdentity. The same clock in two domains
+/// A clock of a domain: the domain of the header, and the clockIdentity of sourcePortIdentity. The same clock in two domains
 /// counts as two clocks. They are ordered by domain, and then by identity.
 #[derive(Clone, Copy, PartialEq, Eq, PartialOrd, Ord)]
 pub struct Source {
-    pub domain: u8,
+    pub domain: Domain,
     pub clock: ClockIdentity,
 }
 

@@ -52,7 +52,7 @@ pub fn is_faulty(state: PortState) -> bool
 }
 
 /// Whether two requests are different ones of one requester.
-fn is_another(a: &Request, b: &Request) -> bool
+pub fn is_another(a: &Request, b: &Request) -> bool
     ensures { result ≡ is_another a.now b.now }
 {
     a.target == b.target && a.number != b.number
@@ -97,7 +97,7 @@ fn stay_before(request: &Request, earlier: &[Received<PortDataSet>]) -> Option<O
     since
 }
 
-fn time_between(a: Option<u64>, b: Option<u64>) -> Option<u64>
+pub fn time_between(a: Option<u64>, b: Option<u64>) -> Option<u64>
     ensures { result ≡ time_between a b }
 {
     match (a, b) {

@@ -14,7 +14,7 @@ use ptpm_data::PortState;
 const SECOND: u64 = 1_000_000_000;
 
 /// An interval of 2 to this logarithm in seconds (7.7.2), in nanoseconds. It is 2 to the 16th, which are 18 hours, if it is more.
-fn interval(log: i8) -> u64
+pub fn interval(log: i8) -> u64
     ensures value { result ≡ interval log }
     ensures bound { result < 70368744177664 }
 {

@@ -11,6 +11,7 @@ ghost use Rattle.ptpm_site.specs.Site.{site_answers};
 ghost use Rattle.ptpm_site.specs.SiteAnswers.{SiteAnswers};
 ghost use Rattle.ptpm_site.specs.Tree.{IsRow, StandsOnce, row_domain};
 
+use crate::domain::Domain;
 use crate::forest::Forest;
 use crate::marks::is_marked;
 use crate::site::Site;
@@ -22,9 +23,15 @@ use std::alloc::{AllocError, Global};
 #[derive(Clone, Copy)]
 pub enum TreeRow {
     /// The clock at this place of the site, and how many rows are above it on the way to its root.
-    Clock { place: usize, depth: u32 },
+    Clock {
+        place: usize,
+        depth: u32,
+    },
     /// A port that the clocks below this row follow, and whose clock is not seen.
-    NotSeen { domain: u8, parent: PortIdentity },
+    NotSeen {
+        domain: Domain,
+        parent: PortIdentity,
+    },
 }
 
 /// The rows of the tree. `least` marks the least clock of each loop. In each domain come first the grandmasters, then the clocks
@@ -44,25 +51,44 @@ pub fn rows(
     ensures domains { IfOk result (λ rows. IsNonDecreasingBy (row_domain (site_answers site.now).clocks) rows.items) }
 {
     let mut builder = TreeBuilder::new(alloc);
-    for domain in 0..=u8::MAX {
-        add_grandmasters(site, forest, domain, &mut builder)?;
-        add_lost(forest, domain, &mut builder)?;
-        add_loops(forest, domain, least, &mut builder)?;
-        add_without_parent(site, forest, domain, &mut builder)?;
+    for place in 0..forest.sources.len() {
+        if let Some(domain) = forest.domain_begun_at(place) {
+            add_domain(site, forest, domain, least, &mut builder)?;
+        }
     }
     builder.finish(forest.sources.len())
+}
+
+/// The rows of a domain.
+fn add_domain(
+    site: &Site,
+    forest: &Forest,
+    domain: Domain,
+    least: &[bool],
+    builder: &mut TreeBuilder,
+) -> Result<(), AllocError>
+    requires of { IsForestOf (site_answers site.now) forest.now }
+    requires least { AreLeast (site_answers site.now) least.now }
+    requires below { AreTrue forest.now builder.old.rows.items }
+    ensures below { OnOk result (AreTrue forest.now builder.new.rows.items) }
+    ensures adds { OnOk result (Adds (IsRowOf (site_answers site.now) domain.0) builder.old.rows.items builder.new.rows.items) }
+{
+    add_grandmasters(site, forest, domain, builder)?;
+    add_lost(forest, domain, builder)?;
+    add_loops(forest, domain, least, builder)?;
+    add_without_parent(site, forest, domain, builder)
 }
 
 fn add_grandmasters(
     site: &Site,
     forest: &Forest,
-    domain: u8,
+    domain: Domain,
     builder: &mut TreeBuilder,
 ) -> Result<(), AllocError>
     requires of { IsForestOf (site_answers site.now) forest.now }
     requires below { AreTrue forest.now builder.old.rows.items }
     ensures below { OnOk result (AreTrue forest.now builder.new.rows.items) }
-    ensures adds { OnOk result (Adds (IsRowOf (site_answers site.now) domain) builder.old.rows.items builder.new.rows.items) }
+    ensures adds { OnOk result (Adds (IsRowOf (site_answers site.now) domain.0) builder.old.rows.items builder.new.rows.items) }
 {
     let places = forest.places_of(domain);
     for place in places.start..places.end {
@@ -85,10 +111,10 @@ fn is_grandmaster_at(site: &Site, forest: &Forest, place: usize) -> bool
 }
 
 /// The clocks of a domain whose parent is not seen, below its port.
-fn add_lost(forest: &Forest, domain: u8, builder: &mut TreeBuilder) -> Result<(), AllocError>
+fn add_lost(forest: &Forest, domain: Domain, builder: &mut TreeBuilder) -> Result<(), AllocError>
     requires { AreTrue forest.now builder.old.rows.items }
     ensures below { OnOk result (AreTrue forest.now builder.new.rows.items) }
-    ensures adds { OnOk result ((site : SiteAnswers) → IsForestOf site forest.now → Adds (IsRowOf site domain) builder.old.rows.items builder.new.rows.items) }
+    ensures adds { OnOk result ((site : SiteAnswers) → IsForestOf site forest.now → Adds (IsRowOf site domain.0) builder.old.rows.items builder.new.rows.items) }
 {
     let mut above = None;
     for lost in forest.lost_of(domain) {
@@ -104,13 +130,13 @@ fn add_lost(forest: &Forest, domain: u8, builder: &mut TreeBuilder) -> Result<()
 /// The least clock of each loop of a domain.
 fn add_loops(
     forest: &Forest,
-    domain: u8,
+    domain: Domain,
     least: &[bool],
     builder: &mut TreeBuilder,
 ) -> Result<(), AllocError>
     requires { AreTrue forest.now builder.old.rows.items }
     ensures below { OnOk result (AreTrue forest.now builder.new.rows.items) }
-    ensures adds { OnOk result ((site : SiteAnswers) → IsForestOf site forest.now → AreLeast site least.now → Adds (IsRowOf site domain) builder.old.rows.items builder.new.rows.items) }
+    ensures adds { OnOk result ((site : SiteAnswers) → IsForestOf site forest.now → AreLeast site least.now → Adds (IsRowOf site domain.0) builder.old.rows.items builder.new.rows.items) }
 {
     let places = forest.places_of(domain);
     for place in places.start..places.end {
@@ -125,13 +151,13 @@ fn add_loops(
 fn add_without_parent(
     site: &Site,
     forest: &Forest,
-    domain: u8,
+    domain: Domain,
     builder: &mut TreeBuilder,
 ) -> Result<(), AllocError>
     requires of { IsForestOf (site_answers site.now) forest.now }
     requires below { AreTrue forest.now builder.old.rows.items }
     ensures below { OnOk result (AreTrue forest.now builder.new.rows.items) }
-    ensures adds { OnOk result (Adds (IsRowOf (site_answers site.now) domain) builder.old.rows.items builder.new.rows.items) }
+    ensures adds { OnOk result (Adds (IsRowOf (site_answers site.now) domain.0) builder.old.rows.items builder.new.rows.items) }
 {
     let places = forest.places_of(domain);
     for place in places.start..places.end {

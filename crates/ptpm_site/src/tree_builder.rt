@@ -5,6 +5,7 @@ ghost use Rattle.std.specs.List.{All};
 ghost use Rattle.ptpm_site.specs.Growing.{Adds, AreTrue, AreWaiting, IsInSubtree, IsWithin, MayStand, StaysAbove, WaitBelow};
 ghost use Rattle.ptpm_site.specs.Tree.{IsGrown, StandsOnce, StaysMarked, domain_at, rows_at};
 
+use crate::domain::Domain;
 use crate::forest::Forest;
 use crate::marks::is_marked;
 use crate::tree::TreeRow;
@@ -84,7 +85,7 @@ impl TreeBuilder {
     }
 
     /// A row that names a port whose clock is not seen.
-    pub fn add_not_seen(&mut self, domain: u8, parent: PortIdentity) -> Result<(), AllocError>
+    pub fn add_not_seen(&mut self, domain: Domain, parent: PortIdentity) -> Result<(), AllocError>
         ensures { OnOk result (self.new.rows.items ≡ self.old.rows.items ++ TreeRow.NotSeen domain parent ∷ []) }
     {
         add_port(&mut self.rows, domain, parent)
@@ -154,7 +155,7 @@ fn mark(marks: &mut Vec<bool>, place: usize)
 }
 
 /// A row that names a port.
-fn add_port(rows: &mut Vec<TreeRow>, domain: u8, parent: PortIdentity) -> Result<(), AllocError>
+fn add_port(rows: &mut Vec<TreeRow>, domain: Domain, parent: PortIdentity) -> Result<(), AllocError>
     ensures same { (p : ℕ) → rows_at p rows.new.items ≡ rows_at p rows.old.items }
     ensures row { OnOk result (rows.new.items ≡ rows.old.items ++ TreeRow.NotSeen domain parent ∷ []) }
 {

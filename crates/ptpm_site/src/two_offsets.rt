@@ -3,7 +3,7 @@
 ghost use Rattle.std.specs.Prelude.{◌≡◌, find, reverse};
 ghost use Rattle.std.specs.Option.{option_copied};
 ghost use Rattle.ptpm_site.specs.PortStates.{is_another};
-ghost use Rattle.ptpm_site.specs.TwoOffsets.{is_other_answer, is_other_time, look_before, other_answer, two_offsets, two_offsets_by};
+ghost use Rattle.ptpm_site.specs.TwoOffsets.{is_other_answer, is_other_time, last_offsets, look_before, offsets_of, open_offsets, other_answer, two_offsets, two_offsets_by};
 
 use crate::clock::Received;
 use crate::data_sets::CurrentDataSet;
@@ -67,8 +67,34 @@ fn two_offsets_by(
     let other = other_answer(received, last)?;
     let before = look_before(received, last)?;
     let _ = other_answer(received, before)?;
-    Some(TwoOffsets {
+    Some(offsets_of(other, last))
+}
+
+fn offsets_of(other: &Received<CurrentDataSet>, last: &Received<CurrentDataSet>) -> TwoOffsets
+    ensures { result ≡ offsets_of other.now last.now }
+{
+    TwoOffsets {
         first: other.set.offset_from_master,
         second: last.set.offset_from_master,
-    })
+    }
+}
+
+/// Two offsets in the last look alone: a Sync that comes between two copies of a request does this too.
+pub fn open_offsets(received: &[Received<CurrentDataSet>]) -> Option<TwoOffsets>
+    ensures { result ≡ open_offsets received.now }
+{
+    if two_offsets(received).is_some() {
+        return None;
+    }
+    last_offsets(received, received.last()?)
+}
+
+/// Two offsets in the look of the last answer.
+fn last_offsets(
+    received: &[Received<CurrentDataSet>],
+    last: &Received<CurrentDataSet>,
+) -> Option<TwoOffsets>
+    ensures { result ≡ last_offsets received.now last.now }
+{
+    Some(offsets_of(other_answer(received, last)?, last))
 }

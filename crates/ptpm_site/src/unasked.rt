@@ -9,6 +9,7 @@ ghost use Rattle.ptpm_site.specs.Grandmasters.{in_domain};
 ghost use Rattle.ptpm_site.specs.Site.{site_answers};
 ghost use Rattle.ptpm_site.specs.Unasked.{is_get, not_asked, senders_of, sending_in};
 
+use crate::domain::Domain;
 use crate::evidence::Evidence;
 use crate::heard::{FOLLOW_UP, Heard};
 use crate::sets::add_keys;
@@ -78,14 +79,14 @@ fn has_get(heard: &[Heard]) -> bool
 }
 
 /// The first of these clocks in a domain.
-fn first_in(senders: &[Source], domain: u8) -> Option<&Source>
+fn first_in(senders: &[Source], domain: Domain) -> Option<&Source>
     ensures { option_copied result ≡ find (in_domain domain) senders.now }
 {
     senders.iter().find(|source| source.domain == domain)
 }
 
 /// How many of these clocks are in a domain.
-fn count_in(senders: &[Source], domain: u8) -> usize
+fn count_in(senders: &[Source], domain: Domain) -> usize
     ensures { result ≡ count_by (in_domain domain) senders.now }
 {
     senders

@@ -7,6 +7,7 @@ ghost use Rattle.ptpm_site.specs.Grandmasters.{in_domain};
 ghost use Rattle.ptpm_site.specs.Site.{site_answers};
 ghost use Rattle.ptpm_site.specs.Unseen.{is_own_host, mute, names, open_mute, own_host, sends, sent_kind, unseen, was_asked};
 
+use crate::domain::Domain;
 use crate::evidence::Evidence;
 use crate::heard::{ANNOUNCE, DELAY_REQ, FOLLOW_UP, SYNC, Sender};
 use crate::site::Site;
@@ -54,14 +55,14 @@ fn own_host(site: &Site, source: Source, sources: &[Source]) -> Option<Absence>
 }
 
 /// Whether one of these clocks is of a domain.
-fn has_clock_of(sources: &[Source], domain: u8) -> bool
+fn has_clock_of(sources: &[Source], domain: Domain) -> bool
     ensures { result ≡ list_any (in_domain domain) sources.now }
 {
     sources.iter().any(|source| source.domain == domain)
 }
 
 /// Whether a GET asks in a domain, or a clock of it answered.
-pub fn was_asked(site: &Site, evidence: &Evidence, domain: u8, sources: &[Source]) -> bool
+pub fn was_asked(site: &Site, evidence: &Evidence, domain: Domain, sources: &[Source]) -> bool
     requires of { IsOf (site_answers site.now).heard evidence.now }
     requires sources { sources.now ≡ (site_answers site.now).clocks }
     ensures { result ≡ was_asked (site_answers site.now) domain }

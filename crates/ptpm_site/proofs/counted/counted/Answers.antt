@@ -1,5 +1,5 @@
 -- One more that was heard, and all of them.
-use Rattle.std.proofs.Common.{◌∙◌, ◌+◌, ◌<◌, ◌++◌, ◌∷◌, [], ℕ, List, length, take, ap, arith, append-nil, sym}
+use Rattle.std.proofs.Common.{◌∙◌, ◌<◌, ◌++◌, List, length, take, ap, arith, append-nil, sym}
 use Rattle.std.proofs.lemmas.List.{drop_all, take_more}
 use Rattle.ptpm_site.specs.declared.heard.Heard.{Heard}
 use Rattle.ptpm_site.specs.Counted.{counted_after, has_begun}

@@ -1,5 +1,5 @@
 -- How many follow, and how many of them are right.
-use Rattle.std.proofs.Common.{◌≡◌, ℤ, List, rules, refl, sym, ap, ◌∙◌}
+use Rattle.std.proofs.Common.{◌≡◌, ℤ, List, rules, refl, ap, ◌∙◌}
 use Rattle.std.specs.List.{count_by}
 use Rattle.ptpm_site.specs.declared.source.Source.{Source}
 use Rattle.ptpm_site.specs.Site.{site_answers}

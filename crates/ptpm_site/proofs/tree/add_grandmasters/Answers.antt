@@ -1,5 +1,5 @@
 -- The clock follows none.
-use Rattle.std.proofs.Common.{◌≡◌, ℕ, ◌<◌, length, get_or, inl, sym, subst, ◌∙◌, arith}
+use Rattle.std.proofs.Common.{◌≡◌, ◌<◌, length, get_or, inl, sym, subst, arith}
 use Rattle.ptpm_site.specs.declared.source.Source.{Source}
 use Rattle.ptpm_site.specs.declared.tree_builder.TreeBuilder.{TreeBuilder}
 use Rattle.ptpm_site.specs.Growing.{Adds, AreTrue, IsRowOf}
@@ -12,7 +12,7 @@ use Rattle.ptpm_site.proofs.tree.add_grandmasters.Goals.{else-is_grandmaster_at,
 pub loop-place-init : goal.loop-place-init
 loop-place-init c = record {
   below = c.requires.below;
-  adds = Adds-none (IsRowOf (site_answers c.args.site.now) c.args.domain) c.args.builder.now.rows.items;
+  adds = Adds-none (IsRowOf (site_answers c.args.site.now) c.args.domain.0) c.args.builder.now.rows.items;
 }
 
 pub loop-place-preserved : goal.loop-place-preserved
@@ -24,19 +24,19 @@ loop-place-preserved c =
     let first = c.args.builder.now.rows.items in
     let inside : place < length sources.items = omega (arith, sources.ok.0, c.places_of-places.ensures.within) in
     let here : place < length t.clocks = subst (λ cs. place < length cs) c.requires.of.clocks inside in
-    let of_domain : domain_at sources.items place ≡ c.args.domain = c.places_of-places.ensures.places place (omega arith) (omega arith) in
-    let same : domain_at t.clocks place ≡ c.args.domain = subst (λ cs. domain_at cs place ≡ c.args.domain) c.requires.of.clocks of_domain in
+    let of_domain : domain_at sources.items place ≡ c.args.domain.0 = c.places_of-places.ensures.places place (omega arith) (omega arith) in
+    let same : domain_at t.clocks place ≡ c.args.domain.0 = subst (λ cs. domain_at cs place ≡ c.args.domain.0) c.requires.of.clocks of_domain in
     elim c.if-is_grandmaster_at.branch [
       | then-is_grandmaster_at+in_ok-add_subtree w ↦
           let root : (d : Source) → IsRoot t (get_or t.clocks place d) = λ d. inl (c.is_grandmaster_at.ensures w.if-is_grandmaster_at.true d) in
           record {
             below = subst (λ (b : TreeBuilder). AreTrue forest b.rows.items) (sym w.builder-is) w.in_ok-add_subtree.ensures.below;
-            adds = subst (λ (b : TreeBuilder). Adds (IsRowOf t c.args.domain) first b.rows.items) (sym w.builder-is)
-                (Adds-subtree t forest c.requires.of c.args.domain place 0 here same (λ zero. root) first c.loop-place.builder.rows.items
+            adds = subst (λ (b : TreeBuilder). Adds (IsRowOf t c.args.domain.0) first b.rows.items) (sym w.builder-is)
+                (Adds-subtree t forest c.requires.of c.args.domain.0 place 0 here same (λ zero. root) first c.loop-place.builder.rows.items
                 w.add_subtree.new.self.rows.items c.loop-place.invariant.adds w.in_ok-add_subtree.ensures.adds);
           }
       | else-is_grandmaster_at w ↦ record {
         below = subst (λ (b : TreeBuilder). AreTrue forest b.rows.items) (sym w.builder-is) c.loop-place.invariant.below;
-        adds = subst (λ (b : TreeBuilder). Adds (IsRowOf t c.args.domain) first b.rows.items) (sym w.builder-is) c.loop-place.invariant.adds;
+        adds = subst (λ (b : TreeBuilder). Adds (IsRowOf t c.args.domain.0) first b.rows.items) (sym w.builder-is) c.loop-place.invariant.adds;
       }
     ]

@@ -1,5 +1,5 @@
 -- The row of the port is there already, or is the last one now.
-use Rattle.std.proofs.Common.{◌≡◌, ℕ, ◌<◌, [], length, refl, true, Option, Some, None, get_or, inr, subst, sym, ap, ◌∙◌, arith}
+use Rattle.std.proofs.Common.{◌≡◌, ◌<◌, [], length, refl, true, Option, Some, None, get_or, inr, subst, sym, ap, ◌∙◌, arith}
 use Rattle.std.proofs.lemmas.Bool.{not-false}
 use Rattle.std.proofs.lemmas.List.Elements.{All-contains}
 use Rattle.std.proofs.lemmas.Option.{same_Some}
@@ -8,6 +8,7 @@ use Rattle.std.specs.Option.{option_eq}
 use Rattle.ptpm_codec.specs.Identity.{same_identity}
 use Rattle.ptpm_codec.proofs.IdentityLaws.{same_identity-true}
 use Rattle.ptpm_codec.specs.declared.identity.PortIdentity.{PortIdentity}
+use Rattle.ptpm_site.specs.declared.domain.Domain.{Domain}
 use Rattle.ptpm_site.specs.declared.forest.Lost.{Lost}
 use Rattle.ptpm_site.specs.declared.tree.TreeRow.{TreeRow}
 use Rattle.ptpm_site.specs.declared.tree.TreeRow.TheVariants as row
@@ -27,7 +28,7 @@ same_above (Some q) p h = ap Some (same_identity-true q p h)
 
 pub add_subtree-requires-clause-stands : goal.add_subtree-requires-clause-stands
 add_subtree-requires-clause-stands c =
-    let none : Lost = record { domain = 0; parent = record { clock = record { 0 = [] }; port = 0 }; place = 0 } in
+    let none : Lost = record { domain = record { 0 = 0 }; parent = record { clock = record { 0 = [] }; port = 0 }; place = 0 } in
     let lost : Lost = get_or c.lost_of-lost-items.result.now c.loop-lost.lost-index none in
     let port : TreeRow = row.NotSeen c.args.domain lost.parent in
     let read = c.lost_of-lost-items.ensures c.loop-lost.lost-index none (omega arith) in
@@ -47,12 +48,12 @@ pub loop-lost-init : goal.loop-lost-init
 loop-lost-init c = record {
   below = c.requires;
   above = λ parent none. cc;
-  adds = λ t of. Adds-none (IsRowOf t c.args.domain) c.args.builder.now.rows.items;
+  adds = λ t of. Adds-none (IsRowOf t c.args.domain.0) c.args.builder.now.rows.items;
 }
 
 pub loop-lost-preserved : goal.loop-lost-preserved
 loop-lost-preserved c =
-    let none : Lost = record { domain = 0; parent = record { clock = record { 0 = [] }; port = 0 }; place = 0 } in
+    let none : Lost = record { domain = record { 0 = 0 }; parent = record { clock = record { 0 = [] }; port = 0 }; place = 0 } in
     let lost : Lost = get_or c.lost_of-lost-items.result.now c.loop-lost.lost-index none in
     let port : TreeRow = row.NotSeen c.args.domain lost.parent in
     let read = c.lost_of-lost-items.ensures c.loop-lost.lost-index none (omega arith) in
@@ -72,14 +73,14 @@ loop-lost-preserved c =
           subst (λ (b : TreeBuilder). IsAbove b.rows.items 1 (row.NotSeen c.args.domain parent)) (sym w.builder-is)
           (c.loop-lost.invariant.above parent (sym w.above-is ∙ same))
     ] in
-    let adds : (t : SiteAnswers) → IsForestOf t forest → Adds (IsRowOf t c.args.domain) first mid = λ t of. elim c.if-ne.branch [
+    let adds : (t : SiteAnswers) → IsForestOf t forest → Adds (IsRowOf t c.args.domain.0) first mid = λ t of. elim c.if-ne.branch [
       | then-ne+in_ok-add_not_seen w ↦
-          let one : IsRowOf t c.args.domain port = ((lost.place, is_lost t of), refl) in
-          subst (λ (b : TreeBuilder). Adds (IsRowOf t c.args.domain) first b.rows.items) (sym w.builder-is)
-          (Adds-more (IsRowOf t c.args.domain) (IsRowOf t c.args.domain) first old w.add_not_seen.new.self.rows.items (λ r h. h) (c.loop-lost.invariant.adds t of)
-          (Adds-push (IsRowOf t c.args.domain) old w.add_not_seen.new.self.rows.items port w.in_ok-add_not_seen.ensures one))
+          let one : IsRowOf t c.args.domain.0 port = ((lost.place, is_lost t of), refl) in
+          subst (λ (b : TreeBuilder). Adds (IsRowOf t c.args.domain.0) first b.rows.items) (sym w.builder-is)
+          (Adds-more (IsRowOf t c.args.domain.0) (IsRowOf t c.args.domain.0) first old w.add_not_seen.new.self.rows.items (λ r h. h) (c.loop-lost.invariant.adds t of)
+          (Adds-push (IsRowOf t c.args.domain.0) old w.add_not_seen.new.self.rows.items port w.in_ok-add_not_seen.ensures one))
       | else-ne w ↦
-          subst (λ (b : TreeBuilder). Adds (IsRowOf t c.args.domain) first b.rows.items) (sym w.builder-is) (c.loop-lost.invariant.adds t of)
+          subst (λ (b : TreeBuilder). Adds (IsRowOf t c.args.domain.0) first b.rows.items) (sym w.builder-is) (c.loop-lost.invariant.adds t of)
     ] in
     record {
       below = c.in_ok-add_subtree.ensures.below;
@@ -87,7 +88,7 @@ loop-lost-preserved c =
       adds = λ t of.
           let fact = is_lost t of in
           let here : lost.place < length t.clocks = fact.0 in
-          let same : domain_at t.clocks lost.place ≡ c.args.domain = domain-at t.clocks lost.place some_source here ∙ (fact.1 some_source).0 in
-          Adds-subtree t forest of c.args.domain lost.place 1 here same (λ zero. absurd (omega (arith, zero))) first mid c.add_subtree.new.self.rows.items (adds t of)
+          let same : domain_at t.clocks lost.place ≡ c.args.domain.0 = domain-at t.clocks lost.place some_source here ∙ ap (λ (d : Domain). d.0) (fact.1 some_source).0 in
+          Adds-subtree t forest of c.args.domain.0 lost.place 1 here same (λ zero. absurd (omega (arith, zero))) first mid c.add_subtree.new.self.rows.items (adds t of)
           c.in_ok-add_subtree.ensures.adds;
     }

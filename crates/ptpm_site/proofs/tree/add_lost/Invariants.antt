@@ -12,5 +12,5 @@ abbrev pub invariant-loop-lost : goal.invariant-loop-lost
 invariant-loop-lost l = record {
   below : AreTrue l.forest l.builder.rows.items;
   above : (parent : PortIdentity) → l.above ≡ Some parent → IsAbove l.builder.rows.items 1 (row.NotSeen l.domain parent);
-  adds : (t : SiteAnswers) → IsForestOf t l.forest → Adds (IsRowOf t l.domain) l.fn.builder.rows.items l.builder.rows.items;
+  adds : (t : SiteAnswers) → IsForestOf t l.forest → Adds (IsRowOf t l.domain.0) l.fn.builder.rows.items l.builder.rows.items;
 }

@@ -1,5 +1,5 @@
 -- The marks of the places that lead loops are those of the clocks, and rows stand below what the answers say.
-use Rattle.std.proofs.Common.{◌≡◌, subst, sym}
+use Rattle.std.proofs.Common.{subst, sym}
 use Rattle.std.specs.List.Sorted.{IsStrictlySortedBy}
 use Rattle.ptpm_site.specs.Answers.{source_cmp}
 use Rattle.ptpm_site.specs.Following.{ArePlaced}

@@ -3,7 +3,7 @@ use Rattle.std.proofs.Common.{◌≡◌, refl, subst, sym}
 use Rattle.std.proofs.lemmas.Result.{on_ok_weaker}
 use Rattle.ptpm_site.specs.declared.tree.TreeRow.{TreeRow}
 use Rattle.ptpm_site.specs.declared.tree.TreeRow.TheVariants as row
-use Rattle.ptpm_site.specs.Growing.{Adds, AreTrue, AreWaiting, IsFollowedIn, StaysAbove}
+use Rattle.ptpm_site.specs.Growing.{AreTrue, AreWaiting, IsFollowedIn, StaysAbove}
 use Rattle.ptpm_site.proofs.Below.{AreBelow-push, AreWaiting-put, StaysAbove-push}
 use Rattle.ptpm_site.proofs.Growth.{Adds-none, Adds-push, within-more}
 use Rattle.ptpm_site.proofs.tree_builder.TreeBuilder.put.Goals as goal

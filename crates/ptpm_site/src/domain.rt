@@ -1,0 +1,53 @@
+//! Which domain a clock is in.
+
+ghost use Rattle.std.specs.Prelude.{◌≡◌};
+ghost use Rattle.ptpm_site.specs.Domains.{domain_of, number_of, sdo_of};
+
+use ptpm_codec::View;
+use std::fmt;
+
+/// A domain: domainNumber and sdoId (IEEE 1588-2019, 7.1). Clocks of two domains do not hear each other. They are ordered by
+/// domainNumber, and then by sdoId.
+#[derive(Clone, Copy, PartialEq, Eq, PartialOrd, Ord)]
+pub struct Domain(u32);
+
+impl Domain {
+    /// The domain with this domainNumber and sdoId.
+    pub fn of(number: u8, sdo: u16) -> Domain
+        ensures { result ≡ domain_of number sdo }
+    {
+        Domain(u32::from(number) * 65_536 + u32::from(sdo))
+    }
+
+    /// The domain that a message is of.
+    pub fn of_message(message: &View<'_>) -> Domain
+        ensures { result ≡ domain_of message.now.domain message.now.sdo }
+    {
+        Domain::of(message.domain(), message.sdo())
+    }
+
+    /// domainNumber.
+    pub fn number(self) -> u8
+        ensures { result ≡ number_of self }
+    {
+        (self.0 / 65_536 % 256) as u8
+    }
+
+    /// sdoId: majorSdoId times 256 plus minorSdoId.
+    pub fn sdo(self) -> u16
+        ensures { result ≡ sdo_of self }
+    {
+        (self.0 % 65_536) as u16
+    }
+}
+
+impl fmt::Display for Domain {
+    /// `4` with sdoId 0, and else `4@0x100`.
+    fn fmt<W: fmt::Write>(&self, f: &mut fmt::Formatter<W>) -> fmt::Result {
+        write!(f, "{}", self.number())?;
+        if self.sdo() != 0 {
+            write!(f, "@0x{:03x}", self.sdo())?;
+        }
+        Ok(())
+    }
+}
