@@ -7,7 +7,8 @@
 
    The proofs about a call hold for callers that keep these rules:
 
-   - No pointer is null, even if its size is 0 (any valid address will do then). Each pointer is aligned as its type requires.
+   - No pointer is null, even if its size is 0 (any valid address will do then), except the handle of a stop. Each pointer is aligned
+     as its type requires.
    - The memory that a pointer and its size describe may be read, and written unless it is const. It stays the caller's: the library
      keeps no pointer to it after the call. Output buffers must not overlap other arguments.
    - Only one thread at a time makes calls with a given handle, table or bucket. Calls with different ones may run in parallel.
@@ -1001,8 +1002,21 @@ enum ptpm_restored ptpm_clock_restore(struct ptpm_clock *clock, const uint8_t id
                                       const struct ptpm_manager_settings *managers, size_t manager_count,
                                       const uint8_t *image, size_t size, size_t *gone);
 
-/* Ends what the handle holds, if it holds anything. The handle then holds nothing, and may be started again. */
+/* Returns the most messages that a call writes for this clock, such as ptpm_clock_handle or ptpm_clock_saved. So a host knows how long a
+   queue of its own has to be. It is 2 * port_count - 1: a copy for each other port, and an answer of each port. It is more only if one of the clock's kept replies has more answers, and no more than these. Only an
+   image that another program has made can bring such a reply.
+   Returns: the number, at most PTPM_MOST_SENT; 0 if the handle holds no clock. */
+size_t ptpm_clock_most_sent(const struct ptpm_clock *clock);
+
+/* Ends what the handle holds, if it holds anything. The handle then holds nothing, and may be started again. NULL is allowed, as for
+   free, and nothing happens. It is not allowed where the function is called through a pointer, or by another language. */
 void ptpm_clock_stop(struct ptpm_clock *clock);
+
+static inline void ptpm_clock_stop_any(struct ptpm_clock *clock) {
+    if (clock != NULL) ptpm_clock_stop(clock);
+}
+
+#define ptpm_clock_stop(clock) ptpm_clock_stop_any(clock)
 
 /* Starts a session instead of what the handle holds, which is freed first. As long as it may ask, only this session sends to the
    clock under the manager's portIdentity: no survey does, and no other program.
@@ -1125,8 +1139,15 @@ uint64_t ptpm_session_issued(const struct ptpm_session *session);
 enum ptpm_reported ptpm_session_report(const struct ptpm_session *session, uint8_t *octets, size_t room, size_t *size,
                                        uint16_t *error);
 
-/* Ends what the handle holds, if it holds anything. The handle then holds nothing, and may be started again. */
+/* Ends what the handle holds, if it holds anything. The handle then holds nothing, and may be started again. NULL as for
+   ptpm_clock_stop. */
 void ptpm_session_stop(struct ptpm_session *session);
+
+static inline void ptpm_session_stop_any(struct ptpm_session *session) {
+    if (session != NULL) ptpm_session_stop(session);
+}
+
+#define ptpm_session_stop(session) ptpm_session_stop_any(session)
 
 /* Starts a survey without answers instead of what the handle holds, which is freed first. A session of the same manager may treat
    an answer to its GET as its own. So the manager here has no session. It is another port of the same identity, and with port 0 it
@@ -1189,8 +1210,15 @@ size_t ptpm_survey_count(const struct ptpm_survey *survey);
 enum ptpm_reported ptpm_survey_answer(const struct ptpm_survey *survey, size_t place, struct ptpm_source *source, uint8_t *octets,
                                       size_t room, size_t *size, uint16_t *error);
 
-/* Ends what the handle holds, if it holds anything. The handle then holds nothing, and may be started again. */
+/* Ends what the handle holds, if it holds anything. The handle then holds nothing, and may be started again. NULL as for
+   ptpm_clock_stop. */
 void ptpm_survey_stop(struct ptpm_survey *survey);
+
+static inline void ptpm_survey_stop_any(struct ptpm_survey *survey) {
+    if (survey != NULL) ptpm_survey_stop(survey);
+}
+
+#define ptpm_survey_stop(survey) ptpm_survey_stop_any(survey)
 
 /* Starts an asker whose session has no file yet, instead of what the handle holds, which is freed first. An asker is handed what came
    in and what was done, and hands out what is to be done next. It sends nothing before the host has saved it, and nothing leaves the
@@ -1299,8 +1327,15 @@ uint32_t ptpm_asker_earlier(const struct ptpm_asker *asker, uint8_t domain, uint
             *error: the managementErrorId after PTPM_REFUSED, and 0 after every other answer. */
 enum ptpm_reported ptpm_asker_report(const struct ptpm_asker *asker, uint8_t *octets, size_t room, size_t *size, uint16_t *error);
 
-/* Ends what the handle holds, if it holds anything. The handle then holds nothing, and may be started again. */
+/* Ends what the handle holds, if it holds anything. The handle then holds nothing, and may be started again. NULL as for
+   ptpm_clock_stop. */
 void ptpm_asker_stop(struct ptpm_asker *asker);
+
+static inline void ptpm_asker_stop_any(struct ptpm_asker *asker) {
+    if (asker != NULL) ptpm_asker_stop(asker);
+}
+
+#define ptpm_asker_stop(asker) ptpm_asker_stop_any(asker)
 
 /* Says what became of the step that a change of several clocks began last in a session, after a crash too. A step is a SET. A journal notes
    when it is begun, and what is answered.
@@ -1352,6 +1387,15 @@ static inline size_t ptpm_newest_image(const uint8_t *octets, size_t place, size
    Returns: whether it is to be forwarded; false too for what is no management message.
    Writes:  one of the places of *table, if it returns true. */
 bool ptpm_passed_on_is_first(struct ptpm_passed_on *table, const uint8_t *message, size_t size, uint64_t now, uint64_t time);
+
+/* Does what ptpm_passed_on_is_first does, with a table of as many places as the host has memory for: 48 octets each. All zeros
+   record none. The host draws the seed, and gives the same one with each call. It writes nothing inside the places.
+   Takes:   the seed; count places, 16 to 1,048,576; and what ptpm_passed_on_is_first takes. A message may be recorded in 16 of the
+            places. If other messages are recorded in all of these, it is not to be forwarded.
+   Returns: what ptpm_passed_on_is_first returns; false too for another number of places.
+   Writes:  one of the places, if it returns true. */
+bool ptpm_passed_on_is_first_of(uint64_t seed, uint64_t (*places)[6], size_t count, const uint8_t *message, size_t size, uint64_t now,
+                                uint64_t time);
 
 /* Makes a full bucket with a number of tokens per second.
    Takes:   how many; those over 1,000,000 do not count. And a time in milliseconds.

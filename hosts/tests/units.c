@@ -1,5 +1,5 @@
-/* Tests of what the hosts decide without a socket. They try the library's token buckets, and its table of messages that were
-   passed on. They try where a message is in a frame, and what the image of a session says. They try the seal of a file, TimeIntervals
+/* Tests of what the hosts decide without a socket. They try the library's token buckets, its table of messages that were
+   passed on, and its stops. They try where a message is in a frame, and what the image of a session says. They try the seal of a file, TimeIntervals
    and JSON as texts, and that a wait takes its time. Prints what does not hold, and `units: N passed, M failed`. */
 #define _GNU_SOURCE
 #include "checking.h"
@@ -15,7 +15,7 @@
 #include <string.h>
 #include <time.h>
 
-enum { NOW = 5000, TIME = 1000, MESSAGE = 54, ERROR_STATUS = 60, PLACES = 4096 };
+enum { NOW = 5000, TIME = 1000, MESSAGE = 54, ERROR_STATUS = 60, PLACES = 4096, FEWEST = 16, MOST = 1048576 };
 
 static struct ptpm_rate full_bucket(uint64_t tokens, uint64_t now) {
     struct ptpm_rate bucket;
@@ -122,6 +122,57 @@ static void many_messages(void) {
         late += (unsigned)note_if_first(&table, message, NOW + 600);
     }
     check(late + first <= PLACES, "no more messages than there are places");
+}
+
+/* Tables of the host's own size. Sixteen messages have a place in the smallest. No message has one if the table is too small or too large. */
+static void own_tables(void) {
+    static uint64_t places[FEWEST][6], many[MOST + 1][6];
+    uint8_t message[MESSAGE] = { 0x0d, 0x12, 0, MESSAGE };
+    unsigned first = 0;
+    message[49] = 1;
+    message[51] = 2;
+    for (unsigned i = 0; i <= FEWEST; i++) {
+        message[31] = (uint8_t)i;
+        first += (unsigned)ptpm_passed_on_is_first_of(1588, places, FEWEST, message, sizeof message, NOW, TIME);
+    }
+    check(first == FEWEST, "as many messages as the smallest table has places");
+    message[31] = 0;
+    check(!ptpm_passed_on_is_first_of(1588, places, FEWEST, message, sizeof message, NOW + TIME - 1, TIME)
+          && ptpm_passed_on_is_first_of(1588, places, FEWEST, message, sizeof message, NOW + TIME, TIME), "one of them again");
+    check(ptpm_passed_on_is_first_of(1588, many, MOST, message, sizeof message, NOW, TIME), "the largest table");
+    check(!ptpm_passed_on_is_first_of(1588, many, MOST + 1, message, sizeof message, NOW + TIME, TIME)
+          && !ptpm_passed_on_is_first_of(1588, places, FEWEST - 1, message, sizeof message, NOW + 2 * TIME, TIME)
+          && !ptpm_passed_on_is_first_of(1588, places, 0, message, sizeof message, NOW + 2 * TIME, TIME), "no table of such a size");
+    check(!ptpm_passed_on_is_first_of(1588, places, FEWEST, message, 0, NOW + 2 * TIME, TIME), "no management message in such a table");
+}
+
+/* What a table of 4,096 places of the host's answers is what the library's own answers. */
+static void same_tables(void) {
+    static struct ptpm_passed_on table = { .seed = 1588 };
+    static uint64_t places[PLACES][6];
+    uint8_t message[MESSAGE] = { 0x0d, 0x12, 0, MESSAGE };
+    bool is_same = true;
+    message[49] = 1;
+    message[51] = 2;
+    for (unsigned i = 0; i < 3 * PLACES; i++) {
+        uint64_t now = NOW + i / 8;
+        message[30] = (uint8_t)(i % 5000 >> 8);
+        message[31] = (uint8_t)(i % 5000);
+        is_same = is_same && ptpm_passed_on_is_first(&table, message, sizeof message, now, TIME)
+                             == ptpm_passed_on_is_first_of(1588, places, PLACES, message, sizeof message, now, TIME);
+    }
+    check(is_same, "a table of 4,096 places of the host's own");
+}
+
+/* A stop takes NULL, as free does, and a handle that holds nothing. */
+static void stops(void) {
+    struct ptpm_clock clock = { 0 };
+    ptpm_clock_stop(NULL);
+    ptpm_session_stop(NULL);
+    ptpm_survey_stop(NULL);
+    ptpm_asker_stop(NULL);
+    ptpm_clock_stop(&clock);
+    check(ptpm_clock_most_sent(&clock) == 0, "a stop of nothing");
 }
 
 static void frames(void) {
@@ -285,6 +336,9 @@ int main(void) {
     buckets();
     passing_on();
     many_messages();
+    own_tables();
+    same_tables();
+    stops();
     frames();
     images();
     seals();

@@ -3,7 +3,8 @@ in the order of a little-endian machine, so another one swaps them before a call
 import re
 
 WIDTHS = {'uint16_t': 16, 'int16_t': 16, 'uint32_t': 32, 'int32_t': 32, 'uint64_t': 64, 'int64_t': 64}
-# Only the library reads and writes these inside. The seed of a table is drawn: in whatever order its octets are, it is one.
+# Only the library reads and writes these inside, and the places of a table. The seed of a table is drawn: in whatever order its
+# octets are, it is one.
 CLOSED = ('ptpm_clock', 'ptpm_session', 'ptpm_survey', 'ptpm_passed_on')
 # The most structs of an array that a call judges, and one more. With as many any further ones change no answer.
 MOST = {'ptpm_port_settings': 9, 'ptpm_observed_port': 9, 'ptpm_manager_settings': 17}
@@ -27,6 +28,8 @@ class Header:
             wide = [(kind, member) for kind, member in members if kind in WIDTHS or kind in self.numbers]
             if wide and name not in CLOSED:
                 self.numbers[name] = wide
+        # A macro of a call's name looks at what it hands on. The call itself is made without it.
+        self.macros = re.findall(r'^#define (ptpm_\w+)\(', text, flags=re.M)
         self.calls = []
         found = re.findall(r'^(?!static)((?:enum )?\w+) (ptpm_\w+)\(([^;{]*)\);', text, flags=re.M)
         for answer, name, taken in found:
@@ -35,7 +38,8 @@ class Header:
 
     def text(self, head, declarations):
         """The file in C; the declarations are those of libptpm.c."""
-        lines = [head, '#include "portable.h"', '#include "ptpm.h"', '#include <stddef.h>', '', *declarations, '', *FILLING]
+        lines = [head, '#include "portable.h"', '#include "ptpm.h"', '#include <stddef.h>', '',
+                 *(f'#undef {name}' for name in self.macros), '', *declarations, '', *FILLING]
         lines += ['#if IS_LITTLE_ENDIAN', *(f'#define swap_{name}(at) ((void)0)' for name in self.numbers), '#else']
         for name, members in self.numbers.items():
             lines.append(f'static void swap_{name}(struct {name} *at) {{')
@@ -88,6 +92,9 @@ class Header:
 
     def _parameter(self, text):
         """What is done before a call for a parameter, what is handed on, and what is done after it."""
+        array = re.search(r'\(\*(\w+)\)', text)
+        if array:
+            return [], [f'ADDRESS({array[1]})'], []
         name = re.search(r'(\w+)(?:\[\w+\])?$', text)[1]
         struct = re.match(r'(const )?struct (ptpm_\w+) \*', text)
         if '*' not in text and '[' not in text:

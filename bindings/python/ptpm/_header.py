@@ -814,6 +814,7 @@ CALLS: Dict[str, Tuple[Any, List[Any]]] = {
             POINTER(c_size_t),
         ],
     ),
+    "ptpm_clock_most_sent": (c_size_t, [POINTER(ptpm_clock)]),
     "ptpm_clock_stop": (None, [POINTER(ptpm_clock)]),
     "ptpm_session_start": (c_uint32, [POINTER(ptpm_session), POINTER(ptpm_session_settings)]),
     "ptpm_session_begin": (c_uint32, [POINTER(ptpm_session), c_uint8, c_uint16, c_uint16, c_char_p, c_size_t]),
@@ -867,6 +868,10 @@ CALLS: Dict[str, Tuple[Any, List[Any]]] = {
     "ptpm_image_unseal": (c_uint32, [c_char_p, c_size_t, POINTER(c_uint64), POINTER(c_size_t)]),
     "ptpm_newest_image_in": (c_size_t, [c_char_p, c_size_t, c_size_t, POINTER(c_uint64), POINTER(c_size_t)]),
     "ptpm_passed_on_is_first": (c_bool, [POINTER(ptpm_passed_on), c_char_p, c_size_t, c_uint64, c_uint64]),
+    "ptpm_passed_on_is_first_of": (
+        c_bool,
+        [c_uint64, POINTER(c_uint64), c_size_t, c_char_p, c_size_t, c_uint64, c_uint64],
+    ),
     "ptpm_rate_start": (None, [POINTER(ptpm_rate), c_uint64, c_uint64]),
     "ptpm_rate_take": (c_bool, [POINTER(ptpm_rate), c_uint64]),
     "ptpm_id_named": (c_uint32, [c_char_p, c_size_t]),

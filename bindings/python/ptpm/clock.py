@@ -133,6 +133,12 @@ class Clock(Handle):
             raise ChangeRefused(error.value)
         return Changed.of_library(changed)
 
+    def most_sent(self) -> int:
+        """The most messages that the clock sends for a datagram, or after a save. A copy goes out at each other port, and an
+        answer of each port. It is more only if a kept reply has more answers, which only an image that another program has made can
+        bring."""
+        return self._call(library.ptpm_clock_most_sent)
+
     def _messages(self, count: int) -> List[Tuple[int, bytes]]:
         """The messages in the first places."""
         return [(sent.port, bytes(memoryview(sent.octets)[: sent.size])) for sent in self._sent[:count]]

@@ -50,18 +50,21 @@ IdLike = Union[int, str]
 
 
 def id_of(named: IdLike) -> int:
-    """A managementId by its number, by its name in either case, or by four hexadecimal digits."""
+    """A managementId by its number, by its name in either case, or by four hexadecimal digits. The name may also be one that only other
+    clocks have, such as CLOCK_DESCRIPTION or TIME_STATUS_NP."""
     if isinstance(named, int):
         if not 0 <= named <= 65535:
             raise OverflowError(f"a managementId is 0 to 65535, not {named}")
         return int(named)
     text = named.encode()
     number: int = library.ptpm_id_named(text, len(text))
+    if number == header.PTPM_NO_ID and hasattr(library, "ptpm_other_id_named"):
+        number = library.ptpm_other_id_named(text, len(text))
     if number != header.PTPM_NO_ID:
         return number
     if _NUMBER.fullmatch(named):
         return int(named, 16)
-    raise ValueError(f"{named!r} is neither a managementId of this profile nor four hexadecimal digits")
+    raise ValueError(f"{named!r} is neither the name of a managementId nor four hexadecimal digits")
 
 
 def id_name(number: int) -> str:

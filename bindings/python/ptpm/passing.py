@@ -10,18 +10,22 @@ from ._library import library
 
 
 class PassedOn:
-    """Which messages were forwarded last, 4,096 at most. A message that circulates is forwarded once. The seed is drawn, so
-    that nobody else can predict where a message is recorded."""
+    """Which messages were forwarded last: 4,096 at most, or as many as there are places, 16 to 1,048,576 of 48 octets. A message that
+    circulates is forwarded once. The seed is drawn, so that nobody else can predict where a message is recorded."""
 
-    def __init__(self, seed: int) -> None:
-        self._table = header.ptpm_passed_on(seed=seed)
+    def __init__(self, seed: int, places: int = 4096) -> None:
+        if not 16 <= places <= 1_048_576:
+            raise ValueError(f"a table has 16 to 1,048,576 places, not {places}")
+        self._seed, self._count = ctypes.c_uint64(seed), places
+        self._places = (ctypes.c_uint64 * (6 * places))()
         self._turn = threading.Lock()
 
     def is_first(self, message: bytes, now: int, time: int) -> bool:
         """Whether a message is to be forwarded; it is then recorded for a time. The time now and that one are in the same unit."""
         octets = bytes(message)
         with self._turn:
-            return bool(library.ptpm_passed_on_is_first(ctypes.byref(self._table), octets, len(octets), now, time))
+            table = (self._seed, self._places, self._count)
+            return bool(library.ptpm_passed_on_is_first_of(*table, octets, len(octets), now, time))
 
 
 class Rate:

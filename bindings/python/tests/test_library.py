@@ -270,13 +270,20 @@ class Managers(unittest.TestCase):
             self.assertEqual(told, [(f"{CLOCK}/1", ptpm.PortState.MASTER), (f"{CLOCK}/2", ptpm.PortState.MASTER)])
 
 
-@unittest.skipUnless(hasattr(library, "ptpm_rate_take"), "the library has no tables")
+@unittest.skipUnless(hasattr(library, "ptpm_passed_on_is_first_of"), "the library has no tables of a host's size")
 class Passing(unittest.TestCase):
     def test_a_message_is_passed_on_once_in_its_time(self) -> None:
         get, table = request(7, "aabbccfffeddee01ffff", 1, 0, "2005"), ptpm.PassedOn(7)
         self.assertEqual([table.is_first(get, now, 1000) for now in (0, 999, 1000)], [True, False, True])
         self.assertTrue(table.is_first(request(8, "aabbccfffeddee01ffff", 1, 0, "2005"), 1000, 1000))
         self.assertFalse(table.is_first(b"", 1000, 1000))
+
+    def test_a_table_has_as_many_places_as_its_host_gives_it(self) -> None:
+        table = ptpm.PassedOn(7, places=16)
+        passed = [table.is_first(request(number, "aabbccfffeddee01ffff", 1, 0, "2005"), 0, 1000) for number in range(17)]
+        self.assertEqual(sum(passed), 16)
+        for places in (15, 1_048_577):
+            self.assertRaises(ValueError, ptpm.PassedOn, 7, places)
 
     def test_a_rate_gives_as_many_tokens_as_a_second_brings(self) -> None:
         rate = ptpm.Rate(3, 0)
@@ -294,6 +301,10 @@ class Texts(unittest.TestCase):
     def test_numbers_of_a_newer_library_are_kept(self) -> None:
         self.assertEqual((HandleAnswer(29), int(HandleAnswer(29))), (HandleAnswer(29), 29))
         self.assertEqual((ptpm.error_name(0xC001), ptpm.id_name(0xC001), ptpm.id_of("c001")), ("0xc001", "c001", 0xC001))
+
+    def test_ids_of_other_clocks_have_names(self) -> None:
+        named = {"CLOCK_DESCRIPTION": 0x0001, "time_status_np": 0xC000, "PORT_STATS_NP": 0xC005}
+        self.assertEqual({name: ptpm.id_of(name) for name in named}, named)
 
     def test_members_of_another_length_are_left_as_they_are(self) -> None:
         self.assertEqual(ptpm.members(ptpm.ManagementId.PRIORITY1, bytes(4)), {})

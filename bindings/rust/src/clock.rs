@@ -233,6 +233,14 @@ impl Clock {
         Ok(&room[..size])
     }
 
+    /// The most messages that the clock sends for a datagram, or after a save. A copy goes out at each other port, and an
+    /// answer of each port. It is more only if a kept reply has more answers, which only an image that another program has made
+    /// can bring.
+    pub fn most_sent(&self) -> usize {
+        // SAFETY: the handle may be read.
+        unsafe { sys::ptpm_clock_most_sent(&self.handle) }
+    }
+
     /// The clock's identity, out of its DEFAULT_DATA_SET.
     pub fn identity(&self) -> Result<Identity, Error> {
         let mut room = [0; MOST_READ];

@@ -397,6 +397,7 @@ extern "C" {
         size: usize,
         gone: *mut usize,
     ) -> ptpm_restored;
+    pub fn ptpm_clock_most_sent(clock: *const ptpm_clock) -> usize;
     pub fn ptpm_clock_stop(clock: *mut ptpm_clock);
     pub fn ptpm_session_start(session: *mut ptpm_session, settings: *const ptpm_session_settings) -> ptpm_started;
     pub fn ptpm_session_begin(
@@ -516,6 +517,15 @@ extern "C" {
     pub fn ptpm_image_unseal(octets: *const u8, size: usize, count: *mut u64, image: *mut usize) -> ptpm_restored;
     pub fn ptpm_newest_image_in(octets: *const u8, size: usize, place: usize, count: *mut u64, image: *mut usize) -> usize;
     pub fn ptpm_passed_on_is_first(table: *mut ptpm_passed_on, message: *const u8, size: usize, now: u64, time: u64) -> bool;
+    pub fn ptpm_passed_on_is_first_of(
+        seed: u64,
+        places: *mut u64,
+        count: usize,
+        message: *const u8,
+        size: usize,
+        now: u64,
+        time: u64,
+    ) -> bool;
     pub fn ptpm_rate_start(rate: *mut ptpm_rate, tokens: u64, now: u64);
     pub fn ptpm_rate_take(rate: *mut ptpm_rate, now: u64) -> bool;
     pub fn ptpm_id_named(name: *const c_char, size: usize) -> u32;

@@ -11,7 +11,8 @@ ghost use Rattle.ptpm_host.specs.declared.clock.HostedClock.{HostedClock};
 ghost use Rattle.ptpm_host.specs.declared.refusal.ReadRefusal.{ReadRefusal};
 ghost use Rattle.ptpm_host.specs.declared.refusal.StartRefusal.{StartRefusal};
 ghost use Rattle.ptpm_host.specs.declared.saving_clock.SavingClock.{SavingClock};
-ghost use Rattle.ptpm_host.specs.Clock.{IsFreshClock, start_by, start_refusal};
+ghost use Rattle.ptpm_host.specs.Clock.{IsFreshClock, start_by, start_refusal, state_in};
+ghost use Rattle.ptpm_host.specs.MostSent.{IsMostSent};
 ghost use Rattle.ptpm_host.specs.Numbers.{no_clock, no_memory, observe_number, read_number, start_number, verdict_number};
 ghost use Rattle.ptpm_agent.specs.declared.verdict.Verdict.{Verdict};
 ghost use Rattle.ptpm_host.specs.Observing.{IsObserved, left_number, observe_refusal, ports_left};
@@ -299,6 +300,24 @@ pub extern "C" fn ptpm_clock_read(
             0
         }
         Err(refusal) => read_number(refusal),
+    }
+}
+
+/// The most messages that the clock sends for a datagram, or after a save; 0 if the handle holds no clock. Takes no memory.
+#[unsafe(no_mangle)]
+pub extern "C" fn ptpm_clock_most_sent(handle: &mut Handle) -> usize
+    ensures kept { held handle.new.keeping ≡ held handle.old.keeping }
+    ensures most { (c : HostedClock)
+        → any_clock_held handle.old.keeping ≡ Some c
+        → IsMostSent (state_in c) result }
+    ensures empty { any_clock_held handle.old.keeping ≡ None → result ≡ 0 }
+{
+    let Some(kept) = handle.kept() else {
+        return 0;
+    };
+    match kept.clock() {
+        Some(clock) => clock.most_sent(),
+        None => 0,
     }
 }
 

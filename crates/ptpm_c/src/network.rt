@@ -1,11 +1,11 @@
 //! The calls for what a host keeps from its network, each one of `ptpm_host`. No call here takes a handle or memory.
 
-ghost use Rattle.std.specs.Prelude.{◌≡◌, MatchResult, false};
+ghost use Rattle.std.specs.Prelude.{◌≡◌, MatchResult, false, length};
 ghost use Rattle.ptpm_codec.specs.Reading.{reading};
-ghost use Rattle.ptpm_host.specs.PassedOn.{IsAsked, key_of};
+ghost use Rattle.ptpm_host.specs.PassedOn.{IsAsked, IsTableSize, key_of, table_of};
 ghost use Rattle.ptpm_host.specs.Rate.{full, has_token, taken};
 
-use ptpm_host::{PassedOn, Rate};
+use ptpm_host::{PassedOn, PassedOnPlace, Rate, is_first_of};
 
 /// Whether a message is to be passed on: if none with its key is noted, and a place is free. It is noted there from now on for
 /// `time`. Octets that are no management message are not passed on.
@@ -21,6 +21,25 @@ pub extern "C" fn ptpm_passed_on_is_first(
         (λ _. (result ≡ false) × (table.new ≡ table.old)) }
 {
     table.is_first(message, now, time)
+}
+
+/// Does what `ptpm_passed_on_is_first` does, over places of its host's and with this seed. If there are fewer than 16 or more than
+/// 1,048,576, no message is passed on, and nothing is written.
+#[unsafe(no_mangle)]
+pub extern "C" fn ptpm_passed_on_is_first_of(
+    seed: u64,
+    places: &mut [PassedOnPlace],
+    message: &[u8],
+    now: u64,
+    time: u64,
+) -> bool
+    ensures asked { IsTableSize (length places.old) → MatchResult (reading message.now)
+        (λ v. IsAsked (table_of seed places.old) (key_of v) now time result (table_of seed places.new))
+        (λ _. (result ≡ false) × (places.new ≡ places.old)) }
+    ensures no_table { (IsTableSize (length places.old) → ⊥)
+        → (result ≡ false) × (places.new ≡ places.old) }
+{
+    is_first_of(seed, places, message, now, time)
 }
 
 /// Makes a full bucket of `tokens` tokens a second, at a time in milliseconds.

@@ -8,11 +8,9 @@ ghost use Rattle.ptpm_check.specs.Marks.{each, if_any, spot_of};
 ghost use Rattle.ptpm_script.specs.Document.{end_of};
 
 use crate::place::{Array, Place};
-use crate::values::{
-    clock_at, first_values, items_at, items_in, name_at, port_at, table_of, text_of, whole_at,
-};
+use crate::values::{first_values, items_at, items_in, name_at, table_of, text_of};
 use ptpm_codec::{ClockIdentity, PortIdentity};
-use ptpm_script::{CLOCKS, LINKS, MOST_ENDS, SESSIONS, end_spelling};
+use ptpm_script::{CLOCKS, LINKS, MOST_ENDS, SESSIONS, clock_at, end_spelling, port_at, u16_at};
 use std::alloc::{AllocError, Global};
 use toml::{Table, Value};
 
@@ -115,7 +113,7 @@ fn clock_head<'a>(number: usize, table: &'a Table) -> ClockHead<'a>
         table,
         name,
         identity: clock_at(table, "identity"),
-        count: whole_at(table, "ports"),
+        count: u16_at(table, "ports"),
     }
 }
 
@@ -224,5 +222,5 @@ fn end_of<'a>(place: Place<'a>, number: usize, value: &'a Value) -> Option<EndHe
 pub(crate) fn number_in(port: &Value) -> Option<u16>
     ensures { result ≡ number_in (view port.now) }
 {
-    whole_at(table_of(port)?, "number")
+    u16_at(table_of(port)?, "number")
 }

@@ -1,7 +1,7 @@
 //! Every fault of a network file and of the events of a script, each with its place (this project's profile).
 #![tactic(auto)]
 
-mod event_faults;
+mod event_lines;
 mod fault;
 mod heads;
 mod key_faults;
@@ -17,7 +17,7 @@ mod start_faults;
 mod value_text;
 mod values;
 
-pub use event_faults::{EventFault, Expected, event_fault};
+pub use event_lines::{EventFault, event_fault};
 pub use fault::{Fault, Found, Names, Need, Wanted};
 pub use laws::{faults_found, told_keys};
 pub use network_faults::Document;

@@ -13,8 +13,8 @@ use crate::fault::{Fault, Found, Names, Need, Wanted, add_at_key, add_fault};
 use crate::heads::{ClockHead, EndHead, Heads, SessionHead};
 use crate::nearest::nearest;
 use crate::place::Place;
-use crate::values::{is_name_of, items_at, table_of, whole_at};
-use ptpm_script::NetError;
+use crate::values::{is_name_of, items_at, table_of};
+use ptpm_script::{NetError, u16_at};
 use std::alloc::{AllocError, Global};
 use toml::Value;
 
@@ -107,7 +107,7 @@ fn add_past_port<'a>(
     let Some(table) = table_of(port) else {
         return Ok(());
     };
-    if has_past(whole_at(table, "number"), count) {
+    if has_past(u16_at(table, "number"), count) {
         let wanted = Wanted::Need(Need::PortUpTo(count));
         add_at_key(faults, NetError::NoSuchName, place, table, "number", wanted)
     } else {

@@ -13,9 +13,9 @@ ghost use Rattle.ptpm_check.specs.RepeatFaults.{clock_repeats, end_repeats, is_c
 use crate::fault::{Fault, Found, Wanted, add_at_key, add_fault};
 use crate::heads::{ClockHead, EndHead, Heads, SessionHead, number_in};
 use crate::place::Place;
-use crate::values::{is_clock, is_name_of, is_number, items_at, table_of, whole_at};
+use crate::values::{is_clock, is_name_of, is_number, items_at, table_of};
 use ptpm_codec::{ClockIdentity, PortIdentity};
-use ptpm_script::NetError;
+use ptpm_script::{NetError, u16_at};
 use std::alloc::{AllocError, Global};
 use toml::{Table, Value};
 
@@ -150,7 +150,7 @@ fn add_port<'a>(
         return Ok(());
     };
     let place = Place::Port(clock, name, before.len() + 1);
-    let other = match port_before(numbers, whole_at(table, "number")) {
+    let other = match port_before(numbers, u16_at(table, "number")) {
         Some(number) => Some(Place::Port(clock, name, number)),
         None => None,
     };

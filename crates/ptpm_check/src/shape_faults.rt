@@ -13,10 +13,10 @@ ghost use Rattle.ptpm_check.specs.ShapeFaults.{clock_marks, end_marks, link_mark
 use crate::fault::{Fault, Found, Need, Wanted};
 use crate::key_faults::{add_key_faults, add_shape, add_table_faults};
 use crate::place::{Array, Place};
-use crate::values::{items_at, items_in, name_in, table_of, text_of, whole_at};
+use crate::values::{items_at, items_in, name_in, table_of, text_of};
 use ptpm_data::Rights;
 use ptpm_script::{
-    CLOCK_RULES, FILE_RULES, LINK_RULES, PORT_RULES, SESSION_RULES, end_spelling, right_of,
+    CLOCK_RULES, FILE_RULES, LINK_RULES, PORT_RULES, SESSION_RULES, end_spelling, right_of, u16_at,
     value_at,
 };
 use std::alloc::{AllocError, Global};
@@ -35,7 +35,7 @@ pub(crate) fn add_shape_faults<'a>(
 {
     add_file_keys(alloc, faults, file)?;
     add_clocks(alloc, faults, items_at(file, "clock"))?;
-    let version = whole_at(file, "version");
+    let version = u16_at(file, "version");
     add_sessions(alloc, faults, version, items_at(file, "session"))?;
     add_links(alloc, faults, items_at(file, "link"))
 }

@@ -4,12 +4,11 @@ ghost use Rattle.std.specs.Prelude.{◌≡◌, ◌==◌, bytes_eq, map, option_a
 ghost use Rattle.ptpm_codec.specs.Identity.{same_clock};
 ghost use Rattle.ptpm_check.specs.Heads.{items_at, items_in, list_of, name_at};
 ghost use Rattle.ptpm_script.specs.Document.{passes};
-ghost use Rattle.ptpm_script.specs.Values.{clock_at, natural_at, port_at, text_at};
 ghost use Rattle.toml.specs.Data.{as_array, as_str, as_table, get_member};
 ghost use Rattle.toml.specs.View.{view, table_view};
 
-use ptpm_codec::{ClockIdentity, PortIdentity};
-use ptpm_script::{clock_identity, is_name, port_identity, value_at};
+use ptpm_codec::ClockIdentity;
+use ptpm_script::{is_name, text_at, value_at};
 use toml::{Table, Value};
 
 /// The table that a value is.
@@ -76,13 +75,6 @@ pub(crate) fn first_values(values: &[Value], most: usize) -> &[Value]
     }
 }
 
-/// The text at a key.
-fn text_at<'a>(table: &'a Table, key: &str) -> Option<&'a str>
-    ensures { option_map (λ s. s.now) result ≡ text_at key.now (table_view table.now) }
-{
-    text_of(value_at(table, key)?)
-}
-
 /// The text at a key, if it is a name.
 pub(crate) fn name_at<'a>(table: &'a Table, key: &str) -> Option<&'a str>
     ensures { option_map (λ s. s.now) result ≡ name_at key.now (table_view table.now) }
@@ -94,33 +86,6 @@ pub(crate) fn name_at<'a>(table: &'a Table, key: &str) -> Option<&'a str>
 /// The name in a value that is a table.
 pub(crate) fn name_in(value: &Value) -> Option<&str> {
     name_at(table_of(value)?, "name")
-}
-
-/// The clockIdentity at a key.
-pub(crate) fn clock_at(table: &Table, key: &str) -> Option<ClockIdentity>
-    ensures { result ≡ clock_at key.now (table_view table.now) }
-{
-    clock_identity(text_at(table, key)?)
-}
-
-/// The portIdentity at a key.
-pub(crate) fn port_at(table: &Table, key: &str) -> Option<PortIdentity>
-    ensures { result ≡ port_at key.now (table_view table.now) }
-{
-    port_identity(text_at(table, key)?)
-}
-
-/// The number at a key, if it is one from 0 to 65,535.
-#[tactic(auto, unfolding(ptpm_script::specs::Values::natural_at))]
-pub(crate) fn whole_at(table: &Table, key: &str) -> Option<u16>
-    ensures { result ≡ natural_at 65535 key.now (table_view table.now) }
-{
-    let number = value_at(table, key)?.as_integer()?;
-    if 0 <= number && number <= 0xffff {
-        Some(number as u16)
-    } else {
-        None
-    }
 }
 
 /// Whether a name is there, and is this one.

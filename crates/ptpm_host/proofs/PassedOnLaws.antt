@@ -1,13 +1,13 @@
 -- A message that was let through stays noted while its time lasts, and is not let through again meanwhile.
-use Rattle.std.proofs.Common.{arith, ◌≡◌, ◌≢◌, ◌∙◌, ℕ, ◌-◌, ◌<◌, ◌≤◌, Bool, true, false, List, [], ◌∷◌, ap, sym, subst, refl, length, get_or, set, suc, ⊎_elim}
+use Rattle.std.proofs.Common.{arith, ◌≡◌, ◌≢◌, ◌∙◌, ℕ, ◌+◌, ◌-◌, ◌<◌, ◌≤◌, Bool, true, false, List, [], ◌∷◌, ap, sym, subst, refl, length, get_or, mod-lt, set, suc, ⊎_elim}
 use Rattle.std.proofs.lemmas.Bool.{cases_lt}
 use Rattle.std.proofs.lemmas.Bool.Decides.{nat_tests}
-use Rattle.std.proofs.lemmas.List.{get_or-replicate, get_or-set_other, get_or-set_same, get_or_past, length-replicate}
+use Rattle.std.proofs.lemmas.List.{get_or-replicate, get_or-set_other, get_or-set_same, get_or_past, length-replicate, length-set}
 use Rattle.std.specs.Prelude.{All, replicate}
 use Rattle.ptpm_host.specs.declared.passed_on.MessageKey.{MessageKey}
 use Rattle.ptpm_host.specs.declared.passed_on.PassedOn.{PassedOn}
 use Rattle.ptpm_host.specs.declared.passed_on.PassedOnPlace.{PassedOnPlace}
-use Rattle.ptpm_host.specs.PassedOn.{IsAsked, IsLetThrough, first_place, free, is_live, is_noted, nth_from, place_from, same_key}
+use Rattle.ptpm_host.specs.PassedOn.{IsAsked, IsLetThrough, first_of, first_place, free, is_live, is_noted, nth_from, place_from, same_key}
 use Rattle.ptpm_host.specs.PassedOnLaw.{Ask, Asked, NotTwice}
 
 abbrev entry : MessageKey → ℕ → ℕ → PassedOnPlace
@@ -25,19 +25,27 @@ entry_noted key since long now h =
 
 -- one of the message's places has it, from this time on for so long
 abbrev Holds : PassedOn → MessageKey → ℕ → ℕ → Type 0
-Holds t key since long = (i : ℕ) × (i < 16) × (nth_from t (first_place t.seed key) i ≡ entry key since long)
+Holds t key since long = (i : ℕ) × (i < 16) × (nth_from t.places (first_of t key) i ≡ entry key since long)
 
 never_both : {A : Type 0} (b : Bool) → b ≡ true → b ≡ false → A
 never_both b p q = absurd (cc)
 
-let_holds : (t u : PassedOn) (key : MessageKey) (now long : ℕ) → length t.places ≡ 4096
+-- the places of a message are the same ones after one of the table's was written over
+same_place : (t : PassedOn) (place i : ℕ) (e f : PassedOnPlace) (key : MessageKey)
+    → get_or (set t.places place e) (place_from (length t.places) (first_of t key) i) free ≡ f
+    → nth_from (set t.places place e) (first_of (record t { places = set t.places place e }) key) i ≡ f
+same_place t place i e f key at =
+    let At : ℕ → Type 0 = λ n. get_or (set t.places place e) (place_from n (first_place n t.seed key) i) free ≡ f in
+    subst At (sym (length-set t.places place e)) at
+
+let_holds : (t u : PassedOn) (key : MessageKey) (now long : ℕ) → 16 ≤ length t.places
     → IsLetThrough t key now long u → Holds u key now long
 let_holds t u key now long sized h =
-    let place = h.1.0 in let at = h.1.1.0 in
-    let inside : place < length t.places = omega (arith, sized, at.2) in
-    let Has : ℕ → Type 0 = λ p. get_or (set t.places place (entry key now long)) p free ≡ entry key now long in
-    let Found : PassedOn → Type 0 = λ x. nth_from x (first_place x.seed key) at.0 ≡ entry key now long in
-    (at.0, at.1, subst Found (sym h.1.1.1) (subst Has at.2 (get_or-set_same t.places place (entry key now long) free inside)))
+    let place = h.1.0 in let at = h.1.1.0 in let e : PassedOnPlace = entry key now long in
+    let inside : place < length t.places = subst (λ p. p < length t.places) (sym at.2) (mod-lt (first_of t key + at.0) (omega (arith, sized))) in
+    let Has : ℕ → Type 0 = λ p. get_or (set t.places place e) p free ≡ e in
+    let Found : PassedOn → Type 0 = λ x. nth_from x.places (first_of x key) at.0 ≡ e in
+    (at.0, at.1, subst Found (sym h.1.1.1) (same_place t place at.0 e e key (subst Has at.2 (get_or-set_same t.places place e free inside))))
 
 -- a place in which something is noted still is not written over
 kept_place : (places : List PassedOnPlace) (p place now since long : ℕ) (key : MessageKey) (e : PassedOnPlace)
@@ -61,18 +69,18 @@ stays t u key k since long now time true held live asked =
     let e : PassedOnPlace = entry k now time in
     let Dead : ℕ → Type 0 = λ q. is_live now (get_or t.places q free) ≡ false in
     let dead : is_live now (get_or t.places place free) ≡ false = subst Dead (sym at.2) at.3 in
-    let Found : PassedOn → Type 0 = λ x. nth_from x (first_place x.seed key) held.0 ≡ entry key since long in (
+    let Found : PassedOn → Type 0 = λ x. nth_from x.places (first_of x key) held.0 ≡ entry key since long in (
       held.0,
       held.1,
-      subst Found (sym asked.1.1.1)
-          (kept_place t.places (place_from (first_place t.seed key) held.0) place now since long key e held.2 live dead),
+      subst Found (sym asked.1.1.1) (same_place t place held.0 e (entry key since long) key
+          (kept_place t.places (place_from (length t.places) (first_of t key) held.0) place now since long key e held.2 live dead)),
     )
 
 refused : (t u : PassedOn) (key : MessageKey) (since long now time : ℕ) (answer : Bool)
     → Holds t key since long → now - since < long → IsAsked t key now time answer u → answer ≡ false
 refused t u key since long now time false held live asked = refl
 refused t u key since long now time true held live asked =
-    never_both (is_noted now key (nth_from t (first_place t.seed key) held.0))
+    never_both (is_noted now key (nth_from t.places (first_of t key) held.0))
     (ap (is_noted now key) held.2 ∙ entry_noted key since long now live) (asked.0 held.0 held.1)
 
 all_stay : (t u : PassedOn) (asks : List Ask) (answers : List Bool) (key : MessageKey) (since long last : ℕ)

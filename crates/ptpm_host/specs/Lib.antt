@@ -27,6 +27,7 @@ pub mod Parsing
 pub mod Blanks
 pub mod Withheld
 pub mod SavingClock
+pub mod MostSent
 pub mod SessionStanding
 pub mod SavingSession
 pub mod Device

@@ -19,10 +19,10 @@ Asked t (a ∷ asks) [] u = ⊥
 Asked t (a ∷ asks) (answer ∷ answers) u =
     (s : PassedOn) × (IsAsked t a.key a.now a.time answer s × Asked s asks answers u)
 
--- whatever came between, if it came no later than the second message
+-- in a table of any size, whatever came between, if it came no later than the second message
 abbrev pub NotTwice : Type 0
 NotTwice = (t u v w : PassedOn) (a b : Ask) (between : List Ask) (answers : List Bool) (answer : Bool)
-    → length t.places ≡ 4096
+    → 16 ≤ length t.places
     → IsAsked t a.key a.now a.time true u
     → Asked u between answers v
     → All (λ x. x.now ≤ b.now) between

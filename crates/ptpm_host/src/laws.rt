@@ -1,4 +1,4 @@
-//! What holds for names, for what is passed on, and for rates. Each law is the contract of a function that does nothing.
+//! What holds for names, for what a clock sends, for what is passed on, and for rates. Each law is the contract of a function that does nothing.
 
 ghost use Rattle.std.specs.Prelude.{◌≡◌, ◌≢◌, ◌≤◌, ◌++◌, ℕ, List, Some, codes, length};
 ghost use Rattle.ptpm_codec.specs.declared.error.ErrorId.{ErrorId};
@@ -21,6 +21,7 @@ ghost use Rattle.ptpm_host.specs.AnswerNames.{answer_name, reason_word, verdict_
 ghost use Rattle.ptpm_host.specs.ErrorNames.{error_name};
 ghost use Rattle.ptpm_host.specs.Names.{capitals, id_name};
 ghost use Rattle.ptpm_host.specs.Numbers.{begin_number, give_up_number, image_number, reason_number, restore_number, resume_number, values_number, verdict_number};
+ghost use Rattle.ptpm_host.specs.MostSent.{SendsNoMore, SendsNoMoreAlone, WaitsNoMore};
 ghost use Rattle.ptpm_host.specs.PassedOnLaw.{NotTwice};
 ghost use Rattle.ptpm_host.specs.RateLaw.{WithinRate};
 
@@ -54,6 +55,13 @@ pub fn names_law()
     ensures error_size { (number : ℕ) (name : List ℕ)
         → error_name number ≡ Some name
         → length name ≤ 27 }
+{}
+
+/// No datagram has a clock send more messages than `most_sent` answers, nor has a save.
+pub fn most_sent_law()
+    ensures said { SendsNoMore }
+    ensures turned { SendsNoMoreAlone }
+    ensures saved { WaitsNoMore }
 {}
 
 /// A message that a table let through is not let through again within its time.

@@ -17,6 +17,7 @@ mod judged;
 mod laws;
 mod limits;
 mod managers;
+mod most_sent;
 mod names;
 mod numbers;
 mod observing;
@@ -50,7 +51,7 @@ pub use device::{Asking, Question, Say};
 pub use error_names::error_name;
 pub use handed::{Handed, earlier_number};
 pub use id_names::{NO_ID, id_at, id_name, id_named, other_id_at, other_id_name, other_id_named};
-pub use laws::{names_law, passed_on_law, rate_law};
+pub use laws::{most_sent_law, names_law, passed_on_law, rate_law};
 pub use limits::{Limit, limits_say};
 pub use names::hand_out_name;
 pub use numbers::{
@@ -63,7 +64,7 @@ pub use numbers::{
 };
 pub use observing::{ObservedClock, ObservedPort, left_number};
 pub use parsing::parse_field;
-pub use passed_on::{MessageKey, PassedOn, PassedOnPlace};
+pub use passed_on::{MessageKey, PassedOn, PassedOnPlace, is_first_of};
 pub use rate::Rate;
 pub use refusal::{
     AskerRefusal, ChangeRefusal, ClockRestoreRefusal, HandleRefusal, ParseRefusal, ReadRefusal,

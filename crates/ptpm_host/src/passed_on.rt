@@ -1,18 +1,18 @@
 //! Which messages were passed on last, in a table of fixed size. A message that comes round again is recognized by it (this
 //! project's profile).
 
-ghost use Rattle.std.specs.Prelude.{◌≡◌, ◌<◌, IfSome, MatchBool, MatchOption, MatchResult, false};
+ghost use Rattle.std.specs.Prelude.{◌≡◌, ◌<◌, ◌≤◌, IfSome, MatchBool, MatchOption, MatchResult, false, length};
 ghost use Rattle.ptpm_codec.specs.declared.message.Message.{Message};
 ghost use Rattle.ptpm_codec.specs.Reading.{reading};
-ghost use Rattle.ptpm_host.specs.PassedOn.{FreeFrom, HasFrom, IsAsked, LacksFrom, NotesNothing, TakenFrom, first_place, free, is_live, is_noted, key_of, nth_from, same_key, stirred};
+ghost use Rattle.ptpm_host.specs.PassedOn.{FreeFrom, HasFrom, IsAsked, IsTableSize, LacksFrom, NotesNothing, TakenFrom, first_place, free, is_live, is_noted, key_of, nth_from, place_from, same_key, stirred, table_of};
 
 use ptpm_codec::{View, view};
 
-/// How many messages are noted at most.
-const PLACES: usize = 4096;
-
-/// How many places a message may be noted in.
+/// How many places a message may be noted in. A table has as many at least.
 const TRIED: usize = 16;
+
+/// How many places a table has at most.
+const MOST_PLACES: usize = 1_048_576;
 
 /// What distinguishes one message from another: who sent it, under which sequenceId, to whom, and what it does (13.3 and 15.4).
 /// A clockIdentity is one number.
@@ -73,16 +73,17 @@ impl MessageKey {
         self == other
     }
 
-    /// The first of its places in a table of this seed.
+    /// The first of its places in a table of this number of places and this seed.
     #[tactic(auto, unfolding(crate::specs::PassedOn::first_place))]
-    fn first_place(&self, seed: u64) -> usize
-        ensures place { result ≡ first_place seed self.now }
-        ensures within { result < 4096 }
+    fn first_place(&self, count: usize, seed: u64) -> usize
+        requires { IsTableSize count }
+        ensures place { result ≡ first_place count seed self.now }
+        ensures within { result < count }
     {
         let ports = (self.source_port as u64) << 32 | (self.target_port as u64) << 16;
         let clocks = stirred(stirred(seed, self.source_clock), self.target_clock);
         let rest = (self.number as u64) << 32 | (self.id as u64) << 8 | self.action as u64;
-        (stirred(stirred(clocks, ports), rest) % 4096) as usize
+        (stirred(stirred(clocks, ports), rest) % count as u64) as usize
     }
 }
 
@@ -145,68 +146,107 @@ impl PassedOn {
             (λ v. IsAsked self.old (key_of v) now time result self.new)
             (λ _. (result ≡ false) × (self.new ≡ self.old)) }
     {
-        match view(message) {
-            Ok(message) => self.notes(&MessageKey::of(&message), now, time),
-            Err(_) => false,
-        }
+        is_first_of(self.seed, &mut self.places, message, now, time)
     }
+}
 
-    /// The same for the message's key.
-    fn notes(&mut self, key: &MessageKey, now: u64, time: u64) -> bool
-        ensures { IsAsked self.old key.now now time result self.new }
-    {
-        let first = key.first_place(self.seed);
-        if self.has_from(first, key, now) {
-            return false;
-        }
-        match self.free_from(first, now) {
-            Some(place) => {
-                self.places[place] = PassedOnPlace {
-                    since: now,
-                    time,
-                    key: *key,
-                };
-                true
-            }
-            None => false,
-        }
+/// What `PassedOn::is_first` does, over places of its host's and with this seed. A table has 16 to 1,048,576 places. If there are
+/// fewer or more, no message is passed on.
+#[inline(always)]
+pub fn is_first_of(
+    seed: u64,
+    places: &mut [PassedOnPlace],
+    message: &[u8],
+    now: u64,
+    time: u64,
+) -> bool
+    ensures asked { IsTableSize (length places.old) → MatchResult (reading message.now)
+        (λ v. IsAsked (table_of seed places.old) (key_of v) now time result (table_of seed places.new))
+        (λ _. (result ≡ false) × (places.new ≡ places.old)) }
+    ensures no_table { (IsTableSize (length places.old) → ⊥)
+        → (result ≡ false) × (places.new ≡ places.old) }
+{
+    if places.len() < TRIED || places.len() > MOST_PLACES {
+        return false;
     }
+    match view(message) {
+        Ok(message) => notes(seed, places, &MessageKey::of(&message), now, time),
+        Err(_) => false,
+    }
+}
 
-    /// Whether one of sixteen places from this one on has a message of this key.
-    fn has_from(&self, first: usize, key: &MessageKey, now: u64) -> bool
-        requires { first < 4096 }
-        ensures { MatchBool result (HasFrom self.now first now key.now)
-            (LacksFrom self.now first now key.now) }
-    {
-        for i in 0..TRIED {
-            if self.nth_from(first, i).is_noted(key, now) {
-                return true;
-            }
+/// The same for the message's key.
+fn notes(seed: u64, places: &mut [PassedOnPlace], key: &MessageKey, now: u64, time: u64) -> bool
+    requires { IsTableSize (length places.old) }
+    ensures { IsAsked (table_of seed places.old) key.now now time result (table_of seed places.new) }
+{
+    let first = key.first_place(places.len(), seed);
+    if has_from(places, first, key, now) {
+        return false;
+    }
+    match free_from(places, first, now) {
+        Some(place) => {
+            places[place] = PassedOnPlace {
+                since: now,
+                time,
+                key: *key,
+            };
+            true
         }
-        false
+        None => false,
     }
+}
 
-    /// The first of sixteen places from this one on that is free.
-    fn free_from(&self, first: usize, now: u64) -> Option<usize>
-        requires { first < 4096 }
-        ensures free { MatchOption result (TakenFrom self.now first now)
-            (λ place. FreeFrom self.now first now place) }
-        ensures within { IfSome result (λ place. place < 4096) }
-    {
-        for i in 0..TRIED {
-            if !self.nth_from(first, i).is_live(now) {
-                return Some((first + i) % PLACES);
-            }
+/// Whether one of sixteen places from this one on has a message of this key.
+fn has_from(places: &[PassedOnPlace], first: usize, key: &MessageKey, now: u64) -> bool
+    requires size { IsTableSize (length places.now) }
+    requires first { first < length places.now }
+    ensures { MatchBool result (HasFrom places.now first now key.now)
+        (LacksFrom places.now first now key.now) }
+{
+    for i in 0..TRIED {
+        if nth_from(places, first, i).is_noted(key, now) {
+            return true;
         }
-        None
     }
+    false
+}
 
-    /// A place counted from another one on. After the last place comes the first again.
-    fn nth_from(&self, first: usize, i: usize) -> &PassedOnPlace
-        requires first { first < 4096 }
-        requires nth { i < 16 }
-        ensures { result.now ≡ nth_from self.now first i }
-    {
-        &self.places[(first + i) % PLACES]
+/// The first of sixteen places from this one on that is free.
+fn free_from(places: &[PassedOnPlace], first: usize, now: u64) -> Option<usize>
+    requires size { IsTableSize (length places.now) }
+    requires first { first < length places.now }
+    ensures free { MatchOption result (TakenFrom places.now first now)
+        (λ place. FreeFrom places.now first now place) }
+    ensures within { IfSome result (λ place. place < length places.now) }
+{
+    for i in 0..TRIED {
+        if !nth_from(places, first, i).is_live(now) {
+            return Some(place_from(places.len(), first, i));
+        }
     }
+    None
+}
+
+/// A place counted from another one on. After the last place comes the first again.
+fn nth_from(places: &[PassedOnPlace], first: usize, i: usize) -> &PassedOnPlace
+    requires size { IsTableSize (length places.now) }
+    requires first { first < length places.now }
+    requires nth { i < 16 }
+    ensures { result.now ≡ nth_from places.now first i }
+{
+    &places[place_from(places.len(), first, i)]
+}
+
+/// The same as a number, of a table of this number of places. Cheaper than a remainder.
+#[inline(always)]
+fn place_from(count: usize, first: usize, i: usize) -> usize
+    requires size { IsTableSize count }
+    requires first { first < count }
+    requires nth { i < 16 }
+    ensures place { result ≡ place_from count first i }
+    ensures within { result < count }
+{
+    let place = first + i;
+    if place < count { place } else { place - count }
 }

@@ -1,7 +1,7 @@
 //! What can happen in a network.
 
 use crate::names::Name;
-use ptpm_codec::{Octets, OutOfMemory};
+use ptpm_codec::Octets;
 use ptpm_manager::Ask;
 use std::fmt;
 use thiserror::Error;
@@ -75,16 +75,5 @@ impl fmt::Display for EventError {
             EventError::BadHex => "BadHex",
             EventError::OutOfMemory => "OutOfMemory",
         })
-    }
-}
-
-impl From<OutOfMemory> for EventError {
-    ghost use Rattle.std.specs.Prelude.{◌≡◌};
-    ghost use Rattle.ptpm_script.specs.declared.event.EventError.TheVariants as errors;
-
-    ghost from_gives = { λ _ e. e ≡ errors.OutOfMemory };
-
-    fn from(_refused: OutOfMemory) -> EventError {
-        EventError::OutOfMemory
     }
 }

@@ -9,7 +9,7 @@ use ptpm_codec::{ClockIdentity, PortIdentity};
 
 /// A clockIdentity of sixteen hexadecimal digits, not all ones.
 #[tactic(auto, unfolding(crate::specs::Document::clock_identity))]
-pub fn clock_identity(text: &str) -> Option<ClockIdentity>
+pub(crate) fn clock_identity(text: &str) -> Option<ClockIdentity>
     ensures { result ≡ clock_identity text.now }
 {
     let mut octets = [0; 8];
@@ -21,7 +21,7 @@ pub fn clock_identity(text: &str) -> Option<ClockIdentity>
 
 /// A clockIdentity, a slash and a decimal port.
 #[tactic(auto, unfolding(crate::specs::Document::port_identity))]
-pub fn port_identity(text: &str) -> Option<PortIdentity>
+pub(crate) fn port_identity(text: &str) -> Option<PortIdentity>
     ensures { result ≡ port_identity text.now }
 {
     let (clock, port) = text.split_once('/')?;

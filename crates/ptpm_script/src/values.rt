@@ -19,7 +19,8 @@ pub fn value_at<'a>(table: &'a Table, key: &str) -> Option<&'a Value>
     table.get(key)
 }
 
-pub(crate) fn text_at<'a>(table: &'a Table, key: &str) -> Option<&'a str>
+/// The text at a key.
+pub fn text_at<'a>(table: &'a Table, key: &str) -> Option<&'a str>
     ensures { option_map (λ s. s.now) result ≡ text_at key.now (table_view table.now) }
 {
     value_at(table, key)?.as_str()
@@ -47,8 +48,9 @@ pub(crate) fn u8_at(table: &Table, key: &str) -> Option<u8>
     }
 }
 
+/// The number at a key, if it is one from 0 to 65,535.
 #[tactic(auto, unfolding(crate::specs::Values::natural_at))]
-pub(crate) fn u16_at(table: &Table, key: &str) -> Option<u16>
+pub fn u16_at(table: &Table, key: &str) -> Option<u16>
     ensures { result ≡ natural_at 65535 key.now (table_view table.now) }
 {
     match i64_at(table, key) {
@@ -129,13 +131,15 @@ pub(crate) fn i64_or(table: &Table, key: &str, default: i64) -> i64
     i64_at(table, key).unwrap_or(default)
 }
 
-pub(crate) fn clock_at(table: &Table, key: &str) -> Option<ClockIdentity>
+/// The clockIdentity at a key.
+pub fn clock_at(table: &Table, key: &str) -> Option<ClockIdentity>
     ensures { result ≡ clock_at key.now (table_view table.now) }
 {
     clock_identity(text_at(table, key)?)
 }
 
-pub(crate) fn port_at(table: &Table, key: &str) -> Option<PortIdentity>
+/// The portIdentity at a key.
+pub fn port_at(table: &Table, key: &str) -> Option<PortIdentity>
     ensures { result ≡ port_at key.now (table_view table.now) }
 {
     port_identity(text_at(table, key)?)

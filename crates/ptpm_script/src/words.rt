@@ -1,10 +1,10 @@
 //! The words of a line.
 
-ghost use Rattle.std.specs.Prelude.{◌≡◌, ◌==◌, ◌∷◌, [], None, Some, MatchOption, option_map, drop, not, position};
+ghost use Rattle.std.specs.Prelude.{◌≡◌, ◌==◌, ◌∷◌, [], None, Some, MatchOption, option_map, drop, not, position, slice_get};
 ghost use Rattle.ptpm_script.specs.Words.{space, words, one_word, two_words, three_words, first_words};
 
 /// The first word of a text and what follows it; `None` if it has no words.
-pub fn split_word<'a>(text: &'a str) -> Option<(&'a str, &'a str)>
+pub(crate) fn split_word<'a>(text: &'a str) -> Option<(&'a str, &'a str)>
     ensures { MatchOption result (words text.now ≡ [])
         (λ r. words text.now ≡ r.0.now ∷ words r.1.now) }
 {
@@ -28,6 +28,17 @@ fn word_size(text: &str) -> Option<usize>
     ensures { result ≡ position (λ octet. octet == space) text.now }
 {
     text.as_bytes().iter().position(|octet| *octet == b' ')
+}
+
+/// The word of a text at a place, from 0.
+pub fn word_at(text: &str, place: usize) -> Option<&str>
+    ensures { option_map (λ word. word.now) result ≡ slice_get (words text.now) place }
+{
+    let (first, rest) = split_word(text)?;
+    if place == 0 {
+        return Some(first);
+    }
+    word_at(rest, place - 1)
 }
 
 /// The word of a text that has one and no more.

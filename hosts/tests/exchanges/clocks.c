@@ -273,6 +273,11 @@ static void run_restore(char *words) {
     start_of_page.managers = from.managers;
 }
 
+static void run_most_sent(char *words) {
+    (void)words;
+    say("%zu\n", ptpm_clock_most_sent(&clock_of_page));
+}
+
 static void run_stop(char *words) {
     (void)words;
     is_saving = false;
@@ -282,5 +287,5 @@ static void run_stop(char *words) {
 const struct command clock_commands[] = {
     { "clock", run_start }, { "in", run_in }, { "in-said", run_in_said }, { "in-given", run_in_given }, { "changed", run_changed }, { "observe", run_observe },
     { "set-here", run_set_here }, { "read", run_read }, { "image", run_image }, { "restore", run_restore }, { "saving", run_saving }, { "image-of", run_image_of },
-    { "saved", run_saved }, { "stop", run_stop }, { NULL, NULL },
+    { "saved", run_saved }, { "most-sent", run_most_sent }, { "stop", run_stop }, { NULL, NULL },
 };

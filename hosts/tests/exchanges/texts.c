@@ -3,10 +3,17 @@
 #include "words.h"
 #include <string.h>
 
+/* A table of a page has as many places at most. */
+enum { MOST_PLACES = 64, SEED = 1588 };
+
 static struct ptpm_passed_on passed_on;
+static uint64_t places[MOST_PLACES][6];
 static struct ptpm_rate rate;
 
-void stop_network(void) { memset(&passed_on, 0, sizeof passed_on); }
+void stop_network(void) {
+    memset(&passed_on, 0, sizeof passed_on);
+    memset(places, 0, sizeof places);
+}
 
 /* A name that a call wrote, or a minus sign for none. */
 static void say_name(size_t size) {
@@ -124,6 +131,21 @@ static void run_first(char *words) {
     say("%s\n", ptpm_passed_on_is_first(&passed_on, message.at, message.size, now, time) ? "yes" : "no");
 }
 
+/* `first-of COUNT NOW TIME OCTETS`: the same by a table of COUNT places. What is kept back changes none, and a message at most one. */
+static void run_first_of(char *words) {
+    static struct octets message;
+    static uint64_t before[MOST_PLACES][6];
+    size_t count = (size_t)next_number(&words, 0), changed = 0;
+    uint64_t now = (uint64_t)next_number(&words, 0), time = (uint64_t)next_number(&words, 0);
+    read_octets(&words, &message);
+    memcpy(before, places, sizeof places);
+    bool is_first = ptpm_passed_on_is_first_of(SEED, places, count, message.at, message.size, now, time);
+    for (size_t i = 0; i < MOST_PLACES; i++)
+        if (memcmp(before[i], places[i], sizeof places[i]) != 0) changed += i < count ? 1 : 2;
+    if (changed > is_first) say("it writes more than one place\n");
+    say("%s\n", is_first ? "yes" : "no");
+}
+
 /* `bucket TOKENS NOW` makes one; `tokens NOW ASKED` says how many of some it gives. */
 static void run_bucket(char *words) {
     uint64_t tokens = (uint64_t)next_number(&words, 0);
@@ -141,5 +163,6 @@ const struct command text_commands[] = {
     { "id", run_id }, { "id-of", run_id_of }, { "id-name", run_id_name }, { "answer-name", run_answer_name }, { "error-name", run_error_name },
     { "other-id", run_other_id }, { "other-id-name", run_other_id_name }, { "other-ids", run_other_ids },
     { "ids", run_ids }, { "text", run_text }, { "parse", run_parse }, { "raw", run_raw }, { "first", run_first },
+    { "first-of", run_first_of },
     { "bucket", run_bucket }, { "tokens", run_tokens }, { NULL, NULL },
 };
