@@ -135,7 +135,7 @@ fn line_of(alloc: Global, frame: Frame, name: String) -> Line {
 }
 
 fn clock_line(alloc: Global, look: &Look<'_, '_>, row: &ClockRow<'_>) -> Result<Line, AllocError> {
-    let (columns, ports, cut) = (&row.columns, PortsText(row.clock), row.cut);
+    let (columns, ports, cut) = (&row.columns, PortsText(row.clock), row.cut());
     Ok(Line {
         frame: if row.leads { Frame::Thick } else { Frame::Thin },
         depth: row.depth as usize,

@@ -259,7 +259,7 @@ fn print_row<O: Write>(row: &ClockRow<'_>, name: &str, out: &mut O) -> io::Resul
         row.columns.offset,
         row.columns.delay,
         PortsText(row.clock),
-        row.cut
+        row.cut()
     )
 }
 

@@ -63,7 +63,7 @@ fn print_row<O: Write>(
         Row::Clock(row) => {
             row.columns
                 .print(row.source.clock, indent(row), widths, out)?;
-            writeln!(out, "  {}{}", PortsText(row.clock), row.cut)
+            writeln!(out, "  {}{}", PortsText(row.clock), row.cut())
         }
         Row::NotSeen(parent) => {
             let name = look.beside.names.quoted(parent.clock);

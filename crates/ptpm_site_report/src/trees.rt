@@ -37,8 +37,8 @@ pub(crate) struct ClockRow<'a> {
     pub(crate) columns: Columns,
     /// How many rows are above it on the way to its root.
     pub(crate) depth: u32,
-    /// What is said of a clock at which a loop is cut.
-    pub(crate) cut: &'static str,
+    /// Whether a loop is cut at it.
+    is_cut: bool,
     /// Whether it is a grandmaster.
     pub(crate) leads: bool,
 }
@@ -165,16 +165,20 @@ fn clock_row<'a>(
         clock,
         columns: Columns::of(alloc, look.name_of(*source, clock), clock)?,
         depth,
-        cut: cut_at(picture, place, depth),
+        is_cut: is_cut(picture, place, depth),
         leads: picture.site.leads(*source),
     }))
 }
 
-/// What is said of a clock at which a loop is cut: it is a root, and follows one that is seen.
-fn cut_at(picture: &Picture<'_>, place: usize, depth: u32) -> &'static str {
-    match picture.forest.followed.get(place) {
-        Some(Some(_)) if depth == 0 => "  (in a loop)",
-        _ => "",
+/// Whether a loop is cut at a clock: it is a root, and follows one that is seen.
+fn is_cut(picture: &Picture<'_>, place: usize, depth: u32) -> bool {
+    depth == 0 && matches!(picture.forest.followed.get(place), Some(Some(_)))
+}
+
+impl ClockRow<'_> {
+    /// What is said of a clock at which a loop is cut.
+    pub(crate) fn cut(&self) -> &'static str {
+        if self.is_cut { "  (in a loop)" } else { "" }
     }
 }
 
