@@ -1,6 +1,7 @@
 //! A site as one JSON object, by the standard's names.
 
 use crate::asked_domains::AskedDomain;
+use crate::fields::{Members, entry};
 use crate::finding_json::finding_value;
 use crate::look::Look;
 use crate::names::Names;
@@ -10,11 +11,10 @@ use crate::utc_text::UtcText;
 use ptpm_codec::{ClockIdentity, PortIdentity};
 use ptpm_commands::Fault;
 use ptpm_site::clock::{Clock, Received};
-use ptpm_site::data_sets::ClockQuality;
 use ptpm_site::domain::Domain;
-use ptpm_site::member::{DataSet, Member, Value as MemberValue, mechanism_name, state_name};
+use ptpm_site::member::{DataSet, Member, Value as MemberValue};
 use ptpm_site::source::Source;
-use serde_json::{Map, Value, json, put};
+use serde_json::Value;
 use std::alloc::{AllocError, Global};
 use std::io::Write;
 use std::{fmt, io};
@@ -127,18 +127,18 @@ fn grandmaster_value(
     look: &Look<'_, '_>,
     source: Source,
 ) -> Result<Value, AllocError> {
-    let mut map = match look.picture.site.time(source) {
-        Some(time) => set_map(alloc, &time)?,
-        None => Map::new(alloc),
-    };
-    let identity = identity_value(alloc, source.clock)?;
-    put(&mut map, alloc, "clockIdentity", identity)?;
-    if let Some(default) = look.picture.site.default(source) {
-        let quality = quality_value(alloc, default.quality)?;
-        put(&mut map, alloc, "clockQuality", quality)?;
+    let mut members = Members::none(alloc);
+    if let Some(time) = look.picture.site.time(source) {
+        put_set(&mut members, &time)?;
     }
-    put(&mut map, alloc, "heard", text_value(alloc, "answer")?)?;
-    Ok(Value::Object(map))
+    if let Some(default) = look.picture.site.default(source) {
+        members.put(&[entry("clockQuality", MemberValue::Quality(default.quality))])?;
+    }
+    members.put(&[
+        entry("clockIdentity", MemberValue::Clock(source.clock)),
+        entry("heard", MemberValue::Text("answer")),
+    ])?;
+    Ok(members.object())
 }
 
 /// Prints the member with the findings, or with what is open.
@@ -172,23 +172,31 @@ fn clock_value(
     clock: &Clock,
     names: &Names,
 ) -> Result<Value, AllocError> {
-    let mut map = Map::new(alloc);
-    let identity = identity_value(alloc, source.clock)?;
-    put(&mut map, alloc, "clockIdentity", identity)?;
+    let mut members = Members::none(alloc);
+    members.put(&[entry("clockIdentity", MemberValue::Clock(source.clock))])?;
     if let Some(name) = names.get(source.clock) {
-        put(&mut map, alloc, "name", text_value(alloc, name)?)?;
+        members.put(&[entry("name", MemberValue::Text(name))])?;
     }
-    let (defaults, currents) = (clock.defaults.as_slice(), clock.currents.as_slice());
-    put_last(alloc, &mut map, "DEFAULT_DATA_SET", defaults)?;
-    put_last(alloc, &mut map, "CURRENT_DATA_SET", currents)?;
-    let (parents, times) = (clock.parents.as_slice(), clock.times.as_slice());
-    put_last(alloc, &mut map, "PARENT_DATA_SET", parents)?;
-    put_last(alloc, &mut map, "TIME_PROPERTIES_DATA_SET", times)?;
-    let descriptions = clock.descriptions.as_slice();
-    put_last(alloc, &mut map, "USER_DESCRIPTION", descriptions)?;
+    put_last(
+        alloc,
+        &mut members,
+        "DEFAULT_DATA_SET",
+        clock.defaults.last(),
+    )?;
+    put_last(
+        alloc,
+        &mut members,
+        "CURRENT_DATA_SET",
+        clock.currents.last(),
+    )?;
+    put_last(alloc, &mut members, "PARENT_DATA_SET", clock.parents.last())?;
+    let times = clock.times.last();
+    put_last(alloc, &mut members, "TIME_PROPERTIES_DATA_SET", times)?;
+    let descriptions = clock.descriptions.last();
+    put_last(alloc, &mut members, "USER_DESCRIPTION", descriptions)?;
     let ports = ports_value(alloc, source.clock, clock)?;
-    put(&mut map, alloc, "PORT_DATA_SET", ports)?;
-    Ok(Value::Object(map))
+    members.put_value("PORT_DATA_SET", ports)?;
+    Ok(members.object())
 }
 
 /// What a clock answered of its ports.
@@ -196,13 +204,14 @@ fn ports_value(alloc: Global, identity: ClockIdentity, clock: &Clock) -> Result<
     let mut ports = Vec::new(alloc);
     for (number, received) in clock.ports.iter() {
         if let Some(last) = received.last() {
-            let mut map = set_map(alloc, &last.set)?;
+            let mut members = Members::none(alloc);
+            put_set(&mut members, &last.set)?;
             let port = PortIdentity {
                 clock: identity,
                 port: *number,
             };
-            put(&mut map, alloc, "portIdentity", port_value(alloc, port)?)?;
-            ports.push(Value::Object(map))?;
+            members.put(&[entry("portIdentity", MemberValue::Port(port))])?;
+            ports.push(members.object())?;
         }
     }
     Ok(Value::Array(ports))
@@ -211,59 +220,26 @@ fn ports_value(alloc: Global, identity: ClockIdentity, clock: &Clock) -> Result<
 /// Puts the data set of the answer that counts, if there is one.
 fn put_last<T: DataSet>(
     alloc: Global,
-    map: &mut Map<String, Value>,
+    members: &mut Members,
     name: &str,
-    received: &[Received<T>],
+    last: Option<&Received<T>>,
 ) -> Result<(), AllocError> {
-    if let Some(last) = received.last() {
-        put(map, alloc, name, Value::Object(set_map(alloc, &last.set)?))?;
+    match last {
+        Some(last) => {
+            let mut set = Members::none(alloc);
+            put_set(&mut set, &last.set)?;
+            members.put_value(name, set.object())
+        }
+        None => Ok(()),
     }
-    Ok(())
 }
 
-/// The members of a data set.
-fn set_map<T: DataSet>(alloc: Global, set: &T) -> Result<Map<String, Value>, AllocError> {
-    let mut map = Map::new(alloc);
+/// Puts the members of a data set.
+fn put_set<T: DataSet>(members: &mut Members, set: &T) -> Result<(), AllocError> {
     for member in T::members() {
         if let Some(value) = set.value(*member) {
-            put(&mut map, alloc, member.name(), member_value(alloc, value)?)?;
+            members.put(&[entry(member.name(), value)])?;
         }
     }
-    Ok(map)
-}
-
-/// The value of a member.
-pub(crate) fn member_value(alloc: Global, value: MemberValue<'_>) -> Result<Value, AllocError> {
-    match value {
-        MemberValue::Flag(flag) => Ok(Value::Bool(flag)),
-        MemberValue::Number(number) => Ok(Value::from(number)),
-        MemberValue::Quality(quality) => quality_value(alloc, quality),
-        MemberValue::Clock(clock) => identity_value(alloc, clock),
-        MemberValue::Port(port) => port_value(alloc, port),
-        MemberValue::State(state) => text_value(alloc, state_name(state)),
-        MemberValue::Mechanism(mechanism) => text_value(alloc, mechanism_name(mechanism)),
-        MemberValue::Text(text) => text_value(alloc, text),
-    }
-}
-
-pub(crate) fn text_value(alloc: Global, text: &str) -> Result<Value, AllocError> {
-    Ok(Value::String(String::from_str(alloc, text)?))
-}
-
-pub(crate) fn identity_value(alloc: Global, clock: ClockIdentity) -> Result<Value, AllocError> {
-    Ok(Value::String(format!(in alloc; "{clock}")?))
-}
-
-pub(crate) fn port_value(alloc: Global, port: PortIdentity) -> Result<Value, AllocError> {
-    let identity = identity_value(alloc, port.clock)?;
-    json!(in alloc; {"clockIdentity": identity, "portNumber": port.port})
-}
-
-/// A ClockQuality, as an object (5.3.7).
-pub(crate) fn quality_value(alloc: Global, quality: ClockQuality) -> Result<Value, AllocError> {
-    json!(in alloc; {
-        "clockClass": quality.class,
-        "clockAccuracy": quality.accuracy,
-        "offsetScaledLogVariance": quality.variance
-    })
+    Ok(())
 }

@@ -6,7 +6,7 @@ mod asked_domains;
 mod columns;
 mod drawing;
 mod escaped;
-mod finding_fields;
+mod fields;
 mod finding_json;
 mod finding_lines;
 mod finding_report;
