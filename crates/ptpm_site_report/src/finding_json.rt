@@ -1,29 +1,30 @@
 //! A finding as a JSON object.
 
-use crate::fields::{
-    Datum, Field, Members, datum_entry, entry, member_field, number_or_null, port_field,
-};
 use crate::kinds::severity_of;
 use crate::look::Look;
+use crate::members::{Members, identity_value, text_value};
 use crate::phrases::{Phrase, clock_of, clock_of_cause};
 use crate::remarks::Remark;
-use crate::seconds::whole_seconds;
+use crate::seconds::{NanosecondSeconds, whole_seconds};
 use ptpm_causes::Cause;
 use ptpm_codec::ClockIdentity;
 use ptpm_data::PortState;
 use ptpm_site::announcing::Seldom;
 use ptpm_site::changes::Change;
+use ptpm_site::completeness::Missing;
 use ptpm_site::differences::Differs;
 use ptpm_site::expected::{OtherLeaders, Outside, Unmet};
 use ptpm_site::finding::What;
+use ptpm_site::grandmaster_changes::GrandmasterChange;
 use ptpm_site::grandmasters::Masterless;
 use ptpm_site::heard::kind_name;
-use ptpm_site::leading::Better;
-use ptpm_site::member::Value::{Clock, Flag, Number, Port, Quality, State, Text};
-use ptpm_site::parents::NoMaster;
+use ptpm_site::leading::{Better, Untraceable};
+use ptpm_site::member::Value::{Flag, Port, Quality, State};
+use ptpm_site::parents::{NoMaster, Steps};
 use ptpm_site::tai_and_utc::OffByUtc;
+use ptpm_site::two_addresses::TwoAddresses;
 use ptpm_site::unseen::Absence;
-use serde_json::Value;
+use serde_json::{Value, json};
 use std::alloc::{AllocError, Global};
 
 /// A finding: its clock, its name, from which other it follows, and its values.
@@ -34,39 +35,34 @@ pub(crate) fn finding_value(
 ) -> Result<Value, AllocError> {
     let mut members = Members::none(alloc);
     members.put_value("because", cause_value(alloc, remark.cause)?)?;
-    put_any(&mut members, look, remark)?;
+    put_place(&mut members, look, remark)?;
+    members.put_text("finding", remark.named.kind.name())?;
+    members.put_text("severity", severity_of(remark.named.kind))?;
     put_values(&mut members, &remark.finding.what)?;
     Ok(members.object())
 }
 
-/// Puts what each finding has: the domain, the clock, the name, how bad it is, and the clock's description if it answered one.
-fn put_any(
+/// Puts the domain, the clock, and its description if it answered one.
+fn put_place(
     members: &mut Members,
     look: &Look<'_, '_>,
     remark: &Remark<'_>,
 ) -> Result<(), AllocError> {
-    let (domain, kind) = (remark.source().domain, remark.named.kind);
-    members.put(&[
-        entry("domainNumber", Number(domain.number() as i64)),
-        entry("sdoId", Number(domain.sdo() as i64)),
-        clock_field(clock_of(remark.finding)),
-        entry("finding", Text(kind.name())),
-        entry("severity", Text(severity_of(kind))),
-    ])?;
-    match look.picture.site.descriptions(remark.source()).last() {
-        Some(received) => {
-            let text = Text(received.set.text.as_str());
-            members.put(&[entry("userDescription", text)])
-        }
+    let source = remark.source();
+    members.put_number("domainNumber", source.domain.number() as i64)?;
+    members.put_number("sdoId", source.domain.sdo() as i64)?;
+    put_clock(members, clock_of(remark.finding))?;
+    match look.picture.site.descriptions(source).last() {
+        Some(received) => members.put_text("userDescription", received.set.text.as_str()),
         None => Ok(()),
     }
 }
 
-/// The identity of a clock, or a dash for a whole domain.
-fn clock_field<'a>(clock: Option<ClockIdentity>) -> Field<'a> {
+/// Puts the identity of a clock, or a dash for a whole domain.
+fn put_clock(members: &mut Members, clock: Option<ClockIdentity>) -> Result<(), AllocError> {
     match clock {
-        Some(clock) => entry("clockIdentity", Clock(clock)),
-        None => entry("clockIdentity", Text("-")),
+        Some(clock) => members.put_clock("clockIdentity", clock),
+        None => members.put_text("clockIdentity", "-"),
     }
 }
 
@@ -76,8 +72,8 @@ fn cause_value(alloc: Global, cause: Option<Cause>) -> Result<Value, AllocError>
         return Ok(Value::Null);
     };
     let mut members = Members::none(alloc);
-    let name = entry("finding", Text(cause.kind.name()));
-    members.put(&[clock_field(clock_of_cause(cause)), name])?;
+    put_clock(&mut members, clock_of_cause(cause))?;
+    members.put_text("finding", cause.kind.name())?;
     Ok(members.object())
 }
 
@@ -89,96 +85,98 @@ fn put_values(members: &mut Members, what: &What<'_>) -> Result<(), AllocError> 
         | What::Gone
         | What::Unseen(Absence::OwnHost)
         | What::TwoGrandmasters => Ok(()),
-        What::NotAsExpected(unmet) => put_unmet(members, *unmet),
+        What::NotAsExpected(unmet) => put_unmet(members, unmet),
         What::OtherLeaders(other) => put_other_leaders(members, other),
         What::Profile(outside) => put_outside(members, outside),
-        What::Unseen(Absence::Mute(kind)) => {
-            members.put(&[entry("message", Text(kind_name(*kind)))])
-        }
-        What::NotAsked(clocks) => members.put(&[count_field(*clocks)]),
+        What::Unseen(Absence::Mute(kind)) => members.put_text("message", kind_name(*kind)),
+        What::NotAsked(clocks) => members.put_value("clocks", Value::from(*clocks)),
         What::NoMaster(why) => put_masterless(members, why),
-        What::GrandmasterNotSeen(clock) => {
-            members.put(&[entry("grandmasterIdentity", Clock(*clock))])
-        }
-        What::ParentNotSeen(parent) => {
-            members.put(&[entry("parentPortIdentity", Port(*parent))])
-        }
+        What::GrandmasterNotSeen(clock) => members.put_clock("grandmasterIdentity", *clock),
+        What::ParentNotSeen(parent) => members.put("parentPortIdentity", Port(*parent)),
         What::ParentNotMaster(parent, why) => {
-            let parent = entry("parentPortIdentity", Port(*parent));
-            members.put(&[parent, state_field(why)])
+            members.put("parentPortIdentity", Port(*parent))?;
+            match why {
+                NoMaster::NoPort => members.put_value("portState", Value::Null),
+                NoMaster::InState(state) => members.put("portState", State(*state)),
+            }
         }
-        What::Steps(steps) => {
-            let own = entry("stepsRemoved", Number(steps.steps as i64));
-            let parent = number_or_null("parentStepsRemoved", widened(steps.parent));
-            members.put(&[own, parent])
-        }
+        What::Steps(steps) => put_steps(members, steps),
         What::GrandmasterDiffers(differs) | What::Utc(differs) => put_differs(members, differs),
-        What::Loop(clocks) => {
-            let clocks = datum_entry("clocks", Datum::Clocks(clocks.as_slice()));
-            members.put(&[clocks])
-        }
+        What::Loop(clocks) => put_clocks(members, clocks.as_slice()),
         What::PortState(port, stay) => put_state(members, *port, stay.state, stay.time),
         What::NotLocked(port, unlocked) => {
-            members.put(&[number_or_null("offsetFromMaster", unlocked.offset)])?;
+            members.put_if_any("offsetFromMaster", unlocked.offset)?;
             put_state(members, *port, PortState::Uncalibrated, unlocked.time)
         }
         What::OffByUtc(how) => put_off_by_utc(members, how),
-        What::Offset(offset) => { members.put(&[entry("offsetFromMaster", Number(*offset))]) }
-        What::Delay(delay) => members.put(&[entry("meanDelay", Number(*delay))]),
+        What::Offset(offset) => members.put_number("offsetFromMaster", *offset),
+        What::Delay(delay) => members.put_number("meanDelay", *delay),
         What::LinkDelay(port, delay) => {
-            let delay = entry("meanLinkDelay", Number(*delay));
-            members.put(&[port_field(*port), delay])
+            members.put_number("portNumber", *port as i64)?;
+            members.put_number("meanLinkDelay", *delay)
         }
         What::Intervals(port, differs) => {
-            members.put(&[port_field(*port)])?;
+            members.put_number("portNumber", *port as i64)?;
             put_differs(members, differs)
         }
         What::Announces(port, seldom) => put_seldom(members, *port, seldom),
-        What::Degraded(degraded) => {
-            members.put(&[entry("clockQuality", Quality(degraded.quality))])
-        }
-        What::NotTraceable(untraceable) => {
-            let class = entry("clockClass", Number(untraceable.class as i64));
-            let time = entry("timeTraceable", Flag(untraceable.time));
-            let frequency = entry("frequencyTraceable", Flag(untraceable.frequency));
-            members.put(&[class, time, frequency])
-        }
+        What::Degraded(degraded) => members.put("clockQuality", Quality(degraded.quality)),
+        What::NotTraceable(untraceable) => put_untraceable(members, untraceable),
         What::UtcInvalid(offset) => {
-            let offset = entry("currentUtcOffset", Number(*offset as i64));
-            members.put(&[offset, entry("currentUtcOffsetValid", Flag(false))])
+            members.put_number("currentUtcOffset", *offset as i64)?;
+            members.put("currentUtcOffsetValid", Flag(false))
         }
         What::UtcOffset(offset) => {
-            let said = entry("currentUtcOffset", Number(offset.said as i64));
-            members.put(&[said, entry("expected", Number(offset.is as i64))])
+            members.put_number("currentUtcOffset", offset.said as i64)?;
+            members.put_number("expected", offset.is as i64)
         }
         What::Leap(leap) => {
-            let leap61 = entry("leap61", Flag(leap.leap61));
-            members.put(&[leap61, entry("leap59", Flag(leap.leap59))])
+            members.put("leap61", Flag(leap.leap61))?;
+            members.put("leap59", Flag(leap.leap59))
         }
         What::BetterClock(better) => put_better(members, better),
-        What::Incomplete(missing) => {
-            let ids = datum_entry("managementIds", Datum::Ids(missing.asked.as_slice()));
-            let ports = datum_entry("portNumbers", Datum::Runs(missing.ports.as_slice()));
-            members.put(&[ids, ports])
-        }
-        What::OutOfReach(hops) => { members.put(&[entry("boundaryHops", Number(*hops as i64))]) }
-        What::GrandmasterChanged(change) => {
-            let before = entry("before", Clock(change.before));
-            let after = entry("after", Clock(change.after));
-            members.put(&[before, after, count_field(change.clocks)])
-        }
+        What::Incomplete(missing) => put_missing(members, missing),
+        What::OutOfReach(hops) => members.put_number("boundaryHops", *hops as i64),
+        What::GrandmasterChanged(change) => put_grandmaster_change(members, change),
         What::Changed(port, change) | What::IdentityTwice(port, change) => {
             put_change(members, *port, change)
         }
-        What::TwoAddresses(two) => {
-            let texts = Datum::Texts(two.first.text, two.second.text);
-            members.put(&[datum_entry("addresses", texts)])
-        }
+        What::TwoAddresses(two) => put_addresses(members, two),
         What::TwoOffsets(offsets) => {
-            let both = Datum::Numbers(offsets.first, offsets.second);
-            members.put(&[datum_entry("offsets", both)])
+            let both = json!(in members.alloc; [offsets.first, offsets.second])?;
+            members.put_value("offsets", both)
         }
     }
+}
+
+/// The member, its value or null if it was not answered, and what is wanted, as texts.
+fn put_unmet(members: &mut Members, unmet: &Unmet<'_>) -> Result<(), AllocError> {
+    let (member, value, wanted) = (unmet.member, unmet.value, unmet.wanted);
+    members.put_words("member", &Phrase::Member(unmet.port, member))?;
+    match value {
+        Some(_) => members.put_words("value", &Phrase::Said(member, value, wanted))?,
+        None => members.put_value("value", Value::Null)?,
+    }
+    members.put_words("expected", &Phrase::Wanted(member, wanted))
+}
+
+/// The clocks that lead, or null if none does, and those that are wanted, as texts.
+fn put_other_leaders(members: &mut Members, other: &OtherLeaders<'_>) -> Result<(), AllocError> {
+    members.put_text("member", "grandmaster")?;
+    if other.leading.is_empty() {
+        members.put_value("value", Value::Null)?;
+    } else {
+        members.put_words("value", &Phrase::Clocks(other.leading.as_slice()))?;
+    }
+    members.put_words("expected", &Phrase::Choices(other.wanted))
+}
+
+/// The port or null, the member, its value, and what is allowed.
+fn put_outside(members: &mut Members, outside: &Outside) -> Result<(), AllocError> {
+    members.put_if_any("portNumber", widened(outside.port))?;
+    members.put_text("member", outside.member.name())?;
+    members.put("value", outside.value)?;
+    members.put_words("expected", &Phrase::Allowed(outside.allowed))
 }
 
 fn widened(number: Option<u16>) -> Option<i64> {
@@ -188,80 +186,35 @@ fn widened(number: Option<u16>) -> Option<i64> {
     }
 }
 
-/// How many clocks.
-fn count_field<'a>(clocks: usize) -> Field<'a> {
-    datum_entry("clocks", Datum::Count(clocks as u64))
-}
-
-/// The state of a port that gives no time, or null if the clock lacks it.
-fn state_field<'a>(why: &NoMaster) -> Field<'a> {
+fn put_masterless(members: &mut Members, why: &Masterless) -> Result<(), AllocError> {
     match why {
-        NoMaster::NoPort => datum_entry("portState", Datum::Null),
-        NoMaster::InState(state) => entry("portState", State(*state)),
+        Masterless::SlaveOnly => members.put_text("reason", "slaveOnly"),
+        Masterless::Silent => members.put_text("reason", "ownGrandmaster"),
+        Masterless::Lost(grandmaster) => {
+            members.put_clock("grandmasterIdentity", *grandmaster)?;
+            members.put_text("reason", "lost")
+        }
     }
 }
 
-/// The member, its value or null if it was not answered, and what is wanted.
-fn put_unmet(members: &mut Members, unmet: Unmet<'_>) -> Result<(), AllocError> {
-    let (member, wanted) = (unmet.member, unmet.wanted);
-    let said = match unmet.value {
-        Some(_) => Datum::Words(Phrase::Said(member, unmet.value, wanted)),
-        None => Datum::Null,
-    };
-    let fields = [
-        datum_entry("member", Datum::Words(Phrase::Member(unmet.port, member))),
-        datum_entry("value", said),
-        datum_entry("expected", Datum::Words(Phrase::Wanted(member, wanted))),
-    ];
-    members.put(&fields)
-}
-
-/// The clocks that lead, or null if none does, and those that are wanted.
-fn put_other_leaders(members: &mut Members, other: &OtherLeaders<'_>) -> Result<(), AllocError> {
-    let leading = if other.leading.is_empty() {
-        Datum::Null
-    } else {
-        Datum::Words(Phrase::Clocks(other.leading.as_slice()))
-    };
-    let wanted = Datum::Words(Phrase::Choices(other.wanted));
-    members.put(&[entry("member", Text("grandmaster"))])?;
-    members.put(&[datum_entry("value", leading)])?;
-    members.put(&[datum_entry("expected", wanted)])
-}
-
-/// The port or null, the member, its value, and what is allowed.
-fn put_outside(members: &mut Members, outside: &Outside) -> Result<(), AllocError> {
-    let allowed = Datum::Words(Phrase::Allowed(outside.allowed));
-    let fields = [
-        number_or_null("portNumber", widened(outside.port)),
-        member_field(outside.member),
-        entry("value", outside.value),
-        datum_entry("expected", allowed),
-    ];
-    members.put(&fields)
-}
-
-fn put_masterless(members: &mut Members, why: &Masterless) -> Result<(), AllocError> {
-    let reason = match why {
-        Masterless::SlaveOnly => "slaveOnly",
-        Masterless::Silent => "ownGrandmaster",
-        Masterless::Lost(grandmaster) => {
-            let identity = entry("grandmasterIdentity", Clock(*grandmaster));
-            members.put(&[identity])?;
-            "lost"
-        }
-    };
-    members.put(&[entry("reason", Text(reason))])
+fn put_steps(members: &mut Members, steps: &Steps) -> Result<(), AllocError> {
+    members.put_number("stepsRemoved", steps.steps as i64)?;
+    members.put_if_any("parentStepsRemoved", widened(steps.parent))
 }
 
 /// The member, its value, and what the other clock has.
 fn put_differs(members: &mut Members, differs: &Differs) -> Result<(), AllocError> {
-    let fields = [
-        member_field(differs.member),
-        entry("value", differs.own),
-        entry("expected", differs.other),
-    ];
-    members.put(&fields)
+    members.put_text("member", differs.member.name())?;
+    members.put("value", differs.own)?;
+    members.put("expected", differs.other)
+}
+
+fn put_clocks(members: &mut Members, clocks: &[ClockIdentity]) -> Result<(), AllocError> {
+    let mut values = Vec::new(members.alloc);
+    for clock in clocks {
+        values.push(identity_value(members.alloc, *clock)?)?;
+    }
+    members.put_value("clocks", Value::Array(values))
 }
 
 /// The state of a port, and for how many whole seconds it is known to be in it or in another on its way.
@@ -271,51 +224,90 @@ fn put_state(
     state: PortState,
     time: Option<u64>,
 ) -> Result<(), AllocError> {
+    members.put_number("portNumber", port as i64)?;
+    members.put("portState", State(Some(state)))?;
     let seconds = match time {
-        Some(time) => Datum::Count(whole_seconds(time)),
-        None => Datum::Null,
+        Some(time) => Value::from(whole_seconds(time)),
+        None => Value::Null,
     };
-    let state = entry("portState", State(Some(state)));
-    members.put(&[port_field(port), state, datum_entry("seconds", seconds)])
+    members.put_value("seconds", seconds)
 }
 
+/// Times are texts of seconds.
 fn put_off_by_utc(members: &mut Members, how: &OffByUtc) -> Result<(), AllocError> {
     match how {
         OffByUtc::Offset(offset) => {
-            let offset = entry("offsetFromMaster", Number(*offset));
-            members.put(&[offset, entry("reason", Text("offset"))])
+            members.put_number("offsetFromMaster", *offset)?;
+            members.put_text("reason", "offset")
         }
         OffByUtc::Followers(count) => {
-            let reason = entry("reason", Text("followers"));
-            members.put(&[count_field(*count), reason])
+            members.put_value("clocks", Value::from(*count))?;
+            members.put_text("reason", "followers")
         }
         OffByUtc::Origin(origin) => {
-            let time = datum_entry("origin", Datum::Time(origin.time));
-            let at = datum_entry("at", Datum::Time(origin.at));
-            members.put(&[time, at, entry("reason", Text("origin"))])
+            members.put_words("origin", &NanosecondSeconds(origin.time))?;
+            members.put_words("at", &NanosecondSeconds(origin.at))?;
+            members.put_text("reason", "origin")
         }
     }
 }
 
 /// What the port says of its intervals, and the interval of the port that it follows, in seconds.
 fn put_seldom(members: &mut Members, port: u16, seldom: &Seldom) -> Result<(), AllocError> {
-    let fields = [
-        port_field(port),
-        entry("logAnnounceInterval", Number(seldom.log_announce as i64)),
-        entry("announceReceiptTimeout", Number(seldom.timeout as i64)),
-        datum_entry("parentSeconds", Datum::Power(seldom.parent_log)),
-    ];
-    members.put(&fields)
+    members.put_number("portNumber", port as i64)?;
+    members.put_number("logAnnounceInterval", seldom.log_announce as i64)?;
+    members.put_number("announceReceiptTimeout", seldom.timeout as i64)?;
+    members.put_value("parentSeconds", seconds_value(seldom.parent_log))
+}
+
+/// Two to a logarithm.
+fn seconds_value(log: i8) -> Value {
+    if 0 <= log && log < 63 {
+        return Value::from(1u64 << log as u32);
+    }
+    let factor = if log < 0 { 0.5 } else { 2.0 };
+    let mut seconds = 1.0;
+    for _ in 0..log.unsigned_abs() {
+        seconds *= factor;
+    }
+    Value::from(seconds)
+}
+
+fn put_untraceable(members: &mut Members, untraceable: &Untraceable) -> Result<(), AllocError> {
+    members.put_number("clockClass", untraceable.class as i64)?;
+    members.put("timeTraceable", Flag(untraceable.time))?;
+    members.put("frequencyTraceable", Flag(untraceable.frequency))
 }
 
 /// The clock of a better class, with what it says of itself.
 fn put_better(members: &mut Members, better: &Better) -> Result<(), AllocError> {
-    let fields = [
-        entry("better", Clock(better.clock)),
-        entry("clockQuality", Quality(better.quality)),
-        entry("priority1", Number(better.priority1 as i64)),
-    ];
-    members.put(&fields)
+    members.put_clock("better", better.clock)?;
+    members.put("clockQuality", Quality(better.quality))?;
+    members.put_number("priority1", better.priority1 as i64)
+}
+
+/// The ids, and the ports as runs: the first and the last of each.
+fn put_missing(members: &mut Members, missing: &Missing) -> Result<(), AllocError> {
+    let alloc = members.alloc;
+    let mut ids = Vec::new(alloc);
+    for asked in missing.asked.as_slice() {
+        ids.push(text_value(alloc, asked.name())?)?;
+    }
+    let mut ports = Vec::new(alloc);
+    for (first, last) in missing.ports.as_slice() {
+        ports.push(json!(in alloc; [*first, *last])?)?;
+    }
+    members.put_value("managementIds", Value::Array(ids))?;
+    members.put_value("portNumbers", Value::Array(ports))
+}
+
+fn put_grandmaster_change(
+    members: &mut Members,
+    change: &GrandmasterChange,
+) -> Result<(), AllocError> {
+    members.put_clock("before", change.before)?;
+    members.put_clock("after", change.after)?;
+    members.put_value("clocks", Value::from(change.clocks))
 }
 
 /// The port if there is one, the member, the value of the earlier answer, and that of the later.
@@ -325,12 +317,16 @@ fn put_change(
     change: &Change<'_>,
 ) -> Result<(), AllocError> {
     if let Some(port) = port {
-        members.put(&[port_field(port)])?;
+        members.put_number("portNumber", port as i64)?;
     }
-    let fields = [
-        member_field(change.member),
-        entry("before", change.before),
-        entry("after", change.after),
-    ];
-    members.put(&fields)
+    members.put_text("member", change.member.name())?;
+    members.put("before", change.before)?;
+    members.put("after", change.after)
+}
+
+fn put_addresses(members: &mut Members, two: &TwoAddresses<'_>) -> Result<(), AllocError> {
+    let mut texts = Vec::new(members.alloc);
+    texts.push(text_value(members.alloc, two.first.text)?)?;
+    texts.push(text_value(members.alloc, two.second.text)?)?;
+    members.put_value("addresses", Value::Array(texts))
 }

@@ -139,7 +139,7 @@ pub(crate) fn alike_together(
 }
 
 /// The finding of a line that has one alone.
-fn remark_of<'a, 'b>(remarks: &'b [Remark<'a>], line: &FindingLine) -> Option<&'b Remark<'a>> {
+fn remark_of<'a>(remarks: &'a [Remark<'a>], line: &FindingLine) -> Option<&'a Remark<'a>> {
     match line {
         FindingLine::One { place, .. } => remarks.get(*place),
         _ => None,

@@ -1,9 +1,9 @@
 //! A site as one JSON object, by the standard's names.
 
 use crate::asked_domains::AskedDomain;
-use crate::fields::{Members, entry};
 use crate::finding_json::finding_value;
 use crate::look::Look;
+use crate::members::Members;
 use crate::names::Names;
 use crate::remarks::Remark;
 use crate::span::Span;
@@ -132,12 +132,10 @@ fn grandmaster_value(
         put_set(&mut members, &time)?;
     }
     if let Some(default) = look.picture.site.default(source) {
-        members.put(&[entry("clockQuality", MemberValue::Quality(default.quality))])?;
+        members.put("clockQuality", MemberValue::Quality(default.quality))?;
     }
-    members.put(&[
-        entry("clockIdentity", MemberValue::Clock(source.clock)),
-        entry("heard", MemberValue::Text("answer")),
-    ])?;
+    members.put_clock("clockIdentity", source.clock)?;
+    members.put_text("heard", "answer")?;
     Ok(members.object())
 }
 
@@ -173,9 +171,9 @@ fn clock_value(
     names: &Names,
 ) -> Result<Value, AllocError> {
     let mut members = Members::none(alloc);
-    members.put(&[entry("clockIdentity", MemberValue::Clock(source.clock))])?;
+    members.put_clock("clockIdentity", source.clock)?;
     if let Some(name) = names.get(source.clock) {
-        members.put(&[entry("name", MemberValue::Text(name))])?;
+        members.put_text("name", name)?;
     }
     put_last(
         alloc,
@@ -210,7 +208,7 @@ fn ports_value(alloc: Global, identity: ClockIdentity, clock: &Clock) -> Result<
                 clock: identity,
                 port: *number,
             };
-            members.put(&[entry("portIdentity", MemberValue::Port(port))])?;
+            members.put("portIdentity", MemberValue::Port(port))?;
             ports.push(members.object())?;
         }
     }
@@ -238,7 +236,7 @@ fn put_last<T: DataSet>(
 fn put_set<T: DataSet>(members: &mut Members, set: &T) -> Result<(), AllocError> {
     for member in T::members() {
         if let Some(value) = set.value(*member) {
-            members.put(&[entry(member.name(), value)])?;
+            members.put(member.name(), value)?;
         }
     }
     Ok(())

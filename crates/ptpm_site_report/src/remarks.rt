@@ -112,7 +112,7 @@ impl fmt::Display for Remark<'_> {
 }
 
 /// Those of a clock. They are in the order of their clocks.
-pub(crate) fn remarks_at<'a, 'b>(remarks: &'b [Remark<'a>], source: Source) -> &'b [Remark<'a>] {
+pub(crate) fn remarks_at<'a>(remarks: &'a [Remark<'a>], source: Source) -> &'a [Remark<'a>] {
     let from = remarks.partition_point(|remark| remark.source() < source);
     let to = remarks.partition_point(|remark| remark.source() <= source);
     remarks.get(from..to).unwrap_or(&[])
