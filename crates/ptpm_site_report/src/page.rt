@@ -148,29 +148,42 @@ fn print_found_row<O: Write>(
     remark: &Remark<'_>,
     out: &mut O,
 ) -> Result<(), Fault> {
-    let (domain, severity) = (remark.source().domain, class_of(remark));
+    let name = called(alloc, look, remark.source())?;
+    let words = format!(in alloc; "{}", Said(remark))?;
+    print_cells(remark, name.as_str(), words.as_str(), out)?;
+    Ok(())
+}
+
+fn print_cells<O: Write>(
+    remark: &Remark<'_>,
+    name: &str,
+    words: &str,
+    out: &mut O,
+) -> io::Result<()> {
+    let (severity, meaning) = (class_of(remark), meaning_of(remark.named.kind));
+    let domain = remark.source().domain;
     write!(
         out,
         "<tr><td class=\"{severity}\">{severity}</td><td>{domain}</td>"
     )?;
-    match clock_of(remark.finding) {
-        Some(clock) => {
-            let name = called(alloc, look, remark.source())?;
-            let name = Escaped(name.as_str());
-            write!(
-                out,
-                "<td><a href=\"#d{domain}-{clock}\">{name}</a> <span class=\"id faint\">{clock}</span></td>"
-            )?;
-        }
-        None => write!(out, "<td>-</td>")?,
-    }
-    let words = format!(in alloc; "{}", Said(remark))?;
-    let (meaning, words) = (meaning_of(remark.named.kind), Escaped(words.as_str()));
+    print_link(remark, name, out)?;
     writeln!(
         out,
-        "<td>{meaning}</td><td class=\"faint\">{words}</td></tr>"
-    )?;
-    Ok(())
+        "<td>{meaning}</td><td class=\"faint\">{}</td></tr>",
+        Escaped(words)
+    )
+}
+
+/// Prints the column of a finding's clock.
+fn print_link<O: Write>(remark: &Remark<'_>, name: &str, out: &mut O) -> io::Result<()> {
+    let (domain, name) = (remark.source().domain, Escaped(name));
+    match clock_of(remark.finding) {
+        Some(clock) => write!(
+            out,
+            "<td><a href=\"#d{domain}-{clock}\">{name}</a> <span class=\"id faint\">{clock}</span></td>"
+        ),
+        None => write!(out, "<td>-</td>"),
+    }
 }
 
 /// What a person calls a clock; a dash if there is nothing.
