@@ -2,6 +2,7 @@
 
 use crate::span::Span;
 use crate::utc_text::UtcText;
+use ptpm_site::domain::Domain;
 use ptpm_site::heard::{Heard, Query};
 use std::alloc::{AllocError, Global};
 use std::fmt;
@@ -9,7 +10,7 @@ use std::fmt;
 /// A domain in which a GET asks.
 #[derive(Clone, Copy)]
 pub(crate) struct AskedDomain {
-    pub(crate) domain: u8,
+    pub(crate) domain: Domain,
     /// The most of startingBoundaryHops of its GETs.
     pub(crate) hops: u8,
 }
@@ -64,53 +65,37 @@ impl fmt::Display for AskedText<'_> {
     }
 }
 
-/// Writes the domains, those one after another as the first and the last of them.
+/// Writes the domains. Those one after another, of sdoId 0, are written as the first and the last of them.
 fn write_domains<W: fmt::Write>(asked: &[AskedDomain], f: &mut fmt::Formatter<W>) -> fmt::Result {
-    let mut before: Option<Run> = None;
     let mut between = "domain ";
-    for one in asked {
-        let next = Run {
-            first: one.domain,
-            last: one.domain,
-        };
-        before = match before {
-            Some(run) if run.goes_on(next) => Some(Run {
-                first: run.first,
-                last: next.last,
-            }),
-            Some(run) => {
-                run.write(between, f)?;
-                between = ", ";
-                Some(next)
-            }
-            None => Some(next),
-        };
-    }
-    match before {
-        Some(run) => run.write(between, f),
-        None => Ok(()),
-    }
-}
-
-/// Domains one after another.
-#[derive(Clone, Copy)]
-struct Run {
-    first: u8,
-    last: u8,
-}
-
-impl Run {
-    fn goes_on(self, next: Run) -> bool {
-        self.last.checked_add(1) == Some(next.first)
-    }
-
-    fn write<W: fmt::Write>(self, between: &str, f: &mut fmt::Formatter<W>) -> fmt::Result {
-        let Run { first, last } = self;
-        if first == last {
-            write!(f, "{between}{first}")
-        } else {
-            write!(f, "{between}{first}-{last}")
+    let mut before = None;
+    for (place, one) in asked.iter().enumerate() {
+        let domain = one.domain;
+        if !goes_on(before, Some(domain)) {
+            write!(f, "{between}{domain}")?;
+            between = ", ";
+        } else if !goes_on(Some(domain), domain_at(asked, place.saturating_add(1))) {
+            write!(f, "-{domain}")?;
         }
+        before = Some(domain);
+    }
+    Ok(())
+}
+
+fn domain_at(asked: &[AskedDomain], place: usize) -> Option<Domain> {
+    match asked.get(place) {
+        Some(one) => Some(one.domain),
+        None => None,
+    }
+}
+
+/// Whether a domain is the next after another, both of sdoId 0.
+fn goes_on(before: Option<Domain>, domain: Option<Domain>) -> bool {
+    match (before, domain) {
+        (Some(before), Some(domain)) if before.sdo() == 0 && domain.sdo() == 0 => {
+            before.number().checked_add(1) == Some(domain.number())
+        }
+        _ => false,
     }
 }
 

@@ -1,6 +1,7 @@
 //! The columns of a clock's line.
 
 use crate::intervals::Whole;
+use ptpm_codec::ClockIdentity;
 use ptpm_site::clock::Clock;
 use ptpm_site::port_groups::PortGroup;
 use std::alloc::{AllocError, Global};
@@ -16,10 +17,10 @@ pub(crate) struct Columns {
     /// Or the name that an operator gave the clock. In quotes, with each character that is not printable escaped. `-` if there is
     /// neither.
     pub(crate) description: String,
-    steps: String,
+    pub(crate) steps: String,
     /// `-` if no port is in SLAVE, since the value is then of an earlier time.
-    offset: String,
-    delay: String,
+    pub(crate) offset: String,
+    pub(crate) delay: String,
 }
 
 /// How many characters the widest of each column has.
@@ -88,50 +89,31 @@ impl Columns {
         })
     }
 
-    /// Prints the columns after an identity that begins this many characters from the left.
+    /// Prints an identity that begins this many characters from the left, and the columns after it. Numbers are at the right.
     pub(crate) fn print<O: Write>(
         &self,
+        identity: ClockIdentity,
         indent: usize,
         widths: &Widths,
         out: &mut O,
     ) -> io::Result<()> {
-        print_spaces(widths.indent.saturating_sub(indent), out)?;
-        print_left(self.description.as_str(), widths.description, out)?;
-        print_right(self.steps.as_str(), widths.steps, out)?;
-        print_right(self.offset.as_str(), widths.offset, out)?;
-        print_right(self.delay.as_str(), widths.delay, out)
+        let gap = widths.indent.saturating_sub(indent);
+        let (description, steps) = (self.description.as_str(), self.steps.as_str());
+        let (offset, delay) = (self.offset.as_str(), self.delay.as_str());
+        let (wide, of_steps) = (widths.description, widths.steps);
+        let (of_offset, of_delay) = (widths.offset, widths.delay);
+        write!(
+            out,
+            "{:indent$}{identity}{:gap$}  {description:wide$}  {steps:>of_steps$}  {offset:>of_offset$}  {delay:>of_delay$}",
+            "", ""
+        )
     }
 }
 
 /// All except the description, in words.
 impl fmt::Display for Columns {
     fn fmt<W: fmt::Write>(&self, f: &mut fmt::Formatter<W>) -> fmt::Result {
-        write!(f, "steps {}, offset {}", self.steps, self.offset)?;
-        write!(f, ", mean delay {}", self.delay)
+        let (steps, offset, delay) = (&self.steps, &self.offset, &self.delay);
+        write!(f, "steps {steps}, offset {offset}, mean delay {delay}")
     }
-}
-
-/// Spaces that are printed at once.
-const SPACES: &str = "                                ";
-
-/// Prints this many spaces.
-pub(crate) fn print_spaces<O: Write>(count: usize, out: &mut O) -> io::Result<()> {
-    for _ in 0..count / SPACES.len() {
-        write!(out, "{SPACES}")?;
-    }
-    let rest = SPACES.get(..count % SPACES.len()).unwrap_or("");
-    write!(out, "{rest}")
-}
-
-/// Prints text at the left of a column.
-fn print_left<O: Write>(text: &str, width: usize, out: &mut O) -> io::Result<()> {
-    write!(out, "  {text}")?;
-    print_spaces(width.saturating_sub(text.chars().count()), out)
-}
-
-/// Prints text, which is ASCII, at the right of a column.
-fn print_right<O: Write>(text: &str, width: usize, out: &mut O) -> io::Result<()> {
-    write!(out, "  ")?;
-    print_spaces(width.saturating_sub(text.len()), out)?;
-    write!(out, "{text}")
 }

@@ -33,36 +33,24 @@ const STEP: usize = 32;
 /// How far the line to the rows below is from the left of a box.
 const STEM: usize = 12;
 
-/// The colours of what is wrong, of what follows from it, and of what is open.
-const WRONG: &str = "#b42318";
+/// How a remark looks: its colour, what is in the sign before its words, and what is read aloud there.
+#[derive(Clone, Copy)]
+struct Manner {
+    colour: &'static str,
+    sign: &'static str,
+    aloud: &'static str,
+}
 
-const FOLLOWS: &str = "#57606a";
-
-const OPEN: &str = "#8a5300";
-
-impl Weight {
-    fn colour(self) -> &'static str {
-        match self {
-            Weight::Wrong => WRONG,
-            Weight::Follows => FOLLOWS,
-            Weight::Open => OPEN,
-        }
-    }
-
-    /// What is in the sign before the words.
-    fn sign(self) -> &'static str {
-        match self {
-            Weight::Wrong | Weight::Follows => "!",
-            Weight::Open => "?",
-        }
-    }
-
-    /// What is read aloud before the words.
-    fn aloud(self) -> &'static str {
-        match self {
-            Weight::Wrong | Weight::Follows => "wrong",
-            Weight::Open => "open",
-        }
+fn manner_of(weight: Weight) -> Manner {
+    let (colour, sign, aloud) = match weight {
+        Weight::Wrong => ("#b42318", "!", "wrong"),
+        Weight::Follows => ("#57606a", "!", "wrong"),
+        Weight::Open => ("#8a5300", "?", "open"),
+    };
+    Manner {
+        colour,
+        sign,
+        aloud,
     }
 }
 
@@ -123,20 +111,17 @@ fn sizes_of(lines: &[Line]) -> Sizes {
 
 /// Draws a picture.
 pub(crate) fn draw<O: Write>(alloc: Global, look: &Look<'_, '_>, out: &mut O) -> Result<(), Fault> {
-    let lines = lines_of(alloc, look).map_err(|_| Fault::OutOfMemory)?;
-    write_drawing(alloc, lines.as_slice(), out)
-}
-
-/// Writes a picture of these rows.
-fn write_drawing<O: Write>(alloc: Global, lines: &[Line], out: &mut O) -> Result<(), Fault> {
-    let sizes = sizes_of(lines);
-    write_head(sizes, lines, out)?;
+    let lines = lines_of(alloc, look)?;
+    let sizes = sizes_of(lines.as_slice());
+    write_head(sizes, lines.as_slice(), out)?;
     let mut tops: Vec<usize> = Vec::new(alloc);
     let mut top = MARGIN;
-    for line in lines {
+    for line in lines.as_slice() {
         tops.truncate(line.depth);
         write_line(line, top, tops.last().copied(), sizes.facts, out)?;
-        tops.push(top).map_err(|_| Fault::OutOfMemory)?;
+        if tops.push(top).is_err() {
+            return Err(Fault::OutOfMemory);
+        }
         top = top.saturating_add(line.height());
     }
     writeln!(out, "</svg>")?;
@@ -146,28 +131,15 @@ fn write_drawing<O: Write>(alloc: Global, lines: &[Line], out: &mut O) -> Result
 /// Writes what comes before the rows.
 fn write_head<O: Write>(sizes: Sizes, lines: &[Line], out: &mut O) -> io::Result<()> {
     let Sizes { width, height, .. } = sizes;
-    writeln!(out, r#"<?xml version="1.0" encoding="UTF-8"?>"#)?;
-    write!(
-        out,
-        r#"<svg xmlns="http://www.w3.org/2000/svg" version="1.1" width="{width}" height="{height}" "#
-    )?;
-    writeln!(out, r#"viewBox="0 0 {width} {height}""#)?;
-    writeln!(
-        out,
-        r##"font-family="DejaVu Sans Mono, Menlo, Consolas, monospace" font-size="13" fill="#24292f">"##
-    )?;
-    writeln!(
-        out,
-        "<title>Which clock follows which, and what is wrong</title>"
-    )?;
     let findings = count_wrong(lines);
     writeln!(
         out,
-        "<desc>From top to bottom: the clocks of each domain, each below the clock that it follows. Findings: {findings}.</desc>"
-    )?;
-    writeln!(
-        out,
-        r##"<rect width="{width}" height="{height}" fill="#ffffff"/>"##
+        r##"<?xml version="1.0" encoding="UTF-8"?>
+<svg xmlns="http://www.w3.org/2000/svg" version="1.1" width="{width}" height="{height}" viewBox="0 0 {width} {height}"
+font-family="DejaVu Sans Mono, Menlo, Consolas, monospace" font-size="13" fill="#24292f">
+<title>Which clock follows which, and what is wrong</title>
+<desc>From top to bottom: the clocks of each domain, each below the clock that it follows. Findings: {findings}.</desc>
+<rect width="{width}" height="{height}" fill="#ffffff"/>"##
     )
 }
 
@@ -176,7 +148,7 @@ fn count_wrong(lines: &[Line]) -> usize {
     let mut count = 0usize;
     for line in lines {
         for remark in line.remarks.as_slice() {
-            if remark.weight == Weight::Wrong {
+            if matches!(remark.weight, Weight::Wrong) {
                 count = count.saturating_add(1);
             }
         }
@@ -214,13 +186,13 @@ fn write_line<O: Write>(
 
 /// Writes the beginning of a row's group, with its words for whoever has the picture read aloud.
 fn write_aloud<O: Write>(line: &Line, out: &mut O) -> io::Result<()> {
-    write!(out, "<g><title>{}", Escaped(line.name.as_str()))?;
-    write!(out, "{}</title>", Escaped(line.follows.as_str()))?;
+    let (name, follows) = (Escaped(line.name.as_str()), Escaped(line.follows.as_str()));
+    write!(out, "<g><title>{name}{follows}</title>")?;
     if !line.facts.as_str().is_empty() {
         write!(out, "<desc>{}", Escaped(line.facts.as_str()))?;
         for remark in line.remarks.as_slice() {
-            let (aloud, words) = (remark.weight.aloud(), remark.words.as_str());
-            write!(out, "; {aloud}: {}", Escaped(words))?;
+            let (manner, words) = (manner_of(remark.weight), Escaped(remark.words.as_str()));
+            write!(out, "; {}: {words}", manner.aloud)?;
         }
         write!(out, "</desc>")?;
     }
@@ -246,11 +218,10 @@ fn write_box<O: Write>(line: &Line, top: usize, out: &mut O) -> io::Result<()> {
         Frame::Dashed => r#"stroke-width="1" stroke-dasharray="4 3""#,
     };
     let (x, width) = (line.x(), line.width());
-    write!(
+    writeln!(
         out,
-        r#"<rect x="{x}" y="{top}" width="{width}" height="{BOX}" "#
-    )?;
-    writeln!(out, r##"fill="#f6f8fa" stroke="#24292f" {stroke}/>"##)
+        r##"<rect x="{x}" y="{top}" width="{width}" height="{BOX}" fill="#f6f8fa" stroke="#24292f" {stroke}/>"##
+    )
 }
 
 fn write_text<O: Write>(x: usize, y: usize, text: &str, out: &mut O) -> io::Result<()> {
@@ -264,19 +235,13 @@ fn write_remark<O: Write>(
     remark: &DrawnRemark,
     out: &mut O,
 ) -> io::Result<()> {
-    let (colour, sign) = (remark.weight.colour(), remark.weight.sign());
+    let Manner { colour, sign, .. } = manner_of(remark.weight);
     let (middle, start) = (x.saturating_add(7), x.saturating_add(MARGIN + 4));
+    let words = Escaped(remark.words.as_str());
     writeln!(
         out,
-        r#"<path d="M{x} {base}h14l-7 -13z" fill="none" stroke="{colour}" stroke-width="1.5"/>"#
-    )?;
-    writeln!(
-        out,
-        r#"<text x="{middle}" y="{base}" text-anchor="middle" font-size="10" fill="{colour}">{sign}</text>"#
-    )?;
-    writeln!(
-        out,
-        r#"<text x="{start}" y="{base}" fill="{colour}">{}</text>"#,
-        Escaped(remark.words.as_str())
+        r#"<path d="M{x} {base}h14l-7 -13z" fill="none" stroke="{colour}" stroke-width="1.5"/>
+<text x="{middle}" y="{base}" text-anchor="middle" font-size="10" fill="{colour}">{sign}</text>
+<text x="{start}" y="{base}" fill="{colour}">{words}</text>"#
     )
 }

@@ -1,9 +1,10 @@
 //! A finding as a JSON object.
 
-use crate::expected_json::{put_other_leaders, put_outside, put_unmet};
-use crate::expected_text::{clock_of, clock_of_cause};
-use crate::json::{identity_value, member_value, port_value, quality_value, text_value};
+use crate::kinds::severity_of;
 use crate::look::Look;
+use crate::members::{Members, identity_value, text_value};
+use crate::phrases::{Phrase, clock_of, clock_of_cause};
+use crate::remarks::Remark;
 use crate::seconds::{NanosecondSeconds, whole_seconds};
 use ptpm_causes::Cause;
 use ptpm_codec::ClockIdentity;
@@ -12,78 +13,56 @@ use ptpm_site::announcing::Seldom;
 use ptpm_site::changes::Change;
 use ptpm_site::completeness::Missing;
 use ptpm_site::differences::Differs;
-use ptpm_site::finding::{Finding, What};
+use ptpm_site::expected::{OtherLeaders, Outside, Unmet};
+use ptpm_site::finding::What;
 use ptpm_site::grandmaster_changes::GrandmasterChange;
 use ptpm_site::grandmasters::Masterless;
 use ptpm_site::heard::kind_name;
-use ptpm_site::leading::{Better, Leap, Untraceable, WrongOffset};
-use ptpm_site::member::state_name;
+use ptpm_site::leading::{Better, Untraceable};
+use ptpm_site::member::Value::{Flag, Port, Quality, State};
 use ptpm_site::parents::{NoMaster, Steps};
 use ptpm_site::tai_and_utc::OffByUtc;
+use ptpm_site::two_addresses::TwoAddresses;
 use ptpm_site::unseen::Absence;
-use serde_json::{Map, Value, json, put};
+use serde_json::{Value, json};
 use std::alloc::{AllocError, Global};
 
 /// A finding: its clock, its name, from which other it follows, and its values.
 pub(crate) fn finding_value(
     alloc: Global,
     look: &Look<'_, '_>,
-    finding: &Finding<'_>,
-    cause: Option<Cause>,
+    remark: &Remark<'_>,
 ) -> Result<Value, AllocError> {
-    let mut map = Map::new(alloc);
-    put_place(alloc, &mut map, look, finding)?;
-    put_name(alloc, &mut map, &finding.what)?;
-    put(&mut map, alloc, "because", cause_value(alloc, cause)?)?;
-    put_values(alloc, &mut map, &finding.what)?;
-    Ok(Value::Object(map))
+    let mut members = Members::none(alloc);
+    members.put_value("because", cause_value(alloc, remark.cause)?)?;
+    put_place(&mut members, look, remark)?;
+    members.put_text("finding", remark.named.kind.name())?;
+    members.put_text("severity", severity_of(remark.named.kind))?;
+    put_values(&mut members, &remark.finding.what)?;
+    Ok(members.object())
 }
 
 /// Puts the domain, the clock, and its description if it answered one.
 fn put_place(
-    alloc: Global,
-    map: &mut Map<String, Value>,
+    members: &mut Members,
     look: &Look<'_, '_>,
-    finding: &Finding<'_>,
+    remark: &Remark<'_>,
 ) -> Result<(), AllocError> {
-    put(
-        map,
-        alloc,
-        "domainNumber",
-        Value::from(finding.source.domain),
-    )?;
-    put(map, alloc, "sdoId", Value::from(0u8))?;
-    let clock = clock_value(alloc, clock_of(finding))?;
-    put(map, alloc, "clockIdentity", clock)?;
-    match look.picture.site.descriptions(finding.source).last() {
-        Some(received) => {
-            let text = text_value(alloc, received.set.text.as_str())?;
-            put(map, alloc, "userDescription", text)
-        }
+    let source = remark.source();
+    members.put_number("domainNumber", source.domain.number() as i64)?;
+    members.put_number("sdoId", source.domain.sdo() as i64)?;
+    put_clock(members, clock_of(remark.finding))?;
+    match look.picture.site.descriptions(source).last() {
+        Some(received) => members.put_text("userDescription", received.set.text.as_str()),
         None => Ok(()),
     }
 }
 
-/// Puts the name and how bad it is.
-fn put_name(
-    alloc: Global,
-    map: &mut Map<String, Value>,
-    what: &What<'_>,
-) -> Result<(), AllocError> {
-    put(map, alloc, "finding", text_value(alloc, what.name())?)?;
-    let severity = if what.is_critical() {
-        "critical"
-    } else {
-        "warning"
-    };
-    put(map, alloc, "severity", text_value(alloc, severity)?)
-}
-
-/// The identity of a clock, or a dash for a whole domain.
-fn clock_value(alloc: Global, clock: Option<ClockIdentity>) -> Result<Value, AllocError> {
+/// Puts the identity of a clock, or a dash for a whole domain.
+fn put_clock(members: &mut Members, clock: Option<ClockIdentity>) -> Result<(), AllocError> {
     match clock {
-        Some(clock) => identity_value(alloc, clock),
-        None => text_value(alloc, "-"),
+        Some(clock) => members.put_clock("clockIdentity", clock),
+        None => members.put_text("clockIdentity", "-"),
     }
 }
 
@@ -92,332 +71,193 @@ fn cause_value(alloc: Global, cause: Option<Cause>) -> Result<Value, AllocError>
     let Some(cause) = cause else {
         return Ok(Value::Null);
     };
-    let mut map = Map::new(alloc);
-    let clock = clock_value(alloc, clock_of_cause(cause))?;
-    put(&mut map, alloc, "clockIdentity", clock)?;
-    let name = text_value(alloc, cause.kind.name())?;
-    put(&mut map, alloc, "finding", name)?;
-    Ok(Value::Object(map))
+    let mut members = Members::none(alloc);
+    put_clock(&mut members, clock_of_cause(cause))?;
+    members.put_text("finding", cause.kind.name())?;
+    Ok(members.object())
 }
 
-fn put_values(
-    alloc: Global,
-    map: &mut Map<String, Value>,
-    what: &What<'_>,
-) -> Result<(), AllocError> {
+/// Puts the values of what is wrong.
+fn put_values(members: &mut Members, what: &What<'_>) -> Result<(), AllocError> {
     match what {
         What::Absent(_)
         | What::Unexpected
         | What::Gone
         | What::Unseen(Absence::OwnHost)
         | What::TwoGrandmasters => Ok(()),
-        What::NotAsExpected(unmet) => put_unmet(alloc, map, unmet),
-        What::OtherLeaders(other) => put_other_leaders(alloc, map, other),
-        What::Profile(outside) => put_outside(alloc, map, *outside),
-        What::Unseen(Absence::Mute(kind)) => put(
-            map,
-            alloc,
-            "message",
-            text_value(alloc, kind_name(*kind))?,
-        ),
-        What::NotAsked(clocks) => put(map, alloc, "clocks", Value::from(*clocks)),
-        What::NoMaster(why) => put_masterless(alloc, map, why),
-        What::GrandmasterNotSeen(clock) => put(
-            map,
-            alloc,
-            "grandmasterIdentity",
-            identity_value(alloc, *clock)?,
-        ),
-        What::ParentNotSeen(parent) => put(
-            map,
-            alloc,
-            "parentPortIdentity",
-            port_value(alloc, *parent)?,
-        ),
+        What::NotAsExpected(unmet) => put_unmet(members, unmet),
+        What::OtherLeaders(other) => put_other_leaders(members, other),
+        What::Profile(outside) => put_outside(members, outside),
+        What::Unseen(Absence::Mute(kind)) => members.put_text("message", kind_name(*kind)),
+        What::NotAsked(clocks) => members.put_value("clocks", Value::from(*clocks)),
+        What::NoMaster(why) => put_masterless(members, why),
+        What::GrandmasterNotSeen(clock) => members.put_clock("grandmasterIdentity", *clock),
+        What::ParentNotSeen(parent) => members.put("parentPortIdentity", Port(*parent)),
         What::ParentNotMaster(parent, why) => {
-            put(
-                map,
-                alloc,
-                "parentPortIdentity",
-                port_value(alloc, *parent)?,
-            )?;
-            let state = match why {
-                NoMaster::NoPort => Value::Null,
-                NoMaster::InState(state) => text_value(alloc, state_name(*state))?,
-            };
-            put(map, alloc, "portState", state)
-        }
-        What::Steps(steps) => put_steps(alloc, map, steps),
-        What::GrandmasterDiffers(differs) | What::Utc(differs) => put_differs(alloc, map, differs),
-        What::Loop(clocks) => {
-            let mut values = Vec::new(alloc);
-            for clock in clocks.as_slice() {
-                values.push(identity_value(alloc, *clock)?)?;
+            members.put("parentPortIdentity", Port(*parent))?;
+            match why {
+                NoMaster::NoPort => members.put_value("portState", Value::Null),
+                NoMaster::InState(state) => members.put("portState", State(*state)),
             }
-            put(map, alloc, "clocks", Value::Array(values))
         }
-        What::PortState(port, stay) => put_state(alloc, map, *port, stay.state, stay.time),
+        What::Steps(steps) => put_steps(members, steps),
+        What::GrandmasterDiffers(differs) | What::Utc(differs) => put_differs(members, differs),
+        What::Loop(clocks) => put_clocks(members, clocks.as_slice()),
+        What::PortState(port, stay) => put_state(members, *port, stay.state, stay.time),
         What::NotLocked(port, unlocked) => {
-            put_state(alloc, map, *port, PortState::Uncalibrated, unlocked.time)?;
-            let offset = match unlocked.offset {
-                Some(offset) => Value::from(offset),
-                None => Value::Null,
-            };
-            put(map, alloc, "offsetFromMaster", offset)
+            members.put_if_any("offsetFromMaster", unlocked.offset)?;
+            put_state(members, *port, PortState::Uncalibrated, unlocked.time)
         }
-        What::OffByUtc(how) => put_off_by_utc(alloc, map, how),
-        What::Offset(offset) => put(map, alloc, "offsetFromMaster", Value::from(*offset)),
-        What::Delay(delay) => put(map, alloc, "meanDelay", Value::from(*delay)),
+        What::OffByUtc(how) => put_off_by_utc(members, how),
+        What::Offset(offset) => members.put_number("offsetFromMaster", *offset),
+        What::Delay(delay) => members.put_number("meanDelay", *delay),
         What::LinkDelay(port, delay) => {
-            put(map, alloc, "portNumber", Value::from(*port))?;
-            put(map, alloc, "meanLinkDelay", Value::from(*delay))
+            members.put_number("portNumber", *port as i64)?;
+            members.put_number("meanLinkDelay", *delay)
         }
         What::Intervals(port, differs) => {
-            put(map, alloc, "portNumber", Value::from(*port))?;
-            put_differs(alloc, map, differs)
+            members.put_number("portNumber", *port as i64)?;
+            put_differs(members, differs)
         }
-        What::Announces(port, seldom) => put_seldom(alloc, map, *port, seldom),
-        What::Degraded(degraded) => put(
-            map,
-            alloc,
-            "clockQuality",
-            quality_value(alloc, degraded.quality)?,
-        ),
-        What::NotTraceable(untraceable) => put_untraceable(alloc, map, untraceable),
+        What::Announces(port, seldom) => put_seldom(members, *port, seldom),
+        What::Degraded(degraded) => members.put("clockQuality", Quality(degraded.quality)),
+        What::NotTraceable(untraceable) => put_untraceable(members, untraceable),
         What::UtcInvalid(offset) => {
-            put(map, alloc, "currentUtcOffset", Value::from(*offset))?;
-            put(map, alloc, "currentUtcOffsetValid", Value::from(false))
+            members.put_number("currentUtcOffset", *offset as i64)?;
+            members.put("currentUtcOffsetValid", Flag(false))
         }
-        What::UtcOffset(offset) => put_wrong_offset(alloc, map, offset),
-        What::Leap(leap) => put_leap(alloc, map, leap),
-        What::BetterClock(better) => put_better(alloc, map, better),
-        What::Incomplete(missing) => put_missing(alloc, map, missing),
-        What::OutOfReach(hops) => put(map, alloc, "boundaryHops", Value::from(*hops)),
-        What::GrandmasterChanged(change) => put_grandmaster_change(alloc, map, change),
+        What::UtcOffset(offset) => {
+            members.put_number("currentUtcOffset", offset.said as i64)?;
+            members.put_number("expected", offset.is as i64)
+        }
+        What::Leap(leap) => {
+            members.put("leap61", Flag(leap.leap61))?;
+            members.put("leap59", Flag(leap.leap59))
+        }
+        What::BetterClock(better) => put_better(members, better),
+        What::Incomplete(missing) => put_missing(members, missing),
+        What::OutOfReach(hops) => members.put_number("boundaryHops", *hops as i64),
+        What::GrandmasterChanged(change) => put_grandmaster_change(members, change),
         What::Changed(port, change) | What::IdentityTwice(port, change) => {
-            put_change(alloc, map, *port, change)
+            put_change(members, *port, change)
         }
-        What::TwoAddresses(two) => {
-            let mut texts = Vec::new(alloc);
-            texts.push(text_value(alloc, two.first.text)?)?;
-            texts.push(text_value(alloc, two.second.text)?)?;
-            put(map, alloc, "addresses", Value::Array(texts))
-        }
+        What::TwoAddresses(two) => put_addresses(members, two),
         What::TwoOffsets(offsets) => {
-            let both = json!(in alloc; [offsets.first, offsets.second])?;
-            put(map, alloc, "offsets", both)
+            let both = json!(in members.alloc; [offsets.first, offsets.second])?;
+            members.put_value("offsets", both)
         }
     }
 }
 
-/// Puts the state of a port, and for how many whole seconds it is known to be in it or in another on its way.
+/// The member, its value or null if it was not answered, and what is wanted, as texts.
+fn put_unmet(members: &mut Members, unmet: &Unmet<'_>) -> Result<(), AllocError> {
+    let (member, value, wanted) = (unmet.member, unmet.value, unmet.wanted);
+    members.put_words("member", &Phrase::Member(unmet.port, member))?;
+    match value {
+        Some(_) => members.put_words("value", &Phrase::Said(member, value, wanted))?,
+        None => members.put_value("value", Value::Null)?,
+    }
+    members.put_words("expected", &Phrase::Wanted(member, wanted))
+}
+
+/// The clocks that lead, or null if none does, and those that are wanted, as texts.
+fn put_other_leaders(members: &mut Members, other: &OtherLeaders<'_>) -> Result<(), AllocError> {
+    members.put_text("member", "grandmaster")?;
+    if other.leading.is_empty() {
+        members.put_value("value", Value::Null)?;
+    } else {
+        members.put_words("value", &Phrase::Clocks(other.leading.as_slice()))?;
+    }
+    members.put_words("expected", &Phrase::Choices(other.wanted))
+}
+
+/// The port or null, the member, its value, and what is allowed.
+fn put_outside(members: &mut Members, outside: &Outside) -> Result<(), AllocError> {
+    members.put_if_any("portNumber", widened(outside.port))?;
+    members.put_text("member", outside.member.name())?;
+    members.put("value", outside.value)?;
+    members.put_words("expected", &Phrase::Allowed(outside.allowed))
+}
+
+fn widened(number: Option<u16>) -> Option<i64> {
+    match number {
+        Some(number) => Some(number as i64),
+        None => None,
+    }
+}
+
+fn put_masterless(members: &mut Members, why: &Masterless) -> Result<(), AllocError> {
+    match why {
+        Masterless::SlaveOnly => members.put_text("reason", "slaveOnly"),
+        Masterless::Silent => members.put_text("reason", "ownGrandmaster"),
+        Masterless::Lost(grandmaster) => {
+            members.put_clock("grandmasterIdentity", *grandmaster)?;
+            members.put_text("reason", "lost")
+        }
+    }
+}
+
+fn put_steps(members: &mut Members, steps: &Steps) -> Result<(), AllocError> {
+    members.put_number("stepsRemoved", steps.steps as i64)?;
+    members.put_if_any("parentStepsRemoved", widened(steps.parent))
+}
+
+/// The member, its value, and what the other clock has.
+fn put_differs(members: &mut Members, differs: &Differs) -> Result<(), AllocError> {
+    members.put_text("member", differs.member.name())?;
+    members.put("value", differs.own)?;
+    members.put("expected", differs.other)
+}
+
+fn put_clocks(members: &mut Members, clocks: &[ClockIdentity]) -> Result<(), AllocError> {
+    let mut values = Vec::new(members.alloc);
+    for clock in clocks {
+        values.push(identity_value(members.alloc, *clock)?)?;
+    }
+    members.put_value("clocks", Value::Array(values))
+}
+
+/// The state of a port, and for how many whole seconds it is known to be in it or in another on its way.
 fn put_state(
-    alloc: Global,
-    map: &mut Map<String, Value>,
+    members: &mut Members,
     port: u16,
     state: PortState,
     time: Option<u64>,
 ) -> Result<(), AllocError> {
-    put(map, alloc, "portNumber", Value::from(port))?;
-    put(
-        map,
-        alloc,
-        "portState",
-        text_value(alloc, state_name(Some(state)))?,
-    )?;
+    members.put_number("portNumber", port as i64)?;
+    members.put("portState", State(Some(state)))?;
     let seconds = match time {
         Some(time) => Value::from(whole_seconds(time)),
         None => Value::Null,
     };
-    put(map, alloc, "seconds", seconds)
+    members.put_value("seconds", seconds)
 }
 
-fn put_masterless(
-    alloc: Global,
-    map: &mut Map<String, Value>,
-    why: &Masterless,
-) -> Result<(), AllocError> {
-    let reason = match why {
-        Masterless::SlaveOnly => "slaveOnly",
-        Masterless::Silent => "ownGrandmaster",
-        Masterless::Lost(grandmaster) => {
-            let identity = identity_value(alloc, *grandmaster)?;
-            put(map, alloc, "grandmasterIdentity", identity)?;
-            "lost"
-        }
-    };
-    put(map, alloc, "reason", text_value(alloc, reason)?)
-}
-
-fn put_steps(alloc: Global, map: &mut Map<String, Value>, steps: &Steps) -> Result<(), AllocError> {
-    put(map, alloc, "stepsRemoved", Value::from(steps.steps))?;
-    let parent = match steps.parent {
-        Some(parent) => Value::from(parent),
-        None => Value::Null,
-    };
-    put(map, alloc, "parentStepsRemoved", parent)
-}
-
-/// The member, its value, and what the other clock has.
-fn put_differs(
-    alloc: Global,
-    map: &mut Map<String, Value>,
-    differs: &Differs,
-) -> Result<(), AllocError> {
-    put(
-        map,
-        alloc,
-        "member",
-        text_value(alloc, differs.member.name())?,
-    )?;
-    put(map, alloc, "value", member_value(alloc, differs.own)?)?;
-    put(map, alloc, "expected", member_value(alloc, differs.other)?)
-}
-
-/// The ids, and the ports as runs: the first and the last of each.
-fn put_missing(
-    alloc: Global,
-    map: &mut Map<String, Value>,
-    missing: &Missing,
-) -> Result<(), AllocError> {
-    let mut ids = Vec::new(alloc);
-    for asked in missing.asked.as_slice() {
-        ids.push(text_value(alloc, asked.name())?)?;
-    }
-    let mut ports = Vec::new(alloc);
-    for (first, last) in missing.ports.as_slice() {
-        ports.push(json!(in alloc; [*first, *last])?)?;
-    }
-    put(map, alloc, "managementIds", Value::Array(ids))?;
-    put(map, alloc, "portNumbers", Value::Array(ports))
-}
-
-/// The member, the value of the earlier answer, and that of the later.
-fn put_change(
-    alloc: Global,
-    map: &mut Map<String, Value>,
-    port: Option<u16>,
-    change: &Change<'_>,
-) -> Result<(), AllocError> {
-    if let Some(port) = port {
-        put(map, alloc, "portNumber", Value::from(port))?;
-    }
-    put(
-        map,
-        alloc,
-        "member",
-        text_value(alloc, change.member.name())?,
-    )?;
-    put(map, alloc, "before", member_value(alloc, change.before)?)?;
-    put(map, alloc, "after", member_value(alloc, change.after)?)
-}
-
-fn put_off_by_utc(
-    alloc: Global,
-    map: &mut Map<String, Value>,
-    how: &OffByUtc,
-) -> Result<(), AllocError> {
-    let reason = match how {
+/// Times are texts of seconds.
+fn put_off_by_utc(members: &mut Members, how: &OffByUtc) -> Result<(), AllocError> {
+    match how {
         OffByUtc::Offset(offset) => {
-            put(map, alloc, "offsetFromMaster", Value::from(*offset))?;
-            "offset"
+            members.put_number("offsetFromMaster", *offset)?;
+            members.put_text("reason", "offset")
         }
         OffByUtc::Followers(count) => {
-            put(map, alloc, "clocks", Value::from(*count))?;
-            "followers"
+            members.put_value("clocks", Value::from(*count))?;
+            members.put_text("reason", "followers")
         }
         OffByUtc::Origin(origin) => {
-            put(map, alloc, "origin", time_value(alloc, origin.time)?)?;
-            put(map, alloc, "at", time_value(alloc, origin.at)?)?;
-            "origin"
+            members.put_words("origin", &NanosecondSeconds(origin.time))?;
+            members.put_words("at", &NanosecondSeconds(origin.at))?;
+            members.put_text("reason", "origin")
         }
-    };
-    put(map, alloc, "reason", text_value(alloc, reason)?)
-}
-
-/// Nanoseconds as a text of seconds.
-fn time_value(alloc: Global, nanoseconds: u64) -> Result<Value, AllocError> {
-    Ok(Value::String(format!(in alloc; "{}", NanosecondSeconds(nanoseconds))?))
-}
-
-fn put_untraceable(
-    alloc: Global,
-    map: &mut Map<String, Value>,
-    untraceable: &Untraceable,
-) -> Result<(), AllocError> {
-    put(map, alloc, "clockClass", Value::from(untraceable.class))?;
-    put(map, alloc, "timeTraceable", Value::from(untraceable.time))?;
-    put(
-        map,
-        alloc,
-        "frequencyTraceable",
-        Value::from(untraceable.frequency),
-    )
-}
-
-/// What is said, and what is so.
-fn put_wrong_offset(
-    alloc: Global,
-    map: &mut Map<String, Value>,
-    offset: &WrongOffset,
-) -> Result<(), AllocError> {
-    put(map, alloc, "currentUtcOffset", Value::from(offset.said))?;
-    put(map, alloc, "expected", Value::from(offset.is))
-}
-
-fn put_leap(alloc: Global, map: &mut Map<String, Value>, leap: &Leap) -> Result<(), AllocError> {
-    put(map, alloc, "leap61", Value::from(leap.leap61))?;
-    put(map, alloc, "leap59", Value::from(leap.leap59))
-}
-
-/// The clock of a better class, with what it says of itself.
-fn put_better(
-    alloc: Global,
-    map: &mut Map<String, Value>,
-    better: &Better,
-) -> Result<(), AllocError> {
-    put(map, alloc, "better", identity_value(alloc, better.clock)?)?;
-    put(
-        map,
-        alloc,
-        "clockQuality",
-        quality_value(alloc, better.quality)?,
-    )?;
-    put(map, alloc, "priority1", Value::from(better.priority1))
-}
-
-fn put_grandmaster_change(
-    alloc: Global,
-    map: &mut Map<String, Value>,
-    change: &GrandmasterChange,
-) -> Result<(), AllocError> {
-    put(map, alloc, "before", identity_value(alloc, change.before)?)?;
-    put(map, alloc, "after", identity_value(alloc, change.after)?)?;
-    put(map, alloc, "clocks", Value::from(change.clocks))
+    }
 }
 
 /// What the port says of its intervals, and the interval of the port that it follows, in seconds.
-fn put_seldom(
-    alloc: Global,
-    map: &mut Map<String, Value>,
-    port: u16,
-    seldom: &Seldom,
-) -> Result<(), AllocError> {
-    put(map, alloc, "portNumber", Value::from(port))?;
-    put(
-        map,
-        alloc,
-        "logAnnounceInterval",
-        Value::from(seldom.log_announce),
-    )?;
-    put(
-        map,
-        alloc,
-        "announceReceiptTimeout",
-        Value::from(seldom.timeout),
-    )?;
-    let seconds = seconds_value(seldom.parent_log);
-    put(map, alloc, "parentSeconds", seconds)
+fn put_seldom(members: &mut Members, port: u16, seldom: &Seldom) -> Result<(), AllocError> {
+    members.put_number("portNumber", port as i64)?;
+    members.put_number("logAnnounceInterval", seldom.log_announce as i64)?;
+    members.put_number("announceReceiptTimeout", seldom.timeout as i64)?;
+    members.put_value("parentSeconds", seconds_value(seldom.parent_log))
 }
 
 /// Two to a logarithm.
@@ -431,4 +271,62 @@ fn seconds_value(log: i8) -> Value {
         seconds *= factor;
     }
     Value::from(seconds)
+}
+
+fn put_untraceable(members: &mut Members, untraceable: &Untraceable) -> Result<(), AllocError> {
+    members.put_number("clockClass", untraceable.class as i64)?;
+    members.put("timeTraceable", Flag(untraceable.time))?;
+    members.put("frequencyTraceable", Flag(untraceable.frequency))
+}
+
+/// The clock of a better class, with what it says of itself.
+fn put_better(members: &mut Members, better: &Better) -> Result<(), AllocError> {
+    members.put_clock("better", better.clock)?;
+    members.put("clockQuality", Quality(better.quality))?;
+    members.put_number("priority1", better.priority1 as i64)
+}
+
+/// The ids, and the ports as runs: the first and the last of each.
+fn put_missing(members: &mut Members, missing: &Missing) -> Result<(), AllocError> {
+    let alloc = members.alloc;
+    let mut ids = Vec::new(alloc);
+    for asked in missing.asked.as_slice() {
+        ids.push(text_value(alloc, asked.name())?)?;
+    }
+    let mut ports = Vec::new(alloc);
+    for (first, last) in missing.ports.as_slice() {
+        ports.push(json!(in alloc; [*first, *last])?)?;
+    }
+    members.put_value("managementIds", Value::Array(ids))?;
+    members.put_value("portNumbers", Value::Array(ports))
+}
+
+fn put_grandmaster_change(
+    members: &mut Members,
+    change: &GrandmasterChange,
+) -> Result<(), AllocError> {
+    members.put_clock("before", change.before)?;
+    members.put_clock("after", change.after)?;
+    members.put_value("clocks", Value::from(change.clocks))
+}
+
+/// The port if there is one, the member, the value of the earlier answer, and that of the later.
+fn put_change(
+    members: &mut Members,
+    port: Option<u16>,
+    change: &Change<'_>,
+) -> Result<(), AllocError> {
+    if let Some(port) = port {
+        members.put_number("portNumber", port as i64)?;
+    }
+    members.put_text("member", change.member.name())?;
+    members.put("before", change.before)?;
+    members.put("after", change.after)
+}
+
+fn put_addresses(members: &mut Members, two: &TwoAddresses<'_>) -> Result<(), AllocError> {
+    let mut texts = Vec::new(members.alloc);
+    texts.push(text_value(members.alloc, two.first.text)?)?;
+    texts.push(text_value(members.alloc, two.second.text)?)?;
+    members.put_value("addresses", Value::Array(texts))
 }

@@ -3,26 +3,22 @@
 use crate::finding_text::Said;
 use crate::followers::{Follower, Followers, Head, add_under};
 use crate::look::Look;
-use crate::repeats::{Repeats, Turn};
-use ptpm_causes::named;
-use ptpm_site::finding::{Finding, What};
+use crate::remarks::Remark;
+use ptpm_causes::Kind;
 use ptpm_site::source::Source;
 use std::alloc::{AllocError, Global};
+use std::collections::BTreeMap;
+
+/// So many lines that say the same are printed (this project's profile).
+const MOST_ALIKE: usize = 8;
 
 /// A line.
 #[derive(Clone, Copy)]
 pub(crate) enum FindingLine {
     /// Of the finding at this place among all. `is_first`: no line before it is of this name at this clock.
-    One {
-        place: usize,
-        is_first: bool,
-    },
-    /// Of findings that say the same as the one at this place: how many more there are, and the number of what they say.
-    Many {
-        place: usize,
-        more: usize,
-        number: usize,
-    },
+    One { place: usize, is_first: bool },
+    /// Of findings that say the same as the one at this place, and how many more there are.
+    Many { place: usize, more: usize },
     /// Of a grandmaster that is not seen, with how many clocks name it.
     Unseen(Source, usize),
 }
@@ -34,39 +30,21 @@ pub(crate) struct FindingLines {
     pub(crate) of_many: Followers,
 }
 
-impl FindingLines {
-    /// Those of a site's findings that follow from no other.
-    pub(crate) fn of(
-        alloc: Global,
-        look: &Look<'_, '_>,
-        followers: &Followers,
-    ) -> Result<FindingLines, AllocError> {
-        let lines = each_line(alloc, look, false)?;
-        alike_together(
-            alloc,
-            look,
-            look.picture.findings.as_slice(),
-            lines,
-            followers,
-        )
-    }
-
-    /// Those of what is open.
-    pub(crate) fn of_open(
-        alloc: Global,
-        look: &Look<'_, '_>,
-        followers: &Followers,
-    ) -> Result<FindingLines, AllocError> {
-        let lines = open_lines(alloc, look)?;
-        let open = look.picture.open_findings.as_slice();
-        alike_together(alloc, look, open, lines, followers)
-    }
+/// Findings that say the same: how many came, and the place of the line that those past the first ones have together.
+#[derive(Clone, Copy)]
+struct Repeat {
+    count: usize,
+    line: usize,
 }
 
-fn open_lines(alloc: Global, look: &Look<'_, '_>) -> Result<Vec<FindingLine>, AllocError> {
+/// A line for each of what is open.
+pub(crate) fn open_lines(
+    alloc: Global,
+    look: &Look<'_, '_>,
+) -> Result<Vec<FindingLine>, AllocError> {
     let mut lines = Vec::new(alloc);
     let is_first = false;
-    for place in 0..look.picture.open_findings.len() {
+    for place in 0..look.open.len() {
         lines.push(FindingLine::One { place, is_first })?;
     }
     Ok(lines)
@@ -82,12 +60,12 @@ pub(crate) fn each_line(
     let mut unseen = unseen.as_slice();
     let mut lines = Vec::new(alloc);
     let mut last = None;
-    for (place, finding) in look.picture.findings.as_slice().iter().enumerate() {
-        if is_of_unseen(finding) || !is_all && look.cause_of(place).is_some() {
+    for (place, remark) in look.found.as_slice().iter().enumerate() {
+        if is_of_unseen(remark) || !is_all && !remark.is_wrong() {
             continue;
         }
-        unseen = add_unseen(&mut lines, unseen, Some(finding.source))?;
-        let head = Some(Head::of(named(finding)));
+        unseen = add_unseen(&mut lines, unseen, Some(remark.source()))?;
+        let head = Some(Head::of(remark.named));
         let is_first = last != head;
         lines.push(FindingLine::One { place, is_first })?;
         last = head;
@@ -99,17 +77,17 @@ pub(crate) fn each_line(
 /// The grandmasters that are not seen, in their order, each once for each clock that names it.
 fn unseen_of(alloc: Global, look: &Look<'_, '_>, is_all: bool) -> Result<Vec<Source>, AllocError> {
     let mut unseen = Vec::new(alloc);
-    for (place, finding) in look.picture.findings.as_slice().iter().enumerate() {
-        if is_of_unseen(finding) && (is_all || look.cause_of(place).is_none()) {
-            unseen.push(named(finding).source)?;
+    for remark in look.found.as_slice() {
+        if is_of_unseen(remark) && (is_all || remark.is_wrong()) {
+            unseen.push(remark.named.source)?;
         }
     }
     unseen.sort()?;
     Ok(unseen)
 }
 
-fn is_of_unseen(finding: &Finding<'_>) -> bool {
-    matches!(finding.what, What::GrandmasterNotSeen(_))
+fn is_of_unseen(remark: &Remark<'_>) -> bool {
+    matches!(remark.named.kind, Kind::GrandmasterNotSeen)
 }
 
 /// Adds a line for each grandmaster that is not seen and comes before a clock, or for all of them. Answers those that are left.
@@ -134,93 +112,85 @@ fn add_unseen<'a>(
     Ok(rest)
 }
 
-/// The same lines, with one in place of those past the first ones that say the same. If all are wanted nothing changes.
-fn alike_together(
+/// The same lines, with one in place of those past the first ones that say the same.
+pub(crate) fn alike_together(
     alloc: Global,
-    look: &Look<'_, '_>,
-    findings: &[Finding<'_>],
-    lines: Vec<FindingLine>,
+    remarks: &[Remark<'_>],
+    lines: &[FindingLine],
     followers: &Followers,
 ) -> Result<FindingLines, AllocError> {
+    let mut said = BTreeMap::new(alloc);
+    let mut together = Vec::new(alloc);
     let mut of_many = Vec::new(alloc);
-    if look.beside.is_all {
-        let of_many = Followers::in_order(of_many)?;
-        return Ok(FindingLines { lines, of_many });
+    for line in lines {
+        let Some(remark) = remark_of(remarks, line) else {
+            together.push(*line)?;
+            continue;
+        };
+        let words = format!(in alloc; "{} {}", remark.source().domain, Said(remark))?;
+        let repeat = count_one(&mut said, words, together.len())?;
+        put_line(&mut together, *line, repeat)?;
+        add_of_many(&mut of_many, line, remark, repeat, followers)?;
     }
-    let mut repeats = Repeats::none(alloc);
-    for line in lines.as_slice() {
-        count_line(alloc, findings, line, followers, &mut repeats, &mut of_many)?;
-    }
-    let of_many = Followers::in_order(of_many)?;
-    let lines = lines_in_turn(alloc, findings, lines.as_slice(), &mut repeats)?;
-    Ok(FindingLines { lines, of_many })
+    Ok(FindingLines {
+        lines: together,
+        of_many: Followers::in_order(of_many)?,
+    })
 }
 
-/// Counts what a line says. If the line is not printed, what follows from its finding is added to `of_many`.
-fn count_line(
-    alloc: Global,
-    findings: &[Finding<'_>],
-    line: &FindingLine,
-    followers: &Followers,
-    repeats: &mut Repeats,
-    of_many: &mut Vec<Follower>,
-) -> Result<(), AllocError> {
-    let FindingLine::One { place, is_first } = *line else {
-        return Ok(());
-    };
-    let Some(finding) = findings.get(place) else {
-        return Ok(());
-    };
-    if let Some(number) = repeats.add(said_of(alloc, finding)?)? {
-        if is_first {
-            let found = followers.at(Head::of(named(finding)));
-            add_under(of_many, Head::Many(number), found)?;
+/// The finding of a line that has one alone.
+fn remark_of<'a>(remarks: &'a [Remark<'a>], line: &FindingLine) -> Option<&'a Remark<'a>> {
+    match line {
+        FindingLine::One { place, .. } => remarks.get(*place),
+        _ => None,
+    }
+}
+
+/// Counts one more that says these words. `line` is the place of the next line.
+fn count_one(
+    said: &mut BTreeMap<String, Repeat>,
+    words: String,
+    line: usize,
+) -> Result<Repeat, AllocError> {
+    if let Some(repeat) = said.get_mut(&words) {
+        repeat.count = repeat.count.saturating_add(1);
+        if repeat.count == MOST_ALIKE + 1 {
+            repeat.line = line;
         }
+        return Ok(*repeat);
+    }
+    let repeat = Repeat { count: 1, line };
+    let _ = said.insert(words, repeat)?;
+    Ok(repeat)
+}
+
+/// Adds the line of a finding, or counts it at the line that it has with others.
+fn put_line(
+    lines: &mut Vec<FindingLine>,
+    line: FindingLine,
+    repeat: Repeat,
+) -> Result<(), AllocError> {
+    if repeat.count <= MOST_ALIKE {
+        lines.push(line)?;
+    } else if let Some(FindingLine::Many { more, .. }) = lines.get_mut(repeat.line) {
+        *more = more.saturating_add(1);
+    } else if let FindingLine::One { place, .. } = line {
+        lines.push(FindingLine::Many { place, more: 1 })?;
     }
     Ok(())
 }
 
-fn lines_in_turn(
-    alloc: Global,
-    findings: &[Finding<'_>],
-    lines: &[FindingLine],
-    repeats: &mut Repeats,
-) -> Result<Vec<FindingLine>, AllocError> {
-    let mut printed = Vec::new(alloc);
-    for line in lines {
-        if let Some(line) = line_in_turn(alloc, findings, *line, repeats)? {
-            printed.push(line)?;
-        }
+/// Adds what follows from a finding to what follows from the line that it has with others, if it has none of its own.
+fn add_of_many(
+    of_many: &mut Vec<Follower>,
+    line: &FindingLine,
+    remark: &Remark<'_>,
+    repeat: Repeat,
+    followers: &Followers,
+) -> Result<(), AllocError> {
+    if MOST_ALIKE < repeat.count && matches!(line, FindingLine::One { is_first: true, .. }) {
+        let found = followers.at(Head::of(remark.named));
+        add_under(of_many, Head::Many(repeat.line), found)?;
     }
-    Ok(printed)
-}
-
-/// What is printed in the place of a line, if anything is.
-fn line_in_turn(
-    alloc: Global,
-    findings: &[Finding<'_>],
-    line: FindingLine,
-    repeats: &mut Repeats,
-) -> Result<Option<FindingLine>, AllocError> {
-    let FindingLine::One { place, .. } = line else {
-        return Ok(Some(line));
-    };
-    let Some(finding) = findings.get(place) else {
-        return Ok(None);
-    };
-    let words = said_of(alloc, finding)?;
-    Ok(match repeats.turn(&words) {
-        Turn::Line => Some(line),
-        Turn::Many(more, number) => Some(FindingLine::Many {
-            place,
-            more,
-            number,
-        }),
-        Turn::Nothing => None,
-    })
-}
-
-/// What a finding says, by which it is like others: its domain, its name and its values.
-fn said_of(alloc: Global, finding: &Finding<'_>) -> Result<String, AllocError> {
-    format!(in alloc; "{} {}", finding.source.domain, Said(&finding.what))
+    Ok(())
 }

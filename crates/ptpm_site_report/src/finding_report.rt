@@ -1,90 +1,117 @@
 //! The findings of a site, printed one a line.
 
-use crate::expected_text::clock_of;
-use crate::finding_lines::{FindingLine, FindingLines, each_line};
+use crate::finding_lines::{FindingLine, FindingLines, alike_together, each_line, open_lines};
 use crate::finding_text::{Said, Words};
 use crate::followers::{Followers, Head, SoToo};
 use crate::look::Look;
-use ptpm_causes::named;
-use ptpm_site::finding::Finding;
+use crate::remarks::Remark;
+use crate::trees::Clocks;
 use ptpm_site::source::Source;
 use std::alloc::{AllocError, Global};
-use std::io;
 use std::io::Write;
+use std::{fmt, io};
 
-/// The lines of a site's findings.
+/// The lines of a site's findings, and of what is open.
 #[derive(Drop)]
 pub(crate) struct FindingReport {
-    pub(crate) followers: Followers,
-    lines: FindingLines,
-    /// How many lines are of findings that follow from no other.
-    pub(crate) count: usize,
+    pub(crate) sum: Sum,
+    followers: Followers,
+    found: FindingLines,
+    open: FindingLines,
+}
+
+/// How many lines there are of findings that follow from no other, and how many findings follow from these.
+#[derive(Clone, Copy)]
+pub(crate) struct Sum {
+    pub(crate) lines: usize,
+    following: usize,
+}
+
+/// The line above those of the findings: `findings: 3, and 2 that follow`.
+impl fmt::Display for Sum {
+    fn fmt<W: fmt::Write>(&self, f: &mut fmt::Formatter<W>) -> fmt::Result {
+        match (self.lines, self.following) {
+            (0, _) => f.write_str("findings: none"),
+            (lines, 0) => write!(f, "findings: {lines}"),
+            (lines, following) => write!(f, "findings: {lines}, and {following} that follow"),
+        }
+    }
 }
 
 impl FindingReport {
     pub(crate) fn of(alloc: Global, look: &Look<'_, '_>) -> Result<FindingReport, AllocError> {
         let followers = Followers::of(alloc, look)?;
-        let mut lines = FindingLines::of(alloc, look, &followers)?;
-        let count = lines.lines.len();
-        if look.beside.is_all {
-            lines.lines = each_line(alloc, look, true)?;
-        }
-        Ok(FindingReport {
+        let found = each_line(alloc, look, false)?;
+        let found = lines_of(alloc, look, look.found.as_slice(), found, &followers)?;
+        let open = open_lines(alloc, look)?;
+        let open = lines_of(alloc, look, look.open.as_slice(), open, &followers)?;
+        let mut report = FindingReport {
+            sum: Sum {
+                lines: found.lines.len(),
+                following: count_following(look),
+            },
             followers,
-            lines,
-            count,
-        })
+            found,
+            open,
+        };
+        if look.beside.is_all {
+            report.found.lines = each_line(alloc, look, true)?;
+        }
+        Ok(report)
     }
 
-    /// Prints the lines.
+    /// Prints the lines of the findings.
     pub(crate) fn print<O: Write>(&self, look: &Look<'_, '_>, out: &mut O) -> io::Result<()> {
-        for line in self.lines.lines.as_slice() {
-            self.print_line(look, line, out)?;
+        self.print_lines(look, look.found.as_slice(), &self.found, out)
+    }
+
+    /// Prints what is open, one a line, if there is any.
+    pub(crate) fn print_open<O: Write>(&self, look: &Look<'_, '_>, out: &mut O) -> io::Result<()> {
+        if self.open.lines.is_empty() {
+            return Ok(());
+        }
+        writeln!(out, "open: {}", self.open.lines.len())?;
+        self.print_lines(look, look.open.as_slice(), &self.open, out)
+    }
+
+    fn print_lines<O: Write>(
+        &self,
+        look: &Look<'_, '_>,
+        remarks: &[Remark<'_>],
+        all: &FindingLines,
+        out: &mut O,
+    ) -> io::Result<()> {
+        for (number, line) in all.lines.as_slice().iter().enumerate() {
+            match *line {
+                FindingLine::One { place, is_first } => match remarks.get(place) {
+                    Some(remark) => self.print_one(look, remark, is_first, out)?,
+                    None => {}
+                },
+                FindingLine::Many { place, more } => match remarks.get(place) {
+                    Some(remark) => {
+                        let so_too = SoToo(all.of_many.at(Head::Many(number)));
+                        print_many(remark, more, so_too, out)?;
+                    }
+                    None => {}
+                },
+                FindingLine::Unseen(source, count) => {
+                    self.print_unseen(look, source, count, out)?;
+                }
+            }
         }
         Ok(())
     }
 
-    fn print_line<O: Write>(
-        &self,
-        look: &Look<'_, '_>,
-        line: &FindingLine,
-        out: &mut O,
-    ) -> io::Result<()> {
-        let findings = look.picture.findings.as_slice();
-        match *line {
-            FindingLine::One { place, is_first } => match findings.get(place) {
-                Some(finding) => self.print_one(look, finding, is_first, out),
-                None => Ok(()),
-            },
-            FindingLine::Many {
-                place,
-                more,
-                number,
-            } => match findings.get(place) {
-                Some(finding) => {
-                    let so_too = SoToo(self.lines.of_many.at(Head::Many(number)));
-                    print_many(finding, more, so_too, out)
-                }
-                None => Ok(()),
-            },
-            FindingLine::Unseen(source, count) => self.print_unseen(look, source, count, out),
-        }
-    }
-
-    /// Prints the line of a finding. `is_first`: no line before it is of this name at this clock.
     fn print_one<O: Write>(
         &self,
         look: &Look<'_, '_>,
-        finding: &Finding<'_>,
+        remark: &Remark<'_>,
         is_first: bool,
         out: &mut O,
     ) -> io::Result<()> {
-        write!(out, "{}", Words(finding))?;
-        if is_first && !look.beside.is_all {
-            let head = Head::of(named(finding));
-            write!(out, "{}", SoToo(self.followers.at(head)))?;
-        }
-        print_description(look, finding.source, out)
+        let so_too = self.so_too(look, is_first, Head::of(remark.named));
+        let (words, name) = (Words(remark), look.name_at(remark.finding));
+        writeln!(out, "{words}{so_too}{name}")
     }
 
     /// Prints that a grandmaster is not seen, and how many clocks name it.
@@ -96,66 +123,55 @@ impl FindingReport {
         out: &mut O,
     ) -> io::Result<()> {
         let Source { domain, clock } = source;
-        let names = if count == 1 {
-            "clock names"
-        } else {
-            "clocks name"
-        };
-        write!(
+        let (clocks, verb) = (Clocks(count), if count == 1 { "names" } else { "name" });
+        let so_too = self.so_too(look, true, Head::of_unseen(source));
+        let name = look.beside.names.quoted(clock);
+        writeln!(
             out,
-            "{domain} {clock} grandmaster_not_seen {count} {names} it"
-        )?;
-        if !look.beside.is_all {
-            write!(out, "{}", SoToo(self.followers.at(Head::of_unseen(source))))?;
-        }
-        writeln!(out, "{}", look.beside.names.quoted(clock))
+            "{domain} {clock} grandmaster_not_seen {clocks} {verb} it{so_too}{name}"
+        )
     }
+
+    /// What follows from the finding of a line, if the line is the first of its name at its clock. Nothing if each has a line.
+    fn so_too(&self, look: &Look<'_, '_>, is_first: bool, head: Head) -> SoToo<'_> {
+        if is_first && !look.beside.is_all {
+            SoToo(self.followers.at(head))
+        } else {
+            SoToo(&[])
+        }
+    }
+}
+
+/// How many findings follow from another.
+fn count_following(look: &Look<'_, '_>) -> usize {
+    look.found
+        .iter()
+        .filter(|remark| !remark.is_wrong())
+        .count()
 }
 
 /// Prints a line for many clocks more that have the same finding.
 fn print_many<O: Write>(
-    finding: &Finding<'_>,
+    remark: &Remark<'_>,
     more: usize,
     so_too: SoToo<'_>,
     out: &mut O,
 ) -> io::Result<()> {
-    let (domain, said) = (finding.source.domain, Said(&finding.what));
-    let noun = if more == 1 { "clock" } else { "clocks" };
-    writeln!(out, "{domain} - {said} of {more} {noun} more{so_too}")
+    let (domain, said, clocks) = (remark.source().domain, Said(remark), Clocks(more));
+    writeln!(out, "{domain} - {said} of {clocks} more{so_too}")
 }
 
-/// Prints a line of what is open.
-pub(crate) fn print_open_line<O: Write>(
+/// Lines, with one for many that are alike unless all are wanted.
+fn lines_of(
+    alloc: Global,
     look: &Look<'_, '_>,
-    line: &FindingLine,
-    out: &mut O,
-) -> io::Result<()> {
-    let open = look.picture.open_findings.as_slice();
-    match *line {
-        FindingLine::One { place, .. } => match open.get(place) {
-            Some(finding) => {
-                write!(out, "{}", Words(finding))?;
-                match clock_of(finding) {
-                    Some(_) => print_description(look, finding.source, out),
-                    None => writeln!(out),
-                }
-            }
-            None => Ok(()),
-        },
-        FindingLine::Many { place, more, .. } => match open.get(place) {
-            Some(finding) => print_many(finding, more, SoToo(&[]), out),
-            None => Ok(()),
-        },
-        FindingLine::Unseen(..) => Ok(()),
+    remarks: &[Remark<'_>],
+    lines: Vec<FindingLine>,
+    followers: &Followers,
+) -> Result<FindingLines, AllocError> {
+    if look.beside.is_all {
+        let of_many = Followers::in_order(Vec::new(alloc))?;
+        return Ok(FindingLines { lines, of_many });
     }
-}
-
-/// Ends the line of a finding with the name of its clock, or else its description, if the clock has one.
-fn print_description<O: Write>(look: &Look<'_, '_>, source: Source, out: &mut O) -> io::Result<()> {
-    if let Some(name) = look.beside.names.get(source.clock) {
-        write!(out, " {name:?}")?;
-    } else if let Some(text) = look.description(source) {
-        write!(out, " {text:?}")?;
-    }
-    writeln!(out)
+    alike_together(alloc, remarks, lines.as_slice(), followers)
 }

@@ -1,8 +1,8 @@
 //! What follows from a finding, by name and number.
 
-use crate::finding_names::{ALL, rank_of};
+use crate::kinds::{ALL, place_of};
 use crate::look::Look;
-use ptpm_causes::Cause;
+use ptpm_causes::{Cause, Kind};
 use ptpm_site::source::Source;
 use std::alloc::{AllocError, Global};
 use std::fmt;
@@ -19,18 +19,13 @@ pub(crate) enum Head {
 impl Head {
     /// The line of a finding, by its name and its clock.
     pub(crate) fn of(finding: Cause) -> Head {
-        Head::One(finding.source, place_of(finding.kind.name()))
+        Head::One(finding.source, place_of(finding.kind))
     }
 
     /// The line of a grandmaster that is not seen.
     pub(crate) fn of_unseen(grandmaster: Source) -> Head {
-        Head::One(grandmaster, place_of("grandmaster_not_seen"))
+        Head::One(grandmaster, place_of(Kind::GrandmasterNotSeen))
     }
-}
-
-/// The place of a name among all.
-fn place_of(name: &str) -> usize {
-    rank_of(name).unwrap_or(ALL.len())
 }
 
 /// A finding that follows from another.
@@ -51,9 +46,9 @@ impl Followers {
     /// All of a site.
     pub(crate) fn of(alloc: Global, look: &Look<'_, '_>) -> Result<Followers, AllocError> {
         let mut sorted = Vec::new(alloc);
-        for (place, finding) in look.picture.findings.as_slice().iter().enumerate() {
-            if let Some(cause) = look.cause_of(place) {
-                let (head, name) = (Head::of(cause), place_of(finding.what.name()));
+        for remark in look.found.as_slice() {
+            if let Some(cause) = remark.cause {
+                let (head, name) = (Head::of(cause), place_of(remark.named.kind));
                 sorted.push(Follower { head, name })?;
             }
         }
@@ -103,7 +98,10 @@ impl fmt::Display for SoToo<'_> {
                 break;
             };
             let count = rest.partition_point(|one| one.name <= first.name);
-            let name = ALL.get(first.name).map_or("", |name| name.name);
+            let name = match ALL.get(first.name) {
+                Some(kind) => kind.name(),
+                None => "",
+            };
             write!(f, "{between}{name} {count}")?;
             between = ", ";
             let (_, others) = rest.split_at(count);

@@ -1,50 +1,34 @@
 //! What a clock that leads says of its time, in a line.
 
+use crate::trees::ClockRow;
 use ptpm_expected::time_sources::source_name;
-use ptpm_site::clock::Clock;
-use ptpm_site::data_sets::{DefaultDataSet, TimePropertiesDataSet};
-use ptpm_site::source::Source;
+use ptpm_site::data_sets::TimePropertiesDataSet;
 use std::fmt;
 
 /// A clock that leads. What it did not say is left out.
 #[derive(Clone, Copy)]
-pub(crate) struct GrandmasterLine<'a> {
-    pub(crate) source: Source,
-    pub(crate) clock: &'a Clock,
-}
+pub(crate) struct GrandmasterLine<'a>(pub(crate) &'a ClockRow<'a>);
 
 impl fmt::Display for GrandmasterLine<'_> {
     fn fmt<W: fmt::Write>(&self, f: &mut fmt::Formatter<W>) -> fmt::Result {
-        write!(f, "grandmaster {}", self.source.clock)?;
-        let default = self.clock.defaults.last();
+        let row = self.0;
+        write!(f, "grandmaster {}", row.source.clock)?;
+        let default = row.clock.default();
         let mut between = ":";
-        if let Some(received) = default {
-            write_class(&received.set, f)?;
+        if let Some(set) = default {
+            let (class, accuracy) = (set.quality.class, set.quality.accuracy);
+            write!(f, ": class {class}, accuracy 0x{accuracy:02x}")?;
             between = ",";
         }
-        if let Some(received) = self.clock.times.last() {
+        if let Some(set) = row.clock.time() {
             f.write_str(between)?;
-            write_time(&received.set, f)?;
-            between = ",";
+            write_time(&set, f)?;
         }
         match default {
-            Some(received) => write!(
-                f,
-                "{between} priorities {} and {}",
-                received.set.priority1, received.set.priority2
-            ),
+            Some(set) => write!(f, ", priorities {} and {}", set.priority1, set.priority2),
             None => Ok(()),
         }
     }
-}
-
-fn write_class<W: fmt::Write>(set: &DefaultDataSet, f: &mut fmt::Formatter<W>) -> fmt::Result {
-    let quality = set.quality;
-    write!(
-        f,
-        ": class {}, accuracy 0x{:02x}",
-        quality.class, quality.accuracy
-    )
 }
 
 fn write_time<W: fmt::Write>(

@@ -2,30 +2,30 @@
 
 ghost use Rattle.std.specs.Prelude.{◌≡◌, []};
 
-use crate::finding_names::rank_of;
+use crate::kinds::kind_named;
+use ptpm_causes::{Kind, named};
 use ptpm_site::finding::Finding;
 use std::alloc::{AllocError, Global};
 
 /// The names of findings that are left out.
 #[derive(Drop)]
 pub struct Ignored {
-    /// The place of each among all names.
-    ranks: Vec<usize>,
+    kinds: Vec<Kind>,
 }
 
 impl Ignored {
     /// None is left out.
     pub fn none(alloc: Global) -> Ignored {
         Ignored {
-            ranks: Vec::new(alloc),
+            kinds: Vec::new(alloc),
         }
     }
 
     /// Leaves out the findings of these names, which have commas between them: `leap,mute`. False if one is no name of a finding.
     pub fn add(&mut self, names: &str) -> Result<bool, AllocError> {
         for name in names.split(',') {
-            match rank_of(name) {
-                Some(rank) => self.ranks.push(rank)?,
+            match kind_named(name) {
+                Some(kind) => self.kinds.push(kind)?,
                 None => return Ok(false),
             }
         }
@@ -34,18 +34,15 @@ impl Ignored {
 
     /// Takes the findings of these names away.
     pub(crate) fn leave_out(&self, findings: &mut Vec<Finding<'_>>)
-        ensures { self.now.ranks.items ≡ [] → findings.new.items ≡ findings.old.items }
+        ensures { self.now.kinds.items ≡ [] → findings.new.items ≡ findings.old.items }
     {
-        if self.ranks.is_empty() {
+        if self.kinds.is_empty() {
             return;
         }
         findings.retain(|finding| !self.has(finding));
     }
 
     fn has(&self, finding: &Finding<'_>) -> bool {
-        match rank_of(finding.what.name()) {
-            Some(rank) => self.ranks.contains(&rank),
-            None => false,
-        }
+        self.kinds.contains(&named(finding).kind)
     }
 }

@@ -1,6 +1,6 @@
 //! `ptpm site --write-expect`: the inventory of a site as it is, a line each.
 
-use crate::expected_text::{ChoicesText, WantedText};
+use crate::phrases::Phrase;
 use crate::reporting::Conclusion;
 use crate::site_lines::read_shown;
 use ptpm_commands::Fault;
@@ -17,7 +17,7 @@ pub fn write_inventory<R: Read + Drop, O: Write>(
     out: &mut O,
 ) -> Result<Conclusion, Fault> {
     let shown = read_shown(alloc, reader)?.shown;
-    let inventory = inventory_of(alloc, &shown.site).map_err(|_| Fault::OutOfMemory)?;
+    let inventory = inventory_of(alloc, &shown.site)?;
     print_inventory(&inventory, out)?;
     Ok(if shown.site.is_empty() {
         Conclusion::NoClock
@@ -43,7 +43,7 @@ impl fmt::Display for EntryText<'_> {
         write!(f, "{} ", self.0.domain)?;
         match &self.0.rule {
             Rule::Leaders(wanted) => {
-                write!(f, "- grandmaster {}", ChoicesText(wanted.as_slice()))
+                write!(f, "- grandmaster {}", Phrase::Choices(wanted.as_slice()))
             }
             Rule::Only => f.write_str("- only"),
             Rule::Clock(clock, presence) => write!(f, "{clock} {}", presence_name(*presence)),
@@ -67,10 +67,11 @@ struct RuleText<'a>(&'a MemberRule);
 
 impl fmt::Display for RuleText<'_> {
     fn fmt<W: fmt::Write>(&self, f: &mut fmt::Formatter<W>) -> fmt::Result {
-        if let Some(port) = self.0.port {
-            write!(f, "port/{port}.")?;
-        }
         let (member, wanted) = (self.0.member, self.0.wanted.as_slice());
-        write!(f, "{} {}", member.name(), WantedText { member, wanted })
+        let (name, wanted) = (
+            Phrase::Member(self.0.port, member),
+            Phrase::Wanted(member, wanted),
+        );
+        write!(f, "{name} {wanted}")
     }
 }

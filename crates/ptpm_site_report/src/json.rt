@@ -3,66 +3,63 @@
 use crate::asked_domains::AskedDomain;
 use crate::finding_json::finding_value;
 use crate::look::Look;
+use crate::members::Members;
 use crate::names::Names;
+use crate::remarks::Remark;
+use crate::span::Span;
 use crate::utc_text::UtcText;
 use ptpm_codec::{ClockIdentity, PortIdentity};
 use ptpm_commands::Fault;
 use ptpm_site::clock::{Clock, Received};
-use ptpm_site::data_sets::ClockQuality;
-use ptpm_site::member::{DataSet, Member, Value as MemberValue, mechanism_name, state_name};
+use ptpm_site::domain::Domain;
+use ptpm_site::member::{DataSet, Member, Value as MemberValue};
 use ptpm_site::source::Source;
-use serde_json::{Map, Value, json, put};
+use serde_json::Value;
 use std::alloc::{AllocError, Global};
-use std::io;
 use std::io::Write;
+use std::{fmt, io};
 
-/// A site as JSON.
-#[derive(Clone, Copy)]
-pub(crate) struct Object<'a>(pub(crate) &'a Look<'a, 'a>);
-
-impl Object<'_> {
-    /// Prints one object: what was asked and when, the domains with their clocks, what is open, the findings, and how much was left
-    /// out.
-    pub(crate) fn print<O: Write>(&self, alloc: Global, out: &mut O) -> Result<(), Fault> {
-        print_head(self.0, out)?;
-        print_domains(alloc, self.0, out)?;
-        print_open(alloc, self.0, out)?;
-        print_findings(alloc, self.0, out)?;
-        let (clocks, ports) = (
-            self.0.picture.left_out.clocks,
-            self.0.picture.left_out.ports,
-        );
-        writeln!(
-            out,
-            "\"leftOut\":{{\"clocks\":{clocks},\"ports\":{ports}}}}}"
-        )?;
-        Ok(())
-    }
+/// Prints one object: what was asked and when, the domains with their clocks, what is open, the findings, and how much was left
+/// out.
+pub(crate) fn print_object<O: Write>(
+    alloc: Global,
+    look: &Look<'_, '_>,
+    out: &mut O,
+) -> Result<(), Fault> {
+    let picture = look.picture;
+    print_head(look, out)?;
+    print_domains(alloc, look, out)?;
+    print_findings(alloc, look, "open", look.open.as_slice(), out)?;
+    print_findings(alloc, look, "findings", look.found.as_slice(), out)?;
+    let (clocks, ports) = (picture.left_out.clocks, picture.left_out.ports);
+    writeln!(
+        out,
+        "\"leftOut\":{{\"clocks\":{clocks},\"ports\":{ports}}}}}"
+    )?;
+    Ok(())
 }
 
 /// Prints when the datagrams came, and in which domains the clocks were asked.
 fn print_head<O: Write>(look: &Look<'_, '_>, out: &mut O) -> io::Result<()> {
-    write!(out, "{{\"time\":{{\"begin\":")?;
-    print_time(look.beside.span.map(|span| span.begin), out)?;
-    write!(out, ",\"end\":")?;
-    print_time(look.beside.span.map(|span| span.end), out)?;
-    write!(out, "}},\n\"asked\":[")?;
-    let mut between = "";
-    for AskedDomain { domain, hops } in look.beside.asked.as_slice() {
-        write!(
+    match look.beside.said.span {
+        Some(Span { begin, end }) => write!(
             out,
-            "{between}{{\"domainNumber\":{domain},\"sdoId\":0,\"boundaryHops\":{hops}}}"
-        )?;
+            "{{\"time\":{{\"begin\":\"{}\",\"end\":\"{}\"}},\n\"asked\":[",
+            UtcText(begin),
+            UtcText(end)
+        )?,
+        None => write!(
+            out,
+            "{{\"time\":{{\"begin\":null,\"end\":null}},\n\"asked\":["
+        )?,
+    }
+    let mut between = "";
+    for AskedDomain { domain, hops } in look.beside.said.asked.as_slice() {
+        let domain = DomainMembers(*domain);
+        write!(out, "{between}{{{domain},\"boundaryHops\":{hops}}}")?;
         between = ",";
     }
     writeln!(out, "],")
-}
-
-fn print_time<O: Write>(time: Option<u64>, out: &mut O) -> io::Result<()> {
-    match time {
-        Some(time) => write!(out, "\"{}\"", UtcText(time)),
-        None => write!(out, "null"),
-    }
 }
 
 /// Prints the member with the domains, each with those of its clocks that lead, and with all its clocks.
@@ -78,11 +75,8 @@ fn print_domains<O: Write>(alloc: Global, look: &Look<'_, '_>, out: &mut O) -> R
             print_domain_head(alloc, look, source.domain, out)?;
             domain = Some(source.domain);
         }
-        print_value(
-            alloc,
-            clock_value(alloc, *source, clock, look.beside.names),
-            out,
-        )?;
+        let value = clock_value(alloc, *source, clock, look.beside.names)?;
+        print_value(alloc, &value, out)?;
     }
     writeln!(out, "{}],", if domain.is_some() { "]}" } else { "" })?;
     Ok(())
@@ -92,32 +86,39 @@ fn print_domains<O: Write>(alloc: Global, look: &Look<'_, '_>, out: &mut O) -> R
 fn print_domain_head<O: Write>(
     alloc: Global,
     look: &Look<'_, '_>,
-    domain: u8,
+    domain: Domain,
     out: &mut O,
 ) -> Result<(), Fault> {
-    write!(
-        out,
-        "{{\"domainNumber\":{domain},\"sdoId\":0,\"grandmasters\":"
-    )?;
-    print_value(alloc, grandmasters_value(alloc, look, domain), out)?;
+    write!(out, "{{{},\"grandmasters\":", DomainMembers(domain))?;
+    print_value(alloc, &grandmasters_value(alloc, look, domain)?, out)?;
     writeln!(out, ",\"clocks\":[")?;
     Ok(())
 }
 
+/// A domain as members of an object.
+#[derive(Clone, Copy)]
+struct DomainMembers(Domain);
+
+impl fmt::Display for DomainMembers {
+    fn fmt<W: fmt::Write>(&self, f: &mut fmt::Formatter<W>) -> fmt::Result {
+        let (number, sdo) = (self.0.number(), self.0.sdo());
+        write!(f, "\"domainNumber\":{number},\"sdoId\":{sdo}")
+    }
+}
+
 /// The clocks that lead a domain.
-fn grandmasters_value(alloc: Global, look: &Look<'_, '_>, domain: u8) -> Result<Value, AllocError> {
+fn grandmasters_value(
+    alloc: Global,
+    look: &Look<'_, '_>,
+    domain: Domain,
+) -> Result<Value, AllocError> {
     let mut values = Vec::new(alloc);
     for source in look.picture.forest.sources.as_slice() {
-        if leads_in(look, *source, domain) {
+        if source.domain == domain && look.picture.site.leads(*source) {
             values.push(grandmaster_value(alloc, look, *source)?)?;
         }
     }
     Ok(Value::Array(values))
-}
-
-/// Whether a clock is of a domain, and leads.
-fn leads_in(look: &Look<'_, '_>, source: Source, domain: u8) -> bool {
-    source.domain == domain && look.picture.site.leads(source)
 }
 
 /// A clock that leads: its identity, its quality, and what it says of its time. It said so itself.
@@ -126,61 +127,39 @@ fn grandmaster_value(
     look: &Look<'_, '_>,
     source: Source,
 ) -> Result<Value, AllocError> {
-    let mut map = match look.picture.site.time(source) {
-        Some(time) => set_map(alloc, &time)?,
-        None => Map::new(alloc),
-    };
-    let identity = identity_value(alloc, source.clock)?;
-    put(&mut map, alloc, "clockIdentity", identity)?;
+    let mut members = Members::none(alloc);
+    if let Some(time) = look.picture.site.time(source) {
+        put_set(&mut members, &time)?;
+    }
     if let Some(default) = look.picture.site.default(source) {
-        let quality = quality_value(alloc, default.quality)?;
-        put(&mut map, alloc, "clockQuality", quality)?;
+        members.put("clockQuality", MemberValue::Quality(default.quality))?;
     }
-    put(&mut map, alloc, "heard", text_value(alloc, "answer")?)?;
-    Ok(Value::Object(map))
+    members.put_clock("clockIdentity", source.clock)?;
+    members.put_text("heard", "answer")?;
+    Ok(members.object())
 }
 
-/// Prints the member with what is open.
-fn print_open<O: Write>(alloc: Global, look: &Look<'_, '_>, out: &mut O) -> Result<(), Fault> {
-    write!(out, "\"open\":[")?;
-    let mut between = "\n";
-    for finding in look.picture.open_findings.as_slice() {
-        write!(out, "{between}")?;
-        print_value(alloc, finding_value(alloc, look, finding, None), out)?;
-        between = ",\n";
-    }
-    writeln!(out, "],")?;
-    Ok(())
-}
-
-/// Prints the member with the findings.
-fn print_findings<O: Write>(alloc: Global, look: &Look<'_, '_>, out: &mut O) -> Result<(), Fault> {
-    write!(out, "\"findings\":[")?;
-    let mut between = "\n";
-    for (place, finding) in look.picture.findings.as_slice().iter().enumerate() {
-        write!(out, "{between}")?;
-        let cause = look.cause_of(place);
-        print_value(alloc, finding_value(alloc, look, finding, cause), out)?;
-        between = ",\n";
-    }
-    writeln!(out, "],")?;
-    Ok(())
-}
-
-/// Prints a value, if there was memory for it.
-fn print_value<O: Write>(
+/// Prints the member with the findings, or with what is open.
+fn print_findings<O: Write>(
     alloc: Global,
-    value: Result<Value, AllocError>,
+    look: &Look<'_, '_>,
+    name: &str,
+    remarks: &[Remark<'_>],
     out: &mut O,
 ) -> Result<(), Fault> {
-    let text = match value {
-        Ok(value) => value.to_string(alloc),
-        Err(error) => Err(error),
-    };
-    match text {
-        Ok(text) => write!(out, "{text}")?,
-        Err(_) => return Err(Fault::OutOfMemory),
+    write!(out, "\"{name}\":[")?;
+    let mut between = "\n";
+    for remark in remarks {
+        write!(out, "{between}")?;
+        print_value(alloc, &finding_value(alloc, look, remark)?, out)?;
+        between = ",\n";
     }
+    writeln!(out, "],")?;
+    Ok(())
+}
+
+fn print_value<O: Write>(alloc: Global, value: &Value, out: &mut O) -> Result<(), Fault> {
+    write!(out, "{}", value.to_string(alloc)?)?;
     Ok(())
 }
 
@@ -191,118 +170,74 @@ fn clock_value(
     clock: &Clock,
     names: &Names,
 ) -> Result<Value, AllocError> {
-    let mut map = Map::new(alloc);
-    put(
-        &mut map,
-        alloc,
-        "clockIdentity",
-        identity_value(alloc, source.clock)?,
-    )?;
+    let mut members = Members::none(alloc);
+    members.put_clock("clockIdentity", source.clock)?;
     if let Some(name) = names.get(source.clock) {
-        put(&mut map, alloc, "name", text_value(alloc, name)?)?;
+        members.put_text("name", name)?;
     }
     put_last(
         alloc,
-        &mut map,
+        &mut members,
         "DEFAULT_DATA_SET",
-        clock.defaults.as_slice(),
+        clock.defaults.last(),
     )?;
     put_last(
         alloc,
-        &mut map,
+        &mut members,
         "CURRENT_DATA_SET",
-        clock.currents.as_slice(),
+        clock.currents.last(),
     )?;
-    put_last(alloc, &mut map, "PARENT_DATA_SET", clock.parents.as_slice())?;
-    put_last(
-        alloc,
-        &mut map,
-        "TIME_PROPERTIES_DATA_SET",
-        clock.times.as_slice(),
-    )?;
-    put_last(
-        alloc,
-        &mut map,
-        "USER_DESCRIPTION",
-        clock.descriptions.as_slice(),
-    )?;
+    put_last(alloc, &mut members, "PARENT_DATA_SET", clock.parents.last())?;
+    let times = clock.times.last();
+    put_last(alloc, &mut members, "TIME_PROPERTIES_DATA_SET", times)?;
+    let descriptions = clock.descriptions.last();
+    put_last(alloc, &mut members, "USER_DESCRIPTION", descriptions)?;
+    let ports = ports_value(alloc, source.clock, clock)?;
+    members.put_value("PORT_DATA_SET", ports)?;
+    Ok(members.object())
+}
+
+/// What a clock answered of its ports.
+fn ports_value(alloc: Global, identity: ClockIdentity, clock: &Clock) -> Result<Value, AllocError> {
     let mut ports = Vec::new(alloc);
     for (number, received) in clock.ports.iter() {
         if let Some(last) = received.last() {
-            let mut port = set_map(alloc, &last.set)?;
-            let identity = PortIdentity {
-                clock: source.clock,
+            let mut members = Members::none(alloc);
+            put_set(&mut members, &last.set)?;
+            let port = PortIdentity {
+                clock: identity,
                 port: *number,
             };
-            put(
-                &mut port,
-                alloc,
-                "portIdentity",
-                port_value(alloc, identity)?,
-            )?;
-            ports.push(Value::Object(port))?;
+            members.put("portIdentity", MemberValue::Port(port))?;
+            ports.push(members.object())?;
         }
     }
-    put(&mut map, alloc, "PORT_DATA_SET", Value::Array(ports))?;
-    Ok(Value::Object(map))
+    Ok(Value::Array(ports))
 }
 
 /// Puts the data set of the answer that counts, if there is one.
 fn put_last<T: DataSet>(
     alloc: Global,
-    map: &mut Map<String, Value>,
+    members: &mut Members,
     name: &str,
-    received: &[Received<T>],
+    last: Option<&Received<T>>,
 ) -> Result<(), AllocError> {
-    if let Some(last) = received.last() {
-        put(map, alloc, name, Value::Object(set_map(alloc, &last.set)?))?;
+    match last {
+        Some(last) => {
+            let mut set = Members::none(alloc);
+            put_set(&mut set, &last.set)?;
+            members.put_value(name, set.object())
+        }
+        None => Ok(()),
     }
-    Ok(())
 }
 
-/// The members of a data set.
-fn set_map<T: DataSet>(alloc: Global, set: &T) -> Result<Map<String, Value>, AllocError> {
-    let mut map = Map::new(alloc);
+/// Puts the members of a data set.
+fn put_set<T: DataSet>(members: &mut Members, set: &T) -> Result<(), AllocError> {
     for member in T::members() {
         if let Some(value) = set.value(*member) {
-            put(&mut map, alloc, member.name(), member_value(alloc, value)?)?;
+            members.put(member.name(), value)?;
         }
     }
-    Ok(map)
-}
-
-/// The value of a member.
-pub(crate) fn member_value(alloc: Global, value: MemberValue<'_>) -> Result<Value, AllocError> {
-    match value {
-        MemberValue::Flag(flag) => Ok(Value::Bool(flag)),
-        MemberValue::Number(number) => Ok(Value::from(number)),
-        MemberValue::Quality(quality) => quality_value(alloc, quality),
-        MemberValue::Clock(clock) => identity_value(alloc, clock),
-        MemberValue::Port(port) => port_value(alloc, port),
-        MemberValue::State(state) => text_value(alloc, state_name(state)),
-        MemberValue::Mechanism(mechanism) => text_value(alloc, mechanism_name(mechanism)),
-        MemberValue::Text(text) => text_value(alloc, text),
-    }
-}
-
-pub(crate) fn text_value(alloc: Global, text: &str) -> Result<Value, AllocError> {
-    Ok(Value::String(String::from_str(alloc, text)?))
-}
-
-pub(crate) fn identity_value(alloc: Global, clock: ClockIdentity) -> Result<Value, AllocError> {
-    Ok(Value::String(format!(in alloc; "{clock}")?))
-}
-
-pub(crate) fn port_value(alloc: Global, port: PortIdentity) -> Result<Value, AllocError> {
-    let identity = identity_value(alloc, port.clock)?;
-    json!(in alloc; {"clockIdentity": identity, "portNumber": port.port})
-}
-
-/// A ClockQuality, as an object (5.3.7).
-pub(crate) fn quality_value(alloc: Global, quality: ClockQuality) -> Result<Value, AllocError> {
-    json!(in alloc; {
-        "clockClass": quality.class,
-        "clockAccuracy": quality.accuracy,
-        "offsetScaledLogVariance": quality.variance
-    })
+    Ok(())
 }

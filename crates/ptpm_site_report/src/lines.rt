@@ -1,14 +1,12 @@
 //! What a drawing of a site has in its rows.
 
-use crate::columns::Columns;
-use crate::expected_text::clock_of;
 use crate::look::Look;
+use crate::phrases::clock_of;
 use crate::ports_text::PortsText;
-use crate::remarks::{Remark, Weight, remarks_at, remarks_of_unseen};
-use crate::rows::notes_of;
-use ptpm_site::clock::Clock;
+use crate::remarks::{Remark, Weight, add_unseen, remarks_at};
+use crate::trees::{ClockRow, Row, notes_of, trees_of};
+use ptpm_codec::ClockIdentity;
 use ptpm_site::source::Source;
-use ptpm_site::tree::TreeRow;
 use std::alloc::{AllocError, Global};
 
 /// What is drawn round the name of a row.
@@ -50,8 +48,10 @@ pub(crate) struct DrawnRemark {
 pub(crate) fn lines_of(alloc: Global, look: &Look<'_, '_>) -> Result<Vec<Line>, AllocError> {
     let mut lines = Vec::new(alloc);
     add_trees(alloc, look, &mut lines)?;
-    let remarks = remarks_of_unseen(alloc, look)?;
-    for remark in remarks.as_slice() {
+    let mut unseen = Vec::new(alloc);
+    add_unseen(look.picture.site, look.found.as_slice(), &mut unseen)?;
+    add_unseen(look.picture.site, look.open.as_slice(), &mut unseen)?;
+    for remark in unseen.as_slice() {
         lines.push(unseen_line(alloc, look, remark)?)?;
     }
     for note in notes_of(alloc, look.picture)? {
@@ -62,21 +62,22 @@ pub(crate) fn lines_of(alloc: Global, look: &Look<'_, '_>) -> Result<Vec<Line>, 
 
 /// Adds the rows of each domain's tree.
 fn add_trees(alloc: Global, look: &Look<'_, '_>, lines: &mut Vec<Line>) -> Result<(), AllocError> {
-    let all = look.rows();
-    let mut rest = look.picture.rows.as_slice();
-    for _ in 0..look.picture.rows.len() {
-        let Some(first) = rest.first() else {
-            break;
-        };
-        let domain = all.domain_of(first);
-        let (rows, others) = rest.split_at(all.count_of(domain, rest));
-        lines.push(said(alloc, all.head_of(alloc, domain, rows)?))?;
-        for row in rows {
-            if let Some(line) = line_of(alloc, look, row)? {
-                lines.push(line)?;
-            }
+    let trees = trees_of(alloc, look)?;
+    for tree in trees.as_slice() {
+        lines.push(said(alloc, format!(in alloc; "{tree}")?))?;
+        for row in tree.rows.as_slice() {
+            lines.push(match row {
+                Row::Clock(row) => clock_line(alloc, look, row)?,
+                Row::NotSeen(parent) => {
+                    let name = look.beside.names.quoted(parent.clock);
+                    line_of(
+                        alloc,
+                        Frame::Dashed,
+                        format!(in alloc; "not seen: {parent}{name}")?,
+                    )
+                }
+            })?;
         }
-        rest = others;
     }
     Ok(())
 }
@@ -87,22 +88,26 @@ fn unseen_line(
     look: &Look<'_, '_>,
     remark: &Remark<'_>,
 ) -> Result<Line, AllocError> {
-    let finding = remark.finding;
-    let mut line = match clock_of(finding) {
-        Some(clock) => Line {
-            frame: Frame::Dashed,
-            depth: 0,
-            name: format!(in alloc; "not seen: {clock}{}", look.beside.names.quoted(clock))?,
-            follows: String::new(alloc),
-            facts: String::from_str(alloc, "did not answer")?,
-            remarks: Vec::new(alloc),
-        },
+    let mut line = match clock_of(remark.finding) {
+        Some(clock) => silent_line(alloc, look, clock)?,
         None => said(
             alloc,
-            format!(in alloc; "domain {}", finding.source.domain)?,
+            format!(in alloc; "domain {}", remark.source().domain)?,
         ),
     };
     line.remarks.push(drawn(alloc, remark)?)?;
+    Ok(line)
+}
+
+fn silent_line(
+    alloc: Global,
+    look: &Look<'_, '_>,
+    clock: ClockIdentity,
+) -> Result<Line, AllocError> {
+    let name = look.beside.names.quoted(clock);
+    let name = format!(in alloc; "not seen: {clock}{name}")?;
+    let mut line = line_of(alloc, Frame::Dashed, name);
+    line.facts.push_str("did not answer")?;
     Ok(line)
 }
 
@@ -114,8 +119,13 @@ fn drawn(alloc: Global, remark: &Remark<'_>) -> Result<DrawnRemark, AllocError> 
 
 /// A row that is said of the whole.
 fn said(alloc: Global, name: String) -> Line {
+    line_of(alloc, Frame::Nothing, name)
+}
+
+/// A row with a name alone.
+fn line_of(alloc: Global, frame: Frame, name: String) -> Line {
     Line {
-        frame: Frame::Nothing,
+        frame,
         depth: 0,
         name,
         follows: String::new(alloc),
@@ -124,46 +134,15 @@ fn said(alloc: Global, name: String) -> Line {
     }
 }
 
-fn line_of(alloc: Global, look: &Look<'_, '_>, row: &TreeRow) -> Result<Option<Line>, AllocError> {
-    match row {
-        TreeRow::NotSeen { parent, .. } => Ok(Some(Line {
-            frame: Frame::Dashed,
-            depth: 0,
-            name: format!(in alloc;
-                "not seen: {parent}{}",
-                look.beside.names.quoted(parent.clock)
-            )?,
-            follows: String::new(alloc),
-            facts: String::new(alloc),
-            remarks: Vec::new(alloc),
-        })),
-        TreeRow::Clock { place, depth } => match look.rows().clock_of(row) {
-            Some((source, clock)) => {
-                let cut = look.rows().cut(*place, *depth);
-                Ok(Some(clock_line(alloc, look, source, clock, *depth, cut)?))
-            }
-            None => Ok(None),
-        },
-    }
-}
-
-fn clock_line(
-    alloc: Global,
-    look: &Look<'_, '_>,
-    source: Source,
-    clock: &Clock,
-    depth: u32,
-    cut: &str,
-) -> Result<Line, AllocError> {
-    let columns = Columns::of(alloc, look.rows().name_of(source, clock), clock)?;
-    let leads = look.picture.site.leads(source);
+fn clock_line(alloc: Global, look: &Look<'_, '_>, row: &ClockRow<'_>) -> Result<Line, AllocError> {
+    let (columns, ports, cut) = (&row.columns, PortsText(row.clock), row.cut());
     Ok(Line {
-        frame: if leads { Frame::Thick } else { Frame::Thin },
-        depth: depth as usize,
-        name: format!(in alloc; "{} {}", source.clock, columns.description)?,
-        follows: follows_of(alloc, look, source)?,
-        facts: format!(in alloc; "{columns}; {}{cut}", PortsText(clock))?,
-        remarks: drawn_at(alloc, look, source)?,
+        frame: if row.leads { Frame::Thick } else { Frame::Thin },
+        depth: row.depth as usize,
+        name: format!(in alloc; "{} {}", row.source.clock, columns.description)?,
+        follows: follows_of(alloc, look, row.source)?,
+        facts: format!(in alloc; "{columns}; {ports}{cut}")?,
+        remarks: drawn_at(alloc, look, row.source)?,
     })
 }
 
@@ -181,9 +160,11 @@ fn drawn_at(
     look: &Look<'_, '_>,
     source: Source,
 ) -> Result<Vec<DrawnRemark>, AllocError> {
-    let remarks = remarks_at(alloc, look, source)?;
     let mut all = Vec::new(alloc);
-    for remark in remarks.as_slice() {
+    for remark in remarks_at(look.found.as_slice(), source) {
+        all.push(drawn(alloc, remark)?)?;
+    }
+    for remark in remarks_at(look.open.as_slice(), source) {
         all.push(drawn(alloc, remark)?)?;
     }
     Ok(all)

@@ -54,7 +54,7 @@ fn named_clock(words: &str) -> Option<(ClockIdentity, &str)> {
 
 /// A name in quotes, after a space. Each character that is not printable is escaped.
 #[derive(Clone, Copy)]
-pub(crate) struct Quoted<'a>(Option<&'a str>);
+pub(crate) struct Quoted<'a>(pub(crate) Option<&'a str>);
 
 impl fmt::Display for Quoted<'_> {
     fn fmt<W: fmt::Write>(&self, f: &mut fmt::Formatter<W>) -> fmt::Result {

@@ -1,16 +1,18 @@
-//! What is said of a clock below it in a picture and on a page: its findings, and what is open.
+//! What is said of a site: its findings, each with that from which it follows, and what is open.
 
-use crate::expected_text::clock_of_cause;
 use crate::finding_text::Said;
-use crate::look::{Look, found_at};
-use ptpm_causes::Cause;
+use crate::kinds::is_critical;
+use crate::phrases::clock_of_cause;
+use ptpm_causes::{Cause, Kind, named};
 use ptpm_site::finding::Finding;
+use ptpm_site::picture::Picture;
+use ptpm_site::site::Site;
 use ptpm_site::source::Source;
 use std::alloc::{AllocError, Global};
 use std::fmt;
 
 /// How much a remark weighs.
-#[derive(Clone, Copy, PartialEq, Eq)]
+#[derive(Clone, Copy)]
 pub(crate) enum Weight {
     Wrong,
     /// It follows from something else that is wrong.
@@ -22,92 +24,110 @@ pub(crate) enum Weight {
 /// A finding, or what is open.
 #[derive(Clone, Copy)]
 pub(crate) struct Remark<'a> {
-    pub(crate) weight: Weight,
     pub(crate) finding: &'a Finding<'a>,
+    /// Its name, and the clock at which it is printed.
+    pub(crate) named: Cause,
+    pub(crate) weight: Weight,
+    /// From what it follows.
     pub(crate) cause: Option<Cause>,
 }
 
-impl<'a> Remark<'a> {
-    pub(crate) fn of_finding(finding: &'a Finding<'a>, cause: Option<Cause>) -> Remark<'a> {
-        let weight = if cause.is_some() {
-            Weight::Follows
-        } else {
-            Weight::Wrong
+/// The findings of a picture, in their order. `causes` has of each from what it follows.
+pub(crate) fn remarks_of<'a>(
+    alloc: Global,
+    picture: &'a Picture<'a>,
+    causes: &[Option<Cause>],
+) -> Result<Vec<Remark<'a>>, AllocError> {
+    let mut remarks = Vec::new(alloc);
+    for (place, finding) in picture.findings.as_slice().iter().enumerate() {
+        let (weight, cause) = match causes.get(place) {
+            Some(Some(cause)) => (Weight::Follows, Some(*cause)),
+            _ => (Weight::Wrong, None),
         };
-        Remark {
-            weight,
+        let named = named(finding);
+        remarks.push(Remark {
             finding,
+            named,
+            weight,
             cause,
-        }
+        })?;
+    }
+    Ok(remarks)
+}
+
+/// What of a picture is open, in its order.
+pub(crate) fn open_of<'a>(
+    alloc: Global,
+    picture: &'a Picture<'a>,
+) -> Result<Vec<Remark<'a>>, AllocError> {
+    let mut remarks = Vec::new(alloc);
+    for finding in picture.open_findings.as_slice() {
+        let (named, weight, cause) = (named(finding), Weight::Open, None);
+        remarks.push(Remark {
+            finding,
+            named,
+            weight,
+            cause,
+        })?;
+    }
+    Ok(remarks)
+}
+
+impl Remark<'_> {
+    pub(crate) fn source(&self) -> Source {
+        self.finding.source
     }
 
-    pub(crate) fn of_open(finding: &'a Finding<'a>) -> Remark<'a> {
-        Remark {
-            weight: Weight::Open,
-            finding,
-            cause: None,
+    /// Whether it is wrong by itself, and follows from nothing else.
+    pub(crate) fn is_wrong(&self) -> bool {
+        matches!(self.weight, Weight::Wrong)
+    }
+
+    pub(crate) fn is_critical(&self) -> bool {
+        is_critical(self.named.kind)
+    }
+
+    /// Whether it follows from that a clock is there, and answers no management message.
+    pub(crate) fn is_of_silence(&self) -> bool {
+        match self.cause {
+            Some(cause) => matches!(cause.kind, Kind::Mute | Kind::OwnHost),
+            None => false,
         }
     }
 }
 
-/// The name and the values, and from what it follows.
+/// The name and the values, and from what it follows, with the clock of that if it is another.
 impl fmt::Display for Remark<'_> {
     fn fmt<W: fmt::Write>(&self, f: &mut fmt::Formatter<W>) -> fmt::Result {
-        write!(f, "{}", Said(&self.finding.what))?;
-        match self.cause {
-            Some(cause) => write_cause(self.finding.source, cause, f),
-            None => Ok(()),
+        write!(f, "{}", Said(self))?;
+        let Some(cause) = self.cause else {
+            return Ok(());
+        };
+        write!(f, "; follows from {}", cause.kind.name())?;
+        match clock_of_cause(cause) {
+            Some(clock) if clock != self.source().clock => write!(f, " of {clock}"),
+            _ => Ok(()),
         }
     }
 }
 
-/// Writes from what a finding of a clock follows, with the clock of that if it is another.
-fn write_cause<W: fmt::Write>(
-    source: Source,
-    cause: Cause,
-    f: &mut fmt::Formatter<W>,
-) -> fmt::Result {
-    write!(f, "; follows from {}", cause.kind.name())?;
-    match clock_of_cause(cause) {
-        Some(clock) if clock != source.clock => write!(f, " of {clock}"),
-        _ => Ok(()),
-    }
+/// Those of a clock. They are in the order of their clocks.
+pub(crate) fn remarks_at<'a>(remarks: &'a [Remark<'a>], source: Source) -> &'a [Remark<'a>] {
+    let from = remarks.partition_point(|remark| remark.source() < source);
+    let to = remarks.partition_point(|remark| remark.source() <= source);
+    remarks.get(from..to).unwrap_or(&[])
 }
 
-/// What is said of a clock: its findings in their order, and then what is open.
-pub(crate) fn remarks_at<'a>(
-    alloc: Global,
-    look: &'a Look<'a, 'a>,
-    source: Source,
-) -> Result<Vec<Remark<'a>>, AllocError> {
-    let mut remarks = Vec::new(alloc);
-    let found = found_at(look.picture.findings.as_slice(), source);
-    for (place, finding) in found.findings.iter().enumerate() {
-        let cause = look.cause_of(found.from.saturating_add(place));
-        remarks.push(Remark::of_finding(finding, cause))?;
-    }
-    for finding in found_at(look.picture.open_findings.as_slice(), source).findings {
-        remarks.push(Remark::of_open(finding))?;
-    }
-    Ok(remarks)
-}
-
-/// What is said of clocks that are not seen and of whole domains.
-pub(crate) fn remarks_of_unseen<'a>(
-    alloc: Global,
-    look: &'a Look<'a, 'a>,
-) -> Result<Vec<Remark<'a>>, AllocError> {
-    let site = look.picture.site;
-    let mut remarks = Vec::new(alloc);
-    for (place, finding) in look.picture.findings.as_slice().iter().enumerate() {
-        if !site.is_seen(finding.source) {
-            remarks.push(Remark::of_finding(finding, look.cause_of(place)))?;
+/// Adds those of clocks that are not seen and of whole domains.
+pub(crate) fn add_unseen<'a>(
+    site: &Site,
+    remarks: &[Remark<'a>],
+    all: &mut Vec<Remark<'a>>,
+) -> Result<(), AllocError> {
+    for remark in remarks {
+        if !site.is_seen(remark.source()) {
+            all.push(*remark)?;
         }
     }
-    for finding in look.picture.open_findings.as_slice() {
-        if !site.is_seen(finding.source) {
-            remarks.push(Remark::of_open(finding))?;
-        }
-    }
-    Ok(remarks)
+    Ok(())
 }

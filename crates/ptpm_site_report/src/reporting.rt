@@ -7,13 +7,15 @@ ghost use Rattle.ptpm_site_report.specs.Reporting.{outcome, status};
 
 use crate::drawing::draw;
 use crate::ignored::Ignored;
-use crate::json::Object;
+use crate::json::print_object;
 use crate::look::{Beside, Look};
+use crate::nagios::{Standing, print_plugin};
 use crate::names::Names;
-use crate::openmetrics::Metrics;
+use crate::openmetrics::print_metrics;
 use crate::page::print_page;
+use crate::remarks::{open_of, remarks_of};
 use crate::site_lines::{ShownSite, SiteLines, read_shown};
-use crate::text::Sheet;
+use crate::text::print_text;
 use ptpm_causes::causes_of;
 use ptpm_commands::Fault;
 use ptpm_expected::expectations::{Expectations, picture_of};
@@ -42,16 +44,6 @@ pub enum Form {
 pub struct Options {
     pub form: Form,
     pub limits: Limits,
-}
-
-impl Options {
-    /// The same, at a host whose clock has the right time or has not.
-    fn at_host(self, is_synchronised: bool) -> Options {
-        Options {
-            form: self.form,
-            limits: self.limits.at_host(is_synchronised),
-        }
-    }
 }
 
 /// What came of it.
@@ -96,6 +88,21 @@ pub struct Viewing<'a, 'b> {
     pub is_all: bool,
 }
 
+/// How a picture is printed.
+#[derive(Clone, Copy)]
+enum Way {
+    InForm(Form),
+    /// As a plugin does. How many nanoseconds the amount of an offset may have.
+    ByPlugin(Option<u64>),
+}
+
+/// What came of it, and how a plugin says it.
+#[derive(Clone, Copy)]
+struct Came {
+    conclusion: Conclusion,
+    standing: Standing,
+}
+
 /// Prints the site of a reader's lines.
 pub fn report<R: Read + Drop, O: Write>(
     alloc: Global,
@@ -104,38 +111,32 @@ pub fn report<R: Read + Drop, O: Write>(
     out: &mut O,
 ) -> Result<Conclusion, Fault> {
     let names = Names::new(alloc);
-    let SiteLines {
-        shown,
-        asked,
-        notes,
-    } = read_shown(alloc, reader)?;
+    let SiteLines { shown, said } = read_shown(alloc, reader)?;
+    let limits = options.limits.at_host(said.is_synchronised);
     let beside = Beside {
         names: &names,
-        asked,
-        span: notes.span,
+        said,
         is_all: false,
     };
-    report_of(
-        alloc,
-        options.at_host(notes.is_synchronised),
-        beside,
-        &shown,
-        out,
-    )
+    report_of(alloc, options.form, limits, beside, &shown, out)
 }
 
 /// Prints a site that is held to nothing, with all its findings.
 fn report_of<O: Write>(
     alloc: Global,
-    options: Options,
+    form: Form,
+    limits: Limits,
     beside: Beside<'_>,
     shown: &ShownSite,
     out: &mut O,
 ) -> Result<Conclusion, Fault>
-    ensures { IfOk result (λ came. came ≡ outcome (site_answers shown.now.site).clocks (findings_of (site_answers shown.now.site) options.limits)) }
+    ensures { IfOk result (λ came. came ≡ outcome (site_answers shown.now.site).clocks (findings_of (site_answers shown.now.site) limits)) }
 {
-    match Picture::of(alloc, &shown.site, shown.left_out, options.limits) {
-        Ok(picture) => print_picture(alloc, options.form, &picture, beside, out),
+    match Picture::of(alloc, &shown.site, shown.left_out, limits) {
+        Ok(picture) => {
+            let came = print_picture(alloc, Way::InForm(form), &picture, beside, out)?;
+            Ok(came.conclusion)
+        }
         Err(_) => Err(Fault::OutOfMemory),
     }
 }
@@ -149,47 +150,49 @@ pub fn report_viewed<R: Read + Drop, O: Write>(
     reader: R,
     out: &mut O,
 ) -> Result<Conclusion, Fault> {
-    let SiteLines {
-        shown,
-        asked,
-        notes,
-    } = read_shown(alloc, reader)?;
-    let beside = Beside {
-        names: viewing.names,
-        asked,
-        span: notes.span,
-        is_all: viewing.is_all,
-    };
-    let options = options.at_host(notes.is_synchronised);
-    report_held(
-        alloc,
-        options,
-        expectations,
-        viewing.ignored,
-        beside,
-        &shown,
-        out,
-    )
+    let (way, limits) = (Way::InForm(options.form), options.limits);
+    let came = report_in_way(alloc, way, limits, expectations, viewing, reader, out)?;
+    Ok(came.conclusion)
 }
 
-/// Prints a site that is held to what is expected of it.
-fn report_held<'a, O: Write>(
+/// The same, as a plugin of Nagios prints it. Answers how the site is.
+pub fn report_standing<R: Read + Drop, O: Write>(
     alloc: Global,
-    options: Options,
-    expectations: Expectations<'a>,
-    ignored: &Ignored,
-    beside: Beside<'_>,
-    shown: &'a ShownSite,
+    limits: Limits,
+    expectations: Expectations<'_>,
+    viewing: Viewing<'_, '_>,
+    reader: R,
     out: &mut O,
-) -> Result<Conclusion, Fault> {
-    match judged(alloc, options.limits, expectations, ignored, shown) {
-        Ok(picture) => print_picture(alloc, options.form, &picture, beside, out),
+) -> Result<Standing, Fault> {
+    let way = Way::ByPlugin(limits.offset);
+    let came = report_in_way(alloc, way, limits, expectations, viewing, reader, out)?;
+    Ok(came.standing)
+}
+
+fn report_in_way<R: Read + Drop, O: Write>(
+    alloc: Global,
+    way: Way,
+    limits: Limits,
+    expectations: Expectations<'_>,
+    viewing: Viewing<'_, '_>,
+    reader: R,
+    out: &mut O,
+) -> Result<Came, Fault> {
+    let SiteLines { shown, said } = read_shown(alloc, reader)?;
+    let limits = limits.at_host(said.is_synchronised);
+    let beside = Beside {
+        names: viewing.names,
+        said,
+        is_all: viewing.is_all,
+    };
+    match judged(alloc, limits, expectations, viewing.ignored, &shown) {
+        Ok(picture) => print_picture(alloc, way, &picture, beside, out),
         Err(_) => Err(Fault::OutOfMemory),
     }
 }
 
 /// The picture of a site, without the findings that are left out.
-pub(crate) fn judged<'a>(
+fn judged<'a>(
     alloc: Global,
     limits: Limits,
     expectations: Expectations<'a>,
@@ -205,35 +208,40 @@ pub(crate) fn judged<'a>(
 /// Prints a picture, and answers what came of its site.
 fn print_picture<O: Write>(
     alloc: Global,
-    form: Form,
+    way: Way,
     picture: &Picture<'_>,
     beside: Beside<'_>,
     out: &mut O,
-) -> Result<Conclusion, Fault>
-    ensures { IfOk result (λ came. came ≡ outcome picture.now.forest.sources.items (reported picture.now.findings.items)) }
+) -> Result<Came, Fault>
+    ensures { IfOk result (λ came. came.conclusion ≡ outcome picture.now.forest.sources.items (reported picture.now.findings.items)) }
 {
-    let causes = causes_of(alloc, picture).map_err(|_| Fault::OutOfMemory)?;
+    let causes = causes_of(alloc, picture)?;
     let look = Look {
         picture,
-        causes,
+        found: remarks_of(alloc, picture, causes.as_slice())?,
+        open: open_of(alloc, picture)?,
         beside,
     };
-    print_look(alloc, form, &look, out)?;
-    Ok(outcome_of(picture))
+    print_look(alloc, way, &look, out)?;
+    Ok(Came {
+        conclusion: outcome_of(picture),
+        standing: Standing::of(&look),
+    })
 }
 
 fn print_look<O: Write>(
     alloc: Global,
-    form: Form,
+    way: Way,
     look: &Look<'_, '_>,
     out: &mut O,
 ) -> Result<(), Fault> {
-    match form {
-        Form::Text => Sheet(look).print(alloc, out),
-        Form::Json => Object(look).print(alloc, out),
-        Form::Drawing => draw(alloc, look, out),
-        Form::Page => print_page(alloc, look, out),
-        Form::OpenMetrics => Metrics(look).print(out),
+    match way {
+        Way::InForm(Form::Text) => print_text(alloc, look, out),
+        Way::InForm(Form::Json) => print_object(alloc, look, out),
+        Way::InForm(Form::Drawing) => draw(alloc, look, out),
+        Way::InForm(Form::Page) => print_page(alloc, look, out),
+        Way::InForm(Form::OpenMetrics) => print_metrics(alloc, look, out),
+        Way::ByPlugin(limit) => print_plugin(alloc, look, limit, out),
     }
 }
 

@@ -10,12 +10,11 @@ use ptpm_site::site::Site;
 use std::alloc::{AllocError, Global};
 use std::io::Read;
 
-/// What lines show of a site.
+/// What lines show of a site, and what they say beside it.
 #[derive(Drop)]
 pub(crate) struct SiteLines {
     pub(crate) shown: ShownSite,
-    pub(crate) asked: Vec<AskedDomain>,
-    pub(crate) notes: LineNotes,
+    pub(crate) said: LinesSaid,
 }
 
 /// A site: no more clocks and ports than there is room for, and no clocks that are gone.
@@ -26,9 +25,11 @@ pub(crate) struct ShownSite {
     pub(crate) left_out: LeftOut,
 }
 
-/// What lines say beside their datagrams.
-#[derive(Clone, Copy)]
-pub(crate) struct LineNotes {
+/// What lines say beside the answers.
+#[derive(Drop)]
+pub(crate) struct LinesSaid {
+    /// The domains in which GETs among them ask.
+    pub(crate) asked: Vec<AskedDomain>,
     /// When the datagrams came. `None` if no line says it.
     pub(crate) span: Option<Span>,
     /// Whether the last note `#ptpm` says that the clock of the host that asked was right.
@@ -37,20 +38,17 @@ pub(crate) struct LineNotes {
 
 /// What is shown of the site of a reader's lines.
 pub(crate) fn read_shown<R: Read + Drop>(alloc: Global, reader: R) -> Result<SiteLines, Fault> {
-    let mut notes = LineNotes {
+    let mut said = LinesSaid {
+        asked: Vec::new(alloc),
         span: None,
         is_synchronised: false,
     };
-    let mut site = read_site(alloc, reader, &mut notes)?;
-    let asked = asked_domains(alloc, site.all_heard()).map_err(|_| Fault::OutOfMemory)?;
+    let mut site = read_site(alloc, reader, &mut said)?;
+    said.asked = asked_domains(alloc, site.all_heard())?;
     let left_out = site.keep_first();
-    site.drop_gone(alloc).map_err(|_| Fault::OutOfMemory)?;
+    site.drop_gone(alloc)?;
     let shown = ShownSite { site, left_out };
-    Ok(SiteLines {
-        shown,
-        asked,
-        notes,
-    })
+    Ok(SiteLines { shown, said })
 }
 
 /// The site that the answers among a reader's lines make. A datagram that is no answer to one of the six is passed over; a line
@@ -58,7 +56,7 @@ pub(crate) fn read_shown<R: Read + Drop>(alloc: Global, reader: R) -> Result<Sit
 fn read_site<R: Read + Drop>(
     alloc: Global,
     reader: R,
-    notes: &mut LineNotes,
+    said: &mut LinesSaid,
 ) -> Result<Site, Fault> {
     let mut lines = Lines::new(alloc, reader)?;
     let mut site = Site::new(alloc);
@@ -68,10 +66,10 @@ fn read_site<R: Read + Drop>(
         }
         let line = lines.text(number)?;
         if let Some(datagram) = lines.datagram(alloc, number)? {
-            notes.span = Span::with(notes.span, at_of(line));
-            take_line(alloc, &mut site, line, datagram.as_slice()).map_err(|_| Fault::OutOfMemory)?;
+            said.span = Span::with(said.span, at_of(line));
+            take_line(alloc, &mut site, line, datagram.as_slice())?;
         } else if let Some(says) = synchronised_in(line) {
-            notes.is_synchronised = says;
+            said.is_synchronised = says;
         }
     }
     Ok(site)

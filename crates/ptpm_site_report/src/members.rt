@@ -1,0 +1,104 @@
+//! The members of a JSON object.
+
+use ptpm_codec::{ClockIdentity, PortIdentity};
+use ptpm_site::data_sets::ClockQuality;
+use ptpm_site::member::{Value as MemberValue, mechanism_name, state_name};
+use serde_json::{Map, Value, json, put};
+use std::alloc::{AllocError, Global};
+use std::fmt;
+
+/// The members of an object.
+#[derive(Drop)]
+pub(crate) struct Members {
+    pub(crate) alloc: Global,
+    map: Map<String, Value>,
+}
+
+impl Members {
+    pub(crate) fn none(alloc: Global) -> Members {
+        let map = Map::new(alloc);
+        Members { alloc, map }
+    }
+
+    pub(crate) fn put_value(&mut self, name: &str, value: Value) -> Result<(), AllocError> {
+        put(&mut self.map, self.alloc, name, value)
+    }
+
+    /// Puts a value as a member of a data set has it.
+    pub(crate) fn put(&mut self, name: &str, value: MemberValue<'_>) -> Result<(), AllocError> {
+        let value = member_value(self.alloc, value)?;
+        self.put_value(name, value)
+    }
+
+    pub(crate) fn put_text(&mut self, name: &str, text: &str) -> Result<(), AllocError> {
+        let text = text_value(self.alloc, text)?;
+        self.put_value(name, text)
+    }
+
+    pub(crate) fn put_number(&mut self, name: &str, number: i64) -> Result<(), AllocError> {
+        self.put_value(name, Value::from(number))
+    }
+
+    /// Puts a number, or null.
+    pub(crate) fn put_if_any(&mut self, name: &str, number: Option<i64>) -> Result<(), AllocError> {
+        match number {
+            Some(number) => self.put_number(name, number),
+            None => self.put_value(name, Value::Null),
+        }
+    }
+
+    pub(crate) fn put_clock(&mut self, name: &str, clock: ClockIdentity) -> Result<(), AllocError> {
+        let clock = identity_value(self.alloc, clock)?;
+        self.put_value(name, clock)
+    }
+
+    /// Puts words as a text.
+    pub(crate) fn put_words<D: fmt::Display>(
+        &mut self,
+        name: &str,
+        words: &D,
+    ) -> Result<(), AllocError> {
+        let words = format!(in self.alloc; "{words}")?;
+        self.put_value(name, Value::String(words))
+    }
+
+    pub(crate) fn object(self) -> Value {
+        Value::Object(self.map)
+    }
+}
+
+/// The value of a member.
+fn member_value(alloc: Global, value: MemberValue<'_>) -> Result<Value, AllocError> {
+    match value {
+        MemberValue::Flag(flag) => Ok(Value::Bool(flag)),
+        MemberValue::Number(number) => Ok(Value::from(number)),
+        MemberValue::Quality(quality) => quality_value(alloc, quality),
+        MemberValue::Clock(clock) => identity_value(alloc, clock),
+        MemberValue::Port(port) => port_value(alloc, port),
+        MemberValue::State(state) => text_value(alloc, state_name(state)),
+        MemberValue::Mechanism(mechanism) => text_value(alloc, mechanism_name(mechanism)),
+        MemberValue::Text(text) => text_value(alloc, text),
+    }
+}
+
+pub(crate) fn text_value(alloc: Global, text: &str) -> Result<Value, AllocError> {
+    Ok(Value::String(String::from_str(alloc, text)?))
+}
+
+pub(crate) fn identity_value(alloc: Global, clock: ClockIdentity) -> Result<Value, AllocError> {
+    Ok(Value::String(format!(in alloc; "{clock}")?))
+}
+
+fn port_value(alloc: Global, port: PortIdentity) -> Result<Value, AllocError> {
+    let identity = identity_value(alloc, port.clock)?;
+    json!(in alloc; {"clockIdentity": identity, "portNumber": port.port})
+}
+
+/// A ClockQuality, as an object (5.3.7).
+fn quality_value(alloc: Global, quality: ClockQuality) -> Result<Value, AllocError> {
+    json!(in alloc; {
+        "clockClass": quality.class,
+        "clockAccuracy": quality.accuracy,
+        "offsetScaledLogVariance": quality.variance
+    })
+}
