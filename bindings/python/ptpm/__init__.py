@@ -20,6 +20,7 @@ from .changed import Changed, ClockMembers, PortMembers
 from .clock import Clock, Handled
 from .data_sets import ClockQuality, CurrentDataSet, DefaultDataSet, ParentDataSet, PortDataSet, TimePropertiesDataSet
 from .device import Asked, ChangeRefused, Gives, Limit, Objection, Say
+from .domain_identity import DomainIdentity
 from .errors import PtpmError
 from .identity import Identity, PortIdentity
 from .ids import Action, ManagementId, error_name, id_name, id_of
@@ -35,19 +36,19 @@ from .session import Session
 from .session_file import DamagedFileError, OpenApplyError, SessionFile, SessionFileError, usual_path
 from .settings import ClockSettings, DelayMechanism, Manager, PortSettings, PortState, Rights
 from .site import SiteError, site
-from .site_tree import Domain, Finding, Site, SiteClock, read_site
+from .site_tree import AskedDomain, Domain, Finding, Site, SiteClock, read_site
 from .survey import SURVEY_PORT, Survey, SurveySettings, survey
 from .time_interval import TimeInterval, time_interval
 from .transport import Transport, UdpTransport, UnixTransport
 
 __all__ = [
-    "__version__", "Action", "answer_name", "ask_as_nobody", "Asked", "Changed", "ChangeRefused", "Clock", "ClockMembers",
-    "ClockQuality", "ClockSettings", "CurrentDataSet", "DamagedFileError", "data_field", "DefaultDataSet", "DelayMechanism", "Domain",
-    "Error", "error_name", "Finding", "get", "Gives", "HandleAnswer", "Handled", "id_name", "id_of", "Identity", "Limit", "ManagementId",
-    "Manager", "members", "NoAnswer", "Objection", "ObservedClock", "ObservedGrandmaster", "ObservedPort", "OpenApplyError",
-    "ParentDataSet", "PassedOn", "PortDataSet", "PortIdentity", "PortMembers", "PortSettings", "PortState", "PtpmError", "Rate", "read_site",
-    "Report", "Requests", "Rights", "SavingClock", "SavingSession", "Say", "Session", "SessionAnswer", "SessionFile", "SessionFileError",
-    "SessionSettings",
-    "Site", "site", "SiteClock", "SiteError", "Survey", "survey", "SURVEY_PORT", "SurveyAnswer", "SurveySettings", "time_interval",
-    "TimeInterval", "TimePropertiesDataSet", "Transport", "Turn", "UdpTransport", "UnixTransport", "usual_path",
+    "__version__", "Action", "answer_name", "ask_as_nobody", "Asked", "AskedDomain", "Changed", "ChangeRefused", "Clock",
+    "ClockMembers", "ClockQuality", "ClockSettings", "CurrentDataSet", "DamagedFileError", "data_field", "DefaultDataSet",
+    "DelayMechanism", "Domain", "DomainIdentity", "Error", "error_name", "Finding", "get", "Gives", "HandleAnswer", "Handled",
+    "id_name", "id_of", "Identity", "Limit", "ManagementId", "Manager", "members", "NoAnswer", "Objection", "ObservedClock",
+    "ObservedGrandmaster", "ObservedPort", "OpenApplyError", "ParentDataSet", "PassedOn", "PortDataSet", "PortIdentity",
+    "PortMembers", "PortSettings", "PortState", "PtpmError", "Rate", "read_site", "Report", "Requests", "Rights", "SavingClock",
+    "SavingSession", "Say", "Session", "SessionAnswer", "SessionFile", "SessionFileError", "SessionSettings", "Site", "site",
+    "SiteClock", "SiteError", "Survey", "survey", "SURVEY_PORT", "SurveyAnswer", "SurveySettings", "time_interval", "TimeInterval",
+    "TimePropertiesDataSet", "Transport", "Turn", "UdpTransport", "UnixTransport", "usual_path",
 ]

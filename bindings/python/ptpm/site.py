@@ -11,8 +11,10 @@ import time
 from pathlib import Path
 from typing import Iterable, List, Optional, Sequence, Tuple, Union
 
+from .domain_identity import DomainIdentity
 from .errors import PtpmError
-from .site_tree import Site, read_site
+from .identity import Identity
+from .site_tree import Finding, Site, read_site
 
 _FOUND, _NO_CLOCK = 1, 3
 _BEFORE_SECOND_LOOK = 2.0
@@ -80,24 +82,35 @@ def _shown(lines: Iterable[str], notes: Sequence[str], limits: Sequence[str]) ->
     return dataclasses.replace(site, lines=kept, notes=(*notes, *said))
 
 
+def _key(finding: Finding) -> Tuple[DomainIdentity, Optional[Identity], str]:
+    """What a finding has in common with the same one of another look."""
+    return finding.domain_identity, finding.clock, finding.name
+
+
 def _looked(words: Sequence[str], limits: Sequence[str], once: bool, limit: Optional[float]) -> Site:
     """A look at the site, and if a finding may be only momentary, another: then such findings are left only if they hold twice."""
     first = _shown(*_collected(words, limit), limits)
-    before = {(finding.domain, finding.clock, finding.name) for finding in first.findings if finding.name in PASSING}
+    before = {_key(finding) for finding in first.findings if finding.name in PASSING}
     if once or not before:
         return first
     time.sleep(_BEFORE_SECOND_LOOK)
     second = _shown(*_collected(words, limit), limits)
-    held = (
-        finding for finding in second.findings
-        if finding.name not in PASSING or (finding.domain, finding.clock, finding.name) in before
-    )
+    held = (finding for finding in second.findings if finding.name not in PASSING or _key(finding) in before)
     return dataclasses.replace(second, findings=tuple(held))
 
 
 def _words(options: Iterable[Tuple[str, Union[str, int, float, None]]]) -> List[str]:
     """The options that are given, as words of a command line."""
     return [word for name, value in options if value is not None for word in (name, str(value))]
+
+
+def _domain_words(domains: Union[int, str, DomainIdentity], sdo: Union[int, str, None]) -> List[str]:
+    """The words that say in which domains is asked."""
+    if isinstance(domains, DomainIdentity):
+        if sdo is not None:
+            raise ValueError(f"sdo is given beside the domain {domains}, which has its own")
+        domains, sdo = domains
+    return _words((("--domain", domains), ("--sdo", sdo)))
 
 
 def site(
@@ -108,7 +121,8 @@ def site(
     ipv6: bool = False,
     ethernet: bool = False,
     lines: Optional[Iterable[str]] = None,
-    domains: Union[int, str] = 0,
+    domains: Union[int, str, DomainIdentity] = 0,
+    sdo: Union[int, str, None] = None,
     hops: Optional[int] = None,
     attempts: Optional[int] = None,
     timeout: Optional[float] = None,
@@ -121,11 +135,13 @@ def site(
 ) -> Site:
     """Looks at a whole site: asks every clock with `ptpm-manage collect`, and passes the answers to `ptpm site`.
 
-    The way is one or up to eight `interfaces` (UDP over IPv4, or `ipv6`, or `ethernet`), an address (`udp`), or a socket (`unix`). Or
-    `lines` are answers that were collected before, a datagram in hexadecimal each. `domains` is one, a range such as "0-7", or "all".
-    In seconds, `timeout` is how long a clock has for an answer, and `listen` how long Announce messages are listened for. `limit`
-    is how long a collection may take. An offset or a delay above `max_offset` or `max_delay`, in nanoseconds, is a finding; a
-    `max_offset` of "none" is no limit. `tai_utc` is how many seconds TAI is before UTC. What is None is the programs'. Like `ptpm-manage status` it looks again after two seconds if a finding may pass, unless `once` is set.
+    The way is one or up to eight `interfaces` (UDP over IPv4, or `ipv6`, or `ethernet`), an address (`udp`), or a socket (`unix`).
+    Or `lines` are answers that were collected before, a datagram in hexadecimal each. `domains` is one, a range such as "0-7", or
+    "all", and `sdo` their sdoId, such as 0x100, or "all". A DomainIdentity is one domain of its own sdoId. In seconds, `timeout` is
+    how long a clock has for an answer, and `listen` how long clocks are listened for. `limit` is how long a collection may take. An
+    offset or a delay above `max_offset` or `max_delay`, in nanoseconds, is a finding; a `max_offset` of "none" is no limit.
+    `tai_utc` is how many seconds TAI is before UTC. What is None is the programs'. Like `ptpm-manage status` it looks again after
+    two seconds if a finding may pass, unless `once` is set.
 
     A SiteError has the program's words; its status is 3 if no clock answered."""
     limits = _words((("--max-offset", max_offset), ("--max-delay", max_delay), ("--tai-utc", tai_utc)))
@@ -138,7 +154,8 @@ def site(
     if not ways:
         raise ValueError("the way to the clocks is missing: interfaces, udp, unix, or lines that were collected before")
     words = _words([("--interface", name) for name in named])
-    words += _words((("--unix", None if unix is None else os.fspath(unix)), ("--udp", udp), ("--domain", domains), ("--hops", hops)))
-    words += _words((("--attempts", attempts), ("--timeout", None if timeout is None else round(1000 * timeout)), ("--listen", listen)))
+    words += _words((("--unix", None if unix is None else os.fspath(unix)), ("--udp", udp))) + _domain_words(domains, sdo)
+    milliseconds = None if timeout is None else round(1000 * timeout)
+    words += _words((("--hops", hops), ("--attempts", attempts), ("--timeout", milliseconds), ("--listen", listen)))
     words += [word for word, is_set in (("--ipv6", ipv6), ("--ethernet", ethernet)) if is_set]
     return _looked(words, limits, once, limit)

@@ -27,10 +27,11 @@ def _parser() -> argparse.ArgumentParser:
     add("-u", "--unix", metavar="PATH", help="at a Unix socket of this machine, as /var/run/ptp4l")
     add("--lines", metavar="FILE", help="of answers that were collected before; - is standard input")
     add("-d", "--domain", default="0", help="a domain, a range such as 0-7, or all")
+    add("--sdo", metavar="N", help="the sdoId of these domains, such as 0x100, or all")
     add("-b", "--hops", type=int, help="boundary clocks that pass the requests on")
     add("-a", "--attempts", type=int, help="how often a clock is asked for what it lacks")
     add("-t", "--timeout", type=int, help="milliseconds for each answer")
-    add("--listen", type=int, help="seconds for Announce messages, with -d all")
+    add("--listen", type=int, help="seconds to listen for clocks, with -d all and --sdo all")
     add("--max-offset", metavar="NS", help="an offset above this many nanoseconds is a finding; none is no limit")
     add("--max-delay", type=int, metavar="NS", help="a delay above this many nanoseconds is a finding")
     add("--tai-utc", type=int, metavar="S", help="how many seconds TAI is before UTC")
@@ -41,7 +42,7 @@ def _parser() -> argparse.ArgumentParser:
 def _looked(words: argparse.Namespace, lines: Optional[TextIO]) -> Site:
     return site(
         words.interface, unix=words.unix, udp=words.udp, ipv6=words.ipv6, ethernet=words.ethernet, lines=lines, domains=words.domain,
-        hops=words.hops, attempts=words.attempts, timeout=None if words.timeout is None else words.timeout / 1000,
+        sdo=words.sdo, hops=words.hops, attempts=words.attempts, timeout=None if words.timeout is None else words.timeout / 1000,
         listen=words.listen, max_offset=words.max_offset, max_delay=words.max_delay, tai_utc=words.tai_utc,
         once=words.once,
     )

@@ -4,11 +4,12 @@ from __future__ import annotations
 
 import json
 from dataclasses import dataclass, field
-from typing import Any, Dict, Iterator, List, Mapping, Optional, Set, Tuple
+from typing import Any, Dict, Iterator, List, Mapping, NamedTuple, Optional, Set, Tuple
 
 from .data_sets import (
     CurrentDataSet, DefaultDataSet, ParentDataSet, PortDataSet, TimePropertiesDataSet, identity_of, member_of, number_of, read, text_of,
 )
+from .domain_identity import DomainIdentity
 from .identity import Identity, PortIdentity
 from .settings import PortState
 
@@ -17,18 +18,28 @@ _HEAD = ("domainNumber", "sdoId", "clockIdentity", "userDescription", "finding",
 # The values of a finding that are of the member which its `member` names.
 _OF_MEMBER = ("value", "expected", "before", "after")
 
+# What is written for the clock if a finding is of a whole domain.
+_NO_CLOCK = "-"
+
 
 @dataclass(frozen=True)
 class Finding:
     """What is wrong with a clock: the name of the finding, its values by their names, and whether it is "critical" or a "warning"
-    (docs/ptpm-site.md). `because` is the name and the clock of the finding from which it follows, if it does."""
+    (docs/ptpm-site.md). `domain` is the domainNumber. The clock is None if the finding is of a whole domain. `because` is the name
+    and the clock of the finding from which it follows, if it does."""
 
     domain: int
-    clock: Identity
+    clock: Optional[Identity]
     name: str
     values: Mapping[str, Any]
     severity: str
-    because: Optional[Tuple[str, Identity]] = None
+    because: Optional[Tuple[str, Optional[Identity]]] = None
+    sdo_id: int = 0
+
+    @property
+    def domain_identity(self) -> DomainIdentity:
+        """Its domain."""
+        return DomainIdentity(self.domain, self.sdo_id)
 
     def _value_text(self, name: str) -> str:
         """A value as a line has it. A description is in quotes, as it is in a clock's line."""
@@ -36,13 +47,14 @@ class Finding:
         return json.dumps(self.values[name]) if is_description else _text(self.values[name])
 
     def __str__(self) -> str:
-        return " ".join([f"{self.domain} {self.clock} {self.name}", *(f"{name}={self._value_text(name)}" for name in self.values)])
+        head = f"{self.domain_identity} {self.clock or _NO_CLOCK} {self.name}"
+        return " ".join([head, *(f"{name}={self._value_text(name)}" for name in self.values)])
 
 
 @dataclass(frozen=True)
 class SiteClock:
-    """A clock in a domain, with what it answered: None, and of its ports none, is what it did not answer. `followers` are the clocks
-    that follow it, by its port, and then by identity."""
+    """A clock in a domain, with what it answered: None, and of its ports none, is what it did not answer. `domain` is the
+    domainNumber. `followers` are the clocks that follow it, by its port, and then by identity."""
 
     domain: int
     identity: Identity
@@ -53,6 +65,12 @@ class SiteClock:
     ports: Tuple[PortDataSet, ...] = ()
     description: Optional[str] = None
     followers: List[SiteClock] = field(default_factory=list, repr=False, compare=False)
+    sdo_id: int = 0
+
+    @property
+    def domain_identity(self) -> DomainIdentity:
+        """Its domain."""
+        return DomainIdentity(self.domain, self.sdo_id)
 
     @property
     def is_own_grandmaster(self) -> bool:
@@ -72,14 +90,20 @@ class SiteClock:
 
 @dataclass(frozen=True)
 class Domain:
-    """A domain: its clocks by identity, and the same as a tree. `roots` are the clocks at its left. They are their own
-    grandmasters, or the lowest of a loop, or did not say whom they follow. `lost` are those that follow a port of a
+    """A domain: its domainNumber and sdoId, its clocks by identity, and the same as a tree. `roots` are the clocks at its left. They
+    are their own grandmasters, or the lowest of a loop, or did not say whom they follow. `lost` are those that follow a port of a
     clock that did not answer."""
 
     number: int
     clocks: Tuple[SiteClock, ...]
     roots: Tuple[SiteClock, ...]
     lost: Mapping[PortIdentity, Tuple[SiteClock, ...]]
+    sdo_id: int = 0
+
+    @property
+    def identity(self) -> DomainIdentity:
+        """Which domain it is."""
+        return DomainIdentity(self.number, self.sdo_id)
 
     @property
     def grandmasters(self) -> Tuple[SiteClock, ...]:
@@ -100,20 +124,30 @@ class Domain:
             stack.extend((depth + 1, follower) for follower in reversed(clock.followers))
 
     def __str__(self) -> str:
-        head = f"domain {self.number}: {len(self.clocks)} clocks"
+        head = f"domain {self.identity}: {len(self.clocks)} clocks"
         return "\n".join([head, *(f"{'  ' * (depth + 1)}{clock}" for depth, clock in self.rows())])
+
+
+class AskedDomain(NamedTuple):
+    """A domain in which the GETs among the lines ask, and the most boundary clocks that pass one on."""
+
+    domain: DomainIdentity
+    boundary_hops: int
 
 
 @dataclass(frozen=True)
 class Site:
     """A site at a glance. `left_out` is how many clocks and ports are not shown, since there are too many. `lines` are the answers
-    that it was made of, in hexadecimal, and `notes` what the programs said beside it."""
+    that it was made of, in hexadecimal, and `notes` what the programs said beside it. `open` is what these answers don't decide, and
+    `asked` the domains that were asked, as far as the lines have the requests."""
 
     domains: Tuple[Domain, ...]
     findings: Tuple[Finding, ...]
     left_out: Tuple[int, int] = (0, 0)
     lines: Tuple[str, ...] = field(default=(), repr=False)
     notes: Tuple[str, ...] = ()
+    open: Tuple[Finding, ...] = ()
+    asked: Tuple[AskedDomain, ...] = ()
 
     @property
     def clocks(self) -> Tuple[SiteClock, ...]:
@@ -122,7 +156,8 @@ class Site:
 
     def __str__(self) -> str:
         head = f"findings: {len(self.findings) or 'none'}"
-        return "\n".join([*map(str, self.domains), "", head, *map(str, self.findings)])
+        undecided = [f"open: {len(self.open)}", *map(str, self.open)] if self.open else []
+        return "\n".join([*map(str, self.domains), "", head, *map(str, self.findings), *undecided])
 
 
 def _text(value: object) -> str:
@@ -151,25 +186,41 @@ def _value(told: Mapping[str, Any], name: str) -> Any:
     return member_of(told.get("member", name) if name in _OF_MEMBER else name, told[name])
 
 
+def _domain_identity(told: Mapping[str, Any]) -> DomainIdentity:
+    """The domain that an object names. One of an earlier version has no sdoId."""
+    return DomainIdentity(number_of(told["domainNumber"]), number_of(told.get("sdoId", 0)))
+
+
+def _clock_identity(told: Mapping[str, Any]) -> Optional[Identity]:
+    """The clock that an object names; none if it is of a whole domain."""
+    return None if told["clockIdentity"] == _NO_CLOCK else identity_of(told["clockIdentity"])
+
+
 def _finding(told: Mapping[str, Any]) -> Finding:
     values = {name: _value(told, name) for name in told if name not in _HEAD}
-    head = number_of(told["domainNumber"]), identity_of(told["clockIdentity"]), text_of(told["finding"])
+    domain = _domain_identity(told)
     because = told.get("because")
-    cause = (text_of(because["finding"]), identity_of(because["clockIdentity"])) if because else None
-    return Finding(*head, values, text_of(told["severity"]), cause)
+    cause = (text_of(because["finding"]), _clock_identity(because)) if because else None
+    head = domain.number, _clock_identity(told), text_of(told["finding"])
+    return Finding(*head, values, text_of(told["severity"]), cause, domain.sdo_id)
 
 
-def _clock(domain: int, told: Mapping[str, Any]) -> SiteClock:
+def _asked(told: Mapping[str, Any]) -> AskedDomain:
+    return AskedDomain(_domain_identity(told), number_of(told["boundaryHops"]))
+
+
+def _clock(domain: DomainIdentity, told: Mapping[str, Any]) -> SiteClock:
     def answered(named: str, kind: Any) -> Any:
         return read(kind, told[named]) if named in told else None
 
     description = told.get("USER_DESCRIPTION")
     return SiteClock(
-        domain, identity_of(told["clockIdentity"]), answered("DEFAULT_DATA_SET", DefaultDataSet),
+        domain.number, identity_of(told["clockIdentity"]), answered("DEFAULT_DATA_SET", DefaultDataSet),
         answered("CURRENT_DATA_SET", CurrentDataSet), answered("PARENT_DATA_SET", ParentDataSet),
         answered("TIME_PROPERTIES_DATA_SET", TimePropertiesDataSet),
         tuple(read(PortDataSet, port) for port in told["PORT_DATA_SET"]),
         None if description is None else text_of(description["userDescription"]),
+        sdo_id=domain.sdo_id,
     )
 
 
@@ -191,8 +242,8 @@ def _loops(parents: Mapping[Identity, Identity]) -> List[Identity]:
 
 
 def _domain(told: Mapping[str, Any]) -> Domain:
-    number = number_of(told["domainNumber"])
-    clocks = sorted((_clock(number, clock) for clock in told["clocks"]), key=lambda clock: clock.identity)
+    domain = _domain_identity(told)
+    clocks = sorted((_clock(domain, clock) for clock in told["clocks"]), key=lambda clock: clock.identity)
     seen = {clock.identity: clock for clock in clocks}
     follows = {clock.identity: clock.follows for clock in clocks}
     parents = {clock: port.clock for clock, port in follows.items() if port is not None and port.clock in seen}
@@ -204,7 +255,7 @@ def _domain(told: Mapping[str, Any]) -> Domain:
     own = [clock for clock in clocks if clock.is_own_grandmaster]
     silent = [clock for clock in clocks if clock.parent is None]
     roots = (*own, *(seen[identity] for identity in loops), *silent)
-    return Domain(number, tuple(clocks), roots, {port: tuple(clocks) for port, clocks in lost.items()})
+    return Domain(domain.number, tuple(clocks), roots, {port: tuple(clocks) for port, clocks in lost.items()}, domain.sdo_id)
 
 
 def read_site(text: str) -> Site:
@@ -215,6 +266,7 @@ def read_site(text: str) -> Site:
         return Site(
             tuple(map(_domain, told["domains"])), tuple(map(_finding, told["findings"])),
             (number_of(left_out["clocks"]), number_of(left_out["ports"])),
+            open=tuple(map(_finding, told.get("open", ()))), asked=tuple(map(_asked, told.get("asked", ()))),
         )
     except (KeyError, TypeError, AttributeError) as error:
         raise ValueError(f"it lacks or has another form of {error}") from error

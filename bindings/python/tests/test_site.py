@@ -10,7 +10,7 @@ import sys
 import unittest
 from decimal import Decimal
 from pathlib import Path
-from typing import Any, Dict, Iterator, List, Optional, Set, Tuple
+from typing import Any, Dict, Iterable, Iterator, List, Optional, Set, Tuple
 from unittest import mock
 
 import ptpm
@@ -26,8 +26,9 @@ def setUpModule() -> None:
     subprocess.run([str(TOP / "ptpm"), "--version"], capture_output=True, check=True)
 
 
-def recorded() -> Iterator[Tuple[str, Dict[str, Any], Found]]:
-    """Of each recorded site its name, its limits, and its findings by domain, name and clock."""
+def recorded() -> Iterator[Tuple[str, Dict[str, Any], Found, Found]]:
+    """Of each recorded site its name, its limits, its findings, and what is open: domain, name and clock, and the name and the clock of
+    the finding from which it follows."""
     for paragraph in (SITES / "sites.txt").read_text(encoding="utf-8").split("\n\n"):
         rows = [line for line in paragraph.splitlines() if not line.startswith("#")]
         if not rows:
@@ -36,11 +37,36 @@ def recorded() -> Iterator[Tuple[str, Dict[str, Any], Found]]:
         if "--profile" in options or "--expect" in options:
             continue  # the binding takes neither
         limits = {name[2:].replace("-", "_"): int(limit) for name, limit in zip(options[::2], options[1::2])}
-        yield rows[0], limits, {tuple(line.split()) for line in rows[2:] if not line.startswith("options ")}
+        found = {tuple(line.replace("< ", "").split()) for line in rows[2:] if not line.startswith("options ")}
+        undecided = {row for row in found if row[0] == "open"}
+        yield rows[0], limits, found - undecided, {row[1:] for row in undecided}
+
+
+def rows_of(findings: Iterable[ptpm.Finding]) -> Found:
+    """These findings in the form of the recorded ones."""
+    return {(str(one.domain_identity), one.name, str(one.clock), *map(str, one.because or ())) for one in findings}
 
 
 def lines(name: str) -> List[str]:
     return (SITES / f"sites/{name}.lines").read_text(encoding="ascii").splitlines()
+
+
+def told(findings: Iterable[str] = (), undecided: Iterable[str] = (), sdo_ids: Iterable[int] = ()) -> str:
+    """An object of `ptpm site --json`: clock 0200a1fffe000101 answered nothing in domain 4 of these sdoIds, which were asked."""
+    clock = '{"PORT_DATA_SET":[],"clockIdentity":"0200a1fffe000101"}'
+    domains = [f'"domainNumber":4,"sdoId":{sdo_id}' for sdo_id in sdo_ids]
+    lists = {
+        "asked": [f'{{{domain},"boundaryHops":7}}' for domain in domains],
+        "domains": [f'{{{domain},"grandmasters":[],"clocks":[{clock}]}}' for domain in domains], "open": undecided, "findings": findings,
+    }
+    return "{" + "".join(f'"{name}":[{",".join(parts)}],' for name, parts in lists.items()) + '"leftOut":{"clocks":0,"ports":0}}'
+
+
+def told_finding(name: str, sdo_id: int = 0, clock: str = "0200a1fffe000101", values: str = "") -> str:
+    """A finding in domain 4 of it."""
+    return (
+        f'{{"because":null,"clockIdentity":"{clock}",{values}"domainNumber":4,"finding":"{name}","sdoId":{sdo_id},"severity":"warning"}}'
+    )
 
 
 def rows_of_text(name: str) -> List[Tuple[int, str]]:
@@ -54,10 +80,10 @@ def rows_of_text(name: str) -> List[Tuple[int, str]]:
 
 class Recorded(unittest.TestCase):
     def test_findings_and_trees(self) -> None:
-        for name, limits, wanted in recorded():
+        for name, limits, wanted, undecided in recorded():
             with self.subTest(name):
                 site = ptpm.site(lines=lines(name), **limits)
-                self.assertEqual({(str(found.domain), found.name, str(found.clock)) for found in site.findings}, wanted)
+                self.assertEqual((rows_of(site.findings), rows_of(site.open)), (wanted, undecided))
                 tree = [(depth, str(clock.identity)) for domain in site.domains for depth, clock in domain.rows()]
                 self.assertEqual(tree, rows_of_text(name))
 
@@ -96,12 +122,41 @@ class Recorded(unittest.TestCase):
             f'{{"better":"0200a1fffe000201","priority1":128,{head},"finding":"better_clock"}}',
             f'{{"after":"0200a1fffe000201","before":"0200a1fffe000101","clocks":4,{head},"finding":"grandmaster_changed"}}',
         ))
-        told = f'{{"domains":[],"findings":[{findings}],"leftOut":{{"clocks":0,"ports":0}}}}'
-        followers, offset, better, changed = sys.modules["ptpm.site_tree"].read_site(told).findings
+        printed = f'{{"domains":[],"findings":[{findings}],"leftOut":{{"clocks":0,"ports":0}}}}'
+        followers, offset, better, changed = ptpm.read_site(printed).findings
         self.assertEqual(followers.values["clocks"], 2)
         self.assertEqual((offset.values["currentUtcOffset"], offset.values["expected"]), (36, 37))
         self.assertEqual(better.values["better"], ptpm.Identity.of("0200a1fffe000201"))
         self.assertEqual((changed.values["after"], changed.values["clocks"]), (ptpm.Identity.of("0200a1fffe000201"), 4))
+
+    def test_domains_of_one_number(self) -> None:
+        zero, other = ptpm.DomainIdentity(4), ptpm.DomainIdentity(4, 0x100)
+        site = ptpm.read_site(told([told_finding("own_host", 0x100), told_finding("own_host")], sdo_ids=(0, 0x100)))
+        self.assertEqual([domain.identity for domain in site.domains], [zero, other])
+        self.assertEqual([clock.domain_identity for clock in site.clocks], [zero, other])
+        self.assertNotEqual(*site.clocks)
+        self.assertEqual([finding.domain_identity for finding in site.findings], [other, zero])
+        self.assertNotEqual(*site.findings)
+        self.assertEqual(site.asked, ((zero, 7), (other, 7)))
+        self.assertEqual({finding.domain for finding in site.findings} | {domain.number for domain in site.domains}, {4})
+        heads = [line for line in str(site).splitlines() if not line.startswith(" ")]
+        found = ["findings: 2", "4@0x100 0200a1fffe000101 own_host", "4 0200a1fffe000101 own_host"]
+        self.assertEqual(heads, ["domain 4: 1 clocks", "domain 4@0x100: 1 clocks", "", *found])
+
+    def test_what_is_open(self) -> None:
+        site = ptpm.read_site(told(undecided=[
+            told_finding("not_locked", values='"offsetFromMaster":null,"portNumber":1,"portState":"UNCALIBRATED","seconds":3,'),
+            told_finding("not_asked", 0x100, "-", '"clocks":2,'),
+        ]))
+        port, domain = site.open
+        self.assertEqual((port.values["portState"], port.values["seconds"]), (ptpm.PortState.UNCALIBRATED, 3))
+        self.assertEqual((domain.clock, domain.domain_identity, domain.values), (None, (4, 0x100), {"clocks": 2}))
+        self.assertEqual(str(site).splitlines()[1:3], ["findings: none", "open: 2"])
+        self.assertEqual(str(site).splitlines()[-1], "4@0x100 - not_asked clocks=2")
+
+    def test_what_passes_is_as_the_page_says(self) -> None:
+        page = (TOP / "docs/ptpm-site.md").read_text(encoding="utf-8")
+        self.assertEqual(set(re.findall(r"^\| `(\w+)` \| \w+ \| two \|", page, re.M)), sys.modules["ptpm.site"].PASSING)
 
     def test_a_description_controls_no_terminal(self) -> None:
         def answer(number: int, text: str) -> str:
@@ -150,6 +205,10 @@ class Programs(Folder):
             os.symlink(SITES / f"sites/{name}.lines", f"{self.folder}/{place}")
         self.write("ptpm-manage", f'cd {self.folder}; echo "$*" >> words; cat $(($(wc -l < words) - 1)); echo noted >&2')
 
+    def asked(self) -> List[str]:
+        """The words of each collection."""
+        return Path(self.folder, "words").read_text(encoding="ascii").splitlines()
+
     def refused(self, what: str, status: Optional[int], **words: Any) -> None:
         with self.assertRaises(ptpm.SiteError) as caught:
             ptpm.site(**words)
@@ -162,9 +221,19 @@ class Programs(Folder):
             ["eth0", "eth1"], domains="all", hops=3, attempts=5, timeout=0.25, listen=2, ipv6=True, limit=20
         )
         self.assertEqual((list(site.lines), site.notes, site.findings), (lines("a_chain"), ("noted",), ()))
-        told = Path(self.folder, "words").read_text(encoding="ascii")
         options = "--domain all --hops 3 --attempts 5 --timeout 250 --listen 2 --ipv6"
-        self.assertEqual(told, f"--interface eth0 --interface eth1 {options} collect\n")
+        self.assertEqual(self.asked(), [f"--interface eth0 --interface eth1 {options} collect"])
+
+    def test_another_sdo_id(self) -> None:
+        self.collects("a_chain", "a_chain", "a_chain", "a_chain")
+        ptpm.site("eth0", domains="0-7", sdo=0x100)
+        ptpm.site("eth0", domains="all", sdo="all")
+        ptpm.site("eth0", domains=ptpm.DomainIdentity(4, 0x100))
+        words = [sys.executable, "-m", "ptpm", "site", "-i", "eth0", "--sdo", "0x100"]
+        self.assertEqual(subprocess.run(words, capture_output=True, check=False).returncode, 0)
+        domains = ("0-7 --sdo 256", "all --sdo all", "4 --sdo 256", "0 --sdo 0x100")
+        self.assertEqual(self.asked(), [f"--interface eth0 --domain {words} collect" for words in domains])
+        self.assertRaises(ValueError, ptpm.site, "eth0", domains=ptpm.DomainIdentity(4, 0x100), sdo=0x100)
 
     def test_a_second_look(self) -> None:
         self.collects("a_changing", "a_chain", "a_chain", "a_changing", "a_changing", "b_lonely")
@@ -173,6 +242,13 @@ class Programs(Folder):
         self.assertEqual(len(ptpm.site("eth0", once=True).findings), 12)
         # what comes with the second look has not held twice
         self.assertEqual(ptpm.site("eth0").findings, ())
+
+    def test_what_holds_in_another_domain_has_not_held_twice(self) -> None:
+        self.collects("a_chain", "a_chain")
+        for look, sdo_ids in enumerate(((0, 0x100), (0x100, 0x101)), 1):
+            Path(self.folder, f"look{look}").write_text(told([told_finding("mute", sdo_id) for sdo_id in sdo_ids]), encoding="ascii")
+        self.write("ptpm", f"cd {self.folder}; cat look$(($(wc -l < words)))")
+        self.assertEqual([found.sdo_id for found in ptpm.site("eth0", sdo="all").findings], [0x100])
 
     def test_what_does_not_pass_needs_no_second_look(self) -> None:
         self.collects("h_short")
