@@ -34,6 +34,21 @@ _ptpm_offer_lines() {
 
 _ptpm_offer_interfaces() { _ptpm_offer_lines < <(cd /sys/class/net && printf '%s\n' *); }
 
+_ptpm_offer_profiles() { _ptpm_offer default st2059-2 aes67 gptp; }
+
+# Offers the names of the findings, also after others with a comma.
+_ptpm_offer_findings() {
+    local earlier=${COMP_WORDS[COMP_CWORD]}
+    local -a names=(
+        absent unexpected not_as_expected gone own_host mute two_grandmasters no_master grandmaster_not_seen parent_not_seen
+        parent_not_master steps grandmaster_differs loop port_state not_locked off_by_utc offset delay utc intervals gm_holdover
+        gm_degraded gm_free_running not_traceable utc_invalid utc_offset leap better_clock profile incomplete out_of_reach
+        grandmaster_changed changed identity_twice not_asked
+    )
+    if [[ $earlier = *,* ]]; then earlier=${earlier%,*},; else earlier=; fi
+    _ptpm_offer "${names[@]/#/$earlier}"
+}
+
 # Of the words before the cursor the last that is one of those given.
 _ptpm_last() {
     local k
@@ -51,13 +66,8 @@ _ptpm() {
     *,*,-*) _ptpm_offer_lines < <(_ptpm_options ptpm "$command") ;;
     make,make,*) _ptpm_offer get set command ;;
     site,--max-offset,*) _ptpm_offer none ;;
-    site,--profile,*) _ptpm_offer default st2059-2 aes67 gptp ;;
-    site,--ignore,*)
-        _ptpm_offer absent unexpected not_as_expected gone own_host mute two_grandmasters no_master grandmaster_not_seen parent_not_seen \
-            parent_not_master steps grandmaster_differs loop port_state not_locked off_by_utc offset delay utc intervals gm_holdover \
-            gm_degraded gm_free_running not_traceable utc_invalid utc_offset leap better_clock profile incomplete out_of_reach \
-            grandmaster_changed changed identity_twice not_asked
-        ;;
+    site,--profile,*) _ptpm_offer_profiles ;;
+    site,--ignore,*) _ptpm_offer_findings ;;
     make,get,* | make,set,* | make,command,*) _ptpm_offer_lines < <(_ptpm_ids) ;;
     esac
 }
@@ -94,6 +104,8 @@ _ptpm_manage() {
     rollback,*) _ptpm_offer_applies ;;
     plan,* | apply,*) ;;
     --max-offset,*) _ptpm_offer none ;;
+    --profile,*) _ptpm_offer_profiles ;;
+    --ignore,*) _ptpm_offer_findings ;;
     --sdo,*) _ptpm_offer 0x100 all ;;
     *)
         _ptpm_takes ptpm-manage "$before" || _ptpm_offer_member || [[ -n $(_ptpm_last "${actions[*]}") ]] ||
