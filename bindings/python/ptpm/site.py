@@ -22,8 +22,8 @@ _BEFORE_SECOND_LOOK = 2.0
 # Findings that may pass while a change goes from clock to clock. They count if two looks have them.
 PASSING = frozenset((
     "gone", "mute", "two_grandmasters", "no_master", "grandmaster_not_seen", "parent_not_seen", "parent_not_master", "steps",
-    "grandmaster_differs", "loop", "off_by_utc", "offset", "delay", "utc", "gm_holdover", "gm_degraded", "gm_free_running", "not_traceable", "utc_invalid",
-    "utc_offset", "better_clock", "identity_twice",
+    "grandmaster_differs", "loop", "off_by_utc", "offset", "delay", "utc", "gm_holdover", "gm_degraded", "gm_free_running",
+    "not_traceable", "utc_invalid", "utc_offset", "better_clock", "identity_twice",
 ))
 
 
