@@ -1002,9 +1002,9 @@ enum ptpm_restored ptpm_clock_restore(struct ptpm_clock *clock, const uint8_t id
                                       const struct ptpm_manager_settings *managers, size_t manager_count,
                                       const uint8_t *image, size_t size, size_t *gone);
 
-/* Returns the most messages that a call writes for this clock, such as ptpm_clock_handle or ptpm_clock_saved. So a host knows how long a
-   queue of its own has to be. It is 2 * port_count - 1: a copy for each other port, and an answer of each port. It is more only if one of the clock's kept replies has more answers, and no more than these. Only an
-   image that another program has made can bring such a reply.
+/* Returns the most messages that a call writes for this clock, such as ptpm_clock_handle or ptpm_clock_saved. A queue of the host has to
+   be that long. It is 2 * port_count - 1: a copy for each other port, and an answer of each port. It is more if a kept reply has more
+   answers, and then as many. Only an image that another program has made can bring such a reply.
    Returns: the number, at most PTPM_MOST_SENT; 0 if the handle holds no clock. */
 size_t ptpm_clock_most_sent(const struct ptpm_clock *clock);
 
