@@ -3,6 +3,11 @@
 #include "ptpm.h"
 #include <stddef.h>
 
+#undef ptpm_clock_stop
+#undef ptpm_session_stop
+#undef ptpm_survey_stop
+#undef ptpm_asker_stop
+
 u64 portable_ptpm_answer_name(u32 a0, address a1, u64 a2);
 u32 portable_ptpm_asker_earlier(address a0, u8 a1, address a2);
 u32 portable_ptpm_asker_image(address a0, address a1, u64 a2, address a3);
@@ -13,6 +18,7 @@ u32 portable_ptpm_asker_start(address a0, address a1, address a2);
 void portable_ptpm_asker_stop(address a0);
 void portable_ptpm_clock_defaults(address a0);
 u32 portable_ptpm_clock_image(address a0, address a1, u64 a2, address a3);
+u64 portable_ptpm_clock_most_sent(address a0);
 u32 portable_ptpm_clock_read(address a0, u16 a1, u16 a2, address a3, u64 a4, address a5);
 u32 portable_ptpm_clock_restore(address a0, address a1, u64 a2, address a3, u64 a4, address a5, u64 a6, address a7);
 u32 portable_ptpm_clock_start(address a0, address a1, address a2, u64 a3, address a4, u64 a5);
@@ -32,6 +38,7 @@ u32 portable_ptpm_other_id_at(u64 a0);
 u64 portable_ptpm_other_id_name(u16 a0, address a1, u64 a2);
 u32 portable_ptpm_other_id_named(address a0, u64 a1);
 u8 portable_ptpm_passed_on_is_first(address a0, address a1, u64 a2, u64 a3, u64 a4);
+u8 portable_ptpm_passed_on_is_first_of(u64 a0, address a1, u64 a2, address a3, u64 a4, u64 a5, u64 a6);
 void portable_ptpm_port_defaults(address a0);
 void portable_ptpm_rate_start(address a0, u64 a1, u64 a2);
 u8 portable_ptpm_rate_take(address a0, u64 a1);
@@ -403,6 +410,11 @@ enum ptpm_restored ptpm_clock_restore(struct ptpm_clock *clock, const uint8_t id
     return answer;
 }
 
+size_t ptpm_clock_most_sent(const struct ptpm_clock *clock) {
+    fill();
+    return (size_t)portable_ptpm_clock_most_sent(ADDRESS(clock));
+}
+
 void ptpm_clock_stop(struct ptpm_clock *clock) {
     fill();
     portable_ptpm_clock_stop(ADDRESS(clock));
@@ -725,6 +737,11 @@ size_t ptpm_newest_image_in(const uint8_t *octets, size_t size, size_t place, ui
 bool ptpm_passed_on_is_first(struct ptpm_passed_on *table, const uint8_t *message, size_t size, uint64_t now, uint64_t time) {
     fill();
     return (bool)portable_ptpm_passed_on_is_first(ADDRESS(table), ADDRESS(message), size, now, time);
+}
+
+bool ptpm_passed_on_is_first_of(uint64_t seed, uint64_t (*places)[6], size_t count, const uint8_t *message, size_t size, uint64_t now, uint64_t time) {
+    fill();
+    return (bool)portable_ptpm_passed_on_is_first_of(seed, ADDRESS(places), count, ADDRESS(message), size, now, time);
 }
 
 void ptpm_rate_start(struct ptpm_rate *rate, uint64_t tokens, uint64_t now) {

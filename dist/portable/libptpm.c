@@ -874,56 +874,57 @@ static void f48(address a0, u8 a1, address a2);
 static u32 f49(address a0, u64 a1, address a2, u64 a3);
 static void f50(address a0, address a1, u64 a2);
 static u8 f51(address a0, u64 a1, address a2);
-static u32 f52(address a0, address a1);
-static void f53(address a0, address a1, address a2, u64 a3);
-static struct s2 f54(address a0, address a1, u16 a2, address a3);
-static void f55(address a0, address a1, u8 a2, address a3);
-static u8 f56(address a0, address a1, u64 a2);
-static void f57(address a0, u8 a1, u8 a2, address a3);
-static void f58(address a0, u8 a1, address a2);
-static void f59(address a0, address a1, address a2, u8 a3, u8 a4, address a5);
-static u8 f60(address a0);
-static u8 f61(address a0, address a1);
-static void f62(address a0, address a1);
-static void f63(address a0, u64 a1);
-static struct s2 f64(address a0, address a1);
-static struct s2 f65(address a0, u8 a1, u16 a2, u8 a3, u16 a4, address a5, u64 a6);
-static void f66(address a0, address a1, address a2, u64 a3);
-static struct s2 f67(address a0, address a1, address a2);
-static void f68(address a0, address a1, address a2, u64 a3);
-static void f69(address a0, address a1, address a2, u64 a3, u16 a4, u8 a5);
-static u32 f70(address a0, u16 a1, address a2, u64 a3, address a4, u64 a5, address a6);
+static u8 f52(u64 a0, address a1, u64 a2, address a3, u64 a4, u64 a5);
+static u32 f53(address a0, address a1);
+static void f54(address a0, address a1, address a2, u64 a3);
+static struct s2 f55(address a0, address a1, u16 a2, address a3);
+static void f56(address a0, address a1, u8 a2, address a3);
+static u8 f57(address a0, address a1, u64 a2);
+static void f58(address a0, u8 a1, u8 a2, address a3);
+static void f59(address a0, u8 a1, address a2);
+static void f60(address a0, address a1, address a2, u8 a3, u8 a4, address a5);
+static u8 f61(address a0);
+static u8 f62(address a0, address a1);
+static void f63(address a0, address a1);
+static void f64(address a0, u64 a1);
+static struct s2 f65(address a0, address a1);
+static struct s2 f66(address a0, u8 a1, u16 a2, u8 a3, u16 a4, address a5, u64 a6);
+static void f67(address a0, address a1, address a2, u64 a3);
+static struct s2 f68(address a0, address a1, address a2);
+static void f69(address a0, address a1, address a2, u64 a3);
+static void f70(address a0, address a1, address a2, u64 a3, u16 a4, u8 a5);
 static u32 f71(address a0, u16 a1, address a2, u64 a3, address a4, u64 a5, address a6);
 static u32 f72(address a0, u16 a1, address a2, u64 a3, address a4, u64 a5, address a6);
-static void f73(address a0, address a1, u16 a2, address a3, u64 a4, address a5, u64 a6);
-static u8 f74(address a0, address a1);
+static u32 f73(address a0, u16 a1, address a2, u64 a3, address a4, u64 a5, address a6);
+static void f74(address a0, address a1, u16 a2, address a3, u64 a4, address a5, u64 a6);
 static u8 f75(address a0, address a1);
-static void f76(address a0, u16 a1, address a2, u8 a3, address a4);
-static void f77(address a0, address a1, u8 a2, address a3);
-static void f78(address a0, u16 a1, u16 a2, u16 a3, address a4);
-static void f79(address a0, u8 a1, address a2);
-static void f80(address a0, address a1, address a2, u8 a3, u8 a4, address a5);
-static void f81(address a0, address a1, u64 a2);
+static u8 f76(address a0, address a1);
+static void f77(address a0, u16 a1, address a2, u8 a3, address a4);
+static void f78(address a0, address a1, u8 a2, address a3);
+static void f79(address a0, u16 a1, u16 a2, u16 a3, address a4);
+static void f80(address a0, u8 a1, address a2);
+static void f81(address a0, address a1, address a2, u8 a3, u8 a4, address a5);
 static void f82(address a0, address a1, u64 a2);
-static void f83(address a0, address a1, address a2);
-static void f84(address a0, u64 a1, address a2, address a3, u16 a4, address a5);
-static void f85(address a0, u8 a1, u16 a2, address a3, address a4, address a5);
-static void f86(address a0, u16 a1, address a2, address a3);
-static void f87(address a0, address a1, address a2);
-static u32 f88(address a0, u16 a1, address a2, u64 a3, address a4, u64 a5, address a6, address a7);
-static void f89(address a0, address a1, address a2);
-static u32 f90(address a0, address a1, address a2, u64 a3, address a4);
-static void f91(address a0, address a1, address a2, address a3, u64 a4);
-static void f92(address a0, address a1, address a2, address a3);
-static void f93(address a0, address a1, u8 a2);
-static void f94(address a0, address a1, address a2);
-static void f95(address a0, u8 a1, address a2);
-static void f96(address a0, address a1, address a2, u8 a3, address a4);
-static void f97(address a0, address a1, address a2, u64 a3);
-static void f98(address a0, address a1, u8 a2, u16 a3, u16 a4, address a5, u64 a6);
-static u8 f99(address a0);
+static void f83(address a0, address a1, u64 a2);
+static void f84(address a0, address a1, address a2);
+static void f85(address a0, u64 a1, address a2, address a3, u16 a4, address a5);
+static void f86(address a0, u8 a1, u16 a2, address a3, address a4, address a5);
+static void f87(address a0, u16 a1, address a2, address a3);
+static void f88(address a0, address a1, address a2);
+static u32 f89(address a0, u16 a1, address a2, u64 a3, address a4, u64 a5, address a6, address a7);
+static void f90(address a0, address a1, address a2);
+static u32 f91(address a0, address a1, address a2, u64 a3, address a4);
+static void f92(address a0, address a1, address a2, address a3, u64 a4);
+static void f93(address a0, address a1, address a2, address a3);
+static void f94(address a0, address a1, u8 a2);
+static void f95(address a0, address a1, address a2);
+static void f96(address a0, u8 a1, address a2);
+static void f97(address a0, address a1, address a2, u8 a3, address a4);
+static void f98(address a0, address a1, address a2, u64 a3);
+static void f99(address a0, address a1, u8 a2, u16 a3, u16 a4, address a5, u64 a6);
 static u8 f100(address a0);
-static u8 f101(address a0, u64 a1);
+static u8 f101(address a0);
+static u8 f102(address a0, u64 a1);
 u64 portable_ptpm_answer_name(u32 a0, address a1, u64 a2);
 u32 portable_ptpm_asker_earlier(address a0, u8 a1, address a2);
 u32 portable_ptpm_asker_image(address a0, address a1, u64 a2, address a3);
@@ -934,6 +935,7 @@ u32 portable_ptpm_asker_start(address a0, address a1, address a2);
 void portable_ptpm_asker_stop(address a0);
 void portable_ptpm_clock_defaults(address a0);
 u32 portable_ptpm_clock_image(address a0, address a1, u64 a2, address a3);
+u64 portable_ptpm_clock_most_sent(address a0);
 u32 portable_ptpm_clock_read(address a0, u16 a1, u16 a2, address a3, u64 a4, address a5);
 u32 portable_ptpm_clock_restore(address a0, address a1, u64 a2, address a3, u64 a4, address a5, u64 a6, address a7);
 u32 portable_ptpm_clock_start(address a0, address a1, address a2, u64 a3, address a4, u64 a5);
@@ -953,6 +955,7 @@ u32 portable_ptpm_other_id_at(u64 a0);
 u64 portable_ptpm_other_id_name(u16 a0, address a1, u64 a2);
 u32 portable_ptpm_other_id_named(address a0, u64 a1);
 u8 portable_ptpm_passed_on_is_first(address a0, address a1, u64 a2, u64 a3, u64 a4);
+u8 portable_ptpm_passed_on_is_first_of(u64 a0, address a1, u64 a2, address a3, u64 a4, u64 a5, u64 a6);
 void portable_ptpm_port_defaults(address a0);
 void portable_ptpm_rate_start(address a0, u64 a1, u64 a2);
 u8 portable_ptpm_rate_take(address a0, u64 a1);
@@ -12373,7 +12376,153 @@ L38:;
     return v5;
 }
 
-static u32 f52(address a0, address a1) {
+static u8 f52(u64 a0, address a1, u64 a2, address a3, u64 a4, u64 a5) {
+    u64 v6, v8, v12, v13, v16, v17, v18, v19, v20, v21, v22, v24, v25, v26, v27, v28;
+    u64 v31, v32, v35, v36, v37, v40, v41, v42, v43, v44, v45, v46, v47, v48, v49, v50;
+    u64 v51, v52, v54, v55, v56, v58, v59, v61, v69, v72, v84, v86, v88, v90, v91, v92;
+    u64 v94, v95, v97;
+    u8 v7, v39, v53, v62, v70, v73, v75, v77, v79, v81, v82, v83, v85, v87, v89, v98;
+    address v9, v10, v14, v23, v29, v33, v38, v57, v60, v63, v64, v65, v66, v67, v68, v71;
+    address v93, v96, v99, v100;
+    u16 v11, v15, v30, v34, v74, v76, v78, v80;
+    u64 block0[4];
+    v9 = ADDRESS(block0);
+    v10 = a3 + 16u * 1u;
+    v11 = load16(v10);
+    v12 = (u64)v11;
+    v13 = (u64)((u64)v12 << (32u & 63u));
+    v14 = a3 + 20u * 1u;
+    v15 = load16(v14);
+    v16 = (u64)v15;
+    v17 = (u64)((u64)v16 << (16u & 63u));
+    v18 = (u64)((u64)v17 | (u64)v13);
+    v19 = load64(a3);
+    v20 = (u64)((u64)v19 ^ (u64)a0);
+    v21 = (u64)((u64)v20 * (u64)UINT64_C(11400714819323198485));
+    v22 = (u64)((u64)v21 >> (32u & 63u));
+    v23 = a3 + 8u * 1u;
+    v24 = load64(v23);
+    v25 = (u64)((u64)v24 ^ (u64)v22);
+    v26 = (u64)((u64)v25 ^ (u64)v21);
+    v27 = (u64)((u64)v26 * (u64)UINT64_C(11400714819323198485));
+    v28 = (u64)((u64)v27 >> (32u & 63u));
+    v29 = a3 + 18u * 1u;
+    v30 = load16(v29);
+    v31 = (u64)v30;
+    v32 = (u64)((u64)v31 << (32u & 63u));
+    v33 = a3 + 22u * 1u;
+    v34 = load16(v33);
+    v35 = (u64)v34;
+    v36 = (u64)((u64)v35 << (8u & 63u));
+    v37 = (u64)((u64)v36 | (u64)v32);
+    v38 = a3 + 24u * 1u;
+    v39 = load8(v38);
+    v40 = (u64)v39;
+    v41 = (u64)((u64)v37 | (u64)v40);
+    v42 = (u64)((u64)v18 ^ (u64)v28);
+    v43 = (u64)((u64)v42 ^ (u64)v27);
+    v44 = (u64)((u64)v43 * (u64)UINT64_C(11400714819323198485));
+    v45 = (u64)((u64)v44 >> (32u & 63u));
+    v46 = (u64)((u64)v41 ^ (u64)v45);
+    v47 = (u64)((u64)v46 ^ (u64)v44);
+    v48 = (u64)((u64)v47 * (u64)UINT64_C(11400714819323198485));
+    v49 = (u64)((u64)v48 >> (32u & 63u));
+    v50 = (u64)((u64)v49 ^ (u64)v48);
+    v51 = (u64)((u64)v50 % (u64)a2);
+    v6 = 0u; goto L1;
+L1:;
+    v52 = (u64)((u64)v6 + (u64)v51);
+    v53 = v52 < a2;
+    v54 = v53 ? 0u : a2;
+    v55 = (u64)((u64)v52 - (u64)v54);
+    v56 = (u64)((u64)v55 * (u64)48u);
+    v57 = a1 + v56 * 1u;
+    v58 = load64(v57);
+    v59 = a4 > v58 ? (u64)((u64)a4 - (u64)v58) : 0u;
+    v60 = v57 + 8u * 1u;
+    v61 = load64(v60);
+    v62 = v59 < v61;
+    if (v62) { goto L2; }
+    else { goto L9; }
+L2:;
+    v63 = v57 + 16u * 1u;
+    v64 = v57 + 32u * 1u;
+    v65 = v57 + 34u * 1u;
+    v66 = v57 + 36u * 1u;
+    v67 = v57 + 38u * 1u;
+    v68 = v57 + 40u * 1u;
+    v69 = load64(v63);
+    v70 = v69 == v19;
+    if (v70) { goto L3; }
+    else { goto L9; }
+L3:;
+    v71 = v57 + 24u * 1u;
+    v72 = load64(v71);
+    v73 = v72 == v24;
+    if (v73) { goto L4; }
+    else { goto L9; }
+L4:;
+    v74 = load16(v64);
+    v75 = v74 == v11;
+    if (v75) { goto L5; }
+    else { goto L9; }
+L5:;
+    v76 = load16(v65);
+    v77 = v76 == v30;
+    if (v77) { goto L6; }
+    else { goto L9; }
+L6:;
+    v78 = load16(v66);
+    v79 = v78 == v15;
+    if (v79) { goto L7; }
+    else { goto L9; }
+L7:;
+    v80 = load16(v67);
+    v81 = v80 == v34;
+    if (v81) { goto L8; }
+    else { goto L9; }
+L8:;
+    v82 = load8(v68);
+    v83 = v82 == v39;
+    if (v83) { v7 = 0u; goto L10; }
+    else { goto L9; }
+L9:;
+    v84 = (u64)((u64)v6 + (u64)1u);
+    v85 = v84 == 16u;
+    if (v85) { v8 = 0u; goto L12; }
+    else { v6 = v84; goto L1; }
+L10:;
+    return v7;
+L11:;
+    v86 = (u64)((u64)v8 + (u64)1u);
+    v87 = v86 == 16u;
+    if (v87) { v7 = 0u; goto L10; }
+    else { v8 = v86; goto L12; }
+L12:;
+    v88 = (u64)((u64)v8 + (u64)v51);
+    v89 = v88 < a2;
+    v90 = v89 ? 0u : a2;
+    v91 = (u64)((u64)v88 - (u64)v90);
+    v92 = (u64)((u64)v91 * (u64)48u);
+    v93 = a1 + v92 * 1u;
+    v94 = load64(v93);
+    v95 = a4 > v94 ? (u64)((u64)a4 - (u64)v94) : 0u;
+    v96 = v93 + 8u * 1u;
+    v97 = load64(v96);
+    v98 = v95 < v97;
+    if (v98) { goto L11; }
+    else { goto L13; }
+L13:;
+    v99 = v93 + 8u * 1u;
+    memory_cpy(v9, a3, 32u);
+    store64(v93, a4);
+    store64(v99, a5);
+    v100 = v93 + 16u * 1u;
+    memory_cpy(v100, v9, 32u);
+    v7 = 1u; goto L10;
+}
+
+static u32 f53(address a0, address a1) {
     u32 v2;
     u64 v3, v4, v11, v13, v17, v19, v23, v25, v29, v31, v33, v35, v37, v39, v42, v46;
     u64 v50, v56, v62, v83, v87, v93;
@@ -12587,7 +12736,7 @@ L28:;
     v2 = 35u; goto L2;
 }
 
-static void f53(address a0, address a1, address a2, u64 a3) {
+static void f54(address a0, address a1, address a2, u64 a3) {
     address v4, v5, v6, v7, v8, v9, v12, v13, v14, v16, v18, v23, v25, v27, v29, v31;
     address v33, v43, v44, v45, v46, v47, v48, v51, v53, v57, v61, v63, v66, v71, v75, v77;
     address v83, v84, v86, v98, v99, v100, v101, v102, v103, v104, v105, v106, v107, v108, v109, v110;
@@ -12730,7 +12879,7 @@ L7:;
     v89 = (u16)((u32)v88 << (8u & 15u));
     v90 = (u16)v87;
     v91 = (u16)((u32)v89 | (u32)v90);
-    v92 = f54(v53, v8, v91, v7);
+    v92 = f55(v53, v8, v91, v7);
     v93 = v92.m0;
     v94 = v93 == 1u;
     if (v94) { goto L9; }
@@ -12785,7 +12934,7 @@ L9:;
     store8(v116, 1u);
     v117 = v4 + 1137u * 1u;
     memory_set(v117, 0u, 159u);
-    f55(v5, v7, v95, v4);
+    f56(v5, v7, v95, v4);
     v118 = load8(v102);
     v119 = v4 + 1288u * 1u;
     v120 = load64(v119);
@@ -12854,7 +13003,7 @@ L13:;
     goto L10;
 }
 
-static struct s2 f54(address a0, address a1, u16 a2, address a3) {
+static struct s2 f55(address a0, address a1, u16 a2, address a3) {
     address v4, v10, v13, v14, v15, v17, v19, v22, v27, v30, v32, v34, v36, v43, v47, v50;
     address v53, v54, v55, v62, v63, v68, v69, v74, v75, v81, v82, v90;
     u64 v5, v6, v11, v18, v23, v24, v37, v56, v86;
@@ -13017,7 +13166,7 @@ L22:;
     return v93;
 }
 
-static void f55(address a0, address a1, u8 a2, address a3) {
+static void f56(address a0, address a1, u8 a2, address a3) {
     address v4, v25, v26, v27, v28, v29, v31, v32, v33, v34, v35, v36, v37, v38, v48, v49;
     address v50, v76, v77, v78, v80, v81, v84, v85, v86, v87, v91, v92, v95, v96, v97, v99;
     address v101, v102, v105, v106, v107, v108, v110, v111, v114, v115, v116, v117;
@@ -13282,7 +13431,7 @@ L48:;
     store8(v77, v17);
     v78 = v25 + 3u * 1u;
     store8(v78, v18);
-    v79 = f56(v25, v49, v51);
+    v79 = f57(v25, v49, v51);
     if (v79) { goto L51; }
     else { v19 = 3u; goto L49; }
 L49:;
@@ -13291,7 +13440,7 @@ L49:;
 L50:;
     goto L51;
 L51:;
-    f57(a0, v12, v13, a1);
+    f58(a0, v12, v13, a1);
     if (v8) { goto L53; }
     else { v23 = 0u; v24 = 0u; goto L62; }
 L52:;
@@ -13377,10 +13526,10 @@ L60:;
     store64(v102, v109);
     goto L63;
 L61:;
-    f58(a0, v12, a3);
+    f59(a0, v12, a3);
     goto L63;
 L62:;
-    f59(a0, v27, a1, v24, v23, a3);
+    f60(a0, v27, a1, v24, v23, a3);
     goto L63;
 L63:;
     return;
@@ -13402,7 +13551,7 @@ L64:;
     goto L63;
 }
 
-static u8 f56(address a0, address a1, u64 a2) {
+static u8 f57(address a0, address a1, u64 a2) {
     address v3, v6, v8, v10, v12, v15, v29;
     u64 v4, v17;
     u8 v5, v7, v9, v11, v13, v14, v16, v18, v19, v20, v21, v25, v27, v28, v30, v31;
@@ -13503,7 +13652,7 @@ L14:;
     UNREACHABLE;
 }
 
-static void f57(address a0, u8 a1, u8 a2, address a3) {
+static void f58(address a0, u8 a1, u8 a2, address a3) {
     u64 v4, v6, v7, v8, v9, v10, v17, v21, v23, v24, v25, v27, v29, v32, v33, v35;
     u64 v36, v37, v42, v45, v50, v51, v57, v58, v64, v65, v92, v95, v96, v100, v102, v103;
     u64 v106, v112, v115, v119, v121, v122, v129, v132, v134, v136, v137;
@@ -13822,7 +13971,7 @@ L44:;
     UNREACHABLE;
 }
 
-static void f58(address a0, u8 a1, address a2) {
+static void f59(address a0, u8 a1, address a2) {
     address v3, v4, v5, v6, v7, v9, v12, v13, v14, v15, v16, v19, v20, v22, v25, v26;
     address v27, v28, v31, v32;
     u8 v8, v11, v24;
@@ -13901,7 +14050,7 @@ L7:;
     return;
 }
 
-static void f59(address a0, address a1, address a2, u8 a3, u8 a4, address a5) {
+static void f60(address a0, address a1, address a2, u8 a3, u8 a4, address a5) {
     u16 v6, v7, v17, v21, v22, v39, v51, v64, v65, v70, v71, v72, v73, v82, v100, v117;
     u16 v127;
     u64 v8, v20, v31, v32, v35, v36, v44, v47, v48, v55, v58, v59, v61, v63, v75, v76;
@@ -14167,7 +14316,7 @@ L22:;
     return;
 }
 
-static u8 f60(address a0) {
+static u8 f61(address a0) {
     u8 v1, v2, v3;
     address v4;
     u16 v5;
@@ -14208,7 +14357,7 @@ L3:;
     return v1;
 }
 
-static u8 f61(address a0, address a1) {
+static u8 f62(address a0, address a1) {
     address v2, v5, v6, v7, v8, v10, v12, v17, v20, v22, v24, v30, v31, v33, v39, v41;
     address v46, v48, v50, v52, v59, v60, v61, v62, v63, v64;
     u64 v3, v9, v18, v21, v44, v45, v51, v53;
@@ -14294,14 +14443,14 @@ L3:;
     store_address(v63, v2);
     v64 = v6 + 16u * 1u;
     store64(v64, v3);
-    v65 = f54(v17, v5, v38, v6);
+    v65 = f55(v17, v5, v38, v6);
     v66 = v65.m0;
     v4 = v66; goto L4;
 L4:;
     return v4;
 }
 
-static void f62(address a0, address a1) {
+static void f63(address a0, address a1) {
     u64 v2, v3, v4, v9, v11, v12, v13, v14, v15, v16, v17, v19, v21, v23, v40, v41;
     u64 v42, v66, v78, v79, v80, v104, v130, v134, v144, v145, v146, v151;
     address v5, v8, v18, v22, v30, v31, v34, v38, v39, v45, v46, v48, v49, v51, v52, v54;
@@ -14339,7 +14488,7 @@ L3:;
     if (v20) { v3 = v17; goto L5; }
     else { goto L4; }
 L4:;
-    f63(a1, v17);
+    f64(a1, v17);
     v21 = load64(v18);
     v3 = v21; goto L5;
 L5:;
@@ -14540,7 +14689,7 @@ L17:;
     return;
 }
 
-static void f63(address a0, u64 a1) {
+static void f64(address a0, u64 a1) {
     u64 v2, v3, v5, v8, v9, v10, v13, v14, v19;
     address v4, v7, v12, v16, v17;
     u8 v6, v11, v15, v18, v20;
@@ -14587,7 +14736,7 @@ L7:;
     return;
 }
 
-static struct s2 f64(address a0, address a1) {
+static struct s2 f65(address a0, address a1) {
     address v2, v6, v7, v11, v13, v15, v16, v17, v26, v31, v32, v38, v40, v41, v42, v43;
     address v44, v46, v47, v48, v49, v53, v55;
     u64 v3, v8, v18, v23, v25, v27, v28, v29, v34, v36, v37, v45;
@@ -14696,7 +14845,7 @@ L11:;
     return v57;
 }
 
-static struct s2 f65(address a0, u8 a1, u16 a2, u8 a3, u16 a4, address a5, u64 a6) {
+static struct s2 f66(address a0, u8 a1, u16 a2, u8 a3, u16 a4, address a5, u64 a6) {
     u16 v7, v15, v17;
     u8 v8, v9, v12, v13, v16, v18, v19, v21, v22, v23, v24, v32, v33;
     address v10, v11, v14, v25, v26, v27, v28, v29, v30;
@@ -14784,7 +14933,7 @@ L9:;
     store_address(v29, a5);
     v30 = v10 + 16u * 1u;
     store64(v30, a6);
-    v31 = f64(a0, v10);
+    v31 = f65(a0, v10);
     v32 = v31.m0;
     v33 = v31.m1;
     v8 = v33; v9 = v32; goto L10;
@@ -14796,7 +14945,7 @@ L10:;
     return v35;
 }
 
-static void f66(address a0, address a1, address a2, u64 a3) {
+static void f67(address a0, address a1, address a2, u64 a3) {
     u64 v4, v5, v11, v25, v32, v43, v83, v84, v90, v91;
     u8 v6, v7, v8, v9, v10, v16, v17, v19, v20, v23, v36, v37, v60, v61, v63, v64;
     u8 v66, v67, v69, v70, v75, v76, v78, v79, v80, v87, v88, v95, v96, v101, v105, v106;
@@ -14881,7 +15030,7 @@ L2:;
     store_address(v58, v41);
     v59 = v12 + 48u * 1u;
     store64(v59, v43);
-    f62(v12, a2);
+    f63(v12, a2);
     v60 = load8(v18);
     v61 = (u8)((u32)v60 + (u32)255u);
     store8(v18, v61);
@@ -15009,7 +15158,7 @@ L17:;
     return;
 }
 
-static struct s2 f67(address a0, address a1, address a2) {
+static struct s2 f68(address a0, address a1, address a2) {
     u8 v3, v4, v5, v6, v7, v8, v10, v17, v20, v22, v23, v27, v35, v36, v39, v40;
     u8 v41, v43, v44, v48, v56, v57, v59, v60, v68, v69;
     struct s2 v9, v34, v37, v55, v58, v67, v70, v71;
@@ -15072,7 +15221,7 @@ L4:;
     store_address(v32, a2);
     v33 = v13 + 16u * 1u;
     store64(v33, 26u);
-    v34 = f64(a0, v13);
+    v34 = f65(a0, v13);
     v35 = v34.m0;
     v36 = v34.m1;
     v3 = v36; v4 = v35; goto L5;
@@ -15116,7 +15265,7 @@ L10:;
     store_address(v53, a2);
     v54 = v12 + 16u * 1u;
     store64(v54, 20u);
-    v55 = f64(a0, v12);
+    v55 = f65(a0, v12);
     v56 = v55.m0;
     v57 = v55.m1;
     v5 = v57; v6 = v56; goto L11;
@@ -15143,7 +15292,7 @@ L13:;
     store_address(v65, a2);
     v66 = v11 + 16u * 1u;
     store64(v66, 20u);
-    v67 = f64(a0, v11);
+    v67 = f65(a0, v11);
     v68 = v67.m0;
     v69 = v67.m1;
     v7 = v69; v8 = v68; goto L14;
@@ -15157,7 +15306,7 @@ L15:;
     return v71;
 }
 
-static void f68(address a0, address a1, address a2, u64 a3) {
+static void f69(address a0, address a1, address a2, u64 a3) {
     u8 v4, v12, v15, v16, v22, v24, v25, v26, v28, v29, v30, v32, v34, v35, v37, v39;
     u8 v46, v50, v54, v56, v63, v65, v66, v69, v70, v71, v74, v76, v78, v90, v92, v96;
     u8 v98, v103, v104, v105, v108, v110, v126, v130, v133, v134, v137, v138, v142, v147, v150, v152;
@@ -15504,7 +15653,7 @@ L34:;
     goto L18;
 }
 
-static void f69(address a0, address a1, address a2, u64 a3, u16 a4, u8 a5) {
+static void f70(address a0, address a1, address a2, u64 a3, u16 a4, u8 a5) {
     address v6, v7, v8, v9, v12, v13, v15, v17, v19, v21, v23, v24, v25, v26, v27, v28;
     address v29, v30, v35, v36, v37, v38, v40, v41, v42, v47, v49, v54, v55, v56, v57, v58;
     address v60, v61, v62, v63, v64, v65, v66, v68, v70, v72, v74, v76, v79, v81, v82, v83;
@@ -15555,7 +15704,7 @@ L1:;
     v29 = v7 + 25u * 1u;
     memory_set(v29, 0u, 71u);
     v30 = a1 + 48u * 1u;
-    v31 = f67(v7, v12, v30);
+    v31 = f68(v7, v12, v30);
     v32 = v31.m0;
     v33 = v31.m1;
     v34 = v32 == 0u;
@@ -15627,7 +15776,7 @@ L9:;
     store8(v65, 0u);
     v66 = a1 + 353u * 1u;
     store8(v66, 0u);
-    f66(v8, a1, a2, a3);
+    f67(v8, a1, a2, a3);
     v67 = load8(v8);
     v68 = v8 + 1u * 1u;
     v69 = load8(v68);
@@ -15669,7 +15818,7 @@ L9:;
     goto L2;
 }
 
-static u32 f70(address a0, u16 a1, address a2, u64 a3, address a4, u64 a5, address a6) {
+static u32 f71(address a0, u16 a1, address a2, u64 a3, address a4, u64 a5, address a6) {
     u16 v7, v33, v60, v61, v62, v63, v70, v71, v72, v84, v87, v88, v89, v95, v96, v97;
     u16 v98, v114, v115, v116, v117, v118, v139, v160, v161;
     u64 v8, v10, v25, v28, v32, v55, v65, v74, v80, v102, v103, v109, v111, v113, v132, v137;
@@ -15769,7 +15918,7 @@ L8:;
     if (v52) { goto L11; }
     else { goto L9; }
 L9:;
-    v53 = f74(v27, v16);
+    v53 = f75(v27, v16);
     if (v53) { goto L10; }
     else { goto L27; }
 L10:;
@@ -15800,7 +15949,7 @@ L11:;
     if (v75) { goto L29; }
     else { goto L12; }
 L12:;
-    v76 = f75(v27, v16);
+    v76 = f76(v27, v16);
     if (v76) { goto L13; }
     else { goto L30; }
 L13:;
@@ -15877,7 +16026,7 @@ L17:;
     store_address(v123, v112);
     v124 = v15 + 16u * 1u;
     store64(v124, v113);
-    v125 = f54(v73, v14, v98, v15);
+    v125 = f55(v73, v14, v98, v15);
     v126 = v125.m0;
     switch (v126) {
     case 0u: goto L36;
@@ -15927,10 +16076,10 @@ L24:;
 L25:;
     return v11;
 L26:;
-    v145 = f71(a0, a1, a2, a3, a4, a5, a6);
+    v145 = f72(a0, a1, a2, a3, a4, a5, a6);
     v11 = v145; goto L25;
 L27:;
-    f85(v27, 1u, a1, a2, v40, v18);
+    f86(v27, 1u, a1, a2, v40, v18);
     v146 = load64(v37);
     store64(a6, v146);
     v12 = 1u; goto L39;
@@ -15942,23 +16091,23 @@ L28:;
     v150 = (u32)((u32)v149 + (u32)16u);
     v12 = v150; goto L39;
 L29:;
-    f85(v27, 2u, a1, a2, v40, v18);
+    f86(v27, 2u, a1, a2, v40, v18);
     v151 = load64(v37);
     store64(a6, v151);
     v12 = 2u; goto L39;
 L30:;
-    f85(v27, 3u, a1, a2, v40, v18);
+    f86(v27, 3u, a1, a2, v40, v18);
     v152 = load64(v37);
     store64(a6, v152);
     v12 = 3u; goto L39;
 L31:;
-    f85(v27, 4u, a1, a2, v40, v18);
+    f86(v27, 4u, a1, a2, v40, v18);
     v153 = load64(v37);
     store64(a6, v153);
     v12 = 4u; goto L39;
 L32:;
     v154 = v125.m1;
-    f76(v27, a1, v40, v154, v18);
+    f77(v27, a1, v40, v154, v18);
     v155 = load64(v37);
     store64(a6, v155);
     v12 = 5u; goto L39;
@@ -15982,22 +16131,22 @@ L33:;
     v167 = v9 + 1440u * 1u;
     v168 = load64(v167);
     v169 = v9 + 1448u * 1u;
-    f84(v166, v168, v169, v13, a1, v18);
+    f85(v166, v168, v169, v13, a1, v18);
     v170 = load64(v37);
     store64(a6, v170);
     v12 = 6u; goto L39;
 L34:;
-    f85(v27, 7u, a1, a2, v40, v18);
+    f86(v27, 7u, a1, a2, v40, v18);
     v171 = load64(v37);
     store64(a6, v171);
     v12 = 7u; goto L39;
 L35:;
-    f85(v27, 8u, a1, a2, v40, v18);
+    f86(v27, 8u, a1, a2, v40, v18);
     v172 = load64(v37);
     store64(a6, v172);
     v12 = 8u; goto L39;
 L36:;
-    f85(v27, 9u, a1, a2, v40, v18);
+    f86(v27, 9u, a1, a2, v40, v18);
     v173 = load64(v37);
     store64(a6, v173);
     v12 = 9u; goto L39;
@@ -16015,7 +16164,7 @@ L39:;
     v11 = v12; goto L25;
 }
 
-static u32 f71(address a0, u16 a1, address a2, u64 a3, address a4, u64 a5, address a6) {
+static u32 f72(address a0, u16 a1, address a2, u64 a3, address a4, u64 a5, address a6) {
     u32 v7, v19;
     address v8, v9, v13, v16, v17;
     u8 v10, v11, v12, v15;
@@ -16047,7 +16196,7 @@ L2:;
     memory_set(v17, 0u, 7u);
     v7 = 32u; goto L4;
 L3:;
-    v19 = f72(v16, a1, a2, a3, a4, a5, a6);
+    v19 = f73(v16, a1, a2, a3, a4, a5, a6);
     store64(v8, 4u);
     store_address(v13, v16);
     store_address(a0, v8);
@@ -16058,7 +16207,7 @@ L4:;
     return v7;
 }
 
-static u32 f72(address a0, u16 a1, address a2, u64 a3, address a4, u64 a5, address a6) {
+static u32 f73(address a0, u16 a1, address a2, u64 a3, address a4, u64 a5, address a6) {
     u32 v7, v33, v75, v76, v78;
     address v8, v9, v10, v14, v15, v19, v22, v24, v26, v29, v36, v37, v38, v40, v42, v44;
     address v50, v52, v58, v60, v62, v63, v64, v65, v66, v67, v68, v69, v70;
@@ -16094,7 +16243,7 @@ L3:;
     v7 = 33u; goto L23;
 L4:;
     v19 = load_address(a0);
-    f73(v8, v19, a1, a2, a3, a4, a5);
+    f74(v8, v19, a1, a2, a3, a4, a5);
     v20 = load8(v8);
     v21 = v20 == 0u;
     if (v21) { goto L5; }
@@ -16225,7 +16374,7 @@ L23:;
     return v7;
 }
 
-static void f73(address a0, address a1, u16 a2, address a3, u64 a4, address a5, u64 a6) {
+static void f74(address a0, address a1, u16 a2, address a3, u64 a4, address a5, u64 a6) {
     u16 v7, v28, v55, v56, v57, v58, v65, v66, v67, v79, v82, v83, v84, v90, v91, v92;
     u16 v93, v109, v110, v111, v112, v113, v137, v147, v148;
     u64 v8, v10, v18, v27, v50, v60, v69, v75, v97, v98, v104, v106, v108, v130, v135, v140;
@@ -16298,7 +16447,7 @@ L5:;
     if (v47) { goto L8; }
     else { goto L6; }
 L6:;
-    v48 = f74(a1, v22);
+    v48 = f75(a1, v22);
     if (v48) { goto L7; }
     else { v11 = 1u; goto L27; }
 L7:;
@@ -16329,7 +16478,7 @@ L8:;
     if (v70) { v11 = 2u; goto L27; }
     else { goto L9; }
 L9:;
-    v71 = f75(a1, v22);
+    v71 = f76(a1, v22);
     if (v71) { goto L10; }
     else { v11 = 3u; goto L27; }
 L10:;
@@ -16406,7 +16555,7 @@ L14:;
     store_address(v118, v107);
     v119 = v21 + 16u * 1u;
     store64(v119, v108);
-    v120 = f54(v68, v20, v93, v21);
+    v120 = f55(v68, v20, v93, v21);
     v121 = v120.m0;
     switch (v121) {
     case 0u: v11 = 9u; goto L27;
@@ -16428,7 +16577,7 @@ L18:;
     v12 = v123; v13 = 0u; goto L28;
 L19:;
     v124 = v120.m1;
-    f76(a1, a2, v35, v124, v24);
+    f77(a1, a2, v35, v124, v24);
     v12 = 0u; v13 = 5u; goto L28;
 L20:;
     v125 = v36 + 44u * 1u;
@@ -16485,10 +16634,10 @@ L26:;
     v154 = v9 + 1440u * 1u;
     v155 = load64(v154);
     v156 = v9 + 1448u * 1u;
-    f84(v153, v155, v156, v19, a2, v24);
+    f85(v153, v155, v156, v19, a2, v24);
     v12 = 0u; v13 = 6u; goto L28;
 L27:;
-    f85(a1, v11, a2, a3, v35, v24);
+    f86(a1, v11, a2, a3, v35, v24);
     v12 = 0u; v13 = v11; goto L28;
 L28:;
     v157 = load64(v32);
@@ -16506,7 +16655,7 @@ L29:;
     return;
 }
 
-static u8 f74(address a0, address a1) {
+static u8 f75(address a0, address a1) {
     address v2, v6, v7, v8, v9, v11, v13, v18, v21, v23, v25, v34, v38, v41, v42, v44;
     address v50, v55, v57, v59, v61, v67, v68, v69, v70, v71, v72;
     u64 v3, v10, v19, v22, v35, v53, v54, v60, v62;
@@ -16627,7 +16776,7 @@ L9:;
     store_address(v71, v2);
     v72 = v7 + 16u * 1u;
     store64(v72, v3);
-    v73 = f54(v18, v6, v49, v7);
+    v73 = f55(v18, v6, v49, v7);
     v74 = v73.m0;
     v75 = v74 == 2u;
     v4 = v75; goto L10;
@@ -16637,7 +16786,7 @@ L11:;
     return v5;
 }
 
-static u8 f75(address a0, address a1) {
+static u8 f76(address a0, address a1) {
     u8 v2, v7, v9, v16, v17, v18, v22;
     address v3, v4, v6, v8, v14, v19;
     u64 v5, v15, v20;
@@ -16678,7 +16827,7 @@ L4:;
     return v2;
 }
 
-static void f76(address a0, u16 a1, address a2, u8 a3, address a4) {
+static void f77(address a0, u16 a1, address a2, u8 a3, address a4) {
     address v5, v7, v11, v12, v13, v14, v15, v17, v19, v21, v27, v29, v35, v37, v39, v41;
     address v46, v48, v50, v52, v54, v56, v66, v67, v68, v69, v70, v71, v72, v73, v74, v75;
     address v76, v81, v82, v83, v84, v86, v88, v90, v91, v92, v100, v101, v107, v109, v111, v112;
@@ -16824,7 +16973,7 @@ L2:;
     v108 = swap16(v65);
     v109 = v13 + 52u * 1u;
     store16(v109, v108);
-    f77(a0, v12, a3, v13);
+    f78(a0, v12, a3, v13);
     v110 = load8(v74);
     v111 = a0 + 448u * 1u;
     v112 = load_address(v111);
@@ -16944,10 +17093,10 @@ L17:;
     memory_move(v150, v158, 80u);
     goto L23;
 L18:;
-    f81(v150, v158, v157);
+    f82(v150, v158, v157);
     goto L23;
 L19:;
-    f82(v150, v158, v157);
+    f83(v150, v158, v157);
     goto L23;
 L20:;
     v167 = v127 + 2088u * 1u;
@@ -16960,13 +17109,13 @@ L21:;
     store64(v167, 0u);
     goto L22;
 L22:;
-    f83(a4, v149, v150);
+    f84(a4, v149, v150);
     goto L23;
 L23:;
     return;
 }
 
-static void f77(address a0, address a1, u8 a2, address a3) {
+static void f78(address a0, address a1, u8 a2, address a3) {
     address v4, v27, v28, v29, v30, v31, v33, v34, v35, v36, v37, v38, v39, v40, v50, v51;
     address v52, v78, v79, v80, v82, v83, v85, v86, v90, v92, v93, v96, v97, v98, v103, v104;
     address v106, v107, v108, v109, v112, v113, v114, v119, v120, v124, v126, v127, v130, v132, v133, v135;
@@ -17235,7 +17384,7 @@ L48:;
     store8(v79, v17);
     v80 = v27 + 3u * 1u;
     store8(v80, v18);
-    v81 = f56(v27, v51, v53);
+    v81 = f57(v27, v51, v53);
     if (v81) { goto L51; }
     else { v19 = 3u; goto L49; }
 L49:;
@@ -17244,7 +17393,7 @@ L49:;
 L50:;
     goto L51;
 L51:;
-    f57(a0, v12, v13, a1);
+    f58(a0, v12, v13, a1);
     if (v8) { goto L53; }
     else { v25 = 0u; v26 = 0u; goto L68; }
 L52:;
@@ -17268,7 +17417,7 @@ L52:;
     v97 = v96 + 2u * 1u;
     store16(v97, 60u);
     v98 = v96 + 4u * 1u;
-    f78(a3, v84, v89, v91, v98);
+    f79(a3, v84, v89, v91, v98);
     v99 = load64(v93);
     v100 = (u64)((u64)v99 + (u64)1u);
     store64(v93, v100);
@@ -17405,10 +17554,10 @@ L66:;
     store64(v138, v160);
     goto L69;
 L67:;
-    f79(a0, v12, a3);
+    f80(a0, v12, a3);
     goto L69;
 L68:;
-    f80(a0, v29, a1, v26, v25, a3);
+    f81(a0, v29, a1, v26, v25, a3);
     goto L69;
 L69:;
     return;
@@ -17430,14 +17579,14 @@ L70:;
     v173 = v172 + 2u * 1u;
     store16(v173, 60u);
     v174 = v172 + 4u * 1u;
-    f78(a3, v163, 2u, v167, v174);
+    f79(a3, v163, 2u, v167, v174);
     v175 = load64(v169);
     v176 = (u64)((u64)v175 + (u64)1u);
     store64(v169, v176);
     goto L69;
 }
 
-static void f78(address a0, u16 a1, u16 a2, u16 a3, address a4) {
+static void f79(address a0, u16 a1, u16 a2, u16 a3, address a4) {
     u64 v5, v7, v8, v9, v14, v16, v17;
     address v6, v11, v12, v19, v20, v21, v23, v25, v26, v28;
     u8 v10, v13, v15, v18;
@@ -17494,7 +17643,7 @@ L6:;
     return;
 }
 
-static void f79(address a0, u8 a1, address a2) {
+static void f80(address a0, u8 a1, address a2) {
     u64 v3, v4, v5, v6, v11, v19, v20, v27, v28, v29, v34, v36, v37, v38, v43, v52;
     u64 v53, v55, v63, v64, v71, v72, v73, v78, v80, v81, v82, v87, v96, v97;
     address v7, v9, v10, v12, v13, v15, v16, v17, v18, v21, v24, v25, v26, v31, v32, v40;
@@ -17660,7 +17809,7 @@ L15:;
     return;
 }
 
-static void f80(address a0, address a1, address a2, u8 a3, u8 a4, address a5) {
+static void f81(address a0, address a1, address a2, u8 a3, u8 a4, address a5) {
     u16 v6, v7, v17, v21, v22, v40, v42, v43, v51, v56, v74, v75, v88, v89, v94, v95;
     u16 v96, v97, v102, v126, v127, v132, v150, v151, v166, v184, v186, v187, v192, v210, v211;
     u64 v8, v9, v10, v11, v13, v14, v20, v31, v34, v35, v36, v46, v47, v52, v53, v60;
@@ -17730,7 +17879,7 @@ L5:;
     store16(v49, 60u);
     v50 = v48 + 4u * 1u;
     v51 = (u16)(v8);
-    f78(a5, v51, v42, v43, v50);
+    f79(a5, v51, v42, v43, v50);
     v52 = load64(v45);
     v53 = (u64)((u64)v52 + (u64)1u);
     store64(v45, v53);
@@ -18054,7 +18203,7 @@ L37:;
     return;
 }
 
-static void f81(address a0, address a1, u64 a2) {
+static void f82(address a0, address a1, u64 a2) {
     u64 v3, v4, v5, v6, v11;
     u8 v7, v10, v12;
     address v8, v9;
@@ -18080,7 +18229,7 @@ L3:;
     return;
 }
 
-static void f82(address a0, address a1, u64 a2) {
+static void f83(address a0, address a1, u64 a2) {
     u64 v3, v4, v5, v7, v10, v12, v14, v15, v16, v21, v24, v25, v28, v29, v30, v35;
     u64 v37;
     address v6, v9, v11, v18, v19, v27, v32, v33;
@@ -18159,7 +18308,7 @@ L12:;
     return;
 }
 
-static void f83(address a0, address a1, address a2) {
+static void f84(address a0, address a1, address a2) {
     u64 v3, v4, v5, v6, v7, v8, v10, v15, v19, v22, v24, v25, v26, v29, v30, v31;
     u64 v36, v38, v41, v42, v43, v48, v50, v53, v54, v55, v60, v62, v65, v66, v67, v72;
     u64 v74, v75;
@@ -18311,7 +18460,7 @@ L21:;
     return;
 }
 
-static void f84(address a0, u64 a1, address a2, address a3, u16 a4, address a5) {
+static void f85(address a0, u64 a1, address a2, address a3, u16 a4, address a5) {
     u64 v6, v8, v15, v17, v19, v22, v40, v41;
     address v7, v9, v11, v12, v13, v14, v16, v20, v21, v23, v25, v26, v28, v34, v36, v38;
     address v39;
@@ -18357,7 +18506,7 @@ L5:;
     memory_move(v26, v7, 80u);
     goto L7;
 L6:;
-    f81(v26, v7, v19);
+    f82(v26, v7, v19);
     goto L7;
 L7:;
     v27 = load8(a3);
@@ -18393,7 +18542,7 @@ L10:;
     return;
 }
 
-static void f85(address a0, u8 a1, u16 a2, address a3, address a4, address a5) {
+static void f86(address a0, u8 a1, u16 a2, address a3, address a4, address a5) {
     address v6, v8, v9, v10, v12, v13, v18, v22, v24, v27, v30, v36, v40, v42, v45, v47;
     address v50, v53, v55, v57, v59, v61, v63, v73, v74, v75, v76, v77, v78, v79, v81, v83;
     address v85, v91, v93, v99, v101, v103, v104, v105, v110, v111, v112, v114, v116, v118, v119, v120;
@@ -18476,7 +18625,7 @@ L6:;
 L7:;
     UNREACHABLE;
 L8:;
-    f86(a0, a2, a3, a5);
+    f87(a0, a2, a3, a5);
     goto L9;
 L9:;
     v44 = a1 == 9u;
@@ -18598,13 +18747,13 @@ L12:;
     v129 = swap16(v72);
     v130 = v9 + 52u * 1u;
     store16(v130, v129);
-    f87(a0, v8, v9);
+    f88(a0, v8, v9);
     goto L13;
 L13:;
     return;
 }
 
-static void f86(address a0, u16 a1, address a2, address a3) {
+static void f87(address a0, u16 a1, address a2, address a3) {
     u64 v4, v5, v7, v15, v16, v17, v19, v20, v22, v26, v27, v35, v39, v40, v45, v50;
     u64 v51, v52;
     address v6, v11, v12, v13, v14, v23, v25, v28, v37, v38, v42, v43, v47;
@@ -18706,7 +18855,7 @@ L11:;
     return;
 }
 
-static void f87(address a0, address a1, address a2) {
+static void f88(address a0, address a1, address a2) {
     address v3, v15, v16, v17, v20, v22, v23, v24, v25, v26, v27, v28, v29, v30, v31, v33;
     address v34, v36, v38, v39, v42, v43, v44, v49, v50, v52, v53, v54, v56, v57, v60, v61;
     address v62, v65, v67, v68, v70, v71, v72, v73, v76, v77, v78, v79, v84, v85, v90, v92;
@@ -18830,7 +18979,7 @@ L22:;
     v43 = v42 + 2u * 1u;
     store16(v43, 60u);
     v44 = v42 + 4u * 1u;
-    f78(a2, v32, v35, v37, v44);
+    f79(a2, v32, v35, v37, v44);
     v45 = load64(v39);
     v46 = (u64)((u64)v45 + (u64)1u);
     store64(v39, v46);
@@ -18869,7 +19018,7 @@ L28:;
     v61 = v60 + 2u * 1u;
     store16(v61, 60u);
     v62 = v60 + 4u * 1u;
-    f78(a2, v51, 6u, v55, v62);
+    f79(a2, v51, 6u, v55, v62);
     v63 = load64(v57);
     v64 = (u64)((u64)v63 + (u64)1u);
     store64(v57, v64);
@@ -18957,14 +19106,14 @@ L38:;
     store64(v73, v95);
     goto L23;
 L39:;
-    f79(a0, v8, a2);
+    f80(a0, v8, a2);
     goto L23;
 L40:;
-    f80(a0, v16, a1, v14, v13, a2);
+    f81(a0, v16, a1, v14, v13, a2);
     goto L23;
 }
 
-static u32 f88(address a0, u16 a1, address a2, u64 a3, address a4, u64 a5, address a6, address a7) {
+static u32 f89(address a0, u16 a1, address a2, u64 a3, address a4, u64 a5, address a6, address a7) {
     u64 v8, v21, v24, v32;
     u32 v9, v10, v27, v30;
     address v11, v12, v13, v14, v15, v16, v20, v23, v25, v26, v29, v31, v33;
@@ -19009,14 +19158,14 @@ L3:;
     v26 = load_address(v23);
     f31(v13, v26);
     memory_cpy(v12, v13, 440u);
-    v27 = f72(v23, a1, a2, a3, a4, a5, a6);
+    v27 = f73(v23, a1, a2, a3, a4, a5, a6);
     memory_set(v11, 0u, 12u);
     v28 = v27 == 5u;
     if (v28) { goto L4; }
     else { v8 = 0u; v9 = 0u; goto L5; }
 L4:;
     v29 = load_address(v23);
-    f89(v11, v29, v12);
+    f90(v11, v29, v12);
     v30 = load32(v11);
     v31 = v11 + 4u * 1u;
     v32 = load64(v31);
@@ -19035,7 +19184,7 @@ L6:;
     return v10;
 }
 
-static void f89(address a0, address a1, address a2) {
+static void f90(address a0, address a1, address a2) {
     u64 v3, v5, v7, v8, v12, v13, v15, v16, v18, v19, v20, v22, v23, v24, v25, v27;
     u64 v28, v29, v30, v31, v33, v34, v35, v36, v37, v38, v40, v41, v42, v43, v44, v45;
     u64 v46, v48, v49, v50, v51, v52, v53, v54, v55, v56, v57, v58, v59, v60, v61, v62;
@@ -20034,7 +20183,7 @@ L48:;
     return;
 }
 
-static u32 f90(address a0, address a1, address a2, u64 a3, address a4) {
+static u32 f91(address a0, address a1, address a2, u64 a3, address a4) {
     u32 v5, v8, v70, v71;
     u8 v6, v7, v12, v13, v14, v17, v22, v24, v26, v28, v30, v32, v34, v36, v38, v40;
     u8 v42, v44, v47, v48, v49, v50, v51, v52, v53, v54, v55, v56, v57, v58, v59, v60;
@@ -20073,7 +20222,7 @@ L2:;
 L3:;
     memory_set(v9, 0u, 24u);
     v21 = load_address(v18);
-    f91(v9, v21, a1, a2, a3);
+    f92(v9, v21, a1, a2, a3);
     v22 = load8(v9);
     v23 = v9 + 1u * 1u;
     v24 = load8(v23);
@@ -20283,7 +20432,7 @@ L52:;
     v5 = v8; goto L4;
 }
 
-static void f91(address a0, address a1, address a2, address a3, u64 a4) {
+static void f92(address a0, address a1, address a2, address a3, u64 a4) {
     u64 v5, v6, v7, v9, v18, v21, v24, v26, v42, v43, v51, v65, v67, v68, v69, v74;
     u64 v75, v95, v99, v129, v133, v146, v147, v149, v150, v281, v283, v284, v286, v288, v295, v311;
     u64 v321, v323, v327, v347, v352, v361, v366, v367, v368, v369, v370, v371, v372, v373, v374, v375;
@@ -20736,7 +20885,7 @@ L20:;
     else { goto L21; }
 L21:;
     v325 = a1 + 192u * 1u;
-    f92(v33, v40, a1, v325);
+    f93(v33, v40, a1, v325);
     v326 = v33 + 20u * 1u;
     v327 = load64(v326);
     v328 = v33 + 34u * 1u;
@@ -20803,7 +20952,7 @@ L30:;
     if (v362) { goto L31; }
     else { v24 = v361; goto L28; }
 L31:;
-    f92(v34, v40, a1, v325);
+    f93(v34, v40, a1, v325);
     memory_cpy(v325, v34, 36u);
     v363 = v160 ? v80 : v285;
     v364 = v157 ? v84 : v287;
@@ -20925,7 +21074,7 @@ L37:;
     goto L1;
 }
 
-static void f92(address a0, address a1, address a2, address a3) {
+static void f93(address a0, address a1, address a2, address a3) {
     u64 v4, v6, v7, v8, v18, v20, v24, v26, v28, v30, v49, v50, v51, v52, v53, v54;
     u64 v55, v56, v57, v58, v59, v60, v64, v66, v67, v69, v71, v90, v91, v92, v93, v94;
     u64 v95, v96, v97, v98, v99, v100, v101, v103, v107, v109;
@@ -21093,7 +21242,7 @@ L6:;
     return;
 }
 
-static void f93(address a0, address a1, u8 a2) {
+static void f94(address a0, address a1, u8 a2) {
     address v3, v4, v5, v6, v10, v12, v13, v14, v15, v16, v17, v18, v19, v20, v21, v22;
     address v23, v24, v25, v26, v27, v28, v29, v30, v31, v32;
     u8 v7, v8, v9;
@@ -21152,7 +21301,7 @@ static void f93(address a0, address a1, u8 a2) {
     v31 = v3 + 1137u * 1u;
     memory_set(v31, 0u, 159u);
     store8(v6, a2);
-    f94(a0, v5, v3);
+    f95(a0, v5, v3);
     memory_cpy(v4, v3, 1296u);
     v32 = a1 + 10u * 1u;
     v33 = load16(v32);
@@ -21160,7 +21309,7 @@ static void f93(address a0, address a1, u8 a2) {
     return;
 }
 
-static void f94(address a0, address a1, address a2) {
+static void f95(address a0, address a1, address a2) {
     address v3, v10, v11, v12, v15, v17, v18, v19, v20, v21, v22, v23, v24, v28, v30, v31;
     address v34, v35, v36, v37, v39, v41, v42, v45, v46, v47, v48, v50, v52, v53, v56, v57;
     address v58, v59;
@@ -21349,15 +21498,15 @@ L28:;
     store64(v53, v60);
     goto L23;
 L29:;
-    f95(a0, v8, a2);
+    f96(a0, v8, a2);
     goto L23;
 L30:;
     v61 = (u8)v27;
-    f96(a0, v11, a1, v61, a2);
+    f97(a0, v11, a1, v61, a2);
     goto L23;
 }
 
-static void f95(address a0, u8 a1, address a2) {
+static void f96(address a0, u8 a1, address a2) {
     address v3, v5, v7, v8, v11, v12, v13, v14, v16, v18, v19, v22, v23, v24, v25;
     u8 v4, v6, v17;
     u64 v9, v10, v15, v20, v21, v26;
@@ -21408,7 +21557,7 @@ L3:;
     return;
 }
 
-static void f96(address a0, address a1, address a2, u8 a3, address a4) {
+static void f97(address a0, address a1, address a2, u8 a3, address a4) {
     u16 v5, v6, v9, v13, v14, v26;
     u64 v7, v12, v19, v20, v22, v23, v31, v32;
     address v8, v11, v16, v17, v18, v24, v25, v27, v28, v29, v30;
@@ -21462,7 +21611,7 @@ L5:;
     return;
 }
 
-static void f97(address a0, address a1, address a2, u64 a3) {
+static void f98(address a0, address a1, address a2, u64 a3) {
     u8 v4, v25, v28, v32, v33;
     address v5, v6, v7, v8, v9, v10, v11, v12, v13, v14, v15, v16, v17, v18, v19, v20;
     address v21, v22, v23, v24, v26, v29, v30, v31, v34, v35, v36, v37, v38, v39, v40, v41;
@@ -21605,7 +21754,7 @@ L3:;
     return;
 }
 
-static void f98(address a0, address a1, u8 a2, u16 a3, u16 a4, address a5, u64 a6) {
+static void f99(address a0, address a1, u8 a2, u16 a3, u16 a4, address a5, u64 a6) {
     u8 v7, v8, v15, v16, v20, v24, v25, v30, v31, v32, v40, v41, v62, v63, v66, v67;
     u8 v68, v69;
     address v9, v10, v11, v12, v13, v14, v17, v21, v22, v23, v26, v27, v28, v33, v34, v35;
@@ -21739,7 +21888,7 @@ L8:;
     store8(v60, 1u);
     v61 = v9 + 1137u * 1u;
     memory_set(v61, 0u, 159u);
-    f55(a1, v10, 7u, v9);
+    f56(a1, v10, 7u, v9);
     v62 = load8(v46);
     v63 = load8(v47);
     v64 = v9 + 1288u * 1u;
@@ -21751,7 +21900,7 @@ L8:;
     if (v68) { v7 = 3u; v8 = v63; goto L10; }
     else { goto L9; }
 L9:;
-    f89(v14, a1, v11);
+    f90(v14, a1, v11);
     v70 = v13 + 1u * 1u;
     memory_cpy(v70, v14, 12u);
     v7 = 0u; v8 = 0u; goto L10;
@@ -21767,7 +21916,7 @@ L10:;
     goto L2;
 }
 
-static u8 f99(address a0) {
+static u8 f100(address a0) {
     u64 v1, v6, v11, v13, v15, v16, v18, v20, v24, v25, v27, v29, v32, v34, v38, v40;
     u64 v41, v43, v45, v49, v50, v52, v54, v57, v59;
     struct pair v2, v3, v26, v30, v31, v51, v55, v56;
@@ -21780,7 +21929,7 @@ static u8 f99(address a0) {
     else { v1 = v6; goto L3; }
 L1:;
     v8 = a0 + 48u * 1u;
-    v9 = f100(v8);
+    v9 = f101(v8);
     v10 = (u8)((v9) & UINT64_C(1));
     if (v10) { v4 = 1u; goto L17; }
     else { goto L2; }
@@ -21884,7 +22033,7 @@ L17:;
     return v4;
 }
 
-static u8 f100(address a0) {
+static u8 f101(address a0) {
     u64 v1, v2, v3, v5, v7, v8, v9, v10, v12, v13, v14, v15, v19, v22, v23, v24;
     u64 v25, v32, v34, v35, v36, v39, v40, v47, v118, v119, v121, v124, v127, v128, v131, v133;
     u64 v134, v135, v136, v138, v139, v141, v142, v144, v150, v151, v153, v155, v158, v160, v162, v163;
@@ -22209,7 +22358,7 @@ L30:;
     if (v190) { goto L31; }
     else { v9 = v7; v10 = 0u; goto L33; }
 L31:;
-    v191 = f101(a0, v3);
+    v191 = f102(a0, v3);
     if (v191) { goto L32; }
     else { goto L36; }
 L32:;
@@ -22400,7 +22549,7 @@ L44:;
     return v16;
 }
 
-static u8 f101(address a0, u64 a1) {
+static u8 f102(address a0, u64 a1) {
     u8 v2, v7, v12, v16, v17, v23, v28;
     struct pair v3, v21, v25, v26;
     address v4, v8, v18, v30;
@@ -23725,6 +23874,76 @@ L6:;
     store64(a3, v21);
     v5 = 0u; goto L7;
 L7:;
+    return v5;
+}
+
+u64 portable_ptpm_clock_most_sent(address a0) {
+    address v1, v6, v7, v10, v12, v13, v14, v15, v16, v17, v22, v25, v26, v27, v31, v32;
+    u64 v2, v3, v4, v5, v18, v19, v20, v21, v23, v29, v30, v33, v34, v35;
+    u8 v8, v9, v11, v24, v28, v36;
+    u64 block0[5];
+    v6 = ADDRESS(block0);
+    v7 = a0 + 8u * 1u;
+    v8 = load8(v7);
+    v9 = (u8)((v8) & UINT64_C(1));
+    if (v9) { goto L1; }
+    else { v5 = 0u; goto L9; }
+L1:;
+    v10 = load_address(a0);
+    v11 = load8(v10);
+    switch (v11) {
+    case 1u: goto L2;
+    case 4u: goto L3;
+    case 0u: v5 = 0u; goto L9;
+    case 2u: v5 = 0u; goto L9;
+    case 3u: v5 = 0u; goto L9;
+    case 5u: v5 = 0u; goto L9;
+    default: goto L4;
+    }
+L2:;
+    v12 = v10 + 8u * 1u;
+    v1 = v12; goto L5;
+L3:;
+    v13 = v10 + 8u * 1u;
+    v14 = load_address(v13);
+    v1 = v14; goto L5;
+L4:;
+    UNREACHABLE;
+L5:;
+    v15 = load_address(v1);
+    memory_set(v6, 0u, 40u);
+    v16 = v15 + 440u * 1u;
+    f7(v6, v16);
+    v17 = v15 + 432u * 1u;
+    v18 = load64(v17);
+    v19 = (u64)((u64)v18 << (1u & 63u));
+    v20 = (u64)((u64)v19 & (u64)UINT64_C(131070));
+    v21 = (u64)((u64)v20 + (u64)UINT64_C(18446744073709551615));
+    v22 = v6 + 32u * 1u;
+    v23 = load64(v22);
+    v24 = v23 == 0u;
+    if (v24) { v4 = v21; goto L8; }
+    else { goto L6; }
+L6:;
+    v25 = v6 + 16u * 1u;
+    v26 = load_address(v6);
+    v2 = v21; v3 = 0u; goto L7;
+L7:;
+    v27 = v25 + v3 * 1u;
+    v28 = load8(v27);
+    v29 = (u64)v28;
+    v30 = (u64)((u64)v29 * (u64)2136u);
+    v31 = v26 + v30 * 1u;
+    v32 = v31 + 1440u * 1u;
+    v33 = load64(v32);
+    v34 = v2 > v33 ? v2 : v33;
+    v35 = (u64)((u64)v3 + (u64)1u);
+    v36 = v35 == v23;
+    if (v36) { v4 = v34; goto L8; }
+    else { v2 = v34; v3 = v35; goto L7; }
+L8:;
+    v5 = v4; goto L9;
+L9:;
     return v5;
 }
 
@@ -27979,205 +28198,189 @@ L7:;
 }
 
 u8 portable_ptpm_passed_on_is_first(address a0, address a1, u64 a2, u64 a3, u64 a4) {
-    u64 v5, v6, v10, v21, v29, v31, v39, v51, v52, v61, v62, v63, v64, v65, v66, v67;
-    u64 v68, v69, v70, v71, v72, v73, v74, v75, v76, v77, v78, v79, v80, v81, v82, v83;
-    u64 v84, v85, v86, v87, v88, v89, v91, v92, v93, v95, v96, v98, v106, v109, v121, v123;
-    u64 v125, v126, v127, v129, v130, v132;
-    u8 v7, v9, v12, v13, v17, v19, v23, v25, v33, v35, v42, v44, v50, v54, v56, v99;
-    u8 v107, v110, v112, v114, v116, v118, v119, v120, v122, v124, v133;
-    address v8, v11, v14, v15, v16, v18, v20, v22, v24, v30, v32, v34, v41, v43, v53, v55;
-    address v90, v94, v97, v100, v101, v102, v103, v104, v105, v108, v128, v131, v134, v135, v136, v137;
-    address v138, v139, v140, v141, v142;
-    u16 v26, v27, v28, v36, v37, v38, v40, v45, v46, v47, v48, v49, v57, v58, v59, v60;
-    u16 v111, v113, v115, v117;
+    u8 v5, v8, v12, v13, v18, v20, v24, v26, v34, v36, v43, v45, v51, v55, v57, v69;
+    address v6, v7, v10, v14, v15, v16, v17, v19, v21, v23, v25, v31, v33, v35, v42, v44;
+    address v54, v56, v62, v63, v64, v65, v66, v67, v68;
+    u64 v9, v11, v22, v30, v32, v40, v52, v53;
+    u16 v27, v28, v29, v37, v38, v39, v41, v46, v47, v48, v49, v50, v58, v59, v60, v61;
     u64 block0[4];
-    v8 = ADDRESS(block0);
-    v9 = a1 == 0u;
-    v10 = v9 ? 4096u : 0u;
-    v11 = a1 + v10 * 1u;
-    memory_set(v8, 0u, 32u);
-    f8(v8, v11, a2);
-    v12 = load8(v8);
+    u64 block1[4];
+    v6 = ADDRESS(block0);
+    v7 = ADDRESS(block1);
+    v8 = a1 == 0u;
+    v9 = v8 ? 4096u : 0u;
+    v10 = a1 + v9 * 1u;
+    v11 = load64(a0);
+    memory_set(v6, 0u, 32u);
+    f8(v6, v10, a2);
+    v12 = load8(v6);
     v13 = v12 == 0u;
     if (v13) { goto L1; }
-    else { v7 = 0u; goto L14; }
+    else { v5 = 0u; goto L2; }
 L1:;
-    v14 = v8 + 8u * 1u;
-    v15 = load_address(v14);
-    v16 = v8 + 24u * 1u;
-    v17 = load8(v16);
-    v18 = v8 + 25u * 1u;
-    v19 = load8(v18);
-    v20 = v15 + 20u * 1u;
-    v21 = load64(v20);
-    v22 = v15 + 28u * 1u;
-    v23 = load8(v22);
-    v24 = v15 + 29u * 1u;
-    v25 = load8(v24);
-    v26 = (u16)v23;
-    v27 = (u16)((u32)v26 << (8u & 15u));
-    v28 = (u16)v25;
-    v29 = swap64(v21);
-    v30 = v15 + 34u * 1u;
-    v31 = load64(v30);
-    v32 = v15 + 42u * 1u;
-    v33 = load8(v32);
-    v34 = v15 + 43u * 1u;
-    v35 = load8(v34);
-    v36 = (u16)v33;
-    v37 = (u16)((u32)v36 << (8u & 15u));
-    v38 = (u16)v35;
-    v39 = swap64(v31);
-    v40 = (u16)((u32)v27 | (u32)v28);
-    v41 = v15 + 30u * 1u;
-    v42 = load8(v41);
-    v43 = v15 + 31u * 1u;
-    v44 = load8(v43);
-    v45 = (u16)v42;
-    v46 = (u16)((u32)v45 << (8u & 15u));
-    v47 = (u16)v44;
-    v48 = (u16)((u32)v46 | (u32)v47);
-    v49 = (u16)((u32)v37 | (u32)v38);
-    v50 = v19 == 0u;
-    v51 = v50 ? 52u : 54u;
-    v52 = v50 ? 53u : 55u;
-    v53 = v15 + v51 * 1u;
-    v54 = load8(v53);
-    v55 = v15 + v52 * 1u;
-    v56 = load8(v55);
-    v57 = (u16)v54;
-    v58 = (u16)((u32)v57 << (8u & 15u));
-    v59 = (u16)v56;
-    v60 = (u16)((u32)v58 | (u32)v59);
-    v61 = load64(a0);
-    v62 = (u64)v40;
-    v63 = (u64)((u64)v62 << (32u & 63u));
-    v64 = (u64)v49;
-    v65 = (u64)((u64)v64 << (16u & 63u));
-    v66 = (u64)((u64)v65 | (u64)v63);
-    v67 = (u64)((u64)v61 ^ (u64)v29);
-    v68 = (u64)((u64)v67 * (u64)UINT64_C(11400714819323198485));
-    v69 = (u64)((u64)v68 >> (32u & 63u));
-    v70 = (u64)((u64)v39 ^ (u64)v69);
-    v71 = (u64)((u64)v70 ^ (u64)v68);
-    v72 = (u64)((u64)v71 * (u64)UINT64_C(11400714819323198485));
-    v73 = (u64)((u64)v72 >> (32u & 63u));
-    v74 = (u64)v48;
-    v75 = (u64)((u64)v74 << (32u & 63u));
-    v76 = (u64)v60;
-    v77 = (u64)((u64)v76 << (8u & 63u));
-    v78 = (u64)v17;
-    v79 = (u64)((u64)v75 | (u64)v78);
-    v80 = (u64)((u64)v79 | (u64)v77);
-    v81 = (u64)((u64)v66 ^ (u64)v73);
-    v82 = (u64)((u64)v81 ^ (u64)v72);
-    v83 = (u64)((u64)v82 * (u64)UINT64_C(11400714819323198485));
-    v84 = (u64)((u64)v83 >> (32u & 63u));
-    v85 = (u64)((u64)v80 ^ (u64)v84);
-    v86 = (u64)((u64)v85 ^ (u64)v83);
-    v87 = (u64)((u64)v86 * (u64)UINT64_C(11400714819323198485));
-    v88 = (u64)((u64)v87 >> (32u & 63u));
-    v89 = (u64)((u64)v88 ^ (u64)v87);
-    v90 = a0 + 8u * 1u;
-    v5 = 0u; goto L2;
+    v14 = a0 + 8u * 1u;
+    v15 = v6 + 8u * 1u;
+    v16 = load_address(v15);
+    v17 = v6 + 24u * 1u;
+    v18 = load8(v17);
+    v19 = v6 + 25u * 1u;
+    v20 = load8(v19);
+    v21 = v16 + 20u * 1u;
+    v22 = load64(v21);
+    v23 = v16 + 28u * 1u;
+    v24 = load8(v23);
+    v25 = v16 + 29u * 1u;
+    v26 = load8(v25);
+    v27 = (u16)v24;
+    v28 = (u16)((u32)v27 << (8u & 15u));
+    v29 = (u16)v26;
+    v30 = swap64(v22);
+    v31 = v16 + 34u * 1u;
+    v32 = load64(v31);
+    v33 = v16 + 42u * 1u;
+    v34 = load8(v33);
+    v35 = v16 + 43u * 1u;
+    v36 = load8(v35);
+    v37 = (u16)v34;
+    v38 = (u16)((u32)v37 << (8u & 15u));
+    v39 = (u16)v36;
+    v40 = swap64(v32);
+    v41 = (u16)((u32)v28 | (u32)v29);
+    v42 = v16 + 30u * 1u;
+    v43 = load8(v42);
+    v44 = v16 + 31u * 1u;
+    v45 = load8(v44);
+    v46 = (u16)v43;
+    v47 = (u16)((u32)v46 << (8u & 15u));
+    v48 = (u16)v45;
+    v49 = (u16)((u32)v47 | (u32)v48);
+    v50 = (u16)((u32)v38 | (u32)v39);
+    v51 = v20 == 0u;
+    v52 = v51 ? 52u : 54u;
+    v53 = v51 ? 53u : 55u;
+    v54 = v16 + v52 * 1u;
+    v55 = load8(v54);
+    v56 = v16 + v53 * 1u;
+    v57 = load8(v56);
+    v58 = (u16)v55;
+    v59 = (u16)((u32)v58 << (8u & 15u));
+    v60 = (u16)v57;
+    v61 = (u16)((u32)v59 | (u32)v60);
+    store64(v7, v30);
+    v62 = v7 + 8u * 1u;
+    store64(v62, v40);
+    v63 = v7 + 16u * 1u;
+    store16(v63, v41);
+    v64 = v7 + 18u * 1u;
+    store16(v64, v49);
+    v65 = v7 + 20u * 1u;
+    store16(v65, v50);
+    v66 = v7 + 22u * 1u;
+    store16(v66, v61);
+    v67 = v7 + 24u * 1u;
+    store8(v67, v18);
+    v68 = v7 + 25u * 1u;
+    memory_set(v68, 0u, 7u);
+    v69 = f52(v11, v14, 4096u, v7, a3, a4);
+    v5 = v69; goto L2;
 L2:;
-    v91 = (u64)((u64)v5 + (u64)v89);
-    v92 = (u64)((u64)v91 & (u64)4095u);
-    v93 = (u64)((u64)v92 * (u64)48u);
-    v94 = v90 + v93 * 1u;
-    v95 = load64(v94);
-    v96 = a3 > v95 ? (u64)((u64)a3 - (u64)v95) : 0u;
-    v97 = v94 + 8u * 1u;
-    v98 = load64(v97);
-    v99 = v96 < v98;
-    if (v99) { goto L3; }
-    else { goto L10; }
+    return v5;
+}
+
+u8 portable_ptpm_passed_on_is_first_of(u64 a0, address a1, u64 a2, address a3, u64 a4, u64 a5, u64 a6) {
+    u8 v7, v10, v14, v15, v18, v19, v23, v25, v29, v31, v39, v41, v48, v50, v56, v60;
+    u8 v62, v74;
+    address v8, v9, v12, v17, v20, v21, v22, v24, v26, v28, v30, v36, v38, v40, v47, v49;
+    address v59, v61, v67, v68, v69, v70, v71, v72, v73;
+    u64 v11, v13, v16, v27, v35, v37, v45, v57, v58;
+    u16 v32, v33, v34, v42, v43, v44, v46, v51, v52, v53, v54, v55, v63, v64, v65, v66;
+    u64 block0[4];
+    u64 block1[4];
+    v8 = ADDRESS(block0);
+    v9 = ADDRESS(block1);
+    v10 = a1 == 0u;
+    v11 = v10 ? 4096u : 0u;
+    v12 = a1 + v11 * 1u;
+    memory_set(v8, 0u, 32u);
+    v13 = (u64)((u64)a2 + (u64)UINT64_C(18446744073708503039));
+    v14 = v13 < UINT64_C(18446744073708503055);
+    if (v14) { v7 = 0u; goto L3; }
+    else { goto L1; }
+L1:;
+    v15 = a3 == 0u;
+    v16 = v15 ? 4096u : 0u;
+    v17 = a3 + v16 * 1u;
+    f8(v8, v17, a4);
+    v18 = load8(v8);
+    v19 = v18 == 0u;
+    if (v19) { goto L2; }
+    else { v7 = 0u; goto L3; }
+L2:;
+    v20 = v8 + 8u * 1u;
+    v21 = load_address(v20);
+    v22 = v8 + 24u * 1u;
+    v23 = load8(v22);
+    v24 = v8 + 25u * 1u;
+    v25 = load8(v24);
+    v26 = v21 + 20u * 1u;
+    v27 = load64(v26);
+    v28 = v21 + 28u * 1u;
+    v29 = load8(v28);
+    v30 = v21 + 29u * 1u;
+    v31 = load8(v30);
+    v32 = (u16)v29;
+    v33 = (u16)((u32)v32 << (8u & 15u));
+    v34 = (u16)v31;
+    v35 = swap64(v27);
+    v36 = v21 + 34u * 1u;
+    v37 = load64(v36);
+    v38 = v21 + 42u * 1u;
+    v39 = load8(v38);
+    v40 = v21 + 43u * 1u;
+    v41 = load8(v40);
+    v42 = (u16)v39;
+    v43 = (u16)((u32)v42 << (8u & 15u));
+    v44 = (u16)v41;
+    v45 = swap64(v37);
+    v46 = (u16)((u32)v33 | (u32)v34);
+    v47 = v21 + 30u * 1u;
+    v48 = load8(v47);
+    v49 = v21 + 31u * 1u;
+    v50 = load8(v49);
+    v51 = (u16)v48;
+    v52 = (u16)((u32)v51 << (8u & 15u));
+    v53 = (u16)v50;
+    v54 = (u16)((u32)v52 | (u32)v53);
+    v55 = (u16)((u32)v43 | (u32)v44);
+    v56 = v25 == 0u;
+    v57 = v56 ? 52u : 54u;
+    v58 = v56 ? 53u : 55u;
+    v59 = v21 + v57 * 1u;
+    v60 = load8(v59);
+    v61 = v21 + v58 * 1u;
+    v62 = load8(v61);
+    v63 = (u16)v60;
+    v64 = (u16)((u32)v63 << (8u & 15u));
+    v65 = (u16)v62;
+    v66 = (u16)((u32)v64 | (u32)v65);
+    store64(v9, v35);
+    v67 = v9 + 8u * 1u;
+    store64(v67, v45);
+    v68 = v9 + 16u * 1u;
+    store16(v68, v46);
+    v69 = v9 + 18u * 1u;
+    store16(v69, v54);
+    v70 = v9 + 20u * 1u;
+    store16(v70, v55);
+    v71 = v9 + 22u * 1u;
+    store16(v71, v66);
+    v72 = v9 + 24u * 1u;
+    store8(v72, v23);
+    v73 = v9 + 25u * 1u;
+    memory_set(v73, 0u, 7u);
+    v74 = f52(a0, v12, a2, v9, a5, a6);
+    v7 = v74; goto L3;
 L3:;
-    v100 = v94 + 16u * 1u;
-    v101 = v94 + 32u * 1u;
-    v102 = v94 + 34u * 1u;
-    v103 = v94 + 36u * 1u;
-    v104 = v94 + 38u * 1u;
-    v105 = v94 + 40u * 1u;
-    v106 = load64(v100);
-    v107 = v106 == v29;
-    if (v107) { goto L4; }
-    else { goto L10; }
-L4:;
-    v108 = v94 + 24u * 1u;
-    v109 = load64(v108);
-    v110 = v109 == v39;
-    if (v110) { goto L5; }
-    else { goto L10; }
-L5:;
-    v111 = load16(v101);
-    v112 = v111 == v40;
-    if (v112) { goto L6; }
-    else { goto L10; }
-L6:;
-    v113 = load16(v102);
-    v114 = v113 == v48;
-    if (v114) { goto L7; }
-    else { goto L10; }
-L7:;
-    v115 = load16(v103);
-    v116 = v115 == v49;
-    if (v116) { goto L8; }
-    else { goto L10; }
-L8:;
-    v117 = load16(v104);
-    v118 = v117 == v60;
-    if (v118) { goto L9; }
-    else { goto L10; }
-L9:;
-    v119 = load8(v105);
-    v120 = v119 == v17;
-    if (v120) { v7 = 0u; goto L14; }
-    else { goto L10; }
-L10:;
-    v121 = (u64)((u64)v5 + (u64)1u);
-    v122 = v121 == 16u;
-    if (v122) { v6 = 0u; goto L12; }
-    else { v5 = v121; goto L2; }
-L11:;
-    v123 = (u64)((u64)v6 + (u64)1u);
-    v124 = v123 == 16u;
-    if (v124) { v7 = 0u; goto L14; }
-    else { v6 = v123; goto L12; }
-L12:;
-    v125 = (u64)((u64)v6 + (u64)v89);
-    v126 = (u64)((u64)v125 & (u64)4095u);
-    v127 = (u64)((u64)v126 * (u64)48u);
-    v128 = v90 + v127 * 1u;
-    v129 = load64(v128);
-    v130 = a3 > v129 ? (u64)((u64)a3 - (u64)v129) : 0u;
-    v131 = v128 + 8u * 1u;
-    v132 = load64(v131);
-    v133 = v130 < v132;
-    if (v133) { goto L11; }
-    else { goto L13; }
-L13:;
-    v134 = v128 + 8u * 1u;
-    store64(v128, a3);
-    store64(v134, a4);
-    v135 = v128 + 16u * 1u;
-    store64(v135, v29);
-    v136 = v128 + 24u * 1u;
-    store64(v136, v39);
-    v137 = v128 + 32u * 1u;
-    store16(v137, v40);
-    v138 = v128 + 34u * 1u;
-    store16(v138, v48);
-    v139 = v128 + 36u * 1u;
-    store16(v139, v49);
-    v140 = v128 + 38u * 1u;
-    store16(v140, v60);
-    v141 = v128 + 40u * 1u;
-    store8(v141, v17);
-    v142 = v128 + 41u * 1u;
-    memory_set(v142, 0u, 7u);
-    v7 = 1u; goto L14;
-L14:;
     return v7;
 }
 
@@ -28945,7 +29148,7 @@ L1:;
     memory_set(v35, 0u, 24u);
     v36 = v4 + 136u * 1u;
     store64(v36, UINT64_C(2611923443488327891));
-    v37 = f52(a0, v4);
+    v37 = f53(a0, v4);
     v2 = v37; goto L2;
 L2:;
     return v2;
@@ -29030,7 +29233,7 @@ L4:;
     memory_set(v40, 0u, 24u);
     v41 = v5 + 136u * 1u;
     store64(v41, UINT64_C(2611923443488327891));
-    v42 = f52(a0, v5);
+    v42 = f53(a0, v5);
     v3 = v42; goto L5;
 L5:;
     return v3;
@@ -29099,7 +29302,7 @@ L5:;
     if (v33) { goto L24; }
     else { goto L6; }
 L6:;
-    f53(v13, v28, v16, a3);
+    f54(v13, v28, v16, a3);
     v34 = load8(v13);
     v35 = v34 == 1u;
     if (v35) { goto L7; }
@@ -29182,7 +29385,7 @@ L10:;
     store_address(v91, v77);
     v92 = v9 + 16u * 1u;
     store64(v92, v78);
-    v93 = f60(v9);
+    v93 = f61(v9);
     if (v93) { goto L11; }
     else { goto L17; }
 L11:;
@@ -29233,7 +29436,7 @@ L16:;
 L17:;
     goto L19;
 L18:;
-    v118 = f61(v28, v10);
+    v118 = f62(v28, v10);
     v119 = v118 < 2u;
     if (v119) { goto L22; }
     else { goto L19; }
@@ -29731,7 +29934,7 @@ L3:;
     store_address(v43, ADDRESS(c112));
     v44 = v5 + 48u * 1u;
     store64(v44, 0u);
-    f62(v5, v6);
+    f63(v5, v6);
     v45 = v6 + 1472u * 1u;
     v46 = load64(v45);
     memory_cpy(v9, v6, v46);
@@ -29926,7 +30129,7 @@ L15:;
     portable_rattle_dealloc(v116);
     v12 = (struct s2){ 0 }; goto L18;
 L16:;
-    v126 = f65(v58, v78, a4, 0u, 0u, v64, a7);
+    v126 = f66(v58, v78, a4, 0u, 0u, v64, a7);
     v127 = v58 + 48u * 1u;
     v128 = load8(v127);
     v129 = v58 + 80u * 1u;
@@ -30060,7 +30263,7 @@ L31:;
     store8(v187, 0u);
     v188 = v73 + 353u * 1u;
     store8(v188, 0u);
-    f66(v53, v73, v76, a1);
+    f67(v53, v73, v76, a1);
     v189 = load8(v53);
     v190 = v53 + 1u * 1u;
     v191 = load8(v190);
@@ -30158,7 +30361,7 @@ L40:;
     else { goto L44; }
 L41:;
     v249 = v73 + 48u * 1u;
-    v250 = f67(v52, v55, v249);
+    v250 = f68(v52, v55, v249);
     v251 = v250.m0;
     v252 = v251 == 0u;
     if (v252) { goto L44; }
@@ -30217,7 +30420,7 @@ L49:;
 L50:;
     v279 = v73 + 80u * 1u;
     v280 = v73 + 48u * 1u;
-    v281 = f67(v279, v55, v280);
+    v281 = f68(v279, v55, v280);
     v282 = v281.m0;
     v26 = v282; goto L51;
 L51:;
@@ -30448,7 +30651,7 @@ L3:;
     else { goto L16; }
 L4:;
     v28 = v23 + 80u * 1u;
-    f68(v10, v28, v14, a2);
+    f69(v10, v28, v14, a2);
     v29 = load8(v10);
     v30 = v10 + 24u * 1u;
     v31 = load8(v30);
@@ -30520,7 +30723,7 @@ L11:;
     goto L18;
 L12:;
     v69 = v23 + 240u * 1u;
-    f68(v11, v69, v14, a2);
+    f69(v11, v69, v14, a2);
     v70 = load8(v11);
     v71 = v11 + 24u * 1u;
     v72 = load8(v71);
@@ -30843,7 +31046,7 @@ L11:;
     store_address(v56, v37);
     v57 = v11 + 16u * 1u;
     store64(v57, v39);
-    v58 = f64(v28, v11);
+    v58 = f65(v28, v11);
     v59 = v58.m0;
     v60 = v58.m1;
     v2 = v60; v3 = v59; goto L12;
@@ -30854,7 +31057,7 @@ L12:;
     v62.m1 = v2;
     v4 = v62; goto L14;
 L13:;
-    v63 = f65(v28, v29, v31, 0u, 0u, v37, v39);
+    v63 = f66(v28, v29, v31, 0u, 0u, v37, v39);
     v4 = v63; goto L14;
 L14:;
     v64 = v4.m0;
@@ -30980,7 +31183,7 @@ L6:;
     store8(v51, 0u);
     v52 = v38 + 353u * 1u;
     store8(v52, 0u);
-    f66(v22, v38, v40, a1);
+    f67(v22, v38, v40, a1);
     v53 = load8(v22);
     v54 = v22 + 1u * 1u;
     v55 = load8(v54);
@@ -31233,7 +31436,7 @@ L15:;
     store8(v71, 0u);
     v72 = v28 + 353u * 1u;
     store8(v72, 0u);
-    f66(v16, v28, v30, a1);
+    f67(v16, v28, v30, a1);
     v73 = load8(v16);
     v74 = v16 + 1u * 1u;
     v75 = load8(v74);
@@ -31583,7 +31786,7 @@ L6:;
     v43 = load16(v42);
     v44 = v33 + 237u * 1u;
     v45 = load8(v44);
-    f69(v23, v33, v36, a1, v43, v45);
+    f70(v23, v33, v36, a1, v43, v45);
     goto L47;
 L7:;
     memory_set(v22, 0u, 64u);
@@ -31697,7 +31900,7 @@ L15:;
     store_address(v96, v18);
     v97 = v20 + 48u * 1u;
     store64(v97, 0u);
-    f62(v20, v36);
+    f63(v20, v36);
     v98 = v33 + 32u * 1u;
     v99 = load64(v98);
     v100 = (u64)((u64)v99 + (u64)a1) < v99 ? UINT64_C(18446744073709551615) : (u64)((u64)v99 + (u64)a1);
@@ -31861,7 +32064,7 @@ L24:;
     store_address(v192, v175);
     v193 = v19 + 48u * 1u;
     store64(v193, v177);
-    f62(v19, v36);
+    f63(v19, v36);
     v194 = load8(v152);
     v195 = (u8)((u32)v194 + (u32)255u);
     store8(v152, v195);
@@ -32015,7 +32218,7 @@ L43:;
     v263 = load16(v262);
     v264 = (u16)((u32)v263 + (u32)16384u);
     v265 = (u8)((u32)v238 + (u32)255u);
-    f69(v22, v33, v36, a1, v264, v265);
+    f70(v22, v33, v36, a1, v264, v265);
     goto L44;
 L44:;
     memory_cpy(v23, v22, 64u);
@@ -32142,7 +32345,7 @@ u32 portable_ptpm_clock_handle(address a0, u16 a1, address a2, u64 a3, address a
     v10 = a4 == 0u;
     v11 = v10 ? 4096u : 0u;
     v12 = a4 + v11 * 1u;
-    v13 = f70(a0, a1, v9, a3, v12, a5, a6);
+    v13 = f71(a0, a1, v9, a3, v12, a5, a6);
     return v13;
 }
 
@@ -32202,12 +32405,12 @@ L3:;
     store8(v22, 1u);
     v32 = a0 + 9u * 1u;
     memory_set(v32, 0u, 7u);
-    v33 = f70(a0, a1, v16, a3, v19, a5, a6);
+    v33 = f71(a0, a1, v16, a3, v19, a5, a6);
     v34 = v33 == 5u;
     if (v34) { goto L5; }
     else { v10 = v33; goto L10; }
 L4:;
-    v35 = f88(a0, a1, v16, a3, v19, a5, a6, a7);
+    v35 = f89(a0, a1, v16, a3, v19, a5, a6, a7);
     v10 = v35; goto L10;
 L5:;
     memory_set(v11, 0u, 12u);
@@ -32235,7 +32438,7 @@ L7:;
     memory_set(v32, 0u, 7u);
     v8 = 0u; v9 = 0u; goto L9;
 L8:;
-    f89(v11, v43, v12);
+    f90(v11, v43, v12);
     store64(v36, 1u);
     store_address(v40, v43);
     store_address(a0, v36);
@@ -32294,13 +32497,13 @@ L2:;
     memory_set(v23, 0u, 7u);
     goto L4;
 L3:;
-    f91(v9, v21, a1, v12, a3);
+    f92(v9, v21, a1, v12, a3);
     v24 = load8(v9);
     v25 = v24 == 0u;
     if (v25) { goto L5; }
     else { goto L14; }
 L4:;
-    v26 = f90(a0, a1, v12, a3, a4);
+    v26 = f91(a0, a1, v12, a3, a4);
     v8 = v26; goto L53;
 L5:;
     v27 = v9 + 8u * 1u;
@@ -32646,7 +32849,7 @@ L17:;
     memory_move(v83, v8, 80u);
     goto L19;
 L18:;
-    f81(v83, v8, v77);
+    f82(v83, v8, v77);
     goto L19;
 L19:;
     v84 = v80 + 8u * 1u;
@@ -32816,7 +33019,7 @@ L7:;
     else { v24 = 121u; goto L74; }
 L8:;
     memory_set(v36, 0u, 24u);
-    f73(v36, v55, a1, v42, a3, v45, a6);
+    f74(v36, v55, a1, v42, a3, v45, a6);
     v76 = load8(v36);
     v77 = v76 == 0u;
     if (v77) { goto L10; }
@@ -32836,18 +33039,18 @@ L11:;
     v84 = (u64)v65;
     v85 = ADDRESS(c319) + v84 * 1u;
     v86 = load8(v85);
-    f53(v35, v55, v42, a3);
+    f54(v35, v55, v42, a3);
     v87 = load8(v35);
     v88 = v87 == 1u;
     if (v88) { goto L12; }
     else { goto L13; }
 L12:;
     v89 = v35 + 8u * 1u;
-    f93(v55, v89, v86);
+    f94(v55, v89, v86);
     goto L13;
 L13:;
     memory_set(v34, 0u, 24u);
-    f73(v34, v55, a1, v42, a3, v45, a6);
+    f74(v34, v55, a1, v42, a3, v45, a6);
     v90 = load8(v34);
     v91 = v90 == 0u;
     if (v91) { goto L15; }
@@ -32919,7 +33122,7 @@ L17:;
     store_address(v137, v123);
     v138 = v31 + 16u * 1u;
     store64(v138, v124);
-    v139 = f60(v31);
+    v139 = f61(v31);
     if (v139) { goto L18; }
     else { goto L24; }
 L18:;
@@ -32970,7 +33173,7 @@ L23:;
 L24:;
     goto L47;
 L25:;
-    v164 = f61(v55, v32);
+    v164 = f62(v55, v32);
     v165 = v164 == 0u;
     if (v165) { goto L26; }
     else { goto L47; }
@@ -33197,7 +33400,7 @@ L46:;
     store16(v273, v286);
     v287 = (u64)((u64)v13 + (u64)1u);
     store64(a7, v287);
-    f89(v39, v55, v37);
+    f90(v39, v55, v37);
     memory_cpy(a8, v39, 12u);
     goto L72;
 L47:;
@@ -33253,7 +33456,7 @@ L48:;
     store_address(v325, v311);
     v326 = v27 + 16u * 1u;
     store64(v326, v312);
-    v327 = f60(v27);
+    v327 = f61(v27);
     if (v327) { goto L49; }
     else { goto L55; }
 L49:;
@@ -33304,7 +33507,7 @@ L54:;
 L55:;
     goto L57;
 L56:;
-    v352 = f61(v55, v28);
+    v352 = f62(v55, v28);
     v353 = v352 == 1u;
     if (v353) { goto L58; }
     else { goto L57; }
@@ -33348,11 +33551,11 @@ L58:;
     store_address(v378, v311);
     v379 = v30 + 32u * 1u;
     store64(v379, v312);
-    f97(v55, v30, v99, v98);
+    f98(v55, v30, v99, v98);
     v19 = 1u; goto L59;
 L59:;
     memory_set(v26, 0u, 24u);
-    f73(v26, v55, a1, v42, a3, v45, a6);
+    f74(v26, v55, a1, v42, a3, v45, a6);
     v380 = load8(v26);
     v381 = v380 == 0u;
     if (v381) { goto L61; }
@@ -33371,12 +33574,12 @@ L61:;
     else { v21 = v383; v22 = v385; v23 = v387; goto L63; }
 L62:;
     store64(a7, v20);
-    f89(v39, v55, v37);
+    f90(v39, v55, v37);
     memory_cpy(a8, v39, 12u);
     goto L68;
 L63:;
     store64(a7, v23);
-    f89(v39, v55, v37);
+    f90(v39, v55, v37);
     memory_cpy(a8, v39, 12u);
     switch (v21) {
     case 0u: goto L64;
@@ -33441,7 +33644,7 @@ L76:;
     if (v398) { goto L77; }
     else { v25 = 32u; goto L81; }
 L77:;
-    v399 = f88(a0, a1, v42, a3, v45, a6, a7, a8);
+    v399 = f89(a0, a1, v42, a3, v45, a6, a7, a8);
     v25 = v399; goto L81;
 L78:;
     memory_set(a0, 0u, 16u);
@@ -33609,7 +33812,7 @@ L2:;
     store8(v21, 1u);
     goto L4;
 L3:;
-    f98(v15, v28, a1, a2, a3, v18, a5);
+    f99(v15, v28, a1, a2, a3, v18, a5);
     v30 = load8(v15);
     v31 = v30 == 0u;
     if (v31) { goto L16; }
@@ -33639,7 +33842,7 @@ L6:;
 L7:;
     memory_set(v13, 0u, 16u);
     v41 = load_address(v39);
-    f98(v13, v41, a1, a2, a3, v18, a5);
+    f99(v13, v41, a1, a2, a3, v18, a5);
     v42 = load8(v13);
     v43 = v42 == 0u;
     if (v43) { goto L8; }
@@ -33763,7 +33966,7 @@ L2:;
 L3:;
     v22 = a1 < 4u;
     v23 = v22 ? a1 : 2u;
-    v24 = f65(v20, v23, a2, 1u, a3, v11, a5);
+    v24 = f66(v20, v23, a2, 1u, a3, v11, a5);
     v25 = v24.m0;
     v26 = v25 == 0u;
     if (v26) { goto L4; }
@@ -33890,7 +34093,7 @@ L8:;
     store_address(v44, v15);
     v45 = v12 + 16u * 1u;
     store64(v45, a5);
-    v46 = f64(v24, v12);
+    v46 = f65(v24, v12);
     v47 = v46.m0;
     v48 = v46.m1;
     v49 = v47 == 0u;
@@ -34052,7 +34255,7 @@ L2:;
     v3 = v19; v4 = 37u; goto L18;
 L3:;
     memory_set(v6, 0u, 56u);
-    f68(v6, v18, v9, a2);
+    f69(v6, v18, v9, a2);
     v20 = load8(v6);
     v21 = v6 + 16u * 1u;
     v22 = load64(v21);
@@ -34458,7 +34661,7 @@ L8:;
     store_address(v73, v56);
     v74 = v7 + 48u * 1u;
     store64(v74, v58);
-    f62(v7, v29);
+    f63(v7, v29);
     v75 = load8(v33);
     v76 = (u8)((u32)v75 + (u32)255u);
     store8(v33, v76);
@@ -35339,7 +35542,7 @@ L41:;
     if (v573) { goto L42; }
     else { v16 = v450; v17 = v449; goto L44; }
 L42:;
-    v574 = f99(v106);
+    v574 = f100(v106);
     v575 = v574 == 0u;
     if (v575) { goto L43; }
     else { goto L50; }
