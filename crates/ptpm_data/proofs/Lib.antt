@@ -9,6 +9,7 @@ pub mod Ranging
 pub mod FieldSizes
 pub mod ReplyLemmas
 pub mod Keeping
+pub mod AnswerCounts
 pub mod Getting
 pub mod Setting
 pub mod Following

@@ -2,6 +2,7 @@
 
 use crate::answers::Answers;
 use crate::data_sets::DataSets;
+use crate::laws::data_sets_law;
 use crate::management_id::by_id;
 use crate::reply::Reply;
 use crate::request::Request;
@@ -9,7 +10,7 @@ use crate::rights::Rights;
 use ptpm_codec::ErrorId;
 
 impl DataSets {
-    ghost use Rattle.std.specs.Prelude.{◌≡◌, ◌≤◌, ◌+◌};
+    ghost use Rattle.std.specs.Prelude.{◌≡◌, ◌≤◌, ◌+◌, length};
     ghost use Rattle.ptpm_codec.specs.Message.{IsDataField, IsRequestAction};
     ghost use Rattle.ptpm_data.specs.Changes.{changed_by, IsTargetPort};
     ghost use Rattle.ptpm_data.specs.Replies.{reply_to};
@@ -31,6 +32,7 @@ impl DataSets {
         ensures reply { result ≡ reply_to request.now rights self.old }
         ensures changed { self.new ≡ changed_by request.now rights self.old }
     {
+        data_sets_law(self);
         let mut reply = Reply::to(request);
         self.decide_into(request, rights, &mut reply);
         reply
@@ -48,7 +50,8 @@ impl DataSets {
         requires action { IsRequestAction request.now.action }
         requires port { IsTargetPort request.now.port self.old }
         requires octets { IsDataField request.now.octets }
-        requires room { A.count answers.old + 8 ≤ A.most }
+        requires room { A.count answers.old + length (reply_to request.now rights self.old).answers
+            ≤ A.most answers.old }
         ensures reply { A.taken answers.old (reply_to request.now rights self.old).answers answers.new }
         ensures changed { self.new ≡ changed_by request.now rights self.old }
     {

@@ -28,7 +28,8 @@ impl DataSets {
     )
         requires row { row_of request.now.id ≡ Some (row_value row.now) }
         requires port { IsTargetPort request.now.port self.now }
-        requires room { A.count answers.old + 8 ≤ A.most }
+        requires room { A.count answers.old + length (reply_of request.now refusal self.now).answers
+            ≤ A.most answers.old }
         ensures { A.taken answers.old (reply_of request.now refusal self.now).answers answers.new }
     {
         match row.scope {
@@ -48,7 +49,8 @@ impl DataSets {
     )
         requires row { row_of request.now.id ≡ Some (row_value row.now) }
         requires port { IsTargetPort request.now.port self.now }
-        requires room { A.count answers.old + 8 ≤ A.most }
+        requires room { A.count answers.old + length (named_ports request.now.port (length self.now.ports))
+            ≤ A.most answers.old }
         ensures { A.taken answers.old (map (answer request.now refusal self.now)
             (map Some (named_ports request.now.port (length self.now.ports)))) answers.new }
     {
@@ -68,7 +70,7 @@ impl DataSets {
         port: Option<u16>,
         answers: &mut A,
     )
-        requires { A.count answers.old < A.most }
+        requires { A.count answers.old < A.most answers.old }
         ensures { A.taken answers.old
             (record { port = port; outcome = outcome refusal action (data_field_of layout port self.now) } ∷ [])
             answers.new }
@@ -83,7 +85,7 @@ impl DataSets {
     /// Puts the dataField of an id.
     #[inline(always)]
     fn put_value<A: Answers>(&self, layout: Layout, port: Option<u16>, answers: &mut A)
-        requires { A.count answers.old < A.most }
+        requires { A.count answers.old < A.most answers.old }
         ensures { A.taken answers.old
             (record { port = port; outcome = Value (data_field_of layout port self.now) } ∷ [])
             answers.new }
@@ -97,7 +99,7 @@ impl DataSets {
     /// Puts the dataField of an id of the clock: what shows one member right by its size.
     #[inline(always)]
     fn put_clock_value<A: Answers>(&self, layout: Layout, answers: &mut A)
-        requires { A.count answers.old < A.most }
+        requires { A.count answers.old < A.most answers.old }
         ensures { A.taken answers.old
             (record { port = None; outcome = Value (clock_field_of layout self.now) } ∷ [])
             answers.new }
@@ -113,7 +115,7 @@ impl DataSets {
     #[inline(never)]
     #[tactic(auto, unfolding(crate::specs::DataField::clock_field_of))]
     fn put_larger_value<A: Answers>(&self, layout: Layout, answers: &mut A)
-        requires { A.count answers.old < A.most }
+        requires { A.count answers.old < A.most answers.old }
         ensures { A.taken answers.old
             (record { port = None; outcome = Value (clock_field_of layout self.now) } ∷ [])
             answers.new }
@@ -131,7 +133,7 @@ impl DataSets {
     /// Puts the dataField of an id of a port.
     #[inline(always)]
     fn put_port_value<A: Answers>(&self, layout: Layout, port: u16, answers: &mut A)
-        requires { A.count answers.old < A.most }
+        requires { A.count answers.old < A.most answers.old }
         ensures { A.taken answers.old
             (record { port = Some port; outcome = Value (data_field_of layout (Some port) self.now) } ∷ [])
             answers.new }
@@ -149,7 +151,7 @@ impl DataSets {
     #[inline(always)]
     #[tactic(auto, unfolding(crate::specs::DataField::port_field_of))]
     fn put_whole_port<A: Answers>(&self, port: u16, answers: &mut A)
-        requires { A.count answers.old < A.most }
+        requires { A.count answers.old < A.most answers.old }
         ensures { A.taken answers.old
             (record { port = Some port; outcome = Value (data_field_of Layout.PortDataSet (Some port) self.now) } ∷ [])
             answers.new }
@@ -170,7 +172,6 @@ impl DataSets {
         ensures numbers { named_ports port (length self.now.ports)
             ≡ range_with_len result.0 (result.1 - result.0) }
         ensures ordered { result.0 ≤ result.1 }
-        ensures at_most_eight { result.1 ≤ result.0 + 8 }
     {
         if port == PortIdentity::EVERY_PORT {
             (1, self.ports.len() as u16 + 1)

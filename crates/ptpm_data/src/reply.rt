@@ -68,7 +68,7 @@ impl Answers for Reply {
     ghost use Rattle.std.specs.Prelude.{◌≡◌, length};
     ghost use Rattle.ptpm_data.specs.AnswerLaws.{answered_count, answered_more, answered_none, answered_twice};
 
-    ghost most = { 8 };
+    ghost most = { λ r. 8 };
 
     ghost count = { λ r. length r.answers };
 
@@ -79,6 +79,8 @@ impl Answers for Reply {
     ghost taken_after = { answered_twice };
 
     ghost counted = { answered_count };
+
+    ghost as_many = { λ a b xs is i. 8 };
 
     fn take_value(&mut self, port: Option<u16>, octets: &[u8]) {
         let mut value = Value::new();

@@ -1,10 +1,11 @@
 //! What a request that is not numbered is answered (this project's profile).
 
-ghost use Rattle.std.specs.Prelude.{◌≡◌, ◌≤◌, ◌+◌};
+ghost use Rattle.std.specs.Prelude.{◌≡◌, ◌≤◌, ◌+◌, length};
 ghost use Rattle.ptpm_data.specs.Replies.{is_get};
 
 use crate::answers::Answers;
 use crate::data_sets::DataSets;
+use crate::laws::data_sets_law;
 use crate::management_id::by_id;
 use crate::refusals::refusal;
 use crate::reply::Reply;
@@ -29,6 +30,7 @@ impl DataSets {
         requires octets { IsDataField request.now.octets }
         ensures { result ≡ read_reply_to request.now self.now }
     {
+        data_sets_law(self);
         let mut reply = Reply::to(request);
         self.read_into(request, &mut reply);
         reply
@@ -41,7 +43,8 @@ impl DataSets {
         requires action { IsRequestAction request.now.action }
         requires port { IsTargetPort request.now.port self.now }
         requires octets { IsDataField request.now.octets }
-        requires room { A.count answers.old + 8 ≤ A.most }
+        requires room { A.count answers.old + length (read_reply_to request.now self.now).answers
+            ≤ A.most answers.old }
         ensures { A.taken answers.old (read_reply_to request.now self.now).answers answers.new }
     {
         let get = is_get(request.action);

@@ -1,8 +1,9 @@
-use Rattle.std.proofs.Common.{◌≡◌, ◌∙◌, [], ◌∷◌, ◌+◌, ◌-◌, ℕ, List, Option, Some, ap, arith, length, subst, sym}
+use Rattle.std.proofs.Common.{◌≡◌, ◌∙◌, [], ◌∷◌, ◌+◌, ◌-◌, ℕ, List, Option, Some, ap, arith, length, map, subst, sym}
+use Rattle.std.proofs.lemmas.List.FromFn.{length-range_with_len}
 use Rattle.std.specs.List.{range_with_len}
 use Rattle.ptpm_data.specs.DataField.{data_field_of}
 use Rattle.ptpm_data.specs.ManagementId.{row_value}
-use Rattle.ptpm_data.specs.Replies.{named_ports, outcome}
+use Rattle.ptpm_data.specs.Replies.{answer, named_ports, outcome}
 use Rattle.ptpm_data.specs.Reply.{Answer}
 use Rattle.ptpm_data.specs.Request.{RequestValue}
 use Rattle.ptpm_data.proofs.Answering.{answer_by_row}
@@ -27,7 +28,26 @@ loop-port-preserved g c =
     (g.met.A.Answers.taken_after c.args.answers.now c.loop-port.answers c.put_answer.new.answers _ _ c.loop-port.invariant one)
 
 pub put_answer-requires : goal.put_answer-requires
-put_answer-requires g c = grind (arith, answers-count)
+put_answer-requires g c =
+    let first = c.named_ports-first.result.0 in
+    let here = c.loop-port.port in
+    let so_far = map (answer c.args.request.now c.args.refusal c.args.self.now) (map Some (range_with_len first (here - first))) in
+    let counted = g.met.A.Answers.counted c.args.answers.now c.loop-port.answers so_far c.loop-port.invariant in
+    let as_many = g.met.A.Answers.as_many c.args.answers.now c.loop-port.answers so_far c.loop-port.invariant in
+    let named : named_ports c.args.request.now.port (length c.args.self.now.ports) ≡ range_with_len first (c.named_ports-first.result.1 - first) =
+    sym (ap (λ (q : RequestValue). named_ports q.port (length c.args.self.now.ports)) c.request.view_is) ∙ c.named_ports-first.ensures.numbers in
+    let all = ap (λ (xs : List ℕ). length xs) named ∙ length-range_with_len first (c.named_ports-first.result.1 - first) in
+    omega (
+      arith,
+      counted,
+      as_many,
+      all,
+      answers-count c.args.request.now c.args.refusal c.args.self.now first (here - first),
+      c.requires.room,
+      c.loop-port-test.true,
+      c.loop-port.auto.port,
+      c.loop-port.auto.port-end c.named_ports-first.ensures.ordered,
+    )
 
 pub returns : goal.returns
 returns g c =
