@@ -31,8 +31,8 @@ pub record HasEntry (entries : Entries) (who : PortIdentity) (n : ℕ) : Type 0 
   pub is : get entries who ≡ Some entry
   pub number_is : entry.number ≡ n
 
--- a place that has this many messages, and takes so many at most, has room for those of the manager's kept reply, one for each
--- answer
+-- The messages that a place has, and those of the manager's kept reply, are no more than the place takes. A reply has one for
+-- each answer.
 abbrev pub HasRoom : Entries → PortIdentity → ℕ → ℕ → Type 0
 HasRoom entries who held most = (e : Entry) → get entries who ≡ Some e → held + length e.reply.answers ≤ most
 
