@@ -16,7 +16,7 @@ use Rattle.ptpm_host.specs.declared.sent.Sent.{Sent}
 use Rattle.ptpm_host.specs.declared.standing.Standing.TheVariants as standings
 use Rattle.ptpm_host.specs.Blanks.{AreBlanked}
 use Rattle.ptpm_host.specs.Clock.{clock_in, messages_in, state_in}
-use Rattle.ptpm_host.specs.MostSent.{most_sent}
+use Rattle.ptpm_host.specs.MostSent.{most_sent, places_asked}
 use Rattle.ptpm_host.specs.Numbers.{observe_number, saved_number, saving_number, verdict_number}
 use Rattle.ptpm_host.specs.Observing.{IsObserved, left_number, observe_refusal, ports_left}
 use Rattle.ptpm_host.specs.SavingClock.{IsCalled, changes_after, saved_refusal, saving_refusal}
@@ -33,14 +33,10 @@ pub record BeginsSaved (c : HostedClock) (saved : Bool) (x : SavingClock) : Type
 
 -- ---- a datagram
 
--- how many places a call asks for: as many as the clock can use, or always fifteen
-abbrev pub places_asked : Bool → SavingClock → ℕ
-places_asked few w = if few then most_sent (state_in w.clock.value) else 15
-
 -- why a datagram at a port is not judged, by that port, the places that there are, and whether something is unsaved
 abbrev pub why_not_judged : Bool → SavingClock → ℕ → List Sent → Option SavingRefusal
 why_not_judged few w port places =
-    saving_refusal (has_port port w.clock.value.agent.sets) (places_asked few w) (length places) (is_unsaved w.standing)
+    saving_refusal (has_port port w.clock.value.agent.sets) (places_asked few (state_in w.clock.value)) (length places) (is_unsaved w.standing)
 
 -- the number of its verdict is answered, these messages are given out, and the clock is where the call leads
 pub record IsJudged (w : SavingClock) (port : ℕ) (datagram : List ℕ) (number : ℕ) (given : List (ℕ × List ℕ)) (x : SavingClock) : Type 0 where

@@ -92,12 +92,8 @@ fn hand_in(
         (Some clock.new) }
 {
     *count = 0;
-    let handled = if few {
-        clock.handle_in_few(port, datagram, sent)
-    } else {
-        clock.handle(port, datagram, sent)
-    };
-    match handled {
+    let least = clock.clock().places_asked(few);
+    match clock.handle(port, datagram, sent, least) {
         Ok(handled) => {
             *count = handled.count;
             verdict_number(handled.verdict)
