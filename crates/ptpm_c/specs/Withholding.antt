@@ -3,7 +3,6 @@ use Rattle.std.specs.Prelude.{◌≡◌, ◌≢◌, ◌==◌, ℕ, Bool, IsSomeA
 use Rattle.ptpm_data.specs.Members.{has_port}
 use Rattle.ptpm_data.specs.declared.observation.ObservationError.{ObservationError}
 use Rattle.ptpm_agent.specs.Turn.{outbox_of}
-use Rattle.ptpm_agent.specs.declared.verdict.Verdict.{Verdict}
 use Rattle.ptpm_agent.specs.declared.verdict.Verdict.TheVariants as verdicts
 use Rattle.ptpm_saved.specs.Saving.{Comes, Saves}
 use Rattle.ptpm_host.specs.declared.clock.HostedClock.{HostedClock}

@@ -1,6 +1,6 @@
 //! The calls of a clock whose device has a say, for hosts in C.
 
-ghost use Rattle.std.specs.Prelude.{◌≡◌, ◌≢◌, false, if◌then◌else◌, IsSomeAnd, IsTrue, None, Some};
+ghost use Rattle.std.specs.Prelude.{◌≡◌, ◌≢◌, false, if◌then◌else◌, IsSomeAnd, IsTrue, None, Some, true};
 ghost use Rattle.ptpm_data.specs.Changed.{changed, no_members};
 ghost use Rattle.ptpm_data.specs.Members.{has_port};
 ghost use Rattle.ptpm_agent.specs.declared.verdict.Verdict.{Verdict};

@@ -2,7 +2,7 @@
 //! its header.
 #![tactic(auto)]
 
-ghost use Rattle.std.specs.Prelude.{◌≡◌, ◌≢◌, ◌≤◌, IfNone, IfSome, IsSomeAnd, None, Ok, Some, drop, length, take};
+ghost use Rattle.std.specs.Prelude.{◌≡◌, ◌≢◌, ◌≤◌, IfNone, IfSome, IsSomeAnd, None, Ok, Some, drop, length, take, false};
 ghost use Rattle.ptpm_data.specs.Changed.{changed, no_members};
 ghost use Rattle.ptpm_data.specs.DataField.{data_field_of_id};
 ghost use Rattle.ptpm_data.specs.Start.{default_clock, default_port};
