@@ -559,7 +559,8 @@ __extension__ enum PTPM_FOUR_OCTETS(ptpm_handled) {
     PTPM_HANDLE_BAD_TEXT = PTPM_BAD_TEXT,
     PTPM_HANDLE_NO_CLOCK = PTPM_NO_CLOCK,
     PTPM_HANDLE_NO_PORT = PTPM_NO_PORT,
-    PTPM_HANDLE_NO_ROOM = PTPM_NO_ROOM, /* for fewer than PTPM_MOST_SENT messages */
+    PTPM_HANDLE_NO_ROOM = PTPM_NO_ROOM, /* for fewer than PTPM_MOST_SENT messages; with what the device says, for fewer than
+                                           ptpm_clock_most_sent */
     PTPM_HANDLE_NO_MEMORY = PTPM_NO_MEMORY,
     PTPM_HANDLE_UNSAVED = PTPM_UNSAVED,
     PTPM_BAD_SAY = 121,                 /* it is of another kind, has an error that no device gives, or gives what is no dataField */
@@ -711,8 +712,8 @@ __extension__ enum PTPM_FOUR_OCTETS(ptpm_reported) {
 __extension__ enum PTPM_FOUR_OCTETS(ptpm_saved) {
     PTPM_SAVED = 0,
     PTPM_SAVE_NO_CLOCK = PTPM_NO_CLOCK,
-    PTPM_SAVE_NO_ROOM = PTPM_NO_ROOM,   /* for fewer octets than the image has, or than both have with its seal; or for fewer than
-                                           PTPM_MOST_SENT messages */
+    PTPM_SAVE_NO_ROOM = PTPM_NO_ROOM,   /* for fewer octets than the image has, or than both have with its seal; or for fewer
+                                           messages than ptpm_clock_most_sent */
     PTPM_SAVE_NO_SESSION = PTPM_NO_SESSION,
     PTPM_OTHER_IMAGE = 119              /* it was changed since that image */
 };
@@ -897,7 +898,7 @@ enum ptpm_asking ptpm_clock_ask(const struct ptpm_clock *clock, uint16_t port, c
    PTPM_ASKED_VALUE, this is the answer of the clock. To the GET of a manager it has 130 octets at most, since it is kept. A longer
    one is answered with RESPONSE_TOO_BIG (1), and that is kept. To any other GET it has 1,418 at most, and nothing is kept. Each later
    copy of what is kept gets that answer. If the device is not asked, what it says does not count.
-   Takes:   what ptpm_clock_handle_changed takes, and *say.
+   Takes:   what ptpm_clock_handle_changed takes, but room places, ptpm_clock_most_sent or more: one for a clock of one port; and *say.
    Returns: what ptpm_clock_handle returns; or PTPM_BAD_SAY after PTPM_NO_CLOCK, PTPM_NO_PORT and PTPM_NO_ROOM. A clock that saves
             (ptpm_clock_saving) refuses anything but PTPM_AGREES with PTPM_CANT_OBJECT, before any other reason.
    Writes:  what ptpm_clock_handle_changed writes.
@@ -979,7 +980,7 @@ enum ptpm_saved ptpm_clock_image_of(const struct ptpm_clock *clock, uint8_t *oct
 
 /* Takes the caller's word that a restart would find the image of this token. The messages that waited are given out, and the clock
    takes datagrams again. An observation in between does not matter: the one of the image counts until the next.
-   Takes:   the token of ptpm_clock_image_of; and room places, PTPM_MOST_SENT or more.
+   Takes:   the token of ptpm_clock_image_of; and room places, ptpm_clock_most_sent or more: one for a clock of one port.
    Returns: PTPM_SAVED; or PTPM_NO_CLOCK, also for a clock that does not save, PTPM_NO_ROOM or PTPM_OTHER_IMAGE, in this order, and then
             nothing changes. With the token of a clock that is saved already it returns PTPM_SAVED, and no message.
    Writes:  *count, and the first *count places of sent, as ptpm_clock_handle does. *count is 0 if the call is refused.

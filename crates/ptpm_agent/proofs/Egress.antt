@@ -1,7 +1,7 @@
 -- The copies for the egress ports, port by port.
 use Rattle.std.proofs.Common.{arith, ◌≡◌, ℕ, ◌<◌, ◌≤◌, ◌+◌, ◌-◌, ◌==◌, ◌&&◌, not, zero, suc, List, [], ◌∷◌, ◌++◌, length, map, cond, Bool, true, false, refl, sym, ◌∙◌, ap, subst, ⊎_elim}
 use Rattle.std.proofs.lemmas.Bool.{cases_Bool, cases_eq, and_left, eq-eqb}
-use Rattle.std.proofs.lemmas.List.{append-nil, length-map, map-append}
+use Rattle.std.proofs.lemmas.List.{append-nil, length-append, length-map, map-append}
 use Rattle.std.proofs.lemmas.List.Elements.{filter-append}
 use Rattle.std.proofs.lemmas.List.Filters.{length-filter_both}
 use Rattle.std.proofs.lemmas.List.FromFn.{length-range_with_len}
@@ -106,3 +106,40 @@ length-copies_up_to_but_one ingress d datagram n low high =
     subst (λ k. k + 1 ≤ n) (sym (length-map (filter (λ port. passes ingress d port) (range_with_len 1 n)) (λ port. (port, with_less_hop datagram))))
     (length-filter_range_but_one (λ port. passes ingress d port) 1 n ingress low inside
     (and_left (not (ingress == ingress)) (may_forward ingress d) (ap not (eq-eqb ingress ingress refl))))
+
+-- no fewer up to a later port
+length-copies_up_to_later : (ingress : ℕ) (d : DataSetsValue) (datagram : List ℕ) (n k : ℕ)
+    → length (copies_up_to ingress d datagram n) ≤ length (copies_up_to ingress d datagram (n + k))
+length-copies_up_to_later ingress d datagram n zero =
+    let same : n + 0 ≡ n = omega arith in
+    omega (arith, ap (λ m. length (copies_up_to ingress d datagram m)) same)
+length-copies_up_to_later ingress d datagram n (suc k) =
+    let before : n + suc k - 1 ≡ n + k = omega arith in
+    omega (
+      arith,
+      length-copies_up_to_later ingress d datagram n k,
+      ap (λ m. length (copies_up_to ingress d datagram m)) before,
+      ap (λ (xs : List (ℕ × List ℕ)). length xs) (copies_up_to-more ingress d datagram (n + suc k) (omega arith)),
+      length-append (copies_up_to ingress d datagram (n + suc k - 1))
+          (cond (not (n + suc k == ingress) && may_forward (n + suc k) d) ((n + suc k, with_less_hop datagram) ∷ []) []),
+    )
+
+-- there is room for the copy at this port, if there is for all
+pub room_for_copy : (ingress : ℕ) (d : DataSetsValue) (datagram : List ℕ) (port most : ℕ)
+    → 1 ≤ port
+    → port ≤ length d.ports
+    → (not (port == ingress) && may_forward port d) ≡ true
+    → length (egress_ports ingress d) ≤ most
+    → length (copies_up_to ingress d datagram (port - 1)) < most
+room_for_copy ingress d datagram port most some inside here room =
+    let last : port + (length d.ports - port) ≡ length d.ports = omega (arith, inside) in
+    omega (
+      arith,
+      ap (λ (xs : List (ℕ × List ℕ)). length xs) (copies_up_to-pass ingress d datagram port some here),
+      length-append (copies_up_to ingress d datagram (port - 1)) ((port, with_less_hop datagram) ∷ []),
+      length-copies_up_to_later ingress d datagram port (length d.ports - port),
+      ap (λ m. length (copies_up_to ingress d datagram m)) last,
+      ap (λ (xs : List (ℕ × List ℕ)). length xs) (copies_up_to-all ingress d datagram),
+      length-map {B = ℕ × List ℕ} (egress_ports ingress d) (λ p. (p, with_less_hop datagram)),
+      room,
+    )

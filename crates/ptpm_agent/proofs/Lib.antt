@@ -2,6 +2,7 @@ pub mod Egress
 pub mod Numbers
 pub mod Entries
 pub mod Turns
+pub mod MostSent
 pub mod AtMostOnce
 pub mod Deliveries
 pub mod KeptReplies

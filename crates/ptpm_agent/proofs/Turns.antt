@@ -247,7 +247,7 @@ target-is_again c s v = judged-each (λ (w : Verdict). is_again w ≡ true → i
     (λ e. absurd (false≢true e)) (λ e. absurd (false≢true e)) (λ e. absurd (false≢true e)) (λ e. absurd (false≢true e))
     (λ d o a q e. grind arith)
 
-target-repeat : (c : Clock) (s : State) (v : Message)
+pub target-repeat : (c : Clock) (s : State) (v : Message)
     → judged c s v ≡ verdicts.AnsweredRepeat
     → is_for_this_clock c v ≡ true
 unfolding is_again

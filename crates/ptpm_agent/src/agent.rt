@@ -1,6 +1,6 @@
 //! One clock's management agent, over any reply table.
 
-ghost use Rattle.std.specs.Prelude.{◌≡◌, ◌≢◌, ◌≤◌, ◌++◌, ◌∷◌, [], false, ℕ, List, All, IsTrue, Ok, Some, IfOk, OnOk, OnErr, length};
+ghost use Rattle.std.specs.Prelude.{◌≡◌, ◌≢◌, ◌≤◌, ◌+◌, ◌++◌, ◌∷◌, [], false, ℕ, List, All, IsTrue, Ok, Some, IfOk, OnOk, OnErr, length};
 ghost use Rattle.std.specs.FinMap as fin;
 ghost use Rattle.ptpm_codec.specs.declared.identity.PortIdentity.{PortIdentity};
 ghost use Rattle.ptpm_codec.specs.Layout.{message_octets};
@@ -23,7 +23,7 @@ ghost use Rattle.ptpm_agent.specs.Observing.{moved_state};
 ghost use Rattle.ptpm_agent.specs.Once.{Delivery, History, RequestCopy, applied_once, copies, copy_of, due_reply};
 ghost use Rattle.ptpm_agent.specs.Window.{AreNumbered, KeepsWindow};
 ghost use Rattle.ptpm_agent.specs.Addressing.{heard_of, is_addressed, request_of};
-ghost use Rattle.ptpm_agent.specs.Turn.{carried_out, is_accepted_repeat, judged, look, new_reply, reply_by, reply_messages, turn, verdict_of};
+ghost use Rattle.ptpm_agent.specs.Turn.{carried_out, is_accepted_repeat, judged, look, new_reply, outbox_of, reply_by, reply_messages, turn, verdict_of};
 
 use crate::forwarding::forward;
 use crate::verdict::Verdict;
@@ -106,6 +106,7 @@ impl<T: ReplyTable + Drop> Agent<T> {
                 self.table.resend(&heard_of(&message), ingress, out);
             }
             _ => {
+                data_sets_law(&self.sets);
                 out.clear();
                 self.answer(verdict, ingress, datagram, &message, out);
             }
@@ -246,6 +247,10 @@ impl<T: ReplyTable + Drop> Agent<T> {
         requires not_repeat { verdict ≢ Verdict.AnsweredRepeat }
         requires valid { IsValid message.now }
         requires empty { O.sent out.old ≡ [] }
+        requires room { length (forwarded (clock_of T.owner self.now).identity ingress self.now.sets datagram.now
+            ++ reply_messages (clock_of T.owner self.now) ingress (heard_of message.now)
+            (reply_by verdict (clock_of T.owner self.now) (state_of T.entries self.now) message.now))
+            ≤ O.most out.old }
         ensures sent { O.sent out.new
             ≡ forwarded (clock_of T.owner self.now).identity ingress self.now.sets datagram.now
             ++ reply_messages (clock_of T.owner self.now) ingress (heard_of message.now)
@@ -271,7 +276,10 @@ impl<T: ReplyTable + Drop> Agent<T> {
         requires not_new { verdict ≢ Verdict.AnsweredNew }
         requires not_repeat { verdict ≢ Verdict.AnsweredRepeat }
         requires valid { IsValid message.now }
-        requires room { length (O.sent out.old) ≤ 7 }
+        requires room { length (O.sent out.old)
+            + length (reply_messages (clock_of T.owner self.now) ingress (heard_of message.now)
+            (reply_by verdict (clock_of T.owner self.now) (state_of T.entries self.now) message.now))
+            ≤ O.most out.old }
         ensures sent { O.sent out.new
             ≡ O.sent out.old
             ++ reply_messages (clock_of T.owner self.now) ingress (heard_of message.now)
@@ -389,11 +397,13 @@ impl<T: SureTable + Drop> Agent<T> {
             result out.new (state_of T.entries self.new) }
         ensures clock { clock_of T.owner self.new ≡ clock_of T.owner self.old }
     {
+        data_sets_law(&self.sets);
+        self.table.eight_answers();
         out.clear();
         self.handle_into(ingress, datagram, out)
     }
 
-    /// Like `handle`, but writes each message directly to `out`, which must be empty; at most fifteen.
+    /// Like `handle`, but writes each message directly to `out`, which must be empty and take what the turn sends.
     #[inline(always)]
     pub fn handle_into<O: Outgoing>(
         &mut self,
@@ -403,6 +413,9 @@ impl<T: SureTable + Drop> Agent<T> {
     ) -> Verdict
         requires port { HasPort ingress self.old.sets }
         requires empty { O.sent out.old ≡ [] }
+        requires room { length (outbox_of (turn
+            (clock_of T.owner self.old) (state_of T.entries self.old) ingress datagram.now))
+            ≤ O.most out.old }
         ensures turned { IsTurned (turn
             (clock_of T.owner self.old) (state_of T.entries self.old) ingress datagram.now)
             result (O.sent out.new) (state_of T.entries self.new) }
@@ -468,6 +481,9 @@ impl<T: SureTable + Drop> Agent<T> {
         requires rights { rights ≡ (clock_of T.owner self.old).rights message.now.source }
         requires valid { IsValid message.now }
         requires empty { O.sent out.old ≡ [] }
+        requires room { length (new_reply
+            (clock_of T.owner self.old) (state_of T.entries self.old) message.now).answers
+            ≤ O.most out.old }
         ensures accepted { state_of T.entries self.new ≡ carried_out
             (clock_of T.owner self.old) (state_of T.entries self.old) message.now }
         ensures sent { O.sent out.new

@@ -25,8 +25,8 @@ pub(crate) fn forward<O: Outgoing>(
     requires read { reading datagram.now ≡ Ok message.now }
     requires spelled { Spells message.now (message_octets datagram.now) }
     requires empty { O.sent out.old ≡ [] }
+    requires room { length (forwarded me.now ingress sets.now datagram.now) ≤ O.most out.old }
     ensures copies { O.sent out.new ≡ forwarded me.now ingress sets.now datagram.now }
-    ensures few { length (O.sent out.new) ≤ 7 }
     ensures grown { O.grown out.old out.new }
 {
     if is_forwarded(me, sets, ingress, message) {
@@ -53,9 +53,9 @@ fn send_on<O: Outgoing>(sets: &DataSets, ingress: u16, datagram: &[u8], out: &mu
     requires port { HasPort ingress sets.now }
     requires well_formed { IsWellFormed datagram.now }
     requires hops { 0 < boundary_hops datagram.now }
+    requires room { length (egress_ports ingress sets.now) ≤ O.most out.old }
     ensures copies { O.sent out.new ≡ map (λ port. (port, with_less_hop datagram.now))
         (egress_ports ingress sets.now) }
-    ensures few { length (O.sent out.new) ≤ 7 }
     ensures grown { O.grown out.old out.new }
 {
     data_sets_law(sets);

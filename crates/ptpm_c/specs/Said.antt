@@ -12,6 +12,7 @@ use Rattle.ptpm_host.specs.declared.refusal.SaidRefusal.{SaidRefusal}
 use Rattle.ptpm_host.specs.declared.sent.Sent.{Sent}
 use Rattle.ptpm_host.specs.Clock.{clock_in, messages_in, state_in}
 use Rattle.ptpm_host.specs.Device.{AsksNothing, IsAsked, IsWanted, said_refusal, say_in}
+use Rattle.ptpm_host.specs.MostSent.{most_sent}
 use Rattle.ptpm_host.specs.Numbers.{asked_change, asked_value, said_number, verdict_number}
 use Rattle.ptpm_c.specs.Turned.{SendsNothing}
 
@@ -45,7 +46,7 @@ pub record IsSaidTo (c : HostedClock) (o : says.Say) (port : ℕ) (datagram : Li
 
 -- why a datagram is not handed to the clock with what the device says
 abbrev pub why_not_said : HostedClock → ℕ → List Sent → Say → Option SaidRefusal
-why_not_said c port places say = said_refusal (has_port port c.agent.sets) (length places) say
+why_not_said c port places say = said_refusal (has_port port c.agent.sets) (most_sent (state_in c)) (length places) say
 
 -- the clock c, if nothing refuses the datagram, takes the turn with what the device says
 abbrev pub TakesSaid : HostedClock → ℕ → List ℕ → Say → List Sent → ℕ → ℕ → List Sent → Option HostedClock → Type 0

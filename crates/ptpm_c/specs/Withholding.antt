@@ -15,7 +15,8 @@ use Rattle.ptpm_host.specs.declared.saving_clock.SavingClock.{SavingClock}
 use Rattle.ptpm_host.specs.declared.sent.Sent.{Sent}
 use Rattle.ptpm_host.specs.declared.standing.Standing.TheVariants as standings
 use Rattle.ptpm_host.specs.Blanks.{AreBlanked}
-use Rattle.ptpm_host.specs.Clock.{clock_in, messages_in}
+use Rattle.ptpm_host.specs.Clock.{clock_in, messages_in, state_in}
+use Rattle.ptpm_host.specs.MostSent.{most_sent, places_asked}
 use Rattle.ptpm_host.specs.Numbers.{observe_number, saved_number, saving_number, verdict_number}
 use Rattle.ptpm_host.specs.Observing.{IsObserved, left_number, observe_refusal, ports_left}
 use Rattle.ptpm_host.specs.SavingClock.{IsCalled, changes_after, saved_refusal, saving_refusal}
@@ -33,8 +34,9 @@ pub record BeginsSaved (c : HostedClock) (saved : Bool) (x : SavingClock) : Type
 -- ---- a datagram
 
 -- why a datagram at a port is not judged, by that port, the places that there are, and whether something is unsaved
-abbrev pub why_not_judged : SavingClock → ℕ → List Sent → Option SavingRefusal
-why_not_judged w port places = saving_refusal (has_port port w.clock.value.agent.sets) (length places) (is_unsaved w.standing)
+abbrev pub why_not_judged : Bool → SavingClock → ℕ → List Sent → Option SavingRefusal
+why_not_judged few w port places =
+    saving_refusal (has_port port w.clock.value.agent.sets) (places_asked few (state_in w.clock.value)) (length places) (is_unsaved w.standing)
 
 -- the number of its verdict is answered, these messages are given out, and the clock is where the call leads
 pub record IsJudged (w : SavingClock) (port : ℕ) (datagram : List ℕ) (number : ℕ) (given : List (ℕ × List ℕ)) (x : SavingClock) : Type 0 where
@@ -50,17 +52,17 @@ pub record ArePlaces (w : SavingClock) (port : ℕ) (datagram : List ℕ) (befor
   pub written : number ≢ verdict_number verdicts.AnsweredNew → AreWritten before count after
 
 -- the saving clock w, if nothing refuses the datagram, is called with it, and what is left in the handle is where that leads
-abbrev pub TakesCall : SavingClock → ℕ → List ℕ → List Sent → ℕ → ℕ → List Sent → Option SavingClock → Type 0
-TakesCall w port datagram before number count after left =
-    why_not_judged w port before ≡ None
+abbrev pub TakesCall : Bool → SavingClock → ℕ → List ℕ → List Sent → ℕ → ℕ → List Sent → Option SavingClock → Type 0
+TakesCall few w port datagram before number count after left =
+    why_not_judged few w port before ≡ None
     → IsSomeAnd left (IsJudged w port datagram number (messages_in (take count after)))
     × ArePlaces w port datagram before number count after
 
 -- if something does, the first reason is named, nothing is sent, and the clock stays
-abbrev pub RefusesCall : SavingClock → ℕ → List Sent → ℕ → ℕ → List Sent → Option SavingClock → Type 0
-RefusesCall w port before number count after left =
+abbrev pub RefusesCall : Bool → SavingClock → ℕ → List Sent → ℕ → ℕ → List Sent → Option SavingClock → Type 0
+RefusesCall few w port before number count after left =
     (e : SavingRefusal)
-    → why_not_judged w port before ≡ Some e
+    → why_not_judged few w port before ≡ Some e
     → (number ≡ saving_number e) × (SendsNothing before count after × (left ≡ Some w))
 
 -- ---- a save
@@ -74,7 +76,7 @@ pub record IsSaved (w : SavingClock) (before : List Sent) (count : ℕ) (after :
   pub written : AreWritten before count after
 
 abbrev pub why_not_saved : SavingClock → ℕ → List Sent → Option SavedRefusal
-why_not_saved w token places = saved_refusal (length places) (token == w.changes)
+why_not_saved w token places = saved_refusal (most_sent (state_in w.clock.value)) (length places) (token == w.changes)
 
 abbrev pub RefusesSave : SavingClock → ℕ → List Sent → ℕ → ℕ → List Sent → Option SavingClock → Type 0
 RefusesSave w token before number count after left =

@@ -110,12 +110,12 @@ pub extern "C" fn ptpm_clock_handle_said(
     ensures saving { (w : SavingClock)
         → saving_clock_held handle.old.keeping ≡ Some w
         → say.now.kind ≡ 0
-        → TakesCall w port datagram.now sent.old result count.new sent.new
+        → TakesCall true w port datagram.now sent.old result count.new sent.new
         (saving_clock_held handle.new.keeping) }
     ensures withheld { (w : SavingClock)
         → saving_clock_held handle.old.keeping ≡ Some w
         → say.now.kind ≡ 0
-        → RefusesCall w port sent.old result count.new sent.new
+        → RefusesCall true w port sent.old result count.new sent.new
         (saving_clock_held handle.new.keeping) }
     ensures saving_agrees { (w : SavingClock)
         → saving_clock_held handle.old.keeping ≡ Some w
@@ -131,7 +131,9 @@ pub extern "C" fn ptpm_clock_handle_said(
     *members = ChangedMembers::NONE;
     let Some((kept, mut clock)) = handle.take_clock(alloc) else {
         if say.kind == 0 {
-            return withholding::judge_changed(alloc, handle, port, datagram, sent, count, members);
+            return withholding::judge_changed(
+                alloc, handle, port, datagram, true, sent, count, members,
+            );
         }
         return refuse_objection(alloc, handle);
     };

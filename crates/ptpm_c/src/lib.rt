@@ -12,7 +12,7 @@ ghost use Rattle.ptpm_host.specs.declared.refusal.ReadRefusal.{ReadRefusal};
 ghost use Rattle.ptpm_host.specs.declared.refusal.StartRefusal.{StartRefusal};
 ghost use Rattle.ptpm_host.specs.declared.saving_clock.SavingClock.{SavingClock};
 ghost use Rattle.ptpm_host.specs.Clock.{IsFreshClock, start_by, start_refusal, state_in};
-ghost use Rattle.ptpm_host.specs.MostSent.{IsMostSent};
+ghost use Rattle.ptpm_host.specs.MostSent.{most_sent};
 ghost use Rattle.ptpm_host.specs.Numbers.{no_clock, no_memory, observe_number, read_number, start_number, verdict_number};
 ghost use Rattle.ptpm_agent.specs.declared.verdict.Verdict.{Verdict};
 ghost use Rattle.ptpm_host.specs.Observing.{IsObserved, left_number, observe_refusal, ports_left};
@@ -133,11 +133,11 @@ pub extern "C" fn ptpm_clock_handle(
         → AreWritten sent.old count.new sent.new }
     ensures saving { (w : SavingClock)
         → saving_clock_held handle.old.keeping ≡ Some w
-        → TakesCall w port datagram.now sent.old result count.new sent.new
+        → TakesCall false w port datagram.now sent.old result count.new sent.new
         (saving_clock_held handle.new.keeping) }
     ensures withheld { (w : SavingClock)
         → saving_clock_held handle.old.keeping ≡ Some w
-        → RefusesCall w port sent.old result count.new sent.new
+        → RefusesCall false w port sent.old result count.new sent.new
         (saving_clock_held handle.new.keeping) }
     ensures empty { FindsNoClock handle.old.keeping sent.old result count.new sent.new
         handle.new.keeping }
@@ -193,11 +193,11 @@ pub extern "C" fn ptpm_clock_handle_changed(
         → AreWritten sent.old count.new sent.new }
     ensures saving { (w : SavingClock)
         → saving_clock_held handle.old.keeping ≡ Some w
-        → TakesCall w port datagram.now sent.old result count.new sent.new
+        → TakesCall false w port datagram.now sent.old result count.new sent.new
         (saving_clock_held handle.new.keeping) }
     ensures withheld { (w : SavingClock)
         → saving_clock_held handle.old.keeping ≡ Some w
-        → RefusesCall w port sent.old result count.new sent.new
+        → RefusesCall false w port sent.old result count.new sent.new
         (saving_clock_held handle.new.keeping) }
     ensures empty { FindsNoClock handle.old.keeping sent.old result count.new sent.new
         handle.new.keeping }
@@ -206,7 +206,9 @@ pub extern "C" fn ptpm_clock_handle_changed(
     *count = 0;
     *members = ChangedMembers::NONE;
     let Some((kept, clock)) = handle.take_clock(alloc) else {
-        return withholding::judge_changed(alloc, handle, port, datagram, sent, count, members);
+        return withholding::judge_changed(
+            alloc, handle, port, datagram, false, sent, count, members,
+        );
     };
     let before = clock.sets().copy();
     *handle = Handle::of(kept, Hosted::Clock(clock));
@@ -309,7 +311,7 @@ pub extern "C" fn ptpm_clock_most_sent(handle: &mut Handle) -> usize
     ensures kept { held handle.new.keeping ≡ held handle.old.keeping }
     ensures most { (c : HostedClock)
         → any_clock_held handle.old.keeping ≡ Some c
-        → IsMostSent (state_in c) result }
+        → result ≡ most_sent (state_in c) }
     ensures empty { any_clock_held handle.old.keeping ≡ None → result ≡ 0 }
 {
     let Some(kept) = handle.kept() else {

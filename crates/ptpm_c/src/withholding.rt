@@ -76,21 +76,24 @@ fn saving_already(alloc: Global, handle: &mut Handle) -> u32
     0
 }
 
-/// What becomes of a datagram: the number of the verdict, or of the refusal, and then nothing is sent.
+/// What becomes of a datagram: the number of the verdict, or of the refusal, and then nothing is sent. `few` says that no more places
+/// are asked for than the clock can use.
 fn hand_in(
     clock: &mut SavingClock,
     port: u16,
     datagram: &[u8],
+    few: bool,
     sent: &mut [Sent],
     count: &mut usize,
 ) -> u32
-    ensures taken { TakesCall clock.old port datagram.now sent.old result count.new sent.new
+    ensures taken { TakesCall few clock.old port datagram.now sent.old result count.new sent.new
         (Some clock.new) }
-    ensures refused { RefusesCall clock.old port sent.old result count.new sent.new
+    ensures refused { RefusesCall few clock.old port sent.old result count.new sent.new
         (Some clock.new) }
 {
     *count = 0;
-    match clock.handle(port, datagram, sent) {
+    let least = clock.clock().places_asked(few);
+    match clock.handle(port, datagram, sent, least) {
         Ok(handled) => {
             *count = handled.count;
             verdict_number(handled.verdict)
@@ -125,11 +128,11 @@ pub(crate) fn judge(
 ) -> u32
     ensures taken { (w : SavingClock)
         → saving_clock_held handle.old.keeping ≡ Some w
-        → TakesCall w port datagram.now sent.old result count.new sent.new
+        → TakesCall false w port datagram.now sent.old result count.new sent.new
         (saving_clock_held handle.new.keeping) }
     ensures refused { (w : SavingClock)
         → saving_clock_held handle.old.keeping ≡ Some w
-        → RefusesCall w port sent.old result count.new sent.new
+        → RefusesCall false w port sent.old result count.new sent.new
         (saving_clock_held handle.new.keeping) }
     ensures empty { saving_clock_held handle.old.keeping ≡ None
         → (result ≡ no_clock)
@@ -141,7 +144,7 @@ pub(crate) fn judge(
     let Some((kept, mut clock)) = handle.take_saving_clock(alloc) else {
         return NO_CLOCK;
     };
-    let number = hand_in(&mut *clock, port, datagram, sent, count);
+    let number = hand_in(&mut *clock, port, datagram, false, sent, count);
     *handle = Handle::of(kept, Hosted::SavingClock(clock));
     number
 }
@@ -154,13 +157,14 @@ pub(crate) fn judge_changed(
     handle: &mut Handle,
     port: u16,
     datagram: &[u8],
+    few: bool,
     sent: &mut [Sent],
     count: &mut usize,
     members: &mut ChangedMembers,
 ) -> u32
     ensures taken { (w : SavingClock)
         → saving_clock_held handle.old.keeping ≡ Some w
-        → TakesCall w port datagram.now sent.old result count.new sent.new
+        → TakesCall few w port datagram.now sent.old result count.new sent.new
         (saving_clock_held handle.new.keeping) }
     ensures changed { (w : SavingClock)
         → saving_clock_held handle.old.keeping ≡ Some w
@@ -170,7 +174,7 @@ pub(crate) fn judge_changed(
     ensures new_alone { result ≢ verdict_number Verdict.AnsweredNew → members.new ≡ no_members }
     ensures refused { (w : SavingClock)
         → saving_clock_held handle.old.keeping ≡ Some w
-        → RefusesCall w port sent.old result count.new sent.new
+        → RefusesCall few w port sent.old result count.new sent.new
         (saving_clock_held handle.new.keeping) }
     ensures empty { saving_clock_held handle.old.keeping ≡ None
         → (result ≡ no_clock)
@@ -184,7 +188,7 @@ pub(crate) fn judge_changed(
         return NO_CLOCK;
     };
     let before = clock.clock().sets().copy();
-    let number = hand_in(&mut *clock, port, datagram, sent, count);
+    let number = hand_in(&mut *clock, port, datagram, few, sent, count);
     *members = changed_if_new(number, clock.as_ref(), &before);
     *handle = Handle::of(kept, Hosted::SavingClock(clock));
     number

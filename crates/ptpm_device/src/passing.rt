@@ -25,9 +25,11 @@ pub(crate) fn pass_on<T: ReplyTable + Drop, O: Outgoing>(
     requires read { reading datagram.now ≡ Ok message.now }
     requires spelled { Spells message.now (message_octets datagram.now) }
     requires empty { O.sent out.old ≡ [] }
+    requires room { length (forwarded
+        (clock_of T.owner agent.now).identity ingress agent.now.sets datagram.now)
+        ≤ O.most out.old }
     ensures copies { O.sent out.new ≡ forwarded
         (clock_of T.owner agent.now).identity ingress agent.now.sets datagram.now }
-    ensures few { length (O.sent out.new) ≤ 7 }
     ensures grown { O.grown out.old out.new }
 {
     if is_passed_on(agent, ingress, message) {
@@ -55,9 +57,9 @@ fn copy_to_others<O: Outgoing>(sets: &DataSets, ingress: u16, datagram: &[u8], o
     requires port { HasPort ingress sets.now }
     requires well_formed { IsWellFormed datagram.now }
     requires hops { 0 < boundary_hops datagram.now }
+    requires room { length (egress_ports ingress sets.now) ≤ O.most out.old }
     ensures copies { O.sent out.new ≡ map (λ port. (port, with_less_hop datagram.now))
         (egress_ports ingress sets.now) }
-    ensures few { length (O.sent out.new) ≤ 7 }
     ensures grown { O.grown out.old out.new }
 {
     data_sets_law(sets);

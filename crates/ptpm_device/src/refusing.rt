@@ -14,7 +14,7 @@ impl Answers for Refusing {
     ghost use Rattle.std.specs.Prelude.{◌≡◌, length};
     ghost use Rattle.ptpm_device.specs.Refusing.{TakesAsRefused, refused_count, refused_none, refused_twice};
 
-    ghost most = { 8 };
+    ghost most = { λ r. 8 };
 
     ghost count = { λ r. length r.reply.answers };
 
@@ -25,6 +25,8 @@ impl Answers for Refusing {
     ghost taken_after = { λ a b c xs ys. refused_twice a.error b.error c.error a.reply b.reply c.reply xs ys };
 
     ghost counted = { λ a b xs. refused_count a.error b.error a.reply b.reply xs };
+
+    ghost as_many = { λ a b xs is i. 8 };
 
     fn take_value(&mut self, port: Option<u16>, _octets: &[u8]) {
         self.reply.take_refusal(port, self.error);

@@ -1,7 +1,7 @@
 //! What a clock's device says of a datagram. What it says of a new request is kept before the clock's own turn, and is then what
 //! that turn answers. A value that is not kept is sent in place of the clock's own turn.
 
-ghost use Rattle.std.specs.Prelude.{◌≡◌, ◌<◌, ◌^◌, ◌++◌, [], IfSome, IsTrue, Some, false, is_some, length};
+ghost use Rattle.std.specs.Prelude.{◌≡◌, ◌≤◌, ◌<◌, ◌^◌, ◌++◌, [], IfSome, IsTrue, Some, false, is_some, length};
 ghost use Rattle.std.specs.FinMap as fin;
 ghost use Rattle.ptpm_codec.specs.Message.{IsDataField, IsRequestAction};
 ghost use Rattle.ptpm_data.specs.Changes.{IsTargetPort};
@@ -11,6 +11,7 @@ ghost use Rattle.ptpm_table.specs.Entries.{is_known};
 ghost use Rattle.ptpm_table.specs.Rendering.{rendered};
 ghost use Rattle.ptpm_agent.specs.Addressing.{heard_of, request_of};
 ghost use Rattle.ptpm_agent.specs.Agent.{IsTurned, clock_of, state_of};
+ghost use Rattle.ptpm_agent.specs.Turn.{outbox_of};
 ghost use Rattle.ptpm_device.specs.Asking.{asked, is_lacked, is_wanted_new, is_wanted_once, wanted_new, wanted_once};
 ghost use Rattle.ptpm_device.specs.Saying.{Gives, after_reply, given_by, objected_by, reply_given, turn_said};
 
@@ -85,6 +86,10 @@ pub fn answer_value<T: ReplyTable + Drop, O: Outgoing>(
     requires port { HasPort ingress agent.now.sets }
     requires empty { O.sent out.old ≡ [] }
     requires octets { IsDataField octets.now }
+    requires room { length (outbox_of (turn_said
+        (clock_of T.owner agent.now) (state_of T.entries agent.now) (Gives octets.now)
+        ingress datagram.now))
+        ≤ O.most out.old }
     ensures wanted { result ≡ wanted_once
         (clock_of T.owner agent.now) (state_of T.entries agent.now) datagram.now }
     ensures turned { IsTrue result → IsTurned (turn_said
@@ -114,7 +119,7 @@ fn send_value<T: ReplyTable + Drop, O: Outgoing>(
     octets: &[u8],
     out: &mut O,
 )
-    requires room { length (O.sent out.old) < 15 }
+    requires room { length (O.sent out.old) < O.most out.old }
     requires lacked { IsTrue (is_lacked (request_of get.now)) }
     requires octets { IsDataField octets.now }
     ensures sent { O.sent out.new ≡ O.sent out.old
@@ -245,6 +250,7 @@ fn refusal(sets: &DataSets, request: &Request<'_>, error: ErrorId) -> Reply
         reply: Reply::to(request),
         error,
     };
+    data_sets_law(sets);
     sets.read_into(request, &mut refusing);
     refusing.reply
 }

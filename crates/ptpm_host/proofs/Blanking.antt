@@ -1,5 +1,5 @@
 -- One place more is blank.
-use Rattle.std.proofs.Common.{◌+◌, ◌<◌, ℕ, All, List, length, slice_set, take, subst, sym}
+use Rattle.std.proofs.Common.{◌+◌, ◌<◌, ℕ, List, length, slice_set, subst, sym}
 use Rattle.std.proofs.lemmas.List.{get_or-set_same, length-set, take-set}
 use Rattle.std.proofs.lemmas.List.Elements.{All-more}
 use Rattle.ptpm_host.specs.declared.sent.Sent.{Sent}

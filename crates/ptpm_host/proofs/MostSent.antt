@@ -1,196 +1,75 @@
 -- No datagram has a clock send more messages than its ports allow, or one of its kept replies.
-use Rattle.std.proofs.Common.{arith, ◌≡◌, ◌∙◌, ◌≤◌, ◌+◌, ℕ, Bool, true, false, not, List, [], ◌∷◌, ◌++◌, Option, Some, None, Result, Ok, Err, cond, length, refl, subst, sym, suc, if◌then◌else◌}
-use Rattle.std.proofs.lemmas.Bool.{and_parts}
-use Rattle.std.proofs.lemmas.List.{length-append, length-map}
-use Rattle.std.proofs.lemmas.List.Filters.{length-filter_both}
-use Rattle.std.proofs.lemmas.List.FromFn.{length-range_with_len}
-use Rattle.std.specs.FinMap.{entries, find, get, get-entries}
-use Rattle.std.specs.List.{range_with_len}
-use Rattle.std.specs.Ordering.{eq_by_cmp}
-use Rattle.ptpm_codec.specs.declared.error.DecodeError.{DecodeError}
-use Rattle.ptpm_codec.specs.declared.error.ErrorId.{ErrorId}
-use Rattle.ptpm_codec.specs.declared.identity.ClockIdentity.{ClockIdentity}
+use Rattle.std.proofs.Common.{arith, ◌≡◌, ◌≤◌, ◌+◌, ◌-◌, ◌*◌, ℕ, ◌<◌, true, false, List, [], ◌∷◌, ◌++◌, Option, Some, None, Ok, ap, get_or, length, max, refl, slice_get, take, subst, ◌∙◌, if◌then◌else◌}
+use Rattle.std.proofs.lemmas.List.{take_more}
+use Rattle.std.proofs.lemmas.Option.{slice_get-get_or, slice_get_within}
+use Rattle.std.proofs.lemmas.List.Recursion.{max_bounds, max_least, max_push}
+use Rattle.std.specs.FinMap.{entries}
 use Rattle.ptpm_codec.specs.declared.identity.PortIdentity.{PortIdentity}
 use Rattle.ptpm_codec.specs.declared.message.Message.{Message}
-use Rattle.ptpm_codec.specs.Identity.{identity_cmp}
 use Rattle.ptpm_codec.specs.Reading.{message_of, reading}
-use Rattle.ptpm_data.specs.declared.rights.Rights.{Rights}
-use Rattle.ptpm_data.specs.Changes.{changed_by, is_named}
-use Rattle.ptpm_data.specs.ManagementId.{is_of_port}
-use Rattle.ptpm_data.specs.Members.{DataSetsValue, HasPort}
-use Rattle.ptpm_data.specs.Refusals.{refusal_of}
-use Rattle.ptpm_data.specs.Replies.{named_ports, read_refusal, read_reply_to, reply_of, reply_to}
+use Rattle.ptpm_data.specs.Members.{HasPort}
+use Rattle.ptpm_data.specs.Replies.{reply_of}
 use Rattle.ptpm_data.specs.Reply.{ReplyValue}
 use Rattle.ptpm_data.specs.Request.{RequestValue}
 use Rattle.ptpm_data.specs.RequestLaws.{IsSized}
-use Rattle.ptpm_data.proofs.Keeping.{changed_by-ports, changed_by-sized}
-use Rattle.ptpm_data.proofs.ReplyLemmas.{answers_of}
-use Rattle.ptpm_table.specs.declared.heard.Heard.{Heard}
-use Rattle.ptpm_table.specs.Entries.{Entry}
+use Rattle.ptpm_data.proofs.AnswerCounts.{reply_few}
+use Rattle.ptpm_table.specs.Entries.{Entry, HaveAnswers}
 use Rattle.ptpm_table.specs.Rendering.{rendered}
 use Rattle.ptpm_agent.specs.declared.verdict.Verdict.{Verdict}
 use Rattle.ptpm_agent.specs.declared.verdict.Verdict.TheVariants as verdicts
-use Rattle.ptpm_agent.specs.Addressing.{heard_of, is_for_this_clock, is_numbered, request_of}
-use Rattle.ptpm_agent.specs.Forwarding.{forwarded, is_forwarded}
-use Rattle.ptpm_agent.specs.Turn.{Clock, State, judged, kept_reply_of, reply_by, reply_messages, outbox_of, turn, turn_by}
-use Rattle.ptpm_agent.proofs.Egress.{copies_up_to-all, length-copies_up_to_but_one}
-use Rattle.ptpm_agent.proofs.Turns.{forwarded-copy, forwarded-not, forwarded-on, judged-each, message_of-reading, reading-message_of, verdict_at-unnumbered}
+use Rattle.ptpm_agent.specs.Addressing.{heard_of, request_of}
+use Rattle.ptpm_agent.specs.Turn.{Clock, State, judged, outbox_of, turn}
+use Rattle.ptpm_agent.proofs.MostSent.{both_few, kept_few, rendered_count, turn_few}
+use Rattle.ptpm_agent.proofs.Turns.{reading-message_of}
 use Rattle.ptpm_device.specs.Asking.{is_lacked, is_permitted}
 use Rattle.ptpm_device.specs.Saying as says
-use Rattle.ptpm_device.specs.Saying.{Say, most_given, new_said, reply_given, reply_said, reply_told, said_at, said_by, turn_said, unnumbered_said}
+use Rattle.ptpm_device.specs.Saying.{Say, new_said, reply_given, reply_said, reply_told, said_at, said_by, turn_said, unnumbered_said}
 use Rattle.ptpm_host.specs.declared.standing.Standing.TheVariants as standings
 use Rattle.ptpm_host.specs.Clock.{clock_in, state_in}
-use Rattle.ptpm_host.specs.MostSent.{HaveAnswers, IsMostSent, SendsNoMore, SendsNoMoreAlone, WaitsNoMore}
+use Rattle.ptpm_host.specs.MostSent.{SendsNoMore, SendsNoMoreAlone, WaitsNoMore, most_answers, most_sent}
 
--- ---- how many answers a reply has
+-- ---- the most answers of kept replies
 
-named_few : (port n : ℕ) → length (named_ports port n) ≤ n
-unfolding named_ports
-named_few port n =
-    omega (arith, length-filter_both (is_named port) (λ k. not (is_named port k)) (λ k. refl) (range_with_len 1 n), length-range_with_len 1 n)
+answers_in : PortIdentity × Entry → ℕ
+answers_in e = length e.1.reply.answers
 
-answers_few : (b : Bool) (q : RequestValue) (refusal : Option ErrorId) (d : DataSetsValue)
-    → IsSized d
-    → length (answers_of b q refusal d) ≤ length d.ports
-answers_few true q refusal d s = grind (arith, length-map, named_few)
-answers_few false q refusal d s = omega (arith, s.some_port)
+pub most_kept : (es : List (PortIdentity × Entry)) (most : ℕ) → most_answers es ≤ most → HaveAnswers most es
+unfolding answers_in
+most_kept es most room = λ k e inside. omega (arith, room, max_bounds most_answers answers_in refl (λ x xs. refl) es k e inside)
 
-reply_few : (q : RequestValue) (refusal : Option ErrorId) (d : DataSetsValue)
-    → IsSized d
-    → length (reply_of q refusal d).answers ≤ length d.ports
-unfolding reply_of
-reply_few q refusal d s = answers_few (is_of_port q.id) q refusal d s
+pub kept_most : (es : List (PortIdentity × Entry)) (most : ℕ) → HaveAnswers most es → most_answers es ≤ most
+unfolding answers_in
+kept_most [] most all = omega arith
+kept_most (e ∷ es) most all = max_least most_answers answers_in refl (λ x xs. refl) (e ∷ es) e most (λ k inside. all k e inside)
 
-new_few : (q : RequestValue) (rights : Rights) (d : DataSetsValue)
-    → IsSized d
-    → length (reply_to q rights d).answers ≤ length d.ports
-unfolding reply_to
-new_few q rights d s =
-    subst (λ n. length (reply_of q (refusal_of q rights) (changed_by q rights d)).answers ≤ n) (changed_by-ports q rights d)
-    (reply_few q (refusal_of q rights) (changed_by q rights d) (changed_by-sized q rights d s))
+-- those of one entry more
+pub most_more : (es : List (PortIdentity × Entry)) (e : PortIdentity × Entry)
+    → most_answers (es ++ e ∷ []) ≡ max (most_answers es) (length e.1.reply.answers)
+unfolding answers_in
+most_more es e = max_push most_answers answers_in refl (λ x xs. refl) es e
 
-read_few : (q : RequestValue) (d : DataSetsValue)
-    → IsSized d
-    → length (read_reply_to q d).answers ≤ length d.ports
-unfolding read_reply_to
-read_few q d s = reply_few q (read_refusal q) d s
+-- those of the entries up to this place
+pub most_at : (es : List (PortIdentity × Entry)) (place : ℕ) (e : PortIdentity × Entry)
+    → slice_get es place ≡ Some e
+    → most_answers (take (place + 1) es) ≡ max (most_answers (take place es)) (length e.1.reply.answers)
+most_at es place e is =
+    let inside : place < length es = slice_get_within es place e is in
+    let got = slice_get-get_or es place e inside in
+    let here : get_or es place e ≡ e = cc in
+    ap most_answers (take_more es place e inside ∙ ap (λ (x : PortIdentity × Entry). take place es ++ x ∷ []) here) ∙ most_more (take place es) e
 
-rendered_count : (me : ClockIdentity) (heard : Heard) (r : ReplyValue) (ingress : ℕ)
-    → length (rendered me heard r ingress) ≡ length r.answers
-unfolding rendered
-rendered_count me heard r ingress = length-map r.answers _
+-- a clock of no more than eight ports, none of whose kept replies has more than eight answers
+pub most_fifteen : (s : State) → IsSized s.sets → HaveAnswers 8 (entries s.entries) → most_sent s ≤ 15
+most_fifteen s sized kept = omega (arith, sized.at_most_eight, kept_most (entries s.entries) 8 kept)
 
--- ---- how many copies are passed on
-
-passed_few : (me : ClockIdentity) (ingress : ℕ) (d : DataSetsValue) (datagram : List ℕ) (v : Message)
-    → HasPort ingress d
-    → reading datagram ≡ Ok v
-    → length (forwarded me ingress d datagram) + 1 ≤ length d.ports
-passed_few me ingress d datagram v port read =
-    let Few : List (ℕ × List ℕ) → Type 0 = λ xs. length xs + 1 ≤ length d.ports in
-    elim (is_forwarded me ingress d v) as (λ b. is_forwarded me ingress d v ≡ b → Few (forwarded me ingress d datagram)) [
-      | true ↦ λ is. subst Few (copies_up_to-all ingress d datagram ∙ sym (forwarded-on me ingress d datagram v read is))
-          (length-copies_up_to_but_one ingress d datagram (length d.ports) port.0 port.1)
-      | false ↦ λ is. subst Few (sym (forwarded-not me ingress d datagram v read is)) (omega (arith, port.0, port.1))
-    ] refl
-
--- ---- what is kept
-
-found_few : (most : ℕ) (who : PortIdentity) (es : List (PortIdentity × Entry)) (e : Entry)
-    → HaveAnswers most es
-    → find identity_cmp who es ≡ Some e
-    → length e.reply.answers ≤ most
-found_few most who [] e all is = absurd (cc)
-found_few most who (x ∷ es) e all is =
-    let here : length x.1.reply.answers ≤ most = all 0 x (omega arith) in
-    let rest : HaveAnswers most es = λ k y inside. all (suc k) y (omega (arith, inside)) in
-    elim (eq_by_cmp identity_cmp who x.0) as (λ b. cond b (Some x.1) (find identity_cmp who es) ≡ Some e → length e.reply.answers ≤ most) [
-      | true ↦ λ found. let same : x.1 ≡ e = cc in subst (λ (y : Entry). length y.reply.answers ≤ most) same here
-      | false ↦ λ other. found_few most who es e rest other
-    ] is
-
-kept_few : (c : Clock) (s : State) (ingress : ℕ) (heard : Heard) (who : PortIdentity) (most : ℕ)
-    → IsMostSent s most
-    → length (reply_messages c ingress heard (kept_reply_of (get s.entries who))) ≤ most
-kept_few c s ingress heard who most is =
-    elim (get s.entries who) as (λ o. get s.entries who ≡ o → length (reply_messages c ingress heard (kept_reply_of o)) ≤ most) [
-      | None ↦ λ none. omega arith
-      | Some e ↦ λ some. subst (λ n. n ≤ most) (sym (rendered_count c.identity heard e.reply ingress))
-          (found_few most who (entries s.entries) e is.kept (sym (get-entries s.entries who) ∙ some))
-    ] refl
-
--- ---- a turn of the clock's own
-
--- what is answered as before is a numbered request, and so for this clock alone
-for_this_clock : (c : Clock) (s : State) (v : Message)
-    → judged c s v ≡ verdicts.AnsweredRepeat
-    → is_for_this_clock c v ≡ true
-for_this_clock c s v repeat =
-    elim (is_numbered c v) as (λ b. is_numbered c v ≡ b → is_for_this_clock c v ≡ true) [
-      | true ↦ λ numbered. (and_parts _ _ numbered).1
-      | false ↦ λ other. absurd (judged-each (λ (w : Verdict). w ≡ verdicts.AnsweredRepeat → ⊥) c s v
-          (λ e. cc) (λ e. cc) (λ e. cc) (λ e. cc) (λ d o a q e. let unnumbered = verdict_at-unnumbered c s v other in cc) repeat)
-    ] refl
-
-passed_none : (me : ClockIdentity) (ingress : ℕ) (d : DataSetsValue) (datagram : List ℕ) (cause : DecodeError)
-    → reading datagram ≡ Err cause
-    → forwarded me ingress d datagram ≡ []
-unfolding forwarded message_of
-passed_none me ingress d datagram cause read = grind arith
-
-module _ (c : Clock) (s : State) (ingress : ℕ) (datagram : List ℕ) (most : ℕ) (sized : IsSized s.sets) (port : HasPort ingress s.sets) (is_most : IsMostSent s most) where
-  -- with no more answers than the clock has ports
-  both_few : (v : Message) (r : ReplyValue)
-      → reading datagram ≡ Ok v
-      → length r.answers ≤ length s.sets.ports
-      → length (forwarded c.identity ingress s.sets datagram ++ rendered c.identity (heard_of v) r ingress) ≤ most
-  both_few v r read few =
-      omega (
-        arith,
-        passed_few c.identity ingress s.sets datagram v port read,
-        few,
-        is_most.ports,
-        rendered_count c.identity (heard_of v) r ingress,
-        length-append (forwarded c.identity ingress s.sets datagram) (rendered c.identity (heard_of v) r ingress),
-      )
+module _ (c : Clock) (s : State) (ingress : ℕ) (datagram : List ℕ) (most : ℕ) (sized : IsSized s.sets) (port : HasPort ingress s.sets) (ports : 2 * length s.sets.ports - 1 ≤ most) (kept : HaveAnswers most (entries s.entries)) where
+  turn_here : length (outbox_of (turn c s ingress datagram)) ≤ most
+  turn_here = turn_few c s ingress datagram most sized port ports kept
 
   alone_few : (v : Message) (r : ReplyValue)
       → length r.answers ≤ length s.sets.ports
       → length (rendered c.identity (heard_of v) r ingress) ≤ most
-  alone_few v r few = omega (arith, few, sized.some_port, is_most.ports, rendered_count c.identity (heard_of v) r ingress)
-
-  nothing_few : (v : Message)
-      → reading datagram ≡ Ok v
-      → length (forwarded c.identity ingress s.sets datagram ++ []) ≤ most
-  nothing_few v read =
-      omega (arith, passed_few c.identity ingress s.sets datagram v port read, is_most.ports, length-append (forwarded c.identity ingress s.sets datagram) [])
-
-  at_verdict : (v : Message) (w : Verdict)
-      → reading datagram ≡ Ok v
-      → judged c s v ≡ w
-      → length (forwarded c.identity ingress s.sets datagram ++ reply_messages c ingress (heard_of v) (reply_by w c s v)) ≤ most
-  at_verdict v verdicts.AnsweredNew read is =
-      both_few v (reply_to (request_of v) (c.rights v.source) s.sets) read (new_few (request_of v) (c.rights v.source) s.sets sized)
-  at_verdict v verdicts.AnsweredUnnumbered read is =
-      both_few v (read_reply_to (request_of v) s.sets) read (read_few (request_of v) s.sets sized)
-  at_verdict v verdicts.AnsweredRepeat read is =
-      let none = forwarded-copy c ingress s.sets datagram v (message_of-reading datagram v read) (for_this_clock c s v is) in
-      subst (λ (xs : List (ℕ × List ℕ)). length (xs ++ reply_messages c ingress (heard_of v) (kept_reply_of (get s.entries v.source))) ≤ most) (sym none)
-      (kept_few c s ingress (heard_of v) v.source most is_most)
-  at_verdict v _ read is = nothing_few v read
-
-  turned_few : (r : Result Message DecodeError)
-      → reading datagram ≡ r
-      → length (outbox_of (turn_by c s ingress datagram r)) ≤ most
-  turned_few (Err cause) read =
-      subst (λ (xs : List (ℕ × List ℕ)). length (xs ++ []) ≤ most) (sym (passed_none c.identity ingress s.sets datagram cause read)) (omega arith)
-  turned_few (Ok v) read = at_verdict v (judged c s v) read refl
-
-  turn_few : length (outbox_of (turn c s ingress datagram)) ≤ most
-  unfolding turn
-  turn_few = turned_few (reading datagram) refl
-
-  -- ---- with what the device says
+  alone_few v r few = omega (arith, few, sized.some_port, ports, rendered_count c.identity (heard_of v) r ingress)
 
   given_few : (n : ℕ) (q : RequestValue) (octets : List ℕ) (r : ReplyValue)
       → (if is_lacked q then Some (reply_given n q octets) else None) ≡ Some r
@@ -224,15 +103,15 @@ module _ (c : Clock) (s : State) (ingress : ℕ) (datagram : List ℕ) (most : �
   new_said_few : (v : Message) (o : Option ReplyValue)
       → ((r : ReplyValue) → o ≡ Some r → length r.answers ≤ length s.sets.ports)
       → length (outbox_of (new_said c s ingress datagram v o)) ≤ most
-  new_said_few v None few = turn_few
+  new_said_few v None few = turn_here
   new_said_few v (Some r) few = alone_few v r (few r refl)
 
   unnumbered_said_few : (v : Message) (o : Option ReplyValue)
       → reading datagram ≡ Ok v
       → ((r : ReplyValue) → o ≡ Some r → length r.answers ≤ length s.sets.ports)
       → length (outbox_of (unnumbered_said c s ingress datagram v o)) ≤ most
-  unnumbered_said_few v None read few = turn_few
-  unnumbered_said_few v (Some r) read few = both_few v r read (few r refl)
+  unnumbered_said_few v None read few = turn_here
+  unnumbered_said_few v (Some r) read few = both_few c s ingress datagram most sized port ports v r read (few r refl)
 
   said_at_few : (v : Message) (w : Verdict) (say : Say)
       → reading datagram ≡ Ok v
@@ -241,12 +120,12 @@ module _ (c : Clock) (s : State) (ingress : ℕ) (datagram : List ℕ) (most : �
       new_said_few v (reply_said c s.sets v.source (request_of v) say) (said_few v.source (request_of v) say)
   said_at_few v verdicts.AnsweredUnnumbered say read =
       unnumbered_said_few v (reply_told (request_of v) say) read (told_few (request_of v) say)
-  said_at_few v _ say read = turn_few
+  said_at_few v _ say read = turn_here
 
   said_by_few : (o : Option Message) (say : Say)
       → message_of datagram ≡ o
       → length (outbox_of (said_by c s ingress datagram o say)) ≤ most
-  said_by_few None say read = turn_few
+  said_by_few None say read = turn_here
   said_by_few (Some v) say read = said_at_few v (judged c s v) say (reading-message_of datagram v read)
 
   turn_said_few : (say : Say) → length (outbox_of (turn_said c s say ingress datagram)) ≤ most
@@ -256,12 +135,16 @@ module _ (c : Clock) (s : State) (ingress : ℕ) (datagram : List ℕ) (most : �
 -- ---- the laws
 
 pub sends_no_more : SendsNoMore
-sends_no_more c s say ingress datagram most sized port is = turn_said_few c s ingress datagram most sized port is say
+sends_no_more c s say ingress datagram sized port =
+    turn_said_few c s ingress datagram (most_sent s) sized port (omega arith) (most_kept (entries s.entries) (most_sent s) (omega arith)) say
 
 pub sends_no_more_alone : SendsNoMoreAlone
-sends_no_more_alone c s ingress datagram most sized port is = turn_few c s ingress datagram most sized port is
+sends_no_more_alone c s ingress datagram sized port =
+    turn_few c s ingress datagram (most_sent s) sized port (omega arith) (most_kept (entries s.entries) (most_sent s) (omega arith))
 
 pub waits_no_more : WaitsNoMore
-waits_no_more c standings.Saved most is = omega arith
-waits_no_more c standings.Unsaved most is = omega arith
-waits_no_more c (standings.Withholding w) most is = kept_few (clock_in c) (state_in c) w.ingress w.heard w.heard.source most is
+waits_no_more c standings.Saved = omega arith
+waits_no_more c standings.Unsaved = omega arith
+waits_no_more c (standings.Withholding w) =
+    kept_few (clock_in c) (state_in c) w.ingress w.heard w.heard.source (most_sent (state_in c))
+    (most_kept (entries (state_in c).entries) (most_sent (state_in c)) (omega arith))

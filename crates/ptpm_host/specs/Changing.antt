@@ -1,7 +1,6 @@
 -- A change at the device itself, as a host asks for it.
-use Rattle.std.specs.Prelude.{◌≡◌, ◌==◌, ◌||◌, ◌+◌, ◌%◌, ◌^◌, ℕ, Bool, not, List, [], ◌∷◌, Option, Some, None}
+use Rattle.std.specs.Prelude.{◌≡◌, ◌==◌, ◌||◌, ◌+◌, ◌%◌, ◌^◌, ℕ, Bool, not, List, [], ◌∷◌, Option}
 use Rattle.std.specs.Option.{option_map, option_or}
-use Rattle.ptpm_codec.specs.declared.error.ErrorId.{ErrorId}
 use Rattle.ptpm_codec.specs.Message.{is_data_field}
 use Rattle.ptpm_codec.specs.Ordered.{first_of}
 use Rattle.ptpm_data.specs.Members.{DataSetsValue, has_port}

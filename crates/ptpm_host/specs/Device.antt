@@ -96,10 +96,10 @@ abbrev pub is_bad : {A B : Type 0} → Result A B → Bool
 is_bad (Ok a) = false
 is_bad (Err e) = true
 
--- why a datagram is not handled with what the device says
-abbrev pub said_refusal : Bool → ℕ → Say → Option SaidRefusal
-said_refusal has_port room say = first_of (
+-- why a datagram is not handled with what the device says, if the clock sends this many messages at most
+abbrev pub said_refusal : Bool → ℕ → ℕ → Say → Option SaidRefusal
+said_refusal has_port most room say = first_of (
     (not has_port, refusals.Handle handles.NoPort)
-    ∷ (nat_lt room 15, refusals.Handle handles.NoRoom)
+    ∷ (nat_lt room most, refusals.Handle handles.NoRoom)
     ∷ (is_bad (say_in say), refusals.BadSay)
     ∷ [])

@@ -1,5 +1,5 @@
 -- How many messages a clock sends for a datagram at most.
-use Rattle.std.specs.Prelude.{◌≤◌, ℕ, ◌*◌, ◌-◌, All, List, length}
+use Rattle.std.specs.Prelude.{◌≤◌, ℕ, ◌*◌, ◌-◌, Bool, if◌then◌else◌, List, [], ◌∷◌, length, max}
 use Rattle.std.specs.FinMap.{entries}
 use Rattle.ptpm_codec.specs.declared.identity.PortIdentity.{PortIdentity}
 use Rattle.ptpm_data.specs.Members.{HasPort}
@@ -12,37 +12,36 @@ use Rattle.ptpm_host.specs.declared.standing.Standing.{Standing}
 use Rattle.ptpm_host.specs.Clock.{state_in}
 use Rattle.ptpm_host.specs.Withheld.{messages_due}
 
--- each of these kept replies has this many answers at most
-abbrev pub HaveAnswers : ℕ → List (PortIdentity × Entry) → Type 0
-HaveAnswers most es = All (λ e. length e.1.reply.answers ≤ most) es
+-- the most answers that one of these kept replies has
+abbrev pub most_answers : List (PortIdentity × Entry) → ℕ
+most_answers [] = 0
+most_answers (e ∷ es) = max (length e.1.reply.answers) (most_answers es)
 
--- A copy for each port but the one that the datagram came in at, and an answer of each port. A kept reply is sent alone. So this is
--- the least number that is neither less than the one nor than the other.
-pub record IsMostSent (s : State) (most : ℕ) : Type 0 where
-  pub ports : 2 * length s.sets.ports - 1 ≤ most
-  pub kept : HaveAnswers most (entries s.entries)
-  pub least : (n : ℕ) → 2 * length s.sets.ports - 1 ≤ n → HaveAnswers n (entries s.entries) → most ≤ n
+-- A copy for each port but the one that the datagram came in at, and an answer of each port. A kept reply is sent alone.
+abbrev pub most_sent : State → ℕ
+most_sent s = max (2 * length s.sets.ports - 1) (most_answers (entries s.entries))
+
+-- how many places a call asks for: as many as the clock can use, or always fifteen
+abbrev pub places_asked : Bool → State → ℕ
+places_asked few s = if few then most_sent s else 15
 
 -- ---- the law: no more are sent
 
 -- for a datagram that comes in at a port of the clock, whatever its device says
 abbrev pub SendsNoMore : Type 0
-SendsNoMore = (c : Clock) (s : State) (say : Say) (port : ℕ) (datagram : List ℕ) (most : ℕ)
+SendsNoMore = (c : Clock) (s : State) (say : Say) (port : ℕ) (datagram : List ℕ)
     → IsSized s.sets
     → HasPort port s.sets
-    → IsMostSent s most
-    → length (outbox_of (turn_said c s say port datagram)) ≤ most
+    → length (outbox_of (turn_said c s say port datagram)) ≤ most_sent s
 
 -- the same without a device
 abbrev pub SendsNoMoreAlone : Type 0
-SendsNoMoreAlone = (c : Clock) (s : State) (port : ℕ) (datagram : List ℕ) (most : ℕ)
+SendsNoMoreAlone = (c : Clock) (s : State) (port : ℕ) (datagram : List ℕ)
     → IsSized s.sets
     → HasPort port s.sets
-    → IsMostSent s most
-    → length (outbox_of (turn c s port datagram)) ≤ most
+    → length (outbox_of (turn c s port datagram)) ≤ most_sent s
 
 -- and of what waits for a save
 abbrev pub WaitsNoMore : Type 0
-WaitsNoMore = (c : HostedClock) (standing : Standing) (most : ℕ)
-    → IsMostSent (state_in c) most
-    → length (messages_due c standing) ≤ most
+WaitsNoMore = (c : HostedClock) (standing : Standing)
+    → length (messages_due c standing) ≤ most_sent (state_in c)

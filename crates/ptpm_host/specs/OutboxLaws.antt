@@ -1,5 +1,5 @@
 -- What is written into places after what was written.
-use Rattle.std.proofs.Common.{◌≡◌, ◌∙◌, ◌+◌, ◌-◌, ◌≤◌, ℕ, zero, suc, List, [], ◌∷◌, ap, arith, drop, refl, subst, sym, take}
+use Rattle.std.proofs.Common.{◌≡◌, ◌∙◌, ◌+◌, ◌-◌, ◌≤◌, ℕ, zero, suc, List, [], ◌∷◌, ap, arith, drop, length, refl, subst, sym, take}
 use Rattle.std.proofs.lemmas.List.{drop-drop}
 use Rattle.std.specs.List.{AllZip}
 use Rattle.ptpm_host.specs.declared.outbox.Outbox.{Outbox}
@@ -61,3 +61,12 @@ grown_twice a b c first second = record {
   places = second.places ∙ drop_more b.count c.count b.room.now a.room.now second.more first.places;
   behind = kept_twice b.count a.room.now b.room.now c.room.now first.behind second.behind second.messages first.places;
 }
+
+same_count : (xs ys : List Sent) → AllZip KeepsBehind xs ys → length ys ≡ length xs
+same_count [] [] each = refl
+same_count [] (y ∷ ys) each = absurd each
+same_count (x ∷ xs) [] each = absurd each
+same_count (x ∷ xs) (y ∷ ys) each = ap suc (same_count xs ys each.1)
+
+pub as_many : (a b : Outbox) → HasGrown a b → length b.room.now ≡ length a.room.now
+as_many a b grown = same_count a.room.now b.room.now grown.behind

@@ -42,14 +42,14 @@ IsCalled before call given after =
 abbrev pub changes_after : Verdict → ℕ → ℕ
 changes_after verdict changes = if is_new verdict then (changes + 1) % 2 ^ 64 else changes
 
--- ---- why a datagram is not handled, or a save is not taken
+-- ---- why a datagram is not handled, or a save is not taken: that is asked for this many places at least
 
-abbrev pub saving_refusal : Bool → ℕ → Bool → Option SavingRefusal
-saving_refusal has_port room unsaved = first_of (
+abbrev pub saving_refusal : Bool → ℕ → ℕ → Bool → Option SavingRefusal
+saving_refusal has_port least room unsaved = first_of (
     (not has_port, refusals.Handle handles.NoPort)
-    ∷ (nat_lt room 15, refusals.Handle handles.NoRoom)
+    ∷ (nat_lt room least, refusals.Handle handles.NoRoom)
     ∷ (unsaved, refusals.Unsaved)
     ∷ [])
 
-abbrev pub saved_refusal : ℕ → Bool → Option SavedRefusal
-saved_refusal room is_current = first_of ((nat_lt room 15, saves.NoRoom) ∷ (not is_current, saves.OtherImage) ∷ [])
+abbrev pub saved_refusal : ℕ → ℕ → Bool → Option SavedRefusal
+saved_refusal most room is_current = first_of ((nat_lt room most, saves.NoRoom) ∷ (not is_current, saves.OtherImage) ∷ [])

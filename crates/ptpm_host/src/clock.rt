@@ -2,10 +2,10 @@
 
 ghost use Rattle.std.specs.Prelude.{◌≡◌, ◌≢◌, ◌≤◌, Ok, None, Some, IfErr, IfOk, MatchResult, OnErr, OnOk, All, [], drop, length, take};
 ghost use Rattle.std.specs.List.{AllZip};
-ghost use Rattle.ptpm_data.specs.Members.{has_port};
+ghost use Rattle.ptpm_data.specs.Members.{HasPort, has_port};
 ghost use Rattle.ptpm_table.specs.Managers.{IsFresh};
 ghost use Rattle.ptpm_agent.specs.Agent.{IsTurned};
-ghost use Rattle.ptpm_agent.specs.Turn.{turn};
+ghost use Rattle.ptpm_agent.specs.Turn.{outbox_of, turn};
 ghost use Rattle.ptpm_host.specs.Clock.{IsFreshClock, IsWhole, KeepsBehind, clock_in, handle_refusal, messages_in, start_by, start_refusal, state_in};
 ghost use Rattle.ptpm_host.specs.Observing.{IsObserved, observe_refusal, ports_left};
 ghost use Rattle.ptpm_host.specs.Settings.{configured};
@@ -164,6 +164,7 @@ impl HostedClock {
         if room.len() < MOST_SENT {
             return Err(HandleRefusal::NoRoom);
         }
+        self.sent_law();
         let mut places = Outbox::new(room);
         let verdict = self.agent.handle_into(port, datagram, &mut places);
         Ok(Handled {
@@ -172,32 +173,30 @@ impl HostedClock {
         })
     }
 
-    /// What `handle` does. Never inlined: so the calls that do more than a turn have its code once, beside the call that does no more.
+    /// One turn of the clock, at a port that it has, with places enough. Never inlined: so the calls that do more than a turn have its
+    /// code once, beside the call that does no more.
     #[inline(never)]
-    pub(crate) fn handle_apart(
-        &mut self,
-        port: u16,
-        datagram: &[u8],
-        room: &mut [Sent],
-    ) -> Result<Handled, HandleRefusal>
-        ensures turned { IfOk result
-            (λ h.
-            IsTurned (turn (clock_in self.old) (state_in self.old) port datagram.now) h.verdict
-            (messages_in (take h.count room.new)) (state_in self.new)) }
-        ensures count { IfOk result (λ h. h.count ≤ length room.new) }
-        ensures whole { IfOk result (λ h. All IsWhole (take h.count room.new)) }
-        ensures places { IfOk result (λ h. drop h.count room.new ≡ drop h.count room.old) }
+    #[tactic(auto, using(crate::specs::OutboxLaws::kept_by_none))]
+    pub(crate) fn take_turn(&mut self, port: u16, datagram: &[u8], room: &mut [Sent]) -> Handled
+        requires port { HasPort port self.old.agent.sets }
+        requires room { length (outbox_of (turn (clock_in self.old) (state_in self.old) port datagram.now))
+            ≤ length room.old }
+        ensures turned { IsTurned (turn (clock_in self.old) (state_in self.old) port datagram.now)
+            result.verdict (messages_in (take result.count room.new)) (state_in self.new) }
+        ensures count { result.count ≤ length room.new }
+        ensures whole { All IsWhole (take result.count room.new) }
+        ensures places { drop result.count room.new ≡ drop result.count room.old }
         ensures behind { AllZip KeepsBehind room.old room.new }
-        ensures new_alone { IfOk result
-            (λ h. h.verdict ≢ Verdict.AnsweredNew → self.new.agent.sets ≡ self.old.agent.sets) }
-        ensures refusal { MatchResult result
-            (λ _. handle_refusal (has_port port self.old.agent.sets) (length room.old) ≡ None)
-            (λ e. handle_refusal (has_port port self.old.agent.sets) (length room.old) ≡ Some e) }
-        ensures unchanged { OnErr result (self.new ≡ self.old) }
-        ensures untouched { OnErr result (room.new ≡ room.old) }
+        ensures new_alone { result.verdict ≢ Verdict.AnsweredNew →
+            self.new.agent.sets ≡ self.old.agent.sets }
         ensures clock { clock_in self.new ≡ clock_in self.old }
     {
-        self.handle(port, datagram, room)
+        let mut outbox = Outbox::new(room);
+        let verdict = self.agent.handle_into(port, datagram, &mut outbox);
+        Handled {
+            verdict,
+            count: outbox.count(),
+        }
     }
 
     /// Sets exactly the members that the host observed, of its clock and of its ports from 1 on. Exceptions: a disabled port keeps

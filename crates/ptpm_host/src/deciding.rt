@@ -5,14 +5,15 @@ ghost use Rattle.std.specs.List.{AllZip};
 ghost use Rattle.ptpm_codec.specs.Message.{IsDataField};
 ghost use Rattle.ptpm_data.specs.Members.{HasPort, has_port};
 ghost use Rattle.ptpm_agent.specs.Agent.{IsTurned};
-ghost use Rattle.ptpm_agent.specs.Turn.{turn};
+ghost use Rattle.ptpm_agent.specs.Turn.{outbox_of};
 ghost use Rattle.ptpm_device.specs.Asking.{asked, wanted, wanted_once};
 ghost use Rattle.ptpm_device.specs.Saying as says;
 ghost use Rattle.ptpm_device.specs.Saying.{turn_said};
 ghost use Rattle.ptpm_host.specs.Clock.{IsWhole, KeepsBehind, clock_in, messages_in, state_in};
 ghost use Rattle.ptpm_host.specs.Device.{Answers, said_refusal, say_in};
+ghost use Rattle.ptpm_host.specs.MostSent.{most_sent};
 
-use crate::clock::{Handled, HostedClock, MOST_SENT};
+use crate::clock::{Handled, HostedClock};
 use crate::device::{Asking, Question, Said, Say};
 use crate::outbox::Outbox;
 use crate::refusal::{HandleRefusal, SaidRefusal};
@@ -70,8 +71,8 @@ impl HostedClock {
         ensures new_alone { IfOk result
             (λ h. h.verdict ≢ Verdict.AnsweredNew → self.new.agent.sets ≡ self.old.agent.sets) }
         ensures refusal { MatchResult result
-            (λ _. said_refusal (has_port port self.old.agent.sets) (length room.old) say.now ≡ None)
-            (λ e. said_refusal (has_port port self.old.agent.sets) (length room.old) say.now ≡ Some e) }
+            (λ _. said_refusal (has_port port self.old.agent.sets) (most_sent (state_in self.old)) (length room.old) say.now ≡ None)
+            (λ e. said_refusal (has_port port self.old.agent.sets) (most_sent (state_in self.old)) (length room.old) say.now ≡ Some e) }
         ensures unchanged { OnErr result (self.new ≡ self.old) }
         ensures untouched { OnErr result (room.new ≡ room.old) }
         ensures clock { clock_in self.new ≡ clock_in self.old }
@@ -79,9 +80,10 @@ impl HostedClock {
         if !self.agent.sets().has_port(port) {
             return Err(SaidRefusal::Handle(HandleRefusal::NoPort));
         }
-        if room.len() < MOST_SENT {
+        if !self.has_room(room.len()) {
             return Err(SaidRefusal::Handle(HandleRefusal::NoRoom));
         }
+        self.sent_law();
         let said = match say.said() {
             Ok(said) => said,
             Err(_) => return Err(SaidRefusal::BadSay),
@@ -93,26 +95,6 @@ impl HostedClock {
         })
     }
 
-    /// One turn as the clock's own, at a port that it has.
-    fn take_turn(&mut self, port: u16, datagram: &[u8], room: &mut [Sent]) -> Handled
-        requires port { HasPort port self.old.agent.sets }
-        requires wide { 15 ≤ length room.old }
-        ensures turned { IsTurned (turn (clock_in self.old) (state_in self.old) port datagram.now)
-            result.verdict (messages_in (take result.count room.new)) (state_in self.new) }
-        ensures count { result.count ≤ length room.new }
-        ensures whole { All IsWhole (take result.count room.new) }
-        ensures places { drop result.count room.new ≡ drop result.count room.old }
-        ensures behind { AllZip KeepsBehind room.old room.new }
-        ensures new_alone { result.verdict ≢ Verdict.AnsweredNew →
-            self.new.agent.sets ≡ self.old.agent.sets }
-        ensures clock { clock_in self.new ≡ clock_in self.old }
-    {
-        let Ok(handled) = self.handle_apart(port, datagram, room) else {
-            unreachable!()
-        };
-        handled
-    }
-
     /// One turn with an objection of the device.
     fn take_objection(
         &mut self,
@@ -122,7 +104,8 @@ impl HostedClock {
         room: &mut [Sent],
     ) -> Handled
         requires port { HasPort port self.old.agent.sets }
-        requires wide { 15 ≤ length room.old }
+        requires room { length (outbox_of (turn_said
+            (clock_in self.old) (state_in self.old) (says.Objects error) port datagram.now)) ≤ length room.old }
         ensures turned { IsTurned
             (turn_said (clock_in self.old) (state_in self.old) (says.Objects error) port datagram.now)
             result.verdict (messages_in (take result.count room.new)) (state_in self.new) }
@@ -154,7 +137,8 @@ impl HostedClock {
         room: &mut [Sent],
     ) -> Handled
         requires port { HasPort port self.old.agent.sets }
-        requires wide { 15 ≤ length room.old }
+        requires room { length (outbox_of (turn_said
+            (clock_in self.old) (state_in self.old) (says.Gives octets.now) port datagram.now)) ≤ length room.old }
         requires octets { IsDataField octets.now }
         ensures turned { IsTurned (turn_said
             (clock_in self.old) (state_in self.old) (says.Gives octets.now) port datagram.now)
@@ -194,7 +178,8 @@ impl HostedClock {
         room: &mut [Sent],
     ) -> Option<usize>
         requires port { HasPort port self.now.agent.sets }
-        requires wide { 15 ≤ length room.old }
+        requires room { length (outbox_of (turn_said
+            (clock_in self.now) (state_in self.now) (says.Gives octets.now) port datagram.now)) ≤ length room.old }
         requires octets { IsDataField octets.now }
         ensures once { is_some result ≡ wanted_once
             (clock_in self.now) (state_in self.now) datagram.now }

@@ -1,18 +1,20 @@
 //! How many messages a clock sends for a datagram at most.
 
+ghost use Rattle.std.specs.Prelude.{◌≡◌, ◌≤◌, nat_le};
+ghost use Rattle.ptpm_data.specs.RequestLaws.{IsSized};
 ghost use Rattle.ptpm_host.specs.Clock.{state_in};
-ghost use Rattle.ptpm_host.specs.MostSent.{IsMostSent};
+ghost use Rattle.ptpm_host.specs.MostSent.{most_sent, places_asked};
 
-use crate::clock::HostedClock;
+use crate::clock::{HostedClock, MOST_SENT};
 use ptpm_data::data_sets_law;
-use ptpm_table::LendingTable;
+use ptpm_table::{LendingTable, SureTable};
 
 impl HostedClock {
     /// The most messages that the clock sends for a datagram, or after a save. A copy goes out at each port but one, and each port
     /// answers. It is more only if a kept reply has more answers. No reply of the clock's own does, so only an image of another
     /// hand can bring one. Takes no memory.
     pub fn most_sent(&self) -> usize
-        ensures { IsMostSent (state_in self.now) result }
+        ensures { result ≡ most_sent (state_in self.now) }
     {
         let sets = self.agent.sets();
         data_sets_law(sets);
@@ -25,5 +27,32 @@ impl HostedClock {
             }
         }
         most
+    }
+
+    /// Whether this many places are enough for what the clock sends for a datagram, or after a save. Fifteen always are.
+    pub(crate) fn has_room(&self, places: usize) -> bool
+        ensures { result ≡ nat_le (most_sent (state_in self.now)) places }
+    {
+        self.sent_law();
+        places >= MOST_SENT || places >= self.most_sent()
+    }
+
+    /// How many places a call asks for: as many as the clock can use, or always fifteen. They are enough for whatever it sends.
+    pub fn places_asked(&self, few: bool) -> usize
+        ensures asked { result ≡ places_asked few (state_in self.now) }
+        ensures enough { most_sent (state_in self.now) ≤ result }
+    {
+        self.sent_law();
+        if few { self.most_sent() } else { MOST_SENT }
+    }
+
+    /// Its data sets have their sizes, and it sends no more than fifteen messages: a law, and nothing is done.
+    #[inline(always)]
+    pub(crate) fn sent_law(&self)
+        ensures sized { IsSized self.now.agent.sets }
+        ensures most { most_sent (state_in self.now) ≤ 15 }
+    {
+        data_sets_law(self.agent.sets());
+        self.agent.table().eight_answers();
     }
 }

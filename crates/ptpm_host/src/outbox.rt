@@ -7,14 +7,13 @@ use crate::sent::Sent;
 use ptpm_codec::Envelope;
 use ptpm_table::{Outgoing, Renewal};
 
-/// A host's places, fifteen at least. The first of them have messages.
+/// A host's places. The first of them have messages.
 #[derive(Drop)]
 pub(crate) struct Outbox<'a> {
     room: &'a mut [Sent],
     /// How many have a message.
     count: usize,
-    ghost wide: { 15 ≤ length room.now },
-    ghost few: { count ≤ 15 },
+    ghost few: { count ≤ length room.now },
     ghost whole: { All IsWhole (take count room.now) },
 }
 
@@ -22,7 +21,6 @@ impl<'a> Outbox<'a> {
     /// These places, without messages.
     #[inline(always)]
     pub(crate) fn new(room: &'a mut [Sent]) -> Outbox<'a>
-        requires { 15 ≤ length room.old }
         ensures same_reference { result.room.ghost_name ≡ room.entry.ghost_name }
         ensures room { result.room.now ≡ room.old }
         ensures count { result.count ≡ 0 }
@@ -32,18 +30,22 @@ impl<'a> Outbox<'a> {
 }
 
 impl Outgoing for Outbox<'_> {
-    ghost use Rattle.std.specs.Prelude.{take};
+    ghost use Rattle.std.specs.Prelude.{length, take};
     ghost use Rattle.ptpm_host.specs.Clock.{messages_in};
     ghost use Rattle.ptpm_host.specs.Outbox.{HasGrown};
-    ghost use Rattle.ptpm_host.specs.OutboxLaws.{grown_by_none, grown_twice};
+    ghost use Rattle.ptpm_host.specs.OutboxLaws.{as_many, grown_by_none, grown_twice};
 
     ghost sent = { λ p. messages_in (take p.count p.room.now) };
+
+    ghost most = { λ p. length p.room.now };
 
     ghost grown = { HasGrown };
 
     ghost grown_by_none = { grown_by_none };
 
     ghost grown_twice = { grown_twice };
+
+    ghost as_many = { as_many };
 
     fn count(&self) -> usize {
         self.count

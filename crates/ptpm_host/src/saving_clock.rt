@@ -12,7 +12,7 @@ use crate::sent::Sent;
 use crate::standing::{Standing, Withheld};
 use ptpm_agent::Verdict;
 use ptpm_codec::view;
-use ptpm_data::{ChangedMembers, ObservationError, PortsLeftDisabled, data_sets_law};
+use ptpm_data::{ChangedMembers, ObservationError, PortsLeftDisabled};
 use ptpm_table::{Outgoing, SureTable};
 
 /// A clock that sends no message of a new request before its host says that it is saved, and takes no datagram meanwhile. Each
@@ -42,6 +42,7 @@ impl SavingClock {
     ghost use Rattle.ptpm_host.specs.Clock.{IsWhole, KeepsBehind, clock_in, messages_in, state_in};
     ghost use Rattle.ptpm_host.specs.Observing.{IsObserved, clock_observation, observe_refusal, port_observations, ports_left};
     ghost use Rattle.ptpm_host.specs.Blanks.{AreBlanked};
+    ghost use Rattle.ptpm_host.specs.MostSent.{most_sent};
     ghost use Rattle.ptpm_host.specs.SavingClock.{IsCalled, changes_after, saved_refusal, saving_refusal};
     ghost use Rattle.ptpm_host.specs.Withheld.{is_unsaved};
     ghost use Rattle.ptpm_host.specs.declared.standing.Standing.TheVariants as standings;
@@ -88,13 +89,16 @@ impl SavingClock {
 
     /// What becomes of a datagram that comes in at a port: what `HostedClock::handle` does, unless something is unsaved. After
     /// `AnsweredNew` it is: then no message is in the places, those that were used are blank, and the messages are those of
-    /// `saved`. Takes no memory.
+    /// `saved`. `least` places are asked for, which are enough for whatever the clock sends (`HostedClock::places_asked`). Takes no
+    /// memory.
     pub fn handle(
         &mut self,
         port: u16,
         datagram: &[u8],
         room: &mut [Sent],
+        least: usize,
     ) -> Result<Handled, SavingRefusal>
+        requires enough { most_sent (state_in self.old.clock.value) ≤ least }
         ensures called { IfOk result
             (λ h.
             IsCalled self.old (Comes (port, datagram.now)) (messages_in (take h.count room.new))
@@ -124,25 +128,22 @@ impl SavingClock {
             (λ h. h.verdict ≢ Verdict.AnsweredNew → AllZip KeepsBehind room.old room.new) }
         ensures refusal { MatchResult result
             (λ _.
-            saving_refusal (has_port port self.old.clock.value.agent.sets) (length room.old)
+            saving_refusal (has_port port self.old.clock.value.agent.sets) least (length room.old)
             (is_unsaved self.old.standing)
             ≡ None)
             (λ e.
-            saving_refusal (has_port port self.old.clock.value.agent.sets) (length room.old)
+            saving_refusal (has_port port self.old.clock.value.agent.sets) least (length room.old)
             (is_unsaved self.old.standing)
             ≡ Some e) }
         ensures unchanged { OnErr result (self.new ≡ self.old) }
         ensures untouched { OnErr result (room.new ≡ room.old) }
         ensures clock { clock_in self.new.clock.value ≡ clock_in self.old.clock.value }
     {
-        if self.standing.is_unsaved() {
-            return Err(self.refusal(port, room.len()));
+        if let Some(refusal) = self.refusal(port, least, room.len()) {
+            return Err(refusal);
         }
-        data_sets_law(self.clock.sets());
-        let handled = match self.clock.handle_apart(port, datagram, room) {
-            Ok(handled) => handled,
-            Err(refusal) => return Err(SavingRefusal::Handle(refusal)),
-        };
+        self.clock.sent_law();
+        let handled = self.clock.take_turn(port, datagram, room);
         if handled.verdict != Verdict::AnsweredNew {
             return Ok(handled);
         }
@@ -158,18 +159,22 @@ impl SavingClock {
         })
     }
 
-    /// Why no datagram is handled while something is unsaved.
-    fn refusal(&self, port: u16, room: usize) -> SavingRefusal
-        ensures { saving_refusal (has_port port self.now.clock.value.agent.sets) room true
-            ≡ Some result }
+    /// Why no datagram is handled at this port. `least` places are asked for, and there are `room`.
+    fn refusal(&self, port: u16, least: usize, room: usize) -> Option<SavingRefusal>
+        ensures { result
+            ≡ saving_refusal (has_port port self.now.clock.value.agent.sets) least room
+            (is_unsaved self.now.standing) }
     {
         if !self.clock.sets().has_port(port) {
-            return SavingRefusal::Handle(HandleRefusal::NoPort);
+            return Some(SavingRefusal::Handle(HandleRefusal::NoPort));
         }
-        if room < MOST_SENT {
-            return SavingRefusal::Handle(HandleRefusal::NoRoom);
+        if room < least {
+            return Some(SavingRefusal::Handle(HandleRefusal::NoRoom));
         }
-        SavingRefusal::Unsaved
+        if self.standing.is_unsaved() {
+            return Some(SavingRefusal::Unsaved);
+        }
+        None
     }
 
     /// What `HostedClock::observe` does, whether something is unsaved or not. Nothing is saved for it. Takes no memory.
@@ -263,12 +268,12 @@ impl SavingClock {
         ensures places { IfOk result (λ n. drop n room.new ≡ drop n room.old) }
         ensures behind { AllZip KeepsBehind room.old room.new }
         ensures refusal { MatchResult result
-            (λ _. saved_refusal (length room.old) (token == self.old.changes) ≡ None)
-            (λ e. saved_refusal (length room.old) (token == self.old.changes) ≡ Some e) }
+            (λ _. saved_refusal (most_sent (state_in self.old.clock.value)) (length room.old) (token == self.old.changes) ≡ None)
+            (λ e. saved_refusal (most_sent (state_in self.old.clock.value)) (length room.old) (token == self.old.changes) ≡ Some e) }
         ensures unchanged { OnErr result (self.new ≡ self.old) }
         ensures untouched { OnErr result (room.new ≡ room.old) }
     {
-        if room.len() < MOST_SENT {
+        if !self.clock.has_room(room.len()) {
             return Err(SavedRefusal::NoRoom);
         }
         if token != self.changes {

@@ -10,7 +10,7 @@ use crate::differences::Differs;
 use crate::expected::{OtherLeaders, Outside, Unmet};
 use crate::grandmaster_changes::GrandmasterChange;
 use crate::grandmasters::Masterless;
-use crate::leading::{Better, Degradation, Degraded, Leap, Untraceable, WrongOffset};
+use crate::leading::{Better, Degraded, Leap, Untraceable, WrongOffset};
 use crate::parents::{NoMaster, Steps};
 use crate::source::Source;
 use crate::stay::Stay;
@@ -109,97 +109,6 @@ pub enum What<'a> {
     TwoAddresses(TwoAddresses<'a>),
     /// Answers to one request have two offsets, in the last look and in the one before.
     TwoOffsets(TwoOffsets),
-}
-
-impl What<'_> {
-    /// Its name, which scripts read.
-    pub fn name(&self) -> &'static str {
-        match self {
-            What::Absent(_) => "absent",
-            What::Unexpected => "unexpected",
-            What::NotAsExpected(_) | What::OtherLeaders(_) => "not_as_expected",
-            What::Gone => "gone",
-            What::Unseen(unseen) => unseen.name(),
-            What::NotAsked(_) => "not_asked",
-            What::TwoGrandmasters => "two_grandmasters",
-            What::NoMaster(_) => "no_master",
-            What::GrandmasterNotSeen(_) => "grandmaster_not_seen",
-            What::ParentNotSeen(_) => "parent_not_seen",
-            What::ParentNotMaster(..) => "parent_not_master",
-            What::Steps(_) => "steps",
-            What::GrandmasterDiffers(_) => "grandmaster_differs",
-            What::Loop(_) => "loop",
-            What::PortState(..) => "port_state",
-            What::NotLocked(..) => "not_locked",
-            What::OffByUtc(_) => "off_by_utc",
-            What::Offset(_) => "offset",
-            What::Delay(_) => "delay",
-            What::LinkDelay(..) => "delay",
-            What::Utc(_) => "utc",
-            What::Intervals(..) | What::Announces(..) => "intervals",
-            What::Degraded(degraded) => degraded.degradation.name(),
-            What::NotTraceable(_) => "not_traceable",
-            What::UtcInvalid(_) => "utc_invalid",
-            What::UtcOffset(_) => "utc_offset",
-            What::Leap(_) => "leap",
-            What::BetterClock(_) => "better_clock",
-            What::Profile(_) => "profile",
-            What::Incomplete(_) => "incomplete",
-            What::OutOfReach(_) => "out_of_reach",
-            What::GrandmasterChanged(_) => "grandmaster_changed",
-            What::Changed(..) => "changed",
-            What::IdentityTwice(..) | What::TwoAddresses(_) | What::TwoOffsets(_) => {
-                "identity_twice"
-            }
-        }
-    }
-}
-
-impl What<'_> {
-    /// Whether time is wrong or missing by it, or two clocks look like one. Any other finding is a warning.
-    pub fn is_critical(&self) -> bool {
-        match self {
-            What::Absent(_)
-            | What::Gone
-            | What::TwoGrandmasters
-            | What::NoMaster(_)
-            | What::GrandmasterNotSeen(_)
-            | What::ParentNotSeen(_)
-            | What::ParentNotMaster(..)
-            | What::Loop(_)
-            | What::PortState(..)
-            | What::NotLocked(..)
-            | What::OffByUtc(_)
-            | What::Offset(_)
-            | What::UtcOffset(_)
-            | What::IdentityTwice(..)
-            | What::TwoAddresses(_)
-            | What::TwoOffsets(_) => true,
-            What::Degraded(degraded) => matches!(degraded.degradation, Degradation::Degraded),
-            _ => false,
-        }
-    }
-}
-
-impl Absence {
-    /// The name of the finding.
-    fn name(self) -> &'static str {
-        match self {
-            Absence::OwnHost => "own_host",
-            Absence::Mute(_) => "mute",
-        }
-    }
-}
-
-impl Degradation {
-    /// The name of the finding.
-    fn name(self) -> &'static str {
-        match self {
-            Degradation::Holdover => "gm_holdover",
-            Degradation::Degraded => "gm_degraded",
-            Degradation::FreeRunning => "gm_free_running",
-        }
-    }
 }
 
 /// Adds a finding after all earlier ones.

@@ -31,15 +31,20 @@ pub record HasEntry (entries : Entries) (who : PortIdentity) (n : ℕ) : Type 0 
   pub is : get entries who ≡ Some entry
   pub number_is : entry.number ≡ n
 
--- a place that holds this many messages has room for those of the manager's kept reply, one for each answer
-abbrev pub HasRoom : Entries → PortIdentity → ℕ → Type 0
-HasRoom entries who held = (e : Entry) → get entries who ≡ Some e → held + length e.reply.answers ≤ 15
+-- The messages that a place has, and those of the manager's kept reply, are no more than the place takes. A reply has one for
+-- each answer.
+abbrev pub HasRoom : Entries → PortIdentity → ℕ → ℕ → Type 0
+HasRoom entries who held most = (e : Entry) → get entries who ≡ Some e → held + length e.reply.answers ≤ most
+
+-- each of these kept replies has this many answers at most
+abbrev pub HaveAnswers : ℕ → List (PortIdentity × Entry) → Type 0
+HaveAnswers most es = All (λ e. length e.1.reply.answers ≤ most) es
 
 -- The manager has an entry of this number, and its reply can be sent again. A place for fifteen messages has room for it
 -- after the seven copies of a message that a clock of eight ports passes on. So it has room after fewer.
 pub record CanResend (entries : Entries) (who : PortIdentity) (n : ℕ) : Type 0 where
   pub kept : HasEntry entries who n
-  pub room : HasRoom entries who 7
+  pub room : HasRoom entries who 7 15
 
 -- ---- which replies may be kept for a request
 

@@ -64,6 +64,13 @@ pub sent_count : {O : Type 0} (sent : O → List (ℕ × List ℕ)) (grown : O �
     → length (sent b.out.now) ≡ length (sent a.out.now) + length xs
 sent_count sent grown a b xs has = has.count
 
+pub sent_as_many : {O : Type 0} (sent : O → List (ℕ × List ℕ)) (grown : O → O → Type 0) (most : O → ℕ)
+    → ((o p : O) → grown o p → most p ≡ most o)
+    → (a b : Sender O) (xs : List Answer)
+    → HasSent sent grown a xs b
+    → most b.out.now ≡ most a.out.now
+sent_as_many sent grown most as_many a b xs has = as_many a.out.now b.out.now has.grown_is
+
 pub one_fits : (v : Message) (action : Action) (id ingress : ℕ) (a : Answer)
     → Fits v
     → unwrap_or a.port ingress < 2 ^ 16

@@ -67,7 +67,7 @@ pub(crate) fn resend_each<O: Outgoing>(
     out: &mut O,
 )
     requires cut { AreSizes sizes.now (length messages.now) }
-    requires room { length (O.sent out.old) + length sizes.now ≤ 15 }
+    requires room { length (O.sent out.old) + length sizes.now ≤ O.most out.old }
     ensures messages { O.sent out.new
         ≡ O.sent out.old
         ++ map (λ m. (port, renewed renewal.now.domain renewal.now.port renewal.now.hops m))

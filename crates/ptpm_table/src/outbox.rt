@@ -77,11 +77,15 @@ impl Outgoing for Outbox {
 
     ghost sent = { λ o. o };
 
+    ghost most = { λ o. 15 };
+
     ghost grown = { λ a b. ⊤ };
 
     ghost grown_by_none = { λ a. tt };
 
     ghost grown_twice = { λ a b c first second. tt };
+
+    ghost as_many = { λ a b grown i. 15 };
 
     fn count(&self) -> usize {
         self.count

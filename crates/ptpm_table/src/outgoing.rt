@@ -4,8 +4,8 @@ use crate::renewal::Renewal;
 use ptpm_codec::Envelope;
 
 /// Takes the messages that a call at a clock sends, each with the port that it is sent at. An `Outbox` keeps them; a host can
-/// have them written in the place that it sends them from. Each `push_..` appends one message, if there are fewer than
-/// fifteen: so there are fifteen at most. Contracts see a list of pairs.
+/// have them written in the place that it sends them from. Each `push_..` appends one message, if there are fewer than it takes.
+/// Contracts see a list of pairs.
 pub trait Outgoing {
     ghost use Rattle.std.specs.Prelude.{◌≡◌, ◌<◌, ◌≤◌, ◌-◌, ◌+◌, ◌∷◌, ◌++◌, [], ℕ, List, get_or, length, slice_set};
     ghost use Rattle.ptpm_codec.specs.Canonical.{canonical};
@@ -21,6 +21,9 @@ pub trait Outgoing {
     /// The messages that it has, each with its port.
     ghost sent: { Self → List (ℕ × List ℕ) };
 
+    /// How many messages it takes, with those that it has.
+    ghost most: { Self → ℕ };
+
     /// The second is the first after messages were appended, and nothing else.
     ghost grown: { Self → Self → Type 0 };
 
@@ -35,7 +38,7 @@ pub trait Outgoing {
 
     /// Appends the message of an envelope that answers this dataField, of 1,418 octets at most, from the source port.
     fn push_answer(&mut self, port: u16, envelope: &Envelope, source: u16, octets: &[u8])
-        requires room { length (sent self.old) < 15 }
+        requires room { length (sent self.old) < most self.old }
         requires small { length octets.now ≤ 1418 }
         ensures messages { (v : Message) (action : Action) (id : ℕ) → Fits v →
             envelope.now ≡ envelope_of v action id →
@@ -46,7 +49,7 @@ pub trait Outgoing {
 
     /// Appends the message of an envelope that refuses this id from the source port.
     fn push_refusal(&mut self, port: u16, envelope: &Envelope, source: u16, error: u16, id: u16)
-        requires room { length (sent self.old) < 15 }
+        requires room { length (sent self.old) < most self.old }
         ensures messages { (v : Message) (action : Action) (answered : ℕ) → Fits v →
             envelope.now ≡ envelope_of v action answered →
             sent self.new ≡ sent self.old
@@ -56,7 +59,7 @@ pub trait Outgoing {
 
     /// Appends a well-formed datagram's message for a port, with boundaryHops less by one (15.3.3); they are not 0.
     fn push_less_hop(&mut self, port: u16, datagram: &[u8])
-        requires room { length (sent self.old) < 15 }
+        requires room { length (sent self.old) < most self.old }
         requires well_formed { IsWellFormed datagram.now }
         requires hops { 0 < boundary_hops datagram.now }
         ensures messages { sent self.new
@@ -71,7 +74,7 @@ pub trait Outgoing {
     /// Appends a copy of a kept message, of 54 to 1,472 octets, for a port. What depends on the copy of the request that is
     /// answered is written over.
     fn push_renewed(&mut self, port: u16, message: &[u8], renewal: &Renewal)
-        requires room { length (sent self.old) < 15 }
+        requires room { length (sent self.old) < most self.old }
         requires long { 54 ≤ length message.now }
         requires small { length message.now ≤ 1472 }
         ensures messages { sent self.new
@@ -83,4 +86,6 @@ pub trait Outgoing {
     ghost grown_by_none: { (a : Self) → grown a a };
 
     ghost grown_twice: { (a b c : Self) → grown a b → grown b c → grown a c };
+
+    ghost as_many: { (a b : Self) → grown a b → most b ≡ most a };
 }

@@ -195,9 +195,9 @@ impl<'a, O: Outgoing> Sender<'a, O> {
 impl<O: Outgoing> Answers for Sender<'_, O> {
     ghost use Rattle.std.specs.Prelude.{length};
     ghost use Rattle.ptpm_table.specs.Sending.{HasSent};
-    ghost use Rattle.ptpm_table.specs.SendingLaws.{sent_count, sent_none, sent_twice};
+    ghost use Rattle.ptpm_table.specs.SendingLaws.{sent_as_many, sent_count, sent_none, sent_twice};
 
-    ghost most = { 15 };
+    ghost most = { λ s. O.most s.out.now };
 
     ghost count = { λ s. length (O.sent s.out.now) };
 
@@ -208,6 +208,8 @@ impl<O: Outgoing> Answers for Sender<'_, O> {
     ghost taken_after = { sent_twice O.sent O.grown O.grown_twice };
 
     ghost counted = { sent_count O.sent O.grown };
+
+    ghost as_many = { sent_as_many O.sent O.grown O.most O.as_many };
 
     #[inline(always)]
     fn take_value(&mut self, port: Option<u16>, octets: &[u8]) {

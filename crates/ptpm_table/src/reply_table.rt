@@ -3,7 +3,7 @@
 ghost use Rattle.std.specs.Prelude.{◌≡◌, ◌≤◌, ◌+◌, ◌++◌, IsTrue, OnOk, OnErr, Some, length};
 ghost use Rattle.std.specs.FinMap as fin;
 ghost use Rattle.ptpm_codec.specs.Message.{IsRequestAction, IsDataField};
-ghost use Rattle.ptpm_table.specs.Entries.{CanResend, Entry, FitsRequest, HasEntry, HasRoom, is_known};
+ghost use Rattle.ptpm_table.specs.Entries.{CanResend, Entry, FitsRequest, HasEntry, HasRoom, HaveAnswers, is_known};
 ghost use Rattle.ptpm_table.specs.Numbering.{look_of};
 ghost use Rattle.ptpm_data.specs.Reply.{ReplyValue};
 ghost use Rattle.ptpm_table.specs.Rendering.{rendered};
@@ -100,7 +100,7 @@ pub trait ReplyTable {
     /// them, one for each answer: of its fifteen places, seven and fewer that are taken always leave enough.
     fn resend(&self, heard: &Heard, ingress: u16, out: &mut Outbox)
         requires kept { HasEntry (entries self.now) heard.now.source heard.now.number }
-        requires room { HasRoom (entries self.now) heard.now.source (length out.old) }
+        requires room { HasRoom (entries self.now) heard.now.source (length out.old) 15 }
         ensures { (e : Entry) → fin.get (entries self.now) heard.now.source ≡ Some e →
             out.new ≡ out.old ++ rendered (owner self.now).identity heard.now e.reply ingress };
 }
@@ -142,9 +142,14 @@ pub trait SureTable: ReplyTable {
     /// What `resend` does, wherever the messages go.
     fn send_again<O: Outgoing>(&self, heard: &Heard, ingress: u16, out: &mut O)
         requires kept { HasEntry (Self.entries self.now) heard.now.source heard.now.number }
-        requires room { HasRoom (Self.entries self.now) heard.now.source (length (O.sent out.old)) }
+        requires room { HasRoom (Self.entries self.now) heard.now.source (length (O.sent out.old))
+            (O.most out.old) }
         ensures messages { (e : Entry) → fin.get (Self.entries self.now) heard.now.source ≡ Some e →
             O.sent out.new
             ≡ O.sent out.old ++ rendered (Self.owner self.now).identity heard.now e.reply ingress }
         ensures grown { O.grown out.old out.new };
+
+    /// No kept reply has more than eight answers: a law, and nothing is done.
+    fn eight_answers(&self)
+        ensures { HaveAnswers 8 (fin.entries (Self.entries self.now)) };
 }

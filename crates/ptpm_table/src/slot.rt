@@ -288,7 +288,7 @@ impl Kept {
     pub(crate) fn resend<O: Outgoing>(&self, heard: &Heard, ingress: u16, out: &mut O)
         requires manager { heard.now.source ≡ self.now.manager }
         requires number { heard.now.number ≡ self.now.entry.number }
-        requires room { length (O.sent out.old) + length self.now.entry.reply.answers ≤ 15 }
+        requires room { length (O.sent out.old) + length self.now.entry.reply.answers ≤ O.most out.old }
         ensures messages { O.sent out.new
             ≡ O.sent out.old ++ rendered self.now.clock heard.now self.now.entry.reply ingress }
         ensures grown { O.grown out.old out.new }

@@ -1,4 +1,5 @@
 use Rattle.std.proofs.Common.{arith}
+use Rattle.std.proofs.lemmas.List.{length-map}
 use Rattle.ptpm_agent.proofs.Turns.{forwarded-on, forwarded-not}
 use Rattle.ptpm_agent.proofs.forwarding.forward.Goals as goal
 
@@ -7,3 +8,6 @@ returns-then-is_forwarded-clause-copies g c = grind (arith, forwarded-on)
 
 pub returns-else-is_forwarded-clause-copies : goal.returns-else-is_forwarded-clause-copies
 returns-else-is_forwarded-clause-copies g c = grind (arith, forwarded-not)
+
+pub send_on-requires-clause-room : goal.send_on-requires-clause-room
+send_on-requires-clause-room g c = grind (arith, forwarded-on, length-map)

@@ -1,5 +1,5 @@
-use Rattle.std.proofs.Common.{arith, ◌≡◌, ◌+◌, ◌-◌, length}
-use Rattle.ptpm_agent.proofs.Egress.{copies_up_to, copies_up_to-all, copies_up_to-none, copies_up_to-pass, copies_up_to-skip, length-copies_up_to, length-copies_up_to_but_one}
+use Rattle.std.proofs.Common.{arith, ◌≡◌, ◌∙◌, ◌+◌, ◌-◌, ℕ, List, ap, length, sym}
+use Rattle.ptpm_agent.proofs.Egress.{copies_up_to, copies_up_to-all, copies_up_to-none, copies_up_to-pass, copies_up_to-skip, room_for_copy}
 use Rattle.ptpm_device.proofs.passing.copy_to_others.Goals as goal
 use Rattle.ptpm_device.proofs.passing.copy_to_others.Goals.{then-is_other, else-is_other}
 
@@ -7,17 +7,24 @@ pub loop-port-init : goal.loop-port-init
 loop-port-init g c = grind (arith, copies_up_to-none)
 
 pub push_less_hop-requires-clause-room : goal.push_less_hop-requires-clause-room
-push_less_hop-requires-clause-room g c = grind (arith, length-copies_up_to)
+push_less_hop-requires-clause-room g c =
+    let as_many = g.met.O.Outgoing.as_many c.args.out.now c.loop-port.out c.loop-port.invariant.grown in
+    let here = sym c.is_other.ensures ∙ c.if-is_other.true in
+    let one = room_for_copy c.args.ingress c.args.sets.now c.args.datagram.now c.loop-port.port (g.O.Outgoing.most c.args.out.now)
+    (omega (arith, c.loop-port.auto.port)) (omega (arith, c.loop-port-test.true, c.loop-port.auto.port, c.loop-port.auto.port-end, c.port_count-port-end.ensures)) here c.requires.room in
+    omega (arith, as_many, one, ap (λ (xs : List (ℕ × List ℕ)). length xs) c.loop-port.invariant.copies)
 
 pub loop-port-preserved : goal.loop-port-preserved
 loop-port-preserved g c =
     let next : c.loop-port.port ≡ c.loop-port.port + 1 - 1 = omega arith in
     let more : copies_up_to c.args.ingress c.args.sets.now c.args.datagram.now c.loop-port.port ≡ g.O.Outgoing.sent c.if-is_other.out = grind (arith, copies_up_to-pass, copies_up_to-skip) in
-    let grown : g.O.Outgoing.grown c.args.out.now c.if-is_other.out = grind arith in grind arith
+    let grown : g.O.Outgoing.grown c.args.out.now c.if-is_other.out =
+    elim c.if-is_other.branch [
+      | then-is_other w ↦ rw w.out-is (g.met.O.Outgoing.grown_twice c.args.out.now c.loop-port.out w.push_less_hop.new.self c.loop-port.invariant.grown w.push_less_hop.ensures.grown)
+      | else-is_other w ↦ rw w.out-is c.loop-port.invariant.grown
+    ] in
+    grind arith
 
 pub returns-clause-copies : goal.returns-clause-copies
 returns-clause-copies g c =
     let last : c.loop-port.port - 1 ≡ length c.args.sets.now.ports = omega (arith, c.loop-port-test.false, c.loop-port.auto.port, c.loop-port.auto.port-end, c.port_count-port-end.ensures) in grind (arith, copies_up_to-all)
-
-pub returns-clause-few : goal.returns-clause-few
-returns-clause-few g c = grind (arith, length-copies_up_to_but_one)

@@ -1,8 +1,11 @@
-use Rattle.std.proofs.Common.{◌≡◌, ◌++◌, Some, true, false, sym, ◌∙◌, ap, List, ℕ}
+use Rattle.std.proofs.Common.{arith, ◌≡◌, ◌++◌, Some, true, false, length, refl, sym, ◌∙◌, ap, List, ℕ}
+use Rattle.std.proofs.lemmas.List.{length-append}
 use Rattle.ptpm_codec.specs.Reading.{message_of}
 use Rattle.ptpm_table.specs.Rendering.{rendered}
 use Rattle.ptpm_agent.specs.Addressing.{heard_of, request_of}
 use Rattle.ptpm_agent.specs.Agent.{clock_of, state_of}
+use Rattle.ptpm_agent.specs.Forwarding.{forwarded}
+use Rattle.ptpm_agent.proofs.MostSent.{rendered_count}
 use Rattle.ptpm_agent.proofs.Turns.{message_of-reading}
 use Rattle.ptpm_device.specs.Asking.{is_wanted_once}
 use Rattle.ptpm_device.specs.Saying.{reply_given}
@@ -39,6 +42,38 @@ send_value-requires-clause-lacked g c =
     let state = state_of g.T.ReplyTable.entries c.args.agent.now in
     let yes : is_wanted_once clock state c.in-Ok.message ≡ true = cc in
     wanted_once_lacked clock state c.in-Ok.message yes
+
+pub pass_on-requires-clause-room : goal.pass_on-requires-clause-room
+pass_on-requires-clause-room g c =
+    let clock = clock_of g.T.ReplyTable.owner c.args.agent.now in
+    let state = state_of g.T.ReplyTable.entries c.args.agent.now in
+    let v = c.in-Ok.message in
+    let read : message_of c.args.datagram.now ≡ Some v = message_of-reading c.args.datagram.now v (sym c.view.ensures.exact ∙ c.in-Ok.is) in
+    let yes : is_wanted_once clock state v ≡ true = cc in
+    let copies = forwarded clock.identity c.args.ingress state.sets c.args.datagram.now in
+    let value = rendered clock.identity (heard_of v) (reply_given 1418 (request_of v) c.args.octets.now) c.args.ingress in
+    let turned = turned_once clock state c.args.octets.now c.args.ingress c.args.datagram.now v (copies ++ value) read yes refl in
+    omega (arith, ap (λ (xs : List (ℕ × List ℕ)). length xs) turned.outbox_is, length-append copies value, c.requires.room)
+
+pub send_value-requires-clause-room : goal.send_value-requires-clause-room
+send_value-requires-clause-room g c =
+    let clock = clock_of g.T.ReplyTable.owner c.args.agent.now in
+    let state = state_of g.T.ReplyTable.entries c.args.agent.now in
+    let v = c.in-Ok.message in
+    let read : message_of c.args.datagram.now ≡ Some v = message_of-reading c.args.datagram.now v (sym c.view.ensures.exact ∙ c.in-Ok.is) in
+    let yes : is_wanted_once clock state v ≡ true = cc in
+    let copies = forwarded clock.identity c.args.ingress state.sets c.args.datagram.now in
+    let value = rendered clock.identity (heard_of v) (reply_given 1418 (request_of v) c.args.octets.now) c.args.ingress in
+    let turned = turned_once clock state c.args.octets.now c.args.ingress c.args.datagram.now v (copies ++ value) read yes refl in
+    omega (
+      arith,
+      ap (λ (xs : List (ℕ × List ℕ)). length xs) turned.outbox_is,
+      length-append copies value,
+      rendered_count clock.identity (heard_of v) (reply_given 1418 (request_of v) c.args.octets.now) c.args.ingress,
+      g.met.O.Outgoing.as_many c.args.out.now c.pass_on.new.out c.pass_on.ensures.grown,
+      ap (λ (xs : List (ℕ × List ℕ)). length xs) c.pass_on.ensures.copies,
+      c.requires.room,
+    )
 
 pub returns-clause-turned : goal.returns-clause-turned
 returns-clause-turned g c = λ told.

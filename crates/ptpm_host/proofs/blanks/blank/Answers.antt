@@ -1,4 +1,4 @@
-use Rattle.std.proofs.Common.{◌≡◌, ◌<◌, All, arith, length, refl, subst}
+use Rattle.std.proofs.Common.{◌≡◌, ◌<◌, arith, length, refl, subst}
 use Rattle.std.proofs.lemmas.List.Elements.{All-nil}
 use Rattle.ptpm_host.specs.Blanks.{AreBlanked, IsBlank}
 use Rattle.ptpm_host.proofs.Blanking.{blanked_at_write}

@@ -1,10 +1,53 @@
-use Rattle.std.proofs.Common.{◌≡◌, ◌++◌, ap, refl, sym, ◌∙◌}
+use Rattle.std.proofs.Common.{arith, ◌≡◌, ◌++◌, List, ap, length, refl, sym, ◌∙◌, ℕ}
 use Rattle.std.specs.FinMap.{get}
 use Rattle.ptpm_table.specs.Rendering.{rendered}
 use Rattle.ptpm_table.specs.declared.heard.Heard.{Heard}
 use Rattle.ptpm_agent.specs.Agent.{state_of}
 use Rattle.ptpm_agent.proofs.Turns.{turned_new, turned_other, turned_refused, turned_repeat}
+use Rattle.ptpm_codec.specs.declared.identity.PortIdentity.{PortIdentity}
+use Rattle.ptpm_agent.specs.Addressing.{heard_of}
+use Rattle.ptpm_agent.specs.Forwarding.{forwarded}
+use Rattle.ptpm_agent.specs.Turn.{carried_out, new_reply, reply_by, reply_messages}
+use Rattle.ptpm_agent.proofs.MostSent.{rendered_count}
 use Rattle.ptpm_agent.proofs.agent.Agent.handle_into.Goals as goal
+
+pub accept-requires-clause-room : goal.accept-requires-clause-room
+accept-requires-clause-room g c =
+    let clock = g.T.ReplyTable.owner c.args.self.now.table in
+    let state = state_of g.T.ReplyTable.entries c.args.self.now in
+    let v = c.in-Ok.message in
+    let replies = rendered clock.identity (heard_of v) (new_reply clock state v) c.args.ingress in
+    let turned = turned_new clock state c.args.ingress c.args.datagram.now v c.judge-verdict.result.0 replies (carried_out clock state v)
+    (sym c.view.ensures.exact ∙ c.in-Ok.is) c.judge-verdict.ensures.verdict c.in-AnsweredNew.is refl refl in
+    omega (arith, ap (λ (xs : List (ℕ × List ℕ)). length xs) turned.outbox_is, rendered_count clock.identity (heard_of v) (new_reply clock state v) c.args.ingress, c.requires.room)
+
+pub send_again-requires-clause-room : goal.send_again-requires-clause-room
+send_again-requires-clause-room g c = λ e is.
+    let clock = g.T.ReplyTable.owner c.args.self.now.table in
+    let state = state_of g.T.ReplyTable.entries c.args.self.now in
+    let v = c.in-Ok.message in
+    let source : c.heard_of.result.source ≡ v.source = ap (λ (h : Heard). h.source) c.heard_of.ensures in
+    let here = ap (λ (who : PortIdentity). get state.entries who) (sym source) ∙ is in
+    let turned = turned_repeat clock state c.args.ingress c.args.datagram.now v c.judge-verdict.result.0 (rendered clock.identity (heard_of v) e.reply c.args.ingress) state e
+    (sym c.view.ensures.exact ∙ c.in-Ok.is) c.judge-verdict.ensures.verdict c.in-AnsweredRepeat.is here refl refl in
+    omega (
+      arith,
+      ap (λ (xs : List (ℕ × List ℕ)). length xs) c.requires.empty,
+      ap (λ (xs : List (ℕ × List ℕ)). length xs) turned.outbox_is,
+      rendered_count clock.identity (heard_of v) e.reply c.args.ingress,
+      c.requires.room,
+    )
+
+pub answer-requires-clause-room : goal.answer-requires-clause-room
+answer-requires-clause-room g c =
+    let clock = g.T.ReplyTable.owner c.args.self.now.table in
+    let state = state_of g.T.ReplyTable.entries c.args.self.now in
+    let v = c.in-Ok.message in
+    let sent = forwarded clock.identity c.args.ingress c.args.self.now.sets c.args.datagram.now
+    ++ reply_messages clock c.args.ingress (heard_of v) (reply_by c.judge-verdict.result.0 clock state v) in
+    let turned = turned_other clock state c.args.ingress c.args.datagram.now v c.judge-verdict.result.0 sent state
+    (sym c.view.ensures.exact ∙ c.in-Ok.is) c.judge-verdict.ensures.verdict c.in_default.not-AnsweredNew refl refl in
+    omega (arith, ap (λ (xs : List (ℕ × List ℕ)). length xs) turned.outbox_is, c.requires.room)
 
 pub returns-in-Err-clause-turned : goal.returns-in-Err-clause-turned
 returns-in-Err-clause-turned g c =

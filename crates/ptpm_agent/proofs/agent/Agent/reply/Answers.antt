@@ -1,12 +1,13 @@
-use Rattle.std.proofs.Common.{arith, ◌≡◌, ◌++◌, ◌∙◌, ap, rules, sym}
+use Rattle.std.proofs.Common.{arith, ◌≡◌, ◌++◌, ◌∙◌, ap, length, rules, sym}
 use Rattle.ptpm_codec.specs.Message.{reply_action}
 use Rattle.ptpm_data.specs.Replies.{read_reply_to}
 use Rattle.ptpm_data.proofs.Answering.{read_reply_to-parts}
 use Rattle.ptpm_table.specs.Rendering.{rendered}
-use Rattle.ptpm_agent.specs.Addressing.{heard_of}
+use Rattle.ptpm_agent.specs.Addressing.{heard_of, request_of}
 use Rattle.ptpm_agent.specs.Agent.{state_of}
 use Rattle.ptpm_agent.specs.Turn.{reply_by, reply_messages}
 use Rattle.ptpm_agent.specs.declared.verdict.Verdict.{Verdict}
+use Rattle.ptpm_agent.proofs.MostSent.{rendered_count}
 use Rattle.ptpm_agent.proofs.SentReplies.{sent_rendered}
 use Rattle.ptpm_agent.proofs.Turns.{unnumbered_parts}
 use Rattle.ptpm_agent.proofs.agent.Agent.reply.Goals as goal
@@ -16,6 +17,25 @@ read_into-requires-clause-action g c = grind (arith, unnumbered_parts)
 
 pub read_into-requires-clause-port : goal.read_into-requires-clause-port
 read_into-requires-clause-port g c = grind (arith, unnumbered_parts)
+
+pub read_into-requires-clause-room : goal.read_into-requires-clause-room
+read_into-requires-clause-room g c =
+    let clock = g.T.ReplyTable.owner c.args.self.now.table in
+    let state = state_of g.T.ReplyTable.entries c.args.self.now in
+    let v = c.args.message.now in
+    let sets = c.args.self.now.sets in
+    let reply = λ (w : Verdict). length (reply_messages clock c.args.ingress (heard_of v) (reply_by w clock state v)) in
+    omega (
+      arith,
+      ap reply c.in-AnsweredUnnumbered.is,
+      rendered_count clock.identity (heard_of v) (read_reply_to (request_of v) sets) c.args.ingress,
+      ap (λ q. length (read_reply_to q sets).answers) c.request_of-request.ensures,
+      ap (λ r. length (g.O.Outgoing.sent r.now)) c.address.ensures.place,
+      ap (λ o. length (g.O.Outgoing.sent o)) c.new-sender.ensures.held,
+      ap (λ r. g.O.Outgoing.most r.now) c.address.ensures.place,
+      ap g.O.Outgoing.most c.new-sender.ensures.held,
+      c.requires.room,
+    )
 
 pub returns-in-AnsweredUnnumbered-clause-sent : goal.returns-in-AnsweredUnnumbered-clause-sent
 returns-in-AnsweredUnnumbered-clause-sent g c =

@@ -4,6 +4,7 @@ use Rattle.ptpm_table.specs.Rendering.{rendered}
 use Rattle.ptpm_table.specs.declared.heard.Heard.{Heard}
 use Rattle.ptpm_agent.specs.Agent.{state_of}
 use Rattle.ptpm_agent.specs.Addressing.{heard_of}
+use Rattle.ptpm_agent.proofs.MostSent.{verdict_few}
 use Rattle.ptpm_agent.proofs.Turns.{turned_new, turned_other, turned_refused, turned_repeat}
 use Rattle.ptpm_agent.proofs.agent.Agent.try_handle.Goals as goal
 
@@ -45,3 +46,10 @@ returns-in_default-clause-turned g c =
 
 pub returns-in_err-reply-in-AnsweredNew-clause-only_new : goal.returns-in_err-reply-in-AnsweredNew-clause-only_new
 returns-in_err-reply-in-AnsweredNew-clause-only_new g c = grind arith
+
+pub answer-requires-clause-room : goal.answer-requires-clause-room
+answer-requires-clause-room g c =
+    let sized = c.data_sets_law.ensures.sized in
+    verdict_few (g.T.ReplyTable.owner c.args.self.now.table) (state_of g.T.ReplyTable.entries c.args.self.now) c.args.ingress c.args.datagram.now 15
+    sized c.requires.port (omega (arith, sized.at_most_eight)) c.in-Ok.message c.judge-verdict.result.0
+    (sym c.view.ensures.exact ∙ c.in-Ok.is) (sym c.judge-verdict.ensures.verdict) (λ repeat. absurd (c.in_default.not-AnsweredRepeat repeat))

@@ -1,4 +1,4 @@
-use Rattle.std.proofs.Common.{◌≡◌, Ok, ap, subst, sym, take}
+use Rattle.std.proofs.Common.{◌≡◌, ◌≤◌, Ok, ap, arith, length, rules, subst, sym, take}
 use Rattle.ptpm_agent.specs.Agent.{IsTurned}
 use Rattle.ptpm_agent.specs.Turn.{Turned}
 use Rattle.ptpm_device.specs.Saying as says
@@ -6,6 +6,11 @@ use Rattle.ptpm_device.specs.Saying.{turn_said}
 use Rattle.ptpm_device.proofs.Steps.{turn_said-silent}
 use Rattle.ptpm_host.specs.Clock.{clock_in, messages_in, state_in}
 use Rattle.ptpm_host.specs.Device.{said_value, say_in}
+use Rattle.std.proofs.lemmas.Bool.Decides.{nat_tests}
+use Rattle.std.proofs.lemmas.Grind.{common_steps}
+use Rattle.ptpm_data.specs.Members.{HasPort}
+use Rattle.ptpm_host.specs.MostSent.{most_sent}
+use Rattle.ptpm_host.proofs.MostSent.{sends_no_more, sends_no_more_alone}
 use Rattle.ptpm_host.proofs.clock.HostedClock.handle_said.Goals as goal
 
 -- a clock whose device says nothing takes its own turn
@@ -20,3 +25,21 @@ returns-in-Agrees-clause-turned c = λ o is.
     (state_in c.take_turn.new.self))
     (sym (turn_said-silent (clock_in c.args.self.now) (state_in c.args.self.now) c.args.port c.args.datagram.now))
     c.take_turn.ensures.turned)
+
+pub take_turn-requires-clause-room : goal.take_turn-requires-clause-room
+take_turn-requires-clause-room c =
+    let port : HasPort c.args.port c.args.self.now.agent.sets = first_of (search rules, grind (arith, common_steps)) in
+    let room : most_sent (state_in c.args.self.now) ≤ length c.args.room.now = grind (arith, nat_tests) in
+    omega (arith, sends_no_more_alone (clock_in c.args.self.now) (state_in c.args.self.now) c.args.port c.args.datagram.now c.sent_law.ensures.sized port, room)
+
+pub take_objection-requires-clause-room : goal.take_objection-requires-clause-room
+take_objection-requires-clause-room c =
+    let port : HasPort c.args.port c.args.self.now.agent.sets = first_of (search rules, grind (arith, common_steps)) in
+    let room : most_sent (state_in c.args.self.now) ≤ length c.args.room.now = grind (arith, nat_tests) in
+    omega (arith, sends_no_more (clock_in c.args.self.now) (state_in c.args.self.now) (says.Objects c.in-Objects.error) c.args.port c.args.datagram.now c.sent_law.ensures.sized port, room)
+
+pub take_value-requires-clause-room : goal.take_value-requires-clause-room
+take_value-requires-clause-room c =
+    let port : HasPort c.args.port c.args.self.now.agent.sets = first_of (search rules, grind (arith, common_steps)) in
+    let room : most_sent (state_in c.args.self.now) ≤ length c.args.room.now = grind (arith, nat_tests) in
+    omega (arith, sends_no_more (clock_in c.args.self.now) (state_in c.args.self.now) (says.Gives c.in-Gives.octets.now) c.args.port c.args.datagram.now c.sent_law.ensures.sized port, room)

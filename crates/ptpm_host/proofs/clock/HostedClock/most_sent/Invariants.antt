@@ -1,11 +1,7 @@
-use Rattle.std.proofs.Common.{◌≤◌, ◌*◌, ◌-◌, ℕ, length, take}
-use Rattle.ptpm_host.specs.MostSent.{HaveAnswers}
+use Rattle.std.proofs.Common.{◌≡◌, ◌*◌, ◌-◌, length, max, take}
+use Rattle.ptpm_host.specs.MostSent.{most_answers}
 use Rattle.ptpm_host.proofs.clock.HostedClock.most_sent.Given as goal
 
--- it is the least number for the entries so far, and none that is enough for all is less
+-- it is the number for the entries so far
 abbrev pub invariant-loop-place : goal.invariant-loop-place
-invariant-loop-place l = record {
-  ports : 2 * length l.self.agent.sets.ports - 1 ≤ l.most;
-  kept : HaveAnswers l.most (take l.place l.entries);
-  least : (n : ℕ) → 2 * length l.self.agent.sets.ports - 1 ≤ n → HaveAnswers n l.entries → l.most ≤ n;
-}
+invariant-loop-place l = l.most ≡ max (2 * length l.self.agent.sets.ports - 1) (most_answers (take l.place l.entries))
