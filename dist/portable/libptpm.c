@@ -895,7 +895,7 @@ static void f69(address a0, address a1, address a2, u64 a3);
 static void f70(address a0, address a1, address a2, u64 a3, u16 a4, u8 a5);
 static u32 f71(address a0, u16 a1, address a2, u64 a3, address a4, u64 a5, address a6);
 static u32 f72(address a0, u16 a1, address a2, u64 a3, address a4, u64 a5, address a6);
-static u32 f73(address a0, u16 a1, address a2, u64 a3, address a4, u64 a5, address a6);
+static u32 f73(address a0, u16 a1, address a2, u64 a3, u8 a4, address a5, u64 a6, address a7);
 static void f74(address a0, address a1, u16 a2, address a3, u64 a4, address a5, u64 a6);
 static u8 f75(address a0, address a1);
 static u8 f76(address a0, address a1);
@@ -911,7 +911,7 @@ static void f85(address a0, u64 a1, address a2, address a3, u16 a4, address a5);
 static void f86(address a0, u8 a1, u16 a2, address a3, address a4, address a5);
 static void f87(address a0, u16 a1, address a2, address a3);
 static void f88(address a0, address a1, address a2);
-static u32 f89(address a0, u16 a1, address a2, u64 a3, address a4, u64 a5, address a6, address a7);
+static u32 f89(address a0, u16 a1, address a2, u64 a3, u8 a4, address a5, u64 a6, address a7, address a8);
 static void f90(address a0, address a1, address a2);
 static u32 f91(address a0, address a1, address a2, u64 a3, address a4);
 static void f92(address a0, address a1, address a2, address a3, u64 a4);
@@ -16196,7 +16196,7 @@ L2:;
     memory_set(v17, 0u, 7u);
     v7 = 32u; goto L4;
 L3:;
-    v19 = f73(v16, a1, a2, a3, a4, a5, a6);
+    v19 = f73(v16, a1, a2, a3, 0u, a4, a5, a6);
     store64(v8, 4u);
     store_address(v13, v16);
     store_address(a0, v8);
@@ -16207,451 +16207,522 @@ L4:;
     return v7;
 }
 
-static u32 f73(address a0, u16 a1, address a2, u64 a3, address a4, u64 a5, address a6) {
-    u32 v7, v33, v75, v76, v78;
-    address v8, v9, v10, v14, v15, v19, v22, v24, v26, v29, v36, v37, v38, v40, v42, v44;
-    address v50, v52, v58, v60, v62, v63, v64, v65, v66, v67, v68, v69, v70;
-    u8 v11, v12, v13, v18, v20, v21, v23, v25, v28, v30, v31, v32, v34, v35, v39, v43;
-    u8 v45, v51, v53, v59, v61, v73, v77;
-    u64 v16, v27, v41, v71, v72, v74;
-    u16 v17, v46, v47, v48, v49, v54, v55, v56, v57;
-    u64 block0[3];
+static u32 f73(address a0, u16 a1, address a2, u64 a3, u8 a4, address a5, u64 a6, address a7) {
+    u64 v8, v9, v10, v11, v19, v20, v21, v22, v24, v30, v31, v34, v35, v36, v40, v51;
+    u64 v60, v90, v91, v93;
+    u32 v12, v94, v95;
+    address v13, v14, v15, v16, v17, v18, v23, v26, v27, v28, v32, v33, v39, v44, v48, v50;
+    address v55, v56, v57, v59, v61, v63, v69, v71, v77, v79, v81, v82, v83, v84, v85, v86;
+    address v87, v88, v89;
+    u8 v25, v29, v37, v38, v42, v43, v45, v46, v47, v49, v52, v53, v54, v58, v62, v64;
+    u8 v70, v72, v78, v80, v92;
+    u16 v41, v65, v66, v67, v68, v73, v74, v75, v76;
+    u64 block0[2];
     u64 block1[4];
-    v8 = ADDRESS(block0);
-    v9 = ADDRESS(block1);
-    store64(a6, 0u);
-    memory_set(v8, 0u, 24u);
-    memory_set(v9, 0u, 32u);
-    v10 = a0 + 16u * 1u;
-    v11 = load8(v10);
-    v12 = v11 == 0u;
-    if (v12) { goto L4; }
-    else { goto L1; }
+    u64 block2[5];
+    v13 = ADDRESS(block0);
+    v14 = ADDRESS(block1);
+    v15 = ADDRESS(block2);
+    store64(a7, 0u);
+    v16 = load_address(a0);
+    if (a4) { goto L1; }
+    else { v11 = 15u; goto L5; }
 L1:;
-    v13 = a1 == 0u;
-    if (v13) { goto L3; }
+    memory_set(v15, 0u, 40u);
+    v17 = v16 + 440u * 1u;
+    f7(v15, v17);
+    v18 = v16 + 432u * 1u;
+    v19 = load64(v18);
+    v20 = (u64)((u64)v19 << (1u & 63u));
+    v21 = (u64)((u64)v20 & (u64)UINT64_C(131070));
+    v22 = (u64)((u64)v21 + (u64)UINT64_C(18446744073709551615));
+    v23 = v15 + 32u * 1u;
+    v24 = load64(v23);
+    v25 = v24 == 0u;
+    if (v25) { v10 = v22; goto L4; }
     else { goto L2; }
 L2:;
-    v14 = load_address(a0);
-    v15 = v14 + 432u * 1u;
-    v16 = load64(v15);
-    v17 = (u16)(v16);
-    v18 = a1 > v17;
-    if (v18) { goto L3; }
-    else { goto L22; }
+    v26 = v15 + 16u * 1u;
+    v27 = load_address(v15);
+    v8 = v22; v9 = 0u; goto L3;
 L3:;
-    v7 = 33u; goto L23;
+    v28 = v26 + v9 * 1u;
+    v29 = load8(v28);
+    v30 = (u64)v29;
+    v31 = (u64)((u64)v30 * (u64)2136u);
+    v32 = v27 + v31 * 1u;
+    v33 = v32 + 1440u * 1u;
+    v34 = load64(v33);
+    v35 = v8 > v34 ? v8 : v34;
+    v36 = (u64)((u64)v9 + (u64)1u);
+    v37 = v36 == v24;
+    if (v37) { v10 = v35; goto L4; }
+    else { v8 = v35; v9 = v36; goto L3; }
 L4:;
-    v19 = load_address(a0);
-    f74(v8, v19, a1, a2, a3, a4, a5);
-    v20 = load8(v8);
-    v21 = v20 == 0u;
-    if (v21) { goto L5; }
-    else { goto L6; }
+    v11 = v10; goto L5;
 L5:;
-    v22 = v8 + 8u * 1u;
-    v23 = load8(v22);
-    v24 = v8 + 9u * 1u;
-    v25 = load8(v24);
-    v26 = v8 + 16u * 1u;
-    v27 = load64(v26);
-    v28 = v23 == 5u;
-    if (v28) { goto L7; }
-    else { goto L12; }
+    memory_set(v13, 0u, 16u);
+    memory_set(v14, 0u, 32u);
+    v38 = a1 == 0u;
+    if (v38) { goto L27; }
+    else { goto L6; }
 L6:;
-    v29 = v8 + 1u * 1u;
-    v30 = load8(v29);
-    v31 = v30;
-    v32 = v31 == 0u;
-    v33 = v32 ? 33u : 34u;
-    v7 = v33; goto L23;
+    v39 = v16 + 432u * 1u;
+    v40 = load64(v39);
+    v41 = (u16)(v40);
+    v42 = a1 > v41;
+    if (v42) { goto L27; }
+    else { goto L7; }
 L7:;
-    f8(v9, a2, a3);
-    v34 = load8(v9);
-    v35 = v34 == 0u;
-    if (v35) { goto L8; }
-    else { goto L10; }
+    v43 = a6 < v11;
+    if (v43) { goto L26; }
+    else { goto L8; }
 L8:;
-    v36 = v9 + 8u * 1u;
-    v37 = load_address(v36);
-    v38 = v37 + 4u * 1u;
-    v39 = load8(v38);
-    v40 = v37 + 20u * 1u;
-    v41 = load64(v40);
-    v42 = v37 + 28u * 1u;
-    v43 = load8(v42);
-    v44 = v37 + 29u * 1u;
+    v44 = a0 + 16u * 1u;
     v45 = load8(v44);
-    v46 = (u16)v43;
-    v47 = (u16)((u32)v46 << (8u & 15u));
-    v48 = (u16)v45;
-    v49 = (u16)((u32)v47 | (u32)v48);
-    v50 = v37 + 30u * 1u;
-    v51 = load8(v50);
-    v52 = v37 + 31u * 1u;
-    v53 = load8(v52);
-    v54 = (u16)v51;
-    v55 = (u16)((u32)v54 << (8u & 15u));
-    v56 = (u16)v53;
-    v57 = (u16)((u32)v55 | (u32)v56);
-    v58 = v37 + 44u * 1u;
-    v59 = load8(v58);
-    v60 = v37 + 45u * 1u;
-    v61 = load8(v60);
-    store16(v10, 2u);
-    v62 = a0 + 18u * 1u;
-    store8(v62, v39);
-    v63 = a0 + 19u * 1u;
-    store8(v63, 0u);
-    v64 = a0 + 20u * 1u;
-    store64(v64, v41);
-    v65 = a0 + 28u * 1u;
-    store16(v65, v49);
-    v66 = a0 + 30u * 1u;
-    store16(v66, v57);
-    v67 = a0 + 32u * 1u;
-    store8(v67, v59);
-    v68 = a0 + 33u * 1u;
-    store8(v68, v61);
-    v69 = a0 + 34u * 1u;
-    store16(v69, a1);
-    v70 = a0 + 8u * 1u;
-    v71 = load64(v70);
-    v72 = (u64)((u64)v71 + (u64)1u);
-    store64(v70, v72);
-    v73 = v27 == 0u;
-    if (v73) { goto L11; }
-    else { goto L9; }
+    v46 = v45 == 0u;
+    if (v46) { goto L9; }
+    else { goto L25; }
 L9:;
-    v74 = (u64)((u64)v27 * (u64)1476u);
-    memory_set(a4, 0u, v74);
-    goto L11;
+    f74(v13, v16, a1, a2, a3, a5, a6);
+    v47 = load8(v13);
+    v48 = v13 + 1u * 1u;
+    v49 = load8(v48);
+    v50 = v13 + 8u * 1u;
+    v51 = load64(v50);
+    v52 = v47 == 5u;
+    if (v52) { goto L10; }
+    else { goto L15; }
 L10:;
-    TRAP;
-    UNREACHABLE;
+    f8(v14, a2, a3);
+    v53 = load8(v14);
+    v54 = v53 == 0u;
+    if (v54) { goto L11; }
+    else { goto L13; }
 L11:;
-    store64(a6, 0u);
-    v7 = 5u; goto L23;
-L12:;
-    store64(a6, v27);
-    switch (v23) {
-    case 0u: goto L13;
-    case 9u: goto L20;
-    case 1u: v7 = 1u; goto L23;
-    case 2u: goto L14;
-    case 3u: goto L15;
-    case 4u: goto L16;
-    case 8u: goto L19;
-    case 6u: goto L17;
-    case 7u: goto L18;
-    default: goto L21;
-    }
-L13:;
-    v75 = (u32)v25;
-    v76 = (u32)((u32)v75 + (u32)16u);
-    v7 = v76; goto L23;
-L14:;
-    v7 = 2u; goto L23;
-L15:;
-    v7 = 3u; goto L23;
-L16:;
-    v7 = 4u; goto L23;
-L17:;
-    v7 = 6u; goto L23;
-L18:;
-    v7 = 7u; goto L23;
-L19:;
-    v7 = 8u; goto L23;
-L20:;
-    v7 = 9u; goto L23;
-L21:;
-    UNREACHABLE;
-L22:;
-    v77 = a5 < 15u;
-    v78 = v77 ? 34u : 118u;
-    v7 = v78; goto L23;
-L23:;
-    return v7;
-}
-
-static void f74(address a0, address a1, u16 a2, address a3, u64 a4, address a5, u64 a6) {
-    u16 v7, v28, v55, v56, v57, v58, v65, v66, v67, v79, v82, v83, v84, v90, v91, v92;
-    u16 v93, v109, v110, v111, v112, v113, v137, v147, v148;
-    u64 v8, v10, v18, v27, v50, v60, v69, v75, v97, v98, v104, v106, v108, v130, v135, v140;
-    u64 v155, v157;
-    address v9, v19, v20, v21, v22, v23, v24, v26, v31, v32, v35, v36, v39, v43, v45, v49;
-    address v51, v53, v59, v61, v63, v68, v72, v74, v77, v80, v85, v86, v88, v94, v99, v101;
-    address v103, v105, v107, v114, v115, v116, v117, v118, v119, v122, v125, v127, v129, v132, v133, v134;
-    address v136, v139, v143, v150, v151, v152, v153, v154, v156, v158, v159, v160, v161;
-    u8 v11, v12, v13, v14, v15, v16, v17, v25, v29, v30, v33, v34, v37, v38, v40, v41;
-    u8 v42, v44, v46, v47, v48, v52, v54, v62, v64, v70, v71, v73, v76, v78, v81, v87;
-    u8 v89, v95, v96, v100, v102, v121, v123, v124, v126, v128, v131, v138, v141, v142, v144, v145;
-    u8 v146, v149;
-    struct s2 v120;
-    u64 block0[1];
-    u64 block1[2];
-    u64 block2[3];
-    u64 block3[3];
-    u64 block4[4];
-    u64 block5[3];
-    v19 = ADDRESS(block0);
-    v20 = ADDRESS(block1);
-    v21 = ADDRESS(block2);
-    v22 = ADDRESS(block3);
-    v23 = ADDRESS(block4);
-    v24 = ADDRESS(block5);
-    v25 = a2 == 0u;
-    if (v25) { v14 = 1u; v15 = 0u; v16 = 0u; v17 = 0u; v18 = 0u; goto L29; }
-    else { goto L1; }
-L1:;
-    v26 = a1 + 432u * 1u;
-    v27 = load64(v26);
-    v28 = (u16)(v27);
-    v29 = a2 > v28;
-    if (v29) { v14 = 1u; v15 = 0u; v16 = 0u; v17 = 0u; v18 = 0u; goto L29; }
-    else { goto L2; }
-L2:;
-    v30 = a6 < 15u;
-    if (v30) { v14 = 1u; v15 = 1u; v16 = 0u; v17 = 0u; v18 = 0u; goto L29; }
-    else { goto L3; }
-L3:;
-    store_address(v24, a5);
-    v31 = v24 + 8u * 1u;
-    store64(v31, a6);
-    v32 = v24 + 16u * 1u;
-    store64(v32, 0u);
-    memory_set(v23, 0u, 32u);
-    f8(v23, a3, a4);
-    v33 = load8(v23);
-    v34 = v33 == 0u;
-    if (v34) { goto L4; }
-    else { goto L18; }
-L4:;
-    v35 = v23 + 8u * 1u;
-    memory_cpy(v22, v35, 24u);
-    v36 = load_address(v22);
-    v37 = load8(v36);
-    v38 = (u8)((u32)v37 >> (4u & 7u));
-    v39 = v36 + 5u * 1u;
-    v40 = load8(v39);
-    v41 = (u8)((u32)v38 | (u32)v40);
-    v42 = v41 == 0u;
-    if (v42) { goto L5; }
-    else { v11 = 1u; goto L27; }
-L5:;
-    v43 = v36 + 4u * 1u;
-    v44 = load8(v43);
-    v45 = a1 + 8u * 1u;
-    v46 = load8(v45);
-    v47 = v44 == v46;
-    if (v47) { goto L8; }
-    else { goto L6; }
-L6:;
-    v48 = f75(a1, v22);
-    if (v48) { goto L7; }
-    else { v11 = 1u; goto L27; }
-L7:;
-    v49 = v36 + 20u * 1u;
-    v50 = load64(v49);
-    v51 = v36 + 28u * 1u;
-    v52 = load8(v51);
-    v53 = v36 + 29u * 1u;
-    v54 = load8(v53);
-    v55 = (u16)v52;
-    v56 = (u16)((u32)v55 << (8u & 15u));
-    v57 = (u16)v54;
-    v58 = (u16)((u32)v56 | (u32)v57);
-    v7 = v58; v8 = v50; goto L20;
-L8:;
-    v59 = v36 + 20u * 1u;
+    v55 = v14 + 8u * 1u;
+    v56 = load_address(v55);
+    v57 = v56 + 4u * 1u;
+    v58 = load8(v57);
+    v59 = v56 + 20u * 1u;
     v60 = load64(v59);
-    v61 = v36 + 28u * 1u;
+    v61 = v56 + 28u * 1u;
     v62 = load8(v61);
-    v63 = v36 + 29u * 1u;
+    v63 = v56 + 29u * 1u;
     v64 = load8(v63);
     v65 = (u16)v62;
     v66 = (u16)((u32)v65 << (8u & 15u));
     v67 = (u16)v64;
-    v68 = a1 + 440u * 1u;
-    v69 = load64(v68);
-    v70 = v60 == v69;
-    if (v70) { v11 = 2u; goto L27; }
-    else { goto L9; }
-L9:;
-    v71 = f76(a1, v22);
-    if (v71) { goto L10; }
-    else { v11 = 3u; goto L27; }
-L10:;
-    v72 = v22 + 16u * 1u;
-    v73 = load8(v72);
-    switch (v73) {
-    case 2u: v11 = 4u; goto L27;
-    case 4u: v11 = 4u; goto L27;
-    case 0u: goto L12;
-    case 1u: goto L12;
-    case 3u: goto L12;
-    default: goto L11;
-    }
-L11:;
-    UNREACHABLE;
-L12:;
-    v74 = v36 + 34u * 1u;
-    v75 = load64(v74);
-    v76 = v75 == v69;
-    if (v76) { goto L14; }
-    else { goto L13; }
-L13:;
-    v11 = 9u; goto L27;
-L14:;
-    v77 = v36 + 43u * 1u;
+    v68 = (u16)((u32)v66 | (u32)v67);
+    v69 = v56 + 30u * 1u;
+    v70 = load8(v69);
+    v71 = v56 + 31u * 1u;
+    v72 = load8(v71);
+    v73 = (u16)v70;
+    v74 = (u16)((u32)v73 << (8u & 15u));
+    v75 = (u16)v72;
+    v76 = (u16)((u32)v74 | (u32)v75);
+    v77 = v56 + 44u * 1u;
     v78 = load8(v77);
-    v79 = (u16)v78;
-    v80 = v36 + 42u * 1u;
-    v81 = load8(v80);
-    v82 = (u16)v81;
-    v83 = (u16)((u32)v82 << (8u & 15u));
-    v84 = (u16)((u32)v66 | (u32)v67);
-    store64(v20, v60);
-    v85 = v20 + 8u * 1u;
-    store16(v85, v84);
-    v86 = v36 + 30u * 1u;
-    v87 = load8(v86);
-    v88 = v36 + 31u * 1u;
-    v89 = load8(v88);
-    v90 = (u16)v87;
-    v91 = (u16)((u32)v90 << (8u & 15u));
-    v92 = (u16)v89;
-    v93 = (u16)((u32)v91 | (u32)v92);
-    v94 = v22 + 17u * 1u;
-    v95 = load8(v94);
-    v96 = v95 == 0u;
-    v97 = v96 ? 52u : 54u;
-    v98 = v96 ? 53u : 55u;
-    v99 = v36 + v97 * 1u;
-    v100 = load8(v99);
-    v101 = v36 + v98 * 1u;
-    v102 = load8(v101);
-    v103 = v22 + 8u * 1u;
-    v104 = load64(v103);
-    v105 = v36 + 54u * 1u;
-    v106 = (u64)((u64)v104 + (u64)UINT64_C(18446744073709551562));
-    v107 = v96 ? v105 : ADDRESS(c112);
-    v108 = v96 ? v106 : 0u;
-    v109 = (u16)((u32)v83 | (u32)v79);
-    v110 = (u16)v100;
-    v111 = (u16)((u32)v110 << (8u & 15u));
-    v112 = (u16)v102;
-    v113 = (u16)((u32)v111 | (u32)v112);
-    store8(v21, v73);
-    v114 = v21 + 1u * 1u;
-    store8(v114, 0u);
-    v115 = v21 + 2u * 1u;
-    store16(v115, v113);
-    v116 = v21 + 4u * 1u;
-    store16(v116, v109);
-    v117 = v21 + 6u * 1u;
-    store16(v117, 0u);
-    v118 = v21 + 8u * 1u;
-    store_address(v118, v107);
-    v119 = v21 + 16u * 1u;
-    store64(v119, v108);
-    v120 = f55(v68, v20, v93, v21);
-    v121 = v120.m0;
-    switch (v121) {
-    case 0u: v11 = 9u; goto L27;
-    case 1u: goto L19;
-    case 2u: v7 = v84; v8 = v60; goto L20;
-    case 3u: goto L15;
-    case 4u: goto L16;
-    default: goto L17;
-    }
-L15:;
-    v11 = 8u; goto L27;
-L16:;
-    v11 = 7u; goto L27;
-L17:;
-    UNREACHABLE;
-L18:;
-    v122 = v23 + 1u * 1u;
-    v123 = load8(v122);
-    v12 = v123; v13 = 0u; goto L28;
-L19:;
-    v124 = v120.m1;
-    f77(a1, a2, v35, v124, v24);
-    v12 = 0u; v13 = 5u; goto L28;
-L20:;
-    v125 = v36 + 44u * 1u;
-    v126 = load8(v125);
-    v127 = v36 + 45u * 1u;
-    v128 = load8(v127);
-    v129 = a1 + 456u * 1u;
-    v130 = load64(v129);
-    v131 = v130 == 0u;
-    if (v131) { goto L25; }
-    else { goto L21; }
-L21:;
-    v132 = a1 + 448u * 1u;
-    v133 = load_address(v132);
-    v9 = v133; v10 = v130; goto L22;
-L22:;
-    v134 = v9 + 2136u * 1u;
-    v135 = (u64)((u64)v10 + (u64)UINT64_C(18446744073709551615));
-    v136 = v9 + 2112u * 1u;
-    v137 = load16(v136);
-    v138 = v7 == v137;
-    if (v138) { goto L23; }
-    else { goto L24; }
-L23:;
-    v139 = v9 + 2104u * 1u;
-    v140 = load64(v139);
-    v141 = v8 == v140;
-    if (v141) { goto L26; }
-    else { goto L24; }
-L24:;
-    v142 = v135 == 0u;
-    if (v142) { goto L25; }
-    else { v9 = v134; v10 = v135; goto L22; }
-L25:;
+    v79 = v56 + 45u * 1u;
+    v80 = load8(v79);
+    store16(v44, 2u);
+    v81 = a0 + 18u * 1u;
+    store8(v81, v58);
+    v82 = a0 + 19u * 1u;
+    store8(v82, 0u);
+    v83 = a0 + 20u * 1u;
+    store64(v83, v60);
+    v84 = a0 + 28u * 1u;
+    store16(v84, v68);
+    v85 = a0 + 30u * 1u;
+    store16(v85, v76);
+    v86 = a0 + 32u * 1u;
+    store8(v86, v78);
+    v87 = a0 + 33u * 1u;
+    store8(v87, v80);
+    v88 = a0 + 34u * 1u;
+    store16(v88, a1);
+    v89 = a0 + 8u * 1u;
+    v90 = load64(v89);
+    v91 = (u64)((u64)v90 + (u64)1u);
+    store64(v89, v91);
+    v92 = v51 == 0u;
+    if (v92) { goto L14; }
+    else { goto L12; }
+L12:;
+    v93 = (u64)((u64)v51 * (u64)1476u);
+    memory_set(a5, 0u, v93);
+    goto L14;
+L13:;
     TRAP;
     UNREACHABLE;
+L14:;
+    store64(a7, 0u);
+    v12 = 5u; goto L28;
+L15:;
+    store64(a7, v51);
+    switch (v47) {
+    case 0u: goto L16;
+    case 9u: goto L23;
+    case 1u: v12 = 1u; goto L28;
+    case 2u: goto L17;
+    case 3u: goto L18;
+    case 4u: goto L19;
+    case 8u: goto L22;
+    case 6u: goto L20;
+    case 7u: goto L21;
+    default: goto L24;
+    }
+L16:;
+    v94 = (u32)v49;
+    v95 = (u32)((u32)v94 + (u32)16u);
+    v12 = v95; goto L28;
+L17:;
+    v12 = 2u; goto L28;
+L18:;
+    v12 = 3u; goto L28;
+L19:;
+    v12 = 4u; goto L28;
+L20:;
+    v12 = 6u; goto L28;
+L21:;
+    v12 = 7u; goto L28;
+L22:;
+    v12 = 8u; goto L28;
+L23:;
+    v12 = 9u; goto L28;
+L24:;
+    UNREACHABLE;
+L25:;
+    v12 = 118u; goto L28;
 L26:;
-    store64(v19, 0u);
-    v143 = v9 + 2121u * 1u;
-    v144 = load8(v143);
-    v145 = (u8)((v144) & UINT64_C(1));
-    v146 = (u8)(((u32)v145 ^ (u32)1u) & UINT64_C(1));
-    v147 = v145 ? 0u : a2;
-    v148 = (u16)v146;
-    v149 = v126 > v128 ? (u8)((u32)v126 - (u32)v128) : 0u;
-    store8(v19, v44);
-    v150 = v19 + 2u * 1u;
-    store16(v150, v148);
-    v151 = v19 + 4u * 1u;
-    store16(v151, v147);
-    v152 = v19 + 6u * 1u;
-    store8(v152, v149);
-    v153 = v9 + 1432u * 1u;
-    v154 = v9 + 1440u * 1u;
-    v155 = load64(v154);
-    v156 = v9 + 1448u * 1u;
-    f85(v153, v155, v156, v19, a2, v24);
-    v12 = 0u; v13 = 6u; goto L28;
+    v12 = 34u; goto L28;
 L27:;
-    f86(a1, v11, a2, a3, v35, v24);
-    v12 = 0u; v13 = v11; goto L28;
+    v12 = 33u; goto L28;
 L28:;
-    v157 = load64(v32);
-    v14 = 0u; v15 = 0u; v16 = v13; v17 = v12; v18 = v157; goto L29;
+    return v12;
+}
+
+static void f74(address a0, address a1, u16 a2, address a3, u64 a4, address a5, u64 a6) {
+    u16 v7, v47, v48, v49, v50, v57, v58, v59, v69, v70, v71, v72, v78, v82, v88, v89;
+    u16 v90, v91, v107, v108, v109, v110, v134, v149, v160;
+    u64 v8, v10, v11, v13, v42, v52, v61, v64, v77, v95, v96, v102, v104, v106, v127, v132;
+    u64 v137, v145, v153, v155, v158, v168, v169, v171;
+    address v9, v12, v14, v18, v19, v20, v21, v22, v23, v24, v27, v28, v31, v35, v37, v41;
+    address v43, v45, v51, v53, v55, v60, v63, v65, v67, v76, v80, v83, v84, v86, v92, v97;
+    address v99, v101, v103, v105, v111, v112, v113, v114, v115, v116, v119, v122, v124, v126, v129, v130;
+    address v131, v133, v136, v140, v144, v147, v148, v152, v156, v157, v159, v161, v162, v163, v164, v165;
+    address v166, v167, v172, v173;
+    u8 v15, v16, v17, v25, v26, v29, v30, v32, v33, v34, v36, v38, v39, v40, v44, v46;
+    u8 v54, v56, v62, v66, v68, v73, v74, v75, v79, v81, v85, v87, v93, v94, v98, v100;
+    u8 v118, v120, v121, v123, v125, v128, v135, v138, v139, v141, v142, v143, v146, v150, v151, v154;
+    u8 v170;
+    struct s2 v117;
+    u64 block0[2];
+    u64 block1[3];
+    u64 block2[3];
+    u64 block3[4];
+    u64 block4[3];
+    v18 = ADDRESS(block0);
+    v19 = ADDRESS(block1);
+    v20 = ADDRESS(block2);
+    v21 = ADDRESS(block3);
+    v22 = ADDRESS(block4);
+    store_address(v22, a5);
+    v23 = v22 + 8u * 1u;
+    store64(v23, a6);
+    v24 = v22 + 16u * 1u;
+    store64(v24, 0u);
+    memory_set(v21, 0u, 32u);
+    f8(v21, a3, a4);
+    v25 = load8(v21);
+    v26 = v25 == 0u;
+    if (v26) { goto L1; }
+    else { goto L17; }
+L1:;
+    v27 = v21 + 8u * 1u;
+    memory_cpy(v20, v27, 24u);
+    v28 = load_address(v20);
+    v29 = load8(v28);
+    v30 = (u8)((u32)v29 >> (4u & 7u));
+    v31 = v28 + 5u * 1u;
+    v32 = load8(v31);
+    v33 = (u8)((u32)v30 | (u32)v32);
+    v34 = v33 == 0u;
+    if (v34) { goto L2; }
+    else { v15 = 1u; goto L35; }
+L2:;
+    v35 = v28 + 4u * 1u;
+    v36 = load8(v35);
+    v37 = a1 + 8u * 1u;
+    v38 = load8(v37);
+    v39 = v36 == v38;
+    if (v39) { goto L5; }
+    else { goto L3; }
+L3:;
+    v40 = f75(a1, v20);
+    if (v40) { goto L4; }
+    else { v15 = 1u; goto L35; }
+L4:;
+    v41 = v28 + 20u * 1u;
+    v42 = load64(v41);
+    v43 = v28 + 28u * 1u;
+    v44 = load8(v43);
+    v45 = v28 + 29u * 1u;
+    v46 = load8(v45);
+    v47 = (u16)v44;
+    v48 = (u16)((u32)v47 << (8u & 15u));
+    v49 = (u16)v46;
+    v50 = (u16)((u32)v48 | (u32)v49);
+    v7 = v50; v8 = v42; goto L19;
+L5:;
+    v51 = v28 + 20u * 1u;
+    v52 = load64(v51);
+    v53 = v28 + 28u * 1u;
+    v54 = load8(v53);
+    v55 = v28 + 29u * 1u;
+    v56 = load8(v55);
+    v57 = (u16)v54;
+    v58 = (u16)((u32)v57 << (8u & 15u));
+    v59 = (u16)v56;
+    v60 = a1 + 440u * 1u;
+    v61 = load64(v60);
+    v62 = v52 == v61;
+    if (v62) { v15 = 2u; goto L35; }
+    else { goto L6; }
+L6:;
+    v63 = v28 + 34u * 1u;
+    v64 = load64(v63);
+    v65 = v28 + 42u * 1u;
+    v66 = load8(v65);
+    v67 = v28 + 43u * 1u;
+    v68 = load8(v67);
+    v69 = (u16)v66;
+    v70 = (u16)((u32)v69 << (8u & 15u));
+    v71 = (u16)v68;
+    v72 = (u16)((u32)v70 | (u32)v71);
+    v73 = v64 == v61;
+    v74 = v64 == UINT64_C(18446744073709551615);
+    v75 = (u8)(((u32)v74 | (u32)v73) & UINT64_C(1));
+    if (v75) { goto L7; }
+    else { v15 = 3u; goto L35; }
+L7:;
+    switch (v72) {
+    case 65535u: goto L9;
+    case 0u: v15 = 3u; goto L35;
+    default: goto L8;
+    }
+L8:;
+    v76 = a1 + 432u * 1u;
+    v77 = load64(v76);
+    v78 = (u16)(v77);
+    v79 = v72 > v78;
+    if (v79) { v15 = 3u; goto L35; }
+    else { goto L9; }
+L9:;
+    v80 = v20 + 16u * 1u;
+    v81 = load8(v80);
+    switch (v81) {
+    case 2u: v15 = 4u; goto L35;
+    case 4u: v15 = 4u; goto L35;
+    case 0u: goto L11;
+    case 1u: goto L11;
+    case 3u: goto L11;
+    default: goto L10;
+    }
+L10:;
+    UNREACHABLE;
+L11:;
+    if (v73) { goto L13; }
+    else { goto L12; }
+L12:;
+    v15 = 9u; goto L35;
+L13:;
+    v82 = (u16)((u32)v58 | (u32)v59);
+    store64(v18, v52);
+    v83 = v18 + 8u * 1u;
+    store16(v83, v82);
+    v84 = v28 + 30u * 1u;
+    v85 = load8(v84);
+    v86 = v28 + 31u * 1u;
+    v87 = load8(v86);
+    v88 = (u16)v85;
+    v89 = (u16)((u32)v88 << (8u & 15u));
+    v90 = (u16)v87;
+    v91 = (u16)((u32)v89 | (u32)v90);
+    v92 = v20 + 17u * 1u;
+    v93 = load8(v92);
+    v94 = v93 == 0u;
+    v95 = v94 ? 52u : 54u;
+    v96 = v94 ? 53u : 55u;
+    v97 = v28 + v95 * 1u;
+    v98 = load8(v97);
+    v99 = v28 + v96 * 1u;
+    v100 = load8(v99);
+    v101 = v20 + 8u * 1u;
+    v102 = load64(v101);
+    v103 = v28 + 54u * 1u;
+    v104 = (u64)((u64)v102 + (u64)UINT64_C(18446744073709551562));
+    v105 = v94 ? v103 : ADDRESS(c112);
+    v106 = v94 ? v104 : 0u;
+    v107 = (u16)v98;
+    v108 = (u16)((u32)v107 << (8u & 15u));
+    v109 = (u16)v100;
+    v110 = (u16)((u32)v108 | (u32)v109);
+    store8(v19, v81);
+    v111 = v19 + 1u * 1u;
+    store8(v111, 0u);
+    v112 = v19 + 2u * 1u;
+    store16(v112, v110);
+    v113 = v19 + 4u * 1u;
+    store16(v113, v72);
+    v114 = v19 + 6u * 1u;
+    store16(v114, 0u);
+    v115 = v19 + 8u * 1u;
+    store_address(v115, v105);
+    v116 = v19 + 16u * 1u;
+    store64(v116, v106);
+    v117 = f55(v60, v18, v91, v19);
+    v118 = v117.m0;
+    switch (v118) {
+    case 0u: v15 = 9u; goto L35;
+    case 1u: goto L18;
+    case 2u: v7 = v82; v8 = v52; goto L19;
+    case 3u: goto L14;
+    case 4u: goto L15;
+    default: goto L16;
+    }
+L14:;
+    v15 = 8u; goto L35;
+L15:;
+    v15 = 7u; goto L35;
+L16:;
+    UNREACHABLE;
+L17:;
+    v119 = v21 + 1u * 1u;
+    v120 = load8(v119);
+    v16 = v120; v17 = 0u; goto L36;
+L18:;
+    v121 = v117.m1;
+    f77(a1, a2, v27, v121, v22);
+    v16 = 0u; v17 = 5u; goto L36;
+L19:;
+    v122 = v28 + 44u * 1u;
+    v123 = load8(v122);
+    v124 = v28 + 45u * 1u;
+    v125 = load8(v124);
+    v126 = a1 + 456u * 1u;
+    v127 = load64(v126);
+    v128 = v127 == 0u;
+    if (v128) { goto L24; }
+    else { goto L20; }
+L20:;
+    v129 = a1 + 448u * 1u;
+    v130 = load_address(v129);
+    v9 = v130; v10 = v127; goto L21;
+L21:;
+    v131 = v9 + 2136u * 1u;
+    v132 = (u64)((u64)v10 + (u64)UINT64_C(18446744073709551615));
+    v133 = v9 + 2112u * 1u;
+    v134 = load16(v133);
+    v135 = v7 == v134;
+    if (v135) { goto L22; }
+    else { goto L23; }
+L22:;
+    v136 = v9 + 2104u * 1u;
+    v137 = load64(v136);
+    v138 = v8 == v137;
+    if (v138) { goto L25; }
+    else { goto L23; }
+L23:;
+    v139 = v132 == 0u;
+    if (v139) { goto L24; }
+    else { v9 = v131; v10 = v132; goto L21; }
+L24:;
+    TRAP;
+    UNREACHABLE;
+L25:;
+    v140 = v9 + 2121u * 1u;
+    v141 = load8(v140);
+    v142 = (u8)((v141) & UINT64_C(1));
+    v143 = v123 > v125 ? (u8)((u32)v123 - (u32)v125) : 0u;
+    v144 = v9 + 1440u * 1u;
+    v145 = load64(v144);
+    v146 = v145 == 0u;
+    if (v146) { v16 = 0u; v17 = 6u; goto L36; }
+    else { goto L26; }
+L26:;
+    v147 = v9 + 1448u * 1u;
+    v148 = v9 + 1432u * 1u;
+    v149 = (u16)((u32)a2 >> (8u & 15u));
+    v150 = (u8)(v149);
+    v151 = (u8)(a2);
+    v11 = 0u; v12 = v147; v13 = v145; v14 = v148; goto L27;
+L27:;
+    v152 = v14 + 1u * 1u;
+    v153 = (u64)((u64)v13 + (u64)UINT64_C(18446744073709551615));
+    v154 = load8(v14);
+    v155 = (u64)v154;
+    v156 = v12 + v155 * 1u;
+    v157 = load_address(v22);
+    v158 = (u64)((u64)v11 * (u64)1476u);
+    v159 = v157 + v158 * 1u;
+    store16(v159, a2);
+    v160 = (u16)v154;
+    v161 = v159 + 2u * 1u;
+    store16(v161, v160);
+    v162 = v159 + 4u * 1u;
+    switch (v154) {
+    case 54u: goto L28;
+    case 56u: goto L29;
+    case 80u: goto L30;
+    default: goto L31;
+    }
+L28:;
+    memory_move(v162, v12, 54u);
+    goto L32;
 L29:;
-    store8(a0, v14);
-    v158 = a0 + 1u * 1u;
-    store8(v158, v15);
-    v159 = a0 + 8u * 1u;
-    store8(v159, v16);
-    v160 = a0 + 9u * 1u;
-    store8(v160, v17);
-    v161 = a0 + 16u * 1u;
-    store64(v161, v18);
+    memory_move(v162, v12, 56u);
+    goto L32;
+L30:;
+    memory_move(v162, v12, 80u);
+    goto L32;
+L31:;
+    f82(v162, v12, v155);
+    goto L32;
+L32:;
+    v163 = v159 + 8u * 1u;
+    store8(v163, v36);
+    if (v142) { goto L34; }
+    else { goto L33; }
+L33:;
+    v164 = v159 + 32u * 1u;
+    store8(v164, v150);
+    v165 = v159 + 33u * 1u;
+    store8(v165, v151);
+    goto L34;
+L34:;
+    v166 = v159 + 48u * 1u;
+    store8(v166, v143);
+    v167 = v159 + 49u * 1u;
+    store8(v167, v143);
+    v168 = load64(v24);
+    v169 = (u64)((u64)v168 + (u64)1u);
+    store64(v24, v169);
+    v170 = v153 == 0u;
+    if (v170) { v16 = 0u; v17 = 6u; goto L36; }
+    else { v11 = v169; v12 = v156; v13 = v153; v14 = v152; goto L27; }
+L35:;
+    f86(a1, v15, a2, a3, v27, v22);
+    v16 = 0u; v17 = v15; goto L36;
+L36:;
+    v171 = load64(v24);
+    store8(a0, v17);
+    v172 = a0 + 1u * 1u;
+    store8(v172, v16);
+    v173 = a0 + 8u * 1u;
+    store64(v173, v171);
     return;
 }
 
@@ -19113,75 +19184,75 @@ L40:;
     goto L23;
 }
 
-static u32 f89(address a0, u16 a1, address a2, u64 a3, address a4, u64 a5, address a6, address a7) {
-    u64 v8, v21, v24, v32;
-    u32 v9, v10, v27, v30;
-    address v11, v12, v13, v14, v15, v16, v20, v23, v25, v26, v29, v31, v33;
-    u8 v17, v18, v19, v22, v28;
+static u32 f89(address a0, u16 a1, address a2, u64 a3, u8 a4, address a5, u64 a6, address a7, address a8) {
+    u64 v9, v22, v25, v33;
+    u32 v10, v11, v28, v31;
+    address v12, v13, v14, v15, v16, v17, v21, v24, v26, v27, v30, v32, v34;
+    u8 v18, v19, v20, v23, v29;
     u64 block0[2];
     u64 block1[55];
     u64 block2[55];
-    v11 = ADDRESS(block0);
-    v12 = ADDRESS(block1);
-    v13 = ADDRESS(block2);
-    memory_set(v13, 0u, 440u);
-    store64(a6, 0u);
-    store32(a7, 0u);
-    v14 = a7 + 4u * 1u;
-    store64(v14, 0u);
-    v15 = load_address(a0);
-    v16 = a0 + 8u * 1u;
-    v17 = load8(v16);
+    v12 = ADDRESS(block0);
+    v13 = ADDRESS(block1);
+    v14 = ADDRESS(block2);
+    memory_set(v14, 0u, 440u);
+    store64(a7, 0u);
+    store32(a8, 0u);
+    v15 = a8 + 4u * 1u;
+    store64(v15, 0u);
+    v16 = load_address(a0);
+    v17 = a0 + 8u * 1u;
+    v18 = load8(v17);
     memory_set(a0, 0u, 16u);
-    v18 = (u8)((v17) & UINT64_C(1));
-    if (v18) { goto L1; }
-    else { v10 = 32u; goto L6; }
+    v19 = (u8)((v18) & UINT64_C(1));
+    if (v19) { goto L1; }
+    else { v11 = 32u; goto L6; }
 L1:;
-    v19 = load8(v15);
-    v20 = v15 + 8u * 1u;
-    v21 = load64(v20);
-    memory_set(v15, 0u, 16u);
-    v22 = v19 == 4u;
-    v23 = (address)v21;
-    if (v22) { goto L3; }
+    v20 = load8(v16);
+    v21 = v16 + 8u * 1u;
+    v22 = load64(v21);
+    memory_set(v16, 0u, 16u);
+    v23 = v20 == 4u;
+    v24 = (address)v22;
+    if (v23) { goto L3; }
     else { goto L2; }
 L2:;
-    v24 = (u64)v19;
-    store64(v15, v24);
-    store_address(v20, v23);
-    store_address(a0, v15);
-    store8(v16, 1u);
-    v25 = a0 + 9u * 1u;
-    memory_set(v25, 0u, 7u);
-    v10 = 32u; goto L6;
+    v25 = (u64)v20;
+    store64(v16, v25);
+    store_address(v21, v24);
+    store_address(a0, v16);
+    store8(v17, 1u);
+    v26 = a0 + 9u * 1u;
+    memory_set(v26, 0u, 7u);
+    v11 = 32u; goto L6;
 L3:;
-    v26 = load_address(v23);
-    f31(v13, v26);
-    memory_cpy(v12, v13, 440u);
-    v27 = f73(v23, a1, a2, a3, a4, a5, a6);
-    memory_set(v11, 0u, 12u);
-    v28 = v27 == 5u;
-    if (v28) { goto L4; }
-    else { v8 = 0u; v9 = 0u; goto L5; }
+    v27 = load_address(v24);
+    f31(v14, v27);
+    memory_cpy(v13, v14, 440u);
+    v28 = f73(v24, a1, a2, a3, a4, a5, a6, a7);
+    memory_set(v12, 0u, 12u);
+    v29 = v28 == 5u;
+    if (v29) { goto L4; }
+    else { v9 = 0u; v10 = 0u; goto L5; }
 L4:;
-    v29 = load_address(v23);
-    f90(v11, v29, v12);
-    v30 = load32(v11);
-    v31 = v11 + 4u * 1u;
-    v32 = load64(v31);
-    v8 = v32; v9 = v30; goto L5;
+    v30 = load_address(v24);
+    f90(v12, v30, v13);
+    v31 = load32(v12);
+    v32 = v12 + 4u * 1u;
+    v33 = load64(v32);
+    v9 = v33; v10 = v31; goto L5;
 L5:;
-    store32(a7, v9);
-    store64(v14, v8);
-    store64(v15, 4u);
-    store_address(v20, v23);
-    store_address(a0, v15);
-    store8(v16, 1u);
-    v33 = a0 + 9u * 1u;
-    memory_set(v33, 0u, 7u);
-    v10 = v27; goto L6;
+    store32(a8, v10);
+    store64(v15, v9);
+    store64(v16, 4u);
+    store_address(v21, v24);
+    store_address(a0, v16);
+    store8(v17, 1u);
+    v34 = a0 + 9u * 1u;
+    memory_set(v34, 0u, 7u);
+    v11 = v28; goto L6;
 L6:;
-    return v10;
+    return v11;
 }
 
 static void f90(address a0, address a1, address a2) {
@@ -32410,7 +32481,7 @@ L3:;
     if (v34) { goto L5; }
     else { v10 = v33; goto L10; }
 L4:;
-    v35 = f89(a0, a1, v16, a3, v19, a5, a6, a7);
+    v35 = f89(a0, a1, v16, a3, 0u, v19, a5, a6, a7);
     v10 = v35; goto L10;
 L5:;
     memory_set(v11, 0u, 12u);
@@ -32711,967 +32782,1015 @@ L53:;
 }
 
 u32 portable_ptpm_clock_saved(address a0, u64 a1, address a2, u64 a3, address a4) {
-    address v5, v8, v10, v17, v18, v19, v23, v26, v29, v32, v35, v37, v39, v41, v43, v45;
-    address v47, v48, v51, v52, v53, v55, v58, v62, v66, v69, v70, v74, v78, v80, v82, v83;
-    address v84, v85, v86, v87, v88, v91;
-    u64 v6, v7, v9, v11, v12, v16, v24, v27, v30, v38, v49, v54, v59, v67, v75, v77;
-    u64 v79, v89;
-    u32 v13, v14;
-    u8 v15, v20, v21, v22, v25, v28, v31, v33, v34, v36, v42, v44, v50, v57, v60, v61;
-    u8 v63, v64, v65, v68, v72, v73, v76, v90;
-    u16 v40, v46, v56, v71, v81;
-    v15 = a2 == 0u;
-    v16 = v15 ? 4096u : 0u;
-    v17 = a2 + v16 * 1u;
+    u64 v5, v6, v7, v9, v10, v12, v14, v15, v20, v28, v31, v36, v37, v38, v39, v41;
+    u64 v47, v48, v51, v52, v53, v57, v65, v75, v80, v85, v93, v101, v103, v105, v115;
+    address v8, v11, v13, v18, v21, v22, v23, v27, v30, v32, v34, v35, v40, v43, v44, v45;
+    address v49, v50, v56, v59, v62, v64, v66, v68, v70, v72, v74, v77, v78, v79, v81, v84;
+    address v88, v92, v95, v96, v100, v104, v106, v108, v109, v110, v111, v112, v113, v114, v117;
+    u32 v16, v17;
+    u8 v19, v24, v25, v26, v29, v33, v42, v46, v54, v55, v58, v60, v61, v63, v69, v71;
+    u8 v76, v83, v86, v87, v89, v90, v91, v94, v98, v99, v102, v116;
+    u16 v67, v73, v82, v97, v107;
+    u64 block0[5];
+    v18 = ADDRESS(block0);
+    v19 = a2 == 0u;
+    v20 = v19 ? 4096u : 0u;
+    v21 = a2 + v20 * 1u;
     store64(a4, 0u);
-    v18 = load_address(a0);
-    v19 = a0 + 8u * 1u;
-    v20 = load8(v19);
+    v22 = load_address(a0);
+    v23 = a0 + 8u * 1u;
+    v24 = load8(v23);
     memory_set(a0, 0u, 16u);
-    v21 = (u8)((v20) & UINT64_C(1));
-    if (v21) { goto L1; }
-    else { v14 = 32u; goto L24; }
+    v25 = (u8)((v24) & UINT64_C(1));
+    if (v25) { goto L1; }
+    else { v17 = 32u; goto L28; }
 L1:;
-    v22 = load8(v18);
-    v23 = v18 + 8u * 1u;
-    v24 = load64(v23);
-    memory_set(v18, 0u, 16u);
-    v25 = v22 == 4u;
-    v26 = (address)v24;
-    if (v25) { goto L3; }
+    v26 = load8(v22);
+    v27 = v22 + 8u * 1u;
+    v28 = load64(v27);
+    memory_set(v22, 0u, 16u);
+    v29 = v26 == 4u;
+    v30 = (address)v28;
+    if (v29) { goto L3; }
     else { goto L2; }
 L2:;
-    v27 = (u64)v22;
-    v12 = v27; v13 = 32u; goto L23;
+    v31 = (u64)v26;
+    v15 = v31; v16 = 32u; goto L27;
 L3:;
-    v28 = a3 < 15u;
-    if (v28) { v12 = 4u; v13 = 34u; goto L23; }
+    v32 = load_address(v30);
+    v33 = a3 > 14u;
+    if (v33) { goto L8; }
     else { goto L4; }
 L4:;
-    v29 = v26 + 8u * 1u;
-    v30 = load64(v29);
-    v31 = a1 == v30;
-    if (v31) { goto L5; }
-    else { v12 = 4u; v13 = 119u; goto L23; }
+    memory_set(v18, 0u, 40u);
+    v34 = v32 + 440u * 1u;
+    f7(v18, v34);
+    v35 = v32 + 432u * 1u;
+    v36 = load64(v35);
+    v37 = (u64)((u64)v36 << (1u & 63u));
+    v38 = (u64)((u64)v37 & (u64)UINT64_C(131070));
+    v39 = (u64)((u64)v38 + (u64)UINT64_C(18446744073709551615));
+    v40 = v18 + 32u * 1u;
+    v41 = load64(v40);
+    v42 = v41 == 0u;
+    if (v42) { v7 = v39; goto L7; }
+    else { goto L5; }
 L5:;
-    v32 = v26 + 16u * 1u;
-    v33 = load8(v32);
-    v34 = v33 == 2u;
-    if (v34) { goto L6; }
-    else { v11 = 0u; goto L22; }
+    v43 = v18 + 16u * 1u;
+    v44 = load_address(v18);
+    v5 = v39; v6 = 0u; goto L6;
 L6:;
-    v35 = v26 + 18u * 1u;
-    v36 = load8(v35);
-    v37 = v26 + 20u * 1u;
-    v38 = load64(v37);
-    v39 = v26 + 28u * 1u;
-    v40 = load16(v39);
-    v41 = v26 + 32u * 1u;
-    v42 = load8(v41);
-    v43 = v26 + 33u * 1u;
-    v44 = load8(v43);
-    v45 = v26 + 34u * 1u;
-    v46 = load16(v45);
-    v47 = load_address(v26);
-    v48 = v47 + 456u * 1u;
-    v49 = load64(v48);
-    v50 = v49 == 0u;
-    if (v50) { goto L11; }
-    else { goto L7; }
+    v45 = v43 + v6 * 1u;
+    v46 = load8(v45);
+    v47 = (u64)v46;
+    v48 = (u64)((u64)v47 * (u64)2136u);
+    v49 = v44 + v48 * 1u;
+    v50 = v49 + 1440u * 1u;
+    v51 = load64(v50);
+    v52 = v5 > v51 ? v5 : v51;
+    v53 = (u64)((u64)v6 + (u64)1u);
+    v54 = v53 == v41;
+    if (v54) { v7 = v52; goto L7; }
+    else { v5 = v52; v6 = v53; goto L6; }
 L7:;
-    v51 = v47 + 448u * 1u;
-    v52 = load_address(v51);
-    v5 = v52; v6 = v49; goto L8;
+    v55 = v7 > a3;
+    if (v55) { v15 = 4u; v16 = 34u; goto L27; }
+    else { goto L8; }
 L8:;
-    v53 = v5 + 2136u * 1u;
-    v54 = (u64)((u64)v6 + (u64)UINT64_C(18446744073709551615));
-    v55 = v5 + 2112u * 1u;
-    v56 = load16(v55);
-    v57 = v40 == v56;
-    if (v57) { goto L9; }
-    else { goto L10; }
+    v56 = v30 + 8u * 1u;
+    v57 = load64(v56);
+    v58 = a1 == v57;
+    if (v58) { goto L9; }
+    else { v15 = 4u; v16 = 119u; goto L27; }
 L9:;
-    v58 = v5 + 2104u * 1u;
-    v59 = load64(v58);
-    v60 = v38 == v59;
-    if (v60) { goto L12; }
-    else { goto L10; }
+    v59 = v30 + 16u * 1u;
+    v60 = load8(v59);
+    v61 = v60 == 2u;
+    if (v61) { goto L10; }
+    else { v14 = 0u; goto L26; }
 L10:;
-    v61 = v54 == 0u;
-    if (v61) { goto L11; }
-    else { v5 = v53; v6 = v54; goto L8; }
+    v62 = v30 + 18u * 1u;
+    v63 = load8(v62);
+    v64 = v30 + 20u * 1u;
+    v65 = load64(v64);
+    v66 = v30 + 28u * 1u;
+    v67 = load16(v66);
+    v68 = v30 + 32u * 1u;
+    v69 = load8(v68);
+    v70 = v30 + 33u * 1u;
+    v71 = load8(v70);
+    v72 = v30 + 34u * 1u;
+    v73 = load16(v72);
+    v74 = v32 + 456u * 1u;
+    v75 = load64(v74);
+    v76 = v75 == 0u;
+    if (v76) { goto L15; }
+    else { goto L11; }
 L11:;
+    v77 = v32 + 448u * 1u;
+    v78 = load_address(v77);
+    v8 = v78; v9 = v75; goto L12;
+L12:;
+    v79 = v8 + 2136u * 1u;
+    v80 = (u64)((u64)v9 + (u64)UINT64_C(18446744073709551615));
+    v81 = v8 + 2112u * 1u;
+    v82 = load16(v81);
+    v83 = v67 == v82;
+    if (v83) { goto L13; }
+    else { goto L14; }
+L13:;
+    v84 = v8 + 2104u * 1u;
+    v85 = load64(v84);
+    v86 = v65 == v85;
+    if (v86) { goto L16; }
+    else { goto L14; }
+L14:;
+    v87 = v80 == 0u;
+    if (v87) { goto L15; }
+    else { v8 = v79; v9 = v80; goto L12; }
+L15:;
     TRAP;
     UNREACHABLE;
-L12:;
-    v62 = v5 + 2121u * 1u;
-    v63 = load8(v62);
-    v64 = (u8)((v63) & UINT64_C(1));
-    v65 = v42 > v44 ? (u8)((u32)v42 - (u32)v44) : 0u;
-    v66 = v5 + 1440u * 1u;
-    v67 = load64(v66);
-    v68 = v67 == 0u;
-    if (v68) { v11 = 0u; goto L22; }
-    else { goto L13; }
-L13:;
-    v69 = v5 + 1448u * 1u;
-    v70 = v5 + 1432u * 1u;
-    v71 = (u16)((u32)v46 >> (8u & 15u));
-    v72 = (u8)(v71);
-    v73 = (u8)(v46);
-    v7 = 0u; v8 = v69; v9 = v67; v10 = v70; goto L14;
-L14:;
-    v74 = v10 + 1u * 1u;
-    v75 = (u64)((u64)v9 + (u64)UINT64_C(18446744073709551615));
-    v76 = load8(v10);
-    v77 = (u64)v76;
-    v78 = v8 + v77 * 1u;
-    v79 = (u64)((u64)v7 * (u64)1476u);
-    v80 = v17 + v79 * 1u;
-    store16(v80, v46);
-    v81 = (u16)v76;
-    v82 = v80 + 2u * 1u;
-    store16(v82, v81);
-    v83 = v80 + 4u * 1u;
-    switch (v76) {
-    case 54u: goto L15;
-    case 56u: goto L16;
-    case 80u: goto L17;
-    default: goto L18;
-    }
-L15:;
-    memory_move(v83, v8, 54u);
-    goto L19;
 L16:;
-    memory_move(v83, v8, 56u);
-    goto L19;
+    v88 = v8 + 2121u * 1u;
+    v89 = load8(v88);
+    v90 = (u8)((v89) & UINT64_C(1));
+    v91 = v69 > v71 ? (u8)((u32)v69 - (u32)v71) : 0u;
+    v92 = v8 + 1440u * 1u;
+    v93 = load64(v92);
+    v94 = v93 == 0u;
+    if (v94) { v14 = 0u; goto L26; }
+    else { goto L17; }
 L17:;
-    memory_move(v83, v8, 80u);
-    goto L19;
+    v95 = v8 + 1448u * 1u;
+    v96 = v8 + 1432u * 1u;
+    v97 = (u16)((u32)v73 >> (8u & 15u));
+    v98 = (u8)(v97);
+    v99 = (u8)(v73);
+    v10 = 0u; v11 = v95; v12 = v93; v13 = v96; goto L18;
 L18:;
-    f82(v83, v8, v77);
-    goto L19;
+    v100 = v13 + 1u * 1u;
+    v101 = (u64)((u64)v12 + (u64)UINT64_C(18446744073709551615));
+    v102 = load8(v13);
+    v103 = (u64)v102;
+    v104 = v11 + v103 * 1u;
+    v105 = (u64)((u64)v10 * (u64)1476u);
+    v106 = v21 + v105 * 1u;
+    store16(v106, v73);
+    v107 = (u16)v102;
+    v108 = v106 + 2u * 1u;
+    store16(v108, v107);
+    v109 = v106 + 4u * 1u;
+    switch (v102) {
+    case 54u: goto L19;
+    case 56u: goto L20;
+    case 80u: goto L21;
+    default: goto L22;
+    }
 L19:;
-    v84 = v80 + 8u * 1u;
-    store8(v84, v36);
-    if (v64) { goto L21; }
-    else { goto L20; }
+    memory_move(v109, v11, 54u);
+    goto L23;
 L20:;
-    v85 = v80 + 32u * 1u;
-    store8(v85, v72);
-    v86 = v80 + 33u * 1u;
-    store8(v86, v73);
-    goto L21;
+    memory_move(v109, v11, 56u);
+    goto L23;
 L21:;
-    v87 = v80 + 48u * 1u;
-    store8(v87, v65);
-    v88 = v80 + 49u * 1u;
-    store8(v88, v65);
-    v89 = (u64)((u64)v7 + (u64)1u);
-    v90 = v75 == 0u;
-    if (v90) { v11 = v67; goto L22; }
-    else { v7 = v89; v8 = v78; v9 = v75; v10 = v74; goto L14; }
+    memory_move(v109, v11, 80u);
+    goto L23;
 L22:;
-    memory_set(v32, 0u, 20u);
-    store64(a4, v11);
-    v12 = 4u; v13 = 0u; goto L23;
+    f82(v109, v11, v103);
+    goto L23;
 L23:;
-    store64(v18, v12);
-    store_address(v23, v26);
-    store_address(a0, v18);
-    store8(v19, 1u);
-    v91 = a0 + 9u * 1u;
-    memory_set(v91, 0u, 7u);
-    v14 = v13; goto L24;
+    v110 = v106 + 8u * 1u;
+    store8(v110, v63);
+    if (v90) { goto L25; }
+    else { goto L24; }
 L24:;
-    return v14;
+    v111 = v106 + 32u * 1u;
+    store8(v111, v98);
+    v112 = v106 + 33u * 1u;
+    store8(v112, v99);
+    goto L25;
+L25:;
+    v113 = v106 + 48u * 1u;
+    store8(v113, v91);
+    v114 = v106 + 49u * 1u;
+    store8(v114, v91);
+    v115 = (u64)((u64)v10 + (u64)1u);
+    v116 = v101 == 0u;
+    if (v116) { v14 = v93; goto L26; }
+    else { v10 = v115; v11 = v104; v12 = v101; v13 = v100; goto L18; }
+L26:;
+    memory_set(v59, 0u, 20u);
+    store64(a4, v14);
+    v15 = 4u; v16 = 0u; goto L27;
+L27:;
+    store64(v22, v15);
+    store_address(v27, v30);
+    store_address(a0, v22);
+    store8(v23, 1u);
+    v117 = a0 + 9u * 1u;
+    memory_set(v117, 0u, 7u);
+    v17 = v16; goto L28;
+L28:;
+    return v17;
 }
 
 u32 portable_ptpm_clock_handle_said(address a0, u16 a1, address a2, u64 a3, address a4, address a5, u64 a6, address a7, address a8) {
-    u64 v9, v10, v11, v12, v13, v15, v16, v18, v20, v23, v41, v44, v53, v58, v83, v84;
-    u64 v97, v98, v109, v110, v120, v122, v124, v141, v143, v156, v161, v170, v171, v174, v182, v183;
-    u64 v184, v186, v187, v189, v192, v200, v204, v205, v210, v215, v216, v221, v222, v256, v275, v276;
-    u64 v277, v282, v287, v297, v298, v308, v310, v312, v329, v331, v344, v349, v387, v391, v401, v404;
-    u16 v14, v59, v64, v65, v67, v71, v72, v125, v126, v127, v128, v129, v130, v131, v132, v162;
-    u16 v169, v177, v178, v196, v197, v198, v199, v201, v223, v224, v225, v226, v236, v237, v238, v239;
-    u16 v244, v245, v246, v247, v248, v249, v250, v251, v255, v258, v284, v285, v286, v313, v314, v315;
-    u16 v316, v317, v318, v319, v320, v350, v362, v363, v364, v365, v366, v367, v368, v369;
-    u8 v17, v19, v21, v22, v40, v43, v49, v50, v51, v54, v56, v60, v61, v63, v66, v68;
-    u8 v69, v73, v74, v75, v76, v77, v79, v81, v86, v87, v88, v90, v91, v93, v95, v100;
-    u8 v101, v104, v106, v107, v112, v114, v116, v118, v139, v144, v145, v147, v148, v149, v151, v153;
-    u8 v154, v157, v158, v159, v160, v163, v164, v165, v167, v168, v172, v176, v179, v185, v188, v191;
-    u8 v194, v195, v206, v209, v211, v213, v214, v217, v218, v219, v220, v228, v230, v231, v233, v235;
-    u8 v241, v243, v278, v281, v283, v288, v289, v292, v294, v295, v300, v302, v304, v306, v327, v332;
-    u8 v333, v335, v336, v337, v339, v341, v342, v345, v346, v347, v348, v351, v352, v353, v355, v357;
-    u8 v359, v361, v380, v381, v383, v385, v394, v395, v397, v398, v400, v402;
-    u32 v24, v25, v252, v253, v254, v388, v389, v399;
-    address v26, v27, v28, v29, v30, v31, v32, v33, v34, v35, v36, v37, v38, v39, v42, v45;
-    address v46, v47, v48, v52, v55, v57, v62, v70, v78, v80, v82, v85, v89, v92, v94, v96;
-    address v99, v102, v103, v105, v108, v111, v113, v115, v117, v119, v121, v123, v133, v134, v135, v136;
-    address v137, v138, v140, v142, v146, v150, v152, v155, v166, v173, v175, v180, v181, v190, v193, v202;
-    address v203, v207, v208, v212, v227, v229, v232, v234, v240, v242, v257, v259, v260, v261, v262, v263;
-    address v264, v265, v266, v267, v268, v269, v270, v271, v272, v273, v274, v279, v280, v290, v291, v293;
-    address v296, v299, v301, v303, v305, v307, v309, v311, v321, v322, v323, v324, v325, v326, v328, v330;
-    address v334, v338, v340, v343, v354, v356, v358, v360, v370, v371, v372, v373, v374, v375, v376, v377;
-    address v378, v379, v382, v384, v386, v390, v392, v393, v396, v403;
+    u64 v9, v10, v11, v14, v15, v16, v17, v18, v20, v21, v23, v26, v29, v48, v51, v60;
+    u64 v65, v70, v71, v72, v74, v80, v81, v84, v85, v86, v107, v108, v118, v119, v130, v131;
+    u64 v141, v143, v145, v162, v164, v177, v182, v191, v192, v195, v203, v204, v205, v207, v208, v210;
+    u64 v213, v221, v225, v226, v231, v236, v237, v242, v243, v277, v296, v297, v298, v303, v308, v318;
+    u64 v319, v329, v331, v333, v350, v352, v365, v370, v402, v407, v411, v421, v424;
+    u8 v12, v13, v22, v24, v25, v27, v28, v47, v50, v56, v57, v58, v61, v63, v67, v68;
+    u8 v75, v79, v87, v88, v90, v93, v95, v96, v100, v101, v102, v103, v105, v110, v111, v112;
+    u8 v114, v116, v121, v122, v125, v127, v128, v133, v135, v137, v139, v160, v165, v166, v168, v169;
+    u8 v170, v172, v174, v175, v178, v179, v180, v181, v184, v185, v186, v188, v189, v193, v197, v200;
+    u8 v206, v209, v212, v215, v216, v227, v230, v232, v234, v235, v238, v239, v240, v241, v249, v251;
+    u8 v252, v254, v256, v262, v264, v299, v302, v304, v309, v310, v313, v315, v316, v321, v323, v325;
+    u8 v327, v348, v353, v354, v356, v357, v358, v360, v362, v363, v366, v367, v368, v369, v372, v373;
+    u8 v374, v376, v378, v380, v382, v403, v405, v414, v415, v417, v418, v420, v422;
+    u16 v19, v66, v91, v92, v94, v98, v99, v146, v147, v148, v149, v150, v151, v152, v153, v183;
+    u16 v190, v198, v199, v217, v218, v219, v220, v222, v244, v245, v246, v247, v257, v258, v259, v260;
+    u16 v265, v266, v267, v268, v269, v270, v271, v272, v276, v279, v305, v306, v307, v334, v335, v336;
+    u16 v337, v338, v339, v340, v341, v371, v383, v384, v385, v386, v387, v388, v389, v390;
+    u32 v30, v31, v273, v274, v275, v408, v409, v419;
+    address v32, v33, v34, v35, v36, v37, v38, v39, v40, v41, v42, v43, v44, v45, v46, v49;
+    address v52, v53, v54, v55, v59, v62, v64, v69, v73, v76, v77, v78, v82, v83, v89, v97;
+    address v104, v106, v109, v113, v115, v117, v120, v123, v124, v126, v129, v132, v134, v136, v138, v140;
+    address v142, v144, v154, v155, v156, v157, v158, v159, v161, v163, v167, v171, v173, v176, v187, v194;
+    address v196, v201, v202, v211, v214, v223, v224, v228, v229, v233, v248, v250, v253, v255, v261, v263;
+    address v278, v280, v281, v282, v283, v284, v285, v286, v287, v288, v289, v290, v291, v292, v293, v294;
+    address v295, v300, v301, v311, v312, v314, v317, v320, v322, v324, v326, v328, v330, v332, v342, v343;
+    address v344, v345, v346, v347, v349, v351, v355, v359, v361, v364, v375, v377, v379, v381, v391, v392;
+    address v393, v394, v395, v396, v397, v398, v399, v400, v401, v404, v406, v410, v412, v413, v416, v423;
     u64 block0[3];
     u64 block1[3];
-    u64 block2[3];
-    u64 block3[4];
-    u64 block4[5];
+    u64 block2[4];
+    u64 block3[5];
+    u64 block4[3];
     u64 block5[3];
-    u64 block6[3];
-    u64 block7[4];
-    u64 block8[3];
-    u64 block9[6];
-    u64 block10[3];
-    u64 block11[55];
+    u64 block6[4];
+    u64 block7[2];
+    u64 block8[6];
+    u64 block9[2];
+    u64 block10[5];
+    u64 block11[2];
     u64 block12[55];
-    u64 block13[2];
-    v26 = ADDRESS(block0);
-    v27 = ADDRESS(block1);
-    v28 = ADDRESS(block2);
-    v29 = ADDRESS(block3);
-    v30 = ADDRESS(block4);
-    v31 = ADDRESS(block5);
-    v32 = ADDRESS(block6);
-    v33 = ADDRESS(block7);
-    v34 = ADDRESS(block8);
-    v35 = ADDRESS(block9);
-    v36 = ADDRESS(block10);
-    v37 = ADDRESS(block11);
-    v38 = ADDRESS(block12);
-    v39 = ADDRESS(block13);
-    v40 = a2 == 0u;
-    v41 = v40 ? 4096u : 0u;
-    v42 = a2 + v41 * 1u;
-    v43 = a5 == 0u;
-    v44 = v43 ? 4096u : 0u;
-    v45 = a5 + v44 * 1u;
+    u64 block13[55];
+    u64 block14[2];
+    v32 = ADDRESS(block0);
+    v33 = ADDRESS(block1);
+    v34 = ADDRESS(block2);
+    v35 = ADDRESS(block3);
+    v36 = ADDRESS(block4);
+    v37 = ADDRESS(block5);
+    v38 = ADDRESS(block6);
+    v39 = ADDRESS(block7);
+    v40 = ADDRESS(block8);
+    v41 = ADDRESS(block9);
+    v42 = ADDRESS(block10);
+    v43 = ADDRESS(block11);
+    v44 = ADDRESS(block12);
+    v45 = ADDRESS(block13);
+    v46 = ADDRESS(block14);
+    v47 = a2 == 0u;
+    v48 = v47 ? 4096u : 0u;
+    v49 = a2 + v48 * 1u;
+    v50 = a5 == 0u;
+    v51 = v50 ? 4096u : 0u;
+    v52 = a5 + v51 * 1u;
     store64(a7, 0u);
     store32(a8, 0u);
-    v46 = a8 + 4u * 1u;
-    store64(v46, 0u);
-    v47 = load_address(a0);
-    v48 = a0 + 8u * 1u;
-    v49 = load8(v48);
+    v53 = a8 + 4u * 1u;
+    store64(v53, 0u);
+    v54 = load_address(a0);
+    v55 = a0 + 8u * 1u;
+    v56 = load8(v55);
     memory_set(a0, 0u, 16u);
-    v50 = (u8)((v49) & UINT64_C(1));
-    if (v50) { goto L1; }
-    else { goto L76; }
+    v57 = (u8)((v56) & UINT64_C(1));
+    if (v57) { goto L1; }
+    else { goto L77; }
 L1:;
-    v51 = load8(v47);
-    v52 = v47 + 8u * 1u;
-    v53 = load64(v52);
-    memory_set(v47, 0u, 16u);
-    v54 = v51 == 1u;
-    v55 = (address)v53;
-    if (v54) { goto L2; }
-    else { goto L75; }
+    v58 = load8(v54);
+    v59 = v54 + 8u * 1u;
+    v60 = load64(v59);
+    memory_set(v54, 0u, 16u);
+    v61 = v58 == 1u;
+    v62 = (address)v60;
+    if (v61) { goto L2; }
+    else { goto L76; }
 L2:;
-    memory_set(v38, 0u, 440u);
-    memory_set(v39, 0u, 12u);
+    memory_set(v45, 0u, 440u);
+    memory_set(v46, 0u, 12u);
     store64(a7, 0u);
     store32(a8, 0u);
-    store64(v46, 0u);
-    f31(v38, v55);
-    memory_cpy(v37, v38, 440u);
-    v56 = a1 == 0u;
-    if (v56) { v24 = 33u; goto L74; }
+    store64(v53, 0u);
+    f31(v45, v62);
+    memory_cpy(v44, v45, 440u);
+    memory_set(v43, 0u, 16u);
+    v63 = a1 == 0u;
+    if (v63) { goto L74; }
     else { goto L3; }
 L3:;
-    v57 = v55 + 432u * 1u;
-    v58 = load64(v57);
-    v59 = (u16)(v58);
-    v60 = a1 > v59;
-    if (v60) { v24 = 33u; goto L74; }
+    v64 = v62 + 432u * 1u;
+    v65 = load64(v64);
+    v66 = (u16)(v65);
+    v67 = a1 > v66;
+    if (v67) { goto L74; }
     else { goto L4; }
 L4:;
-    v61 = a6 < 15u;
-    if (v61) { v24 = 34u; goto L74; }
+    v68 = a6 > 14u;
+    if (v68) { goto L9; }
     else { goto L5; }
 L5:;
-    v62 = a4 + 4u * 1u;
-    v63 = load8(v62);
-    switch (v63) {
-    case 0u: goto L8;
-    case 1u: goto L6;
-    case 2u: goto L7;
-    default: v24 = 121u; goto L74;
-    }
+    memory_set(v42, 0u, 40u);
+    v69 = v62 + 440u * 1u;
+    f7(v42, v69);
+    v70 = (u64)((u64)v65 << (1u & 63u));
+    v71 = (u64)((u64)v70 & (u64)UINT64_C(131070));
+    v72 = (u64)((u64)v71 + (u64)UINT64_C(18446744073709551615));
+    v73 = v42 + 32u * 1u;
+    v74 = load64(v73);
+    v75 = v74 == 0u;
+    if (v75) { v11 = v72; goto L8; }
+    else { goto L6; }
 L6:;
-    v64 = load16(a4);
-    v65 = (u16)((u32)v64 + (u32)2u);
-    v66 = v65 < 9u;
-    v67 = (u16)((u32)449u >> (v65 & 15u));
-    v68 = (u8)((v67) & UINT64_C(1));
-    v69 = v66 ? v68 : 0u;
-    if (v69) { goto L11; }
-    else { v24 = 121u; goto L74; }
+    v76 = v42 + 16u * 1u;
+    v77 = load_address(v42);
+    v9 = v72; v10 = 0u; goto L7;
 L7:;
-    v70 = a4 + 2u * 1u;
-    v71 = load16(v70);
-    v72 = (u16)((u32)v71 & (u32)1u);
-    v73 = v72 == 0u;
-    v74 = v71 < 1419u;
-    v75 = (u8)(((u32)v74 & (u32)v73) & UINT64_C(1));
-    if (v75) { goto L16; }
-    else { v24 = 121u; goto L74; }
+    v78 = v76 + v10 * 1u;
+    v79 = load8(v78);
+    v80 = (u64)v79;
+    v81 = (u64)((u64)v80 * (u64)2136u);
+    v82 = v77 + v81 * 1u;
+    v83 = v82 + 1440u * 1u;
+    v84 = load64(v83);
+    v85 = v9 > v84 ? v9 : v84;
+    v86 = (u64)((u64)v10 + (u64)1u);
+    v87 = v86 == v74;
+    if (v87) { v11 = v85; goto L8; }
+    else { v9 = v85; v10 = v86; goto L7; }
 L8:;
-    memory_set(v36, 0u, 24u);
-    f74(v36, v55, a1, v42, a3, v45, a6);
-    v76 = load8(v36);
-    v77 = v76 == 0u;
-    if (v77) { goto L10; }
+    v88 = v11 > a6;
+    if (v88) { goto L73; }
     else { goto L9; }
 L9:;
-    TRAP;
-    UNREACHABLE;
-L10:;
-    v78 = v36 + 8u * 1u;
-    v79 = load8(v78);
-    v80 = v36 + 9u * 1u;
-    v81 = load8(v80);
-    v82 = v36 + 16u * 1u;
-    v83 = load64(v82);
-    v21 = v79; v22 = v81; v23 = v83; goto L63;
-L11:;
-    v84 = (u64)v65;
-    v85 = ADDRESS(c319) + v84 * 1u;
-    v86 = load8(v85);
-    f54(v35, v55, v42, a3);
-    v87 = load8(v35);
-    v88 = v87 == 1u;
-    if (v88) { goto L12; }
-    else { goto L13; }
-L12:;
-    v89 = v35 + 8u * 1u;
-    f94(v55, v89, v86);
-    goto L13;
-L13:;
-    memory_set(v34, 0u, 24u);
-    f74(v34, v55, a1, v42, a3, v45, a6);
-    v90 = load8(v34);
-    v91 = v90 == 0u;
-    if (v91) { goto L15; }
-    else { goto L14; }
-L14:;
-    TRAP;
-    UNREACHABLE;
-L15:;
-    v92 = v34 + 8u * 1u;
-    v93 = load8(v92);
-    v94 = v34 + 9u * 1u;
-    v95 = load8(v94);
-    v96 = v34 + 16u * 1u;
-    v97 = load64(v96);
-    if (v88) { v20 = v97; goto L62; }
-    else { v21 = v93; v22 = v95; v23 = v97; goto L63; }
-L16:;
-    v98 = (u64)v71;
-    v99 = a4 + 5u * 1u;
-    memory_set(v33, 0u, 32u);
-    f8(v33, v42, a3);
-    v100 = load8(v33);
-    v101 = v100 == 0u;
-    if (v101) { goto L17; }
-    else { goto L47; }
-L17:;
-    v102 = v33 + 8u * 1u;
-    memory_cpy(v32, v102, 24u);
-    v103 = v32 + 16u * 1u;
-    v104 = load8(v103);
-    v105 = v32 + 17u * 1u;
-    v106 = load8(v105);
-    v107 = v106 == 0u;
-    v108 = load_address(v32);
-    v109 = v107 ? 52u : 54u;
-    v110 = v107 ? 53u : 55u;
-    v111 = v108 + v109 * 1u;
-    v112 = load8(v111);
-    v113 = v108 + v110 * 1u;
-    v114 = load8(v113);
-    v115 = v108 + 42u * 1u;
-    v116 = load8(v115);
-    v117 = v108 + 43u * 1u;
-    v118 = load8(v117);
-    v119 = v32 + 8u * 1u;
-    v120 = load64(v119);
-    v121 = v108 + 54u * 1u;
-    v122 = (u64)((u64)v120 + (u64)UINT64_C(18446744073709551562));
-    v123 = v107 ? v121 : ADDRESS(c112);
-    v124 = v107 ? v122 : 0u;
-    v125 = (u16)v116;
-    v126 = (u16)((u32)v125 << (8u & 15u));
-    v127 = (u16)v118;
-    v128 = (u16)((u32)v126 | (u32)v127);
-    v129 = (u16)v112;
-    v130 = (u16)((u32)v129 << (8u & 15u));
-    v131 = (u16)v114;
-    v132 = (u16)((u32)v130 | (u32)v131);
-    store8(v31, v104);
-    v133 = v31 + 1u * 1u;
-    store8(v133, 0u);
-    v134 = v31 + 2u * 1u;
-    store16(v134, v132);
-    v135 = v31 + 4u * 1u;
-    store16(v135, v128);
-    v136 = v31 + 6u * 1u;
-    store16(v136, 0u);
-    v137 = v31 + 8u * 1u;
-    store_address(v137, v123);
-    v138 = v31 + 16u * 1u;
-    store64(v138, v124);
-    v139 = f61(v31);
-    if (v139) { goto L18; }
-    else { goto L24; }
-L18:;
-    v140 = v108 + 34u * 1u;
-    v141 = load64(v140);
-    v142 = v55 + 440u * 1u;
-    v143 = load64(v142);
-    v144 = load8(v108);
-    v145 = (u8)((u32)v144 >> (4u & 7u));
-    v146 = v108 + 5u * 1u;
-    v147 = load8(v146);
-    v148 = (u8)((u32)v145 | (u32)v147);
-    v149 = v148 == 0u;
-    if (v149) { goto L19; }
-    else { goto L24; }
-L19:;
-    v150 = v108 + 4u * 1u;
-    v151 = load8(v150);
-    v152 = v55 + 8u * 1u;
-    v153 = load8(v152);
-    v154 = v151 == v153;
-    if (v154) { goto L20; }
-    else { goto L24; }
-L20:;
-    v155 = v108 + 20u * 1u;
-    v156 = load64(v155);
-    v157 = v156 == v143;
-    if (v157) { goto L24; }
-    else { goto L21; }
-L21:;
-    v158 = v141 == v143;
-    v159 = v141 == UINT64_C(18446744073709551615);
-    v160 = (u8)(((u32)v159 | (u32)v158) & UINT64_C(1));
-    if (v160) { goto L22; }
-    else { goto L24; }
-L22:;
-    switch (v128) {
-    case 65535u: goto L25;
-    case 0u: goto L24;
-    default: goto L23;
+    v89 = a4 + 4u * 1u;
+    v90 = load8(v89);
+    switch (v90) {
+    case 0u: goto L12;
+    case 1u: goto L10;
+    case 2u: goto L11;
+    default: goto L72;
     }
-L23:;
-    v161 = load64(v57);
-    v162 = (u16)(v161);
-    v163 = v128 > v162;
-    if (v163) { goto L24; }
+L10:;
+    v91 = load16(a4);
+    v92 = (u16)((u32)v91 + (u32)2u);
+    v93 = v92 < 9u;
+    v94 = (u16)((u32)449u >> (v92 & 15u));
+    v95 = (u8)((v94) & UINT64_C(1));
+    v96 = v93 ? v95 : 0u;
+    if (v96) { goto L13; }
+    else { goto L72; }
+L11:;
+    v97 = a4 + 2u * 1u;
+    v98 = load16(v97);
+    v99 = (u16)((u32)v98 & (u32)1u);
+    v100 = v99 == 0u;
+    v101 = v98 < 1419u;
+    v102 = (u8)(((u32)v101 & (u32)v100) & UINT64_C(1));
+    if (v102) { goto L17; }
+    else { goto L72; }
+L12:;
+    f74(v43, v62, a1, v49, a3, v52, a6);
+    v103 = load8(v43);
+    v104 = v43 + 1u * 1u;
+    v105 = load8(v104);
+    v106 = v43 + 8u * 1u;
+    v107 = load64(v106);
+    v27 = v103; v28 = v105; v29 = v107; goto L61;
+L13:;
+    v108 = (u64)v92;
+    v109 = ADDRESS(c319) + v108 * 1u;
+    v110 = load8(v109);
+    memory_set(v41, 0u, 16u);
+    f54(v40, v62, v49, a3);
+    v111 = load8(v40);
+    v112 = v111 == 1u;
+    if (v112) { goto L14; }
+    else { goto L15; }
+L14:;
+    v113 = v40 + 8u * 1u;
+    f94(v62, v113, v110);
+    f74(v41, v62, a1, v49, a3, v52, a6);
+    v12 = 5u; v13 = 0u; goto L16;
+L15:;
+    f74(v41, v62, a1, v49, a3, v52, a6);
+    v114 = load8(v41);
+    v115 = v41 + 1u * 1u;
+    v116 = load8(v115);
+    v12 = v114; v13 = v116; goto L16;
+L16:;
+    v117 = v41 + 8u * 1u;
+    v118 = load64(v117);
+    v27 = v12; v28 = v13; v29 = v118; goto L61;
+L17:;
+    v119 = (u64)v98;
+    v120 = a4 + 5u * 1u;
+    memory_set(v39, 0u, 16u);
+    memory_set(v38, 0u, 32u);
+    f8(v38, v49, a3);
+    v121 = load8(v38);
+    v122 = v121 == 0u;
+    if (v122) { goto L18; }
+    else { goto L48; }
+L18:;
+    v123 = v38 + 8u * 1u;
+    memory_cpy(v37, v123, 24u);
+    v124 = v37 + 16u * 1u;
+    v125 = load8(v124);
+    v126 = v37 + 17u * 1u;
+    v127 = load8(v126);
+    v128 = v127 == 0u;
+    v129 = load_address(v37);
+    v130 = v128 ? 52u : 54u;
+    v131 = v128 ? 53u : 55u;
+    v132 = v129 + v130 * 1u;
+    v133 = load8(v132);
+    v134 = v129 + v131 * 1u;
+    v135 = load8(v134);
+    v136 = v129 + 42u * 1u;
+    v137 = load8(v136);
+    v138 = v129 + 43u * 1u;
+    v139 = load8(v138);
+    v140 = v37 + 8u * 1u;
+    v141 = load64(v140);
+    v142 = v129 + 54u * 1u;
+    v143 = (u64)((u64)v141 + (u64)UINT64_C(18446744073709551562));
+    v144 = v128 ? v142 : ADDRESS(c112);
+    v145 = v128 ? v143 : 0u;
+    v146 = (u16)v137;
+    v147 = (u16)((u32)v146 << (8u & 15u));
+    v148 = (u16)v139;
+    v149 = (u16)((u32)v147 | (u32)v148);
+    v150 = (u16)v133;
+    v151 = (u16)((u32)v150 << (8u & 15u));
+    v152 = (u16)v135;
+    v153 = (u16)((u32)v151 | (u32)v152);
+    store8(v36, v125);
+    v154 = v36 + 1u * 1u;
+    store8(v154, 0u);
+    v155 = v36 + 2u * 1u;
+    store16(v155, v153);
+    v156 = v36 + 4u * 1u;
+    store16(v156, v149);
+    v157 = v36 + 6u * 1u;
+    store16(v157, 0u);
+    v158 = v36 + 8u * 1u;
+    store_address(v158, v144);
+    v159 = v36 + 16u * 1u;
+    store64(v159, v145);
+    v160 = f61(v36);
+    if (v160) { goto L19; }
     else { goto L25; }
+L19:;
+    v161 = v129 + 34u * 1u;
+    v162 = load64(v161);
+    v163 = v62 + 440u * 1u;
+    v164 = load64(v163);
+    v165 = load8(v129);
+    v166 = (u8)((u32)v165 >> (4u & 7u));
+    v167 = v129 + 5u * 1u;
+    v168 = load8(v167);
+    v169 = (u8)((u32)v166 | (u32)v168);
+    v170 = v169 == 0u;
+    if (v170) { goto L20; }
+    else { goto L25; }
+L20:;
+    v171 = v129 + 4u * 1u;
+    v172 = load8(v171);
+    v173 = v62 + 8u * 1u;
+    v174 = load8(v173);
+    v175 = v172 == v174;
+    if (v175) { goto L21; }
+    else { goto L25; }
+L21:;
+    v176 = v129 + 20u * 1u;
+    v177 = load64(v176);
+    v178 = v177 == v164;
+    if (v178) { goto L25; }
+    else { goto L22; }
+L22:;
+    v179 = v162 == v164;
+    v180 = v162 == UINT64_C(18446744073709551615);
+    v181 = (u8)(((u32)v180 | (u32)v179) & UINT64_C(1));
+    if (v181) { goto L23; }
+    else { goto L25; }
+L23:;
+    switch (v149) {
+    case 65535u: goto L26;
+    case 0u: goto L25;
+    default: goto L24;
+    }
 L24:;
-    goto L47;
+    v182 = load64(v64);
+    v183 = (u16)(v182);
+    v184 = v149 > v183;
+    if (v184) { goto L25; }
+    else { goto L26; }
 L25:;
-    v164 = f62(v55, v32);
-    v165 = v164 == 0u;
-    if (v165) { goto L26; }
-    else { goto L47; }
+    goto L48;
 L26:;
-    if (v158) { v13 = 0u; v14 = v132; v15 = v156; v16 = v141; v17 = v151; goto L43; }
-    else { goto L27; }
+    v185 = f62(v62, v37);
+    v186 = v185 == 0u;
+    if (v186) { goto L27; }
+    else { goto L48; }
 L27:;
-    v166 = v108 + 45u * 1u;
-    v167 = load8(v166);
-    v168 = v167 == 0u;
-    if (v168) { v13 = 0u; v14 = v132; v15 = v156; v16 = v143; v17 = v151; goto L43; }
+    if (v179) { v18 = 0u; v19 = v153; v20 = v177; v21 = v162; v22 = v172; goto L44; }
     else { goto L28; }
 L28:;
-    v169 = (u16)((u32)a1 + (u32)65535u);
-    v170 = load64(v57);
-    v171 = (u64)v169;
-    v172 = v170 > v171;
-    if (v172) { goto L29; }
-    else { v13 = 0u; v14 = v132; v15 = v156; v16 = v143; v17 = v151; goto L43; }
+    v187 = v129 + 45u * 1u;
+    v188 = load8(v187);
+    v189 = v188 == 0u;
+    if (v189) { v18 = 0u; v19 = v153; v20 = v177; v21 = v164; v22 = v172; goto L44; }
+    else { goto L29; }
 L29:;
-    v173 = v55 + 240u * 1u;
-    v174 = (u64)((u64)v171 * (u64)24u);
-    v175 = v173 + v174 * 1u;
-    v176 = load8(v175);
-    switch (v176) {
-    case 4u: goto L31;
-    case 5u: goto L31;
-    case 7u: goto L31;
-    case 8u: goto L31;
-    case 0u: v13 = 0u; v14 = v132; v15 = v156; v16 = v143; v17 = v151; goto L43;
-    case 1u: v13 = 0u; v14 = v132; v15 = v156; v16 = v143; v17 = v151; goto L43;
-    case 2u: v13 = 0u; v14 = v132; v15 = v156; v16 = v143; v17 = v151; goto L43;
-    case 3u: v13 = 0u; v14 = v132; v15 = v156; v16 = v143; v17 = v151; goto L43;
-    case 6u: v13 = 0u; v14 = v132; v15 = v156; v16 = v143; v17 = v151; goto L43;
-    default: goto L30;
-    }
+    v190 = (u16)((u32)a1 + (u32)65535u);
+    v191 = load64(v64);
+    v192 = (u64)v190;
+    v193 = v191 > v192;
+    if (v193) { goto L30; }
+    else { v18 = 0u; v19 = v153; v20 = v177; v21 = v164; v22 = v172; goto L44; }
 L30:;
-    UNREACHABLE;
+    v194 = v62 + 240u * 1u;
+    v195 = (u64)((u64)v192 * (u64)24u);
+    v196 = v194 + v195 * 1u;
+    v197 = load8(v196);
+    switch (v197) {
+    case 4u: goto L32;
+    case 5u: goto L32;
+    case 7u: goto L32;
+    case 8u: goto L32;
+    case 0u: v18 = 0u; v19 = v153; v20 = v177; v21 = v164; v22 = v172; goto L44;
+    case 1u: v18 = 0u; v19 = v153; v20 = v177; v21 = v164; v22 = v172; goto L44;
+    case 2u: v18 = 0u; v19 = v153; v20 = v177; v21 = v164; v22 = v172; goto L44;
+    case 3u: v18 = 0u; v19 = v153; v20 = v177; v21 = v164; v22 = v172; goto L44;
+    case 6u: v18 = 0u; v19 = v153; v20 = v177; v21 = v164; v22 = v172; goto L44;
+    default: goto L31;
+    }
 L31:;
-    v177 = (u16)(v170);
-    v178 = (u16)((u32)v177 + (u32)1u);
-    v179 = v178 > 1u;
-    if (v179) { goto L32; }
-    else { v13 = 0u; v14 = v132; v15 = v156; v16 = v143; v17 = v151; goto L43; }
+    UNREACHABLE;
 L32:;
-    v180 = v42 + 2u * 1u;
-    v181 = v42 + 3u * 1u;
-    v182 = (u64)v42;
-    v183 = (u64)a1;
-    v184 = (u64)v178;
-    v9 = 0u; v10 = 1u; goto L33;
+    v198 = (u16)(v191);
+    v199 = (u16)((u32)v198 + (u32)1u);
+    v200 = v199 > 1u;
+    if (v200) { goto L33; }
+    else { v18 = 0u; v19 = v153; v20 = v177; v21 = v164; v22 = v172; goto L44; }
 L33:;
-    v185 = v10 == v183;
-    if (v185) { v12 = v9; goto L41; }
-    else { goto L34; }
+    v201 = v49 + 2u * 1u;
+    v202 = v49 + 3u * 1u;
+    v203 = (u64)v49;
+    v204 = (u64)a1;
+    v205 = (u64)v199;
+    v14 = 0u; v15 = 1u; goto L34;
 L34:;
-    v186 = (u64)((u64)v10 + (u64)UINT64_C(18446744073709551615));
-    v187 = load64(v57);
-    v188 = v187 > v186;
-    if (v188) { goto L35; }
-    else { v12 = v9; goto L41; }
+    v206 = v15 == v204;
+    if (v206) { v17 = v14; goto L42; }
+    else { goto L35; }
 L35:;
-    v189 = (u64)((u64)v186 * (u64)24u);
-    v190 = v173 + v189 * 1u;
-    v191 = load8(v190);
-    switch (v191) {
-    case 4u: goto L37;
-    case 5u: goto L37;
-    case 7u: goto L37;
-    case 8u: goto L37;
-    case 0u: v12 = v9; goto L41;
-    case 1u: v12 = v9; goto L41;
-    case 2u: v12 = v9; goto L41;
-    case 3u: v12 = v9; goto L41;
-    case 6u: v12 = v9; goto L41;
-    default: goto L36;
-    }
+    v207 = (u64)((u64)v15 + (u64)UINT64_C(18446744073709551615));
+    v208 = load64(v64);
+    v209 = v208 > v207;
+    if (v209) { goto L36; }
+    else { v17 = v14; goto L42; }
 L36:;
-    UNREACHABLE;
+    v210 = (u64)((u64)v207 * (u64)24u);
+    v211 = v194 + v210 * 1u;
+    v212 = load8(v211);
+    switch (v212) {
+    case 4u: goto L38;
+    case 5u: goto L38;
+    case 7u: goto L38;
+    case 8u: goto L38;
+    case 0u: v17 = v14; goto L42;
+    case 1u: v17 = v14; goto L42;
+    case 2u: v17 = v14; goto L42;
+    case 3u: v17 = v14; goto L42;
+    case 6u: v17 = v14; goto L42;
+    default: goto L37;
+    }
 L37:;
-    v192 = (u64)((u64)v9 * (u64)1476u);
-    v193 = v45 + v192 * 1u;
-    v194 = load8(v180);
-    v195 = load8(v181);
-    v196 = (u16)v194;
-    v197 = (u16)((u32)v196 << (8u & 15u));
-    v198 = (u16)v195;
-    v199 = (u16)((u32)v197 | (u32)v198);
-    v200 = (u64)v199;
-    v201 = (u16)(v10);
-    store16(v193, v201);
-    v202 = v193 + 2u * 1u;
-    store16(v202, v199);
-    v203 = v193 + 4u * 1u;
-    v204 = (u64)v203;
-    v205 = (u64)((u64)v204 - (u64)v182);
-    v206 = v205 < v200;
-    if (v206) { v11 = 0u; goto L39; }
-    else { goto L38; }
+    UNREACHABLE;
 L38:;
-    memory_move(v203, v42, v200);
-    goto L40;
+    v213 = (u64)((u64)v14 * (u64)1476u);
+    v214 = v52 + v213 * 1u;
+    v215 = load8(v201);
+    v216 = load8(v202);
+    v217 = (u16)v215;
+    v218 = (u16)((u32)v217 << (8u & 15u));
+    v219 = (u16)v216;
+    v220 = (u16)((u32)v218 | (u32)v219);
+    v221 = (u64)v220;
+    v222 = (u16)(v15);
+    store16(v214, v222);
+    v223 = v214 + 2u * 1u;
+    store16(v223, v220);
+    v224 = v214 + 4u * 1u;
+    v225 = (u64)v224;
+    v226 = (u64)((u64)v225 - (u64)v203);
+    v227 = v226 < v221;
+    if (v227) { v16 = 0u; goto L40; }
+    else { goto L39; }
 L39:;
-    v207 = v203 + v11 * 1u;
-    v208 = v42 + v11 * 1u;
-    v209 = load8(v208);
-    store8(v207, v209);
-    v210 = (u64)((u64)v11 + (u64)1u);
-    v211 = v210 == v200;
-    if (v211) { goto L40; }
-    else { v11 = v210; goto L39; }
+    memory_move(v224, v49, v221);
+    goto L41;
 L40:;
-    v212 = v193 + 49u * 1u;
-    v213 = load8(v212);
-    v214 = (u8)((u32)v213 + (u32)255u);
-    store8(v212, v214);
-    v215 = (u64)((u64)v9 + (u64)1u);
-    v12 = v215; goto L41;
-L41:;
-    v216 = (u64)((u64)v10 + (u64)1u);
-    v217 = v216 == v184;
-    if (v217) { goto L42; }
-    else { v9 = v12; v10 = v216; goto L33; }
-L42:;
-    v218 = load8(v111);
-    v219 = load8(v113);
-    v220 = load8(v150);
-    v221 = load64(v142);
-    v222 = load64(v155);
-    v223 = (u16)v218;
-    v224 = (u16)((u32)v223 << (8u & 15u));
-    v225 = (u16)v219;
-    v226 = (u16)((u32)v224 | (u32)v225);
-    v13 = v12; v14 = v226; v15 = v222; v16 = v221; v17 = v220; goto L43;
-L43:;
-    v227 = v108 + 44u * 1u;
-    v228 = load8(v227);
-    v229 = v108 + 45u * 1u;
+    v228 = v224 + v16 * 1u;
+    v229 = v49 + v16 * 1u;
     v230 = load8(v229);
-    v231 = v228 > v230 ? (u8)((u32)v228 - (u32)v230) : 0u;
-    v232 = v108 + 30u * 1u;
-    v233 = load8(v232);
-    v234 = v108 + 31u * 1u;
-    v235 = load8(v234);
-    v236 = (u16)v233;
-    v237 = (u16)((u32)v236 << (8u & 15u));
-    v238 = (u16)v235;
-    v239 = (u16)((u32)v237 | (u32)v238);
-    v240 = v108 + 28u * 1u;
-    v241 = load8(v240);
-    v242 = v108 + 29u * 1u;
-    v243 = load8(v242);
-    v244 = (u16)v241;
+    store8(v228, v230);
+    v231 = (u64)((u64)v16 + (u64)1u);
+    v232 = v231 == v221;
+    if (v232) { goto L41; }
+    else { v16 = v231; goto L40; }
+L41:;
+    v233 = v214 + 49u * 1u;
+    v234 = load8(v233);
+    v235 = (u8)((u32)v234 + (u32)255u);
+    store8(v233, v235);
+    v236 = (u64)((u64)v14 + (u64)1u);
+    v17 = v236; goto L42;
+L42:;
+    v237 = (u64)((u64)v15 + (u64)1u);
+    v238 = v237 == v205;
+    if (v238) { goto L43; }
+    else { v14 = v17; v15 = v237; goto L34; }
+L43:;
+    v239 = load8(v132);
+    v240 = load8(v134);
+    v241 = load8(v171);
+    v242 = load64(v163);
+    v243 = load64(v176);
+    v244 = (u16)v239;
     v245 = (u16)((u32)v244 << (8u & 15u));
-    v246 = (u16)v243;
+    v246 = (u16)v240;
     v247 = (u16)((u32)v245 | (u32)v246);
-    v248 = (u16)v17;
-    v249 = swap16(a1);
-    v250 = swap16(v239);
-    v251 = swap16(v247);
-    v252 = (u32)v231;
-    v253 = (u32)((u32)v252 * (u32)257u);
-    v254 = (u32)((u32)v253 | (u32)UINT32_C(131072));
-    v255 = swap16(v14);
-    v256 = (u64)((u64)v13 * (u64)1476u);
-    v257 = v45 + v256 * 1u;
-    store16(v257, a1);
-    v258 = (u16)((u32)v71 + (u32)54u);
-    v259 = v257 + 2u * 1u;
-    store16(v259, v258);
-    v260 = v257 + 4u * 1u;
-    v261 = v257 + 58u * 1u;
-    store16(v260, 4621u);
-    v262 = v257 + 6u * 1u;
-    store16(v262, 13824u);
-    v263 = v257 + 8u * 1u;
-    store16(v263, v248);
-    v264 = v257 + 10u * 1u;
-    memory_set(v264, 0u, 14u);
-    v265 = v257 + 24u * 1u;
-    store64(v265, v16);
-    v266 = v257 + 32u * 1u;
-    store16(v266, v249);
-    v267 = v257 + 34u * 1u;
-    store16(v267, v250);
-    v268 = v257 + 36u * 1u;
-    store16(v268, 32516u);
-    v269 = v257 + 38u * 1u;
-    store64(v269, v15);
-    v270 = v257 + 46u * 1u;
-    store16(v270, v251);
-    v271 = v257 + 48u * 1u;
-    store32(v271, v254);
-    v272 = v257 + 52u * 1u;
-    store16(v272, 256u);
-    v273 = v257 + 54u * 1u;
-    store16(v273, 512u);
-    v274 = v257 + 56u * 1u;
-    store16(v274, v255);
-    v275 = (u64)v261;
-    v276 = (u64)v99;
-    v277 = (u64)((u64)v275 - (u64)v276);
-    v278 = v277 < v98;
-    if (v278) { v18 = 0u; goto L45; }
-    else { goto L44; }
+    v18 = v17; v19 = v247; v20 = v243; v21 = v242; v22 = v241; goto L44;
 L44:;
-    memory_move(v261, v99, v98);
-    goto L46;
+    v248 = v129 + 44u * 1u;
+    v249 = load8(v248);
+    v250 = v129 + 45u * 1u;
+    v251 = load8(v250);
+    v252 = v249 > v251 ? (u8)((u32)v249 - (u32)v251) : 0u;
+    v253 = v129 + 30u * 1u;
+    v254 = load8(v253);
+    v255 = v129 + 31u * 1u;
+    v256 = load8(v255);
+    v257 = (u16)v254;
+    v258 = (u16)((u32)v257 << (8u & 15u));
+    v259 = (u16)v256;
+    v260 = (u16)((u32)v258 | (u32)v259);
+    v261 = v129 + 28u * 1u;
+    v262 = load8(v261);
+    v263 = v129 + 29u * 1u;
+    v264 = load8(v263);
+    v265 = (u16)v262;
+    v266 = (u16)((u32)v265 << (8u & 15u));
+    v267 = (u16)v264;
+    v268 = (u16)((u32)v266 | (u32)v267);
+    v269 = (u16)v22;
+    v270 = swap16(a1);
+    v271 = swap16(v260);
+    v272 = swap16(v268);
+    v273 = (u32)v252;
+    v274 = (u32)((u32)v273 * (u32)257u);
+    v275 = (u32)((u32)v274 | (u32)UINT32_C(131072));
+    v276 = swap16(v19);
+    v277 = (u64)((u64)v18 * (u64)1476u);
+    v278 = v52 + v277 * 1u;
+    store16(v278, a1);
+    v279 = (u16)((u32)v98 + (u32)54u);
+    v280 = v278 + 2u * 1u;
+    store16(v280, v279);
+    v281 = v278 + 4u * 1u;
+    v282 = v278 + 58u * 1u;
+    store16(v281, 4621u);
+    v283 = v278 + 6u * 1u;
+    store16(v283, 13824u);
+    v284 = v278 + 8u * 1u;
+    store16(v284, v269);
+    v285 = v278 + 10u * 1u;
+    memory_set(v285, 0u, 14u);
+    v286 = v278 + 24u * 1u;
+    store64(v286, v21);
+    v287 = v278 + 32u * 1u;
+    store16(v287, v270);
+    v288 = v278 + 34u * 1u;
+    store16(v288, v271);
+    v289 = v278 + 36u * 1u;
+    store16(v289, 32516u);
+    v290 = v278 + 38u * 1u;
+    store64(v290, v20);
+    v291 = v278 + 46u * 1u;
+    store16(v291, v272);
+    v292 = v278 + 48u * 1u;
+    store32(v292, v275);
+    v293 = v278 + 52u * 1u;
+    store16(v293, 256u);
+    v294 = v278 + 54u * 1u;
+    store16(v294, 512u);
+    v295 = v278 + 56u * 1u;
+    store16(v295, v276);
+    v296 = (u64)v282;
+    v297 = (u64)v120;
+    v298 = (u64)((u64)v296 - (u64)v297);
+    v299 = v298 < v119;
+    if (v299) { v23 = 0u; goto L46; }
+    else { goto L45; }
 L45:;
-    v279 = v261 + v18 * 1u;
-    v280 = v99 + v18 * 1u;
-    v281 = load8(v280);
-    store8(v279, v281);
-    v282 = (u64)((u64)v18 + (u64)1u);
-    v283 = v282 == v98;
-    if (v283) { goto L46; }
-    else { v18 = v282; goto L45; }
+    memory_move(v282, v120, v119);
+    goto L47;
 L46:;
-    v284 = swap16(v258);
-    store16(v262, v284);
-    store16(v266, v249);
-    v285 = (u16)((u32)v71 + (u32)2u);
-    v286 = swap16(v285);
-    store16(v273, v286);
-    v287 = (u64)((u64)v13 + (u64)1u);
-    store64(a7, v287);
-    f90(v39, v55, v37);
-    memory_cpy(a8, v39, 12u);
-    goto L72;
-L47:;
-    memory_set(v29, 0u, 32u);
-    f8(v29, v42, a3);
-    v288 = load8(v29);
-    v289 = v288 == 0u;
-    if (v289) { goto L48; }
-    else { goto L57; }
-L48:;
-    v290 = v29 + 8u * 1u;
-    memory_cpy(v28, v290, 24u);
-    v291 = v28 + 16u * 1u;
-    v292 = load8(v291);
-    v293 = v28 + 17u * 1u;
-    v294 = load8(v293);
-    v295 = v294 == 0u;
-    v296 = load_address(v28);
-    v297 = v295 ? 52u : 54u;
-    v298 = v295 ? 53u : 55u;
-    v299 = v296 + v297 * 1u;
-    v300 = load8(v299);
-    v301 = v296 + v298 * 1u;
+    v300 = v282 + v23 * 1u;
+    v301 = v120 + v23 * 1u;
     v302 = load8(v301);
-    v303 = v296 + 42u * 1u;
-    v304 = load8(v303);
-    v305 = v296 + 43u * 1u;
-    v306 = load8(v305);
-    v307 = v28 + 8u * 1u;
-    v308 = load64(v307);
-    v309 = v296 + 54u * 1u;
-    v310 = (u64)((u64)v308 + (u64)UINT64_C(18446744073709551562));
-    v311 = v295 ? v309 : ADDRESS(c112);
-    v312 = v295 ? v310 : 0u;
-    v313 = (u16)v304;
-    v314 = (u16)((u32)v313 << (8u & 15u));
-    v315 = (u16)v306;
-    v316 = (u16)((u32)v314 | (u32)v315);
-    v317 = (u16)v300;
-    v318 = (u16)((u32)v317 << (8u & 15u));
-    v319 = (u16)v302;
-    v320 = (u16)((u32)v318 | (u32)v319);
-    store8(v27, v292);
-    v321 = v27 + 1u * 1u;
-    store8(v321, 0u);
-    v322 = v27 + 2u * 1u;
-    store16(v322, v320);
-    v323 = v27 + 4u * 1u;
-    store16(v323, v316);
-    v324 = v27 + 6u * 1u;
-    store16(v324, 0u);
-    v325 = v27 + 8u * 1u;
-    store_address(v325, v311);
-    v326 = v27 + 16u * 1u;
-    store64(v326, v312);
-    v327 = f61(v27);
-    if (v327) { goto L49; }
-    else { goto L55; }
+    store8(v300, v302);
+    v303 = (u64)((u64)v23 + (u64)1u);
+    v304 = v303 == v119;
+    if (v304) { goto L47; }
+    else { v23 = v303; goto L46; }
+L47:;
+    v305 = swap16(v279);
+    store16(v283, v305);
+    store16(v287, v270);
+    v306 = (u16)((u32)v98 + (u32)2u);
+    v307 = swap16(v306);
+    store16(v294, v307);
+    v308 = (u64)((u64)v18 + (u64)1u);
+    v24 = 9u; v25 = 0u; v26 = v308; goto L60;
+L48:;
+    memory_set(v34, 0u, 32u);
+    f8(v34, v49, a3);
+    v309 = load8(v34);
+    v310 = v309 == 0u;
+    if (v310) { goto L49; }
+    else { goto L59; }
 L49:;
-    v328 = v296 + 34u * 1u;
+    v311 = v34 + 8u * 1u;
+    memory_cpy(v33, v311, 24u);
+    v312 = v33 + 16u * 1u;
+    v313 = load8(v312);
+    v314 = v33 + 17u * 1u;
+    v315 = load8(v314);
+    v316 = v315 == 0u;
+    v317 = load_address(v33);
+    v318 = v316 ? 52u : 54u;
+    v319 = v316 ? 53u : 55u;
+    v320 = v317 + v318 * 1u;
+    v321 = load8(v320);
+    v322 = v317 + v319 * 1u;
+    v323 = load8(v322);
+    v324 = v317 + 42u * 1u;
+    v325 = load8(v324);
+    v326 = v317 + 43u * 1u;
+    v327 = load8(v326);
+    v328 = v33 + 8u * 1u;
     v329 = load64(v328);
-    v330 = v55 + 440u * 1u;
-    v331 = load64(v330);
-    v332 = load8(v296);
-    v333 = (u8)((u32)v332 >> (4u & 7u));
-    v334 = v296 + 5u * 1u;
-    v335 = load8(v334);
-    v336 = (u8)((u32)v333 | (u32)v335);
-    v337 = v336 == 0u;
-    if (v337) { goto L50; }
-    else { goto L55; }
-L50:;
-    v338 = v296 + 4u * 1u;
-    v339 = load8(v338);
-    v340 = v55 + 8u * 1u;
-    v341 = load8(v340);
-    v342 = v339 == v341;
-    if (v342) { goto L51; }
-    else { goto L55; }
-L51:;
-    v343 = v296 + 20u * 1u;
-    v344 = load64(v343);
-    v345 = v344 == v331;
-    if (v345) { goto L55; }
-    else { goto L52; }
-L52:;
-    v346 = v329 == v331;
-    v347 = v329 == UINT64_C(18446744073709551615);
-    v348 = (u8)(((u32)v347 | (u32)v346) & UINT64_C(1));
-    if (v348) { goto L53; }
-    else { goto L55; }
-L53:;
-    switch (v316) {
-    case 65535u: goto L56;
-    case 0u: goto L55;
-    default: goto L54;
-    }
-L54:;
-    v349 = load64(v57);
-    v350 = (u16)(v349);
-    v351 = v316 > v350;
-    if (v351) { goto L55; }
+    v330 = v317 + 54u * 1u;
+    v331 = (u64)((u64)v329 + (u64)UINT64_C(18446744073709551562));
+    v332 = v316 ? v330 : ADDRESS(c112);
+    v333 = v316 ? v331 : 0u;
+    v334 = (u16)v325;
+    v335 = (u16)((u32)v334 << (8u & 15u));
+    v336 = (u16)v327;
+    v337 = (u16)((u32)v335 | (u32)v336);
+    v338 = (u16)v321;
+    v339 = (u16)((u32)v338 << (8u & 15u));
+    v340 = (u16)v323;
+    v341 = (u16)((u32)v339 | (u32)v340);
+    store8(v32, v313);
+    v342 = v32 + 1u * 1u;
+    store8(v342, 0u);
+    v343 = v32 + 2u * 1u;
+    store16(v343, v341);
+    v344 = v32 + 4u * 1u;
+    store16(v344, v337);
+    v345 = v32 + 6u * 1u;
+    store16(v345, 0u);
+    v346 = v32 + 8u * 1u;
+    store_address(v346, v332);
+    v347 = v32 + 16u * 1u;
+    store64(v347, v333);
+    v348 = f61(v32);
+    if (v348) { goto L50; }
     else { goto L56; }
-L55:;
-    goto L57;
-L56:;
-    v352 = f62(v55, v28);
-    v353 = v352 == 1u;
-    if (v353) { goto L58; }
-    else { goto L57; }
-L57:;
-    v19 = 0u; goto L59;
-L58:;
-    v354 = v296 + 28u * 1u;
-    v355 = load8(v354);
-    v356 = v296 + 29u * 1u;
-    v357 = load8(v356);
-    v358 = v296 + 30u * 1u;
-    v359 = load8(v358);
-    v360 = v296 + 31u * 1u;
-    v361 = load8(v360);
-    v362 = (u16)v359;
-    v363 = (u16)((u32)v362 << (8u & 15u));
-    v364 = (u16)v361;
-    v365 = (u16)((u32)v363 | (u32)v364);
-    v366 = (u16)v355;
-    v367 = (u16)((u32)v366 << (8u & 15u));
-    v368 = (u16)v357;
-    v369 = (u16)((u32)v367 | (u32)v368);
-    store64(v30, v344);
-    v370 = v30 + 8u * 1u;
-    store16(v370, v369);
-    v371 = v30 + 10u * 1u;
-    store16(v371, v365);
-    v372 = v30 + 12u * 1u;
-    store32(v372, 0u);
-    v373 = v30 + 16u * 1u;
-    store8(v373, v292);
-    v374 = v30 + 17u * 1u;
-    store8(v374, 0u);
-    v375 = v30 + 18u * 1u;
-    store16(v375, v320);
-    v376 = v30 + 20u * 1u;
-    store16(v376, v316);
-    v377 = v30 + 22u * 1u;
-    store16(v377, 0u);
-    v378 = v30 + 24u * 1u;
-    store_address(v378, v311);
-    v379 = v30 + 32u * 1u;
-    store64(v379, v312);
-    f98(v55, v30, v99, v98);
-    v19 = 1u; goto L59;
-L59:;
-    memory_set(v26, 0u, 24u);
-    f74(v26, v55, a1, v42, a3, v45, a6);
-    v380 = load8(v26);
-    v381 = v380 == 0u;
-    if (v381) { goto L61; }
-    else { goto L60; }
-L60:;
-    TRAP;
-    UNREACHABLE;
-L61:;
-    v382 = v26 + 8u * 1u;
-    v383 = load8(v382);
-    v384 = v26 + 9u * 1u;
-    v385 = load8(v384);
-    v386 = v26 + 16u * 1u;
-    v387 = load64(v386);
-    if (v19) { v20 = v387; goto L62; }
-    else { v21 = v383; v22 = v385; v23 = v387; goto L63; }
-L62:;
-    store64(a7, v20);
-    f90(v39, v55, v37);
-    memory_cpy(a8, v39, 12u);
-    goto L68;
-L63:;
-    store64(a7, v23);
-    f90(v39, v55, v37);
-    memory_cpy(a8, v39, 12u);
-    switch (v21) {
-    case 0u: goto L64;
-    case 9u: goto L72;
-    case 1u: v24 = 1u; goto L74;
-    case 2u: goto L65;
-    case 3u: goto L66;
-    case 4u: goto L67;
-    case 5u: goto L68;
-    case 6u: goto L69;
-    case 7u: goto L70;
-    case 8u: goto L71;
-    default: goto L73;
+L50:;
+    v349 = v317 + 34u * 1u;
+    v350 = load64(v349);
+    v351 = v62 + 440u * 1u;
+    v352 = load64(v351);
+    v353 = load8(v317);
+    v354 = (u8)((u32)v353 >> (4u & 7u));
+    v355 = v317 + 5u * 1u;
+    v356 = load8(v355);
+    v357 = (u8)((u32)v354 | (u32)v356);
+    v358 = v357 == 0u;
+    if (v358) { goto L51; }
+    else { goto L56; }
+L51:;
+    v359 = v317 + 4u * 1u;
+    v360 = load8(v359);
+    v361 = v62 + 8u * 1u;
+    v362 = load8(v361);
+    v363 = v360 == v362;
+    if (v363) { goto L52; }
+    else { goto L56; }
+L52:;
+    v364 = v317 + 20u * 1u;
+    v365 = load64(v364);
+    v366 = v365 == v352;
+    if (v366) { goto L56; }
+    else { goto L53; }
+L53:;
+    v367 = v350 == v352;
+    v368 = v350 == UINT64_C(18446744073709551615);
+    v369 = (u8)(((u32)v368 | (u32)v367) & UINT64_C(1));
+    if (v369) { goto L54; }
+    else { goto L56; }
+L54:;
+    switch (v337) {
+    case 65535u: goto L57;
+    case 0u: goto L56;
+    default: goto L55;
     }
+L55:;
+    v370 = load64(v64);
+    v371 = (u16)(v370);
+    v372 = v337 > v371;
+    if (v372) { goto L56; }
+    else { goto L57; }
+L56:;
+    goto L59;
+L57:;
+    v373 = f62(v62, v33);
+    v374 = v373 == 1u;
+    if (v374) { goto L58; }
+    else { goto L59; }
+L58:;
+    v375 = v317 + 28u * 1u;
+    v376 = load8(v375);
+    v377 = v317 + 29u * 1u;
+    v378 = load8(v377);
+    v379 = v317 + 30u * 1u;
+    v380 = load8(v379);
+    v381 = v317 + 31u * 1u;
+    v382 = load8(v381);
+    v383 = (u16)v380;
+    v384 = (u16)((u32)v383 << (8u & 15u));
+    v385 = (u16)v382;
+    v386 = (u16)((u32)v384 | (u32)v385);
+    v387 = (u16)v376;
+    v388 = (u16)((u32)v387 << (8u & 15u));
+    v389 = (u16)v378;
+    v390 = (u16)((u32)v388 | (u32)v389);
+    store64(v35, v365);
+    v391 = v35 + 8u * 1u;
+    store16(v391, v390);
+    v392 = v35 + 10u * 1u;
+    store16(v392, v386);
+    v393 = v35 + 12u * 1u;
+    store32(v393, 0u);
+    v394 = v35 + 16u * 1u;
+    store8(v394, v313);
+    v395 = v35 + 17u * 1u;
+    store8(v395, 0u);
+    v396 = v35 + 18u * 1u;
+    store16(v396, v341);
+    v397 = v35 + 20u * 1u;
+    store16(v397, v337);
+    v398 = v35 + 22u * 1u;
+    store16(v398, 0u);
+    v399 = v35 + 24u * 1u;
+    store_address(v399, v332);
+    v400 = v35 + 32u * 1u;
+    store64(v400, v333);
+    f98(v62, v35, v120, v119);
+    f74(v39, v62, a1, v49, a3, v52, a6);
+    v401 = v39 + 8u * 1u;
+    v402 = load64(v401);
+    v24 = 5u; v25 = 0u; v26 = v402; goto L60;
+L59:;
+    f74(v39, v62, a1, v49, a3, v52, a6);
+    v403 = load8(v39);
+    v404 = v39 + 1u * 1u;
+    v405 = load8(v404);
+    v406 = v39 + 8u * 1u;
+    v407 = load64(v406);
+    v24 = v403; v25 = v405; v26 = v407; goto L60;
+L60:;
+    v27 = v24; v28 = v25; v29 = v26; goto L61;
+L61:;
+    store64(a7, v29);
+    f90(v46, v62, v44);
+    memory_cpy(a8, v46, 12u);
+    switch (v27) {
+    case 0u: goto L62;
+    case 9u: goto L70;
+    case 1u: v30 = 1u; goto L75;
+    case 2u: goto L63;
+    case 3u: goto L64;
+    case 4u: goto L65;
+    case 5u: goto L66;
+    case 6u: goto L67;
+    case 7u: goto L68;
+    case 8u: goto L69;
+    default: goto L71;
+    }
+L62:;
+    v408 = (u32)v28;
+    v409 = (u32)((u32)v408 + (u32)16u);
+    v30 = v409; goto L75;
+L63:;
+    v30 = 2u; goto L75;
 L64:;
-    v388 = (u32)v22;
-    v389 = (u32)((u32)v388 + (u32)16u);
-    v24 = v389; goto L74;
+    v30 = 3u; goto L75;
 L65:;
-    v24 = 2u; goto L74;
+    v30 = 4u; goto L75;
 L66:;
-    v24 = 3u; goto L74;
+    v30 = 5u; goto L75;
 L67:;
-    v24 = 4u; goto L74;
+    v30 = 6u; goto L75;
 L68:;
-    v24 = 5u; goto L74;
+    v30 = 7u; goto L75;
 L69:;
-    v24 = 6u; goto L74;
+    v30 = 8u; goto L75;
 L70:;
-    v24 = 7u; goto L74;
+    v30 = 9u; goto L75;
 L71:;
-    v24 = 8u; goto L74;
-L72:;
-    v24 = 9u; goto L74;
-L73:;
     UNREACHABLE;
+L72:;
+    v30 = 121u; goto L75;
+L73:;
+    v30 = 34u; goto L75;
 L74:;
-    store64(v47, 1u);
-    store_address(v52, v55);
-    store_address(a0, v47);
-    store8(v48, 1u);
-    v390 = a0 + 9u * 1u;
-    memory_set(v390, 0u, 7u);
-    v25 = v24; goto L81;
+    v30 = 33u; goto L75;
 L75:;
-    v391 = (u64)v51;
-    store64(v47, v391);
-    store_address(v52, v55);
-    store_address(a0, v47);
-    store8(v48, 1u);
-    v392 = a0 + 9u * 1u;
-    memory_set(v392, 0u, 7u);
-    v393 = a4 + 4u * 1u;
-    v394 = load8(v393);
-    v395 = v394 == 0u;
-    if (v395) { goto L77; }
-    else { goto L78; }
+    store64(v54, 1u);
+    store_address(v59, v62);
+    store_address(a0, v54);
+    store8(v55, 1u);
+    v410 = a0 + 9u * 1u;
+    memory_set(v410, 0u, 7u);
+    v31 = v30; goto L82;
 L76:;
-    v396 = a4 + 4u * 1u;
-    v397 = load8(v396);
-    v398 = v397 == 0u;
-    if (v398) { goto L77; }
-    else { v25 = 32u; goto L81; }
-L77:;
-    v399 = f89(a0, a1, v42, a3, v45, a6, a7, a8);
-    v25 = v399; goto L81;
-L78:;
-    memory_set(a0, 0u, 16u);
-    v400 = load8(v47);
-    v401 = load64(v52);
-    memory_set(v47, 0u, 16u);
-    v402 = v400 == 4u;
-    v403 = (address)v401;
-    if (v402) { goto L80; }
+    v411 = (u64)v58;
+    store64(v54, v411);
+    store_address(v59, v62);
+    store_address(a0, v54);
+    store8(v55, 1u);
+    v412 = a0 + 9u * 1u;
+    memory_set(v412, 0u, 7u);
+    v413 = a4 + 4u * 1u;
+    v414 = load8(v413);
+    v415 = v414 == 0u;
+    if (v415) { goto L78; }
     else { goto L79; }
+L77:;
+    v416 = a4 + 4u * 1u;
+    v417 = load8(v416);
+    v418 = v417 == 0u;
+    if (v418) { goto L78; }
+    else { v31 = 32u; goto L82; }
+L78:;
+    v419 = f89(a0, a1, v49, a3, 1u, v52, a6, a7, a8);
+    v31 = v419; goto L82;
 L79:;
-    v404 = (u64)v400;
-    store64(v47, v404);
-    store_address(v52, v403);
-    store_address(a0, v47);
-    store8(v48, 1u);
-    memory_set(v392, 0u, 7u);
-    v25 = 32u; goto L81;
+    memory_set(a0, 0u, 16u);
+    v420 = load8(v54);
+    v421 = load64(v59);
+    memory_set(v54, 0u, 16u);
+    v422 = v420 == 4u;
+    v423 = (address)v421;
+    if (v422) { goto L81; }
+    else { goto L80; }
 L80:;
-    store64(v47, 4u);
-    store_address(v52, v403);
-    store_address(a0, v47);
-    store8(v48, 1u);
-    memory_set(v392, 0u, 7u);
-    v25 = 122u; goto L81;
+    v424 = (u64)v420;
+    store64(v54, v424);
+    store_address(v59, v423);
+    store_address(a0, v54);
+    store8(v55, 1u);
+    memory_set(v412, 0u, 7u);
+    v31 = 32u; goto L82;
 L81:;
-    return v25;
+    store64(v54, 4u);
+    store_address(v59, v423);
+    store_address(a0, v54);
+    store8(v55, 1u);
+    memory_set(v412, 0u, 7u);
+    v31 = 122u; goto L82;
+L82:;
+    return v31;
 }
 
 u32 portable_ptpm_clock_saving(address a0) {
