@@ -162,7 +162,7 @@ impl Clock {
     {
         self.ports.keys().any(|number| {
             match self.port(*number) {
-                Some(set) => group.has(set.state),
+                Some(set) => group.has(set.state()),
                 None => false,
             }
         })

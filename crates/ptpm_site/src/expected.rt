@@ -1,9 +1,7 @@
 //! How a site is not as a profile wants it, or as the inventory that its operator keeps.
 
-use crate::data_sets::{ClockQuality, DelayMechanism};
-use crate::member::{Member, Value};
 use ptpm_codec::{ClockIdentity, PortIdentity};
-use ptpm_data::PortState;
+use ptpm_members::{ClockQuality, Enumeration, Member, MemberValue};
 
 /// A member that is not what a profile allows.
 #[derive(Clone, Copy)]
@@ -11,7 +9,7 @@ pub struct Outside {
     /// The port. `None` if it is a member of the clock.
     pub port: Option<u16>,
     pub member: Member,
-    pub value: Value<'static>,
+    pub value: MemberValue<'static>,
     pub allowed: Allowed,
 }
 
@@ -41,10 +39,8 @@ pub enum Wanted {
     Class(u8),
     Clock(ClockIdentity),
     Port(PortIdentity),
-    /// `None`: the number is reserved.
-    State(Option<PortState>),
-    /// `None`: the number is reserved.
-    Mechanism(Option<DelayMechanism>),
+    /// A number that may have a name.
+    Named(Enumeration, u8),
     Text(String),
 }
 
@@ -55,7 +51,7 @@ pub struct Unmet<'a> {
     pub port: Option<u16>,
     pub member: Member,
     /// `None`: the clock did not answer it.
-    pub value: Option<Value<'a>>,
+    pub value: Option<MemberValue<'a>>,
     pub wanted: &'a [Wanted],
 }
 
