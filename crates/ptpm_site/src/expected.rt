@@ -1,7 +1,7 @@
 //! How a site is not as a profile wants it, or as the inventory that its operator keeps.
 
-use ptpm_codec::{ClockIdentity, PortIdentity};
-use ptpm_members::{ClockQuality, Enumeration, Member, MemberValue};
+use ptpm_codec::ClockIdentity;
+use ptpm_members::{Member, MemberValue};
 
 /// A member that is not what a profile allows.
 #[derive(Clone, Copy)]
@@ -28,19 +28,17 @@ pub enum Allowed {
     Set,
 }
 
-/// A value that an inventory wants of a member.
+/// What an inventory wants of a member.
 #[derive(Drop)]
 pub enum Wanted {
-    Flag(bool),
+    /// This value, which is no text.
+    Value(MemberValue<'static>),
     /// A number from the first to the last.
     Range(i64, i64),
-    Quality(ClockQuality),
     /// clockClass alone.
     Class(u8),
-    Clock(ClockIdentity),
-    Port(PortIdentity),
-    /// A number that may have a name.
-    Named(Enumeration, u8),
+    /// A number that has no name.
+    Reserved,
     Text(String),
 }
 
