@@ -5,3 +5,4 @@ pub mod Reported
 pub mod Sets
 pub mod Tests
 pub mod Told
+pub mod Wantable

@@ -7,6 +7,7 @@ pub mod Leaders
 pub mod Meeting
 pub mod Named
 pub mod Naming
+pub mod Numbers
 pub mod Order
 pub mod Outside
 pub mod ProfileFindings

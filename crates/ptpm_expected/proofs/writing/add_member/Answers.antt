@@ -1,6 +1,6 @@
 -- What was answered meets what is written of it.
 use Rattle.std.proofs.Common.{◌≡◌, ◌++◌, List, OnOk, subst, sym}
-use Rattle.ptpm_site.specs.Members.{value_of}
+use Rattle.ptpm_members.specs.Values.{said}
 use Rattle.ptpm_site.specs.Site.{site_answers}
 use Rattle.ptpm_site.specs.SiteAnswers.{SiteAnswers}
 use Rattle.ptpm_expected.specs.Writing.{Line, lines_of}
@@ -13,6 +13,6 @@ returns-in_ok-rule-in-Some c =
     let P : List Line → Type 0 =
     λ more. OnOk c.add_entry.result (lines_of t c.add_entry.new.entries.items ≡ lines_of t c.args.entries.now.items ++ more) in
     subst P
-    (member_held t c.args.source c.args.port c.args.member (value_of c.in-Some.value) c.in_ok-rule-in-Some.rule (sym c.in-Some.ensures)
+    (member_held t c.args.source c.args.port c.args.member (said c.in-Some.value) c.in_ok-rule-in-Some.rule (sym c.in-Some.ensures)
     c.in_ok-rule-in-Some.ensures.port c.in_ok-rule-in-Some.ensures.member c.in_ok-rule-in-Some.ensures.met)
     c.add_entry.ensures
