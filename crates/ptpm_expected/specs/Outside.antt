@@ -56,8 +56,8 @@ timescale_outside site s = if leads site s then option_and_then (λ d. option_an
 
 -- ---- of a port
 
--- The number that a member of a port is, if it counts. logSyncInterval and logMinDelayReqInterval count of a port in MASTER, PRE_MASTER
--- or PASSIVE: any other takes its master's. logMinDelayReqInterval counts with E2E, and logMinPdelayReqInterval with P2P or COMMON_P2P
+-- The number that a member of a port is, if it counts. The intervals of Sync and of Delay_Req count of a port in MASTER, PRE_MASTER or
+-- PASSIVE: any other takes its master's. Those of Delay_Req and of Pdelay_Req count with the mechanism that sends it.
 abbrev pub held_value : PortDataSet → Member → Option MemberValue
 held_value set (members.DataSet (sets.Setting settings.LogAnnounceInterval)) = Some (values.Signed set.log_announce)
 held_value set (members.DataSet (sets.Setting settings.LogSyncInterval)) =

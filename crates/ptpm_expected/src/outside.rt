@@ -125,7 +125,7 @@ fn interval(log: i8) -> Option<MemberValue<'static>>
 }
 
 /// The number that a member of a port is, if it counts. The intervals of Sync and of Delay_Req count if the port gives time: else it
-/// takes its master's. Those of the requests count with their delay mechanism.
+/// takes its master's. Those of Delay_Req and of Pdelay_Req count with the mechanism that sends it.
 fn held_value(set: &PortDataSet, member: Member) -> Option<MemberValue<'static>>
     ensures { result ≡ held_value set.now member }
 {
