@@ -316,7 +316,7 @@ fn rule_of(
     member: Member,
     value: MemberValue<'_>,
 ) -> Result<MemberRule, AllocError>
-    requires { IsWantable (said value.entry) }
+    requires { IsWantable (said value) }
     ensures port { IfOk result (λ rule. rule.port ≡ port) }
     ensures member { IfOk result (λ rule. rule.member ≡ member) }
     ensures met { IfOk result (λ rule. is_met rule.wanted.items (said value.entry) ≡ true) }
@@ -332,7 +332,7 @@ fn rule_of(
 
 /// What wants a value as it is; of a clockQuality the class.
 fn wanted_of(alloc: Global, value: MemberValue<'_>) -> Result<Wanted, AllocError>
-    requires { IsWantable (said value.entry) }
+    requires { IsWantable (said value) }
     ensures { IfOk result (λ wanted. meets wanted (said value.entry) ≡ true) }
 {
     Ok(match value {
