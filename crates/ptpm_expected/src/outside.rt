@@ -35,7 +35,7 @@ fn member_outside(
     value: MemberValue<'static>,
     range: Option<Range>,
 ) -> Option<Outside>
-    ensures { result ≡ member_outside port member value range }
+    ensures { result ≡ member_outside port member value.entry range }
 {
     let Range { least, greatest } = range?;
     if is_between(least, greatest, &value) {
