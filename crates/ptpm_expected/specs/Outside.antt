@@ -2,6 +2,7 @@
 use Rattle.std.specs.Prelude.{ℕ, ◌&&◌, Bool, true, false, not, List, [], ◌∷◌, Option, Some, None, if◌then◌else◌, option_and_then}
 use Rattle.std.specs.Option.{option_map}
 use Rattle.std.specs.Ordering.{int_eq}
+use Rattle.ptpm_data.specs.declared.members.Member.{Member as DataSetMember}
 use Rattle.ptpm_data.specs.declared.members.Member.TheVariants as sets
 use Rattle.ptpm_data.specs.declared.port_setting.PortSetting.TheVariants as settings
 use Rattle.ptpm_data.specs.declared.port_state.PortState.{PortState}
@@ -58,20 +59,20 @@ timescale_outside site s = if leads site s then option_and_then (λ d. option_an
 
 -- The number that a member of a port is, if it counts. The intervals of Sync and of Delay_Req count of a port in MASTER, PRE_MASTER or
 -- PASSIVE: any other takes its master's. Those of Delay_Req and of Pdelay_Req count with the mechanism that sends it.
-abbrev pub held_value : PortDataSet → Member → Option MemberValue
-held_value set (members.DataSet (sets.Setting settings.LogAnnounceInterval)) = Some (values.Signed set.log_announce)
-held_value set (members.DataSet (sets.Setting settings.LogSyncInterval)) =
+abbrev pub held_value : PortDataSet → DataSetMember → Option MemberValue
+held_value set (sets.Setting settings.LogAnnounceInterval) = Some (values.Signed set.log_announce)
+held_value set (sets.Setting settings.LogSyncInterval) =
     if is_giving (state_of set.state) then Some (values.Signed set.log_sync) else None
-held_value set (members.DataSet sets.LogMinDelayReq) =
+held_value set sets.LogMinDelayReq =
     if is_giving (state_of set.state) && measures_end_to_end set.delay_mechanism then Some (values.Signed set.log_min_delay_req) else None
-held_value set (members.DataSet (sets.Setting settings.LogMinPdelayReqInterval)) =
+held_value set (sets.Setting settings.LogMinPdelayReqInterval) =
     if measures_link set.delay_mechanism then Some (values.Signed set.log_min_pdelay) else None
-held_value set (members.DataSet (sets.Setting settings.AnnounceReceiptTimeout)) = Some (values.Unsigned set.receipt_timeout)
+held_value set (sets.Setting settings.AnnounceReceiptTimeout) = Some (values.Unsigned set.receipt_timeout)
 held_value set _ = None
 
-unfoldable pub number_outside : Profile → ℕ → PortDataSet → Member → Option Outside
+unfoldable pub number_outside : Profile → ℕ → PortDataSet → DataSetMember → Option Outside
 number_outside profile n set m =
-    option_and_then (λ value. member_outside (Some n) m value (port_range profile m set.log_sync)) (held_value set m)
+    option_and_then (λ value. member_outside (Some n) (members.DataSet m) value (port_range profile m set.log_sync)) (held_value set m)
 
 unfoldable pub mechanism_outside : Profile → ℕ → PortDataSet → Option Outside
 mechanism_outside profile n set = option_map
@@ -80,11 +81,11 @@ mechanism_outside profile n set = option_map
 
 unfoldable pub port_outside : Profile → ℕ → PortDataSet → List (Option Outside)
 port_outside profile n set =
-    number_outside profile n set (members.DataSet (sets.Setting settings.LogAnnounceInterval))
-    ∷ number_outside profile n set (members.DataSet (sets.Setting settings.LogSyncInterval))
-    ∷ number_outside profile n set (members.DataSet sets.LogMinDelayReq)
-    ∷ number_outside profile n set (members.DataSet (sets.Setting settings.LogMinPdelayReqInterval))
-    ∷ number_outside profile n set (members.DataSet (sets.Setting settings.AnnounceReceiptTimeout))
+    number_outside profile n set (sets.Setting settings.LogAnnounceInterval)
+    ∷ number_outside profile n set (sets.Setting settings.LogSyncInterval)
+    ∷ number_outside profile n set sets.LogMinDelayReq
+    ∷ number_outside profile n set (sets.Setting settings.LogMinPdelayReqInterval)
+    ∷ number_outside profile n set (sets.Setting settings.AnnounceReceiptTimeout)
     ∷ mechanism_outside profile n set ∷ []
 
 -- a port in DISABLED or FAULTY takes no part

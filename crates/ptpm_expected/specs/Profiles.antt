@@ -1,9 +1,8 @@
 -- What each profile allows of a member: IEEE 1588-2019 (I.3, I.4), SMPTE ST 2059-2, AES67 and IEEE 802.1AS-2020. None: anything.
 use Rattle.std.specs.Prelude.{ℕ, ℤ, pos, neg_ℤ, ◌+ℤ◌, ◌==◌, ◌||◌, Bool, Option, Some, None, if◌then◌else◌}
+use Rattle.ptpm_data.specs.declared.members.Member.{Member}
 use Rattle.ptpm_data.specs.declared.members.Member.TheVariants as sets
 use Rattle.ptpm_data.specs.declared.port_setting.PortSetting.TheVariants as settings
-use Rattle.ptpm_members.specs.declared.names.Member.{Member}
-use Rattle.ptpm_members.specs.declared.names.Member.TheVariants as members
 use Rattle.ptpm_site.specs.declared.expected.Allowed.{Allowed}
 use Rattle.ptpm_site.specs.declared.expected.Allowed.TheVariants as allowed
 use Rattle.ptpm_expected.specs.declared.profile.Profile.{Profile}
@@ -32,28 +31,28 @@ priority_range profiles.Gptp = from (pos 1) (pos 255)
 -- ---- of a member of a port
 
 abbrev pub default_range : Member → Option Range
-default_range (members.DataSet (sets.Setting settings.LogAnnounceInterval)) = from (pos 0) (pos 4)
-default_range (members.DataSet (sets.Setting settings.LogSyncInterval)) = from (neg_ℤ (pos 1)) (pos 1)
-default_range (members.DataSet sets.LogMinDelayReq) = from (pos 0) (pos 5)
-default_range (members.DataSet (sets.Setting settings.LogMinPdelayReqInterval)) = from (pos 0) (pos 5)
-default_range (members.DataSet (sets.Setting settings.AnnounceReceiptTimeout)) = from (pos 2) (pos 10)
+default_range (sets.Setting settings.LogAnnounceInterval) = from (pos 0) (pos 4)
+default_range (sets.Setting settings.LogSyncInterval) = from (neg_ℤ (pos 1)) (pos 1)
+default_range sets.LogMinDelayReq = from (pos 0) (pos 5)
+default_range (sets.Setting settings.LogMinPdelayReqInterval) = from (pos 0) (pos 5)
+default_range (sets.Setting settings.AnnounceReceiptTimeout) = from (pos 2) (pos 10)
 default_range _ = None
 
 -- by the logSyncInterval of the port
 abbrev pub studio_range : Member → ℤ → Option Range
-studio_range (members.DataSet (sets.Setting settings.LogAnnounceInterval)) sync = from (neg_ℤ (pos 3)) (pos 1)
-studio_range (members.DataSet (sets.Setting settings.LogSyncInterval)) sync = from (neg_ℤ (pos 7)) (neg_ℤ (pos 1))
-studio_range (members.DataSet sets.LogMinDelayReq) sync = from sync (sync +ℤ pos 5)
-studio_range (members.DataSet (sets.Setting settings.LogMinPdelayReqInterval)) sync = from sync (sync +ℤ pos 5)
-studio_range (members.DataSet (sets.Setting settings.AnnounceReceiptTimeout)) sync = from (pos 2) (pos 10)
+studio_range (sets.Setting settings.LogAnnounceInterval) sync = from (neg_ℤ (pos 3)) (pos 1)
+studio_range (sets.Setting settings.LogSyncInterval) sync = from (neg_ℤ (pos 7)) (neg_ℤ (pos 1))
+studio_range sets.LogMinDelayReq sync = from sync (sync +ℤ pos 5)
+studio_range (sets.Setting settings.LogMinPdelayReqInterval) sync = from sync (sync +ℤ pos 5)
+studio_range (sets.Setting settings.AnnounceReceiptTimeout) sync = from (pos 2) (pos 10)
 studio_range _ sync = None
 
 abbrev pub audio_range : Member → Option Range
-audio_range (members.DataSet (sets.Setting settings.LogAnnounceInterval)) = from (pos 0) (pos 4)
-audio_range (members.DataSet (sets.Setting settings.LogSyncInterval)) = from (neg_ℤ (pos 4)) (pos 1)
-audio_range (members.DataSet sets.LogMinDelayReq) = from (neg_ℤ (pos 3)) (pos 5)
-audio_range (members.DataSet (sets.Setting settings.LogMinPdelayReqInterval)) = from (pos 0) (pos 5)
-audio_range (members.DataSet (sets.Setting settings.AnnounceReceiptTimeout)) = from (pos 2) (pos 10)
+audio_range (sets.Setting settings.LogAnnounceInterval) = from (pos 0) (pos 4)
+audio_range (sets.Setting settings.LogSyncInterval) = from (neg_ℤ (pos 4)) (pos 1)
+audio_range sets.LogMinDelayReq = from (neg_ℤ (pos 3)) (pos 5)
+audio_range (sets.Setting settings.LogMinPdelayReqInterval) = from (pos 0) (pos 5)
+audio_range (sets.Setting settings.AnnounceReceiptTimeout) = from (pos 2) (pos 10)
 audio_range _ = None
 
 abbrev pub port_range : Profile → Member → ℤ → Option Range

@@ -54,7 +54,10 @@ fn last_value<T: DataSet>(received: &[Received<T>], member: Member) -> Option<Me
 }
 
 /// The first of two values that is there.
-fn first_some<'a>(first: Option<MemberValue<'a>>, second: Option<MemberValue<'a>>) -> Option<MemberValue<'a>>
+fn first_some<'a>(
+    first: Option<MemberValue<'a>>,
+    second: Option<MemberValue<'a>>,
+) -> Option<MemberValue<'a>>
     ensures { option_map said result ≡ first_some (option_map said first.entry) (option_map said second.entry) }
 {
     match first {

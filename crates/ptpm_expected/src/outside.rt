@@ -16,7 +16,7 @@ use ptpm_data::PortSetting::{
     AnnounceReceiptTimeout, DelayMechanism, LogAnnounceInterval, LogMinPdelayReqInterval,
     LogSyncInterval,
 };
-use ptpm_data::PortState;
+use ptpm_data::{Member as DataSetMember, PortState};
 use ptpm_members::Member::DataSet;
 use ptpm_members::{Enumeration, Member, MemberValue};
 use ptpm_site::announcing::port_above;
@@ -93,11 +93,11 @@ pub fn port_outside(profile: Profile, number: u16, set: &PortDataSet) -> [Option
     ensures { result ≡ port_outside profile number set.now }
 {
     [
-        number_outside(profile, number, set, DataSet(Setting(LogAnnounceInterval))),
-        number_outside(profile, number, set, DataSet(Setting(LogSyncInterval))),
-        number_outside(profile, number, set, DataSet(LogMinDelayReq)),
-        number_outside(profile, number, set, DataSet(Setting(LogMinPdelayReqInterval))),
-        number_outside(profile, number, set, DataSet(Setting(AnnounceReceiptTimeout))),
+        number_outside(profile, number, set, Setting(LogAnnounceInterval)),
+        number_outside(profile, number, set, Setting(LogSyncInterval)),
+        number_outside(profile, number, set, LogMinDelayReq),
+        number_outside(profile, number, set, Setting(LogMinPdelayReqInterval)),
+        number_outside(profile, number, set, Setting(AnnounceReceiptTimeout)),
         mechanism_outside(profile, number, set),
     ]
 }
@@ -108,13 +108,13 @@ fn number_outside(
     profile: Profile,
     number: u16,
     set: &PortDataSet,
-    member: Member,
+    member: DataSetMember,
 ) -> Option<Outside>
     ensures { result ≡ number_outside profile number set.now member }
 {
     let value = held_value(set, member)?;
     let range = port_range(profile, member, set.log_sync);
-    member_outside(Some(number), member, value, range)
+    member_outside(Some(number), DataSet(member), value, range)
 }
 
 /// An interval of a port: the logarithm of seconds to the base 2.
@@ -126,20 +126,16 @@ fn interval(log: i8) -> Option<MemberValue<'static>>
 
 /// The number that a member of a port is, if it counts. The intervals of Sync and of Delay_Req count if the port gives time: else it
 /// takes its master's. Those of Delay_Req and of Pdelay_Req count with the mechanism that sends it.
-fn held_value(set: &PortDataSet, member: Member) -> Option<MemberValue<'static>>
+fn held_value(set: &PortDataSet, member: DataSetMember) -> Option<MemberValue<'static>>
     ensures { result ≡ held_value set.now member }
 {
     let gives = PortGroup::Giving.has(set.state());
     match member {
-        DataSet(Setting(LogAnnounceInterval)) => interval(set.log_announce),
-        DataSet(Setting(LogSyncInterval)) if gives => interval(set.log_sync),
-        DataSet(LogMinDelayReq) if gives && set.measures_end_to_end() => {
-            interval(set.log_min_delay_req)
-        }
-        DataSet(Setting(LogMinPdelayReqInterval)) if set.measures_link() => {
-            interval(set.log_min_pdelay)
-        }
-        DataSet(Setting(AnnounceReceiptTimeout)) => {
+        Setting(LogAnnounceInterval) => interval(set.log_announce),
+        Setting(LogSyncInterval) if gives => interval(set.log_sync),
+        LogMinDelayReq if gives && set.measures_end_to_end() => interval(set.log_min_delay_req),
+        Setting(LogMinPdelayReqInterval) if set.measures_link() => interval(set.log_min_pdelay),
+        Setting(AnnounceReceiptTimeout) => {
             Some(MemberValue::Unsigned(u64::from(set.receipt_timeout)))
         }
         _ => None,

@@ -4,12 +4,11 @@ ghost use Rattle.std.specs.Prelude.{◌≡◌};
 ghost use Rattle.ptpm_expected.specs.Profiles.{allowed_mechanisms, audio_range, default_range, domain_range, is_of_gptp, is_of_ptp, port_range, priority_range, sdo_range, studio_range};
 
 use crate::profile::Profile;
+use ptpm_data::Member;
 use ptpm_data::Member::{LogMinDelayReq, Setting};
 use ptpm_data::PortSetting::{
     AnnounceReceiptTimeout, LogAnnounceInterval, LogMinPdelayReqInterval, LogSyncInterval,
 };
-use ptpm_members::Member;
-use ptpm_members::Member::DataSet;
 use ptpm_site::data_sets::{COMMON_PEER_TO_PEER, END_TO_END, PEER_TO_PEER};
 use ptpm_site::expected::Allowed;
 
@@ -69,41 +68,44 @@ pub fn port_range(profile: Profile, member: Member, log_sync: i8) -> Option<Rang
     }
 }
 
+/// Of the default profiles.
 fn default_range(member: Member) -> Option<Range>
     ensures { result ≡ default_range member }
 {
     match member {
-        DataSet(Setting(LogAnnounceInterval)) => numbers(0, 4),
-        DataSet(Setting(LogSyncInterval)) => numbers(-1, 1),
-        DataSet(LogMinDelayReq | Setting(LogMinPdelayReqInterval)) => numbers(0, 5),
-        DataSet(Setting(AnnounceReceiptTimeout)) => numbers(2, 10),
+        Setting(LogAnnounceInterval) => numbers(0, 4),
+        Setting(LogSyncInterval) => numbers(-1, 1),
+        LogMinDelayReq | Setting(LogMinPdelayReqInterval) => numbers(0, 5),
+        Setting(AnnounceReceiptTimeout) => numbers(2, 10),
         _ => None,
     }
 }
 
+/// Of SMPTE ST 2059-2.
 fn studio_range(member: Member, log_sync: i8) -> Option<Range>
     ensures { result ≡ studio_range member log_sync }
 {
     match member {
-        DataSet(Setting(LogAnnounceInterval)) => numbers(-3, 1),
-        DataSet(Setting(LogSyncInterval)) => numbers(-7, -1),
-        DataSet(LogMinDelayReq | Setting(LogMinPdelayReqInterval)) => {
+        Setting(LogAnnounceInterval) => numbers(-3, 1),
+        Setting(LogSyncInterval) => numbers(-7, -1),
+        LogMinDelayReq | Setting(LogMinPdelayReqInterval) => {
             numbers(log_sync as i64, log_sync as i64 + 5)
         }
-        DataSet(Setting(AnnounceReceiptTimeout)) => numbers(2, 10),
+        Setting(AnnounceReceiptTimeout) => numbers(2, 10),
         _ => None,
     }
 }
 
+/// Of AES67.
 fn audio_range(member: Member) -> Option<Range>
     ensures { result ≡ audio_range member }
 {
     match member {
-        DataSet(Setting(LogAnnounceInterval)) => numbers(0, 4),
-        DataSet(Setting(LogSyncInterval)) => numbers(-4, 1),
-        DataSet(LogMinDelayReq) => numbers(-3, 5),
-        DataSet(Setting(LogMinPdelayReqInterval)) => numbers(0, 5),
-        DataSet(Setting(AnnounceReceiptTimeout)) => numbers(2, 10),
+        Setting(LogAnnounceInterval) => numbers(0, 4),
+        Setting(LogSyncInterval) => numbers(-4, 1),
+        LogMinDelayReq => numbers(-3, 5),
+        Setting(LogMinPdelayReqInterval) => numbers(0, 5),
+        Setting(AnnounceReceiptTimeout) => numbers(2, 10),
         _ => None,
     }
 }
