@@ -19,55 +19,26 @@ use Rattle.ptpm_site.specs.SiteAnswers.{SiteAnswers}
 use Rattle.ptpm_expected.specs.Meeting.{clock_says, first_some, last_says, rule_says}
 use Rattle.ptpm_expected.specs.Writing.{IsWantable}
 
+-- ---- each member, by cases
+
 default_wantable : (d : DefaultDataSet) (m : Member) → IfSome (default_says d m) IsWantable
 default_wantable d (members.DataSet sets.TwoStep) = tt
-default_wantable d members.SlaveOnly = tt
-default_wantable d members.NumberPorts = tt
-default_wantable d (members.DataSet sets.Priority1) = tt
-default_wantable d members.ClockQuality = tt
-default_wantable d (members.DataSet sets.Priority2) = tt
-default_wantable d (members.DataSet sets.Identity) = tt
-default_wantable d (members.DataSet sets.Domain) = tt
 default_wantable d _ = tt
 
 current_wantable : (d : CurrentDataSet) (m : Member) → IfSome (current_says d m) IsWantable
 current_wantable d (members.DataSet sets.StepsRemoved) = tt
-current_wantable d (members.DataSet sets.OffsetFromMaster) = tt
-current_wantable d (members.DataSet sets.MeanPathDelay) = tt
 current_wantable d _ = tt
 
 parent_wantable : (d : ParentDataSet) (m : Member) → IfSome (parent_says d m) IsWantable
 parent_wantable d (members.DataSet sets.ParentPort) = tt
-parent_wantable d (members.DataSet sets.ParentStats) = tt
-parent_wantable d (members.DataSet sets.ObservedVariance) = tt
-parent_wantable d (members.DataSet sets.ObservedRate) = tt
-parent_wantable d (members.DataSet sets.GrandmasterPriority1) = tt
-parent_wantable d members.GrandmasterClockQuality = tt
-parent_wantable d (members.DataSet sets.GrandmasterPriority2) = tt
-parent_wantable d (members.DataSet sets.Grandmaster) = tt
 parent_wantable d _ = tt
 
 time_wantable : (d : TimePropertiesDataSet) (m : Member) → IfSome (time_says d m) IsWantable
 time_wantable d (members.DataSet sets.UtcOffset) = tt
-time_wantable d (members.DataSet sets.UtcValid) = tt
-time_wantable d (members.DataSet sets.Leap59) = tt
-time_wantable d (members.DataSet sets.Leap61) = tt
-time_wantable d (members.DataSet sets.TimeTraceable) = tt
-time_wantable d (members.DataSet sets.FrequencyTraceable) = tt
-time_wantable d (members.DataSet sets.PtpTimescale) = tt
-time_wantable d (members.DataSet sets.TimeSource) = tt
 time_wantable d _ = tt
 
 port_wantable : (d : PortDataSet) (m : Member) → IfSome (port_says d m) IsWantable
-port_wantable d (members.DataSet sets.State) = tt
-port_wantable d (members.DataSet sets.LogMinDelayReq) = tt
-port_wantable d (members.DataSet sets.PeerDelay) = tt
-port_wantable d (members.DataSet (sets.Setting settings.LogAnnounceInterval)) = tt
-port_wantable d (members.DataSet (sets.Setting settings.AnnounceReceiptTimeout)) = tt
-port_wantable d (members.DataSet (sets.Setting settings.LogSyncInterval)) = tt
 port_wantable d (members.DataSet (sets.Setting settings.DelayMechanism)) = tt
-port_wantable d (members.DataSet (sets.Setting settings.LogMinPdelayReqInterval)) = tt
-port_wantable d members.VersionNumber = tt
 port_wantable d _ = tt
 
 description_wantable : (d : Description) (m : Member) → IfSome (description_says d m) IsWantable
