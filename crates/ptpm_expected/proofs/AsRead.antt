@@ -1,5 +1,5 @@
 -- Each member of a data set that was read is what the octets at its place say.
-use Rattle.std.proofs.Common.{arith, ◌≡◌, ◌∙◌, ap, refl, sym, subst, ℕ, ◌+◌, ◌%◌, ◌^◌, ◌<◌, Bool, true, false, cond, not, List, drop, length, Option, Some, None}
+use Rattle.std.proofs.Common.{arith, ◌≡◌, ◌∙◌, ap, refl, sym, subst, ℕ, ◌+◌, ◌%◌, ◌^◌, ◌<◌, Bool, true, false, cond, not, List, drop, length, Some, None}
 use Rattle.std.specs.Prelude.{◌==◌, bit_and}
 use Rattle.std.specs.Int.{bit_at, cast_signed, w8, w16, w32, w64}
 use Rattle.std.specs.List.{All, AllByRecursion}
@@ -17,7 +17,7 @@ use Rattle.ptpm_data.specs.SetLaws.{AreOctets}
 use Rattle.ptpm_members.specs.declared.number_names.Enumeration.{Enumeration}
 use Rattle.ptpm_members.specs.declared.number_names.Enumeration.TheVariants as enumerations
 use Rattle.ptpm_members.specs.Tables.{fields_of}
-use Rattle.ptpm_members.specs.Values.{Said, Flag, Interval, Named, Signed, Unsigned}
+use Rattle.ptpm_members.specs.Values.{Flag, Interval, Named, Signed, Unsigned}
 use Rattle.ptpm_expected.specs.AsRead.{IsAsRead, port_answer_says}
 use Rattle.ptpm_site.specs.declared.data_sets.CurrentDataSet.{CurrentDataSet}
 use Rattle.ptpm_site.specs.declared.data_sets.DefaultDataSet.{DefaultDataSet}
