@@ -1,3 +1,4 @@
+pub mod AsRead
 pub mod Judged
 pub mod Law
 pub mod Lines

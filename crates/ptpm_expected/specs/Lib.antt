@@ -1,3 +1,4 @@
+pub mod AsRead
 pub mod Expected
 pub mod Held
 pub mod HeldToInventory
