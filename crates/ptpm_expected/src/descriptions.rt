@@ -44,7 +44,10 @@ fn only_text(rule: &MemberRule) -> Option<&str> {
         return None;
     }
     match rule.wanted.as_slice() {
-        [Wanted::Text(text)] => Some(text.as_str()),
+        [one] => match one {
+            Wanted::Text(text) => Some(text.as_str()),
+            _ => None,
+        },
         _ => None,
     }
 }
