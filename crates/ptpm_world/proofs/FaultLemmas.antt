@@ -1,6 +1,5 @@
 -- The first fault of a script, line by line.
 use Rattle.ptpm_world.proofs.Common.{◌≡◌, ℕ, ◌<◌, ◌≤◌, ◌++◌, List, [], ◌∷◌, length, length-append, Bool, true, false, None, Some, Ok, Err, refl, sym, ap, subst, ◌∙◌, append_assoc, append-nil, arith, IfErr, IfOk, IsErrAnd, OnSome, Option, Result, nat_lt, option_map, zip, ◌==◌, onto_first, Consumes, IsAtEnd, lines_of_parts, strip_carriage_return, cond-false, cond-true, lt-ltb, whole_lines, HasNextFault, ReadsWhole, is_of_writing, is_outside, next_fault, size_fault, text_fault}
-use Rattle.std.specs.Str.{is_utf8}
 use Rattle.std.proofs.lemmas.Bool.Decides.{nat_tests}
 use Rattle.ptpm_world.specs.declared.script_error.ScriptError.{ScriptError}
 use Rattle.ptpm_world.specs.declared.script_error.ScriptError.TheVariants as faults
@@ -87,11 +86,3 @@ fault-many n None b first h many = tt
 fault-many n (Some xs) None first h many = absurd h
 fault-many n (Some xs) (Some ys) first h many =
     let w = some-whole first ys in grind (arith, size_many)
-
--- ---- its text
-
-pub text-none : (n : ℕ) (line : List ℕ) → is_utf8 line ≡ true → text_fault n line ≡ None
-text-none n line u = cond-true _ _ _ u
-
-pub text-fault : (n : ℕ) (line : List ℕ) → is_utf8 line ≡ false → text_fault n line ≡ Some (faults.NotText n)
-text-fault n line other = cond-false _ _ _ other
