@@ -11,7 +11,7 @@ from .data_sets import (
 )
 from .domain_identity import DomainIdentity
 from .identity import Identity, PortIdentity
-from .settings import PortState
+from .settings import Enumeration, PortState
 
 _HEAD = ("domainNumber", "sdoId", "clockIdentity", "userDescription", "finding", "severity", "because")
 
@@ -164,7 +164,7 @@ def _text(value: object) -> str:
     """A value as a finding's line has it."""
     if value is None:
         return "-"
-    if isinstance(value, PortState):
+    if isinstance(value, Enumeration):
         return value.name
     if isinstance(value, bool):
         return str(value).lower()
