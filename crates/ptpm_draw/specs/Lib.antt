@@ -5,3 +5,4 @@ pub mod Chosen
 pub mod Parts
 pub mod Drawing
 pub mod Escaped
+pub mod MemberText

@@ -1,11 +1,13 @@
 //! The members that an event changed, as texts: each by its name in a network file, with its new value.
 
-ghost use Rattle.std.specs.Prelude.{◌≡◌, true};
+ghost use Rattle.std.specs.Prelude.{◌≡◌, IfOk, Some, drop, string_bytes, true};
 ghost use Rattle.ptpm_codec.specs.declared.message.Action.TheVariants.{Get};
 ghost use Rattle.ptpm_data.specs.DataField.{permits};
 ghost use Rattle.ptpm_data.specs.ManagementId.{is_of_port};
 ghost use Rattle.ptpm_data.specs.Members.{HasPort};
+ghost use Rattle.ptpm_draw.specs.MemberText.{member_shown, value_shown};
 ghost use Rattle.ptpm_members.specs.FieldText.{IsPlaced};
+ghost use Rattle.ptpm_members.specs.Values.{said, said_in};
 
 use crate::changes::Change;
 use ptpm_data::{ChangedMembers, Member as DataSetMember, Value};
@@ -14,6 +16,7 @@ use std::alloc::{AllocError, Global};
 use std::fmt;
 
 /// The members that an event changed, one a text: those of the clock, and then those of each port, after its number.
+#[tactic(auto, unfolding(ptpm_data::specs::ManagementId::row_of))]
 pub(crate) fn member_texts(
     alloc: Global,
     change: Option<&Change>,
@@ -82,18 +85,22 @@ fn is_changed(members: &ChangedMembers, port: u16, member: DataSetMember) -> boo
 /// The value of a member at its place.
 fn value_of(field: Field, octets: &[u8]) -> MemberValue<'_>
     requires { IsPlaced octets.now field }
+    ensures { said result ≡ said_in field.2 (drop field.1 octets.now) }
 {
     let (_, behind) = octets.split_at(usize::from(field.1));
     value_in(field.2, behind)
 }
 
 /// A member's name and value; a port's, after its number.
+#[tactic(auto, unfolding(crate::specs::MemberText::member_shown))]
 fn member_text(
     alloc: Global,
     port: u16,
     member: DataSetMember,
     value: MemberValue<'_>,
-) -> Result<String, AllocError> {
+) -> Result<String, AllocError>
+    ensures { IfOk result (λ text. string_bytes text ≡ member_shown port member (said value.entry)) }
+{
     let mut text = String::new(alloc);
     if port != 0 {
         write!(text, "port {port} ")?;
@@ -108,6 +115,8 @@ fn member_text(
 struct ValueText<'a>(MemberValue<'a>);
 
 impl fmt::Display for ValueText<'_> {
+    ghost output = { λ value. Some (value_shown (said value.0)) };
+
     fn fmt<W: fmt::Write>(&self, f: &mut fmt::Formatter<W>) -> fmt::Result {
         match self.0 {
             MemberValue::Text(_) => write!(f, "\"{}\"", self.0),
