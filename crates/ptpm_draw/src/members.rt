@@ -1,41 +1,19 @@
 //! The members that an event changed, as texts: each by its name in a network file, with its new value.
 
-ghost use Rattle.std.specs.Prelude.{◌≡◌, IfOk, Some, drop, string_bytes, true};
+ghost use Rattle.std.specs.Prelude.{◌≡◌, ◌++◌, IfOk, OnOk, Some, drop, flat_map, map, option_map, string_bytes, true};
 ghost use Rattle.ptpm_codec.specs.declared.message.Action.TheVariants.{Get};
 ghost use Rattle.ptpm_data.specs.DataField.{permits};
 ghost use Rattle.ptpm_data.specs.ManagementId.{is_of_port};
 ghost use Rattle.ptpm_data.specs.Members.{HasPort};
-ghost use Rattle.ptpm_draw.specs.MemberText.{member_shown, value_shown};
+ghost use Rattle.ptpm_draw.specs.MemberText.{changed_bits, changed_texts, clock_texts, is_changed, member_shown, member_texts, port_bits, port_texts, text_of, value_shown};
 ghost use Rattle.ptpm_members.specs.FieldText.{IsPlaced};
 ghost use Rattle.ptpm_members.specs.Values.{said, said_in};
 
 use crate::changes::Change;
-use ptpm_data::{ChangedMembers, Member as DataSetMember, Value};
+use ptpm_data::{ChangedMembers, Member as DataSetMember, PortMembers, Value};
 use ptpm_members::{Field, Member, MemberValue, members_in, value_in};
 use std::alloc::{AllocError, Global};
 use std::fmt;
-
-/// The members that an event changed, one a text: those of the clock, and then those of each port, after its number.
-#[tactic(auto, unfolding(ptpm_data::specs::ManagementId::row_of))]
-pub(crate) fn member_texts(
-    alloc: Global,
-    change: Option<&Change>,
-) -> Result<Vec<String>, AllocError> {
-    let mut texts = Vec::new(alloc);
-    if let Some(change) = change {
-        push_texts(alloc, change, USER_DESCRIPTION, 0, &mut texts)?;
-        push_texts(alloc, change, DEFAULT_DATA_SET, 0, &mut texts)?;
-        push_texts(alloc, change, CURRENT_DATA_SET, 0, &mut texts)?;
-        push_texts(alloc, change, PARENT_DATA_SET, 0, &mut texts)?;
-        push_texts(alloc, change, TIME_PROPERTIES_DATA_SET, 0, &mut texts)?;
-        for port in 1..9 {
-            if change.sets.has_port(port) {
-                push_texts(alloc, change, PORT_DATA_SET, port, &mut texts)?;
-            }
-        }
-    }
-    Ok(texts)
-}
 
 const USER_DESCRIPTION: u16 = 0x0002;
 
@@ -49,7 +27,76 @@ const TIME_PROPERTIES_DATA_SET: u16 = 0x2003;
 
 const PORT_DATA_SET: u16 = 0x2004;
 
+/// A clock has at most these ports.
+static PORTS: [u16; 8] = [1, 2, 3, 4, 5, 6, 7, 8];
+
+/// The members that an event changed, one a text: those of the clock, and then those of each port, after its number.
+pub(crate) fn member_texts(
+    alloc: Global,
+    change: Option<&Change>,
+) -> Result<Vec<String>, AllocError>
+    ensures { IfOk result (λ texts. map string_bytes texts.items
+        ≡ member_texts (option_map (λ change. change.now) change.entry)) }
+{
+    let mut texts = Vec::new(alloc);
+    if let Some(change) = change {
+        push_clock_texts(alloc, change, &mut texts)?;
+        push_ports_texts(alloc, change, &PORTS, &mut texts)?;
+    }
+    Ok(texts)
+}
+
+/// Pushes the texts of those members of the clock that changed.
+#[tactic(auto, unfolding(ptpm_data::specs::ManagementId::row_of))]
+fn push_clock_texts(
+    alloc: Global,
+    change: &Change,
+    texts: &mut Vec<String>,
+) -> Result<(), AllocError>
+    ensures { OnOk result (map string_bytes texts.new.items
+        ≡ map string_bytes texts.old.items ++ clock_texts change.now) }
+{
+    push_texts(alloc, change, USER_DESCRIPTION, 0, texts)?;
+    push_texts(alloc, change, DEFAULT_DATA_SET, 0, texts)?;
+    push_texts(alloc, change, CURRENT_DATA_SET, 0, texts)?;
+    push_texts(alloc, change, PARENT_DATA_SET, 0, texts)?;
+    push_texts(alloc, change, TIME_PROPERTIES_DATA_SET, 0, texts)
+}
+
+/// Pushes the texts of those members of these ports that changed.
+fn push_ports_texts(
+    alloc: Global,
+    change: &Change,
+    ports: &[u16],
+    texts: &mut Vec<String>,
+) -> Result<(), AllocError>
+    ensures { OnOk result (map string_bytes texts.new.items
+        ≡ map string_bytes texts.old.items ++ flat_map (port_texts change.now) ports.now) }
+{
+    for port in ports {
+        push_port_texts(alloc, change, *port, texts)?;
+    }
+    Ok(())
+}
+
+#[tactic(auto, unfolding(ptpm_data::specs::ManagementId::row_of))]
+fn push_port_texts(
+    alloc: Global,
+    change: &Change,
+    port: u16,
+    texts: &mut Vec<String>,
+) -> Result<(), AllocError>
+    ensures { OnOk result (map string_bytes texts.new.items
+        ≡ map string_bytes texts.old.items ++ port_texts change.now port) }
+{
+    if change.sets.has_port(port) {
+        push_texts(alloc, change, PORT_DATA_SET, port, texts)?;
+    }
+    Ok(())
+}
+
 /// Pushes the texts of those members of an id's dataField that changed; of a port, or of the clock by 0.
+#[tactic(auto, unfolding(crate::specs::MemberText::texts_of))]
 fn push_texts(
     alloc: Global,
     change: &Change,
@@ -59,27 +106,73 @@ fn push_texts(
 ) -> Result<(), AllocError>
     requires permits { permits Get id ≡ true }
     requires port { is_of_port id ≡ true → HasPort port change.now.sets }
+    ensures { OnOk result (map string_bytes texts.new.items
+        ≡ map string_bytes texts.old.items ++ changed_texts change.now id port) }
 {
     let mut octets = Value::new();
     change.sets.lay(id, port, &mut octets);
     for field in members_in(id, octets.as_slice()) {
-        if let Member::DataSet(member) = field.0 {
-            if is_changed(&change.members, port, member) {
-                let value = value_of(*field, octets.as_slice());
-                texts.push(member_text(alloc, port, member, value)?)?;
-            }
+        push_text(
+            alloc,
+            &change.members,
+            port,
+            *field,
+            octets.as_slice(),
+            texts,
+        )?;
+    }
+    Ok(())
+}
+
+/// Pushes the text of a member at its place, if it changed.
+fn push_text(
+    alloc: Global,
+    members: &ChangedMembers,
+    port: u16,
+    field: Field,
+    octets: &[u8],
+    texts: &mut Vec<String>,
+) -> Result<(), AllocError>
+    requires { IsPlaced octets.now field }
+    ensures { OnOk result (map string_bytes texts.new.items
+        ≡ map string_bytes texts.old.items ++ text_of members.now port octets.now field field.0) }
+{
+    match field.0 {
+        Member::DataSet(member) if is_changed(members, port, member) => {
+            texts.push(member_text(alloc, port, member, value_of(field, octets))?)?;
         }
+        _ => {}
     }
     Ok(())
 }
 
 /// Whether a member of a port changed, or one of the clock by 0.
-fn is_changed(members: &ChangedMembers, port: u16, member: DataSetMember) -> bool {
-    let bits = match members.ports.get(usize::from(port).wrapping_sub(1)) {
-        Some(port) => u64::from(port.0) << DataSetMember::State.place(),
-        None => u64::from(members.clock.0),
-    };
-    bits >> member.place() & 1 == 1
+#[tactic(auto, unfolding(crate::specs::MemberText::is_changed))]
+fn is_changed(members: &ChangedMembers, port: u16, member: DataSetMember) -> bool
+    ensures { result ≡ is_changed members.now port member }
+{
+    (changed_bits(members, port) >> member.place()) % 2 == 1
+}
+
+/// A bit for each member, at its place; of a port, or of the clock by 0.
+fn changed_bits(members: &ChangedMembers, port: u16) -> u64
+    ensures { result ≡ changed_bits members.now port }
+{
+    if port == 0 {
+        u64::from(members.clock.0)
+    } else {
+        port_bits(members.ports.get(usize::from(port) - 1))
+    }
+}
+
+/// The members of a port come after those of a clock.
+fn port_bits(members: Option<&PortMembers>) -> u64
+    ensures { result ≡ port_bits (option_map (λ members. members.now) members.entry) }
+{
+    match members {
+        Some(members) => u64::from(members.0) * (1 << 30),
+        None => 0,
+    }
 }
 
 /// The value of a member at its place.
