@@ -1,5 +1,5 @@
 -- The members of the six data sets (IEEE 1588-2019, 8.2 and 15.5.3), and what a data set says of each.
-use Rattle.std.specs.Prelude.{ℕ, ◌==◌, ◌&&◌, Bool, true, false, List, [], ◌∷◌, Option, Some, None, bytes_eq, string_bytes}
+use Rattle.std.specs.Prelude.{◌==◌, ◌&&◌, Bool, true, false, List, [], ◌∷◌, Option, Some, None, bytes_eq, string_bytes}
 use Rattle.std.specs.Bool.{beq}
 use Rattle.std.specs.Ordering.{int_eq}
 use Rattle.ptpm_codec.specs.Identity.{same_clock, same_identity}
