@@ -84,7 +84,7 @@ impl fmt::Display for Said<'_> {
                 write_differs(differs, f)
             }
             What::Announces(port, seldom) => write_seldom(*port, seldom, f),
-            What::Degraded(degraded) => write!(f, " {}", degraded.quality),
+            What::Degraded(degraded) => write!(f, " {}", MemberValue::Quality(degraded.quality)),
             What::NotTraceable(untraceable) => write_untraceable(untraceable, f),
             What::UtcInvalid(offset) => write!(f, " currentUtcOffset {offset} is not valid"),
             What::UtcOffset(offset) => {
