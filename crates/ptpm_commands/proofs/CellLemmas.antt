@@ -113,4 +113,3 @@ pub no-text : {A : Type 0} (n : ℕ) (line : List ℕ) (r : Result A Fault) (fau
     → fault ≡ faults.BadLine n bad.BadHex
     → of_text n line r ≡ Err fault
 no-text n line r fault u is = cond-false _ _ _ u ∙ ap Err (sym is)
-
