@@ -193,7 +193,7 @@ impl PortSetting {
 
     /// Whether a start and a SET may give it what this octet says.
     #[tactic(auto, unfolding(crate::specs::PortSetting::said_of))]
-    pub(crate) fn allows(self, octet: u8) -> bool
+    pub fn allows(self, octet: u8) -> bool
         ensures { result ≡ is_in_range self (said_of self octet) }
     {
         let range = self.row().range;
