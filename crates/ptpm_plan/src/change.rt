@@ -1,6 +1,6 @@
 //! What a plan changes: a member of a clock or of one of its ports.
 
-ghost use Rattle.std.specs.Prelude.{◌≡◌, ◌≢◌, MatchOption, Some, option_map};
+ghost use Rattle.std.specs.Prelude.{◌≡◌, ◌↔◌, Some, option_map};
 ghost use Rattle.ptpm_data.specs.ManagementId.{is_of_port, row_of, row_value};
 ghost use Rattle.ptpm_plan.specs.declared.change.PlannedId.{PlannedId};
 ghost use Rattle.ptpm_plan.specs.PlannedId.{number_of, setting_of};
@@ -59,9 +59,9 @@ impl PlannedId {
         }
     }
 
-    /// The id of a managementId, if a plan may set it.
+    /// The id of this number, if a plan may set it.
     pub(crate) fn numbered(number: u16) -> Option<PlannedId>
-        ensures { MatchOption result ((id : PlannedId) → number_of id ≢ number) (λ id. number_of id ≡ number) }
+        ensures { (id : PlannedId) → (result ≡ Some id) ↔ (number_of id ≡ number) }
     {
         PlannedId::ALL
             .iter()
