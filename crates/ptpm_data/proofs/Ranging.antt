@@ -1,12 +1,10 @@
 -- The ranges of the ports' members: a start gives them, a change and an observation keep them.
-use Rattle.std.proofs.Common.{◌≡◌, refl, subst, ℕ, zero, suc, ◌+◌, ◌==◌, ℤ, Bool, true, false, if◌then◌else◌, List, [], ◌∷◌, map, slice_get, None, Some}
+use Rattle.std.proofs.Common.{◌≡◌, refl, subst, ℕ, suc, ◌+◌, ◌==◌, ℤ, Bool, true, false, if◌then◌else◌, List, [], ◌∷◌, map, slice_get, None, Some}
 use Rattle.std.specs.List.{All, enumerate_from}
-use Rattle.std.proofs.lemmas.Bool.{not-false}
 use Rattle.std.proofs.lemmas.List.Elements.{All-nil, All-cons, All-head, All-tail}
-use Rattle.std.proofs.lemmas.Option.{same_Some}
-use Rattle.ptpm_codec.specs.Ordered.{first_of}
 use Rattle.ptpm_codec.proofs.OrderedLaws.{option_or-none}
 use Rattle.ptpm_data.specs.declared.data_sets.PortDataSet.{PortDataSet}
+use Rattle.ptpm_data.specs.declared.members.Member.TheVariants as members
 use Rattle.ptpm_data.specs.declared.observation.PortObservation.{PortObservation}
 use Rattle.ptpm_data.specs.declared.port_change.PortChange.{PortChange}
 use Rattle.ptpm_data.specs.declared.port_change.PortChange.TheVariants as changes
@@ -18,35 +16,24 @@ use Rattle.ptpm_data.specs.Members.{IsPortInRange}
 use Rattle.ptpm_data.specs.Observation as observation
 use Rattle.ptpm_data.specs.Observation.{ports_after}
 use Rattle.ptpm_data.specs.PortChange.{is_change_in_range, port_after}
-use Rattle.ptpm_data.specs.PortSetting.{place, port_settings, row, said_of}
+use Rattle.ptpm_data.specs.PortSetting.{place, row, said_of}
 use Rattle.ptpm_data.specs.Ranges.{is_in_range}
 use Rattle.ptpm_data.specs.Refusals.{is_set_value}
 use Rattle.ptpm_data.specs.SetField.{first_i8, octet}
-use Rattle.ptpm_data.specs.Start.{port_data_set, port_fault, ports_fault, setting_fault, settings_fault, start_settings, state_fault}
-use Rattle.ptpm_data.proofs.SettingLemmas.{listed, same_place}
-use Rattle.ptpm_data.proofs.StartLemmas.{passes}
+use Rattle.ptpm_data.specs.Start.{is_in_port_range, judged_of_port, port_data_set, port_fault, ports_fault}
+use Rattle.ptpm_data.proofs.SettingLemmas.{same_place}
+use Rattle.ptpm_data.proofs.StartLemmas.{among}
 
 -- ---- a start
 
-among : (values : PortSetting → ℤ) (settings : List PortSetting) (i : ℕ) (s : PortSetting)
-    → first_of (map (setting_fault values) settings) ≡ None
-    → slice_get settings i ≡ Some s
-    → is_in_range s (values s) ≡ true
-among values [] i s none at = cc
-among values (t ∷ settings) zero s none at =
-    let P : PortSetting → Type 0 = λ u. is_in_range u (values u) ≡ true in
-    subst P (same_Some t s at) (not-false _ (passes _ _ _ none).0)
-among values (t ∷ settings) (suc i) s none at = among values settings i s (passes _ _ _ none).1 at
-
-settings_start : (values : PortSetting → ℤ)
-    → settings_fault values ≡ None
-    → (s : PortSetting) → is_in_range s (values s) ≡ true
-unfolding settings_fault
-settings_start values none s = among values port_settings (place s) s none (listed s)
+judged_at : (s : PortSetting) → slice_get judged_of_port (suc (place s)) ≡ Some (members.Setting s)
+judged_at LogAnnounceInterval = refl
+judged_at s = refl
 
 port_starts : (p : PortStart) → port_fault p ≡ None → IsPortInRange (port_data_set p)
 unfolding port_fault
-port_starts p none = record { settings = settings_start (start_settings p) (option_or-none (state_fault p) (settings_fault (start_settings p)) none).1 }
+port_starts p none =
+    record { settings = λ s. among (is_in_port_range p) judged_of_port (suc (place s)) (members.Setting s) none (judged_at s) }
 
 pub ports_start : (ps : List PortStart) → ports_fault ps ≡ None → All IsPortInRange (map port_data_set ps)
 unfolding ports_fault

@@ -1,5 +1,5 @@
 -- The start that gives each member of consistent data sets its value has no fault, and starts with these data sets.
-use Rattle.std.proofs.Common.{arith, ◌≡◌, ◌∙◌, ap, refl, ℕ, ◌≤◌, nat_lt, Bool, true, false, List, [], ◌∷◌, length, map, Option, Some, None, Ok, unwrap_or}
+use Rattle.std.proofs.Common.{arith, ◌≡◌, ◌∙◌, ap, refl, ℕ, ◌≤◌, nat_lt, Bool, true, false, List, [], ◌∷◌, length, map, Option, Some, None, Ok, is_some, unwrap_or}
 use Rattle.std.specs.List.{All}
 use Rattle.std.proofs.lemmas.Bool.{and_from, eq-eqb}
 use Rattle.std.proofs.lemmas.Bool.Decides.{nat_tests}
@@ -9,6 +9,8 @@ use Rattle.ptpm_data.specs.declared.data_sets.ClockPrecedence.{ClockPrecedence}
 use Rattle.ptpm_data.specs.declared.data_sets.DefaultDataSet.{DefaultDataSet}
 use Rattle.ptpm_data.specs.declared.data_sets.ParentDataSet.{ParentDataSet}
 use Rattle.ptpm_data.specs.declared.data_sets.PortDataSet.{PortDataSet}
+use Rattle.ptpm_data.specs.declared.members.Member.{Member}
+use Rattle.ptpm_data.specs.declared.members.Member.TheVariants as members
 use Rattle.ptpm_data.specs.declared.port_state.PortState.{PortState}
 use Rattle.ptpm_data.specs.declared.port_state.PortState.TheVariants as states
 use Rattle.ptpm_data.specs.declared.start.ClockStart.{ClockStart}
@@ -17,10 +19,11 @@ use Rattle.ptpm_data.specs.Image.{DataSetsFit}
 use Rattle.ptpm_data.specs.ImageReading.{IsSplit, clock_read, port_start, start_of_sets}
 use Rattle.ptpm_data.specs.Members.{DataSetsValue, IsConsistent, IsPortInRange, is_grandmaster, is_same_precedence}
 use Rattle.ptpm_data.specs.PortState.{state_number, state_of}
-use Rattle.ptpm_data.specs.Start.{clock_fault, count_fault, grandmaster_fault, port_data_set, port_fault, ports_fault, settings_fault, start_of, start_settings}
+use Rattle.ptpm_data.specs.Ranges.{is_in_range}
+use Rattle.ptpm_data.specs.Start.{clock_fault, count_fault, grandmaster_fault, is_in_port_range, judged_of_port, port_data_set, port_fault, ports_fault, start_of, start_settings}
 use Rattle.ptpm_data.proofs.ImageLemmas.{clock_back}
-use Rattle.ptpm_data.proofs.SettingLemmas.{settings_faultless, settings_restart}
-use Rattle.ptpm_data.proofs.StartLemmas.{description_small}
+use Rattle.ptpm_data.proofs.SettingLemmas.{settings_restart}
+use Rattle.ptpm_data.proofs.StartLemmas.{description_small, none_out}
 
 -- ---- states by their numbers
 
@@ -53,10 +56,14 @@ ports_restart (p ∷ ports) ranges =
     let rest = ports_restart ports (All-tail IsPortInRange p ports ranges) in
     λ i. here i ∷ rest i
 
+port_in : (p : PortDataSet) → IsPortInRange p → (m : Member) → is_in_port_range (port_start p) m ≡ true
+port_in p range members.State = ap is_some (state_back p.state)
+port_in p range (members.Setting s) = ap (λ values. is_in_range s (values s)) (settings_again p range) ∙ range.settings s
+port_in p range m = refl
+
 port_faultless : (p : PortDataSet) → IsPortInRange p → port_fault (port_start p) ≡ None
 unfolding port_fault
-port_faultless p range =
-    rw (state_back p.state) (ap settings_fault (settings_again p range) ∙ settings_faultless p.settings range.settings)
+port_faultless p range = none_out (is_in_port_range (port_start p)) judged_of_port (port_in p range)
 
 ports_faultless : (ports : List PortDataSet) → All IsPortInRange ports → ports_fault (map port_start ports) ≡ None
 unfolding ports_fault

@@ -1,24 +1,20 @@
 -- The octets of a port's settings, read and said back; their places; and that a start may have settings in their ranges.
-use Rattle.std.proofs.Common.{arith, ◌≡◌, ◌∙◌, refl, ap, subst, sym, ℕ, ◌+◌, ◌<◌, ◌≤◌, ◌==◌, add-one, ℤ, pos, negsuc, nat_abs, true, false, List, [], ◌∷◌, map, drop, drop-cons, get_or, None, Some, slice_get, slice_index}
+use Rattle.std.proofs.Common.{arith, ◌≡◌, ◌∙◌, refl, ap, subst, sym, ℕ, ◌≤◌, ◌==◌, ℤ, pos, negsuc, nat_abs, true, List, [], ◌∷◌, Some, slice_get, slice_index}
 use Rattle.std.specs.Prelude.{FitsSigned}
 use Rattle.std.specs.Int.{w8}
-use Rattle.std.proofs.Math.ListN.{drop_of_length-le}
 use Rattle.std.proofs.lemmas.Int.{to_z-of_z}
 use Rattle.std.proofs.lemmas.Bool.{eqb-true}
 use Rattle.std.proofs.lemmas.Option.{same_Some}
-use Rattle.ptpm_codec.specs.Ordered.{first_of}
 use Rattle.ptpm_data.specs.declared.port_setting.PortSetting.{PortSetting}
-use Rattle.ptpm_data.specs.declared.members.Member.TheVariants as members
 use Rattle.ptpm_data.specs.declared.port_setting.PortSetting.TheVariants.{LogAnnounceInterval, LogSyncInterval, LogMinPdelayReqInterval}
 use Rattle.ptpm_data.specs.declared.port_settings.PortSettings.TheInside.{Inside}
 use Rattle.ptpm_data.specs.declared.start.PortStart.{PortStart}
-use Rattle.ptpm_data.specs.declared.start.StartError.TheVariants.{BadValue}
 use Rattle.ptpm_data.specs.DataField.{i8_octet}
 use Rattle.ptpm_data.specs.PortSetting.{default_settings, octet_of, place, port_settings, row, said_by, said_of, settings_octets}
 use Rattle.ptpm_data.specs.PortSettings.{AreFive, octet_back, octets_back, settings_view}
 use Rattle.ptpm_data.specs.Ranges.{is_in_range}
 use Rattle.ptpm_data.specs.SetForm.{SetField, minus◌to◌}
-use Rattle.ptpm_data.specs.Start.{port_start_with, setting_fault, settings_fault, start_settings}
+use Rattle.ptpm_data.specs.Start.{port_start_with, start_settings}
 
 -- one octet and others
 pub octet_first : {a b : ℕ} {xs ys : List ℕ} → a ≡ b → xs ≡ ys → a ∷ xs ≡ b ∷ ys
@@ -120,39 +116,3 @@ pub start_said : (p : PortStart)
     → FitsSigned w8 p.log_min_pdelay
     → said_by (start_octets p) ≡ start_settings p
 start_said p announce sync pdelay = λ i s. start_said_at p announce sync pdelay s i
-
--- ---- the first that is out of its range
-
-fault_step : (values : PortSetting → ℤ) (i : ℕ) (d : PortSetting)
-    → i < 5
-    → first_of (map (setting_fault values) (drop i port_settings))
-    ≡ first_of (setting_fault values (get_or port_settings i d) ∷ map (setting_fault values) (drop (i + 1) port_settings))
-fault_step values i d below = rw (drop-cons port_settings i d below, add-one i) refl
-
-pub goes_on : (values : PortSetting → ℤ) (i : ℕ) (d : PortSetting)
-    → i < 5
-    → is_in_range (get_or port_settings i d) (values (get_or port_settings i d)) ≡ true
-    → first_of (map (setting_fault values) (drop i port_settings))
-    ≡ first_of (map (setting_fault values) (drop (i + 1) port_settings))
-goes_on values i d below is = fault_step values i d below ∙ rw is refl
-
-pub stops : (values : PortSetting → ℤ) (i : ℕ) (d : PortSetting)
-    → i < 5
-    → is_in_range (get_or port_settings i d) (values (get_or port_settings i d)) ≡ false
-    → first_of (map (setting_fault values) (drop i port_settings)) ≡ Some (BadValue (members.Setting (get_or port_settings i d)))
-stops values i d below is = fault_step values i d below ∙ rw is refl
-
-pub faults_end : (values : PortSetting → ℤ) (i : ℕ) → 5 ≤ i → first_of (map (setting_fault values) (drop i port_settings)) ≡ None
-faults_end values i past = ap (λ (settings : List PortSetting). first_of (map (setting_fault values) settings)) (drop_of_length-le port_settings past)
-
-none_out : (values : PortSetting → ℤ) (settings : List PortSetting)
-    → ((s : PortSetting) → is_in_range s (values s) ≡ true)
-    → first_of (map (setting_fault values) settings) ≡ None
-none_out values [] range = refl
-none_out values (s ∷ settings) range = rw (range s) (none_out values settings range)
-
-pub settings_faultless : (values : PortSetting → ℤ)
-    → ((s : PortSetting) → is_in_range s (values s) ≡ true)
-    → settings_fault values ≡ None
-unfolding settings_fault
-settings_faultless values range = none_out values port_settings range

@@ -1,13 +1,16 @@
 -- The ports of a start, one after another.
 use Rattle.std.proofs.lemmas.Grind.{common_steps}
-use Rattle.std.proofs.Common.{arith, ◌≡◌, nat_lt, nat_le, Bool, true, false, ◌&&◌, if◌then◌else◌, bytes_eq, ℕ, ◌+◌, ◌<◌, ◌≤◌, List, [], ◌∷◌, ◌++◌, Option, Some, None, Result, Ok, Err, map, take, drop, length, get_or, drop-cons, add-one, refl, ap, sym, subst, IsErrAnd, MatchResult, ◌∙◌}
+use Rattle.std.proofs.Common.{arith, ◌≡◌, nat_lt, nat_le, Bool, true, false, ◌&&◌, if◌then◌else◌, bytes_eq, ℕ, ◌+◌, ◌<◌, ◌≤◌, List, [], ◌∷◌, ◌++◌, Option, Some, None, Result, Ok, Err, map, take, drop, length, get_or, drop-cons, add-one, zero, suc, slice_get, option_map, not, refl, ap, sym, subst, IsErrAnd, MatchResult, ◌∙◌}
 use Rattle.std.proofs.Math.ListN.{drop_of_length-le}
 use Rattle.std.proofs.lemmas.List.{take_more, map-append}
 use Rattle.std.specs.Option.{option_or}
+use Rattle.ptpm_data.specs.declared.members.Member.{Member}
+use Rattle.ptpm_data.specs.declared.members.Member.TheVariants as members
 use Rattle.ptpm_data.specs.declared.start.StartError.{StartError}
+use Rattle.ptpm_data.specs.declared.start.StartError.TheVariants.{BadValue}
 use Rattle.ptpm_data.specs.declared.start.PortStart.{PortStart}
 use Rattle.ptpm_data.specs.declared.data_sets.PortDataSet.{PortDataSet}
-use Rattle.ptpm_data.specs.Start.{port_data_set, port_fault, ports_fault, port_start_of, start_of, started, unless, count_fault, clock_fault, grandmaster_fault}
+use Rattle.ptpm_data.specs.Start.{port_data_set, port_fault, ports_fault, port_start_of, start_of, started, unless, count_fault, clock_fault, first_out, grandmaster_fault, is_in_clock_range, judged_of_clock}
 use Rattle.ptpm_data.specs.ManagementId.{set_of}
 use Rattle.ptpm_data.specs.Ranges.{all_ones, is_clock_accuracy, is_description}
 use Rattle.ptpm_data.specs.Members.{DataSetsValue, is_grandmaster, is_same_precedence}
@@ -15,7 +18,8 @@ use Rattle.ptpm_data.specs.declared.data_sets.ClockPrecedence.{ClockPrecedence}
 use Rattle.ptpm_data.specs.declared.data_sets.DefaultDataSet.{DefaultDataSet}
 use Rattle.ptpm_data.specs.declared.data_sets.ParentDataSet.{ParentDataSet}
 use Rattle.ptpm_data.specs.declared.start.ClockStart.{ClockStart}
-use Rattle.std.proofs.lemmas.Bool.{and_parts, eqb-true, not-false}
+use Rattle.std.proofs.lemmas.Bool.{and_parts, eqb-true, not-false, not-true}
+use Rattle.std.proofs.lemmas.Option.{same_Some}
 use Rattle.std.proofs.lemmas.Bool.Decides.{nat_tests}
 
 pub ports_fault_step : (ps : List PortStart) (i : ℕ) (p : PortStart) → i < length ps
@@ -95,23 +99,45 @@ pub count_sound : (n : ℕ) → count_fault n ≡ None → (1 ≤ n) × (n ≤ 8
 unfolding count_fault
 count_sound n h = grind (arith, passes, nat_lt, nat_tests)
 
+-- of these members none is out of its range
+head_in : (b : Bool) (m : Member) (o : Option Member)
+    → option_map BadValue (if not b then Some m else o) ≡ None
+    → (b ≡ true) × (option_map BadValue o ≡ None)
+head_in true m o none = (refl, none)
+head_in false m o none = cc
+
+pub among : (is_in : Member → Bool) (ms : List Member) (i : ℕ) (m : Member)
+    → first_out is_in ms ≡ None
+    → slice_get ms i ≡ Some m
+    → is_in m ≡ true
+among is_in [] i m none at = cc
+among is_in (n ∷ ms) zero m none at = subst (λ u. is_in u ≡ true) (same_Some n m at) (head_in (is_in n) n _ none).0
+among is_in (n ∷ ms) (suc i) m none at = among is_in ms i m (head_in (is_in n) n _ none).1 at
+
+pub none_out : (is_in : Member → Bool) (ms : List Member) → ((m : Member) → is_in m ≡ true) → first_out is_in ms ≡ None
+none_out is_in [] all = refl
+none_out is_in (m ∷ ms) all = rw (all m) (none_out is_in ms all)
+
+clock_member : (c : ClockStart) (i : ℕ) (m : Member)
+    → clock_fault c ≡ None
+    → slice_get judged_of_clock i ≡ Some m
+    → is_in_clock_range c m ≡ true
+unfolding clock_fault
+clock_member c i m none at = among (is_in_clock_range c) judged_of_clock i m none at
+
+pub identity_sound : (c : ClockStart) → clock_fault c ≡ None → bytes_eq c.identity.0 all_ones ≡ false
+identity_sound c h = not-true _ (clock_member c 0 members.Identity h refl)
+
 pub description_sound : (c : ClockStart)
     → clock_fault c ≡ None
     → is_description c.user_description.items ≡ true
-unfolding clock_fault
-description_sound c h = grind (arith, passes, bytes_eq, not-false)
-
-pub identity_sound : (c : ClockStart) → clock_fault c ≡ None → bytes_eq c.identity.0 all_ones ≡ false
-unfolding clock_fault
-identity_sound c h = (passes _ _ _ h).0
+description_sound c h = clock_member c 1 members.UserDescription h refl
 
 pub accuracy_sound : (c : ClockStart) → clock_fault c ≡ None → is_clock_accuracy c.clock_accuracy ≡ true
-unfolding clock_fault
-accuracy_sound c h = grind (arith, passes, bytes_eq, not-false)
+accuracy_sound c h = clock_member c 2 members.ClockAccuracy h refl
 
 pub leaps_sound : (c : ClockStart) → clock_fault c ≡ None → (c.leap61 && c.leap59) ≡ false
-unfolding clock_fault
-leaps_sound c h = grind (arith, passes, bytes_eq)
+leaps_sound c h = not-true _ (clock_member c 3 members.Leap59 h refl)
 
 pub description_small : (text : List ℕ) → is_description text ≡ true → length text ≤ 128
 unfolding is_description set_of

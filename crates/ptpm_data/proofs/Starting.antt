@@ -8,7 +8,7 @@ use Rattle.ptpm_data.specs.declared.start.PortStart.{PortStart}
 use Rattle.ptpm_data.specs.ManagementId.{set_of}
 use Rattle.ptpm_data.specs.Members.{IsConsistent}
 use Rattle.ptpm_data.specs.Ranges.{is_description}
-use Rattle.ptpm_data.specs.Start.{clock_fault, count_fault, default_clock, default_port, grandmaster_fault, no_identity, port_fault, ports_fault, settings_fault, start_fault, start_of, started}
+use Rattle.ptpm_data.specs.Start.{clock_fault, count_fault, default_clock, default_port, grandmaster_fault, no_identity, port_fault, ports_fault, start_fault, start_of, started}
 use Rattle.ptpm_data.proofs.Ranging.{ports_start}
 use Rattle.ptpm_data.proofs.StartLemmas.{accuracy_sound, count_sound, description_small, description_sound, grandmaster_sound, identity_sound, leaps_sound}
 
@@ -43,7 +43,7 @@ text_fits c ports text none is =
     let size = ap length is in omega arith
 
 pub blank_faultless : start_fault (default_clock no_identity 0) (default_port ∷ []) ≡ None
-unfolding count_fault clock_fault port_fault settings_fault ports_fault grandmaster_fault is_description set_of is_utf8 chars
+unfolding count_fault clock_fault port_fault ports_fault grandmaster_fault is_description set_of is_utf8 chars
 blank_faultless = refl
 
 pub blank_starts : start_of (default_clock no_identity 0) (default_port ∷ []) ≡ Ok (started (default_clock no_identity 0) (default_port ∷ []))

@@ -1,8 +1,10 @@
 -- The data sets that a clock starts with (IEEE 1588-2019, clause 8; ranges, defaults and faults are this project's profile).
-use Rattle.std.specs.Prelude.{ℕ, ◌==◌, nat_lt, ℤ, pos, nat_abs, Bool, true, false, not, ◌&&◌, List, [], ◌∷◌, length, map, Option, Some, None, is_none, unwrap_or, Result, Ok, Err, bytes_eq}
+use Rattle.std.specs.Prelude.{ℕ, ◌==◌, nat_lt, ℤ, pos, nat_abs, Bool, true, false, not, ◌&&◌, List, [], ◌∷◌, length, map, Option, Some, None, is_some, unwrap_or, option_map, Result, Ok, Err, bytes_eq}
+use Rattle.std.specs.List.{find}
 use Rattle.std.specs.Option.{option_or}
 use Rattle.ptpm_codec.specs.declared.identity.ClockIdentity.{ClockIdentity}
 use Rattle.ptpm_codec.specs.Ordered.{first_of}
+use Rattle.ptpm_data.specs.declared.members.Member.{Member}
 use Rattle.ptpm_data.specs.declared.members.Member.TheVariants as members
 use Rattle.ptpm_data.specs.declared.port_state.PortState.TheVariants as states
 use Rattle.ptpm_data.specs.declared.port_setting.PortSetting.{PortSetting}
@@ -159,34 +161,41 @@ started c ports = record {
   ports = map port_data_set ports;
 }
 
--- ---- faults: of each list the answer is the first whose test holds
+-- ---- faults: the first that holds
 
 -- of the number of ports
 unfoldable pub count_fault : ℕ → Option StartError
 count_fault count = first_of ((count == 0, NoPorts) ∷ (nat_lt 8 count, TooManyPorts) ∷ [])
 
--- of the clock's members; those that are not here may have every value of their types
+-- the members that a start judges, in this order; the others may have every value of their types
+abbrev pub judged_of_clock : List Member
+judged_of_clock = members.Identity ∷ members.UserDescription ∷ members.ClockAccuracy ∷ members.Leap59 ∷ []
+
+abbrev pub judged_of_port : List Member
+judged_of_port = members.State ∷ map members.Setting port_settings
+
+-- a member is in its range
+abbrev pub is_in_clock_range : ClockStart → Member → Bool
+is_in_clock_range c members.Identity = not (bytes_eq c.identity.0 all_ones)
+is_in_clock_range c members.UserDescription = is_description c.user_description.items
+is_in_clock_range c members.ClockAccuracy = is_clock_accuracy c.clock_accuracy
+is_in_clock_range c members.Leap59 = not (c.leap61 && c.leap59)
+is_in_clock_range c _ = true
+
+abbrev pub is_in_port_range : PortStart → Member → Bool
+is_in_port_range p members.State = is_some (state_of p.state)
+is_in_port_range p (members.Setting s) = is_in_range s (start_settings p s)
+is_in_port_range p _ = true
+
+-- of the first of some members that is not in its range
+abbrev pub first_out : (Member → Bool) → List Member → Option StartError
+first_out is_in ms = option_map BadValue (find (λ m. not (is_in m)) ms)
+
 unfoldable pub clock_fault : ClockStart → Option StartError
-clock_fault c = first_of (
-    (bytes_eq c.identity.0 all_ones, BadValue members.Identity)
-    ∷ (not (is_description c.user_description.items), BadValue members.UserDescription)
-    ∷ (not (is_clock_accuracy c.clock_accuracy), BadValue members.ClockAccuracy)
-    ∷ (c.leap61 && c.leap59, BadValue members.Leap59)
-    ∷ [])
-
--- of a port's settings
-abbrev pub setting_fault : (PortSetting → ℤ) → PortSetting → Bool × StartError
-setting_fault settings s = (not (is_in_range s (settings s)), BadValue (members.Setting s))
-
-unfoldable pub settings_fault : (PortSetting → ℤ) → Option StartError
-settings_fault settings = first_of (map (setting_fault settings) port_settings)
-
--- of a port's members
-abbrev pub state_fault : PortStart → Option StartError
-state_fault p = first_of ((is_none (state_of p.state), BadValue members.State) ∷ [])
+clock_fault c = first_out (is_in_clock_range c) judged_of_clock
 
 unfoldable pub port_fault : PortStart → Option StartError
-port_fault p = option_or (state_fault p) (settings_fault (start_settings p))
+port_fault p = first_out (is_in_port_range p) judged_of_port
 
 -- of the first port that has one
 unfoldable pub ports_fault : List PortStart → Option StartError

@@ -1,7 +1,9 @@
 //! The values that a clock starts with (clause 8; ranges and defaults are this project's profile).
 
-ghost use Rattle.std.specs.Prelude.{◌≡◌, ◌≤◌, length, map, MatchResult, Some, None};
-ghost use Rattle.ptpm_data.specs.Start.{port_data_set, ports_fault, count_fault, grandmaster_fault, settings_fault, start_fault, unless};
+ghost use Rattle.std.specs.Prelude.{◌≡◌, ◌≤◌, find, length, map, MatchResult, not, option_map, Some, None};
+ghost use Rattle.std.specs.Option.{option_copied};
+ghost use Rattle.ptpm_data.specs.declared.start.StartError.TheVariants.{BadValue};
+ghost use Rattle.ptpm_data.specs.Start.{port_data_set, ports_fault, count_fault, grandmaster_fault, start_fault, unless};
 
 use crate::data_field::i8_octet;
 use crate::data_sets::{
@@ -18,7 +20,7 @@ use crate::port_settings::PortSettings;
 use crate::port_state::PortState;
 use arrayvec::ArrayVec;
 use ptpm_codec::{ClockIdentity, PortIdentity};
-use std::fmt;
+use std::{array, fmt};
 use thiserror::Error;
 
 /// The start values of a clock's own members. `None` is the clock's own value, or for `parent_port` its port 0.
@@ -120,7 +122,7 @@ impl fmt::Display for StartError {
 
 impl ClockStart {
     ghost use Rattle.std.specs.Prelude.{◌≡◌};
-    ghost use Rattle.ptpm_data.specs.Start.{default_clock, clock_fault, unless, default_data_set, current_data_set, parent_data_set, time_data_set};
+    ghost use Rattle.ptpm_data.specs.Start.{default_clock, clock_fault, is_in_clock_range, judged_of_clock, unless, default_data_set, current_data_set, parent_data_set, time_data_set};
 
     /// A clock that is its own grandmaster, with no text and this profile's defaults.
     pub fn new(identity: ClockIdentity, domain: u8) -> ClockStart
@@ -160,22 +162,48 @@ impl ClockStart {
         }
     }
 
+    /// The members that a start judges, in this order. The others may have every value of their types.
+    pub fn judged() -> [Member; 4]
+        ensures { result ≡ judged_of_clock }
+    {
+        [
+            Member::Identity,
+            Member::UserDescription,
+            Member::ClockAccuracy,
+            Member::Leap59,
+        ]
+    }
+
+    /// Whether a member is in its range.
+    #[tactic(auto, unfolding(crate::specs::Ranges::is_description))]
+    pub fn is_in_range(&self, member: Member) -> bool
+        ensures { result ≡ is_in_clock_range self.now member }
+    {
+        match member {
+            Member::Identity => self.identity != ClockIdentity::EVERY,
+            Member::UserDescription => {
+                set_of(Layout::UserDescription).allows_text(self.user_description.as_slice())
+            }
+            Member::ClockAccuracy => {
+                set_of(Layout::ClockAccuracy).allows_octet(self.clock_accuracy)
+            }
+            Member::Leap59 => !(self.leap61 && self.leap59),
+            _ => true,
+        }
+    }
+
     /// Whether each member is in its range; if not, the first that is not.
-    #[tactic(auto, unfolding(crate::specs::Start::clock_fault, crate::specs::Ranges::is_description))]
-    pub(crate) fn judge(&self) -> Result<(), StartError>
+    #[tactic(auto, unfolding(crate::specs::Start::clock_fault))]
+    fn judge(&self) -> Result<(), StartError>
         ensures { result ≡ unless (clock_fault self.now) tt }
     {
-        if self.identity == ClockIdentity::EVERY {
-            Err(StartError::BadValue(Member::Identity))
-        } else if !set_of(Layout::UserDescription).allows_text(self.user_description.as_slice()) {
-            Err(StartError::BadValue(Member::UserDescription))
-        } else if !set_of(Layout::ClockAccuracy).allows_octet(self.clock_accuracy) {
-            Err(StartError::BadValue(Member::ClockAccuracy))
-        } else if self.leap61 && self.leap59 {
-            Err(StartError::BadValue(Member::Leap59))
-        } else {
-            Ok(())
-        }
+        none_out(self.first_out(&ClockStart::judged()).copied())
+    }
+
+    fn first_out<'a>(&self, members: &'a [Member]) -> Option<&'a Member>
+        ensures { option_copied result ≡ find (λ m. not (is_in_clock_range self.now m)) members.now }
+    {
+        members.iter().find(|member| !self.is_in_range(**member))
     }
 
     pub(crate) fn default_data_set(&self) -> DefaultDataSet
@@ -246,7 +274,7 @@ impl ClockStart {
 impl PortStart {
     ghost use Rattle.std.specs.Prelude.{◌≡◌};
     ghost use Rattle.ptpm_data.specs.PortSetting.{said_by};
-    ghost use Rattle.ptpm_data.specs.Start.{default_port, port_start_of, port_start_with, start_settings};
+    ghost use Rattle.ptpm_data.specs.Start.{default_port, is_in_port_range, judged_of_port, port_fault, port_start_of, port_start_with, start_settings, unless};
 
     /// A port that is MASTER, with this profile's defaults.
     pub fn new() -> PortStart
@@ -297,22 +325,53 @@ impl PortStart {
         ])
     }
 
+    /// The members that a start judges, in this order: the state, and each setting. The others may have every value of their types.
+    pub fn judged() -> [Member; 6]
+        ensures { result ≡ judged_of_port }
+    {
+        array::from_fn(|place| match place {
+            0 => Member::State,
+            _ => Member::Setting(PortSetting::ALL[place - 1]),
+        })
+    }
+
+    /// Whether a member is in its range.
+    pub fn is_in_range(&self, member: Member) -> bool
+        ensures { result ≡ is_in_port_range self.now member }
+    {
+        match member {
+            Member::State => PortState::from_number(self.state).is_some(),
+            Member::Setting(setting) => self.settings().is_in_range(setting),
+            _ => true,
+        }
+    }
+
+    /// Whether each member is in its range; if not, the first that is not.
+    #[tactic(auto, unfolding(crate::specs::Start::port_fault))]
+    fn judge(&self) -> Result<(), StartError>
+        ensures { result ≡ unless (port_fault self.now) tt }
+    {
+        none_out(self.first_out(&PortStart::judged()).copied())
+    }
+
+    fn first_out<'a>(&self, members: &'a [Member]) -> Option<&'a Member>
+        ensures { option_copied result ≡ find (λ m. not (is_in_port_range self.now m)) members.now }
+    {
+        members.iter().find(|member| !self.is_in_range(**member))
+    }
+
     /// The data set of such a port, or the first member that is out of its range.
-    #[tactic(auto, unfolding(crate::specs::Start::port_start_of, crate::specs::Start::port_fault))]
-    pub(crate) fn data_set(&self) -> Result<PortDataSet, StartError>
+    #[tactic(auto, unfolding(crate::specs::Start::port_start_of))]
+    fn data_set(&self) -> Result<PortDataSet, StartError>
         ensures { result ≡ port_start_of self.now }
     {
-        let state = PortState::from_number(self.state).ok_or(StartError::BadValue(Member::State))?;
-        let settings = self.settings();
-        match settings_fault(&settings) {
-            Some(fault) => Err(fault),
-            None => Ok(PortDataSet {
-                state,
-                log_min_delay_req: self.log_min_delay_req,
-                peer_delay: self.peer_delay,
-                settings,
-            }),
-        }
+        self.judge()?;
+        Ok(PortDataSet {
+            state: PortState::from_number(self.state).unwrap_or(PortState::Initializing),
+            log_min_delay_req: self.log_min_delay_req,
+            peer_delay: self.peer_delay,
+            settings: self.settings(),
+        })
     }
 }
 
@@ -328,16 +387,14 @@ impl Default for PortStart {
     }
 }
 
-/// The first setting that is out of its range.
-fn settings_fault(settings: &PortSettings) -> Option<StartError>
-    ensures { result ≡ settings_fault settings.now }
+/// Nothing, unless a member is out of its range; this is the first.
+fn none_out(first: Option<Member>) -> Result<(), StartError>
+    ensures { result ≡ unless (option_map BadValue first) tt }
 {
-    for setting in &PortSetting::ALL {
-        if !settings.is_in_range(*setting) {
-            return Some(StartError::BadValue(Member::Setting(*setting)));
-        }
+    match first {
+        Some(member) => Err(StartError::BadValue(member)),
+        None => Ok(()),
     }
-    None
 }
 
 /// The data sets of ports that start, or the first fault.

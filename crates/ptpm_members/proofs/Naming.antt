@@ -3,21 +3,22 @@ use Rattle.std.proofs.Common.{◌≡◌, ap, ℕ, ◌+◌, ◌<◌, ◌≤◌, t
 use Rattle.std.proofs.Math.ListN.{drop_of_length-le}
 use Rattle.std.specs.Str.{str_eq_ignore_ascii_case}
 use Rattle.ptpm_members.specs.declared.other_ids.OtherId.{OtherId}
-use Rattle.ptpm_members.specs.NumberNames.{is_name, mechanism_name_of, named_in}
+use Rattle.ptpm_members.specs.declared.number_names.Enumeration.{Enumeration}
+use Rattle.ptpm_members.specs.NumberNames.{is_name, name_of, named_in}
 use Rattle.ptpm_members.specs.OtherIds.{other_name, other_named_in}
 
-pub goes_on : (text numbers : List ℕ) (i : ℕ) → i < length numbers
-    → is_name text (mechanism_name_of (get_or numbers i 0)) ≡ false
-    → named_in text (drop (i + 1) numbers) ≡ named_in text (drop i numbers)
-goes_on text numbers i inside other = rw (drop-cons numbers i 0 inside, add-one i, other) refl
+pub goes_on : (e : Enumeration) (text numbers : List ℕ) (i : ℕ) → i < length numbers
+    → is_name text (name_of e (get_or numbers i 0)) ≡ false
+    → named_in e text (drop (i + 1) numbers) ≡ named_in e text (drop i numbers)
+goes_on e text numbers i inside other = rw (drop-cons numbers i 0 inside, add-one i, other) refl
 
-pub is_found : (text numbers : List ℕ) (i : ℕ) → i < length numbers
-    → is_name text (mechanism_name_of (get_or numbers i 0)) ≡ true
-    → named_in text (drop i numbers) ≡ Some (get_or numbers i 0)
-is_found text numbers i inside this = rw (drop-cons numbers i 0 inside, this) refl
+pub is_found : (e : Enumeration) (text numbers : List ℕ) (i : ℕ) → i < length numbers
+    → is_name text (name_of e (get_or numbers i 0)) ≡ true
+    → named_in e text (drop i numbers) ≡ Some (get_or numbers i 0)
+is_found e text numbers i inside this = rw (drop-cons numbers i 0 inside, this) refl
 
-pub is_nowhere : (text numbers : List ℕ) (i : ℕ) → length numbers ≤ i → named_in text (drop i numbers) ≡ None
-is_nowhere text numbers i past = ap (named_in text) (drop_of_length-le numbers past)
+pub is_nowhere : (e : Enumeration) (text numbers : List ℕ) (i : ℕ) → length numbers ≤ i → named_in e text (drop i numbers) ≡ None
+is_nowhere e text numbers i past = ap (named_in e text) (drop_of_length-le numbers past)
 
 -- ---- an id that is only read
 

@@ -11,7 +11,8 @@ use Rattle.hex.proofs.OnLiterals.{hex_on_literals}
 use Rattle.ptpm_data.specs.DataField.{i8_octet}
 use Rattle.ptpm_members.specs.declared.forms.Form.{Form}
 use Rattle.ptpm_members.specs.declared.forms.Form.TheVariants as forms
-use Rattle.ptpm_members.specs.NumberNames.{mechanism_named, mechanism_text}
+use Rattle.ptpm_members.specs.declared.number_names.Enumeration.TheVariants as enumerations
+use Rattle.ptpm_members.specs.NumberNames.{enumeration_text, number_of}
 use Rattle.ptpm_members.specs.Typed.{flag_of, mechanism_octet, number_up_to, octet_of, signed_number, typed}
 use Rattle.ptpm_members.specs.ValueText.{flag_name, hexadecimal, value_text}
 
@@ -53,8 +54,8 @@ all_signed : list_all (comes_back (forms.Signed 1)) (range_with_len 0 256) ≡ t
 unfolding typed signed_number number_up_to digits i8_octet
 all_signed = refl
 
-all_mechanisms : list_all (comes_back forms.DelayMechanism) (range_with_len 0 256) ≡ true
-unfolding typed mechanism_octet mechanism_named octet_of number_up_to digits hex_on_literals mechanism_text
+all_mechanisms : list_all (comes_back (forms.Named enumerations.DelayMechanism)) (range_with_len 0 256) ≡ true
+unfolding typed mechanism_octet number_of octet_of number_up_to digits hex_on_literals enumeration_text
 all_mechanisms = refl
 
 back : (form : Form) (a : ℕ) → list_all (comes_back form) (range_with_len 0 256) ≡ true → a < 256
@@ -73,8 +74,8 @@ pub signed_octet_back : (a : ℕ) → a < 256
 signed_octet_back a small = back (forms.Signed 1) a all_signed small
 
 pub mechanism_back : (a : ℕ) → a < 256
-    → typed forms.DelayMechanism (value_text forms.DelayMechanism (a ∷ [])) ≡ Some (a ∷ [])
-mechanism_back a small = back forms.DelayMechanism a all_mechanisms small
+    → typed (forms.Named enumerations.DelayMechanism) (value_text (forms.Named enumerations.DelayMechanism) (a ∷ [])) ≡ Some (a ∷ [])
+mechanism_back a small = back (forms.Named enumerations.DelayMechanism) a all_mechanisms small
 
 pub flag_back : (mask : ℕ) (b : Bool) → typed (forms.Flag mask) (flag_name b) ≡ Some ((if b then mask else 0) ∷ [])
 unfolding typed flag_of

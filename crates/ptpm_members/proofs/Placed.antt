@@ -57,9 +57,7 @@ value_there size at forms.LowNibble octets long fits = octets_there size at 1 oc
 value_there size at forms.TimeInterval octets long fits = octets_there size at 8 octets long fits
 value_there size at forms.ClockIdentity octets long fits = octets_there size at 8 octets long fits
 value_there size at forms.PortIdentity octets long fits = octets_there size at 10 octets long fits
-value_there size at forms.PortState octets long fits = octets_there size at 1 octets long fits
-value_there size at forms.DelayMechanism octets long fits = octets_there size at 1 octets long fits
-value_there size at forms.Timestamping octets long fits = octets_there size at 1 octets long fits
+value_there size at (forms.Named enumeration) octets long fits = octets_there size at 1 octets long fits
 value_there size at forms.ClockIdentities octets long fits = octets_there size at 0 octets long fits
 value_there size at (forms.Described part) octets long fits = octets_there size at 0 octets long fits
 

@@ -25,6 +25,7 @@ use Rattle.ptpm_members.specs.declared.forms.Form.{Form}
 use Rattle.ptpm_members.specs.declared.forms.Form.TheVariants as forms
 use Rattle.ptpm_members.specs.declared.names.Member.{Member}
 use Rattle.ptpm_members.specs.declared.names.Member.TheVariants as members
+use Rattle.ptpm_members.specs.declared.number_names.Enumeration.TheVariants as enumerations
 use Rattle.ptpm_members.specs.declared.tables.TheConstants.{CURRENT_DATA_SET, DEFAULT_DATA_SET, PARENT_DATA_SET, TIME_PROPERTIES_DATA_SET, USER_DESCRIPTION, UTC_PROPERTIES}
 use Rattle.ptpm_members.specs.Tables.{IsSaid, field_value, fields_of, form_value, member_value}
 use Rattle.ptpm_members.proofs.Reading.{i16_back, i32_back, i64_back, i8_back, no_flag, one_flag, six_flags, three_flags, u16_back, u8_back}
@@ -162,7 +163,7 @@ module _ (d : DataSetsValue) (sized : IsSized d) (fits : DataSetsFit d) where
               ap natural flags.third,
               (
                 ap natural flags.fourth,
-                (ap natural flags.fifth, (ap natural flags.sixth, (octet_is t.time_source, tt))),
+                (ap natural flags.fifth, (ap natural flags.sixth, (refl, tt))),
               ),
             ),
           ),
@@ -211,7 +212,7 @@ field_with layout o n d = field_of_port (port_field_of layout d.default.identity
 -- how a port's setting is written
 abbrev setting_form : PortSetting → Form
 setting_form settings.AnnounceReceiptTimeout = forms.Unsigned 1
-setting_form settings.DelayMechanism = forms.DelayMechanism
+setting_form settings.DelayMechanism = forms.Named enumerations.DelayMechanism
 setting_form _ = forms.Signed 1
 
 -- the same of a port with this data set

@@ -1,4 +1,4 @@
--- The numbers that the standard names: one table for texts, for JSON and for what is typed.
+-- The numbers that the standard names: one table for texts, for JSON, for charts and for what is typed.
 use Rattle.std.specs.Prelude.{ℕ, ◌==◌, Bool, false, if◌then◌else◌, List, [], ◌∷◌, ◌++◌, Option, Some, None, codes, find, option_map}
 use Rattle.std.specs.Option.{option_or}
 use Rattle.std.specs.Str.{str_eq_ignore_ascii_case}
@@ -8,6 +8,8 @@ use Rattle.ptpm_data.specs.declared.port_state.DelayMechanism.TheVariants as mec
 use Rattle.ptpm_data.specs.declared.port_state.PortState.{PortState}
 use Rattle.ptpm_data.specs.declared.port_state.PortState.TheVariants as states
 use Rattle.ptpm_data.specs.PortState.{mechanism_of, state_of}
+use Rattle.ptpm_members.specs.declared.number_names.Enumeration.{Enumeration}
+use Rattle.ptpm_members.specs.declared.number_names.Enumeration.TheVariants as enumerations
 
 -- ---- names
 
@@ -33,19 +35,26 @@ mechanism_name mechanisms.NoMechanism = codes "NO_MECHANISM"
 abbrev pub other_mechanism : ℕ → Option (List ℕ)
 other_mechanism n = if n == 3 then Some (codes "COMMON_P2P") else if n == 4 then Some (codes "SPECIAL") else None
 
--- ---- the name of a number, if it has one
+abbrev pub mechanism_number_name : ℕ → Option (List ℕ)
+mechanism_number_name n = option_or (option_map mechanism_name (mechanism_of n)) (other_mechanism n)
 
--- of a portState (8.2.15.3.1, table 20)
-abbrev pub state_name_of : ℕ → Option (List ℕ)
-state_name_of n = option_map state_name (state_of n)
-
--- of a delayMechanism
-abbrev pub mechanism_name_of : ℕ → Option (List ℕ)
-mechanism_name_of n = option_or (option_map mechanism_name (mechanism_of n)) (other_mechanism n)
+-- of a timeSource (7.6.2.8, table 6)
+abbrev pub source_name : ℕ → Option (List ℕ)
+source_name n =
+    if n == 0x10 then Some (codes "ATOMIC_CLOCK")
+    else if n == 0x20 then Some (codes "GNSS")
+    else if n == 0x30 then Some (codes "TERRESTRIAL_RADIO")
+    else if n == 0x39 then Some (codes "SERIAL_TIME_CODE")
+    else if n == 0x40 then Some (codes "PTP")
+    else if n == 0x50 then Some (codes "NTP")
+    else if n == 0x60 then Some (codes "HAND_SET")
+    else if n == 0x90 then Some (codes "OTHER")
+    else if n == 0xa0 then Some (codes "INTERNAL_OSCILLATOR")
+    else None
 
 -- of a way of timestamping, of linuxptp
-abbrev pub timestamping_name_of : ℕ → Option (List ℕ)
-timestamping_name_of n =
+abbrev pub timestamping_name : ℕ → Option (List ℕ)
+timestamping_name n =
     if n == 0 then Some (codes "SOFTWARE")
     else if n == 1 then Some (codes "HARDWARE")
     else if n == 2 then Some (codes "LEGACY_HW")
@@ -53,19 +62,21 @@ timestamping_name_of n =
     else if n == 4 then Some (codes "P2P1STEP")
     else None
 
+-- ---- the name of a number, if it has one
+
+abbrev pub name_of : Enumeration → ℕ → Option (List ℕ)
+name_of enumerations.PortState n = option_map state_name (state_of n)
+name_of enumerations.DelayMechanism n = mechanism_number_name n
+name_of enumerations.TimeSource n = source_name n
+name_of enumerations.Timestamping n = timestamping_name n
+
 -- a name, or the number in hexadecimal if it has none
 abbrev pub name_or_number : Option (List ℕ) → ℕ → List ℕ
 name_or_number None n = codes "0x" ++ octet_text n
 name_or_number (Some name) n = name
 
-unfoldable pub state_text : ℕ → List ℕ
-state_text n = name_or_number (state_name_of n) n
-
-unfoldable pub mechanism_text : ℕ → List ℕ
-mechanism_text n = name_or_number (mechanism_name_of n) n
-
-unfoldable pub timestamping_text : ℕ → List ℕ
-timestamping_text n = name_or_number (timestamping_name_of n) n
+unfoldable pub enumeration_text : Enumeration → ℕ → List ℕ
+enumeration_text e n = name_or_number (name_of e n) n
 
 -- ---- the number of a name
 
@@ -74,13 +85,16 @@ abbrev pub is_name : List ℕ → Option (List ℕ) → Bool
 is_name text None = false
 is_name text (Some name) = str_eq_ignore_ascii_case text name
 
--- the delay mechanisms that have a name, by their numbers
-abbrev pub mechanism_numbers : List ℕ
-mechanism_numbers = 1 ∷ 2 ∷ 3 ∷ 4 ∷ 0xfe ∷ []
+-- the numbers that have a name
+abbrev pub named_numbers : Enumeration → List ℕ
+named_numbers enumerations.PortState = 1 ∷ 2 ∷ 3 ∷ 4 ∷ 5 ∷ 6 ∷ 7 ∷ 8 ∷ 9 ∷ []
+named_numbers enumerations.DelayMechanism = 1 ∷ 2 ∷ 3 ∷ 4 ∷ 0xfe ∷ []
+named_numbers enumerations.TimeSource = 0x10 ∷ 0x20 ∷ 0x30 ∷ 0x39 ∷ 0x40 ∷ 0x50 ∷ 0x60 ∷ 0x90 ∷ 0xa0 ∷ []
+named_numbers enumerations.Timestamping = 0 ∷ 1 ∷ 2 ∷ 3 ∷ 4 ∷ []
 
 -- the first of these numbers with this name
-abbrev pub named_in : List ℕ → List ℕ → Option ℕ
-named_in text numbers = find (λ n. is_name text (mechanism_name_of n)) numbers
+abbrev pub named_in : Enumeration → List ℕ → List ℕ → Option ℕ
+named_in e text numbers = find (λ n. is_name text (name_of e n)) numbers
 
-unfoldable pub mechanism_named : List ℕ → Option ℕ
-mechanism_named text = named_in text mechanism_numbers
+unfoldable pub number_of : Enumeration → List ℕ → Option ℕ
+number_of e text = named_in e text (named_numbers e)

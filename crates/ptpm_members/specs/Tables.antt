@@ -65,12 +65,10 @@ form_size forms.LowNibble = 1
 form_size forms.TimeInterval = 8
 form_size forms.ClockIdentity = 8
 form_size forms.PortIdentity = 10
-form_size forms.PortState = 1
-form_size forms.DelayMechanism = 1
+form_size (forms.Named enumeration) = 1
 form_size forms.Text = 0
 form_size (forms.LittleEndian n) = n
 form_size (forms.Octets n) = n
-form_size forms.Timestamping = 1
 form_size forms.ClockIdentities = 0
 form_size (forms.Described part) = 0
 
@@ -111,12 +109,10 @@ form_value forms.LowNibble octets = Number (pos (octet 0 octets % 16))
 form_value forms.TimeInterval octets = Number (twos_complement 8 (big_number 8 octets))
 form_value forms.ClockIdentity octets = Octets (take 8 octets)
 form_value forms.PortIdentity octets = PortOf (take 8 octets) (big_number 2 (drop 8 octets))
-form_value forms.PortState octets = Number (pos (octet 0 octets))
-form_value forms.DelayMechanism octets = Number (pos (octet 0 octets))
+form_value (forms.Named enumeration) octets = Number (pos (octet 0 octets))
 form_value forms.Text octets = Octets (ptp_text octets)
 form_value (forms.LittleEndian n) octets = Number (pos (little_number n octets))
 form_value (forms.Octets n) octets = Octets (take n octets)
-form_value forms.Timestamping octets = Number (pos (octet 0 octets))
 form_value forms.ClockIdentities octets = Octets octets
 form_value (forms.Described part) octets = Octets (part_on part octets)
 

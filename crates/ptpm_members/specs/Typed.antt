@@ -11,7 +11,8 @@ use Rattle.ptpm_data.specs.DataField.{i16_octets, i8_octet}
 use Rattle.ptpm_data.specs.Ranges.{is_description}
 use Rattle.ptpm_members.specs.declared.forms.Form.{Form}
 use Rattle.ptpm_members.specs.declared.forms.Form.TheVariants as forms
-use Rattle.ptpm_members.specs.NumberNames.{mechanism_named}
+use Rattle.ptpm_members.specs.declared.number_names.Enumeration.TheVariants as enumerations
+use Rattle.ptpm_members.specs.NumberNames.{number_of}
 use Rattle.ptpm_members.specs.ValueText.{flag_name}
 
 -- ---- numbers
@@ -66,7 +67,7 @@ flag_of text =
 
 -- the number of a delay mechanism: by its name, or a number of one octet
 unfoldable pub mechanism_octet : List ℕ → Option ℕ
-mechanism_octet text = option_or (mechanism_named text) (octet_of text)
+mechanism_octet text = option_or (number_of enumerations.DelayMechanism text) (octet_of text)
 
 -- ---- a text
 
@@ -120,5 +121,5 @@ typed (forms.Signed n) text = signed_octets n text
 typed (forms.Flag mask) text = option_map (flag_octet mask) (flag_of text)
 typed forms.EitherFlag text = option_map (flag_octet 1) (flag_of text)
 typed forms.LowNibble text = option_map one_octet (nibble_of text)
-typed forms.DelayMechanism text = option_map one_octet (mechanism_octet text)
+typed (forms.Named enumerations.DelayMechanism) text = option_map one_octet (mechanism_octet text)
 typed _ text = None

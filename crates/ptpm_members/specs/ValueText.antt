@@ -5,7 +5,8 @@ use Rattle.std.specs.Int.{is_negative}
 use Rattle.ptpm_codec.specs.Identity.{clock_identity_text, octet_text, port_identity_text}
 use Rattle.ptpm_members.specs.declared.forms.Form.{Form}
 use Rattle.ptpm_members.specs.declared.forms.Form.TheVariants as forms
-use Rattle.ptpm_members.specs.NumberNames.{mechanism_text, state_text, timestamping_text}
+use Rattle.ptpm_members.specs.declared.values.ClockQuality.{ClockQuality}
+use Rattle.ptpm_members.specs.NumberNames.{enumeration_text}
 use Rattle.ptpm_members.specs.Values as values
 use Rattle.ptpm_members.specs.Values.{Said, said_in}
 
@@ -61,6 +62,16 @@ clocks_text (a ∷ b ∷ c ∷ d ∷ e ∷ f ∷ g ∷ h ∷ more) =
     hexadecimal (a ∷ b ∷ c ∷ d ∷ e ∷ f ∷ g ∷ h ∷ []) ++ space_before more ++ clocks_text more
 clocks_text octets = []
 
+-- ---- a ClockQuality
+
+-- a number of two octets, in four hexadecimal digits
+abbrev pub variance_text : ℕ → List ℕ
+variance_text n = octet_text (n / 256) ++ octet_text (n % 256)
+
+unfoldable pub quality_text : ClockQuality → List ℕ
+quality_text q =
+    codes "class " ++ decimal q.class ++ codes " accuracy 0x" ++ octet_text q.accuracy ++ codes " variance 0x" ++ variance_text q.variance
+
 -- ---- a value
 
 abbrev pub said_text : Said → List ℕ
@@ -70,11 +81,10 @@ said_text (values.Flag flag) = flag_name flag
 said_text (values.Interval interval) = interval_text interval
 said_text (values.Clock clock) = clock_identity_text clock.0
 said_text (values.Port port) = port_identity_text port
-said_text (values.State number) = state_text number
-said_text (values.Mechanism number) = mechanism_text number
+said_text (values.Named enumeration number) = enumeration_text enumeration number
+said_text (values.Quality quality) = quality_text quality
 said_text (values.Text octets) = shown_text octets
 said_text (values.Octets octets) = octets_text octets
-said_text (values.Timestamping number) = timestamping_text number
 said_text (values.Clocks octets) = clocks_text octets
 
 -- that of the member whose octets come first

@@ -10,6 +10,8 @@ use Rattle.ptpm_members.specs.declared.description.DescriptionPart.{DescriptionP
 use Rattle.ptpm_members.specs.declared.description.DescriptionPart.TheVariants as parts
 use Rattle.ptpm_members.specs.declared.forms.Form.{Form}
 use Rattle.ptpm_members.specs.declared.forms.Form.TheVariants as forms
+use Rattle.ptpm_members.specs.declared.number_names.Enumeration.{Enumeration}
+use Rattle.ptpm_members.specs.declared.values.ClockQuality.{ClockQuality}
 use Rattle.ptpm_members.specs.declared.values.MemberValue.{MemberValue}
 use Rattle.ptpm_members.specs.declared.values.MemberValue.TheVariants as values
 use Rattle.ptpm_members.specs.Tables.{form_size}
@@ -29,7 +31,7 @@ HasValue (forms.LittleEndian n) octets = HasNumber n octets
 HasValue forms.Text octets = is_ptp_text octets ≡ true
 HasValue form octets = form_size form ≤ length octets
 
--- a value, whoever prints it: a TimeInterval is nanoseconds times 2^16, a state and a mechanism are their numbers
+-- a value, whoever prints it: a TimeInterval is nanoseconds times 2^16, what has a name is its number
 pub data Said : Type 0 where
   Unsigned : (number : ℕ) → Said
   Signed : (number : ℤ) → Said
@@ -37,11 +39,10 @@ pub data Said : Type 0 where
   Interval : (interval : ℤ) → Said
   Clock : (clock : ClockIdentity) → Said
   Port : (port : PortIdentity) → Said
-  State : (number : ℕ) → Said
-  Mechanism : (number : ℕ) → Said
+  Named : (enumeration : Enumeration) → (number : ℕ) → Said
+  Quality : (quality : ClockQuality) → Said
   Text : (octets : List ℕ) → Said
   Octets : (octets : List ℕ) → Said
-  Timestamping : (number : ℕ) → Said
   Clocks : (octets : List ℕ) → Said
 
 -- one of the program
@@ -52,11 +53,10 @@ said (values.Flag flag) = Flag flag
 said (values.Interval interval) = Interval interval
 said (values.Clock clock) = Clock clock
 said (values.Port port) = Port port
-said (values.State number) = State number
-said (values.Mechanism number) = Mechanism number
+said (values.Named enumeration number) = Named enumeration number
+said (values.Quality quality) = Quality quality
 said (values.Text octets) = Text octets.now
 said (values.Octets octets) = Octets octets.now
-said (values.Timestamping number) = Timestamping number
 said (values.Clocks octets) = Clocks octets.now
 
 -- that of a part of a CLOCK_DESCRIPTION whose octets come first
@@ -79,11 +79,9 @@ said_in forms.LowNibble octets = Unsigned (octet 0 octets % 16)
 said_in forms.TimeInterval octets = Interval (twos_complement 8 (big_number 8 octets))
 said_in forms.ClockIdentity octets = Clock (clock_identity_at 0 octets)
 said_in forms.PortIdentity octets = Port (port_identity_at 0 octets)
-said_in forms.PortState octets = State (octet 0 octets)
-said_in forms.DelayMechanism octets = Mechanism (octet 0 octets)
+said_in (forms.Named enumeration) octets = Named enumeration (octet 0 octets)
 said_in forms.Text octets = Text (ptp_text octets)
 said_in (forms.LittleEndian n) octets = Unsigned (little_number n octets)
 said_in (forms.Octets n) octets = Octets (take n octets)
-said_in forms.Timestamping octets = Timestamping (octet 0 octets)
 said_in forms.ClockIdentities octets = Clocks octets
 said_in (forms.Described part) octets = said_of_part part (part_on part octets)

@@ -5,6 +5,7 @@ ghost use Rattle.ptpm_members.specs.Tables.{form_size};
 
 use crate::description::DescriptionPart;
 use crate::names::Member;
+use crate::number_names::Enumeration;
 
 /// How a member is written in its octets (5.3), and so in a text.
 #[derive(Clone, Copy, Debug, PartialEq, Eq)]
@@ -25,18 +26,14 @@ pub enum Form {
     TimeInterval,
     ClockIdentity,
     PortIdentity,
-    /// The number of a port's state (8.2.15.3.1).
-    PortState,
-    /// The number of a delay mechanism (8.2.15.4.4).
-    DelayMechanism,
+    /// A number that has a name.
+    Named(Enumeration),
     /// A PTPText (5.3.9).
     Text,
     /// A number without a sign in this many octets, the lowest first, as linuxptp sends its counters.
     LittleEndian(u8),
     /// This many octets.
     Octets(u8),
-    /// The number of a way of timestamping, of linuxptp.
-    Timestamping,
     /// Identities of clocks, one after the other.
     ClockIdentities,
     /// A part of a CLOCK_DESCRIPTION, whose octets come first (15.5.3.1.2).
@@ -54,12 +51,7 @@ impl Form {
             | Form::Signed(size)
             | Form::LittleEndian(size)
             | Form::Octets(size) => usize::from(size),
-            Form::Flag(_)
-            | Form::EitherFlag
-            | Form::LowNibble
-            | Form::PortState
-            | Form::DelayMechanism
-            | Form::Timestamping => 1,
+            Form::Flag(_) | Form::EitherFlag | Form::LowNibble | Form::Named(_) => 1,
             Form::TimeInterval | Form::ClockIdentity => 8,
             Form::PortIdentity => 10,
             Form::Text | Form::ClockIdentities | Form::Described(_) => 0,

@@ -23,11 +23,9 @@ pub use field_text::{FieldText, members_in};
 pub use forms::{Field, Form};
 pub use laws::{member_law, typed_again_law};
 pub use names::Member;
-pub use number_names::{
-    mechanism_name, mechanism_name_of, state_name, state_name_of, timestamping_name_of,
-};
+pub use number_names::{Enumeration, mechanism_name, state_name};
 pub use other_ids::{OTHER_IDS, OtherId, id_name};
 pub use parsing::{ParseFault, parse};
 pub use tables::fields;
 pub use text_sink::TextSink;
-pub use values::{MemberValue, value_in};
+pub use values::{ClockQuality, MemberValue, value_in};

@@ -20,6 +20,10 @@ pub enum Member {
     VersionNumber,
     /// clockQuality.clockAccuracy, by the name that it has in CLOCK_ACCURACY.
     ClockAccuracy,
+    // As reports of sites have them; no dataField has them at one place.
+    ClockQuality,
+    GrandmasterClockQuality,
+    SdoId,
     // Of ids that are only read.
     ClockType,
     PhysicalLayerProtocol,
@@ -81,6 +85,9 @@ impl Member {
             Member::PortIdentity => "portIdentity",
             Member::VersionNumber => "versionNumber",
             Member::ClockAccuracy => "clockAccuracy",
+            Member::ClockQuality => "clockQuality",
+            Member::GrandmasterClockQuality => "grandmasterClockQuality",
+            Member::SdoId => "sdoId",
             Member::ClockType => "clockType",
             Member::PhysicalLayerProtocol => "physicalLayerProtocol",
             Member::PhysicalAddress => "physicalAddress",

@@ -1,12 +1,63 @@
-//! The numbers that the standard names: one table for texts, for JSON and for what is typed.
+//! The numbers that the standard names: one table for texts, for JSON, for charts and for what is typed.
 
 ghost use Rattle.std.specs.Prelude.{◌≡◌, option_map};
-ghost use Rattle.ptpm_members.specs.NumberNames.{mechanism_name, mechanism_named, mechanism_name_of, is_name, other_mechanism, state_name, state_name_of, timestamping_name_of};
+ghost use Rattle.ptpm_members.specs.NumberNames.{is_name, mechanism_name, mechanism_number_name, name_of, named_numbers, number_of, source_name, state_name, timestamping_name};
 
 use ptpm_data::{DelayMechanism, PortState};
 
-/// The delay mechanisms that have a name, by their numbers (8.2.15.4.4, table 21).
-static MECHANISMS: [u8; 5] = [1, 2, 3, 4, 0xfe];
+/// An Enumeration8 whose numbers have names (5.2).
+#[derive(Clone, Copy, Debug, PartialEq, Eq)]
+pub enum Enumeration {
+    /// portState (8.2.15.3.1, table 20).
+    PortState,
+    /// delayMechanism (8.2.15.4.4, table 21).
+    DelayMechanism,
+    /// timeSource (7.6.2.8, table 6).
+    TimeSource,
+    /// A way of timestamping, of linuxptp.
+    Timestamping,
+}
+
+impl Enumeration {
+    /// The name of a number; none if it has none.
+    pub fn name_of(self, number: u8) -> Option<&'static str>
+        ensures { option_map (λ name. name.now) result ≡ name_of self number }
+    {
+        match self {
+            Enumeration::PortState => match PortState::from_number(number) {
+                Some(state) => Some(state_name(state)),
+                None => None,
+            },
+            Enumeration::DelayMechanism => mechanism_number_name(number),
+            Enumeration::TimeSource => source_name(number),
+            Enumeration::Timestamping => timestamping_name(number),
+        }
+    }
+
+    /// The number of a name, in either case.
+    pub fn number_of(self, name: &str) -> Option<u8>
+        ensures { result ≡ number_of self name.now }
+    {
+        for number in self.named_numbers() {
+            if is_name(name, self.name_of(*number)) {
+                return Some(*number);
+            }
+        }
+        None
+    }
+
+    /// The numbers that have a name.
+    fn named_numbers(self) -> &'static [u8]
+        ensures { result.now ≡ named_numbers self }
+    {
+        match self {
+            Enumeration::PortState => &[1, 2, 3, 4, 5, 6, 7, 8, 9],
+            Enumeration::DelayMechanism => &[1, 2, 3, 4, 0xfe],
+            Enumeration::TimeSource => &[0x10, 0x20, 0x30, 0x39, 0x40, 0x50, 0x60, 0x90, 0xa0],
+            Enumeration::Timestamping => &[0, 1, 2, 3, 4],
+        }
+    }
+}
 
 /// The standard's name of a port's state (9.2.5, table 10).
 pub fn state_name(state: PortState) -> &'static str
@@ -36,41 +87,39 @@ pub fn mechanism_name(mechanism: DelayMechanism) -> &'static str
     }
 }
 
-/// The name of a portState by its number (8.2.15.3.1, table 20); none if it has none.
-pub fn state_name_of(number: u8) -> Option<&'static str>
-    ensures { option_map (λ name. name.now) result ≡ state_name_of number }
-{
-    match PortState::from_number(number) {
-        Some(state) => Some(state_name(state)),
-        None => None,
-    }
-}
-
-/// The name of a delayMechanism by its number (8.2.15.4.4, table 21); none if it has none. Those that no clock of this project
-/// has are among them.
-pub fn mechanism_name_of(number: u8) -> Option<&'static str>
-    ensures { option_map (λ name. name.now) result ≡ mechanism_name_of number }
+/// The name of a delayMechanism by its number. Those that no clock of this project has are among them.
+fn mechanism_number_name(number: u8) -> Option<&'static str>
+    ensures { option_map (λ name. name.now) result ≡ mechanism_number_name number }
 {
     match DelayMechanism::from_number(number) {
         Some(mechanism) => Some(mechanism_name(mechanism)),
-        None => other_mechanism(number),
+        None => match number {
+            3 => Some("COMMON_P2P"),
+            4 => Some("SPECIAL"),
+            _ => None,
+        },
     }
 }
 
-/// The name of a delay mechanism that no clock of this project has.
-fn other_mechanism(number: u8) -> Option<&'static str>
-    ensures { option_map (λ name. name.now) result ≡ other_mechanism number }
+fn source_name(number: u8) -> Option<&'static str>
+    ensures { option_map (λ name. name.now) result ≡ source_name number }
 {
     match number {
-        3 => Some("COMMON_P2P"),
-        4 => Some("SPECIAL"),
+        0x10 => Some("ATOMIC_CLOCK"),
+        0x20 => Some("GNSS"),
+        0x30 => Some("TERRESTRIAL_RADIO"),
+        0x39 => Some("SERIAL_TIME_CODE"),
+        0x40 => Some("PTP"),
+        0x50 => Some("NTP"),
+        0x60 => Some("HAND_SET"),
+        0x90 => Some("OTHER"),
+        0xa0 => Some("INTERNAL_OSCILLATOR"),
         _ => None,
     }
 }
 
-/// The name of a way of timestamping by its number, as linuxptp has it; none if it has none.
-pub fn timestamping_name_of(number: u8) -> Option<&'static str>
-    ensures { option_map (λ name. name.now) result ≡ timestamping_name_of number }
+fn timestamping_name(number: u8) -> Option<&'static str>
+    ensures { option_map (λ name. name.now) result ≡ timestamping_name number }
 {
     match number {
         0 => Some("SOFTWARE"),
@@ -80,18 +129,6 @@ pub fn timestamping_name_of(number: u8) -> Option<&'static str>
         4 => Some("P2P1STEP"),
         _ => None,
     }
-}
-
-/// The number of the delay mechanism of a name, in either case.
-pub(crate) fn mechanism_named(text: &str) -> Option<u8>
-    ensures { result ≡ mechanism_named text.now }
-{
-    for number in &MECHANISMS {
-        if is_name(text, mechanism_name_of(*number)) {
-            return Some(*number);
-        }
-    }
-    None
 }
 
 /// Whether a text is this name, in either case.

@@ -6,7 +6,7 @@ ghost use Rattle.ptpm_members.specs.OtherIds.{is_whole_other, name_of_id, other_
 
 use crate::description::{DescriptionPart, is_clock_description};
 use crate::forms::Form::{
-    ClockIdentities, ClockIdentity, Described, Flag, Hexadecimal, LittleEndian, Octets, PortState,
+    ClockIdentities, ClockIdentity, Described, Flag, Hexadecimal, LittleEndian, Named, Octets,
     Signed, Text, Unsigned,
 };
 use crate::forms::{Field, Form};
@@ -22,6 +22,7 @@ use crate::names::Member::{
     SentFollowUp, SentManagement, SentPdelayReq, SentPdelayResp, SentPdelayRespFollowUp,
     SentSignaling, SentSync, TimeBaseIndicator,
 };
+use crate::number_names::Enumeration;
 use ptpm_codec::is_ptp_text;
 use ptpm_data::{Member as DataSetMember, row};
 
@@ -251,7 +252,11 @@ static TRACEABILITY_PROPERTIES: [Field; 2] = [
 
 static TIMESCALE_PROPERTIES: [Field; 2] = [
     Field(DataSet(DataSetMember::PtpTimescale), 0, Flag(8)),
-    Field(DataSet(DataSetMember::TimeSource), 1, Hexadecimal(1)),
+    Field(
+        DataSet(DataSetMember::TimeSource),
+        1,
+        Named(Enumeration::TimeSource),
+    ),
 ];
 
 static PATH_TRACE_LIST: [Field; 1] = [Field(PathSequence, 0, ClockIdentities)];
@@ -278,7 +283,11 @@ static GRANDMASTER_SETTINGS: [Field; 11] = [
     Field(DataSet(DataSetMember::PtpTimescale), 6, Flag(8)),
     Field(DataSet(DataSetMember::TimeTraceable), 6, Flag(16)),
     Field(DataSet(DataSetMember::FrequencyTraceable), 6, Flag(32)),
-    Field(DataSet(DataSetMember::TimeSource), 7, Hexadecimal(1)),
+    Field(
+        DataSet(DataSetMember::TimeSource),
+        7,
+        Named(Enumeration::TimeSource),
+    ),
 ];
 
 static PORT_DATA_SET: [Field; 2] = [
@@ -288,8 +297,12 @@ static PORT_DATA_SET: [Field; 2] = [
 
 static PORT_PROPERTIES: [Field; 4] = [
     Field(Member::PortIdentity, 0, Form::PortIdentity),
-    Field(DataSet(DataSetMember::State), 10, PortState),
-    Field(Member::Timestamping, 11, Form::Timestamping),
+    Field(
+        DataSet(DataSetMember::State),
+        10,
+        Named(Enumeration::PortState),
+    ),
+    Field(Member::Timestamping, 11, Named(Enumeration::Timestamping)),
     Field(Interface, 12, Text),
 ];
 

@@ -3,13 +3,14 @@
 ghost use Rattle.std.specs.Prelude.{◌≡◌};
 ghost use Rattle.ptpm_members.specs.Tables.{field_size, fields_of, is_whole};
 
+use crate::forms::Field;
 use crate::forms::Form::{
-    ClockIdentity, EitherFlag, Flag, Hexadecimal, LowNibble, PortIdentity, PortState, Signed, Text,
+    ClockIdentity, EitherFlag, Flag, Hexadecimal, LowNibble, Named, PortIdentity, Signed, Text,
     TimeInterval, Unsigned,
 };
-use crate::forms::{Field, Form};
 use crate::names::Member;
 use crate::names::Member::DataSet;
+use crate::number_names::Enumeration;
 use ptpm_codec::is_ptp_text;
 use ptpm_data::Member::*;
 use ptpm_data::{Layout, PortSetting};
@@ -58,12 +59,12 @@ static TIME_PROPERTIES_DATA_SET: [Field; 8] = [
     Field(DataSet(PtpTimescale), 2, Flag(8)),
     Field(DataSet(TimeTraceable), 2, Flag(16)),
     Field(DataSet(FrequencyTraceable), 2, Flag(32)),
-    Field(DataSet(TimeSource), 3, Hexadecimal(1)),
+    Field(DataSet(TimeSource), 3, Named(Enumeration::TimeSource)),
 ];
 
 static PORT_DATA_SET: [Field; 10] = [
     Field(Member::PortIdentity, 0, PortIdentity),
-    Field(DataSet(State), 10, PortState),
+    Field(DataSet(State), 10, Named(Enumeration::PortState)),
     Field(DataSet(LogMinDelayReq), 11, Signed(1)),
     Field(DataSet(PeerDelay), 12, TimeInterval),
     Field(
@@ -84,7 +85,7 @@ static PORT_DATA_SET: [Field; 10] = [
     Field(
         DataSet(Setting(PortSetting::DelayMechanism)),
         23,
-        Form::DelayMechanism,
+        Named(Enumeration::DelayMechanism),
     ),
     Field(
         DataSet(Setting(PortSetting::LogMinPdelayReqInterval)),
@@ -134,7 +135,7 @@ static CLOCK_ACCURACY: [Field; 1] = [Field(Member::ClockAccuracy, 0, Hexadecimal
 static DELAY_MECHANISM: [Field; 1] = [Field(
     DataSet(Setting(PortSetting::DelayMechanism)),
     0,
-    Form::DelayMechanism,
+    Named(Enumeration::DelayMechanism),
 )];
 
 static LOG_MIN_PDELAY_REQ_INTERVAL: [Field; 1] = [Field(

@@ -8,7 +8,7 @@ ghost use Rattle.ptpm_data.specs.DataField.{i16_octets};
 ghost use Rattle.ptpm_members.specs.Typed.{flag_of, mechanism_octet, nibble_of, number_up_to, octet_of, signed_number, typed, without_minus};
 
 use crate::forms::Form;
-use crate::number_names::mechanism_named;
+use crate::number_names::Enumeration;
 use arrayvec::ArrayVec;
 use hex::FromHex;
 use ptpm_codec::{put, put_u16};
@@ -28,7 +28,7 @@ pub(crate) fn typed(form: Form, text: &str) -> Option<Octets>
         Form::Flag(mask) => Some(one_octet(if flag_of(text)? { mask } else { 0 })),
         Form::EitherFlag => Some(one_octet(u8::from(flag_of(text)?))),
         Form::LowNibble => Some(one_octet(nibble_of(text)?)),
-        Form::DelayMechanism => Some(one_octet(mechanism_octet(text)?)),
+        Form::Named(Enumeration::DelayMechanism) => Some(one_octet(mechanism_octet(text)?)),
         _ => None,
     }
 }
@@ -151,7 +151,7 @@ fn flag_of(text: &str) -> Option<bool>
 fn mechanism_octet(text: &str) -> Option<u8>
     ensures { result ≡ mechanism_octet text.now }
 {
-    match mechanism_named(text) {
+    match Enumeration::DelayMechanism.number_of(text) {
         Some(number) => Some(number),
         None => octet_of(text),
     }

@@ -1,19 +1,21 @@
 //! The text of a member's value.
 
-ghost use Rattle.std.specs.Prelude.{◌≡◌, ◌<◌, [], ◌∷◌, ◌++◌, codes, decimal, false, option_map};
+ghost use Rattle.std.specs.Prelude.{◌≡◌, ◌<◌, [], ◌∷◌, ◌++◌, codes, decimal, false, Some};
 ghost use Rattle.std.specs.Fmt.{digit_glyph, sign_text, signed_decimal};
 ghost use Rattle.std.specs.Int.{is_negative};
-ghost use Rattle.ptpm_members.specs.NumberNames.{mechanism_text, name_or_number, state_text, timestamping_text};
+ghost use Rattle.ptpm_members.specs.NumberNames.{enumeration_text};
 ghost use Rattle.ptpm_members.specs.Values.{HasValue, said};
-ghost use Rattle.ptpm_members.specs.ValueText.{clocks_text, escape, flag_name, fraction_digits, hexadecimal, interval_text, octets_text, said_text, shown_octet, shown_text, space_before, value_text};
+ghost use Rattle.ptpm_members.specs.ValueText.{clocks_text, escape, flag_name, fraction_digits, hexadecimal, interval_text, octets_text, quality_text, said_text, shown_octet, shown_text, space_before, value_text};
 ghost use Rattle.ptpm_codec.specs.Identity.{clock_identity_text, octet_text, port_identity_text};
 
+use crate::formatted::Formatted;
 use crate::forms::Form;
-use crate::number_names::{mechanism_name_of, state_name_of, timestamping_name_of};
+use crate::number_names::Enumeration;
 use crate::text_sink::TextSink;
-use crate::values::{MemberValue, value_in};
+use crate::values::{ClockQuality, MemberValue, value_in};
 use itoa::Buffer;
 use ptpm_codec::{ClockIdentity, PortIdentity};
+use std::fmt;
 
 /// Puts the value of a member whose octets come first.
 pub(crate) fn push_value<T: TextSink>(form: Form, octets: &[u8], sink: &mut T)
@@ -37,12 +39,25 @@ fn push_said<T: TextSink>(value: MemberValue<'_>, sink: &mut T)
         MemberValue::Interval(interval) => push_interval(interval, sink),
         MemberValue::Clock(clock) => push_clock_identity(&clock, sink),
         MemberValue::Port(port) => push_port_identity(&port, sink),
-        MemberValue::State(number) => push_state(number, sink),
-        MemberValue::Mechanism(number) => push_mechanism(number, sink),
+        MemberValue::Named(enumeration, number) => push_named(enumeration, number, sink),
+        MemberValue::Quality(quality) => push_quality(quality, sink),
         MemberValue::Text(octets) => push_text(octets, sink),
         MemberValue::Octets(octets) => push_octets_text(octets, sink),
-        MemberValue::Timestamping(number) => push_timestamping(number, sink),
         MemberValue::Clocks(octets) => push_clocks(octets, sink),
+    }
+}
+
+/// A value without its form: a number is in decimal.
+impl fmt::Display for MemberValue<'_> {
+    ghost output = { λ value. Some (said_text (said value)) };
+
+    fn fmt<W: fmt::Write>(&self, f: &mut fmt::Formatter<W>) -> fmt::Result {
+        let mut sink = Formatted {
+            formatter: f,
+            result: Ok(()),
+        };
+        push_said(*self, &mut sink);
+        sink.result
     }
 }
 
@@ -150,38 +165,28 @@ fn push_fraction<T: TextSink>(digits: u8, number: u32, sink: &mut T)
     }
 }
 
-/// The name of a port's state, or the number if it has none.
-#[tactic(auto, unfolding(crate::specs::NumberNames::state_text))]
-fn push_state<T: TextSink>(number: u8, sink: &mut T)
-    ensures { T.pushed sink.old (state_text number) sink.new }
-{
-    push_name_or_number(state_name_of(number), number, sink);
-}
-
-/// The name of a delay mechanism, or the number if it has none.
-#[tactic(auto, unfolding(crate::specs::NumberNames::mechanism_text))]
-fn push_mechanism<T: TextSink>(number: u8, sink: &mut T)
-    ensures { T.pushed sink.old (mechanism_text number) sink.new }
-{
-    push_name_or_number(mechanism_name_of(number), number, sink);
-}
-
-/// The name of a way of timestamping, or the number if it has none.
-#[tactic(auto, unfolding(crate::specs::NumberNames::timestamping_text))]
-fn push_timestamping<T: TextSink>(number: u8, sink: &mut T)
-    ensures { T.pushed sink.old (timestamping_text number) sink.new }
-{
-    push_name_or_number(timestamping_name_of(number), number, sink);
-}
-
 /// The name of a number, or the number in hexadecimal if it has none.
-fn push_name_or_number<T: TextSink>(name: Option<&str>, number: u8, sink: &mut T)
-    ensures { T.pushed sink.old (name_or_number (option_map (λ name. name.now) name.entry) number) sink.new }
+#[tactic(auto, unfolding(crate::specs::NumberNames::enumeration_text))]
+fn push_named<T: TextSink>(enumeration: Enumeration, number: u8, sink: &mut T)
+    ensures { T.pushed sink.old (enumeration_text enumeration number) sink.new }
 {
-    match name {
+    match enumeration.name_of(number) {
         Some(name) => sink.push_str(name),
         None => push_hexadecimal_octet(number, sink),
     }
+}
+
+/// clockClass, clockAccuracy and offsetScaledLogVariance.
+fn push_quality<T: TextSink>(quality: ClockQuality, sink: &mut T)
+    ensures { T.pushed sink.old (quality_text quality) sink.new }
+{
+    sink.push_str("class ");
+    push_unsigned(u64::from(quality.class), sink);
+    sink.push_str(" accuracy 0x");
+    push_digits(quality.accuracy, sink);
+    sink.push_str(" variance 0x");
+    push_digits((quality.variance / 256) as u8, sink);
+    push_digits((quality.variance % 256) as u8, sink);
 }
 
 /// An octet in hexadecimal, after `0x`.

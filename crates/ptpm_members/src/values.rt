@@ -5,13 +5,25 @@ ghost use Rattle.ptpm_members.specs.Values.{HasValue, said, said_in, said_of_par
 
 use crate::description::{DescriptionPart, counted, counted_octets, first, part_on, text_octets};
 use crate::forms::Form;
+use crate::number_names::Enumeration;
 use byteorder::{BigEndian, ByteOrder, LittleEndian};
 use ptpm_codec::{
     ClockIdentity, PortIdentity, clock_identity_at, port_identity_at, text_of_ptp_text,
 };
 
+/// A ClockQuality (5.3.7).
+#[derive(Clone, Copy, Debug, PartialEq, Eq)]
+pub struct ClockQuality {
+    /// clockClass.
+    pub class: u8,
+    /// clockAccuracy.
+    pub accuracy: u8,
+    /// offsetScaledLogVariance.
+    pub variance: u16,
+}
+
 /// What the octets of a member say.
-#[derive(Clone, Copy, Debug)]
+#[derive(Clone, Copy, Debug, PartialEq)]
 pub enum MemberValue<'a> {
     /// A number without a sign.
     Unsigned(u64),
@@ -22,16 +34,14 @@ pub enum MemberValue<'a> {
     Interval(i64),
     Clock(ClockIdentity),
     Port(PortIdentity),
-    /// The number of a port's state (8.2.15.3.1).
-    State(u8),
-    /// The number of a delay mechanism (8.2.15.4.4).
-    Mechanism(u8),
+    /// A number that has a name.
+    Named(Enumeration, u8),
+    /// Three members in one, as reports of sites have them. No form is of it.
+    Quality(ClockQuality),
     /// The octets of a text.
     Text(&'a [u8]),
     /// Octets that are no text, such as an address.
     Octets(&'a [u8]),
-    /// The number of a way of timestamping, of linuxptp.
-    Timestamping(u8),
     /// The octets of clocks' identities, eight each.
     Clocks(&'a [u8]),
 }
@@ -52,14 +62,12 @@ pub fn value_in(form: Form, octets: &[u8]) -> MemberValue<'_>
         Form::TimeInterval => MemberValue::Interval(BigEndian::read_int(octets, 8)),
         Form::ClockIdentity => MemberValue::Clock(clock_identity_at(octets, 0)),
         Form::PortIdentity => MemberValue::Port(port_identity_at(octets, 0)),
-        Form::PortState => MemberValue::State(octets[0]),
-        Form::DelayMechanism => MemberValue::Mechanism(octets[0]),
+        Form::Named(enumeration) => MemberValue::Named(enumeration, octets[0]),
         Form::Text => MemberValue::Text(text_of_ptp_text(octets)),
         Form::LittleEndian(size) => {
             MemberValue::Unsigned(LittleEndian::read_uint(octets, usize::from(size)))
         }
         Form::Octets(size) => MemberValue::Octets(&octets[..usize::from(size)]),
-        Form::Timestamping => MemberValue::Timestamping(octets[0]),
         Form::ClockIdentities => MemberValue::Clocks(octets),
         Form::Described(part) => value_of_part(part, part_on(part, octets)),
     }

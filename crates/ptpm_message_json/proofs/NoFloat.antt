@@ -63,11 +63,10 @@ said_plain (values.Flag flag) = refl
 said_plain (values.Interval z) = integer_plain z
 said_plain (values.Clock clock) = refl
 said_plain (values.Port port) = refl
-said_plain (values.State n) = refl
-said_plain (values.Mechanism n) = refl
+said_plain (values.Named enumeration n) = refl
+said_plain (values.Quality quality) = refl
 said_plain (values.Text octets) = refl
 said_plain (values.Octets octets) = refl
-said_plain (values.Timestamping n) = refl
 said_plain (values.Clocks octets) = texts_plain (clocks_in octets)
 
 value_plain : (form : Form) (octets : List ℕ) → has_float (value_data form octets) ≡ false

@@ -6,7 +6,7 @@ use Rattle.ptpm_members.specs.declared.forms.Field.{Field}
 use Rattle.ptpm_members.specs.FieldText.{IsPlaced, members_in}
 use Rattle.ptpm_members.specs.Names.{member_name}
 use Rattle.ptpm_message_json.specs.Names.{is_in_quality, quality_name}
-use Rattle.ptpm_message_json.specs.Values.{quality_data, value_data}
+use Rattle.ptpm_message_json.specs.Values.{quality_data, quality_in, value_data}
 
 -- ---- the members
 
@@ -21,7 +21,7 @@ pub record IsTellable (octets : List ℕ) (f : Field) : Type 0 where
   pub quality : HasQuality (quality_name f.0) f.1 octets
 
 abbrev pub put_by : Option (List ℕ) → List ℕ → Field → Members → Members
-put_by (Some name) octets f ms = put name (quality_data (drop f.1 octets)) ms
+put_by (Some name) octets f ms = put name (quality_data (quality_in (drop f.1 octets))) ms
 put_by None octets f ms = if is_in_quality f.0 then ms else put (member_name f.0) (value_data f.2 (drop f.1 octets)) ms
 
 -- the object with a member: those of a ClockQuality come with its first

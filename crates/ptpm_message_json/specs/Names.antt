@@ -1,13 +1,9 @@
--- The names of structures in JSON, and the word for a number without a name (this project's profile).
+-- The names of structures in JSON (this project's profile).
 use Rattle.std.specs.Prelude.{ℕ, Bool, true, false, List, Option, Some, None, codes}
 use Rattle.ptpm_data.specs.declared.members.Member.{Member as DataSetMember}
 use Rattle.ptpm_data.specs.declared.members.Member.TheVariants as sets
 use Rattle.ptpm_members.specs.declared.names.Member.{Member}
 use Rattle.ptpm_members.specs.declared.names.Member.TheVariants as members
-
-abbrev pub name_or_reserved : Option (List ℕ) → List ℕ
-name_or_reserved None = codes "reserved"
-name_or_reserved (Some name) = name
 
 -- ---- a ClockQuality (5.3.7) is shown as one object
 

@@ -12,10 +12,10 @@ use Rattle.ptpm_codec.specs.declared.identity.PortIdentity.{PortIdentity}
 use Rattle.ptpm_codec.specs.Identity.{clock_identity_text}
 use Rattle.ptpm_codec.specs.Layout.{octet}
 use Rattle.ptpm_members.specs.declared.forms.Form.{Form}
-use Rattle.ptpm_members.specs.NumberNames.{mechanism_name_of, state_name_of, timestamping_name_of}
+use Rattle.ptpm_members.specs.declared.values.ClockQuality.{ClockQuality}
+use Rattle.ptpm_members.specs.NumberNames.{enumeration_text}
 use Rattle.ptpm_members.specs.Values as values
 use Rattle.ptpm_members.specs.Values.{Said, said_in}
-use Rattle.ptpm_message_json.specs.Names.{name_or_reserved}
 
 -- octets as a text: what is no UTF-8 in them is replaced
 abbrev pub text_data : List ℕ → Data
@@ -28,12 +28,15 @@ abbrev pub port_data : PortIdentity → Data
 port_data port =
     object (member (codes "clockIdentity") (clock_data port.clock) (member (codes "portNumber") (number (unsigned port.port)) no_members))
 
--- a ClockQuality, whose octets come first (5.3.7)
-abbrev pub quality_data : List ℕ → Data
-quality_data octets =
-    object (member (codes "clockAccuracy") (number (unsigned (octet 1 octets)))
-    (member (codes "clockClass") (number (unsigned (octet 0 octets)))
-    (member (codes "offsetScaledLogVariance") (number (unsigned (big_number 2 (drop 2 octets)))) no_members)))
+-- the ClockQuality whose octets come first (5.3.7)
+abbrev pub quality_in : List ℕ → ClockQuality
+quality_in octets = record { class = octet 0 octets; accuracy = octet 1 octets; variance = big_number 2 (drop 2 octets) }
+
+abbrev pub quality_data : ClockQuality → Data
+quality_data quality =
+    object (member (codes "clockAccuracy") (number (unsigned quality.accuracy))
+    (member (codes "clockClass") (number (unsigned quality.class))
+    (member (codes "offsetScaledLogVariance") (number (unsigned quality.variance)) no_members)))
 
 -- the identities of clocks, each of eight octets
 unfoldable pub clocks_in : List ℕ → List (List ℕ)
@@ -51,11 +54,10 @@ said_data (values.Flag flag) = boolean flag
 said_data (values.Interval interval) = number (of_integer interval)
 said_data (values.Clock clock) = clock_data clock
 said_data (values.Port port) = port_data port
-said_data (values.State n) = string (name_or_reserved (state_name_of n))
-said_data (values.Mechanism n) = string (name_or_reserved (mechanism_name_of n))
+said_data (values.Named enumeration n) = string (enumeration_text enumeration n)
+said_data (values.Quality quality) = quality_data quality
 said_data (values.Text octets) = text_data octets
 said_data (values.Octets octets) = string (encode_lower octets)
-said_data (values.Timestamping n) = string (name_or_reserved (timestamping_name_of n))
 said_data (values.Clocks octets) = clocks_data octets
 
 -- that of the member whose octets come first

@@ -8,8 +8,8 @@ ghost use Rattle.ptpm_members.specs.FieldText.{members_in};
 ghost use Rattle.ptpm_message_json.specs.DataField.{IsTellable, members_data, put_data_field, put_field};
 
 use crate::names::{is_in_quality, quality_name};
-use crate::values::{member_value, quality_value};
-use ptpm_members::{Field, members_in, value_in};
+use crate::values::{member_value, quality_in};
+use ptpm_members::{Field, MemberValue, members_in, value_in};
 use serde_json::{Map, Value, put};
 use std::alloc::{AllocError, Global};
 
@@ -78,7 +78,8 @@ fn put_member(
 {
     let (_, behind) = octets.split_at(usize::from(field.1));
     if let Some(name) = quality_name(field.0) {
-        return put(map, alloc, name, quality_value(alloc, behind)?);
+        let quality = MemberValue::Quality(quality_in(behind));
+        return put(map, alloc, name, member_value(alloc, quality)?);
     }
     if is_in_quality(field.0) {
         return Ok(());

@@ -9,3 +9,4 @@ mod values;
 
 pub use data_field::members_value;
 pub use message::message_text;
+pub use values::member_value;

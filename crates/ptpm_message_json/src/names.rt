@@ -1,20 +1,10 @@
-//! The names of structures, and the word for a number without a name.
+//! The names of structures.
 
 ghost use Rattle.std.specs.Prelude.{◌≡◌, option_map};
-ghost use Rattle.ptpm_message_json.specs.Names.{is_in_quality, name_or_reserved, quality_name};
+ghost use Rattle.ptpm_message_json.specs.Names.{is_in_quality, quality_name};
 
 use ptpm_data::Member as DataSetMember;
 use ptpm_members::Member;
-
-/// A name, or `reserved` if there is none.
-pub(crate) fn named_or_reserved(name: Option<&'static str>) -> &'static str
-    ensures { result.now ≡ name_or_reserved (option_map (λ name. name.now) name.entry) }
-{
-    match name {
-        Some(name) => name,
-        None => "reserved",
-    }
-}
 
 /// The name of the ClockQuality (5.3.7) whose first member this is.
 pub(crate) fn quality_name(member: Member) -> Option<&'static str>

@@ -3,17 +3,16 @@
 ghost use Rattle.std.specs.Prelude.{◌≡◌, ◌≤◌, IfOk, length};
 ghost use Rattle.serde_json.specs.View.{view};
 ghost use Rattle.ptpm_members.specs.Values.{said};
-ghost use Rattle.ptpm_message_json.specs.Values.{clock_data, clocks_data, port_data, quality_data, said_data, text_data};
+ghost use Rattle.ptpm_message_json.specs.Values.{clock_data, clocks_data, port_data, quality_data, quality_in, said_data, text_data};
 
-use crate::names::named_or_reserved;
 use byteorder::{BigEndian, ByteOrder};
 use ptpm_codec::{ClockIdentity, PortIdentity};
-use ptpm_members::{MemberValue, mechanism_name_of, state_name_of, timestamping_name_of};
+use ptpm_members::{ClockQuality, MemberValue};
 use serde_json::{Value, json};
 use std::alloc::{AllocError, Global};
 
-/// The value of a member.
-pub(crate) fn member_value(alloc: Global, value: MemberValue<'_>) -> Result<Value, AllocError>
+/// The value of a member: what has a name by its name, or in hexadecimal after `0x` if its number has none.
+pub fn member_value(alloc: Global, value: MemberValue<'_>) -> Result<Value, AllocError>
     ensures { IfOk result (λ v. view v ≡ said_data (said value.entry)) }
 {
     match value {
@@ -23,31 +22,34 @@ pub(crate) fn member_value(alloc: Global, value: MemberValue<'_>) -> Result<Valu
         MemberValue::Interval(interval) => Ok(Value::from(interval)),
         MemberValue::Clock(clock) => clock_value(alloc, clock),
         MemberValue::Port(port) => port_value(alloc, port),
-        MemberValue::State(number) => {
-            Value::try_from_str(alloc, named_or_reserved(state_name_of(number)))
-        }
-        MemberValue::Mechanism(number) => {
-            Value::try_from_str(alloc, named_or_reserved(mechanism_name_of(number)))
-        }
+        MemberValue::Named(..) => Ok(Value::String(format!(in alloc; "{value}")?)),
+        MemberValue::Quality(quality) => quality_value(alloc, quality),
         MemberValue::Text(octets) => text_value(alloc, octets),
         MemberValue::Octets(octets) => Ok(Value::String(hex::encode(alloc, octets)?)),
-        MemberValue::Timestamping(number) => {
-            Value::try_from_str(alloc, named_or_reserved(timestamping_name_of(number)))
-        }
         MemberValue::Clocks(octets) => clocks_value(alloc, octets),
     }
 }
 
-/// A ClockQuality whose octets come first (5.3.7).
-pub(crate) fn quality_value(alloc: Global, octets: &[u8]) -> Result<Value, AllocError>
+/// The ClockQuality whose octets come first (5.3.7).
+pub(crate) fn quality_in(octets: &[u8]) -> ClockQuality
     requires { 4 ≤ length octets.now }
-    ensures { IfOk result (λ v. view v ≡ quality_data octets.now) }
+    ensures { result ≡ quality_in octets.now }
 {
     let (_, variance) = octets.split_at(2);
+    ClockQuality {
+        class: octets[0],
+        accuracy: octets[1],
+        variance: BigEndian::read_u16(variance),
+    }
+}
+
+fn quality_value(alloc: Global, quality: ClockQuality) -> Result<Value, AllocError>
+    ensures { IfOk result (λ v. view v ≡ quality_data quality) }
+{
     json!(in alloc; {
-        "clockAccuracy": octets[1],
-        "clockClass": octets[0],
-        "offsetScaledLogVariance": BigEndian::read_u16(variance)
+        "clockAccuracy": quality.accuracy,
+        "clockClass": quality.class,
+        "offsetScaledLogVariance": quality.variance
     })
 }
 
