@@ -1,8 +1,7 @@
 //! What a plan changes: a member of a clock or of one of its ports.
 
-ghost use Rattle.std.specs.Prelude.{◌≡◌, ◌↔◌, Some, option_map};
+ghost use Rattle.std.specs.Prelude.{◌≡◌, ◌==◌, Some, find, option_map};
 ghost use Rattle.ptpm_data.specs.ManagementId.{is_of_port, row_of, row_value};
-ghost use Rattle.ptpm_plan.specs.declared.change.PlannedId.{PlannedId};
 ghost use Rattle.ptpm_plan.specs.PlannedId.{number_of, setting_of};
 
 use ptpm_codec::ClockIdentity;
@@ -26,7 +25,7 @@ pub enum PlannedId {
 
 impl PlannedId {
     /// All of them, in their order.
-    pub(crate) const ALL: [PlannedId; 11] = [
+    pub const ALL: [PlannedId; 11] = [
         PlannedId::UserDescription,
         PlannedId::UtcProperties,
         PlannedId::Priority1,
@@ -61,7 +60,7 @@ impl PlannedId {
 
     /// The id of this number, if a plan may set it.
     pub(crate) fn numbered(number: u16) -> Option<PlannedId>
-        ensures { (id : PlannedId) → (result ≡ Some id) ↔ (number_of id ≡ number) }
+        ensures { result ≡ find (λ id. number_of id == number) PlannedId.ALL }
     {
         PlannedId::ALL
             .iter()
@@ -70,7 +69,6 @@ impl PlannedId {
     }
 
     /// What the table of ids says of it.
-    #[tactic(auto, using(crate::proofs::PlannedIds::in_table))]
     fn row(self) -> ManagementIdRow
         ensures { row_of (number_of self) ≡ Some (row_value result) }
     {
