@@ -1,15 +1,20 @@
 -- Ranks are in a total order, and two that compare alike are one.
 use Rattle.std.proofs.Common.{ℕ, List, ap}
 use Rattle.std.proofs.lemmas.Map.Lookups.{CmpEqualImpliesEq, exact_bytes, exact_pairs, exact_unsigned}
+use Rattle.std.proofs.lemmas.Cmp.{nat_cmp_total, nat_list_cmp_total, on_total, then_total}
 use Rattle.std.specs.Cmp.{IsTotalOrder}
 use Rattle.std.specs.Ordering.{nat_cmp, ordering_then}
 use Rattle.std.specs.declared.cmp.Ordering.{Ordering}
 use Rattle.ptpm_plan.specs.BestClock.{rank_cmp}
-use Rattle.ptpm_plan.specs.contracts.best_clock.RankOrd.TheImpl.Laws as laws
 use Rattle.ptpm_plan.specs.declared.best_clock.Rank.{Rank}
 
 pub ranks_total : IsTotalOrder rank_cmp
-ranks_total = laws.total-law
+ranks_total = then_total (on_total (λ r. r.priority1) nat_cmp_total)
+    (then_total (on_total (λ r. r.class) nat_cmp_total)
+    (then_total (on_total (λ r. r.accuracy) nat_cmp_total)
+    (then_total (on_total (λ r. r.variance) nat_cmp_total)
+    (then_total (on_total (λ r. r.priority2) nat_cmp_total)
+    (on_total (λ r. r.identity.0) nat_list_cmp_total)))))
 
 members_of : Rank → ℕ × (ℕ × (ℕ × (ℕ × (ℕ × List ℕ))))
 members_of r = (r.priority1, (r.class, (r.accuracy, (r.variance, (r.priority2, r.identity.0)))))
