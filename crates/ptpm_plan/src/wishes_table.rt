@@ -1,8 +1,5 @@
 //! The members that a table of a plan file names.
 
-ghost use Rattle.std.specs.Prelude.{◌≡◌};
-ghost use Rattle.ptpm_plan.specs.PlannedId.{is_of_port};
-
 use crate::change::PlannedId;
 use crate::file_fault::{FileFault, Place, TableFault};
 use crate::text::Text;
