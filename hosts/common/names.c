@@ -2,6 +2,7 @@
 #include "field_text.h"
 #include "ptpm.h"
 #include "words.h"
+#include <stdbool.h>
 #include <stddef.h>
 #include <string.h>
 #include <strings.h>
@@ -50,14 +51,21 @@ const char *refused_member(uint32_t answer) {
     return strncmp(name, lead, sizeof lead - 1) == 0 ? name + sizeof lead - 1 : name;
 }
 
-uint8_t state_named(const char *text) {
-    enum { PORT_STATE = 10, SIZE = 26 };        /* portState in a PORT_DATA_SET, and how many octets that has (15.5.3) */
-    uint8_t octets[SIZE] = { 0 }, *state = &octets[PORT_STATE];
-    for (*state = PTPM_STATE_INITIALIZING; *state <= PTPM_STATE_SLAVE; (*state)++) {
+/* The number that has this name, in either case, at a place of an id's dataField of this size; -1 if none has it. */
+static int number_named(const char *text, uint16_t id, size_t size, size_t place, const char *member) {
+    uint8_t octets[PTPM_MOST_READ] = { 0 };
+    bool is_number = *text >= '0' && *text <= '9';
+    for (int number = 0; !is_number && number <= UINT8_MAX; number++) {
         struct field_lines lines;
-        start_lines(&lines, PTPM_ID_PORT_DATA_SET, octets, SIZE);
-        const char *name = value_of(&lines, "portState");
-        if (name != NULL && strcasecmp(text, name) == 0) return *state;
+        octets[place] = (uint8_t)number;
+        start_lines(&lines, id, octets, size);
+        const char *name = value_of(&lines, member);
+        if (name != NULL && strcasecmp(text, name) == 0) return number;
     }
-    return 0;
+    return -1;
 }
+
+/* portState is octet 10 of the 26 of a PORT_DATA_SET, counted from 0, and timeSource octet 3 of the 4 of a TIME_PROPERTIES_DATA_SET
+   (15.5.3). */
+int state_named(const char *text) { return number_named(text, PTPM_ID_PORT_DATA_SET, 26, 10, "portState"); }
+int source_named(const char *text) { return number_named(text, PTPM_ID_TIME_PROPERTIES_DATA_SET, 4, 3, "timeSource"); }

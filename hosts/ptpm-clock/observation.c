@@ -12,7 +12,7 @@
 #include <string.h>
 
 /* How a member is written. */
-enum kind { UNSIGNED, SIGNED, INTERVAL, FLAG, IDENTITY, STATE };
+enum kind { UNSIGNED, SIGNED, INTERVAL, FLAG, IDENTITY, STATE, SOURCE };
 
 enum { MOST_LINE_WORDS = 5, MOST_PRINTED = 64, NO_FLAG = 0xffff, INTERVAL_TEXT = 64 };
 
@@ -35,7 +35,7 @@ static const struct observed_member members_of_clock[] = {
     OF_CLOCK(observed_rate, "observedParentClockPhaseChangeRate", SIGNED), OF_CLOCK(utc_offset, "currentUtcOffset", SIGNED),
     OF_CLOCK(leap61, "leap61", FLAG), OF_CLOCK(leap59, "leap59", FLAG), OF_CLOCK(utc_valid, "currentUtcOffsetValid", FLAG),
     OF_CLOCK(ptp_timescale, "ptpTimescale", FLAG), OF_CLOCK(time_traceable, "timeTraceable", FLAG),
-    OF_CLOCK(frequency_traceable, "frequencyTraceable", FLAG), OF_CLOCK(time_source, "timeSource", UNSIGNED),
+    OF_CLOCK(frequency_traceable, "frequencyTraceable", FLAG), OF_CLOCK(time_source, "timeSource", SOURCE),
     OF_GRANDMASTER(is_grandmaster, "", FLAG), { 0 },
 };
 
@@ -152,10 +152,15 @@ static bool put_interval(const struct observed_member *member, const char *name,
     return true;
 }
 
-static bool put_state(const char *name, const char *text, uint8_t *at) {
-    long long number = state_named(text);
-    if (number == 0 && !read_integer(text, 1, 9, &number)) {
-        return wrong("%s %s: it takes a number from 1 to 9, or a name such as SLAVE", name, text);
+/* Numbers of an octet that have names: the number of one, those that are taken, and one for an example. */
+struct enumeration { int (*number_of)(const char *name); long long least, most; const char *example; };
+
+static const struct enumeration states = { state_named, 1, 9, "SLAVE" }, sources = { source_named, 0, UINT8_MAX, "GNSS" };
+
+static bool put_named(const struct enumeration *of, const char *name, const char *text, uint8_t *at) {
+    long long number = of->number_of(text);
+    if (number < 0 && !read_integer(text, of->least, of->most, &number)) {
+        return wrong("%s %s: it takes a number from %lld to %lld, or a name such as %s", name, text, of->least, of->most, of->example);
     }
     *at = (uint8_t)number;
     return true;
@@ -182,7 +187,8 @@ static bool put_kind(const struct observed_member *member, const char *name, con
     switch (member->kind) {
     case FLAG: return put_flag(name, text, at);
     case IDENTITY: return put_identity(name, text, at);
-    case STATE: return put_state(name, text, at);
+    case STATE: return put_named(&states, name, text, at);
+    case SOURCE: return put_named(&sources, name, text, at);
     case INTERVAL: return put_interval(member, name, text, at);
     default: return put_number(member, name, text, at);
     }

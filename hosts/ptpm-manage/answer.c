@@ -118,9 +118,9 @@ static bool is_in_hexadecimal(const struct member *member) {
     return is_one_of(member, octets);
 }
 
-/* Whether the member is a number with a name. */
+/* Whether the member is a number that may have a name. */
 static bool is_number_with_name(const struct member *member) {
-    static const char *const numbers[] = { "portState", "delayMechanism", "timestamping", NULL };
+    static const char *const numbers[] = { "portState", "delayMechanism", "timeSource", "timestamping", NULL };
     return is_one_of(member, numbers);
 }
 
@@ -141,23 +141,19 @@ static void print_words_as_json(FILE *to, const char *value) {
     fputs("\"]", to);
 }
 
-/* The name of a number: the value, if it is a word, and else `reserved`. */
-static const char *word_of(const struct member *member) {
-    return *member->value >= '0' && *member->value <= '9' ? "reserved" : member->value;
-}
-
 /* A clockIdentity, or a portIdentity, whose portNumber is in `rest` after a slash. */
 static void print_identity_as_json(FILE *to, const char *value, const char *rest) {
     if (*rest == '\0') fprintf(to, "\"%s\"", value);
     else fprintf(to, "{\"clockIdentity\":\"%.*s\",\"portNumber\":%s}", (int)(rest - value), value, rest + 1);
 }
 
-/* A value as `ptpm site --json` has it: a TimeInterval in nanoseconds times 2^16, and each number in decimal. */
+/* A value as `ptpm site --json` has it: a TimeInterval in nanoseconds times 2^16, and each number in decimal. One that may have a name
+   is a text: the name, or 0x and two digits. */
 static void print_value_as_json(FILE *to, const struct member *member) {
     uint8_t identity[8];
     int64_t interval;
     const char *value = member->value, *rest = is_identity(member) ? identity_at(value, identity) : NULL;
-    if (is_number_with_name(member)) fprintf(to, "\"%s\"", word_of(member));
+    if (is_number_with_name(member)) fprintf(to, "\"%s\"", value);
     else if (is_named(member, "pathSequence")) print_words_as_json(to, value);
     else if (is_in_hexadecimal(member)) fprintf(to, "\"%s\"", strcmp(value, "-") == 0 ? "" : value);
     else if (rest != NULL) print_identity_as_json(to, value, rest);

@@ -34,7 +34,7 @@ from .saving_clock import SavingClock, Turn
 from .saving_session import SavingSession
 from .session import Session
 from .session_file import DamagedFileError, OpenApplyError, SessionFile, SessionFileError, usual_path
-from .settings import ClockSettings, DelayMechanism, Manager, PortSettings, PortState, Rights
+from .settings import ClockSettings, DelayMechanism, Manager, PortSettings, PortState, Rights, TimeSource
 from .site import SiteError, site
 from .site_tree import AskedDomain, Domain, Finding, Site, SiteClock, read_site
 from .survey import SURVEY_PORT, Survey, SurveySettings, survey
@@ -50,5 +50,5 @@ __all__ = [
     "PortMembers", "PortSettings", "PortState", "PtpmError", "Rate", "read_site", "Report", "Requests", "Rights", "SavingClock",
     "SavingSession", "Say", "Session", "SessionAnswer", "SessionFile", "SessionFileError", "SessionSettings", "Site", "site",
     "SiteClock", "SiteError", "Survey", "survey", "SURVEY_PORT", "SurveyAnswer", "SurveySettings", "time_interval", "TimeInterval",
-    "TimePropertiesDataSet", "Transport", "Turn", "UdpTransport", "UnixTransport", "usual_path",
+    "TimePropertiesDataSet", "TimeSource", "Transport", "Turn", "UdpTransport", "UnixTransport", "usual_path",
 ]

@@ -5,10 +5,10 @@ from __future__ import annotations
 import re
 from dataclasses import dataclass, fields
 from decimal import Decimal
-from typing import Any, Callable, Dict, Mapping, Optional, Type, TypeVar
+from typing import Any, Callable, Dict, Mapping, Type, TypeVar
 
 from .identity import Identity, PortIdentity
-from .settings import PortState
+from .settings import PortState, TimeSource
 from .time_interval import TimeInterval
 
 _Read = TypeVar("_Read")
@@ -74,15 +74,15 @@ class TimePropertiesDataSet:
     ptp_timescale: bool
     time_traceable: bool
     frequency_traceable: bool
-    time_source: int
+    time_source: TimeSource
 
 
 @dataclass(frozen=True)
 class PortDataSet:
-    """`port_state` is None for a number that the standard reserves. `delay_mechanism` is the standard's name, or `reserved`."""
+    """`delay_mechanism` is the standard's name, or a text such as `0x07` if the number has none."""
 
     port_identity: PortIdentity
-    port_state: Optional[PortState]
+    port_state: PortState
     log_min_delay_req_interval: int
     mean_link_delay: Decimal
     log_announce_interval: int
@@ -139,11 +139,6 @@ def port_identity_of(value: Any) -> PortIdentity:
     return PortIdentity(identity_of(value["clockIdentity"]), number_of(value["portNumber"]))
 
 
-def port_state_of(value: Any) -> Optional[PortState]:
-    """A portState of JSON, by its name."""
-    return None if value == "reserved" else PortState[text_of(value)]
-
-
 # How a member is read that has such a type.
 _READERS: Dict[str, Callable[[Any], Any]] = {
     "int": number_of,
@@ -152,7 +147,8 @@ _READERS: Dict[str, Callable[[Any], Any]] = {
     "Decimal": nanoseconds_of,
     "Identity": identity_of,
     "PortIdentity": port_identity_of,
-    "Optional[PortState]": port_state_of,
+    "PortState": lambda value: PortState.of(text_of(value)),
+    "TimeSource": lambda value: TimeSource.of(text_of(value)),
     "ClockQuality": lambda value: read(ClockQuality, value),
 }
 

@@ -6,13 +6,13 @@ import ctypes
 import re
 import unicodedata
 from decimal import Decimal
-from typing import Callable, Dict, Iterable, List, Mapping, NoReturn, Sequence, Tuple, Type, Union
+from typing import Callable, Dict, Iterable, List, Mapping, NoReturn, Sequence, Tuple, Union
 
 from . import _header as header
 from ._library import library, name_by
 from .identity import Identity, PortIdentity
 from .ids import ManagementId
-from .settings import DelayMechanism, PortState
+from .settings import DelayMechanism, PortState, TimeSource
 
 Member = Union[int, bool, str, bytes, Decimal, Identity, PortIdentity, Tuple[Identity, ...]]
 
@@ -41,11 +41,6 @@ def _has_members(pairs: Sequence[Tuple[str, str]]) -> bool:
     return bool(pairs) and pairs[0][0] != "value"
 
 
-def _named(kind: Union[Type[PortState], Type[DelayMechanism]]) -> Callable[[str], Member]:
-    """What reads a word as one that has a name, or as its number if it has none."""
-    return lambda text: int(text, 0) if text[0].isdigit() else kind[text]
-
-
 def _text_octets(text: str) -> bytes:
     """The octets of a text, in which the library has a backslash, an x and two digits for an octet."""
     return _ESCAPE.sub(lambda escape: bytes.fromhex(escape[1].decode()), text.encode())
@@ -72,8 +67,9 @@ _READERS: Dict[str, Callable[[str], Member]] = {
     "offsetFromMaster": Decimal,
     "meanDelay": Decimal,
     "meanLinkDelay": Decimal,
-    "portState": _named(PortState),
-    "delayMechanism": _named(DelayMechanism),
+    "portState": PortState.of,
+    "delayMechanism": DelayMechanism.of,
+    "timeSource": TimeSource.of,
     # Of ids that only other clocks have.
     "gmIdentity": Identity.of,
     "pathSequence": _identities,

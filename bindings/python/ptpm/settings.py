@@ -6,18 +6,39 @@ import ctypes
 import operator
 from dataclasses import dataclass
 from enum import IntEnum, IntFlag
-from typing import Any, Optional
+from typing import Any, Optional, Type, TypeVar
 
 from . import _header as header
 from ._library import library
 from .identity import Identity, IdentityLike, PortIdentity, PortIdentityLike
 from .time_interval import time_interval as time_interval
 
+_Enumeration = TypeVar("_Enumeration", bound="Enumeration")
+
 # The members that are TimeIntervals.
 TIME_INTERVALS = ("offset_from_master", "mean_path_delay", "peer_delay")
 
 
-class PortState(IntEnum):
+class Enumeration(IntEnum):
+    """Numbers of an octet that the standard names. One without a name has its number for it, such as `0x11`, as every text and JSON
+    of ptpm has it."""
+
+    @classmethod
+    def _missing_(cls, value: object) -> Optional[Enumeration]:
+        if not isinstance(value, int) or not 0 <= value <= 0xFF:
+            return None
+        member = int.__new__(cls, value)
+        member._name_ = f"{value:#04x}"
+        member._value_ = value
+        return member
+
+    @classmethod
+    def of(cls: Type[_Enumeration], text: str) -> _Enumeration:
+        """That of a name, or of a number such as `0x11`."""
+        return cls(int(text, 0)) if text[:1].isdigit() else cls[text]
+
+
+class PortState(Enumeration):
     """A portState (table 20)."""
 
     INITIALIZING = header.PTPM_STATE_INITIALIZING
@@ -31,7 +52,7 @@ class PortState(IntEnum):
     SLAVE = header.PTPM_STATE_SLAVE
 
 
-class DelayMechanism(IntEnum):
+class DelayMechanism(Enumeration):
     """A delayMechanism (table 21). No clock of ptpm has COMMON_P2P or SPECIAL."""
 
     E2E = header.PTPM_DELAY_E2E
@@ -39,6 +60,20 @@ class DelayMechanism(IntEnum):
     COMMON_P2P = 3
     SPECIAL = 4
     NO_MECHANISM = header.PTPM_DELAY_NONE
+
+
+class TimeSource(Enumeration):
+    """A timeSource (table 6)."""
+
+    ATOMIC_CLOCK = 0x10
+    GNSS = 0x20
+    TERRESTRIAL_RADIO = 0x30
+    SERIAL_TIME_CODE = 0x39
+    PTP = 0x40
+    NTP = 0x50
+    HAND_SET = 0x60
+    OTHER = 0x90
+    INTERNAL_OSCILLATOR = 0xA0
 
 
 class Rights(IntFlag):

@@ -11,12 +11,13 @@ from .data_sets import (
 )
 from .domain_identity import DomainIdentity
 from .identity import Identity, PortIdentity
-from .settings import PortState
+from .settings import Enumeration, PortState
 
 _HEAD = ("domainNumber", "sdoId", "clockIdentity", "userDescription", "finding", "severity", "because")
 
-# The values of a finding that are of the member which its `member` names.
+# The values of a finding that are of the member which its `member` names. In some findings they are texts about it.
 _OF_MEMBER = ("value", "expected", "before", "after")
+_TEXTS = {"profile": ("expected",), "not_as_expected": ("value", "expected")}
 
 # What is written for the clock if a finding is of a whole domain.
 _NO_CLOCK = "-"
@@ -164,7 +165,7 @@ def _text(value: object) -> str:
     """A value as a finding's line has it."""
     if value is None:
         return "-"
-    if isinstance(value, PortState):
+    if isinstance(value, Enumeration):
         return value.name
     if isinstance(value, bool):
         return str(value).lower()
@@ -177,6 +178,8 @@ def _is_grandmaster(told: Mapping[str, Any], name: str) -> bool:
 
 
 def _value(told: Mapping[str, Any], name: str) -> Any:
+    if name in _TEXTS.get(told["finding"], ()):
+        return told[name]
     if name == "better" or _is_grandmaster(told, name):
         return identity_of(told[name])
     if isinstance(told[name], list):

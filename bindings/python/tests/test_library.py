@@ -327,6 +327,9 @@ class Texts(unittest.TestCase):
             list(ptpm.members(ptpm.ManagementId.PORT_DATA_SET, octets).values()),
             [ptpm.PortIdentity.of("4142434445464748/1"), 10, -1, Decimal("1.5"), 1, 3, 0, ptpm.DelayMechanism.P2P, 2, 2],
         )
+        self.assertEqual(ptpm.members(ptpm.ManagementId.PORT_DATA_SET, octets)["portState"].name, "0x0a")
+        sources = [ptpm.members(0x2013, bytes((8, number)))["timeSource"] for number in (0x20, 0x11)]
+        self.assertEqual((sources, [source.name for source in sources]), ([ptpm.TimeSource.GNSS, 0x11], ["GNSS", "0x11"]))
         octets = bytes.fromhex("02000001" "80f8fe4e5d80" "0000000000000010" "0000")
         values = ptpm.members(ptpm.ManagementId.DEFAULT_DATA_SET, octets)
         self.assertEqual((values["slaveOnly"], values["clockQuality.clockAccuracy"]), (True, 0xFE))

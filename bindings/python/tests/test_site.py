@@ -129,6 +129,26 @@ class Recorded(unittest.TestCase):
         self.assertEqual(better.values["better"], ptpm.Identity.of("0200a1fffe000201"))
         self.assertEqual((changed.values["after"], changed.values["clocks"]), (ptpm.Identity.of("0200a1fffe000201"), 4))
 
+    def test_values_that_are_texts_about_a_member(self) -> None:
+        site = ptpm.read_site(told([
+            told_finding("profile", values='"expected":"2 to 10","member":"announceReceiptTimeout","portNumber":1,"value":12,'),
+            told_finding("not_as_expected", values='"expected":"128 | 64","member":"priority1","value":"100",'),
+        ]))
+        self.assertEqual([(found.values["expected"], found.values["value"]) for found in site.findings], [("2 to 10", 12), ("128 | 64", "100")])
+
+    def test_numbers_by_their_names(self) -> None:
+        changed = '"after":"{}","before":"{}","member":"{}",'.format
+        site = ptpm.read_site(told([
+            told_finding("changed", values=changed("GNSS", "0x11", "timeSource")),
+            told_finding("changed", values=changed("0x0a", "SLAVE", "portState")),
+        ]))
+        values = [(found.values["before"], found.values["after"]) for found in site.findings]
+        self.assertEqual(values, [(0x11, ptpm.TimeSource.GNSS), (ptpm.PortState.SLAVE, 10)])
+        found = [str(found).partition("changed ")[2] for found in site.findings]
+        self.assertEqual(found, ["after=GNSS before=0x11 member=timeSource", "after=0x0a before=SLAVE member=portState"])
+        for wrong in ("GPS", "", "0x100"):
+            self.assertRaises(ValueError, ptpm.read_site, told([told_finding("changed", values=changed(wrong, wrong, "timeSource"))]))
+
     def test_domains_of_one_number(self) -> None:
         zero, other = ptpm.DomainIdentity(4), ptpm.DomainIdentity(4, 0x100)
         site = ptpm.read_site(told([told_finding("own_host", 0x100), told_finding("own_host")], sdo_ids=(0, 0x100)))

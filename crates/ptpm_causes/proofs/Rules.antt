@@ -10,7 +10,7 @@ use Rattle.ptpm_site.specs.declared.grandmasters.Masterless.{Masterless}
 use Rattle.ptpm_site.specs.declared.grandmasters.Masterless.TheVariants as masterless
 use Rattle.ptpm_site.specs.declared.leading.Degradation.{Degradation}
 use Rattle.ptpm_site.specs.declared.leading.Degradation.TheVariants as degradation
-use Rattle.ptpm_site.specs.declared.member.Member.{Member}
+use Rattle.ptpm_members.specs.declared.names.Member.{Member}
 use Rattle.ptpm_site.specs.declared.source.Source.{Source}
 use Rattle.ptpm_site.specs.declared.tai_and_utc.OffByUtc.{OffByUtc}
 use Rattle.ptpm_site.specs.declared.tai_and_utc.OffByUtc.TheVariants as shows

@@ -4,11 +4,12 @@ use Rattle.std.specs.BTreeSet.{contains}
 use Rattle.std.specs.List.{filter_map, list_any}
 use Rattle.std.specs.Option.{option_map_or}
 use Rattle.std.specs.Ordering.{is_eq}
+use Rattle.ptpm_data.specs.declared.members.Member.TheVariants as sets
+use Rattle.ptpm_members.specs.declared.names.Member.{Member}
+use Rattle.ptpm_members.specs.declared.names.Member.TheVariants as members
 use Rattle.ptpm_site.specs.declared.finding.Finding.{Finding}
 use Rattle.ptpm_site.specs.declared.finding.What.{What}
 use Rattle.ptpm_site.specs.declared.finding.What.TheVariants as what
-use Rattle.ptpm_site.specs.declared.member.Member.{Member}
-use Rattle.ptpm_site.specs.declared.member.Member.TheVariants as member
 use Rattle.ptpm_site.specs.declared.source.Source.{Source}
 use Rattle.ptpm_site.specs.Answers.{source_cmp}
 use Rattle.ptpm_site.specs.SiteAnswers.{SiteAnswers}
@@ -25,7 +26,7 @@ pub record Knowledge : Type 0 where
   pub leaders : List Source
 
 abbrev pub is_grandmaster : Member → Bool
-is_grandmaster member.GrandmasterIdentity = true
+is_grandmaster (members.DataSet sets.Grandmaster) = true
 is_grandmaster _ = false
 
 abbrev pub is_move : What → Bool

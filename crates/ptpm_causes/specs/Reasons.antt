@@ -11,7 +11,7 @@ use Rattle.ptpm_site.specs.declared.finding.What.TheVariants as what
 use Rattle.ptpm_site.specs.declared.grandmaster_changes.GrandmasterChange.{GrandmasterChange}
 use Rattle.ptpm_site.specs.declared.grandmasters.Masterless.{Masterless}
 use Rattle.ptpm_site.specs.declared.grandmasters.Masterless.TheVariants as masterless
-use Rattle.ptpm_site.specs.declared.member.Member.{Member}
+use Rattle.ptpm_members.specs.declared.names.Member.{Member}
 use Rattle.ptpm_site.specs.declared.source.Source.{Source}
 use Rattle.ptpm_site.specs.declared.tai_and_utc.OffByUtc.{OffByUtc}
 use Rattle.ptpm_site.specs.declared.tai_and_utc.OffByUtc.TheVariants as shows

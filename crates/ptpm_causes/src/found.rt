@@ -13,9 +13,10 @@ ghost use Rattle.ptpm_causes.specs.Named.{has_key, key_cmp};
 ghost use Rattle.ptpm_causes.specs.Reasons.{first_of};
 
 use crate::cause::{Cause, Key, cause_in};
+use ptpm_data::Member as DataSetMember;
+use ptpm_members::Member;
 use ptpm_site::domain::Domain;
 use ptpm_site::finding::{Finding, What};
-use ptpm_site::member::Member;
 use ptpm_site::site::Site;
 use ptpm_site::source::Source;
 use std::alloc::{AllocError, Global};
@@ -95,7 +96,7 @@ fn cause_set(
 fn is_grandmaster(member: Member) -> bool
     ensures { result ≡ is_grandmaster member }
 {
-    matches!(member, Member::GrandmasterIdentity)
+    matches!(member, Member::DataSet(DataSetMember::Grandmaster))
 }
 
 fn is_move(what: &What<'_>) -> bool

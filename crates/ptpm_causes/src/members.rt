@@ -1,9 +1,11 @@
 //! The members of data sets that the rules name.
 
 ghost use Rattle.std.specs.Prelude.{◌≡◌};
-ghost use Rattle.ptpm_causes.specs.Members.{is_by_handover, is_of_grandmaster, is_of_parent, is_of_time, is_parent_identity, is_passed_on, is_quality};
+ghost use Rattle.ptpm_causes.specs.Members.{is_by_handover, is_of_parent, is_of_time, is_parent_identity, is_passed_on, is_quality};
 
-use ptpm_site::member::Member;
+use ptpm_data::Member as DataSetMember;
+use ptpm_members::Member;
+use ptpm_site::member::is_of_grandmaster;
 
 /// Whether a member is of TIME_PROPERTIES_DATA_SET.
 fn is_of_time(member: Member) -> bool
@@ -11,26 +13,16 @@ fn is_of_time(member: Member) -> bool
 {
     matches!(
         member,
-        Member::CurrentUtcOffset
-            | Member::CurrentUtcOffsetValid
-            | Member::Leap59
-            | Member::Leap61
-            | Member::TimeTraceable
-            | Member::FrequencyTraceable
-            | Member::PtpTimescale
-            | Member::TimeSource
-    )
-}
-
-/// Whether a member says how good a clock's grandmaster is.
-fn is_of_grandmaster(member: Member) -> bool
-    ensures { result ≡ is_of_grandmaster member }
-{
-    matches!(
-        member,
-        Member::GrandmasterPriority1
-            | Member::GrandmasterClockQuality
-            | Member::GrandmasterPriority2
+        Member::DataSet(
+            DataSetMember::UtcOffset
+                | DataSetMember::UtcValid
+                | DataSetMember::Leap59
+                | DataSetMember::Leap61
+                | DataSetMember::TimeTraceable
+                | DataSetMember::FrequencyTraceable
+                | DataSetMember::PtpTimescale
+                | DataSetMember::TimeSource
+        )
     )
 }
 
@@ -47,13 +39,15 @@ fn is_of_parent(member: Member) -> bool
 {
     matches!(
         member,
-        Member::ParentPortIdentity
-            | Member::ParentStats
-            | Member::ObservedParentOffsetScaledLogVariance
-            | Member::ObservedParentClockPhaseChangeRate
-            | Member::GrandmasterIdentity
-            | Member::StepsRemoved
-            | Member::PortState
+        Member::DataSet(
+            DataSetMember::ParentPort
+                | DataSetMember::ParentStats
+                | DataSetMember::ObservedVariance
+                | DataSetMember::ObservedRate
+                | DataSetMember::Grandmaster
+                | DataSetMember::StepsRemoved
+                | DataSetMember::State
+        )
     )
 }
 
@@ -73,5 +67,5 @@ pub(crate) fn is_quality(member: Member) -> bool
 pub(crate) fn is_parent_identity(member: Member) -> bool
     ensures { result ≡ is_parent_identity member }
 {
-    matches!(member, Member::ParentPortIdentity)
+    matches!(member, Member::DataSet(DataSetMember::ParentPort))
 }

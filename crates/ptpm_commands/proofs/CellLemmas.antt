@@ -1,13 +1,12 @@
 -- The texts between the tabs of a line, one after another, and what a line has.
-use Rattle.std.proofs.Common.{arith, ◌≡◌, ◌⊎◌, inl, inr, true, false, subst, ◌<◌, ◌++◌, ◌∷◌, [], ℕ, List, length, Option, Some, None, Result, Ok, Err, IfNone, IfSome, IsErr, Bor, refl, sym, ap, ◌∙◌}
+use Rattle.std.proofs.Common.{arith, ◌≡◌, ◌⊎◌, inl, inr, true, false, ◌<◌, ◌++◌, ◌∷◌, [], ℕ, List, length, Option, Some, None, Result, Ok, Err, IfNone, IfSome, IsErr, Bor, refl, sym, ap, ◌∙◌}
 use Rattle.std.proofs.lemmas.Bool.{cond-false, cond-true}
 use Rattle.std.proofs.lemmas.List.Splits.{slice_split_first, slice_split_none}
 use Rattle.std.proofs.lemmas.List.Sums.{fails_before_first}
 use Rattle.std.proofs.lemmas.Str.Pattern.{IsSplitOnceResult, split_once_first}
-use Rattle.std.proofs.lemmas.Str.{IsUtf8-from_is_utf8, is_utf8-from_IsUtf8}
 use Rattle.std.specs.List.{after_first, before_first, position_or_len}
 use Rattle.std.proofs.lemmas.Result.{IfOk-from_err}
-use Rattle.std.specs.Str.{IsUtf8, is_utf8}
+use Rattle.std.specs.Str.{is_utf8}
 use Rattle.hex.specs.declared.error.FromHexError.{FromHexError}
 use Rattle.ptpm_commands.specs.declared.faults.Fault.{Fault}
 use Rattle.ptpm_commands.specs.declared.faults.Fault.TheVariants as faults
@@ -115,8 +114,3 @@ pub no-text : {A : Type 0} (n : ℕ) (line : List ℕ) (r : Result A Fault) (fau
     → of_text n line r ≡ Err fault
 no-text n line r fault u is = cond-false _ _ _ u ∙ ap Err (sym is)
 
-pub is-text : (line shown : List ℕ) → shown ≡ line → IsUtf8 shown → is_utf8 line ≡ true
-is-text line shown same u = is_utf8-from_IsUtf8 line (subst IsUtf8 same u)
-
-pub is-no-text : (line : List ℕ) → ¬ (IsUtf8 line) → is_utf8 line ≡ false
-is-no-text line other = grind (arith, IsUtf8-from_is_utf8)

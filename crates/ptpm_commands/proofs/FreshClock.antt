@@ -7,14 +7,14 @@ use Rattle.ptpm_data.specs.declared.start.StartError.{StartError}
 use Rattle.ptpm_data.specs.ManagementId.{set_of}
 use Rattle.ptpm_data.specs.Members.{DataSetsValue}
 use Rattle.ptpm_data.specs.Ranges.{is_description}
-use Rattle.ptpm_data.specs.Start.{default_clock, default_port, start_of, count_fault, clock_fault, port_fault, ports_fault, settings_fault, grandmaster_fault}
+use Rattle.ptpm_data.specs.Start.{default_clock, default_port, start_of, count_fault, clock_fault, port_fault, ports_fault, grandmaster_fault}
 use Rattle.ptpm_commands.specs.FreshClock.{shown, two_ports, fresh_sets}
 
 abbrev pub made : Result DataSetsValue StartError
 made = Ok fresh_sets
 
 faultless : start_of (default_clock shown 0) two_ports ≡ made
-unfolding start_of count_fault clock_fault port_fault settings_fault ports_fault grandmaster_fault is_description set_of is_utf8 chars
+unfolding start_of count_fault clock_fault port_fault ports_fault grandmaster_fault is_description set_of is_utf8 chars
 faultless = refl
 
 -- whatever values are the defaults

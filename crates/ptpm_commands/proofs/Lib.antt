@@ -1,7 +1,6 @@
 pub mod CellLemmas
 pub mod FreshClock
 pub mod IdentityTextLemmas
-pub mod LineLemmas
 pub mod Naming
 pub mod ShownLines
 pub mod TakenLemmas

@@ -3,12 +3,16 @@ use Rattle.std.proofs.Common.{◌≡◌, ◌⊎◌, inl, inr, ℕ, ◌+◌, ◌-
 use Rattle.std.proofs.lemmas.Bool.{cond-false, cond-true, false≢true}
 use Rattle.std.specs.Io.KnownBytes.{Appends}
 use Rattle.std.specs.Option.{option_to_list}
-use Rattle.ptpm_world.specs.Lines.{BothKnown, whole_lines}
+use Rattle.ptpm_world.specs.Lines.{BothKnown, LeavesLong, ReadsNext, begins_long, whole_lines}
 use Rattle.ptpm_commands.specs.declared.faults.Fault.{Fault}
 use Rattle.ptpm_commands.specs.declared.faults.Fault.TheVariants as faults
 use Rattle.ptpm_commands.specs.Faults.{IsAtLine, is_of_line, is_outside}
-use Rattle.ptpm_commands.specs.Lines.{FailsNext, LeavesLong, ReadsNext, begins_long, datagram_in}
+use Rattle.ptpm_commands.specs.Lines.{FailsNext, datagram_in}
 use Rattle.ptpm_commands.specs.Taken.{HasNumbers, HasTaken, IsLast, IsNext, Taken, good, good_first, line_datagram, taken, taken_first, unless_long}
+
+pub known-itself : (a : Option (List ℕ)) → IfSome a (λ xs. a ≡ Some xs)
+known-itself None = tt
+known-itself (Some xs) = refl
 
 -- ---- the line that was read
 

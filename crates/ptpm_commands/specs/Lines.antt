@@ -1,10 +1,8 @@
 -- The lines of standard input, as its octets give them, if these are known, and what a line has (this project's profile).
-use Rattle.std.specs.Prelude.{◌≡◌, ◌⊎◌, ℕ, nat_lt, Bool, true, false, List, [], ◌∷◌, length, map, Option, Result, Ok, Err, if◌then◌else◌, option_map}
-use Rattle.std.specs.Io.BufRead.{drop_through}
-use Rattle.std.specs.Io.Buffered.{reader_remaining}
+use Rattle.std.specs.Prelude.{◌≡◌, ◌⊎◌, ℕ, true, List, [], ◌∷◌, map, Option, Result, Ok, Err, if◌then◌else◌, option_map}
 use Rattle.std.specs.Str.{is_utf8}
 use Rattle.hex.specs.declared.error.FromHexError.{FromHexError}
-use Rattle.ptpm_world.specs.Lines.{BothKnown, IsNextWhole, whole_lines}
+use Rattle.ptpm_world.specs.Lines.{LeavesLong, reader_left, reader_line}
 use Rattle.ptpm_commands.specs.declared.columns.Row.{Row}
 use Rattle.ptpm_commands.specs.declared.faults.Fault.{Fault}
 use Rattle.ptpm_commands.specs.declared.faults.Fault.TheVariants as faults
@@ -18,36 +16,11 @@ use Rattle.ptpm_commands.specs.Faults.{is_outside}
 
 -- the line that was read last, without its end
 abbrev pub latest_line : {R : Type 0} → Lines R → List ℕ
-latest_line l = l.line.items
-
--- known octets, or, if these begin within a line that is too long, those after its line feed
-abbrev pub left_of : Bool → Option (List ℕ) → Option (List ℕ)
-left_of true known = option_map (drop_through 10) known
-left_of false known = known
+latest_line l = reader_line l.reader
 
 -- what a reader has left, if its octets are known
 abbrev pub left_in : {R : Type 0} → (R → Option (List ℕ)) → Lines R → Option (List ℕ)
-left_in remaining l = left_of l.is_cut (reader_remaining remaining l.reader)
-
--- ---- the next line, beside all that comes before its line feed, a carriage return too
-
--- over 4,096 octets come before its line feed
-abbrev pub is_long : List ℕ → Bool
-is_long octets = nat_lt 4096 (length octets)
-
-abbrev pub begins_long : List (List ℕ × List ℕ) → Bool
-begins_long [] = false
-begins_long (line ∷ lines) = is_long line.1
-
--- the next line came, or none, and it is not too long
-abbrev pub ReadsNext : Option (List ℕ) → Bool → List ℕ → Option (List ℕ) → Type 0
-ReadsNext before more line after = BothKnown before after (λ xs ys.
-    (begins_long (whole_lines xs) ≡ false) × IsNextWhole more line (whole_lines xs) (whole_lines ys))
-
--- the next line is too long, and those after it are left
-abbrev pub LeavesLong : Option (List ℕ) → Option (List ℕ) → Type 0
-LeavesLong before after = BothKnown before after (λ xs ys.
-    (line : List ℕ × List ℕ) × ((whole_lines xs ≡ line ∷ whole_lines ys) × (is_long line.1 ≡ true)))
+left_in remaining l = reader_left remaining l.reader
 
 -- reading failed, or memory; or the next line, which has this number, is too long
 abbrev pub FailsNext : ℕ → Option (List ℕ) → Option (List ℕ) → Fault → Type 0

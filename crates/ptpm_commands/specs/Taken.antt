@@ -4,11 +4,11 @@ use Rattle.std.specs.Io.KnownBytes.{Appends}
 use Rattle.std.specs.Option.{option_to_list}
 use Rattle.ptpm_codec.specs.declared.message.Message.{Message}
 use Rattle.ptpm_codec.specs.Reading.{reading}
-use Rattle.ptpm_world.specs.Lines.{BothKnown, whole_lines}
+use Rattle.ptpm_world.specs.Lines.{BothKnown, is_long, whole_lines}
 use Rattle.ptpm_commands.specs.declared.faults.Fault.{Fault}
 use Rattle.ptpm_commands.specs.declared.faults.Fault.TheVariants as faults
 use Rattle.ptpm_commands.specs.Faults.{at_line, is_outside}
-use Rattle.ptpm_commands.specs.Lines.{datagram_in, is_long, row_in}
+use Rattle.ptpm_commands.specs.Lines.{datagram_in, row_in}
 use Rattle.ptpm_commands.specs.declared.show.Values.{Values}
 use Rattle.ptpm_commands.specs.Show.{read_as, row_lines}
 

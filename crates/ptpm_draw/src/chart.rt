@@ -6,6 +6,7 @@ ghost use Rattle.ptpm_draw.specs.Parts.{AddsParts, ShowsLines, opening};
 ghost use Rattle.ptpm_world.specs.ScriptError.{is_of_writing};
 
 use crate::changes::{Change, Changes};
+use crate::escaped::Escaped;
 use crate::lifelines::{CHARACTER, Lifelines, kind_of};
 use crate::members::member_texts;
 use crate::party::Party;
@@ -14,7 +15,6 @@ use crate::selection::Selection;
 use crate::shapes::{Arrow, write_mark};
 use crate::sizes::{MEMBER, STUB, Sizes, row_height};
 use crate::strokes::{LOST, Stroke, stroke_of};
-use crate::text::Escaped;
 use crate::words::{
     LabelText, LineText, ListText, LostText, OutcomeText, VerbText, error_shown, spell,
 };

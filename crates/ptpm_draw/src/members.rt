@@ -1,218 +1,219 @@
-//! The members that an event changed, as texts: each by its name, with its new value.
+//! The members that an event changed, as texts: each by its name in a network file, with its new value.
 
+ghost use Rattle.std.specs.Prelude.{◌≡◌, ◌++◌, IfOk, OnOk, Some, drop, flat_map, map, option_map, string_bytes, true};
+ghost use Rattle.ptpm_codec.specs.declared.message.Action.TheVariants.{Get};
+ghost use Rattle.ptpm_data.specs.DataField.{permits};
+ghost use Rattle.ptpm_data.specs.ManagementId.{is_of_port};
+ghost use Rattle.ptpm_data.specs.Members.{HasPort};
+ghost use Rattle.ptpm_draw.specs.MemberText.{changed_bits, changed_texts, clock_texts, is_changed, member_shown, member_texts, port_bits, port_texts, text_of, value_shown};
 ghost use Rattle.ptpm_members.specs.FieldText.{IsPlaced};
+ghost use Rattle.ptpm_members.specs.Values.{said, said_in};
 
 use crate::changes::Change;
-use ptpm_data::{DataSets, Layout, Member as DataSetMember, Value};
-use ptpm_members::{Field, Member, MemberValue, fields, members_in, value_in};
-use ptpm_script::Hexadecimal;
+use ptpm_data::{ChangedMembers, Member as DataSetMember, PortMembers, Value};
+use ptpm_members::{Field, Member, MemberValue, members_in, value_in};
 use std::alloc::{AllocError, Global};
 use std::fmt;
 
-/// What a GET of a clock's data set is answered (15.5.3); of a port's, PORT_DATA_SET.
-#[derive(Clone, Copy)]
-enum DataSet {
-    UserDescription,
-    Default,
-    Current,
-    Parent,
-    TimeProperties,
-    Port,
-}
+const USER_DESCRIPTION: u16 = 0x0002;
 
-/// Those that have a clock's members.
-const OF_CLOCK: [DataSet; 5] = [
-    DataSet::UserDescription,
-    DataSet::Default,
-    DataSet::Current,
-    DataSet::Parent,
-    DataSet::TimeProperties,
-];
+const DEFAULT_DATA_SET: u16 = 0x2000;
 
-/// That which has a port's members.
-const OF_PORT: [DataSet; 1] = [DataSet::Port];
+const CURRENT_DATA_SET: u16 = 0x2001;
 
-/// A member, and the data set whose dataField has its value.
-#[derive(Clone, Copy)]
-struct Place {
-    member: DataSetMember,
-    data_set: DataSet,
-}
+const PARENT_DATA_SET: u16 = 0x2002;
+
+const TIME_PROPERTIES_DATA_SET: u16 = 0x2003;
+
+const PORT_DATA_SET: u16 = 0x2004;
+
+/// A clock has at most these ports.
+static PORTS: [u16; 8] = [1, 2, 3, 4, 5, 6, 7, 8];
 
 /// The members that an event changed, one a text: those of the clock, and then those of each port, after its number.
 pub(crate) fn member_texts(
     alloc: Global,
     change: Option<&Change>,
-) -> Result<Vec<String>, AllocError> {
+) -> Result<Vec<String>, AllocError>
+    ensures { IfOk result (λ texts. map string_bytes texts.items
+        ≡ member_texts (option_map (λ change. change.now) change.entry)) }
+{
     let mut texts = Vec::new(alloc);
     if let Some(change) = change {
-        let bits = change.members.clock.0;
-        push_texts(alloc, &change.sets, 0, bits, &OF_CLOCK, &mut texts)?;
-        for port in 1..9 {
-            let bits = u32::from(change.members.ports[port as usize - 1].0);
-            push_texts(alloc, &change.sets, port, bits, &OF_PORT, &mut texts)?;
-        }
+        push_clock_texts(alloc, change, &mut texts)?;
+        push_ports_texts(alloc, change, &PORTS, &mut texts)?;
     }
     Ok(texts)
 }
 
-/// Pushes the texts of the members whose bits are set, the lowest bit first; of a port, or of the clock by 0.
-fn push_texts(
+/// Pushes the texts of those members of the clock that changed.
+#[tactic(auto, unfolding(ptpm_data::specs::ManagementId::row_of))]
+fn push_clock_texts(
     alloc: Global,
-    sets: &DataSets,
-    port: u16,
-    bits: u32,
-    data_sets: &[DataSet],
+    change: &Change,
     texts: &mut Vec<String>,
-) -> Result<(), AllocError> {
-    let mut bits = bits;
-    for bit in 0..32 {
-        if bits % 2 == 1 {
-            if let Some(place) = place_of(bit, data_sets) {
-                texts.push(member_text(alloc, sets, port, place)?)?;
-            }
-        }
-        bits /= 2;
+) -> Result<(), AllocError>
+    ensures { OnOk result (map string_bytes texts.new.items
+        ≡ map string_bytes texts.old.items ++ clock_texts change.now) }
+{
+    push_texts(alloc, change, USER_DESCRIPTION, 0, texts)?;
+    push_texts(alloc, change, DEFAULT_DATA_SET, 0, texts)?;
+    push_texts(alloc, change, CURRENT_DATA_SET, 0, texts)?;
+    push_texts(alloc, change, PARENT_DATA_SET, 0, texts)?;
+    push_texts(alloc, change, TIME_PROPERTIES_DATA_SET, 0, texts)
+}
+
+/// Pushes the texts of those members of these ports that changed.
+fn push_ports_texts(
+    alloc: Global,
+    change: &Change,
+    ports: &[u16],
+    texts: &mut Vec<String>,
+) -> Result<(), AllocError>
+    ensures { OnOk result (map string_bytes texts.new.items
+        ≡ map string_bytes texts.old.items ++ flat_map (port_texts change.now) ports.now) }
+{
+    for port in ports {
+        push_port_texts(alloc, change, *port, texts)?;
     }
     Ok(())
 }
 
-/// The place of the member of this bit.
-fn place_of(bit: u32, data_sets: &[DataSet]) -> Option<Place> {
-    for data_set in data_sets {
-        for Field(name, _, _) in fields(layout_of(*data_set)) {
-            if let Member::DataSet(member) = name {
-                if bit_of(*member) == bit {
-                    return Some(Place {
-                        member: *member,
-                        data_set: *data_set,
-                    });
-                }
-            }
-        }
-    }
-    None
-}
-
-/// The bit of a member in `ClockMembers` or `PortMembers`: both have the order of `Member`.
-fn bit_of(member: DataSetMember) -> u32 {
-    let number = u32::from(member.place());
-    let first_of_port = u32::from(DataSetMember::State.place());
-    if number < first_of_port {
-        number
-    } else {
-        number - first_of_port
-    }
-}
-
-fn layout_of(data_set: DataSet) -> Layout {
-    match data_set {
-        DataSet::UserDescription => Layout::UserDescription,
-        DataSet::Default => Layout::DefaultDataSet,
-        DataSet::Current => Layout::CurrentDataSet,
-        DataSet::Parent => Layout::ParentDataSet,
-        DataSet::TimeProperties => Layout::TimePropertiesDataSet,
-        DataSet::Port => Layout::PortDataSet,
-    }
-}
-
-/// A member's name and value; a port's, after its number.
-fn member_text(
-    alloc: Global,
-    sets: &DataSets,
-    port: u16,
-    place: Place,
-) -> Result<String, AllocError> {
-    let mut octets = Value::new();
-    lay(sets, place.data_set, port, &mut octets);
-    let value = value_of(place.member, id_of(place.data_set), octets.as_slice());
-    let mut text = String::new(alloc);
-    if port != 0 {
-        write!(text, "port {port} ")?;
-    }
-    write!(text, "{} {}", place.member, ValueText(value))?;
-    Ok(text)
-}
-
-/// Leaves a dataField of these data sets in the buffer.
 #[tactic(auto, unfolding(ptpm_data::specs::ManagementId::row_of))]
-fn lay(sets: &DataSets, data_set: DataSet, port: u16, octets: &mut Value) {
-    match data_set {
-        DataSet::UserDescription => sets.lay(0x0002, 0, octets),
-        DataSet::Default => sets.lay(0x2000, 0, octets),
-        DataSet::Current => sets.lay(0x2001, 0, octets),
-        DataSet::Parent => sets.lay(0x2002, 0, octets),
-        DataSet::TimeProperties => sets.lay(0x2003, 0, octets),
-        DataSet::Port if sets.has_port(port) => sets.lay(0x2004, port, octets),
-        DataSet::Port => octets.clear(),
+fn push_port_texts(
+    alloc: Global,
+    change: &Change,
+    port: u16,
+    texts: &mut Vec<String>,
+) -> Result<(), AllocError>
+    ensures { OnOk result (map string_bytes texts.new.items
+        ≡ map string_bytes texts.old.items ++ port_texts change.now port) }
+{
+    if change.sets.has_port(port) {
+        push_texts(alloc, change, PORT_DATA_SET, port, texts)?;
     }
+    Ok(())
 }
 
-/// The managementId whose dataField is a data set.
-fn id_of(data_set: DataSet) -> u16 {
-    match data_set {
-        DataSet::UserDescription => 0x0002,
-        DataSet::Default => 0x2000,
-        DataSet::Current => 0x2001,
-        DataSet::Parent => 0x2002,
-        DataSet::TimeProperties => 0x2003,
-        DataSet::Port => 0x2004,
+/// Pushes the texts of those members of an id's dataField that changed; of a port, or of the clock by 0.
+#[tactic(auto, unfolding(crate::specs::MemberText::texts_of))]
+fn push_texts(
+    alloc: Global,
+    change: &Change,
+    id: u16,
+    port: u16,
+    texts: &mut Vec<String>,
+) -> Result<(), AllocError>
+    requires permits { permits Get id ≡ true }
+    requires port { is_of_port id ≡ true → HasPort port change.now.sets }
+    ensures { OnOk result (map string_bytes texts.new.items
+        ≡ map string_bytes texts.old.items ++ changed_texts change.now id port) }
+{
+    let mut octets = Value::new();
+    change.sets.lay(id, port, &mut octets);
+    for field in members_in(id, octets.as_slice()) {
+        push_text(
+            alloc,
+            &change.members,
+            port,
+            *field,
+            octets.as_slice(),
+            texts,
+        )?;
     }
+    Ok(())
 }
 
-/// The value of a member in an id's dataField, if it is there.
-fn value_of(member: DataSetMember, id: u16, octets: &[u8]) -> Option<MemberValue<'_>> {
-    for field in members_in(id, octets) {
-        if field.0 == Member::DataSet(member) {
-            return Some(value_of_field(*field, octets));
+/// Pushes the text of a member at its place, if it changed.
+fn push_text(
+    alloc: Global,
+    members: &ChangedMembers,
+    port: u16,
+    field: Field,
+    octets: &[u8],
+    texts: &mut Vec<String>,
+) -> Result<(), AllocError>
+    requires { IsPlaced octets.now field }
+    ensures { OnOk result (map string_bytes texts.new.items
+        ≡ map string_bytes texts.old.items ++ text_of members.now port octets.now field field.0) }
+{
+    match field.0 {
+        Member::DataSet(member) if is_changed(members, port, member) => {
+            texts.push(member_text(alloc, port, member, value_of(field, octets))?)?;
         }
+        _ => {}
     }
-    None
+    Ok(())
+}
+
+/// Whether a member of a port changed, or one of the clock by 0.
+#[tactic(auto, unfolding(crate::specs::MemberText::is_changed))]
+fn is_changed(members: &ChangedMembers, port: u16, member: DataSetMember) -> bool
+    ensures { result ≡ is_changed members.now port member }
+{
+    (changed_bits(members, port) >> member.place()) % 2 == 1
+}
+
+/// A bit for each member, at its place; of a port, or of the clock by 0.
+fn changed_bits(members: &ChangedMembers, port: u16) -> u64
+    ensures { result ≡ changed_bits members.now port }
+{
+    if port == 0 {
+        u64::from(members.clock.0)
+    } else {
+        port_bits(members.ports.get(usize::from(port) - 1))
+    }
+}
+
+/// The members of a port come after those of a clock.
+fn port_bits(members: Option<&PortMembers>) -> u64
+    ensures { result ≡ port_bits (option_map (λ members. members.now) members.entry) }
+{
+    match members {
+        Some(members) => u64::from(members.0) * (1 << 30),
+        None => 0,
+    }
 }
 
 /// The value of a member at its place.
-fn value_of_field(field: Field, octets: &[u8]) -> MemberValue<'_>
+fn value_of(field: Field, octets: &[u8]) -> MemberValue<'_>
     requires { IsPlaced octets.now field }
+    ensures { said result ≡ said_in field.2 (drop field.1 octets.now) }
 {
     let (_, behind) = octets.split_at(usize::from(field.1));
     value_in(field.2, behind)
 }
 
-/// A member's value as a network file has it; nothing if there is none.
+/// A member's name and value; a port's, after its number.
+#[tactic(auto, unfolding(crate::specs::MemberText::member_shown))]
+fn member_text(
+    alloc: Global,
+    port: u16,
+    member: DataSetMember,
+    value: MemberValue<'_>,
+) -> Result<String, AllocError>
+    ensures { IfOk result (λ text. string_bytes text ≡ member_shown port member (said value.entry)) }
+{
+    let mut text = String::new(alloc);
+    if port != 0 {
+        write!(text, "port {port} ")?;
+    }
+    write!(text, "{member} {}", ValueText(value))?;
+    Ok(text)
+}
+
+/// A member's value, as each text has it. One that is a text itself is in quotation marks: it may have commas, and be empty, and other
+/// members follow it after a comma.
 #[derive(Clone, Copy)]
-struct ValueText<'a>(Option<MemberValue<'a>>);
+struct ValueText<'a>(MemberValue<'a>);
 
 impl fmt::Display for ValueText<'_> {
+    ghost output = { λ value. Some (value_shown (said value.0)) };
+
     fn fmt<W: fmt::Write>(&self, f: &mut fmt::Formatter<W>) -> fmt::Result {
-        let Some(value) = self.0 else {
-            return Ok(());
-        };
-        match value {
-            MemberValue::Unsigned(number) => write!(f, "{number}"),
-            MemberValue::Signed(number) | MemberValue::Interval(number) => write!(f, "{number}"),
-            MemberValue::Flag(flag) => write!(f, "{flag}"),
-            MemberValue::Clock(clock) => write!(f, "{clock}"),
-            MemberValue::Port(port) => write!(f, "{port}"),
-            MemberValue::State(number)
-            | MemberValue::Mechanism(number)
-            | MemberValue::Timestamping(number) => write!(f, "{number}"),
-            MemberValue::Text(octets) => write_text(octets, f),
-            MemberValue::Octets(octets) | MemberValue::Clocks(octets) => {
-                write!(f, "{}", Hexadecimal(octets))
-            }
+        match self.0 {
+            MemberValue::Text(_) => write!(f, "\"{}\"", self.0),
+            value => write!(f, "{value}"),
         }
     }
-}
-
-/// A text in quotation marks, or its octets if one is not printed.
-fn write_text<W: fmt::Write>(octets: &[u8], f: &mut fmt::Formatter<W>) -> fmt::Result {
-    match std::str::from_utf8(octets) {
-        Ok(text) if octets.iter().all(|octet| is_plain(*octet)) => { write!(f, "\"{text}\"") }
-        _ => write!(f, "{}", Hexadecimal(octets)),
-    }
-}
-
-/// Whether an octet is a character of ASCII that is printed.
-fn is_plain(octet: u8) -> bool {
-    0x20 <= octet && octet <= 0x7e
 }

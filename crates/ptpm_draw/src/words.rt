@@ -1,8 +1,8 @@
 //! What is written at an arrow or a mark.
 
+use crate::escaped::Escaped;
 use crate::outcome::EventOutcome;
 use crate::picture::{EventRow, Picture, Says, Way, said_by};
-use crate::text::Escaped;
 use ptpm_codec::ErrorId;
 use ptpm_data::row;
 use ptpm_manager::Ask;

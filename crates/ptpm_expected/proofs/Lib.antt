@@ -1,3 +1,4 @@
+pub mod AsRead
 pub mod Judged
 pub mod Law
 pub mod Lines
@@ -5,3 +6,4 @@ pub mod Reported
 pub mod Sets
 pub mod Tests
 pub mod Told
+pub mod Wantable

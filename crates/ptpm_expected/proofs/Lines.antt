@@ -2,9 +2,9 @@
 use Rattle.std.proofs.Common.{◌≡◌, ◌∙◌, ℕ, true, false, cond, List, [], ◌∷◌, ◌++◌, Option, Some, ap, sym}
 use Rattle.std.proofs.lemmas.List.{map-append}
 use Rattle.std.specs.Option.{is_some, option_map_or}
-use Rattle.ptpm_site.specs.declared.member.Member.{Member}
+use Rattle.ptpm_members.specs.declared.names.Member.{Member}
 use Rattle.ptpm_site.specs.declared.source.Source.{Source}
-use Rattle.ptpm_site.specs.Members.{MemberValue}
+use Rattle.ptpm_members.specs.Values.{Said}
 use Rattle.ptpm_site.specs.SiteAnswers.{SiteAnswers}
 use Rattle.ptpm_expected.specs.declared.inventory.Entry.{Entry}
 use Rattle.ptpm_expected.specs.declared.inventory.MemberRule.{MemberRule}
@@ -17,7 +17,7 @@ unfolding lines_of
 lines_more site entries e = map-append (line_of site) entries (e ∷ [])
 
 -- a member that was answered is as it is written
-pub member_held : (site : SiteAnswers) (s : Source) (port : Option ℕ) (m : Member) (v : MemberValue) (r : MemberRule)
+pub member_held : (site : SiteAnswers) (s : Source) (port : Option ℕ) (m : Member) (v : Said) (r : MemberRule)
     → rule_says site s port m ≡ Some v
     → r.port ≡ port
     → r.member ≡ m

@@ -5,8 +5,8 @@ use Rattle.ptpm_codec.specs.Identity.{same_clock}
 use Rattle.ptpm_site.specs.declared.finding.Finding.{Finding}
 use Rattle.ptpm_site.specs.declared.finding.What.{What}
 use Rattle.ptpm_site.specs.declared.finding.What.TheVariants as what
-use Rattle.ptpm_site.specs.declared.member.Member.{Member}
-use Rattle.ptpm_site.specs.declared.member.Member.TheVariants as member
+use Rattle.ptpm_members.specs.declared.names.Member.{Member}
+use Rattle.ptpm_members.specs.declared.names.Member.TheVariants as members
 use Rattle.ptpm_site.specs.declared.source.Source.{Source}
 use Rattle.ptpm_site.specs.declared.unseen.Absence.{Absence}
 use Rattle.ptpm_site.specs.declared.unseen.Absence.TheVariants as why
@@ -27,7 +27,7 @@ use Rattle.ptpm_site.specs.Domains.{same_domain}
 -- ---- what an inventory allows
 
 abbrev pub is_quality : Member → Bool
-is_quality member.ClockQuality = true
+is_quality members.ClockQuality = true
 is_quality _ = false
 
 -- a line wants clockQuality of a clock, and it is so

@@ -1,3 +1,4 @@
+pub mod AsRead
 pub mod Expected
 pub mod Held
 pub mod HeldToInventory
@@ -7,6 +8,7 @@ pub mod Leaders
 pub mod Meeting
 pub mod Named
 pub mod Naming
+pub mod Numbers
 pub mod Order
 pub mod Outside
 pub mod ProfileFindings

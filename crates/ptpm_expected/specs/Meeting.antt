@@ -1,47 +1,49 @@
 -- Whether the members of a clock are as an inventory wants them.
-use Rattle.std.specs.Prelude.{◌≡◌, ℕ, ◌==◌, ◌&&◌, ◌-◌, Bool, true, false, int_le, List, length, slice_get, Option, Some, None, option_and_then, bytes_eq, string_bytes}
-use Rattle.std.specs.Bool.{beq}
+use Rattle.std.specs.Prelude.{◌≡◌, ℕ, ◌==◌, ◌-◌, Bool, true, false, not, is_some, List, length, slice_get, Option, Some, None, option_and_then, bytes_eq, string_bytes}
 use Rattle.std.specs.List.{list_any}
-use Rattle.std.specs.Option.{option_eq, option_map, option_map_or}
-use Rattle.ptpm_codec.specs.Identity.{same_clock, same_identity}
+use Rattle.std.specs.Option.{option_map, option_map_or}
+use Rattle.ptpm_members.specs.declared.names.Member.{Member}
+use Rattle.ptpm_members.specs.NumberNames.{name_of}
+use Rattle.ptpm_members.specs.Values.{Said, Named, Quality, Text, said}
 use Rattle.ptpm_site.specs.declared.clock.Received.{Received}
 use Rattle.ptpm_site.specs.declared.expected.Unmet.{Unmet}
 use Rattle.ptpm_site.specs.declared.expected.Wanted.{Wanted}
 use Rattle.ptpm_site.specs.declared.expected.Wanted.TheVariants as wanted
-use Rattle.ptpm_site.specs.declared.member.Member.{Member}
 use Rattle.ptpm_site.specs.declared.source.Source.{Source}
-use Rattle.ptpm_site.specs.Members.{MemberValue, Flag, Number, Quality, Clock, Port, State, Mechanism, Text, current_says, default_says, description_says, parent_says, port_says, same_mechanism, same_quality, same_state, time_says, value_of}
+use Rattle.ptpm_site.specs.Members.{current_says, default_says, description_says, parent_says, port_says, same_value, time_says}
 use Rattle.ptpm_site.specs.SiteAnswers.{SiteAnswers}
 use Rattle.ptpm_expected.specs.declared.inventory.MemberRule.{MemberRule}
+use Rattle.ptpm_expected.specs.Numbers.{is_between}
+
+-- a value is a number that a name could have, and none has
+abbrev pub has_no_name : Said → Bool
+has_no_name (Named enumeration n) = not (is_some (name_of enumeration n))
+has_no_name _ = false
 
 -- a value is one that is wanted
-abbrev pub meets : Wanted → MemberValue → Bool
-meets (wanted.Flag a) (Flag b) = beq a b
-meets (wanted.Range least greatest) (Number n) = int_le least n && int_le n greatest
-meets (wanted.Quality a) (Quality b) = same_quality a b
+abbrev pub meets : Wanted → Said → Bool
+meets (wanted.Value value) v = same_value (said value) v
+meets (wanted.Range least greatest) v = is_between least greatest v
 meets (wanted.Class class) (Quality q) = class == q.class
-meets (wanted.Clock a) (Clock b) = same_clock a b
-meets (wanted.Port a) (Port b) = same_identity a b
-meets (wanted.State a) (State b) = option_eq same_state a b
-meets (wanted.Mechanism a) (Mechanism b) = option_eq same_mechanism a b
-meets (wanted.Text a) (Text b) = bytes_eq (string_bytes a) b
+meets wanted.Reserved v = has_no_name v
+meets (wanted.Text text) (Text octets) = bytes_eq (string_bytes text) octets
 meets _ _ = false
 
 -- a value is one of those that are wanted
-abbrev pub is_met : List Wanted → MemberValue → Bool
+abbrev pub is_met : List Wanted → Said → Bool
 is_met all v = list_any (λ w. meets w v) all
 
 -- ---- what a clock says of a member
 
 -- by the last answer, which counts
-abbrev pub last_says : {A : Type 0} → (A → Member → Option MemberValue) → List (Received A) → Member → Option MemberValue
+abbrev pub last_says : {A : Type 0} → (A → Member → Option Said) → List (Received A) → Member → Option Said
 last_says says received m = option_and_then (λ last. says last.set m) (slice_get received (length received - 1))
 
-abbrev pub first_some : Option MemberValue → Option MemberValue → Option MemberValue
+abbrev pub first_some : Option Said → Option Said → Option Said
 first_some (Some v) second = Some v
 first_some None second = second
 
-abbrev pub clock_says : SiteAnswers → Source → Member → Option MemberValue
+abbrev pub clock_says : SiteAnswers → Source → Member → Option Said
 clock_says site s m =
     first_some (last_says default_says (site.defaults s) m)
     (first_some (last_says current_says (site.currents s) m)
@@ -49,7 +51,7 @@ clock_says site s m =
     (first_some (last_says time_says (site.times s) m) (last_says description_says (site.descriptions s) m))))
 
 -- of the clock, or of a port
-abbrev pub rule_says : SiteAnswers → Source → Option ℕ → Member → Option MemberValue
+abbrev pub rule_says : SiteAnswers → Source → Option ℕ → Member → Option Said
 rule_says site s (Some n) m = last_says port_says (site.port_answers s n) m
 rule_says site s None m = clock_says site s m
 
@@ -63,7 +65,7 @@ pub record TellsOf (site : SiteAnswers) (s : Source) (rule : MemberRule) (u : Un
   pub fails : is_as_wanted site s rule ≡ false
   pub port : u.port ≡ rule.port
   pub member : u.member ≡ rule.member
-  pub value : option_map value_of u.value ≡ rule_says site s rule.port rule.member
+  pub value : option_map said u.value ≡ rule_says site s rule.port rule.member
   pub wanted : u.wanted.now ≡ rule.wanted.items
 
 abbrev pub IsUnmet : SiteAnswers → Source → MemberRule → Option Unmet → Type 0

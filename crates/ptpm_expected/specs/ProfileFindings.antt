@@ -2,6 +2,7 @@
 use Rattle.std.specs.Prelude.{ℕ, ◌++◌, List, [], Option, if◌then◌else◌}
 use Rattle.std.specs.List.{flat_map}
 use Rattle.std.specs.Option.{option_map_or}
+use Rattle.ptpm_data.specs.PortState.{state_of}
 use Rattle.ptpm_site.specs.declared.data_sets.PortDataSet.{PortDataSet}
 use Rattle.ptpm_site.specs.declared.expected.Outside.{Outside}
 use Rattle.ptpm_site.specs.declared.finding.Finding.{Finding}
@@ -27,7 +28,7 @@ port_set_found site profile s n set = each_outside s (port_outside profile n set
 
 -- a port that takes no part is passed over
 unfoldable pub port_found : SiteAnswers → Profile → Source → ℕ → List Finding
-port_found site profile s n = option_map_or (λ set. if is_idle set.state then [] else port_set_found site profile s n set) (site.port s n) []
+port_found site profile s n = option_map_or (λ set. if is_idle (state_of set.state) then [] else port_set_found site profile s n set) (site.port s n) []
 
 unfoldable pub profile_found : SiteAnswers → Profile → Source → List Finding
 profile_found site profile s = clock_found site profile s ++ flat_map (port_found site profile s) (site.ports s)

@@ -1,7 +1,8 @@
 -- What each profile allows of a member: IEEE 1588-2019 (I.3, I.4), SMPTE ST 2059-2, AES67 and IEEE 802.1AS-2020. None: anything.
-use Rattle.std.specs.Prelude.{ℤ, pos, neg_ℤ, ◌+ℤ◌, Bool, true, false, Option, Some, None, if◌then◌else◌}
-use Rattle.ptpm_site.specs.declared.data_sets.DelayMechanism.{DelayMechanism}
-use Rattle.ptpm_site.specs.declared.data_sets.DelayMechanism.TheVariants as mechanisms
+use Rattle.std.specs.Prelude.{ℕ, ℤ, pos, neg_ℤ, ◌+ℤ◌, ◌==◌, ◌||◌, Bool, Option, Some, None, if◌then◌else◌}
+use Rattle.ptpm_data.specs.declared.members.Member.{Member}
+use Rattle.ptpm_data.specs.declared.members.Member.TheVariants as sets
+use Rattle.ptpm_data.specs.declared.port_setting.PortSetting.TheVariants as settings
 use Rattle.ptpm_site.specs.declared.expected.Allowed.{Allowed}
 use Rattle.ptpm_site.specs.declared.expected.Allowed.TheVariants as allowed
 use Rattle.ptpm_expected.specs.declared.profile.Profile.{Profile}
@@ -27,50 +28,50 @@ priority_range profiles.St2059 = None
 priority_range profiles.Aes67 = None
 priority_range profiles.Gptp = from (pos 1) (pos 255)
 
-abbrev pub announce_range : Profile → Option Range
-announce_range profiles.Default = from (pos 0) (pos 4)
-announce_range profiles.St2059 = from (neg_ℤ (pos 3)) (pos 1)
-announce_range profiles.Aes67 = from (pos 0) (pos 4)
-announce_range profiles.Gptp = None
+-- ---- of a member of a port
 
-abbrev pub sync_range : Profile → Option Range
-sync_range profiles.Default = from (neg_ℤ (pos 1)) (pos 1)
-sync_range profiles.St2059 = from (neg_ℤ (pos 7)) (neg_ℤ (pos 1))
-sync_range profiles.Aes67 = from (neg_ℤ (pos 4)) (pos 1)
-sync_range profiles.Gptp = None
+abbrev pub default_range : Member → Option Range
+default_range (sets.Setting settings.LogAnnounceInterval) = from (pos 0) (pos 4)
+default_range (sets.Setting settings.LogSyncInterval) = from (neg_ℤ (pos 1)) (pos 1)
+default_range sets.LogMinDelayReq = from (pos 0) (pos 5)
+default_range (sets.Setting settings.LogMinPdelayReqInterval) = from (pos 0) (pos 5)
+default_range (sets.Setting settings.AnnounceReceiptTimeout) = from (pos 2) (pos 10)
+default_range _ = None
 
 -- by the logSyncInterval of the port
-abbrev pub delay_request_range : Profile → ℤ → Option Range
-delay_request_range profiles.Default sync = from (pos 0) (pos 5)
-delay_request_range profiles.St2059 sync = from sync (sync +ℤ pos 5)
-delay_request_range profiles.Aes67 sync = from (neg_ℤ (pos 3)) (pos 5)
-delay_request_range profiles.Gptp sync = None
+abbrev pub studio_range : Member → ℤ → Option Range
+studio_range (sets.Setting settings.LogAnnounceInterval) sync = from (neg_ℤ (pos 3)) (pos 1)
+studio_range (sets.Setting settings.LogSyncInterval) sync = from (neg_ℤ (pos 7)) (neg_ℤ (pos 1))
+studio_range sets.LogMinDelayReq sync = from sync (sync +ℤ pos 5)
+studio_range (sets.Setting settings.LogMinPdelayReqInterval) sync = from sync (sync +ℤ pos 5)
+studio_range (sets.Setting settings.AnnounceReceiptTimeout) sync = from (pos 2) (pos 10)
+studio_range _ sync = None
 
-abbrev pub pdelay_request_range : Profile → ℤ → Option Range
-pdelay_request_range profiles.Default sync = from (pos 0) (pos 5)
-pdelay_request_range profiles.St2059 sync = from sync (sync +ℤ pos 5)
-pdelay_request_range profiles.Aes67 sync = from (pos 0) (pos 5)
-pdelay_request_range profiles.Gptp sync = None
+abbrev pub audio_range : Member → Option Range
+audio_range (sets.Setting settings.LogAnnounceInterval) = from (pos 0) (pos 4)
+audio_range (sets.Setting settings.LogSyncInterval) = from (neg_ℤ (pos 4)) (pos 1)
+audio_range sets.LogMinDelayReq = from (neg_ℤ (pos 3)) (pos 5)
+audio_range (sets.Setting settings.LogMinPdelayReqInterval) = from (pos 0) (pos 5)
+audio_range (sets.Setting settings.AnnounceReceiptTimeout) = from (pos 2) (pos 10)
+audio_range _ = None
 
-abbrev pub timeout_range : Profile → Option Range
-timeout_range profiles.Default = from (pos 2) (pos 10)
-timeout_range profiles.St2059 = from (pos 2) (pos 10)
-timeout_range profiles.Aes67 = from (pos 2) (pos 10)
-timeout_range profiles.Gptp = None
+abbrev pub port_range : Profile → Member → ℤ → Option Range
+port_range profiles.Default m sync = default_range m
+port_range profiles.St2059 m sync = studio_range m sync
+port_range profiles.Aes67 m sync = audio_range m
+port_range profiles.Gptp m sync = None
 
--- E2E or P2P; with 802.1AS P2P, COMMON_P2P or SPECIAL
-abbrev pub is_of_ptp : Option DelayMechanism → Bool
-is_of_ptp (Some mechanisms.EndToEnd) = true
-is_of_ptp (Some mechanisms.PeerToPeer) = true
-is_of_ptp _ = false
+-- ---- of delayMechanism (8.2.15.4.4)
 
-abbrev pub is_of_gptp : Option DelayMechanism → Bool
-is_of_gptp (Some mechanisms.PeerToPeer) = true
-is_of_gptp (Some mechanisms.CommonPeerToPeer) = true
-is_of_gptp (Some mechanisms.Special) = true
-is_of_gptp _ = false
+-- E2E (1) or P2P (2)
+abbrev pub is_of_ptp : ℕ → Bool
+is_of_ptp mechanism = mechanism == 1 || mechanism == 2
 
--- what is allowed of delayMechanism, if this one isn't
-abbrev pub allowed_mechanisms : Profile → Option DelayMechanism → Option Allowed
+-- with 802.1AS P2P (2), COMMON_P2P (3) or SPECIAL (4)
+abbrev pub is_of_gptp : ℕ → Bool
+is_of_gptp mechanism = mechanism == 2 || mechanism == 3 || mechanism == 4
+
+-- what is allowed, if this one isn't
+abbrev pub allowed_mechanisms : Profile → ℕ → Option Allowed
 allowed_mechanisms profiles.Gptp mechanism = if is_of_gptp mechanism then None else Some allowed.PeerToPeerOrSpecial
 allowed_mechanisms _ mechanism = if is_of_ptp mechanism then None else Some allowed.EndToEndOrPeerToPeer

@@ -6,14 +6,14 @@ use Rattle.ptpm_site.specs.declared.expected.Wanted.{Wanted}
 use Rattle.ptpm_site.specs.declared.finding.Finding.{Finding}
 use Rattle.ptpm_site.specs.declared.finding.What.{What}
 use Rattle.ptpm_site.specs.declared.finding.What.TheVariants as what
-use Rattle.ptpm_site.specs.declared.member.Member.{Member}
+use Rattle.ptpm_members.specs.declared.names.Member.{Member}
 use Rattle.ptpm_site.specs.declared.source.Source.{Source}
-use Rattle.ptpm_site.specs.Members.{MemberValue, value_of}
+use Rattle.ptpm_members.specs.Values.{Said, said}
 
 pub data Tells : Type 0 where
   Absent : Tells
   Unexpected : Tells
-  NotAsExpected : (port : Option ℕ) → (member : Member) → (value : Option MemberValue) → (wanted : List Wanted) → Tells
+  NotAsExpected : (port : Option ℕ) → (member : Member) → (value : Option Said) → (wanted : List Wanted) → Tells
   OtherLeaders : (leading : List ClockIdentity) → (wanted : List (List ClockIdentity)) → Tells
   Other : (what : What) → Tells
 
@@ -27,7 +27,7 @@ told s t = record { source = s; tells = t }
 abbrev pub tells : What → Tells
 tells (what.Absent description) = Absent
 tells what.Unexpected = Unexpected
-tells (what.NotAsExpected u) = NotAsExpected u.port u.member (option_map value_of u.value) u.wanted.now
+tells (what.NotAsExpected u) = NotAsExpected u.port u.member (option_map said u.value) u.wanted.now
 tells (what.OtherLeaders o) = OtherLeaders o.leading.items (map (λ clocks. clocks.items) o.wanted.now)
 tells w = Other w
 

@@ -2,9 +2,13 @@
 use Rattle.std.specs.Prelude.{ℕ, ◌++◌, ◌&&◌, Bool, true, not, is_some, List, [], ◌∷◌, Option, Some, None, map, if◌then◌else◌}
 use Rattle.std.specs.BTreeSet.{insert_key}
 use Rattle.std.specs.List.{flat_map, fold}
+use Rattle.std.specs.Str.{IsUtf8}
 use Rattle.ptpm_codec.specs.declared.identity.ClockIdentity.{ClockIdentity}
-use Rattle.ptpm_site.specs.declared.member.Member.{Member}
-use Rattle.ptpm_site.specs.declared.member.Member.TheVariants as member
+use Rattle.ptpm_data.specs.declared.members.Member.TheVariants as sets
+use Rattle.ptpm_data.specs.declared.port_setting.PortSetting.TheVariants as settings
+use Rattle.ptpm_members.specs.declared.names.Member.{Member}
+use Rattle.ptpm_members.specs.declared.names.Member.TheVariants as members
+use Rattle.ptpm_members.specs.Values.{Said, Clocks, Octets, Text}
 use Rattle.ptpm_site.specs.declared.source.Source.{Source}
 use Rattle.ptpm_site.specs.Grandmasters.{in_domain}
 use Rattle.ptpm_site.specs.SiteAnswers.{SiteAnswers}
@@ -50,13 +54,21 @@ lines_of site entries = map (line_of site) entries
 -- the members of a clock that are written, and those of a port
 abbrev pub clock_members : List Member
 clock_members =
-    member.Priority1 ∷ member.ClockQuality ∷ member.Priority2 ∷ member.SlaveOnly ∷ member.NumberPorts ∷ member.UserDescription
-    ∷ member.ParentPortIdentity ∷ []
+    members.DataSet sets.Priority1 ∷ members.ClockQuality ∷ members.DataSet sets.Priority2 ∷ members.SlaveOnly ∷ members.NumberPorts
+    ∷ members.DataSet sets.UserDescription ∷ members.DataSet sets.ParentPort ∷ []
 
 abbrev pub port_members : List Member
 port_members =
-    member.LogAnnounceInterval ∷ member.LogSyncInterval ∷ member.LogMinDelayReqInterval ∷ member.LogMinPdelayReqInterval
-    ∷ member.AnnounceReceiptTimeout ∷ member.DelayMechanism ∷ []
+    members.DataSet (sets.Setting settings.LogAnnounceInterval) ∷ members.DataSet (sets.Setting settings.LogSyncInterval)
+    ∷ members.DataSet sets.LogMinDelayReq ∷ members.DataSet (sets.Setting settings.LogMinPdelayReqInterval)
+    ∷ members.DataSet (sets.Setting settings.AnnounceReceiptTimeout) ∷ members.DataSet (sets.Setting settings.DelayMechanism) ∷ []
+
+-- a value that an inventory can have: its octets are those of a text alone
+abbrev pub IsWantable : Said → Type 0
+IsWantable (Text octets) = IsUtf8 octets
+IsWantable (Octets octets) = ⊥
+IsWantable (Clocks octets) = ⊥
+IsWantable _ = Unit {0}
 
 -- a member that was answered is as it is
 abbrev pub member_line : SiteAnswers → Source → Option ℕ → Member → List Line

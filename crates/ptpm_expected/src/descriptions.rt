@@ -1,8 +1,9 @@
 //! The descriptions that the clocks of an inventory are to have.
 
 use crate::inventory::{Entry, MemberRule, Rule};
+use ptpm_data::Member::UserDescription;
+use ptpm_members::Member::DataSet;
 use ptpm_site::expected::Wanted;
-use ptpm_site::member::Member;
 use ptpm_site::source::Source;
 use std::alloc::{AllocError, Global};
 use std::collections::BTreeMap;
@@ -39,11 +40,14 @@ impl<'a> Descriptions<'a> {
 
 /// The description that a rule wants, if that is the only one.
 fn only_text(rule: &MemberRule) -> Option<&str> {
-    if !matches!(rule.member, Member::UserDescription) {
+    if !matches!(rule.member, DataSet(UserDescription)) {
         return None;
     }
     match rule.wanted.as_slice() {
-        [Wanted::Text(text)] => Some(text.as_str()),
+        [one] => match one {
+            Wanted::Text(text) => Some(text.as_str()),
+            _ => None,
+        },
         _ => None,
     }
 }

@@ -1,9 +1,9 @@
 //! The inventory of a site: what its operator says of it.
 
 use ptpm_codec::ClockIdentity;
+use ptpm_members::Member;
 use ptpm_site::domain::Domain;
 use ptpm_site::expected::Wanted;
-use ptpm_site::member::Member;
 
 /// What an operator says of a site, in the order of the lines of a file.
 #[derive(Drop)]

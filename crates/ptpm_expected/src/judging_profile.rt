@@ -118,7 +118,7 @@ fn judge_port(
     ensures { OnOk result (findings.new.items ≡ findings.old.items ++ port_found (site_answers site.now) profile source port) }
 {
     match site.port(source, port) {
-        Some(set) if !is_idle(set.state) => {
+        Some(set) if !is_idle(set.state()) => {
             judge_port_set(site, evidence, profile, source, port, &set, findings)
         }
         _ => Ok(()),

@@ -2,54 +2,63 @@
 
 ghost use Rattle.std.specs.Prelude.{◌≡◌, ◌-◌, length, option_and_then, slice_get};
 ghost use Rattle.std.specs.Option.{option_map};
-ghost use Rattle.ptpm_site.specs.Members.{value_of};
+ghost use Rattle.ptpm_members.specs.Values.{said};
 ghost use Rattle.ptpm_site.specs.Site.{site_answers};
-ghost use Rattle.ptpm_expected.specs.Meeting.{IsUnmet, clock_says, first_some, is_as_wanted, is_met, meets, rule_says};
+ghost use Rattle.ptpm_expected.specs.Meeting.{IsUnmet, clock_says, first_some, has_no_name, is_as_wanted, is_met, meets, rule_says};
 
 use crate::inventory::MemberRule;
+use crate::numbers::is_between;
+use ptpm_members::{Member, MemberValue};
 use ptpm_site::clock::Received;
 use ptpm_site::expected::{Unmet, Wanted};
-use ptpm_site::member::{DataSet, Member, Value};
+use ptpm_site::member::DataSet;
 use ptpm_site::site::Site;
 use ptpm_site::source::Source;
 
 /// Whether a value is one that is wanted.
-pub fn meets(wanted: &Wanted, value: &Value<'_>) -> bool
-    ensures { result ≡ meets wanted.now (value_of value.now) }
+pub fn meets(wanted: &Wanted, value: &MemberValue<'_>) -> bool
+    ensures { result ≡ meets wanted.now (said value.now) }
 {
     match (wanted, value) {
-        (Wanted::Flag(wanted), Value::Flag(flag)) => wanted == flag,
-        (Wanted::Range(least, greatest), Value::Number(number)) => {
-            least <= number && number <= greatest
-        }
-        (Wanted::Quality(wanted), Value::Quality(quality)) => wanted == quality,
-        (Wanted::Class(class), Value::Quality(quality)) => *class == quality.class,
-        (Wanted::Clock(wanted), Value::Clock(clock)) => wanted == clock,
-        (Wanted::Port(wanted), Value::Port(port)) => wanted == port,
-        (Wanted::State(wanted), Value::State(state)) => wanted == state,
-        (Wanted::Mechanism(wanted), Value::Mechanism(mechanism)) => wanted == mechanism,
-        (Wanted::Text(wanted), Value::Text(text)) => wanted.as_str() == *text,
+        (Wanted::Value(wanted), _) => wanted == value,
+        (Wanted::Range(least, greatest), _) => is_between(*least, *greatest, value),
+        (Wanted::Class(class), MemberValue::Quality(quality)) => *class == quality.class,
+        (Wanted::Reserved, _) => has_no_name(value),
+        (Wanted::Text(wanted), MemberValue::Text(text)) => wanted.as_bytes() == *text,
+        _ => false,
+    }
+}
+
+/// Whether a value is a number that a name could have, and none has.
+fn has_no_name(value: &MemberValue<'_>) -> bool
+    ensures { result ≡ has_no_name (said value.now) }
+{
+    match value {
+        MemberValue::Named(enumeration, number) => enumeration.name_of(*number).is_none(),
         _ => false,
     }
 }
 
 /// Whether a value is one of those that are wanted.
-fn is_met(wanted: &[Wanted], value: &Value<'_>) -> bool
-    ensures { result ≡ is_met wanted.now (value_of value.now) }
+fn is_met(wanted: &[Wanted], value: &MemberValue<'_>) -> bool
+    ensures { result ≡ is_met wanted.now (said value.now) }
 {
     wanted.iter().any(|one| meets(one, value))
 }
 
 /// What the last answer with a data set says of a member.
-fn last_value<T: DataSet>(received: &[Received<T>], member: Member) -> Option<Value<'_>>
-    ensures { option_map value_of result ≡ option_and_then (λ last. T.says last.set member) (slice_get received.now (length received.now - 1)) }
+fn last_value<T: DataSet>(received: &[Received<T>], member: Member) -> Option<MemberValue<'_>>
+    ensures { option_map said result ≡ option_and_then (λ last. T.says last.set member) (slice_get received.now (length received.now - 1)) }
 {
     received.last()?.set.value(member)
 }
 
 /// The first of two values that is there.
-fn first_some<'a>(first: Option<Value<'a>>, second: Option<Value<'a>>) -> Option<Value<'a>>
-    ensures { option_map value_of result ≡ first_some (option_map value_of first.entry) (option_map value_of second.entry) }
+fn first_some<'a>(
+    first: Option<MemberValue<'a>>,
+    second: Option<MemberValue<'a>>,
+) -> Option<MemberValue<'a>>
+    ensures { option_map said result ≡ first_some (option_map said first.entry) (option_map said second.entry) }
 {
     match first {
         Some(value) => Some(value),
@@ -58,8 +67,8 @@ fn first_some<'a>(first: Option<Value<'a>>, second: Option<Value<'a>>) -> Option
 }
 
 /// What a clock says of a member of its own.
-fn clock_value(site: &Site, source: Source, member: Member) -> Option<Value<'_>>
-    ensures { option_map value_of result ≡ clock_says (site_answers site.now) source member }
+fn clock_value(site: &Site, source: Source, member: Member) -> Option<MemberValue<'_>>
+    ensures { option_map said result ≡ clock_says (site_answers site.now) source member }
 {
     let default = last_value(site.defaults(source), member);
     let current = last_value(site.currents(source), member);
@@ -76,8 +85,8 @@ pub fn rule_value(
     source: Source,
     port: Option<u16>,
     member: Member,
-) -> Option<Value<'_>>
-    ensures { option_map value_of result ≡ rule_says (site_answers site.now) source port member }
+) -> Option<MemberValue<'_>>
+    ensures { option_map said result ≡ rule_says (site_answers site.now) source port member }
 {
     match port {
         Some(port) => last_value(site.port_answers(source, port), member),

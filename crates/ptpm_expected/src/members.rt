@@ -1,10 +1,11 @@
 //! The members that an inventory may name.
 
+use ptpm_members::Member;
 use ptpm_site::data_sets::{
     CurrentDataSet, DefaultDataSet, ParentDataSet, PortDataSet, TimePropertiesDataSet,
 };
 use ptpm_site::description::Description;
-use ptpm_site::member::{DataSet, Member};
+use ptpm_site::member::DataSet;
 
 /// The member of this name among some.
 fn named(members: &[Member], name: &str) -> Option<Member> {

@@ -1,52 +1,51 @@
 //! The members of a clock and of its ports that are not what a profile allows.
 
-ghost use Rattle.std.specs.Prelude.{◌≡◌};
+ghost use Rattle.std.specs.Prelude.{◌≡◌, Some};
+ghost use Rattle.ptpm_members.specs.declared.values.MemberValue.TheVariants as values;
 ghost use Rattle.ptpm_site.specs.Evidence.{IsOf};
 ghost use Rattle.ptpm_site.specs.Site.{site_answers};
-ghost use Rattle.ptpm_expected.specs.Outside.{announce_outside, timeout_outside, unlike_parent, beyond, clock_outside, delay_request_outside, is_idle, mechanism_outside, member_outside, parent_outside, pdelay_request_outside, port_outside, sync_outside, timescale_outside};
+ghost use Rattle.ptpm_expected.specs.Outside.{clock_outside, held_value, is_idle, mechanism_outside, member_outside, number_outside, parent_outside, port_outside, timescale_outside, unlike_parent};
 
+use crate::numbers::is_between;
 use crate::profile::Profile;
 use crate::ranges::{
-    Range, allowed_mechanisms, announce_range, delay_request_range, domain_range,
-    pdelay_request_range, priority_range, sdo_range, sync_range, timeout_range,
+    Range, allowed_mechanisms, domain_range, port_range, priority_range, sdo_range,
 };
-use ptpm_data::PortState;
+use ptpm_data::Member::{Domain as DomainNumber, LogMinDelayReq, Priority1, PtpTimescale, Setting};
+use ptpm_data::PortSetting::{
+    AnnounceReceiptTimeout, DelayMechanism, LogAnnounceInterval, LogMinPdelayReqInterval,
+    LogSyncInterval,
+};
+use ptpm_data::{Member as DataSetMember, PortState};
+use ptpm_members::Member::DataSet;
+use ptpm_members::{Enumeration, Member, MemberValue};
 use ptpm_site::announcing::port_above;
 use ptpm_site::data_sets::{DefaultDataSet, PortDataSet};
 use ptpm_site::domain::Domain;
 use ptpm_site::evidence::Evidence;
 use ptpm_site::expected::{Allowed, Outside};
-use ptpm_site::member::{Member, Value};
 use ptpm_site::port_groups::PortGroup;
 use ptpm_site::site::Site;
 use ptpm_site::source::Source;
-
-/// A number that is beyond a range.
-fn beyond(number: i64, range: Range) -> Option<Allowed>
-    ensures { result ≡ beyond number range }
-{
-    if range.least <= number && number <= range.greatest {
-        None
-    } else {
-        Some(Allowed::Range(range.least, range.greatest))
-    }
-}
 
 /// A member that is a number, if it is beyond its range.
 fn member_outside(
     port: Option<u16>,
     member: Member,
-    number: i64,
+    value: MemberValue<'static>,
     range: Option<Range>,
 ) -> Option<Outside>
-    ensures { result ≡ member_outside port member number range }
+    ensures { result ≡ member_outside port member value.entry range }
 {
-    let allowed = beyond(number, range?)?;
+    let Range { least, greatest } = range?;
+    if is_between(least, greatest, &value) {
+        return None;
+    }
     Some(Outside {
         port,
         member,
-        value: Value::Number(number),
-        allowed,
+        value,
+        allowed: Allowed::Range(least, greatest),
     })
 }
 
@@ -58,12 +57,13 @@ pub fn clock_outside(
 ) -> [Option<Outside>; 3]
     ensures { result ≡ clock_outside profile domain default.now }
 {
-    let (number, priority1) = (default.domain as i64, default.priority1 as i64);
-    let sdo = i64::from(domain.sdo());
+    let sdo = MemberValue::Unsigned(u64::from(domain.sdo()));
+    let number = MemberValue::Unsigned(u64::from(default.domain));
+    let priority1 = MemberValue::Unsigned(u64::from(default.priority1));
     [
         member_outside(None, Member::SdoId, sdo, sdo_range(profile)),
-        member_outside(None, Member::DomainNumber, number, domain_range()),
-        member_outside(None, Member::Priority1, priority1, priority_range(profile)),
+        member_outside(None, DataSet(DomainNumber), number, domain_range()),
+        member_outside(None, DataSet(Priority1), priority1, priority_range(profile)),
     ]
 }
 
@@ -81,103 +81,68 @@ pub fn timescale_outside(site: &Site, source: Source) -> Option<Outside>
     }
     Some(Outside {
         port: None,
-        member: Member::PtpTimescale,
-        value: Value::Flag(false),
+        member: DataSet(PtpTimescale),
+        value: MemberValue::Flag(false),
         allowed: Allowed::Set,
     })
 }
 
-/// What of a port's PORT_DATA_SET is not allowed. Its intervals of Sync and of Delay_Req count if it gives time: else it takes its
-/// master's.
+/// What of a port's PORT_DATA_SET is not allowed.
 #[tactic(auto, unfolding(crate::specs::Outside::port_outside))]
 pub fn port_outside(profile: Profile, number: u16, set: &PortDataSet) -> [Option<Outside>; 6]
     ensures { result ≡ port_outside profile number set.now }
 {
     [
-        announce_outside(profile, number, set),
-        sync_outside(profile, number, set),
-        delay_request_outside(profile, number, set),
-        pdelay_request_outside(profile, number, set),
-        timeout_outside(profile, number, set),
+        number_outside(profile, number, set, Setting(LogAnnounceInterval)),
+        number_outside(profile, number, set, Setting(LogSyncInterval)),
+        number_outside(profile, number, set, LogMinDelayReq),
+        number_outside(profile, number, set, Setting(LogMinPdelayReqInterval)),
+        number_outside(profile, number, set, Setting(AnnounceReceiptTimeout)),
         mechanism_outside(profile, number, set),
     ]
 }
 
-/// logAnnounceInterval.
-#[tactic(auto, unfolding(crate::specs::Outside::announce_outside))]
-fn announce_outside(profile: Profile, number: u16, set: &PortDataSet) -> Option<Outside>
-    ensures { result ≡ announce_outside profile number set.now }
+/// A member of a port that is a number, if it is not allowed.
+#[tactic(auto, unfolding(crate::specs::Outside::number_outside))]
+fn number_outside(
+    profile: Profile,
+    number: u16,
+    set: &PortDataSet,
+    member: DataSetMember,
+) -> Option<Outside>
+    ensures { result ≡ number_outside profile number set.now member }
 {
-    member_outside(
-        Some(number),
-        Member::LogAnnounceInterval,
-        set.log_announce as i64,
-        announce_range(profile),
-    )
+    let value = held_value(set, member)?;
+    let range = port_range(profile, member, set.log_sync);
+    member_outside(Some(number), DataSet(member), value, range)
 }
 
-/// announceReceiptTimeout.
-#[tactic(auto, unfolding(crate::specs::Outside::timeout_outside))]
-fn timeout_outside(profile: Profile, number: u16, set: &PortDataSet) -> Option<Outside>
-    ensures { result ≡ timeout_outside profile number set.now }
+/// An interval of a port: the logarithm of seconds to the base 2.
+fn interval(log: i8) -> Option<MemberValue<'static>>
+    ensures { result ≡ Some (values.Signed log) }
 {
-    member_outside(
-        Some(number),
-        Member::AnnounceReceiptTimeout,
-        set.receipt_timeout as i64,
-        timeout_range(profile),
-    )
+    Some(MemberValue::Signed(i64::from(log)))
 }
 
-/// logSyncInterval.
-#[tactic(auto, unfolding(crate::specs::Outside::sync_outside))]
-fn sync_outside(profile: Profile, number: u16, set: &PortDataSet) -> Option<Outside>
-    ensures { result ≡ sync_outside profile number set.now }
+/// The number that a member of a port is, if it counts. The intervals of Sync and of Delay_Req count if the port gives time: else it
+/// takes its master's. Those of Delay_Req and of Pdelay_Req count with the mechanism that sends it.
+fn held_value(set: &PortDataSet, member: DataSetMember) -> Option<MemberValue<'static>>
+    ensures { result ≡ held_value set.now member }
 {
-    if !PortGroup::Giving.has(set.state) {
-        return None;
+    let gives = PortGroup::Giving.has(set.state());
+    match member {
+        Setting(LogAnnounceInterval) => interval(set.log_announce),
+        Setting(LogSyncInterval) if gives => interval(set.log_sync),
+        LogMinDelayReq if gives && set.measures_end_to_end() => interval(set.log_min_delay_req),
+        Setting(LogMinPdelayReqInterval) if set.measures_link() => interval(set.log_min_pdelay),
+        Setting(AnnounceReceiptTimeout) => {
+            Some(MemberValue::Unsigned(u64::from(set.receipt_timeout)))
+        }
+        _ => None,
     }
-    member_outside(
-        Some(number),
-        Member::LogSyncInterval,
-        set.log_sync as i64,
-        sync_range(profile),
-    )
 }
 
-/// logMinDelayReqInterval.
-#[tactic(auto, unfolding(crate::specs::Outside::delay_request_outside))]
-fn delay_request_outside(profile: Profile, number: u16, set: &PortDataSet) -> Option<Outside>
-    ensures { result ≡ delay_request_outside profile number set.now }
-{
-    if !PortGroup::Giving.has(set.state) || !set.measures_end_to_end() {
-        return None;
-    }
-    member_outside(
-        Some(number),
-        Member::LogMinDelayReqInterval,
-        set.log_min_delay_req as i64,
-        delay_request_range(profile, set.log_sync),
-    )
-}
-
-/// logMinPdelayReqInterval.
-#[tactic(auto, unfolding(crate::specs::Outside::pdelay_request_outside))]
-fn pdelay_request_outside(profile: Profile, number: u16, set: &PortDataSet) -> Option<Outside>
-    ensures { result ≡ pdelay_request_outside profile number set.now }
-{
-    if !set.measures_link() {
-        return None;
-    }
-    member_outside(
-        Some(number),
-        Member::LogMinPdelayReqInterval,
-        set.log_min_pdelay as i64,
-        pdelay_request_range(profile, set.log_sync),
-    )
-}
-
-/// delayMechanism.
+/// delayMechanism, if it is not allowed.
 #[tactic(auto, unfolding(crate::specs::Outside::mechanism_outside))]
 fn mechanism_outside(profile: Profile, number: u16, set: &PortDataSet) -> Option<Outside>
     ensures { result ≡ mechanism_outside profile number set.now }
@@ -185,8 +150,8 @@ fn mechanism_outside(profile: Profile, number: u16, set: &PortDataSet) -> Option
     let allowed = allowed_mechanisms(profile, set.delay_mechanism)?;
     Some(Outside {
         port: Some(number),
-        member: Member::DelayMechanism,
-        value: Value::Mechanism(set.delay_mechanism),
+        member: DataSet(Setting(DelayMechanism)),
+        value: MemberValue::Named(Enumeration::DelayMechanism, set.delay_mechanism),
         allowed,
     })
 }
@@ -231,8 +196,8 @@ fn unlike_parent(number: u16, set: &PortDataSet, above: &PortDataSet) -> Option<
     }
     Some(Outside {
         port: Some(number),
-        member: Member::LogAnnounceInterval,
-        value: Value::Number(set.log_announce as i64),
+        member: DataSet(Setting(LogAnnounceInterval)),
+        value: MemberValue::Signed(set.log_announce as i64),
         allowed: Allowed::OfParent(above.log_announce as i64),
     })
 }

@@ -1,11 +1,19 @@
 //! What the profiles allow, in a table of their own: numbers from a least to a greatest, and mechanisms.
 
 ghost use Rattle.std.specs.Prelude.{◌≡◌};
-ghost use Rattle.ptpm_expected.specs.Profiles.{allowed_mechanisms, announce_range, delay_request_range, domain_range, pdelay_request_range, priority_range, sdo_range, sync_range, timeout_range};
+ghost use Rattle.ptpm_expected.specs.Profiles.{allowed_mechanisms, audio_range, default_range, domain_range, is_of_gptp, is_of_ptp, port_range, priority_range, sdo_range, studio_range};
 
 use crate::profile::Profile;
-use ptpm_site::data_sets::DelayMechanism;
+use ptpm_data::Member;
+use ptpm_data::Member::{LogMinDelayReq, Setting};
+use ptpm_data::PortSetting::{
+    AnnounceReceiptTimeout, LogAnnounceInterval, LogMinPdelayReqInterval, LogSyncInterval,
+};
+use ptpm_site::data_sets::{COMMON_PEER_TO_PEER, END_TO_END, PEER_TO_PEER};
 use ptpm_site::expected::Allowed;
+
+/// delayMechanism SPECIAL (8.2.15.4.4, table 21).
+const SPECIAL: u8 = 4;
 
 /// The numbers from the least to the greatest.
 #[derive(Clone, Copy)]
@@ -48,78 +56,82 @@ pub fn priority_range(profile: Profile) -> Option<Range>
     }
 }
 
-/// logAnnounceInterval. `None`: any.
-pub fn announce_range(profile: Profile) -> Option<Range>
-    ensures { result ≡ announce_range profile }
+/// A member of a port whose logSyncInterval is this. `None`: any.
+pub fn port_range(profile: Profile, member: Member, log_sync: i8) -> Option<Range>
+    ensures { result ≡ port_range profile member log_sync }
 {
     match profile {
-        Profile::Default | Profile::Aes67 => numbers(0, 4),
-        Profile::St2059 => numbers(-3, 1),
+        Profile::Default => default_range(member),
+        Profile::St2059 => studio_range(member, log_sync),
+        Profile::Aes67 => audio_range(member),
         Profile::Gptp => None,
     }
 }
 
-/// logSyncInterval. `None`: any.
-pub fn sync_range(profile: Profile) -> Option<Range>
-    ensures { result ≡ sync_range profile }
+/// Of the default profiles.
+fn default_range(member: Member) -> Option<Range>
+    ensures { result ≡ default_range member }
 {
-    match profile {
-        Profile::Default => numbers(-1, 1),
-        Profile::St2059 => numbers(-7, -1),
-        Profile::Aes67 => numbers(-4, 1),
-        Profile::Gptp => None,
+    match member {
+        Setting(LogAnnounceInterval) => numbers(0, 4),
+        Setting(LogSyncInterval) => numbers(-1, 1),
+        LogMinDelayReq | Setting(LogMinPdelayReqInterval) => numbers(0, 5),
+        Setting(AnnounceReceiptTimeout) => numbers(2, 10),
+        _ => None,
     }
 }
 
-/// logMinDelayReqInterval of a port whose logSyncInterval is this. `None`: any.
-pub fn delay_request_range(profile: Profile, log_sync: i8) -> Option<Range>
-    ensures { result ≡ delay_request_range profile log_sync }
+/// Of SMPTE ST 2059-2.
+fn studio_range(member: Member, log_sync: i8) -> Option<Range>
+    ensures { result ≡ studio_range member log_sync }
 {
-    match profile {
-        Profile::Default => numbers(0, 5),
-        Profile::St2059 => numbers(log_sync as i64, log_sync as i64 + 5),
-        Profile::Aes67 => numbers(-3, 5),
-        Profile::Gptp => None,
+    match member {
+        Setting(LogAnnounceInterval) => numbers(-3, 1),
+        Setting(LogSyncInterval) => numbers(-7, -1),
+        LogMinDelayReq | Setting(LogMinPdelayReqInterval) => {
+            numbers(log_sync as i64, log_sync as i64 + 5)
+        }
+        Setting(AnnounceReceiptTimeout) => numbers(2, 10),
+        _ => None,
     }
 }
 
-/// logMinPdelayReqInterval of a port whose logSyncInterval is this. `None`: any.
-pub fn pdelay_request_range(profile: Profile, log_sync: i8) -> Option<Range>
-    ensures { result ≡ pdelay_request_range profile log_sync }
+/// Of AES67.
+fn audio_range(member: Member) -> Option<Range>
+    ensures { result ≡ audio_range member }
 {
-    match profile {
-        Profile::Default | Profile::Aes67 => numbers(0, 5),
-        Profile::St2059 => numbers(log_sync as i64, log_sync as i64 + 5),
-        Profile::Gptp => None,
+    match member {
+        Setting(LogAnnounceInterval) => numbers(0, 4),
+        Setting(LogSyncInterval) => numbers(-4, 1),
+        LogMinDelayReq => numbers(-3, 5),
+        Setting(LogMinPdelayReqInterval) => numbers(0, 5),
+        Setting(AnnounceReceiptTimeout) => numbers(2, 10),
+        _ => None,
     }
 }
 
-/// announceReceiptTimeout. `None`: any.
-pub fn timeout_range(profile: Profile) -> Option<Range>
-    ensures { result ≡ timeout_range profile }
+/// Whether delayMechanism is E2E or P2P.
+fn is_of_ptp(mechanism: u8) -> bool
+    ensures { result ≡ is_of_ptp mechanism }
 {
-    match profile {
-        Profile::Default | Profile::St2059 | Profile::Aes67 => numbers(2, 10),
-        Profile::Gptp => None,
-    }
+    mechanism == END_TO_END || mechanism == PEER_TO_PEER
+}
+
+/// Whether delayMechanism is P2P, COMMON_P2P or SPECIAL.
+fn is_of_gptp(mechanism: u8) -> bool
+    ensures { result ≡ is_of_gptp mechanism }
+{
+    mechanism == PEER_TO_PEER || mechanism == COMMON_PEER_TO_PEER || mechanism == SPECIAL
 }
 
 /// What is allowed of delayMechanism, if this one isn't.
-pub fn allowed_mechanisms(profile: Profile, mechanism: Option<DelayMechanism>) -> Option<Allowed>
+pub fn allowed_mechanisms(profile: Profile, mechanism: u8) -> Option<Allowed>
     ensures { result ≡ allowed_mechanisms profile mechanism }
 {
     match profile {
-        Profile::Gptp => match mechanism {
-            Some(
-                DelayMechanism::PeerToPeer
-                | DelayMechanism::CommonPeerToPeer
-                | DelayMechanism::Special,
-            ) => None,
-            _ => Some(Allowed::PeerToPeerOrSpecial),
-        },
-        _ => match mechanism {
-            Some(DelayMechanism::EndToEnd | DelayMechanism::PeerToPeer) => None,
-            _ => Some(Allowed::EndToEndOrPeerToPeer),
-        },
+        Profile::Gptp if is_of_gptp(mechanism) => None,
+        Profile::Gptp => Some(Allowed::PeerToPeerOrSpecial),
+        _ if is_of_ptp(mechanism) => None,
+        _ => Some(Allowed::EndToEndOrPeerToPeer),
     }
 }

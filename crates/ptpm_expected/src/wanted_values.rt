@@ -1,16 +1,24 @@
 //! The values that an inventory wants, as the findings have them.
 
 use crate::quoted::unquoted_text;
-use crate::time_sources::source_of_name;
 use crate::words::{first_choice, first_word};
 use hex::FromHex;
 use ptpm_codec::{ClockIdentity, PortIdentity};
-use ptpm_data::PortState;
-use ptpm_site::data_sets::{ClockQuality, DelayMechanism};
+use ptpm_data::Layout;
+use ptpm_members::{ClockQuality, Enumeration, Form, Member, MemberValue, fields};
 use ptpm_site::expected::Wanted;
-use ptpm_site::member::{Member, mechanism_name, state_name};
 use std::alloc::{AllocError, Global};
 use std::str::FromStr;
+
+/// The dataFields that have the members that an inventory may name.
+const LAYOUTS: [Layout; 6] = [
+    Layout::DefaultDataSet,
+    Layout::CurrentDataSet,
+    Layout::ParentDataSet,
+    Layout::TimePropertiesDataSet,
+    Layout::PortDataSet,
+    Layout::UserDescription,
+];
 
 /// The values of a text that a member may have, with `|` between them. `None` if one is none.
 pub(crate) fn wanted_values(
@@ -36,39 +44,61 @@ pub(crate) fn wanted_values(
 
 /// A value that a member may have.
 fn wanted_value(alloc: Global, member: Member, text: &str) -> Result<Option<Wanted>, AllocError> {
-    match member {
-        Member::UserDescription => Ok(unquoted_text(alloc, text)?.map(Wanted::Text)),
-        _ => Ok(fixed_value(member, text)),
+    match form_of(member) {
+        Some(Form::Text) => Ok(unquoted_text(alloc, text)?.map(Wanted::Text)),
+        Some(form) => Ok(value_of_form(form, text)),
+        None => Ok(quality(text)),
     }
 }
 
-/// A value that takes no memory.
-fn fixed_value(member: Member, text: &str) -> Option<Wanted> {
-    match member {
-        Member::TwoStepFlag
-        | Member::SlaveOnly
-        | Member::ParentStats
-        | Member::CurrentUtcOffsetValid
-        | Member::Leap59
-        | Member::Leap61
-        | Member::TimeTraceable
-        | Member::FrequencyTraceable
-        | Member::PtpTimescale => flag(text),
-        Member::ClockQuality | Member::GrandmasterClockQuality => quality(text),
-        Member::ClockIdentity | Member::GrandmasterIdentity => Some(Wanted::Clock(identity(text)?)),
-        Member::ParentPortIdentity => Some(Wanted::Port(port_identity(text)?)),
-        Member::PortState => state(text),
-        Member::DelayMechanism => mechanism(text),
-        Member::TimeSource => time_source(text),
+/// How a dataField has a member. `None` of a clockQuality: it has its three members.
+fn form_of(member: Member) -> Option<Form> {
+    for layout in &LAYOUTS {
+        for field in fields(*layout) {
+            if field.0 == member {
+                return Some(field.2);
+            }
+        }
+    }
+    None
+}
+
+/// A value of a form that takes no memory.
+fn value_of_form(form: Form, text: &str) -> Option<Wanted> {
+    match form {
+        Form::Flag(_) => Some(Wanted::Value(MemberValue::Flag(flag(text)?))),
+        Form::ClockIdentity => Some(Wanted::Value(MemberValue::Clock(identity(text)?))),
+        Form::PortIdentity => Some(Wanted::Value(MemberValue::Port(port_identity(text)?))),
+        Form::Named(enumeration) => of_enumeration(enumeration, text),
         _ => numbers(text),
     }
 }
 
-fn flag(text: &str) -> Option<Wanted> {
+fn flag(text: &str) -> Option<bool> {
     match text {
-        "true" => Some(Wanted::Flag(true)),
-        "false" => Some(Wanted::Flag(false)),
+        "true" => Some(true),
+        "false" => Some(false),
         _ => None,
+    }
+}
+
+/// A number that may have a name, or numbers. `reserved` is each that has no name.
+fn of_enumeration(enumeration: Enumeration, text: &str) -> Option<Wanted> {
+    match number_of(enumeration, text) {
+        Some(number) => Some(Wanted::Value(MemberValue::Named(enumeration, number))),
+        None if text == "reserved" => Some(Wanted::Reserved),
+        None => numbers(text),
+    }
+}
+
+/// The number of a name, or the number itself: in decimal, or `0x` and two hexadecimal digits.
+fn number_of(enumeration: Enumeration, text: &str) -> Option<u8> {
+    match enumeration.number_of(text) {
+        Some(number) if enumeration.name_of(number) == Some(text) => Some(number),
+        _ => match text.strip_prefix("0x") {
+            Some(digits) => Some(<[u8; 1] as FromHex>::from_hex(digits).ok()?[0]),
+            None => u8::from_str(text).ok(),
+        },
     }
 }
 
@@ -90,14 +120,6 @@ fn numbers(text: &str) -> Option<Wanted> {
     Some(Wanted::Range(least, greatest))
 }
 
-/// The name of a source, or numbers.
-fn time_source(text: &str) -> Option<Wanted> {
-    match source_of_name(text) {
-        Some(number) => Some(Wanted::Range(number as i64, number as i64)),
-        None => numbers(text),
-    }
-}
-
 /// `class 6`, or `class 6 accuracy 0x21 variance 0x4e5d`.
 fn quality(text: &str) -> Option<Wanted> {
     let (class, rest) = after_name("class", text)?;
@@ -110,11 +132,11 @@ fn quality(text: &str) -> Option<Wanted> {
     if !rest.is_empty() {
         return None;
     }
-    Some(Wanted::Quality(ClockQuality {
+    Some(Wanted::Value(MemberValue::Quality(ClockQuality {
         class,
         accuracy: u8::from_str_radix(accuracy.strip_prefix("0x")?, 16).ok()?,
         variance: u16::from_str_radix(variance.strip_prefix("0x")?, 16).ok()?,
-    }))
+    })))
 }
 
 /// The word after a name that begins a text, and the rest.
@@ -139,31 +161,4 @@ fn port_identity(text: &str) -> Option<PortIdentity> {
         clock: identity(clock)?,
         port: u16::from_str(port).ok()?,
     })
-}
-
-fn state(text: &str) -> Option<Wanted> {
-    for number in 0..=10 {
-        let state = PortState::from_number(number);
-        if state_name(state) == text {
-            return Some(Wanted::State(state));
-        }
-    }
-    None
-}
-
-fn mechanism(text: &str) -> Option<Wanted> {
-    let all = [
-        Some(DelayMechanism::EndToEnd),
-        Some(DelayMechanism::PeerToPeer),
-        Some(DelayMechanism::CommonPeerToPeer),
-        Some(DelayMechanism::Special),
-        Some(DelayMechanism::NoMechanism),
-        None,
-    ];
-    for mechanism in all {
-        if mechanism_name(mechanism) == text {
-            return Some(Wanted::Mechanism(mechanism));
-        }
-    }
-    None
 }

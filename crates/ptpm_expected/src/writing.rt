@@ -3,12 +3,14 @@
 ghost use Rattle.std.specs.Prelude.{◌≡◌, ◌++◌, [], ◌∷◌, IfOk, OnOk, true};
 ghost use Rattle.std.specs.BTreeSet.{insert_key, keys};
 ghost use Rattle.std.specs.List.{flat_map, fold};
-ghost use Rattle.ptpm_site.specs.Members.{value_of};
+ghost use Rattle.std.specs.Str.{IsUtf8};
+ghost use Rattle.std.specs.String.{string_bytes};
+ghost use Rattle.ptpm_members.specs.Values.{said};
 ghost use Rattle.ptpm_site.specs.Site.{site_answers};
 ghost use Rattle.ptpm_expected.specs.InventoryFindings.{told_by_inventory};
 ghost use Rattle.ptpm_expected.specs.Meeting.{is_met, meets};
 ghost use Rattle.ptpm_expected.specs.Senders.{announcing};
-ghost use Rattle.ptpm_expected.specs.Writing.{clock_lines, clock_lines_in, domain_lines, domain_of, excuse_in, leader_lines, line_of_rule, lines_of, member_line, port_lines, written};
+ghost use Rattle.ptpm_expected.specs.Writing.{IsWantable, clock_lines, clock_lines_in, domain_lines, domain_of, excuse_in, leader_lines, line_of_rule, lines_of, member_line, port_lines, written};
 ghost use Rattle.ptpm_site.specs.Domains.{domain_cmp};
 
 use crate::inventory::{Entry, Inventory, MemberRule, Presence, Rule};
@@ -16,33 +18,39 @@ use crate::judging_inventory::leading_in;
 use crate::meeting::rule_value;
 use crate::senders::announcing;
 use ptpm_codec::ClockIdentity;
+use ptpm_data::Member::{
+    LogMinDelayReq, ParentPort, Priority1, Priority2, Setting, UserDescription,
+};
+use ptpm_data::PortSetting;
+use ptpm_members::Member::DataSet;
+use ptpm_members::{Member, MemberValue};
 use ptpm_site::domain::Domain;
 use ptpm_site::expected::Wanted;
-use ptpm_site::member::{Member, Value};
 use ptpm_site::site::Site;
 use ptpm_site::source::Source;
 use std::alloc::{AllocError, Global};
 use std::collections::BTreeSet;
+use std::str;
 
 /// The members of a clock that are written.
 const CLOCK_MEMBERS: [Member; 7] = [
-    Member::Priority1,
+    DataSet(Priority1),
     Member::ClockQuality,
-    Member::Priority2,
+    DataSet(Priority2),
     Member::SlaveOnly,
     Member::NumberPorts,
-    Member::UserDescription,
-    Member::ParentPortIdentity,
+    DataSet(UserDescription),
+    DataSet(ParentPort),
 ];
 
 /// The members of a port that are written.
 const PORT_MEMBERS: [Member; 6] = [
-    Member::LogAnnounceInterval,
-    Member::LogSyncInterval,
-    Member::LogMinDelayReqInterval,
-    Member::LogMinPdelayReqInterval,
-    Member::AnnounceReceiptTimeout,
-    Member::DelayMechanism,
+    DataSet(Setting(PortSetting::LogAnnounceInterval)),
+    DataSet(Setting(PortSetting::LogSyncInterval)),
+    DataSet(LogMinDelayReq),
+    DataSet(Setting(PortSetting::LogMinPdelayReqInterval)),
+    DataSet(Setting(PortSetting::AnnounceReceiptTimeout)),
+    DataSet(Setting(PortSetting::DelayMechanism)),
 ];
 
 /// The inventory of a site: of each domain who leads, that no other clock is there, and its clocks. A clock that announces and is
@@ -289,7 +297,7 @@ fn add_member(
 {
     match rule_value(site, source, port, member) {
         Some(value) => {
-            let rule = rule_of(alloc, port, member, &value)?;
+            let rule = rule_of(alloc, port, member, value)?;
             add_entry(
                 site,
                 source.domain,
@@ -306,11 +314,12 @@ fn rule_of(
     alloc: Global,
     port: Option<u16>,
     member: Member,
-    value: &Value<'_>,
+    value: MemberValue<'_>,
 ) -> Result<MemberRule, AllocError>
+    requires { IsWantable (said value) }
     ensures port { IfOk result (λ rule. rule.port ≡ port) }
     ensures member { IfOk result (λ rule. rule.member ≡ member) }
-    ensures met { IfOk result (λ rule. is_met rule.wanted.items (value_of value.now) ≡ true) }
+    ensures met { IfOk result (λ rule. is_met rule.wanted.items (said value.entry) ≡ true) }
 {
     let mut wanted = Vec::new(alloc);
     wanted.push(wanted_of(alloc, value)?)?;
@@ -322,17 +331,33 @@ fn rule_of(
 }
 
 /// What wants a value as it is; of a clockQuality the class.
-fn wanted_of(alloc: Global, value: &Value<'_>) -> Result<Wanted, AllocError>
-    ensures { IfOk result (λ wanted. meets wanted (value_of value.now) ≡ true) }
+fn wanted_of(alloc: Global, value: MemberValue<'_>) -> Result<Wanted, AllocError>
+    requires { IsWantable (said value) }
+    ensures { IfOk result (λ wanted. meets wanted (said value.entry) ≡ true) }
 {
     Ok(match value {
-        Value::Flag(flag) => Wanted::Flag(*flag),
-        Value::Number(number) => Wanted::Range(*number, *number),
-        Value::Quality(quality) => Wanted::Class(quality.class),
-        Value::Clock(clock) => Wanted::Clock(*clock),
-        Value::Port(port) => Wanted::Port(*port),
-        Value::State(state) => Wanted::State(*state),
-        Value::Mechanism(mechanism) => Wanted::Mechanism(*mechanism),
-        Value::Text(text) => Wanted::Text(String::from_str(alloc, *text)?),
+        MemberValue::Unsigned(number) => Wanted::Value(MemberValue::Unsigned(number)),
+        MemberValue::Signed(number) => Wanted::Value(MemberValue::Signed(number)),
+        MemberValue::Flag(flag) => Wanted::Value(MemberValue::Flag(flag)),
+        MemberValue::Interval(number) => Wanted::Value(MemberValue::Interval(number)),
+        MemberValue::Clock(clock) => Wanted::Value(MemberValue::Clock(clock)),
+        MemberValue::Port(port) => Wanted::Value(MemberValue::Port(port)),
+        MemberValue::Named(enumeration, number) => {
+            Wanted::Value(MemberValue::Named(enumeration, number))
+        }
+        MemberValue::Quality(quality) => Wanted::Class(quality.class),
+        MemberValue::Text(octets) => Wanted::Text(text_of(alloc, octets)?),
+        MemberValue::Octets(_) | MemberValue::Clocks(_) => unreachable!(),
     })
+}
+
+/// The text of octets in UTF-8.
+fn text_of(alloc: Global, octets: &[u8]) -> Result<String, AllocError>
+    requires { IsUtf8 octets.now }
+    ensures { IfOk result (λ text. string_bytes text ≡ octets.now) }
+{
+    match str::from_utf8(octets) {
+        Ok(text) => String::from_str(alloc, text),
+        Err(_) => unreachable!(),
+    }
 }

@@ -18,7 +18,7 @@ use Rattle.ptpm_data.specs.declared.start.PortStart.{PortStart}
 use Rattle.ptpm_data.specs.declared.start.StartError.{StartError}
 use Rattle.ptpm_data.specs.Members.{DataSetsValue}
 use Rattle.ptpm_data.specs.Start.{clock_fault, count_fault, start_of}
-use Rattle.ptpm_data.proofs.StartLemmas.{count_sound, passes}
+use Rattle.ptpm_data.proofs.StartLemmas.{count_sound, identity_sound}
 use Rattle.ptpm_codec.proofs.IdentityLaws.{same_clock-refl}
 use Rattle.ptpm_script.specs.declared.link_entries.EndEntry.{EndEntry}
 use Rattle.ptpm_script.specs.declared.net_error.NetError.{NetError}
@@ -179,8 +179,7 @@ unfolding start_of
 starts_well c ports h = grind (arith, option_or-none)
 
 not_every : (c : ClockStart) → clock_fault c ≡ None → c.identity ≢ every_clock
-unfolding clock_fault
-not_every c h every = grind (arith, passes, both_ways, bytes_same)
+not_every c h every = both_ways _ (identity_sound c h) (bytes_same c.identity.0 every_clock.0 (ap (λ k. k.0) every))
 
 pub clock_made : (c : ClockEntryValue) (y : ClockValue) → clock_of c ≡ Ok y
     → (record { name = c.name; start = c.start; ports = all_ports c } ≡ y)

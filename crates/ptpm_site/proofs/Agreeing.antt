@@ -3,11 +3,12 @@ use Rattle.std.proofs.Common.{◌≡◌, Bool, true, false, ◌&&◌, cond, List
 use Rattle.std.proofs.lemmas.Bool.{true≢false}
 use Rattle.std.specs.List.{cons_option, find, list_all}
 use Rattle.std.specs.Option.{option_eq, option_map, option_or}
+use Rattle.ptpm_members.specs.declared.names.Member.{Member}
+use Rattle.ptpm_members.specs.Values.{Said}
 use Rattle.ptpm_site.specs.declared.changes.Contradiction.{Contradiction}
 use Rattle.ptpm_site.specs.declared.clock.Received.{Received}
-use Rattle.ptpm_site.specs.declared.member.Member.{Member}
 use Rattle.ptpm_site.specs.Changes.{Statement, are_held, contradiction, contradicts, first_contradicting, is_alike, is_settled, pairs_behind, pairs_of, statements}
-use Rattle.ptpm_site.specs.Members.{MemberValue, same_value}
+use Rattle.ptpm_site.specs.Members.{same_value}
 use Rattle.ptpm_site.proofs.KeptStatements.{left_of, not_if_alike, right_of}
 use Rattle.ptpm_site.proofs.Pairs.{change_with, first_contradicting-next}
 use Rattle.ptpm_site.proofs.Values.{is_alike-same, same_value-equiv}
@@ -20,15 +21,15 @@ both_parts false q h k = h
 
 -- ---- statements of one value
 
-abbrev say : MemberValue → Statement → Bool
+abbrev say : Said → Statement → Bool
 say v s = same_value v s.value
 
-all_and : (v : MemberValue) (xs : List Statement) (y : Statement) → list_all (say v) xs ≡ true → say v y ≡ true → list_all (say v) (xs ++ y ∷ []) ≡ true
+all_and : (v : Said) (xs : List Statement) (y : Statement) → list_all (say v) xs ≡ true → say v y ≡ true → list_all (say v) (xs ++ y ∷ []) ≡ true
 all_and v [] y h k = both_parts (say v y) true k refl
 all_and v (x ∷ xs) y h k =
     both_parts (say v x) (list_all (say v) (xs ++ y ∷ [])) (left_of (say v x) (list_all (say v) xs) h) (all_and v xs y (right_of (say v x) (list_all (say v) xs) h) k)
 
-none_earlier : (how : Contradiction) (v : MemberValue) (later : Statement) (earlier : List Statement)
+none_earlier : (how : Contradiction) (v : Said) (later : Statement) (earlier : List Statement)
     → say v later ≡ true → list_all (say v) earlier ≡ true → find (λ e. contradicts how e later) earlier ≡ None
 none_earlier how v later [] k h = refl
 none_earlier how v later (e ∷ es) k h =
@@ -37,7 +38,7 @@ none_earlier how v later (e ∷ es) k h =
     (not_if_alike (is_settled e.value) (are_held how e.request later.request) (is_alike e.value later.value) (is_alike-same e.value later.value one))
     ∙ none_earlier how v later es k (right_of (say v e) (list_all (say v) es) h)
 
-none_contradicting : (how : Contradiction) (m : Member) (v : MemberValue) (earlier xs : List Statement)
+none_contradicting : (how : Contradiction) (m : Member) (v : Said) (earlier xs : List Statement)
     → list_all (say v) earlier ≡ true → list_all (say v) xs ≡ true → first_contradicting how m (pairs_behind earlier xs) ≡ None
 none_contradicting how m v earlier [] h k = refl
 none_contradicting how m v earlier (x ∷ xs) h k =
@@ -48,8 +49,8 @@ none_contradicting how m v earlier (x ∷ xs) h k =
 
 -- ---- answers that say one value, or none
 
-module _ {A : Type 0} (says : A → Member → Option MemberValue) (m : Member) where
-  say_value : (v : MemberValue) (h : Received A) (o : Option MemberValue) (hs : List (Received A))
+module _ {A : Type 0} (says : A → Member → Option Said) (m : Member) where
+  say_value : (v : Said) (h : Received A) (o : Option Said) (hs : List (Received A))
       → says h.set m ≡ o
       → option_eq same_value (Some v) o && list_all (λ x. option_eq same_value (Some v) (says x.set m)) hs ≡ true
       → (list_all (λ x. option_eq same_value (Some v) (says x.set m)) hs ≡ true → list_all (say v) (statements says m hs) ≡ true)
@@ -61,11 +62,11 @@ module _ {A : Type 0} (says : A → Member → Option MemberValue) (m : Member) 
       (left_of (same_value v w) (list_all (λ x. option_eq same_value (Some v) (says x.set m)) hs) k)
       (rest (right_of (same_value v w) (list_all (λ x. option_eq same_value (Some v) (says x.set m)) hs) k))
 
-  all_say : (v : MemberValue) (hs : List (Received A)) → list_all (λ x. option_eq same_value (Some v) (says x.set m)) hs ≡ true → list_all (say v) (statements says m hs) ≡ true
+  all_say : (v : Said) (hs : List (Received A)) → list_all (λ x. option_eq same_value (Some v) (says x.set m)) hs ≡ true → list_all (say v) (statements says m hs) ≡ true
   all_say v [] h = refl
   all_say v (x ∷ xs) h = say_value v x (says x.set m) xs refl h (all_say v xs)
 
-  say_none : (h : Received A) (o : Option MemberValue) (hs : List (Received A))
+  say_none : (h : Received A) (o : Option Said) (hs : List (Received A))
       → says h.set m ≡ o
       → option_eq same_value None o && list_all (λ x. option_eq same_value None (says x.set m)) hs ≡ true
       → (list_all (λ x. option_eq same_value None (says x.set m)) hs ≡ true → statements says m hs ≡ [])
@@ -79,7 +80,7 @@ module _ {A : Type 0} (says : A → Member → Option MemberValue) (m : Member) 
   none_say (x ∷ xs) h = say_none x (says x.set m) xs refl h (none_say xs)
 
   -- with the first
-  agree : (how : Contradiction) (first : Received A) (o : Option MemberValue) (others : List (Received A))
+  agree : (how : Contradiction) (first : Received A) (o : Option Said) (others : List (Received A))
       → says first.set m ≡ o
       → list_all (λ h. option_eq same_value o (says h.set m)) others ≡ true
       → first_contradicting how m (pairs_of (statements says m (first ∷ others))) ≡ None

@@ -6,13 +6,13 @@ use Rattle.std.proofs.lemmas.Cmp.{on_equiv}
 use Rattle.std.specs.List.{find}
 use Rattle.std.specs.Option.{option_or}
 use Rattle.std.proofs.lemmas.List.Folds.{find-append}
+use Rattle.ptpm_members.specs.Values.{said}
 use Rattle.ptpm_site.specs.declared.changes.Contradiction.TheVariants as sort
 use Rattle.ptpm_site.specs.declared.changes.KeptStatements.{KeptStatements}
 use Rattle.ptpm_site.specs.declared.changes.KeptStatements.TheVariants as kept
 use Rattle.ptpm_site.specs.declared.changes.Stated.{Stated}
 use Rattle.ptpm_site.specs.Changes.{Statement, contradicts, is_alike, is_settled, same_request}
 use Rattle.ptpm_site.specs.KeptStatements.{StandsFor, kept_statements, same_statement, statement}
-use Rattle.ptpm_site.specs.Members.{value_of}
 use Rattle.ptpm_site.proofs.Values.{is_alike-equiv, same_request-equiv}
 
 -- ---- tests
@@ -146,7 +146,7 @@ unsettled y z h = ap (λ b. b && not (requests y z) && not (values y z)) h
 pub stands-unsettled : (s : KeptStatements) (seen : List Statement) (y : Statement) → is_settled y.value ≡ false → StandsFor s seen → StandsFor s (seen ++ y ∷ [])
 stands-unsettled s seen y h stands = stays s seen y stands (λ z k. unsettled y z h)
 
-pub stands-first : (seen : List Statement) (y : Stated) → is_settled (value_of y.value) ≡ true
+pub stands-first : (seen : List Statement) (y : Stated) → is_settled (said y.value) ≡ true
     → StandsFor kept.Nothing seen → StandsFor (kept.One y) (seen ++ statement y ∷ [])
 stands-first seen y settled stands = record {
   in_order = settled;
@@ -174,7 +174,7 @@ two_stand : {A : Type 0} (p q : Bool) (x y : A) → option_or (cond p (Some x) N
 two_stand true q x y = refl
 two_stand false q x y = refl
 
-pub stands-other : (seen : List Statement) (f y : Stated) → is_settled (value_of y.value) ≡ true → same_statement (statement f) (statement y) ≡ false
+pub stands-other : (seen : List Statement) (f y : Stated) → is_settled (said y.value) ≡ true → same_statement (statement f) (statement y) ≡ false
     → find (λ e. changed e (statement y)) seen ≡ None
     → StandsFor (kept.One f) seen → StandsFor (kept.Two f y) (seen ++ statement y ∷ [])
 stands-other seen f y settled unlike none stands = record {

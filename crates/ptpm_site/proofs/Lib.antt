@@ -8,6 +8,7 @@ pub mod Clocks
 pub mod Counting
 pub mod DatagramLemmas
 pub mod Dropped
+pub mod Filling
 pub mod Followed
 pub mod Growth
 pub mod Hearing

@@ -3,10 +3,10 @@ use Rattle.std.proofs.Common.{◌≡◌, Bool, true, false, cond, List, [], ◌�
 use Rattle.std.specs.List.{find}
 use Rattle.std.specs.Option.{option_map, option_or}
 use Rattle.std.proofs.lemmas.List.Folds.{find-append}
+use Rattle.ptpm_members.specs.declared.names.Member.{Member}
+use Rattle.ptpm_members.specs.Values.{Said}
 use Rattle.ptpm_site.specs.declared.changes.Contradiction.{Contradiction}
-use Rattle.ptpm_site.specs.declared.member.Member.{Member}
 use Rattle.ptpm_site.specs.Changes.{MemberChange, Statement, contradicts, first_contradicting, pairs_behind}
-use Rattle.ptpm_site.specs.Members.{MemberValue}
 
 find-map : {A B : Type 0} (q : B → Bool) (f : A → B) (xs : List A) → find q (map f xs) ≡ option_map f (find (λ x. q (f x)) xs)
 find-map q f [] = refl
@@ -17,7 +17,7 @@ find-map q f (x ∷ xs) =
     ]
 
 -- what is reported of a pair whose later statement is this
-abbrev pub change_with : Member → Statement → MemberValue → MemberChange
+abbrev pub change_with : Member → Statement → Said → MemberChange
 change_with m later before = record { member = m; before = before; after = later.value }
 
 change_of_pair : (m : Member) (later : Statement) (o : Option Statement) (rest : Option (Statement × Statement))

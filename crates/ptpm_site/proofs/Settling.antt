@@ -7,13 +7,13 @@ use Rattle.std.specs.List.{find}
 use Rattle.std.specs.Option.{is_some, option_map, option_and_then, option_or}
 use Rattle.std.specs.Ordering.{eq_by_cmp}
 use Rattle.std.proofs.lemmas.List.Folds.{find-append}
+use Rattle.ptpm_members.specs.declared.values.MemberValue.{MemberValue}
+use Rattle.ptpm_members.specs.Values.{Said, said}
 use Rattle.ptpm_site.specs.declared.answer.Request.{Request}
 use Rattle.ptpm_site.specs.declared.changes.Contradiction.TheVariants as sort
 use Rattle.ptpm_site.specs.declared.changes.Settled.{Settled}
-use Rattle.ptpm_site.specs.declared.member.Value.{Value}
 use Rattle.ptpm_site.specs.Changes.{Statement, contradicts, is_alike, is_settled, same_request}
 use Rattle.ptpm_site.specs.KeptStatements.{KeepsFirstValues, if_other, request_cmp, settled_of, settled_otherwise}
-use Rattle.ptpm_site.specs.Members.{MemberValue, value_of}
 use Rattle.ptpm_site.proofs.KeptStatements.{not_if_alike, nothing_more, or_none}
 use Rattle.ptpm_site.proofs.Values.{is_alike-equiv, same_request-Decides}
 
@@ -59,7 +59,7 @@ apart : (s t v : Bool) → t ≡ false → s && t && v ≡ false
 apart true t v h = ap (λ b. b && v) h
 apart false t v h = refl
 
-none_other : (now before : MemberValue) → if_other now before ≡ None → is_alike before now ≡ true
+none_other : (now before : Said) → if_other now before ≡ None → is_alike before now ≡ true
 none_other now before h = by_test (is_alike before now) h where
   by_test : (b : Bool) → cond b None (Some before) ≡ None → b ≡ true
   by_test true e = refl
@@ -78,7 +78,7 @@ cases true f g = f refl
 cases false f g = g refl
 
 -- a request that has a kept value shows each contradiction of a statement that says the same
-pub keeps-known : (s : Settled) (seen : List Statement) (y : Statement) (before : MemberValue)
+pub keeps-known : (s : Settled) (seen : List Statement) (y : Statement) (before : Said)
     → settled_of s y.request ≡ Some before
     → find (λ e. twice e y) seen ≡ None
     → KeepsFirstValues s seen → KeepsFirstValues s (seen ++ y ∷ [])
@@ -97,7 +97,7 @@ keeps-known s seen y before kept none keeps = stays s seen y keeps (λ z k.
           ∙ none_other z.value before (ap (option_and_then (if_other z.value)) (sym here) ∙ k)
 
 -- a request that has none gets its first value
-first_here : (s t v : Bool) (x : MemberValue) → s ≡ true → t ≡ true → cond (s && t && not v) (Some x) None ≡ cond v None (Some x)
+first_here : (s t v : Bool) (x : Said) → s ≡ true → t ≡ true → cond (s && t && not v) (Some x) None ≡ cond v None (Some x)
 first_here true true true x h k = refl
 first_here true true false x h k = refl
 first_here true false v x h k = absurd (true≢false (sym k))
@@ -127,22 +127,22 @@ keeps-new s next seen y absent settled updates keeps = record {
 
 -- ---- in the map
 
-value_if : (b : Bool) (v : Value) (o : Option Value) → option_map value_of (cond b (Some v) o) ≡ cond b (Some (value_of v)) (option_map value_of o)
+value_if : (b : Bool) (v : MemberValue) (o : Option MemberValue) → option_map said (cond b (Some v) o) ≡ cond b (Some (said v)) (option_map said o)
 value_if true v o = refl
 value_if false v o = refl
 
-pub updated : (old new : BTreeMap Request Value) (k : Request) (v : Value)
+pub updated : (old new : BTreeMap Request MemberValue) (k : Request) (v : MemberValue)
     → ((q : Request) → get request_cmp new q ≡ cond (is_at (request_cmp k) q) (Some v) (get request_cmp old q))
-    → (r : Request) → option_map value_of (get request_cmp new r) ≡ cond (same_request k r) (Some (value_of v)) (option_map value_of (get request_cmp old r))
+    → (r : Request) → option_map said (get request_cmp new r) ≡ cond (same_request k r) (Some (said v)) (option_map said (get request_cmp old r))
 updated old new k v updates r =
-    ap (option_map value_of) (updates r) ∙ value_if (is_at (request_cmp k) r) v (get request_cmp old r)
-    ∙ ap (λ b. cond b (Some (value_of v)) (option_map value_of (get request_cmp old r))) (tied_requests k r)
+    ap (option_map said) (updates r) ∙ value_if (is_at (request_cmp k) r) v (get request_cmp old r)
+    ∙ ap (λ b. cond b (Some (said v)) (option_map said (get request_cmp old r))) (tied_requests k r)
 
-pub known : (s : Settled) (r : Request) → is_some (get request_cmp s.first r) ≡ true → (x : MemberValue) × (settled_of s r ≡ Some x)
-known s r h = (value_of (some_value (get request_cmp s.first r) h).0, ap (option_map value_of) (some_value (get request_cmp s.first r) h).1)
+pub known : (s : Settled) (r : Request) → is_some (get request_cmp s.first r) ≡ true → (x : Said) × (settled_of s r ≡ Some x)
+known s r h = (said (some_value (get request_cmp s.first r) h).0, ap (option_map said) (some_value (get request_cmp s.first r) h).1)
 
 pub absent : (s : Settled) (r : Request) → is_some (get request_cmp s.first r) ≡ false → settled_of s r ≡ None
-absent s r h = no_value value_of (get request_cmp s.first r) (none_from (get request_cmp s.first r) h) where
-  none_from : (o : Option Value) → is_some o ≡ false → o ≡ None
+absent s r h = no_value said (get request_cmp s.first r) (none_from (get request_cmp s.first r) h) where
+  none_from : (o : Option MemberValue) → is_some o ≡ false → o ≡ None
   none_from None k = refl
   none_from (Some x) k = cc

@@ -6,18 +6,18 @@ use Rattle.std.proofs.Math.Seq.{drop-cons, drop-length}
 use Rattle.std.proofs.lemmas.List.{take_more, append-nil}
 use Rattle.std.proofs.lemmas.List.Elements.{filter_map-append}
 use Rattle.std.specs.List.{find}
+use Rattle.ptpm_members.specs.declared.names.Member.{Member}
+use Rattle.ptpm_members.specs.Values.{Said}
 use Rattle.ptpm_site.specs.declared.changes.Contradiction.{Contradiction}
 use Rattle.ptpm_site.specs.declared.clock.Received.{Received}
-use Rattle.ptpm_site.specs.declared.member.Member.{Member}
 use Rattle.ptpm_site.specs.Changes.{MemberChange, Statement, contradiction, contradicts, first_contradicting, pairs_behind, statement_of, statements}
-use Rattle.ptpm_site.specs.Members.{MemberValue}
 use Rattle.ptpm_site.proofs.Pairs.{change_with, first_contradicting-next}
 
 -- the first two, if the later one is one of the answers from a place on
-abbrev pub ahead : {A : Type 0} → Contradiction → (A → Member → Option MemberValue) → Member → List (Received A) → ℕ → Option MemberChange
+abbrev pub ahead : {A : Type 0} → Contradiction → (A → Member → Option Said) → Member → List (Received A) → ℕ → Option MemberChange
 ahead c says m received i = first_contradicting c m (pairs_behind (statements says m (take i received)) (statements says m (drop i received)))
 
-module _ {A : Type 0} (says : A → Member → Option MemberValue) (m : Member) (received : List (Received A)) (i : ℕ) (x : Received A)
+module _ {A : Type 0} (says : A → Member → Option Said) (m : Member) (received : List (Received A)) (i : ℕ) (x : Received A)
     (within : i < length received) (is : x ≡ get_or received i x) where
   one_or_none : (o : Option Statement) → cons_option o [] ≡ option_to_list o
   one_or_none None = refl
@@ -59,7 +59,7 @@ module _ {A : Type 0} (says : A → Member → Option MemberValue) (m : Member) 
       (first_contradicting c m (pairs_behind l (statements says m (drop (i + 1) received))))) (sym (taken-some y h))
 
   -- an answer that says otherwise than an earlier one, and one that does not
-  pub ahead-found : (c : Contradiction) (y : Statement) (before : MemberValue) → statement_of says m x ≡ Some y
+  pub ahead-found : (c : Contradiction) (y : Statement) (before : Said) → statement_of says m x ≡ Some y
       → option_map (λ e. e.value) (find (λ e. contradicts c e y) (statements says m (take i received))) ≡ Some before
       → ahead c says m received i ≡ Some (change_with m y before)
   ahead-found c y before h found =
@@ -72,11 +72,11 @@ module _ {A : Type 0} (says : A → Member → Option MemberValue) (m : Member) 
       ahead-some c y h ∙ ap (λ o. option_or (option_map (change_with m y) (option_map (λ e. e.value) o)) (ahead c says m received (i + 1))) none
 
 -- none is taken yet, and none is left
-pub ahead-first : {A : Type 0} (c : Contradiction) (says : A → Member → Option MemberValue) (m : Member) (received : List (Received A)) → contradiction c says m received ≡ ahead c says m received 0
+pub ahead-first : {A : Type 0} (c : Contradiction) (says : A → Member → Option Said) (m : Member) (received : List (Received A)) → contradiction c says m received ≡ ahead c says m received 0
 unfolding contradiction
 ahead-first c says m received = refl
 
-pub ahead-all : {A : Type 0} (c : Contradiction) (says : A → Member → Option MemberValue) (m : Member) (received : List (Received A)) → ahead c says m received (length received) ≡ None
+pub ahead-all : {A : Type 0} (c : Contradiction) (says : A → Member → Option Said) (m : Member) (received : List (Received A)) → ahead c says m received (length received) ≡ None
 ahead-all c says m received = ap (λ l. first_contradicting c m (pairs_behind (statements says m (take (length received) received)) (statements says m l))) (drop-length received)
 
 pub no_value : {A B : Type 0} (f : A → B) (o : Option A) → option_map f o ≡ None → o ≡ None

@@ -1,22 +1,20 @@
 -- Two values are the same where they are one.
-use Rattle.std.proofs.Common.{◌≡◌, Bool, true, false, ◌&&◌, Option, Some, None, refl, ap, ◌∙◌}
+use Rattle.std.proofs.Common.{◌≡◌, Bool, true, false, ◌&&◌, refl, ap, ◌∙◌}
 use Rattle.std.specs.Bool.{Decides}
 use Rattle.std.specs.Cmp.{IsEquivalence, booleans_Decides, decided, unsigned_Decides}
-use Rattle.std.specs.Option.{option_eq}
 use Rattle.std.proofs.lemmas.Cmp.{on_equiv}
 use Rattle.std.proofs.lemmas.Bool.Decides.{Decides-int_eq}
 use Rattle.std.proofs.lemmas.Slice.Eq.{bytes_eq-Decides}
 use Rattle.ptpm_codec.specs.Identity.{same_clock, same_identity}
 use Rattle.ptpm_codec.specs.declared.identity.ClockIdentity.{ClockIdentity}
 use Rattle.ptpm_codec.specs.declared.identity.PortIdentity.{PortIdentity}
-use Rattle.ptpm_data.specs.declared.port_state.PortState.{PortState}
-use Rattle.ptpm_data.specs.declared.port_state.PortState.TheVariants as states
+use Rattle.ptpm_members.specs.declared.number_names.Enumeration.{Enumeration}
+use Rattle.ptpm_members.specs.declared.number_names.Enumeration.TheVariants as enumerations
+use Rattle.ptpm_members.specs.declared.values.ClockQuality.{ClockQuality}
+use Rattle.ptpm_members.specs.Values.{Said, Clock, Clocks, Flag, Interval, Named, Octets, Port, Quality, Signed, Text, Unsigned}
 use Rattle.ptpm_site.specs.declared.answer.Request.{Request}
-use Rattle.ptpm_site.specs.declared.data_sets.ClockQuality.{ClockQuality}
-use Rattle.ptpm_site.specs.declared.data_sets.DelayMechanism.{DelayMechanism}
-use Rattle.ptpm_site.specs.declared.data_sets.DelayMechanism.TheVariants as mechanisms
 use Rattle.ptpm_site.specs.Changes.{as_settled, is_alike, same_request}
-use Rattle.ptpm_site.specs.Members.{MemberValue, Clock, Flag, Mechanism, Number, Port, Quality, State, Text, same_mechanism, same_quality, same_state, same_value}
+use Rattle.ptpm_site.specs.Members.{same_enumeration, same_quality, same_value}
 
 -- ---- tests
 
@@ -30,30 +28,12 @@ decides_by d f g = (λ h. f (d.0 h), λ q. d.1 (g q))
 
 -- ---- parts of values
 
-option_eq-Decides : {A : Type 0} {E : A → A → Bool} → ((a b : A) → Decides (E a b) (a ≡ b)) → (a b : Option A) → Decides (option_eq E a b) (a ≡ b)
-option_eq-Decides d None None = (λ e. refl, λ e. refl)
-option_eq-Decides d (Some a) (Some b) = (λ e. ap Some ((d a b).0 e), λ e. (d a b).1 cc)
-option_eq-Decides d a b = (λ e. cc, λ e. cc)
-
-same_state-Decides : (a b : PortState) → Decides (same_state a b) (a ≡ b)
-same_state-Decides states.Initializing states.Initializing = (λ e. refl, λ e. refl)
-same_state-Decides states.Faulty states.Faulty = (λ e. refl, λ e. refl)
-same_state-Decides states.Disabled states.Disabled = (λ e. refl, λ e. refl)
-same_state-Decides states.Listening states.Listening = (λ e. refl, λ e. refl)
-same_state-Decides states.PreMaster states.PreMaster = (λ e. refl, λ e. refl)
-same_state-Decides states.Master states.Master = (λ e. refl, λ e. refl)
-same_state-Decides states.Passive states.Passive = (λ e. refl, λ e. refl)
-same_state-Decides states.Uncalibrated states.Uncalibrated = (λ e. refl, λ e. refl)
-same_state-Decides states.Slave states.Slave = (λ e. refl, λ e. refl)
-same_state-Decides a b = (λ e. cc, λ e. cc)
-
-same_mechanism-Decides : (a b : DelayMechanism) → Decides (same_mechanism a b) (a ≡ b)
-same_mechanism-Decides mechanisms.EndToEnd mechanisms.EndToEnd = (λ e. refl, λ e. refl)
-same_mechanism-Decides mechanisms.PeerToPeer mechanisms.PeerToPeer = (λ e. refl, λ e. refl)
-same_mechanism-Decides mechanisms.CommonPeerToPeer mechanisms.CommonPeerToPeer = (λ e. refl, λ e. refl)
-same_mechanism-Decides mechanisms.Special mechanisms.Special = (λ e. refl, λ e. refl)
-same_mechanism-Decides mechanisms.NoMechanism mechanisms.NoMechanism = (λ e. refl, λ e. refl)
-same_mechanism-Decides a b = (λ e. cc, λ e. cc)
+same_enumeration-Decides : (a b : Enumeration) → Decides (same_enumeration a b) (a ≡ b)
+same_enumeration-Decides enumerations.PortState enumerations.PortState = (λ e. refl, λ e. refl)
+same_enumeration-Decides enumerations.DelayMechanism enumerations.DelayMechanism = (λ e. refl, λ e. refl)
+same_enumeration-Decides enumerations.TimeSource enumerations.TimeSource = (λ e. refl, λ e. refl)
+same_enumeration-Decides enumerations.Timestamping enumerations.Timestamping = (λ e. refl, λ e. refl)
+same_enumeration-Decides a b = (λ e. cc, λ e. cc)
 
 same_quality-Decides : (a b : ClockQuality) → Decides (same_quality a b) (a ≡ b)
 same_quality-Decides a b =
@@ -73,18 +53,22 @@ same_identity-Decides a b =
 -- ---- values, and requests
 
 -- at values of one kind
-of_kind : {A : Type 0} {a b : A} {t : Bool} (f : A → MemberValue) → (f a ≡ f b → a ≡ b) → Decides t (a ≡ b) → Decides t (f a ≡ f b)
+of_kind : {A : Type 0} {a b : A} {t : Bool} (f : A → Said) → (f a ≡ f b → a ≡ b) → Decides t (a ≡ b) → Decides t (f a ≡ f b)
 of_kind f inside d = (λ e. ap f (d.0 e), λ e. d.1 (inside e))
 
-same_value-Decides : (a b : MemberValue) → Decides (same_value a b) (a ≡ b)
+same_value-Decides : (a b : Said) → Decides (same_value a b) (a ≡ b)
+same_value-Decides (Unsigned a) (Unsigned b) = of_kind Unsigned (λ e. cc) (unsigned_Decides a b)
+same_value-Decides (Signed a) (Signed b) = of_kind Signed (λ e. cc) (Decides-int_eq a b)
 same_value-Decides (Flag a) (Flag b) = of_kind Flag (λ e. cc) (booleans_Decides a b)
-same_value-Decides (Number a) (Number b) = of_kind Number (λ e. cc) (Decides-int_eq a b)
-same_value-Decides (Quality a) (Quality b) = of_kind Quality (λ e. cc) (same_quality-Decides a b)
+same_value-Decides (Interval a) (Interval b) = of_kind Interval (λ e. cc) (Decides-int_eq a b)
 same_value-Decides (Clock a) (Clock b) = of_kind Clock (λ e. cc) (same_clock-Decides a b)
 same_value-Decides (Port a) (Port b) = of_kind Port (λ e. cc) (same_identity-Decides a b)
-same_value-Decides (State a) (State b) = of_kind State (λ e. cc) (option_eq-Decides same_state-Decides a b)
-same_value-Decides (Mechanism a) (Mechanism b) = of_kind Mechanism (λ e. cc) (option_eq-Decides same_mechanism-Decides a b)
+same_value-Decides (Named e a) (Named f b) =
+    decides_by (both _ _ (same_enumeration-Decides e f) (unsigned_Decides a b)) (λ h i. Named (h.0 i) (h.1 i)) (λ h. (cc, cc))
+same_value-Decides (Quality a) (Quality b) = of_kind Quality (λ e. cc) (same_quality-Decides a b)
 same_value-Decides (Text a) (Text b) = of_kind Text (λ e. cc) (bytes_eq-Decides a b)
+same_value-Decides (Octets a) (Octets b) = of_kind Octets (λ e. cc) (bytes_eq-Decides a b)
+same_value-Decides (Clocks a) (Clocks b) = of_kind Clocks (λ e. cc) (bytes_eq-Decides a b)
 same_value-Decides a b = (λ e. cc, λ e. cc)
 
 pub same_value-equiv : IsEquivalence same_value
@@ -103,5 +87,5 @@ same_request-equiv = decided same_request same_request-Decides
 pub is_alike-equiv : IsEquivalence is_alike
 is_alike-equiv = on_equiv as_settled same_value-equiv
 
-pub is_alike-same : (a b : MemberValue) → same_value a b ≡ true → is_alike a b ≡ true
+pub is_alike-same : (a b : Said) → same_value a b ≡ true → is_alike a b ≡ true
 is_alike-same a b h = ap (λ v. is_alike v b) ((same_value-Decides a b).0 h) ∙ is_alike-equiv.refl b

@@ -1,5 +1,6 @@
 -- Offsets and delays beyond what is allowed: `offset` and `delay`. A TimeInterval is nanoseconds times 2^16 (IEEE 1588-2019, 5.3.2).
 use Rattle.std.specs.Prelude.{ℕ, ℤ, ◌*◌, ◌&&◌, Bool, not, nat_lt, unsigned_abs, Option, Some, None, if◌then◌else◌, option_and_then}
+use Rattle.ptpm_data.specs.PortState.{state_of}
 use Rattle.ptpm_site.specs.declared.data_sets.PortDataSet.{PortDataSet}
 use Rattle.ptpm_site.specs.declared.limits.Limits.{Limits}
 use Rattle.ptpm_site.specs.declared.port_groups.PortGroup.TheVariants as groups
@@ -29,4 +30,4 @@ large_delay site s limit = option_and_then (λ _. option_and_then (λ c. beyond 
 
 -- meanLinkDelay of a port in SLAVE or UNCALIBRATED with P2P or COMMON_P2P
 abbrev pub large_link_delay : PortDataSet → Option ℕ → Option ℤ
-large_link_delay set limit = if is_following set.state && measures_link set.delay_mechanism then beyond set.mean_link_delay limit else None
+large_link_delay set limit = if is_following (state_of set.state) && measures_link set.delay_mechanism then beyond set.mean_link_delay limit else None

@@ -6,6 +6,7 @@ use Rattle.std.specs.Option.{option_map_or}
 use Rattle.ptpm_codec.specs.declared.identity.PortIdentity.{PortIdentity}
 use Rattle.ptpm_data.specs.declared.port_state.PortState.{PortState}
 use Rattle.ptpm_data.specs.declared.port_state.PortState.TheVariants as states
+use Rattle.ptpm_data.specs.PortState.{state_of}
 use Rattle.ptpm_site.specs.declared.announcing.Seldom.{Seldom}
 use Rattle.ptpm_site.specs.declared.answer.Request.{Request}
 use Rattle.ptpm_site.specs.declared.arrival.SourcePort.{SourcePort}
@@ -39,7 +40,7 @@ takes_time site s state = is_following state || is_listening state && has_one_po
 
 -- in one of the answers a port was not in SLAVE
 abbrev pub left_slave : List (Received PortDataSet) → Bool
-left_slave received = list_any (λ h. not (is_slave h.set.state)) received
+left_slave received = list_any (λ h. not (is_slave (state_of h.set.state))) received
 
 -- the port that a clock follows
 abbrev pub port_above : Source → PortIdentity → SourcePort
@@ -51,7 +52,7 @@ parent_log site p above = option_map_or (λ a. a.log) (announced_by_port site.he
 
 abbrev pub seldom_by : SiteAnswers → Source → PortIdentity → PortDataSet → ℤ → Option Seldom
 seldom_by site s parent own log =
-    if takes_time site s own.state && is_too_seldom own log
+    if takes_time site s (state_of own.state) && is_too_seldom own log
     then Some (record { log_announce = own.log_announce; timeout = own.receipt_timeout; parent = parent; parent_log = log }) else None
 
 -- one that announces by unicast says no interval

@@ -4,6 +4,10 @@ use Rattle.std.specs.List.{flat_map, list_all}
 use Rattle.std.specs.Option.{option_map, option_map_or, option_to_list}
 use Rattle.ptpm_codec.specs.Identity.{same_clock}
 use Rattle.ptpm_codec.specs.declared.identity.ClockIdentity.{ClockIdentity}
+use Rattle.ptpm_data.specs.PortState.{state_of}
+use Rattle.ptpm_members.specs.declared.names.Member.{Member}
+use Rattle.ptpm_members.specs.declared.number_names.Enumeration.TheVariants as enumerations
+use Rattle.ptpm_members.specs.Values.{Said as MemberSaid, Named}
 use Rattle.ptpm_site.specs.declared.asked.Asked.{Asked}
 use Rattle.ptpm_site.specs.declared.changes.Contradiction.{Contradiction}
 use Rattle.ptpm_site.specs.declared.changes.Contradiction.TheVariants as sort
@@ -19,7 +23,6 @@ use Rattle.ptpm_site.specs.declared.finding.What.{What}
 use Rattle.ptpm_site.specs.declared.finding.What.TheVariants as what
 use Rattle.ptpm_site.specs.declared.grandmaster_changes.GrandmasterChange.{GrandmasterChange}
 use Rattle.ptpm_site.specs.declared.limits.Limits.{Limits}
-use Rattle.ptpm_site.specs.declared.member.Member.{Member}
 use Rattle.ptpm_site.specs.declared.source.Source.{Source}
 use Rattle.ptpm_site.specs.declared.tai_and_utc.OffByUtc.TheVariants as shows
 use Rattle.ptpm_site.specs.Amounts.{large_delay, large_link_delay, large_offset}
@@ -34,7 +37,7 @@ use Rattle.ptpm_site.specs.GrandmasterChanges.{grandmaster_changes}
 use Rattle.ptpm_site.specs.Grandmasters.{is_one_of_two, leads, masterless_reason, unseen_grandmaster}
 use Rattle.ptpm_site.specs.Leading.{better_clock, without_source, invalid_offset, announced_leap, not_traceable, wrong_offset}
 use Rattle.ptpm_site.specs.Loops.{loop_of}
-use Rattle.ptpm_site.specs.Members.{MemberValue, State, current_members, current_says, default_members, default_says, description_members, description_says, is_moving, is_of_grandmaster, parent_members, parent_says, port_members, port_says, time_members, time_says}
+use Rattle.ptpm_site.specs.Members.{current_members, current_says, default_members, default_says, description_members, description_says, is_moving, is_of_grandmaster, parent_members, parent_says, port_members, port_says, time_members, time_says}
 use Rattle.ptpm_site.specs.Origins.{utc_by_host}
 use Rattle.ptpm_site.specs.Parents.{no_master_port, unseen_parent, wrong_steps}
 use Rattle.ptpm_site.specs.Reach.{out_of_reach}
@@ -95,7 +98,7 @@ link_delays_found site limits s = if is_some (followed site s) then flat_map (li
 -- delayMechanism of a port that takes time, if it does not fit that of the port that its clock follows
 unfoldable pub mechanism_found : SiteAnswers → Source → ℕ → List Finding
 mechanism_found site s n = found_each (compared.Port n) s (option_map_or (λ own. option_map_or (λ set.
-    option_map_or (λ parent. if takes_time site s set.state then mechanism_differs set parent ∷ [] else [])
+    option_map_or (λ parent. if takes_time site s (state_of set.state) then mechanism_differs set parent ∷ [] else [])
     (site.port (beside s own.parent.clock) own.parent.port) [])
     (site.port s n) []) (site.parent s) [])
 
@@ -192,8 +195,8 @@ pub data Says : Type 0 where
   Otherwise : (how : Contradiction) → (port : Option ℕ) → (change : MemberChange) → Says
 
 -- a change of portState
-abbrev pub is_state_value : MemberValue → Bool
-is_state_value (State state) = true
+abbrev pub is_state_value : MemberSaid → Bool
+is_state_value (Named enumerations.PortState number) = true
 is_state_value _ = false
 
 abbrev pub is_state_change : Says → Bool
@@ -226,12 +229,12 @@ incomplete_reported site s = option_to_list (option_map (λ m. said s (Lacks m.0
 
 -- A member in which two answers differ, unless its value moves though nothing was changed. What a clock that is its own grandmaster
 -- says of that one is passed over.
-unfoldable pub member_reported : {A : Type 0} → Contradiction → Source → Option ℕ → Bool → (A → Member → Option MemberValue) → List (Received A) → Member → List Said
+unfoldable pub member_reported : {A : Type 0} → Contradiction → Source → Option ℕ → Bool → (A → Member → Option MemberSaid) → List (Received A) → Member → List Said
 member_reported how s port is_own says_of received m =
     if is_moving m || is_own && is_of_grandmaster m then [] else option_to_list (option_map (λ change. said s (Otherwise how port change)) (contradiction how says_of m received))
 
 -- each member of a data set in which two answers differ
-unfoldable pub set_reported : {A : Type 0} → Contradiction → Source → Option ℕ → Bool → List Member → (A → Member → Option MemberValue) → List (Received A) → List Said
+unfoldable pub set_reported : {A : Type 0} → Contradiction → Source → Option ℕ → Bool → List Member → (A → Member → Option MemberSaid) → List (Received A) → List Said
 set_reported how s port is_own members says_of received = flat_map (member_reported how s port is_own says_of received) members
 
 unfoldable pub port_set_reported : Contradiction → SiteAnswers → Source → ℕ → List Said

@@ -7,6 +7,7 @@ use Rattle.std.specs.List.{find}
 use Rattle.std.specs.Option.{option_map}
 use Rattle.std.specs.Ordering.{nat_cmp, ordering_then}
 use Rattle.ptpm_codec.specs.Identity.{identity_cmp}
+use Rattle.ptpm_members.specs.Values.{Said, said}
 use Rattle.ptpm_site.specs.declared.answer.Request.{Request}
 use Rattle.ptpm_site.specs.declared.changes.Contradiction.TheVariants as sort
 use Rattle.ptpm_site.specs.declared.changes.Settled.{Settled}
@@ -14,10 +15,9 @@ use Rattle.ptpm_site.specs.declared.changes.KeptStatements.{KeptStatements}
 use Rattle.ptpm_site.specs.declared.changes.KeptStatements.TheVariants as kept
 use Rattle.ptpm_site.specs.declared.changes.Stated.{Stated}
 use Rattle.ptpm_site.specs.Changes.{Statement, contradicts, is_alike, is_settled, same_request}
-use Rattle.ptpm_site.specs.Members.{MemberValue, value_of}
 
 abbrev pub statement : Stated → Statement
-statement s = record { request = s.request; value = value_of s.value }
+statement s = record { request = s.request; value = said s.value }
 
 -- ---- what shows a change
 
@@ -33,9 +33,9 @@ same_statement a b = same_request a.request b.request && is_alike a.value b.valu
 -- those that are kept are settled; two of them are not the same, and neither is a change of the other
 abbrev pub IsInOrder : KeptStatements → Type 0
 IsInOrder kept.Nothing = Unit {0}
-IsInOrder (kept.One first) = is_settled (value_of first.value) ≡ true
+IsInOrder (kept.One first) = is_settled (said first.value) ≡ true
 IsInOrder (kept.Two first other) =
-    (is_settled (value_of first.value) ≡ true) × (is_settled (value_of other.value) ≡ true)
+    (is_settled (said first.value) ≡ true) × (is_settled (said other.value) ≡ true)
     × (same_statement (statement first) (statement other) ≡ false) × (contradicts sort.Changed (statement first) (statement other) ≡ false)
 
 -- whatever comes next, the first statement that it is a change of is the same among those that are kept as among all
@@ -50,14 +50,14 @@ abbrev pub request_cmp : Request → Request → Ordering
 request_cmp a b = ordering_then (identity_cmp a.target b.target) (nat_cmp a.number b.number)
 
 -- the first settled value that was answered to a request
-abbrev pub settled_of : Settled → Request → Option MemberValue
-settled_of s request = option_map value_of (get request_cmp s.first request)
+abbrev pub settled_of : Settled → Request → Option Said
+settled_of s request = option_map said (get request_cmp s.first request)
 
-abbrev pub if_other : MemberValue → MemberValue → Option MemberValue
+abbrev pub if_other : Said → Said → Option Said
 if_other now before = if is_alike before now then None else Some before
 
 -- and that value, if a later statement says another
-abbrev pub settled_otherwise : Settled → Statement → Option MemberValue
+abbrev pub settled_otherwise : Settled → Statement → Option Said
 settled_otherwise s later = option_and_then (if_other later.value) (settled_of s later.request)
 
 -- whatever comes next, the value that is kept is that of the first statement that it contradicts

@@ -4,12 +4,9 @@ use Rattle.std.specs.Int.{bit_at}
 use Rattle.ptpm_codec.specs.Layout.{clock_identity_at, number_at, octet, port_identity_at}
 use Rattle.ptpm_codec.specs.declared.identity.PortIdentity.{PortIdentity}
 use Rattle.ptpm_data.specs.ImageReading.{i16_at, i32_at, i64_at, i8_at}
-use Rattle.ptpm_data.specs.PortState.{state_of}
-use Rattle.ptpm_site.specs.declared.data_sets.ClockQuality.{ClockQuality}
+use Rattle.ptpm_members.specs.declared.values.ClockQuality.{ClockQuality}
 use Rattle.ptpm_site.specs.declared.data_sets.CurrentDataSet.{CurrentDataSet}
 use Rattle.ptpm_site.specs.declared.data_sets.DefaultDataSet.{DefaultDataSet}
-use Rattle.ptpm_site.specs.declared.data_sets.DelayMechanism.{DelayMechanism}
-use Rattle.ptpm_site.specs.declared.data_sets.DelayMechanism.TheVariants as mechanisms
 use Rattle.ptpm_site.specs.declared.data_sets.ParentDataSet.{ParentDataSet}
 use Rattle.ptpm_site.specs.declared.data_sets.PortDataSet.{PortDataSet}
 use Rattle.ptpm_site.specs.declared.data_sets.TimePropertiesDataSet.{TimePropertiesDataSet}
@@ -21,12 +18,6 @@ flag_at place bit octets = bit_at (octet place octets) bit == 1
 -- clockClass, clockAccuracy and offsetScaledLogVariance (5.3.7)
 unfoldable pub quality_at : ℕ → List ℕ → ClockQuality
 quality_at place octets = record { class = octet place octets; accuracy = octet (place + 1) octets; variance = number_at (place + 2) octets }
-
--- how a port measures delay (8.2.15.4.4); none if the number is reserved
-abbrev pub mechanism_of : ℕ → Option DelayMechanism
-mechanism_of n =
-    if n == 1 then Some mechanisms.EndToEnd else if n == 2 then Some mechanisms.PeerToPeer else if n == 3 then Some mechanisms.CommonPeerToPeer
-    else if n == 4 then Some mechanisms.Special else if n == 0xfe then Some mechanisms.NoMechanism else None
 
 -- what a dataField says if it has this length
 abbrev pub of_length : {A : Type 0} → ℕ → List ℕ → A → Option A
@@ -80,13 +71,13 @@ unfoldable pub port_read : List ℕ → Option (PortIdentity × PortDataSet)
 port_read octets = of_length 26 octets (
   port_identity_at 0 octets,
   record {
-    state = state_of (octet 10 octets);
+    state = octet 10 octets;
     log_min_delay_req = i8_at 11 octets;
     mean_link_delay = i64_at 12 octets;
     log_announce = i8_at 20 octets;
     receipt_timeout = octet 21 octets;
     log_sync = i8_at 22 octets;
-    delay_mechanism = mechanism_of (octet 23 octets);
+    delay_mechanism = octet 23 octets;
     log_min_pdelay = i8_at 24 octets;
     version = octet 25 octets % 16;
   },

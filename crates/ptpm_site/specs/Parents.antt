@@ -2,6 +2,7 @@
 use Rattle.std.specs.Prelude.{ℕ, ◌==◌, ◌+◌, ◌||◌, Bool, false, nat_lt, Option, Some, None, if◌then◌else◌, option_and_then}
 use Rattle.std.specs.Option.{option_map, option_map_or}
 use Rattle.ptpm_codec.specs.declared.identity.PortIdentity.{PortIdentity}
+use Rattle.ptpm_data.specs.PortState.{state_of}
 use Rattle.ptpm_site.specs.declared.parents.NoMaster.{NoMaster}
 use Rattle.ptpm_site.specs.declared.parents.NoMaster.TheVariants as why
 use Rattle.ptpm_site.specs.declared.parents.Steps.{Steps}
@@ -22,7 +23,7 @@ lacks_port site s n = n == 0 || option_map_or (λ d. nat_lt d.number_of_ports n)
 abbrev pub why_no_master : SiteAnswers → Source → ℕ → Option NoMaster
 why_no_master site s n =
     if lacks_port site s n then Some why.NoPort
-    else option_and_then (λ set. if is_leading set.state then None else Some (why.InState set.state)) (site.port s n)
+    else option_and_then (λ set. if is_leading (state_of set.state) then None else Some (why.InState set.state)) (site.port s n)
 
 -- the port that it follows, if that port's clock is seen and the port gives no time
 abbrev pub no_master_port : SiteAnswers → Source → Option (PortIdentity × NoMaster)

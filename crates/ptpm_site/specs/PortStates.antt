@@ -1,12 +1,11 @@
 -- The states of ports (IEEE 1588-2019, 9.2.5), and how they measure delay (8.2.15.4.4).
-use Rattle.std.specs.Prelude.{ℕ, zero, suc, ◌==◌, ◌&&◌, Bool, true, false, not, Option, Some}
+use Rattle.std.specs.Prelude.{ℕ, zero, suc, ◌==◌, ◌&&◌, ◌||◌, Bool, true, false, not, Option, Some}
 use Rattle.std.specs.Option.{option_map_or}
 use Rattle.ptpm_codec.specs.Identity.{same_identity}
 use Rattle.ptpm_data.specs.declared.port_state.PortState.{PortState}
 use Rattle.ptpm_data.specs.declared.port_state.PortState.TheVariants as states
+use Rattle.ptpm_data.specs.PortState.{state_of}
 use Rattle.ptpm_site.specs.declared.answer.Request.{Request}
-use Rattle.ptpm_site.specs.declared.data_sets.DelayMechanism.{DelayMechanism}
-use Rattle.ptpm_site.specs.declared.data_sets.DelayMechanism.TheVariants as mechanisms
 use Rattle.ptpm_site.specs.declared.data_sets.PortDataSet.{PortDataSet}
 use Rattle.ptpm_site.specs.declared.port_groups.PortGroup.{PortGroup}
 use Rattle.ptpm_site.specs.declared.port_groups.PortGroup.TheVariants as groups
@@ -51,7 +50,7 @@ is_of groups.Slave state = is_slave state
 
 -- a port that answered is in a state of a group
 abbrev pub is_port_of : PortGroup → Option PortDataSet → Bool
-is_port_of group o = option_map_or (λ set. is_of group set.state) o false
+is_port_of group o = option_map_or (λ set. is_of group (state_of set.state)) o false
 
 -- this holds for each number from 1 on to the last
 abbrev pub holds_to : (ℕ → Bool) → ℕ → Bool
@@ -66,16 +65,13 @@ is_on_the_way states.PreMaster = true
 is_on_the_way states.Uncalibrated = true
 is_on_the_way _ = false
 
--- P2P and COMMON_P2P measure the delay of the link
-abbrev pub measures_link : Option DelayMechanism → Bool
-measures_link (Some mechanisms.PeerToPeer) = true
-measures_link (Some mechanisms.CommonPeerToPeer) = true
-measures_link _ = false
+-- P2P (2) and COMMON_P2P (3) measure the delay of the link
+abbrev pub measures_link : ℕ → Bool
+measures_link mechanism = mechanism == 2 || mechanism == 3
 
--- E2E measures the delay of the whole way to the master
-abbrev pub measures_end_to_end : Option DelayMechanism → Bool
-measures_end_to_end (Some mechanisms.EndToEnd) = true
-measures_end_to_end _ = false
+-- E2E (1) measures the delay of the whole way to the master
+abbrev pub measures_end_to_end : ℕ → Bool
+measures_end_to_end mechanism = mechanism == 1
 
 -- two requests of one requester: the same targetPortIdentity of the answers, and another sequenceId
 abbrev pub is_another : Request → Request → Bool

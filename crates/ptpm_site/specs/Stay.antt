@@ -4,6 +4,7 @@ use Rattle.std.specs.List.{fold}
 use Rattle.std.specs.Option.{option_map_or}
 use Rattle.ptpm_data.specs.declared.port_state.PortState.{PortState}
 use Rattle.ptpm_data.specs.declared.port_state.PortState.TheVariants as states
+use Rattle.ptpm_data.specs.PortState.{state_of}
 use Rattle.ptpm_site.specs.declared.answer.Request.{Request}
 use Rattle.ptpm_site.specs.declared.clock.Received.{Received}
 use Rattle.ptpm_site.specs.declared.data_sets.PortDataSet.{PortDataSet}
@@ -22,7 +23,7 @@ since_this (Some since) at = Some since
 -- pass over.
 abbrev pub stay_after : Request → Option (Option ℕ) → Received PortDataSet → Option (Option ℕ)
 stay_after request since h =
-    if is_another h.request request then if option_map_or is_on_the_way h.set.state false then since_this since h.at else None else since
+    if is_another h.request request then if option_map_or is_on_the_way (state_of h.set.state) false then since_this since h.at else None else since
 
 -- when the first answer came of those on the way with which these end; nothing if there is none
 abbrev pub stay_before : Request → List (Received PortDataSet) → Option (Option ℕ)
@@ -47,7 +48,7 @@ stay_by last earlier state =
 
 -- how the port is in the answer that counts, and was before
 abbrev pub stay_of : List (Received PortDataSet) → Option Stay
-stay_of received = option_and_then (λ last. option_and_then (stay_by last (take (length received - 1) received)) last.set.state)
+stay_of received = option_and_then (λ last. option_and_then (stay_by last (take (length received - 1) received)) (state_of last.set.state))
     (slice_get received (length received - 1))
 
 -- two answers show it, and nothing says that it took less than this many nanoseconds

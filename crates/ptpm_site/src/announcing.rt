@@ -2,6 +2,7 @@
 
 ghost use Rattle.std.specs.Prelude.{◌≡◌};
 ghost use Rattle.std.specs.Option.{option_copied};
+ghost use Rattle.ptpm_data.specs.PortState.{state_of};
 ghost use Rattle.ptpm_site.specs.Announcing.{first_look, has_one_port, has_third, is_certain, is_listening, is_long, is_served, is_served_to, is_third, is_too_seldom, left_slave, open_seldom, outlasts, parent_log, port_above, seldom_above, seldom_announced, seldom_by, takes_time, too_seldom};
 ghost use Rattle.ptpm_site.specs.Evidence.{IsOf};
 ghost use Rattle.ptpm_site.specs.PortStates.{is_slave};
@@ -72,9 +73,9 @@ fn has_one_port(site: &Site, source: Source) -> bool
 
 /// Whether a port takes time from its parent, is about to, or, as its clock's one port, listens.
 pub fn takes_time(site: &Site, source: Source, set: &PortDataSet) -> bool
-    ensures { result ≡ takes_time (site_answers site.now) source set.now.state }
+    ensures { result ≡ takes_time (site_answers site.now) source (state_of set.now.state) }
 {
-    set.is_following() || is_listening(set.state) && has_one_port(site, source)
+    set.is_following() || is_listening(set.state()) && has_one_port(site, source)
 }
 
 fn is_slave(state: Option<PortState>) -> bool
@@ -89,7 +90,7 @@ fn left_slave(received: &[Received<PortDataSet>]) -> bool
 {
     received
         .iter()
-        .any(|received| !is_slave(received.set.state))
+        .any(|received| !is_slave(received.set.state()))
 }
 
 /// The port of a clock that another clock of its domain follows.

@@ -2,15 +2,18 @@
 
 ghost use Rattle.std.specs.Prelude.{◌≡◌, ◌++◌, [], ◌∷◌, false, List, None, IfOk, OnOk, find};
 ghost use Rattle.std.specs.List.{list_all};
-ghost use Rattle.std.specs.Option.{option_eq, option_map};
-ghost use Rattle.ptpm_site.specs.Changes.{Statement, as_settled, contradiction, contradicts, is_alike, is_settled, member_change, statement_of};
+ghost use Rattle.std.specs.Option.{option_eq, option_map, option_map_or};
+ghost use Rattle.ptpm_data.specs.PortState.{state_of};
+ghost use Rattle.ptpm_members.specs.Values.{said};
+ghost use Rattle.ptpm_site.specs.Changes.{Statement, as_settled, contradiction, contradicts, is_alike, is_settled, is_settled_state, member_change, settled_state, statement_of};
 ghost use Rattle.ptpm_site.specs.KeptStatements.{KeepsFirstValues, StandsFor, kept_statements, same_statement, settled_otherwise, statement};
-ghost use Rattle.ptpm_site.specs.Members.{same_value, value_of};
+ghost use Rattle.ptpm_site.specs.Members.{same_value};
 
 use crate::answer::Request;
 use crate::clock::Received;
-use crate::member::{DataSet, Member, Value};
+use crate::member::DataSet;
 use ptpm_data::PortState;
+use ptpm_members::{Enumeration, Member, MemberValue};
 use std::alloc::{AllocError, Global};
 use std::collections::BTreeMap;
 
@@ -27,24 +30,53 @@ pub enum Contradiction {
 #[derive(Clone, Copy)]
 pub struct Change<'a> {
     pub member: Member,
-    pub before: Value<'a>,
-    pub after: Value<'a>,
+    pub before: MemberValue<'a>,
+    pub after: MemberValue<'a>,
 }
 
-/// The value with which a member is compared. A port goes from SLAVE to UNCALIBRATED and back by itself: the two are compared as
-/// one.
-fn as_settled(value: Value<'_>) -> Value<'_>
-    ensures { value_of result ≡ as_settled (value_of value.entry) }
+/// The state as which a state is compared, by their numbers. A port goes from SLAVE to UNCALIBRATED and back by itself: the two
+/// are compared as one.
+fn settled_state(number: u8) -> u8
+    ensures { result ≡ settled_state number }
+{
+    if number == PortState::Uncalibrated.number() {
+        PortState::Slave.number()
+    } else {
+        number
+    }
+}
+
+/// The value with which a member is compared.
+fn as_settled(value: MemberValue<'_>) -> MemberValue<'_>
+    ensures { said result ≡ as_settled (said value.entry) }
 {
     match value {
-        Value::State(Some(PortState::Uncalibrated)) => Value::State(Some(PortState::Slave)),
+        MemberValue::Named(Enumeration::PortState, number) => {
+            MemberValue::Named(Enumeration::PortState, settled_state(number))
+        }
         value => value,
     }
 }
 
+/// Whether a port in the state of this number is on its way to no other.
+fn is_settled_state(number: u8) -> bool
+    ensures { result ≡ option_map_or is_settled_state (state_of number) false }
+{
+    matches!(
+        PortState::from_number(number),
+        Some(
+            PortState::Faulty
+                | PortState::Disabled
+                | PortState::Master
+                | PortState::Passive
+                | PortState::Slave
+        )
+    )
+}
+
 /// Whether two values of a member are compared as one.
-fn is_alike(a: Value<'_>, b: Value<'_>) -> bool
-    ensures { result ≡ is_alike (value_of a.entry) (value_of b.entry) }
+fn is_alike(a: MemberValue<'_>, b: MemberValue<'_>) -> bool
+    ensures { result ≡ is_alike (said a.entry) (said b.entry) }
 {
     as_settled(a) == as_settled(b)
 }
@@ -53,7 +85,7 @@ fn is_alike(a: Value<'_>, b: Value<'_>) -> bool
 #[derive(Clone, Copy)]
 struct Stated<'a> {
     request: Request,
-    value: Value<'a>,
+    value: MemberValue<'a>,
 }
 
 impl<'a> Stated<'a> {
@@ -68,19 +100,10 @@ impl<'a> Stated<'a> {
 
     /// Whether a later value that differs is a change. The portState of a port on its way to another state is not settled.
     fn is_settled(&self) -> bool
-        ensures { result ≡ is_settled (value_of self.now.value) }
+        ensures { result ≡ is_settled (said self.now.value) }
     {
         match self.value {
-            Value::State(state) => matches!(
-                state,
-                Some(
-                    PortState::Faulty
-                        | PortState::Disabled
-                        | PortState::Master
-                        | PortState::Passive
-                        | PortState::Slave
-                )
-            ),
+            MemberValue::Named(Enumeration::PortState, number) => is_settled_state(number),
             _ => true,
         }
     }
@@ -162,7 +185,7 @@ impl<'a> KeptStatements<'a> {
 /// For each request the first settled value that was answered to it.
 #[derive(Drop)]
 struct Settled<'a> {
-    first: BTreeMap<Request, Value<'a>>,
+    first: BTreeMap<Request, MemberValue<'a>>,
 }
 
 impl<'a> Settled<'a> {
@@ -175,8 +198,8 @@ impl<'a> Settled<'a> {
     }
 
     /// The value that was kept for the request of a later statement, if that statement says another.
-    fn contradicted_by(&self, later: &Stated<'a>) -> Option<Value<'a>>
-        ensures { option_map value_of result ≡ settled_otherwise self.now (statement later.now) }
+    fn contradicted_by(&self, later: &Stated<'a>) -> Option<MemberValue<'a>>
+        ensures { option_map said result ≡ settled_otherwise self.now (statement later.now) }
     {
         let before = self.first.get(&later.request).copied()?;
         if is_alike(before, later.value) {

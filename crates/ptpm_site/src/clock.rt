@@ -1,6 +1,6 @@
 //! What the answers say of one clock.
 
-ghost use Rattle.std.specs.Prelude.{◌≡◌, ℕ, ◌==◌, ◌-◌, ◌++◌, [], ◌∷◌, OnOk, IsSome, if◌then◌else◌, length, take};
+ghost use Rattle.std.specs.Prelude.{◌≡◌, ◌≤◌, ℕ, ◌==◌, ◌++◌, [], ◌∷◌, OnOk, IsSome, if◌then◌else◌, length, take};
 ghost use Rattle.std.specs.BTreeMap.{get, keys};
 ghost use Rattle.std.specs.List.{list_any};
 ghost use Rattle.std.specs.Ordering.{nat_cmp};
@@ -162,22 +162,31 @@ impl Clock {
     {
         self.ports.keys().any(|number| {
             match self.port(*number) {
-                Some(set) => group.has(set.state),
+                Some(set) => group.has(set.state()),
                 None => false,
             }
         })
     }
 
-    /// Keeps at most `room` ports, those with the lowest numbers. Answers how many it left out.
-    pub fn keep_first_ports(&mut self, room: usize) -> usize
-        ensures ports { keys self.new.ports ≡ take room (keys self.old.ports) }
-        ensures left_out { result ≡ length (keys self.old.ports) - room }
+    /// How many ports answered. Each has a number of its own, so there are no more of them than numbers up to the last.
+    pub fn count_ports(&self) -> usize
+        ensures count { result ≡ length (keys self.now.ports) }
+        ensures few { result ≤ 65536 }
+    {
+        match self.ports.last_key_value() {
+            Some((last, _)) => self.ports.len().min(usize::from(*last) + 1),
+            None => 0,
+        }
+    }
+
+    /// Keeps at most `room` ports, those with the lowest numbers.
+    pub fn keep_first_ports(&mut self, room: usize)
+        ensures { keys self.new.ports ≡ take room (keys self.old.ports) }
     {
         let over = self.ports.len().saturating_sub(room);
         for dropped in 0..over {
             let _ = self.ports.pop_last();
         }
-        over
     }
 
     /// Whether an error came for an id.

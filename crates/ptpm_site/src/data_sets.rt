@@ -1,21 +1,21 @@
 //! The data sets of a clock as its answers have them (clauses 8.2 and 15.5.3): every member, whatever its value.
 
 ghost use Rattle.std.specs.Prelude.{◌≡◌, ◌+◌, ◌≤◌, length};
-ghost use Rattle.ptpm_site.specs.Octets.{current_read, default_read, mechanism_of, parent_read, port_read, quality_at, time_read};
+ghost use Rattle.ptpm_data.specs.PortState.{state_of};
+ghost use Rattle.ptpm_site.specs.Octets.{current_read, default_read, parent_read, port_read, quality_at, time_read};
 ghost use Rattle.ptpm_site.specs.PortStates.{is_following, is_leading, measures_end_to_end, measures_link};
 
 use crate::numbers::{flag_at, i8_at, i16_at, i32_at, interval_at};
 use ptpm_codec::{ClockIdentity, PortIdentity, clock_identity_at, port_identity_at, u16_at};
 use ptpm_data::PortState;
+use ptpm_members::ClockQuality;
 
-/// A ClockQuality (5.3.7).
-#[derive(Clone, Copy, PartialEq, Eq)]
-pub struct ClockQuality {
-    pub class: u8,
-    pub accuracy: u8,
-    /// offsetScaledLogVariance.
-    pub variance: u16,
-}
+/// delayMechanism E2E (8.2.15.4.4, table 21).
+pub const END_TO_END: u8 = 1;
+/// P2P.
+pub const PEER_TO_PEER: u8 = 2;
+/// COMMON_P2P.
+pub const COMMON_PEER_TO_PEER: u8 = 3;
 
 /// DEFAULT_DATA_SET.
 #[derive(Clone, Copy)]
@@ -71,46 +71,34 @@ pub struct TimePropertiesDataSet {
     pub time_source: u8,
 }
 
-/// How a port measures delay (8.2.15.4.4).
-#[derive(Clone, Copy, PartialEq, Eq)]
-pub enum DelayMechanism {
-    EndToEnd,
-    PeerToPeer,
-    CommonPeerToPeer,
-    Special,
-    NoMechanism,
-}
-
 /// PORT_DATA_SET, without its portIdentity.
 #[derive(Clone, Copy)]
 pub struct PortDataSet {
-    /// portState. `None` if its number is reserved.
-    pub state: Option<PortState>,
+    /// The number of portState (8.2.15.3.1).
+    pub state: u8,
     pub log_min_delay_req: i8,
     /// A TimeInterval, in nanoseconds times 2^16.
     pub mean_link_delay: i64,
     pub log_announce: i8,
     pub receipt_timeout: u8,
     pub log_sync: i8,
-    /// delayMechanism. `None` if its number is reserved.
-    pub delay_mechanism: Option<DelayMechanism>,
+    /// The number of delayMechanism (8.2.15.4.4).
+    pub delay_mechanism: u8,
     pub log_min_pdelay: i8,
     /// versionNumber, of four bits.
     pub version: u8,
 }
 
-impl ClockQuality {
-    /// The ClockQuality in the four octets from a place.
-    #[tactic(auto, unfolding(crate::specs::Octets::quality_at))]
-    fn at(octets: &[u8], place: usize) -> ClockQuality
-        requires { place + 4 ≤ length octets.now }
-        ensures { result ≡ quality_at place octets.now }
-    {
-        ClockQuality {
-            class: octets[place],
-            accuracy: octets[place + 1],
-            variance: u16_at(octets, place + 2),
-        }
+/// The ClockQuality in the four octets from a place.
+#[tactic(auto, unfolding(crate::specs::Octets::quality_at))]
+fn quality_at(octets: &[u8], place: usize) -> ClockQuality
+    requires { place + 4 ≤ length octets.now }
+    ensures { result ≡ quality_at place octets.now }
+{
+    ClockQuality {
+        class: octets[place],
+        accuracy: octets[place + 1],
+        variance: u16_at(octets, place + 2),
     }
 }
 
@@ -128,7 +116,7 @@ impl DefaultDataSet {
             slave_only: flag_at(octets, 0, 1),
             number_of_ports: u16_at(octets, 2),
             priority1: octets[4],
-            quality: ClockQuality::at(octets, 5),
+            quality: quality_at(octets, 5),
             priority2: octets[9],
             identity: clock_identity_at(octets, 10),
             domain: octets[18],
@@ -168,7 +156,7 @@ impl ParentDataSet {
             variance: u16_at(octets, 12),
             rate: i32_at(octets, 14),
             priority1: octets[18],
-            quality: ClockQuality::at(octets, 19),
+            quality: quality_at(octets, 19),
             priority2: octets[23],
             grandmaster: clock_identity_at(octets, 24),
         })
@@ -207,63 +195,54 @@ impl PortDataSet {
             return None;
         }
         let set = PortDataSet {
-            state: PortState::from_number(octets[10]),
+            state: octets[10],
             log_min_delay_req: i8_at(octets, 11),
             mean_link_delay: interval_at(octets, 12),
             log_announce: i8_at(octets, 20),
             receipt_timeout: octets[21],
             log_sync: i8_at(octets, 22),
-            delay_mechanism: DelayMechanism::from_number(octets[23]),
+            delay_mechanism: octets[23],
             log_min_pdelay: i8_at(octets, 24),
             version: octets[25] % 16,
         };
         Some((port_identity_at(octets, 0), set))
     }
 
+    /// The port's state. `None` if the number is reserved.
+    pub fn state(&self) -> Option<PortState>
+        ensures { result ≡ state_of self.now.state }
+    {
+        PortState::from_number(self.state)
+    }
+
     /// Whether the port takes time from a master, or is about to.
     pub fn is_following(&self) -> bool
-        ensures { result ≡ is_following self.now.state }
+        ensures { result ≡ is_following (state_of self.now.state) }
     {
-        matches!(self.state, Some(PortState::Slave | PortState::Uncalibrated))
+        matches!(
+            self.state(),
+            Some(PortState::Slave | PortState::Uncalibrated)
+        )
     }
 
     /// Whether the port gives time, or is about to.
     pub fn is_leading(&self) -> bool
-        ensures { result ≡ is_leading self.now.state }
+        ensures { result ≡ is_leading (state_of self.now.state) }
     {
-        matches!(self.state, Some(PortState::Master | PortState::PreMaster))
+        matches!(self.state(), Some(PortState::Master | PortState::PreMaster))
     }
 
     /// Whether it measures the delay of the link to the neighbour (clause 11.4).
     pub fn measures_link(&self) -> bool
         ensures { result ≡ measures_link self.now.delay_mechanism }
     {
-        matches!(
-            self.delay_mechanism,
-            Some(DelayMechanism::PeerToPeer | DelayMechanism::CommonPeerToPeer)
-        )
+        self.delay_mechanism == PEER_TO_PEER || self.delay_mechanism == COMMON_PEER_TO_PEER
     }
 
     /// Whether it measures the delay of the whole way to the master (clause 11.3).
     pub fn measures_end_to_end(&self) -> bool
         ensures { result ≡ measures_end_to_end self.now.delay_mechanism }
     {
-        matches!(self.delay_mechanism, Some(DelayMechanism::EndToEnd))
-    }
-}
-
-impl DelayMechanism {
-    /// The mechanism with this number, or `None` if the number is reserved.
-    fn from_number(number: u8) -> Option<DelayMechanism>
-        ensures { result ≡ mechanism_of number }
-    {
-        match number {
-            1 => Some(DelayMechanism::EndToEnd),
-            2 => Some(DelayMechanism::PeerToPeer),
-            3 => Some(DelayMechanism::CommonPeerToPeer),
-            4 => Some(DelayMechanism::Special),
-            0xfe => Some(DelayMechanism::NoMechanism),
-            _ => None,
-        }
+        self.delay_mechanism == END_TO_END
     }
 }

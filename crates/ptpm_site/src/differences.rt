@@ -1,21 +1,27 @@
 //! The members in which a clock differs from its grandmaster or from the port that it follows.
 
 ghost use Rattle.std.specs.Prelude.{◌≡◌};
-ghost use Rattle.ptpm_site.specs.Differences.{flag_differs, grandmaster_differs, mechanism_differs, number_differs, other_grandmaster, utc_differs, value_differs};
+ghost use Rattle.ptpm_site.specs.Differences.{flag_differs, grandmaster_differs, mechanism_differs, priority_differs, other_grandmaster, utc_differs, value_differs};
 
 use crate::data_sets::{DefaultDataSet, ParentDataSet, PortDataSet, TimePropertiesDataSet};
-use crate::member::{Member, Value};
+use ptpm_data::Member::*;
+use ptpm_data::PortSetting;
+use ptpm_members::{Enumeration, Member, MemberValue};
 
 /// A member in which two clocks differ, with both values.
 #[derive(Clone, Copy)]
 pub struct Differs {
     pub member: Member,
-    pub own: Value<'static>,
-    pub other: Value<'static>,
+    pub own: MemberValue<'static>,
+    pub other: MemberValue<'static>,
 }
 
 /// The member, if the values differ.
-fn value_differs(member: Member, own: Value<'static>, other: Value<'static>) -> Option<Differs>
+fn value_differs(
+    member: Member,
+    own: MemberValue<'static>,
+    other: MemberValue<'static>,
+) -> Option<Differs>
     ensures { result ≡ value_differs member own.entry other.entry }
 {
     if own == other {
@@ -24,18 +30,22 @@ fn value_differs(member: Member, own: Value<'static>, other: Value<'static>) -> 
     Some(Differs { member, own, other })
 }
 
-/// The member, if the numbers differ.
-fn number_differs(member: Member, own: i64, other: i64) -> Option<Differs>
-    ensures { result ≡ number_differs member own other }
+/// priority1 or priority2, if the two differ.
+fn priority_differs(member: Member, own: u8, other: u8) -> Option<Differs>
+    ensures { result ≡ priority_differs member own other }
 {
-    value_differs(member, Value::Number(own), Value::Number(other))
+    value_differs(
+        member,
+        MemberValue::Unsigned(u64::from(own)),
+        MemberValue::Unsigned(u64::from(other)),
+    )
 }
 
 /// The member, if the flags differ.
 fn flag_differs(member: Member, own: bool, other: bool) -> Option<Differs>
     ensures { result ≡ flag_differs member own other }
 {
-    value_differs(member, Value::Flag(own), Value::Flag(other))
+    value_differs(member, MemberValue::Flag(own), MemberValue::Flag(other))
 }
 
 /// The members in which what a clock says of its grandmaster differs from the grandmaster's DEFAULT_DATA_SET.
@@ -46,20 +56,20 @@ pub fn grandmaster_differs(
     ensures { result ≡ grandmaster_differs own.now grandmaster.now }
 {
     [
-        number_differs(
-            Member::GrandmasterPriority1,
-            own.priority1 as i64,
-            grandmaster.priority1 as i64,
+        priority_differs(
+            Member::DataSet(GrandmasterPriority1),
+            own.priority1,
+            grandmaster.priority1,
         ),
         value_differs(
             Member::GrandmasterClockQuality,
-            Value::Quality(own.quality),
-            Value::Quality(grandmaster.quality),
+            MemberValue::Quality(own.quality),
+            MemberValue::Quality(grandmaster.quality),
         ),
-        number_differs(
-            Member::GrandmasterPriority2,
-            own.priority2 as i64,
-            grandmaster.priority2 as i64,
+        priority_differs(
+            Member::DataSet(GrandmasterPriority2),
+            own.priority2,
+            grandmaster.priority2,
         ),
     ]
 }
@@ -69,9 +79,9 @@ pub fn other_grandmaster(own: &ParentDataSet, parent: &ParentDataSet) -> Option<
     ensures { result ≡ other_grandmaster own.now parent.now }
 {
     value_differs(
-        Member::GrandmasterIdentity,
-        Value::Clock(own.grandmaster),
-        Value::Clock(parent.grandmaster),
+        Member::DataSet(Grandmaster),
+        MemberValue::Clock(own.grandmaster),
+        MemberValue::Clock(parent.grandmaster),
     )
 }
 
@@ -83,23 +93,23 @@ pub fn utc_differs(
     ensures { result ≡ utc_differs own.now grandmaster.now }
 {
     [
-        number_differs(
-            Member::CurrentUtcOffset,
-            own.utc_offset as i64,
-            grandmaster.utc_offset as i64,
+        value_differs(
+            Member::DataSet(UtcOffset),
+            MemberValue::Signed(i64::from(own.utc_offset)),
+            MemberValue::Signed(i64::from(grandmaster.utc_offset)),
         ),
         flag_differs(
-            Member::CurrentUtcOffsetValid,
+            Member::DataSet(UtcValid),
             own.utc_valid,
             grandmaster.utc_valid,
         ),
         flag_differs(
-            Member::PtpTimescale,
+            Member::DataSet(PtpTimescale),
             own.ptp_timescale,
             grandmaster.ptp_timescale,
         ),
-        flag_differs(Member::Leap59, own.leap59, grandmaster.leap59),
-        flag_differs(Member::Leap61, own.leap61, grandmaster.leap61),
+        flag_differs(Member::DataSet(Leap59), own.leap59, grandmaster.leap59),
+        flag_differs(Member::DataSet(Leap61), own.leap61, grandmaster.leap61),
     ]
 }
 
@@ -112,9 +122,9 @@ pub fn mechanism_differs(own: &PortDataSet, parent: &PortDataSet) -> Option<Diff
         || own.measures_end_to_end() && parent.measures_link()
     {
         return Some(Differs {
-            member: Member::DelayMechanism,
-            own: Value::Mechanism(own.delay_mechanism),
-            other: Value::Mechanism(parent.delay_mechanism),
+            member: Member::DataSet(Setting(PortSetting::DelayMechanism)),
+            own: MemberValue::Named(Enumeration::DelayMechanism, own.delay_mechanism),
+            other: MemberValue::Named(Enumeration::DelayMechanism, parent.delay_mechanism),
         });
     }
     None

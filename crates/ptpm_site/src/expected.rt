@@ -1,9 +1,7 @@
 //! How a site is not as a profile wants it, or as the inventory that its operator keeps.
 
-use crate::data_sets::{ClockQuality, DelayMechanism};
-use crate::member::{Member, Value};
-use ptpm_codec::{ClockIdentity, PortIdentity};
-use ptpm_data::PortState;
+use ptpm_codec::ClockIdentity;
+use ptpm_members::{Member, MemberValue};
 
 /// A member that is not what a profile allows.
 #[derive(Clone, Copy)]
@@ -11,7 +9,7 @@ pub struct Outside {
     /// The port. `None` if it is a member of the clock.
     pub port: Option<u16>,
     pub member: Member,
-    pub value: Value<'static>,
+    pub value: MemberValue<'static>,
     pub allowed: Allowed,
 }
 
@@ -30,21 +28,17 @@ pub enum Allowed {
     Set,
 }
 
-/// A value that an inventory wants of a member.
+/// What an inventory wants of a member.
 #[derive(Drop)]
 pub enum Wanted {
-    Flag(bool),
+    /// This value, which is no text.
+    Value(MemberValue<'static>),
     /// A number from the first to the last.
     Range(i64, i64),
-    Quality(ClockQuality),
     /// clockClass alone.
     Class(u8),
-    Clock(ClockIdentity),
-    Port(PortIdentity),
-    /// `None`: the number is reserved.
-    State(Option<PortState>),
-    /// `None`: the number is reserved.
-    Mechanism(Option<DelayMechanism>),
+    /// A number that has no name.
+    Reserved,
     Text(String),
 }
 
@@ -55,7 +49,7 @@ pub struct Unmet<'a> {
     pub port: Option<u16>,
     pub member: Member,
     /// `None`: the clock did not answer it.
-    pub value: Option<Value<'a>>,
+    pub value: Option<MemberValue<'a>>,
     pub wanted: &'a [Wanted],
 }
 

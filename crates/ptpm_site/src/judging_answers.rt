@@ -16,12 +16,13 @@ use crate::clock::Received;
 use crate::completeness::missing_answers;
 use crate::finding::{Finding, What, report};
 use crate::grandmaster_changes::GrandmasterChange;
-use crate::member::{DataSet, Member, Value};
+use crate::member::{DataSet, is_moving, is_of_grandmaster};
 use crate::reach::{Reach, out_of_reach};
 use crate::site::Site;
 use crate::source::Source;
 use crate::two_addresses::{Twins, twins_of};
 use crate::two_offsets::two_offsets;
+use ptpm_members::{Enumeration, Member, MemberValue};
 use std::alloc::{AllocError, Global};
 
 /// `incomplete`, `out_of_reach`, `grandmaster_changed`, `changed` and `identity_twice`. `ports` are the clock's ports that answered, and
@@ -165,7 +166,7 @@ fn is_of_state(finding: &Finding<'_>) -> bool
 {
     match &finding.what {
         What::Changed(_, change) | What::IdentityTwice(_, change) => {
-            matches!(change.before, Value::State(_))
+            matches!(change.before, MemberValue::Named(Enumeration::PortState, _))
         }
         _ => false,
     }
@@ -317,7 +318,7 @@ fn judge_member<'a, T: DataSet>(
     ensures { OnOk result (reported findings.new.items ≡ reported findings.old.items
         ++ member_reported compared.how compared.source compared.port compared.is_own T.says received.now member) }
 {
-    if member.is_moving() || compared.is_own && member.is_of_grandmaster() {
+    if is_moving(member) || compared.is_own && is_of_grandmaster(member) {
         return Ok(());
     }
     match change_of(alloc, received, member, compared.how)? {

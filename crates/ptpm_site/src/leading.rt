@@ -6,10 +6,11 @@ ghost use Rattle.std.specs.Option.{option_copied};
 ghost use Rattle.ptpm_site.specs.Leading.{better_clock, degradation_of, without_source, has_source, invalid_offset, is_better_than, announced_leap, stands_by, not_traceable, wrong_offset};
 ghost use Rattle.ptpm_site.specs.Site.{site_answers};
 
-use crate::data_sets::{ClockQuality, DefaultDataSet, TimePropertiesDataSet};
+use crate::data_sets::{DefaultDataSet, TimePropertiesDataSet};
 use crate::site::Site;
 use crate::source::Source;
 use ptpm_codec::ClockIdentity;
+use ptpm_members::ClockQuality;
 
 /// How far a clock is from a primary source of time, by its clockClass.
 #[derive(Clone, Copy)]

@@ -1,170 +1,65 @@
-//! The members of the data sets, by the standard's names, and their values.
+//! The members of the data sets of a clock, and their values.
 
 ghost use Rattle.std.specs.Prelude.{◌≡◌};
 ghost use Rattle.std.specs.Option.{option_map};
-ghost use Rattle.ptpm_site.specs.Members.{is_moving, is_of_grandmaster, value_of};
+ghost use Rattle.ptpm_members.specs.Values.{said};
+ghost use Rattle.ptpm_site.specs.Members.{is_moving, is_of_grandmaster};
 
 use crate::data_sets::{
-    ClockQuality, CurrentDataSet, DefaultDataSet, DelayMechanism, ParentDataSet, PortDataSet,
-    TimePropertiesDataSet,
+    CurrentDataSet, DefaultDataSet, ParentDataSet, PortDataSet, TimePropertiesDataSet,
 };
 use crate::description::Description;
-use ptpm_codec::{ClockIdentity, PortIdentity};
-use ptpm_data::PortState;
-use std::fmt;
+use ptpm_data::Member::*;
+use ptpm_data::PortSetting::*;
+use ptpm_members::{Enumeration, Member, MemberValue};
 
-/// A member of one of the six data sets (clauses 8.2 and 15.5.3).
-#[derive(Clone, Copy)]
-pub enum Member {
-    TwoStepFlag,
-    SlaveOnly,
-    NumberPorts,
-    Priority1,
-    ClockQuality,
-    Priority2,
-    ClockIdentity,
-    DomainNumber,
-    SdoId,
-    StepsRemoved,
-    OffsetFromMaster,
-    MeanDelay,
-    ParentPortIdentity,
-    ParentStats,
-    ObservedParentOffsetScaledLogVariance,
-    ObservedParentClockPhaseChangeRate,
-    GrandmasterPriority1,
-    GrandmasterClockQuality,
-    GrandmasterPriority2,
-    GrandmasterIdentity,
-    CurrentUtcOffset,
-    CurrentUtcOffsetValid,
-    Leap59,
-    Leap61,
-    TimeTraceable,
-    FrequencyTraceable,
-    PtpTimescale,
-    TimeSource,
-    PortState,
-    LogMinDelayReqInterval,
-    MeanLinkDelay,
-    LogAnnounceInterval,
-    AnnounceReceiptTimeout,
-    LogSyncInterval,
-    DelayMechanism,
-    LogMinPdelayReqInterval,
-    VersionNumber,
-    UserDescription,
+/// Whether a member's value moves from one answer to the next though nothing was changed.
+pub fn is_moving(member: Member) -> bool
+    ensures { result ≡ is_moving member }
+{
+    matches!(
+        member,
+        Member::DataSet(
+            OffsetFromMaster
+                | MeanPathDelay
+                | PeerDelay
+                | LogMinDelayReq
+                | ObservedVariance
+                | ObservedRate
+        )
+    )
 }
 
-impl Member {
-    /// The standard's name.
-    pub fn name(self) -> &'static str {
-        match self {
-            Member::TwoStepFlag => "twoStepFlag",
-            Member::SlaveOnly => "slaveOnly",
-            Member::NumberPorts => "numberPorts",
-            Member::Priority1 => "priority1",
-            Member::ClockQuality => "clockQuality",
-            Member::Priority2 => "priority2",
-            Member::ClockIdentity => "clockIdentity",
-            Member::DomainNumber => "domainNumber",
-            Member::SdoId => "sdoId",
-            Member::StepsRemoved => "stepsRemoved",
-            Member::OffsetFromMaster => "offsetFromMaster",
-            Member::MeanDelay => "meanDelay",
-            Member::ParentPortIdentity => "parentPortIdentity",
-            Member::ParentStats => "parentStats",
-            Member::ObservedParentOffsetScaledLogVariance => {
-                "observedParentOffsetScaledLogVariance"
-            }
-            Member::ObservedParentClockPhaseChangeRate => "observedParentClockPhaseChangeRate",
-            Member::GrandmasterPriority1 => "grandmasterPriority1",
-            Member::GrandmasterClockQuality => "grandmasterClockQuality",
-            Member::GrandmasterPriority2 => "grandmasterPriority2",
-            Member::GrandmasterIdentity => "grandmasterIdentity",
-            Member::CurrentUtcOffset => "currentUtcOffset",
-            Member::CurrentUtcOffsetValid => "currentUtcOffsetValid",
-            Member::Leap59 => "leap59",
-            Member::Leap61 => "leap61",
-            Member::TimeTraceable => "timeTraceable",
-            Member::FrequencyTraceable => "frequencyTraceable",
-            Member::PtpTimescale => "ptpTimescale",
-            Member::TimeSource => "timeSource",
-            Member::PortState => "portState",
-            Member::LogMinDelayReqInterval => "logMinDelayReqInterval",
-            Member::MeanLinkDelay => "meanLinkDelay",
-            Member::LogAnnounceInterval => "logAnnounceInterval",
-            Member::AnnounceReceiptTimeout => "announceReceiptTimeout",
-            Member::LogSyncInterval => "logSyncInterval",
-            Member::DelayMechanism => "delayMechanism",
-            Member::LogMinPdelayReqInterval => "logMinPdelayReqInterval",
-            Member::VersionNumber => "versionNumber",
-            Member::UserDescription => "userDescription",
-        }
-    }
-
-    /// Whether its value moves from one answer to the next though nothing was changed.
-    pub fn is_moving(self) -> bool
-        ensures { result ≡ is_moving self }
-    {
-        matches!(
-            self,
-            Member::OffsetFromMaster
-                | Member::MeanDelay
-                | Member::MeanLinkDelay
-                | Member::LogMinDelayReqInterval
-                | Member::ObservedParentOffsetScaledLogVariance
-                | Member::ObservedParentClockPhaseChangeRate
-        )
-    }
-
-    /// Whether a clock says it of its grandmaster, and not of who that is.
-    pub fn is_of_grandmaster(self) -> bool
-        ensures { result ≡ is_of_grandmaster self }
-    {
-        matches!(
-            self,
-            Member::GrandmasterPriority1
-                | Member::GrandmasterClockQuality
-                | Member::GrandmasterPriority2
-        )
-    }
-}
-
-/// The value of a member.
-#[derive(Clone, Copy, PartialEq)]
-pub enum Value<'a> {
-    Flag(bool),
-    Number(i64),
-    Quality(ClockQuality),
-    Clock(ClockIdentity),
-    Port(PortIdentity),
-    /// `None` if the number is reserved.
-    State(Option<PortState>),
-    /// `None` if the number is reserved.
-    Mechanism(Option<DelayMechanism>),
-    Text(&'a str),
+/// Whether a clock says it of its grandmaster, and not of who that is.
+pub fn is_of_grandmaster(member: Member) -> bool
+    ensures { result ≡ is_of_grandmaster member }
+{
+    matches!(
+        member,
+        Member::DataSet(GrandmasterPriority1 | GrandmasterPriority2)
+            | Member::GrandmasterClockQuality
+    )
 }
 
 /// A data set as a list of members.
 pub trait DataSet {
     ghost use Rattle.std.specs.Prelude.{List, Option};
-    ghost use Rattle.ptpm_site.specs.declared.member.Member.{Member};
-    ghost use Rattle.ptpm_site.specs.Members.{MemberValue};
+    ghost use Rattle.ptpm_members.specs.declared.names.Member.{Member};
+    ghost use Rattle.ptpm_members.specs.Values.{Said};
 
     /// Its members, in the standard's order.
     ghost listed: { List Member };
 
     /// The value of a member. `None` if the data set lacks it.
-    ghost says: { Self → Member → Option MemberValue };
+    ghost says: { Self → Member → Option Said };
 
     /// Its members, in the standard's order.
     fn members() -> &'static [Member]
         ensures { result.now ≡ listed };
 
     /// The value of a member. `None` if the data set lacks it.
-    fn value(&self, member: Member) -> Option<Value<'_>>
-        ensures { option_map value_of result ≡ says self.now member };
+    fn value(&self, member: Member) -> Option<MemberValue<'_>>
+        ensures { option_map said result ≡ says self.now member };
 }
 
 impl DataSet for DefaultDataSet {
@@ -176,27 +71,27 @@ impl DataSet for DefaultDataSet {
 
     fn members() -> &'static [Member] {
         &[
-            Member::TwoStepFlag,
+            Member::DataSet(TwoStep),
             Member::SlaveOnly,
             Member::NumberPorts,
-            Member::Priority1,
+            Member::DataSet(Priority1),
             Member::ClockQuality,
-            Member::Priority2,
-            Member::ClockIdentity,
-            Member::DomainNumber,
+            Member::DataSet(Priority2),
+            Member::DataSet(Identity),
+            Member::DataSet(Domain),
         ]
     }
 
-    fn value(&self, member: Member) -> Option<Value<'_>> {
+    fn value(&self, member: Member) -> Option<MemberValue<'_>> {
         Some(match member {
-            Member::TwoStepFlag => Value::Flag(self.two_step),
-            Member::SlaveOnly => Value::Flag(self.slave_only),
-            Member::NumberPorts => Value::Number(self.number_of_ports as i64),
-            Member::Priority1 => Value::Number(self.priority1 as i64),
-            Member::ClockQuality => Value::Quality(self.quality),
-            Member::Priority2 => Value::Number(self.priority2 as i64),
-            Member::ClockIdentity => Value::Clock(self.identity),
-            Member::DomainNumber => Value::Number(self.domain as i64),
+            Member::DataSet(TwoStep) => MemberValue::Flag(self.two_step),
+            Member::SlaveOnly => MemberValue::Flag(self.slave_only),
+            Member::NumberPorts => MemberValue::Unsigned(u64::from(self.number_of_ports)),
+            Member::DataSet(Priority1) => MemberValue::Unsigned(u64::from(self.priority1)),
+            Member::ClockQuality => MemberValue::Quality(self.quality),
+            Member::DataSet(Priority2) => MemberValue::Unsigned(u64::from(self.priority2)),
+            Member::DataSet(Identity) => MemberValue::Clock(self.identity),
+            Member::DataSet(Domain) => MemberValue::Unsigned(u64::from(self.domain)),
             _ => return None,
         })
     }
@@ -211,17 +106,17 @@ impl DataSet for CurrentDataSet {
 
     fn members() -> &'static [Member] {
         &[
-            Member::StepsRemoved,
-            Member::OffsetFromMaster,
-            Member::MeanDelay,
+            Member::DataSet(StepsRemoved),
+            Member::DataSet(OffsetFromMaster),
+            Member::DataSet(MeanPathDelay),
         ]
     }
 
-    fn value(&self, member: Member) -> Option<Value<'_>> {
+    fn value(&self, member: Member) -> Option<MemberValue<'_>> {
         Some(match member {
-            Member::StepsRemoved => Value::Number(self.steps_removed as i64),
-            Member::OffsetFromMaster => Value::Number(self.offset_from_master),
-            Member::MeanDelay => Value::Number(self.mean_delay),
+            Member::DataSet(StepsRemoved) => MemberValue::Unsigned(u64::from(self.steps_removed)),
+            Member::DataSet(OffsetFromMaster) => MemberValue::Interval(self.offset_from_master),
+            Member::DataSet(MeanPathDelay) => MemberValue::Interval(self.mean_delay),
             _ => return None,
         })
     }
@@ -236,27 +131,31 @@ impl DataSet for ParentDataSet {
 
     fn members() -> &'static [Member] {
         &[
-            Member::ParentPortIdentity,
-            Member::ParentStats,
-            Member::ObservedParentOffsetScaledLogVariance,
-            Member::ObservedParentClockPhaseChangeRate,
-            Member::GrandmasterPriority1,
+            Member::DataSet(ParentPort),
+            Member::DataSet(ParentStats),
+            Member::DataSet(ObservedVariance),
+            Member::DataSet(ObservedRate),
+            Member::DataSet(GrandmasterPriority1),
             Member::GrandmasterClockQuality,
-            Member::GrandmasterPriority2,
-            Member::GrandmasterIdentity,
+            Member::DataSet(GrandmasterPriority2),
+            Member::DataSet(Grandmaster),
         ]
     }
 
-    fn value(&self, member: Member) -> Option<Value<'_>> {
+    fn value(&self, member: Member) -> Option<MemberValue<'_>> {
         Some(match member {
-            Member::ParentPortIdentity => Value::Port(self.parent),
-            Member::ParentStats => Value::Flag(self.stats),
-            Member::ObservedParentOffsetScaledLogVariance => Value::Number(self.variance as i64),
-            Member::ObservedParentClockPhaseChangeRate => Value::Number(self.rate as i64),
-            Member::GrandmasterPriority1 => Value::Number(self.priority1 as i64),
-            Member::GrandmasterClockQuality => Value::Quality(self.quality),
-            Member::GrandmasterPriority2 => Value::Number(self.priority2 as i64),
-            Member::GrandmasterIdentity => Value::Clock(self.grandmaster),
+            Member::DataSet(ParentPort) => MemberValue::Port(self.parent),
+            Member::DataSet(ParentStats) => MemberValue::Flag(self.stats),
+            Member::DataSet(ObservedVariance) => MemberValue::Unsigned(u64::from(self.variance)),
+            Member::DataSet(ObservedRate) => MemberValue::Signed(i64::from(self.rate)),
+            Member::DataSet(GrandmasterPriority1) => MemberValue::Unsigned(u64::from(
+                self.priority1,
+            )),
+            Member::GrandmasterClockQuality => MemberValue::Quality(self.quality),
+            Member::DataSet(GrandmasterPriority2) => MemberValue::Unsigned(u64::from(
+                self.priority2,
+            )),
+            Member::DataSet(Grandmaster) => MemberValue::Clock(self.grandmaster),
             _ => return None,
         })
     }
@@ -271,27 +170,30 @@ impl DataSet for TimePropertiesDataSet {
 
     fn members() -> &'static [Member] {
         &[
-            Member::CurrentUtcOffset,
-            Member::CurrentUtcOffsetValid,
-            Member::Leap59,
-            Member::Leap61,
-            Member::TimeTraceable,
-            Member::FrequencyTraceable,
-            Member::PtpTimescale,
-            Member::TimeSource,
+            Member::DataSet(UtcOffset),
+            Member::DataSet(UtcValid),
+            Member::DataSet(Leap59),
+            Member::DataSet(Leap61),
+            Member::DataSet(TimeTraceable),
+            Member::DataSet(FrequencyTraceable),
+            Member::DataSet(PtpTimescale),
+            Member::DataSet(TimeSource),
         ]
     }
 
-    fn value(&self, member: Member) -> Option<Value<'_>> {
+    fn value(&self, member: Member) -> Option<MemberValue<'_>> {
         Some(match member {
-            Member::CurrentUtcOffset => Value::Number(self.utc_offset as i64),
-            Member::CurrentUtcOffsetValid => Value::Flag(self.utc_valid),
-            Member::Leap59 => Value::Flag(self.leap59),
-            Member::Leap61 => Value::Flag(self.leap61),
-            Member::TimeTraceable => Value::Flag(self.time_traceable),
-            Member::FrequencyTraceable => Value::Flag(self.frequency_traceable),
-            Member::PtpTimescale => Value::Flag(self.ptp_timescale),
-            Member::TimeSource => Value::Number(self.time_source as i64),
+            Member::DataSet(UtcOffset) => MemberValue::Signed(i64::from(self.utc_offset)),
+            Member::DataSet(UtcValid) => MemberValue::Flag(self.utc_valid),
+            Member::DataSet(Leap59) => MemberValue::Flag(self.leap59),
+            Member::DataSet(Leap61) => MemberValue::Flag(self.leap61),
+            Member::DataSet(TimeTraceable) => MemberValue::Flag(self.time_traceable),
+            Member::DataSet(FrequencyTraceable) => MemberValue::Flag(self.frequency_traceable),
+            Member::DataSet(PtpTimescale) => MemberValue::Flag(self.ptp_timescale),
+            Member::DataSet(TimeSource) => MemberValue::Named(
+                Enumeration::TimeSource,
+                self.time_source,
+            ),
             _ => return None,
         })
     }
@@ -306,29 +208,42 @@ impl DataSet for PortDataSet {
 
     fn members() -> &'static [Member] {
         &[
-            Member::PortState,
-            Member::LogMinDelayReqInterval,
-            Member::MeanLinkDelay,
-            Member::LogAnnounceInterval,
-            Member::AnnounceReceiptTimeout,
-            Member::LogSyncInterval,
-            Member::DelayMechanism,
-            Member::LogMinPdelayReqInterval,
+            Member::DataSet(State),
+            Member::DataSet(LogMinDelayReq),
+            Member::DataSet(PeerDelay),
+            Member::DataSet(Setting(LogAnnounceInterval)),
+            Member::DataSet(Setting(AnnounceReceiptTimeout)),
+            Member::DataSet(Setting(LogSyncInterval)),
+            Member::DataSet(Setting(DelayMechanism)),
+            Member::DataSet(Setting(LogMinPdelayReqInterval)),
             Member::VersionNumber,
         ]
     }
 
-    fn value(&self, member: Member) -> Option<Value<'_>> {
+    fn value(&self, member: Member) -> Option<MemberValue<'_>> {
         Some(match member {
-            Member::PortState => Value::State(self.state),
-            Member::LogMinDelayReqInterval => Value::Number(self.log_min_delay_req as i64),
-            Member::MeanLinkDelay => Value::Number(self.mean_link_delay),
-            Member::LogAnnounceInterval => Value::Number(self.log_announce as i64),
-            Member::AnnounceReceiptTimeout => Value::Number(self.receipt_timeout as i64),
-            Member::LogSyncInterval => Value::Number(self.log_sync as i64),
-            Member::DelayMechanism => Value::Mechanism(self.delay_mechanism),
-            Member::LogMinPdelayReqInterval => Value::Number(self.log_min_pdelay as i64),
-            Member::VersionNumber => Value::Number(self.version as i64),
+            Member::DataSet(State) => MemberValue::Named(Enumeration::PortState, self.state),
+            Member::DataSet(LogMinDelayReq) => MemberValue::Signed(i64::from(
+                self.log_min_delay_req,
+            )),
+            Member::DataSet(PeerDelay) => MemberValue::Interval(self.mean_link_delay),
+            Member::DataSet(Setting(LogAnnounceInterval)) => MemberValue::Signed(i64::from(
+                self.log_announce,
+            )),
+            Member::DataSet(Setting(AnnounceReceiptTimeout)) => MemberValue::Unsigned(u64::from(
+                self.receipt_timeout,
+            )),
+            Member::DataSet(Setting(LogSyncInterval)) => MemberValue::Signed(i64::from(
+                self.log_sync,
+            )),
+            Member::DataSet(Setting(DelayMechanism)) => MemberValue::Named(
+                Enumeration::DelayMechanism,
+                self.delay_mechanism,
+            ),
+            Member::DataSet(Setting(LogMinPdelayReqInterval)) => MemberValue::Signed(i64::from(
+                self.log_min_pdelay,
+            )),
+            Member::VersionNumber => MemberValue::Unsigned(u64::from(self.version)),
             _ => return None,
         })
     }
@@ -342,59 +257,13 @@ impl DataSet for Description {
     ghost says = { description_says };
 
     fn members() -> &'static [Member] {
-        &[Member::UserDescription]
+        &[Member::DataSet(UserDescription)]
     }
 
-    fn value(&self, member: Member) -> Option<Value<'_>> {
+    fn value(&self, member: Member) -> Option<MemberValue<'_>> {
         match member {
-            Member::UserDescription => Some(Value::Text(self.text.as_str())),
+            Member::DataSet(UserDescription) => Some(MemberValue::Text(self.text.as_bytes())),
             _ => None,
-        }
-    }
-}
-
-/// The standard's name of a port's state, or `reserved` for a reserved number.
-pub fn state_name(state: Option<PortState>) -> &'static str {
-    match state {
-        Some(state) => ptpm_members::state_name(state),
-        None => "reserved",
-    }
-}
-
-/// The standard's name of a delay mechanism, or `reserved` for a reserved number.
-pub fn mechanism_name(mechanism: Option<DelayMechanism>) -> &'static str {
-    match mechanism {
-        Some(DelayMechanism::EndToEnd) => "E2E",
-        Some(DelayMechanism::PeerToPeer) => "P2P",
-        Some(DelayMechanism::CommonPeerToPeer) => "COMMON_P2P",
-        Some(DelayMechanism::Special) => "SPECIAL",
-        Some(DelayMechanism::NoMechanism) => "NO_MECHANISM",
-        None => "reserved",
-    }
-}
-
-impl fmt::Display for ClockQuality {
-    /// clockClass, clockAccuracy and offsetScaledLogVariance.
-    fn fmt<W: fmt::Write>(&self, f: &mut fmt::Formatter<W>) -> fmt::Result {
-        write!(
-            f,
-            "class {} accuracy 0x{:02x} variance 0x{:04x}",
-            self.class, self.accuracy, self.variance
-        )
-    }
-}
-
-impl fmt::Display for Value<'_> {
-    fn fmt<W: fmt::Write>(&self, f: &mut fmt::Formatter<W>) -> fmt::Result {
-        match self {
-            Value::Flag(flag) => write!(f, "{flag}"),
-            Value::Number(number) => write!(f, "{number}"),
-            Value::Quality(quality) => write!(f, "{quality}"),
-            Value::Clock(clock) => write!(f, "{clock}"),
-            Value::Port(port) => write!(f, "{port}"),
-            Value::State(state) => f.write_str(state_name(*state)),
-            Value::Mechanism(mechanism) => f.write_str(mechanism_name(*mechanism)),
-            Value::Text(text) => write!(f, "{text:?}"),
         }
     }
 }

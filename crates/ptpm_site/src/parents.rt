@@ -7,7 +7,6 @@ ghost use Rattle.ptpm_site.specs.Site.{site_answers};
 use crate::site::Site;
 use crate::source::Source;
 use ptpm_codec::PortIdentity;
-use ptpm_data::PortState;
 
 /// The port that a clock follows, if the clock of that port is not seen.
 pub fn unseen_parent(site: &Site, source: Source) -> Option<PortIdentity>
@@ -26,8 +25,8 @@ pub fn unseen_parent(site: &Site, source: Source) -> Option<PortIdentity>
 pub enum NoMaster {
     /// The clock has no such port: it is 0, or above numberPorts.
     NoPort,
-    /// It answered, and is neither in MASTER nor in PRE_MASTER.
-    InState(Option<PortState>),
+    /// It answered, and is neither in MASTER nor in PRE_MASTER, but in the state of this number.
+    InState(u8),
 }
 
 /// The port that a clock follows, and why it is no master, if its clock is seen.

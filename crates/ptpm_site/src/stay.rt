@@ -70,7 +70,7 @@ fn stay_after(
     if !is_another(&received.request, request) {
         return since;
     }
-    match received.set.state {
+    match received.set.state() {
         Some(state) if is_on_the_way(state) => Some(since_this(since, received.at)),
         _ => None,
     }
@@ -146,6 +146,6 @@ pub fn stay_of(received: &[Received<PortDataSet>]) -> Option<Stay>
     ensures { result ≡ stay_of received.now }
 {
     let (last, earlier) = received.split_last()?;
-    let state = last.set.state?;
+    let state = last.set.state()?;
     stay_by(last, earlier, state)
 }

@@ -1,10 +1,10 @@
 //! A site as a picture in SVG 1.1: its tree, and below each clock what is wrong with it.
 
-use crate::escaped::Escaped;
 use crate::lines::{DrawnRemark, Frame, Line, lines_of};
 use crate::look::Look;
 use crate::remarks::Weight;
 use ptpm_commands::Fault;
+use ptpm_draw::Escaped;
 use std::alloc::Global;
 use std::io;
 use std::io::Write;

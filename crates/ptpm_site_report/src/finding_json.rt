@@ -9,6 +9,8 @@ use crate::seconds::{NanosecondSeconds, whole_seconds};
 use ptpm_causes::Cause;
 use ptpm_codec::ClockIdentity;
 use ptpm_data::PortState;
+use ptpm_members::MemberValue::{Flag, Named, Port, Quality};
+use ptpm_members::{Enumeration, state_name};
 use ptpm_site::announcing::Seldom;
 use ptpm_site::changes::Change;
 use ptpm_site::completeness::Missing;
@@ -19,7 +21,6 @@ use ptpm_site::grandmaster_changes::GrandmasterChange;
 use ptpm_site::grandmasters::Masterless;
 use ptpm_site::heard::kind_name;
 use ptpm_site::leading::{Better, Untraceable};
-use ptpm_site::member::Value::{Flag, Port, Quality, State};
 use ptpm_site::parents::{NoMaster, Steps};
 use ptpm_site::tai_and_utc::OffByUtc;
 use ptpm_site::two_addresses::TwoAddresses;
@@ -97,7 +98,9 @@ fn put_values(members: &mut Members, what: &What<'_>) -> Result<(), AllocError> 
             members.put("parentPortIdentity", Port(*parent))?;
             match why {
                 NoMaster::NoPort => members.put_value("portState", Value::Null),
-                NoMaster::InState(state) => members.put("portState", State(*state)),
+                NoMaster::InState(state) => {
+                    members.put("portState", Named(Enumeration::PortState, *state))
+                }
             }
         }
         What::Steps(steps) => put_steps(members, steps),
@@ -154,10 +157,10 @@ fn put_unmet(members: &mut Members, unmet: &Unmet<'_>) -> Result<(), AllocError>
     let (member, value, wanted) = (unmet.member, unmet.value, unmet.wanted);
     members.put_words("member", &Phrase::Member(unmet.port, member))?;
     match value {
-        Some(_) => members.put_words("value", &Phrase::Said(member, value, wanted))?,
+        Some(_) => members.put_words("value", &Phrase::Said(value, wanted))?,
         None => members.put_value("value", Value::Null)?,
     }
-    members.put_words("expected", &Phrase::Wanted(member, wanted))
+    members.put_words("expected", &Phrase::Wanted(wanted))
 }
 
 /// The clocks that lead, or null if none does, and those that are wanted, as texts.
@@ -225,7 +228,7 @@ fn put_state(
     time: Option<u64>,
 ) -> Result<(), AllocError> {
     members.put_number("portNumber", port as i64)?;
-    members.put("portState", State(Some(state)))?;
+    members.put_text("portState", state_name(state))?;
     let seconds = match time {
         Some(time) => Value::from(whole_seconds(time)),
         None => Value::Null,

@@ -1,12 +1,13 @@
 //! A finding as a line of text.
 
 use crate::intervals::{Exact, Seconds, Whole};
-use crate::phrases::{Phrase, clock_of};
+use crate::phrases::{Phrase, Shown, clock_of};
 use crate::printable::Printable;
 use crate::remarks::Remark;
 use crate::seconds::whole_seconds;
 use crate::trees::Clocks;
 use ptpm_data::PortState;
+use ptpm_members::{Enumeration, MemberValue, state_name};
 use ptpm_site::announcing::Seldom;
 use ptpm_site::changes::Change;
 use ptpm_site::completeness::Missing;
@@ -16,7 +17,6 @@ use ptpm_site::finding::What;
 use ptpm_site::grandmasters::Masterless;
 use ptpm_site::heard::kind_name;
 use ptpm_site::leading::{Better, Untraceable};
-use ptpm_site::member::state_name;
 use ptpm_site::parents::{NoMaster, Steps};
 use ptpm_site::tai_and_utc::OffByUtc;
 use ptpm_site::unseen::Absence;
@@ -59,7 +59,8 @@ impl fmt::Display for Said<'_> {
                 write!(f, " {parent}, which that clock lacks")
             }
             What::ParentNotMaster(parent, NoMaster::InState(state)) => {
-                write!(f, " {parent}, which is in {}", state_name(*state))
+                let state = MemberValue::Named(Enumeration::PortState, *state);
+                write!(f, " {parent}, which is in {state}")
             }
             What::Steps(steps) => write_steps(steps, f),
             What::GrandmasterDiffers(differs) | What::Utc(differs) => write_differs(differs, f),
@@ -120,8 +121,8 @@ impl fmt::Display for Said<'_> {
 
 fn write_unmet<W: fmt::Write>(unmet: Unmet<'_>, f: &mut fmt::Formatter<W>) -> fmt::Result {
     let name = Phrase::Member(unmet.port, unmet.member);
-    let said = Phrase::Said(unmet.member, unmet.value, unmet.wanted);
-    let wanted = Phrase::Wanted(unmet.member, unmet.wanted);
+    let said = Phrase::Said(unmet.value, unmet.wanted);
+    let wanted = Phrase::Wanted(unmet.wanted);
     write!(f, " {name} {said}, not {wanted}")
 }
 
@@ -136,7 +137,7 @@ fn write_other_leaders<W: fmt::Write>(
 
 fn write_outside<W: fmt::Write>(outside: &Outside, f: &mut fmt::Formatter<W>) -> fmt::Result {
     write_port(outside.port, f)?;
-    let (value, allowed) = (outside.value, Phrase::Allowed(outside.allowed));
+    let (value, allowed) = (Shown(outside.value), Phrase::Allowed(outside.allowed));
     write!(f, " {} {value}, not {allowed}", outside.member.name())
 }
 
@@ -196,8 +197,8 @@ fn write_steps<W: fmt::Write>(steps: &Steps, f: &mut fmt::Formatter<W>) -> fmt::
 }
 
 fn write_differs<W: fmt::Write>(differs: &Differs, f: &mut fmt::Formatter<W>) -> fmt::Result {
-    let Differs { member, own, other } = differs;
-    write!(f, " {} {own}, not {other}", member.name())
+    let (own, other) = (Shown(differs.own), Shown(differs.other));
+    write!(f, " {} {own}, not {other}", differs.member.name())
 }
 
 fn write_change<W: fmt::Write>(
@@ -207,7 +208,7 @@ fn write_change<W: fmt::Write>(
     f: &mut fmt::Formatter<W>,
 ) -> fmt::Result {
     write_port(port, f)?;
-    let (before, after) = (change.before, change.after);
+    let (before, after) = (Shown(change.before), Shown(change.after));
     write!(f, " {} {before}, {word} {after}", change.member.name())
 }
 
@@ -218,7 +219,7 @@ fn write_state<W: fmt::Write>(
     time: Option<u64>,
     f: &mut fmt::Formatter<W>,
 ) -> fmt::Result {
-    let name = state_name(Some(state));
+    let name = state_name(state);
     match time {
         Some(time) => write!(f, " port {port} {name} for {} s", whole_seconds(time)),
         None => write!(f, " port {port} {name}"),

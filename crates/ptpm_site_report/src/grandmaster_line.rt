@@ -1,7 +1,7 @@
 //! What a clock that leads says of its time, in a line.
 
 use crate::trees::ClockRow;
-use ptpm_expected::time_sources::source_name;
+use ptpm_members::Enumeration;
 use ptpm_site::data_sets::TimePropertiesDataSet;
 use std::fmt;
 
@@ -35,7 +35,7 @@ fn write_time<W: fmt::Write>(
     set: &TimePropertiesDataSet,
     f: &mut fmt::Formatter<W>,
 ) -> fmt::Result {
-    match source_name(set.time_source) {
+    match Enumeration::TimeSource.name_of(set.time_source) {
         Some(name) => write!(f, " {name}, ")?,
         None => write!(f, " time source 0x{:02x}, ", set.time_source)?,
     }

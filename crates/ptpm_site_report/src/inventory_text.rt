@@ -67,11 +67,8 @@ struct RuleText<'a>(&'a MemberRule);
 
 impl fmt::Display for RuleText<'_> {
     fn fmt<W: fmt::Write>(&self, f: &mut fmt::Formatter<W>) -> fmt::Result {
-        let (member, wanted) = (self.0.member, self.0.wanted.as_slice());
-        let (name, wanted) = (
-            Phrase::Member(self.0.port, member),
-            Phrase::Wanted(member, wanted),
-        );
+        let name = Phrase::Member(self.0.port, self.0.member);
+        let wanted = Phrase::Wanted(self.0.wanted.as_slice());
         write!(f, "{name} {wanted}")
     }
 }

@@ -5,7 +5,6 @@
 mod asked_domains;
 mod columns;
 mod drawing;
-mod escaped;
 mod finding_json;
 mod finding_lines;
 mod finding_report;

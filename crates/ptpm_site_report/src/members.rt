@@ -1,9 +1,9 @@
 //! The members of a JSON object.
 
-use ptpm_codec::{ClockIdentity, PortIdentity};
-use ptpm_site::data_sets::ClockQuality;
-use ptpm_site::member::{Value as MemberValue, mechanism_name, state_name};
-use serde_json::{Map, Value, json, put};
+use ptpm_codec::ClockIdentity;
+use ptpm_members::MemberValue;
+use ptpm_message_json::member_value;
+use serde_json::{Map, Value, put};
 use std::alloc::{AllocError, Global};
 use std::fmt;
 
@@ -24,7 +24,7 @@ impl Members {
         put(&mut self.map, self.alloc, name, value)
     }
 
-    /// Puts a value as a member of a data set has it.
+    /// Puts a value as the members of a message have it.
     pub(crate) fn put(&mut self, name: &str, value: MemberValue<'_>) -> Result<(), AllocError> {
         let value = member_value(self.alloc, value)?;
         self.put_value(name, value)
@@ -67,38 +67,10 @@ impl Members {
     }
 }
 
-/// The value of a member.
-fn member_value(alloc: Global, value: MemberValue<'_>) -> Result<Value, AllocError> {
-    match value {
-        MemberValue::Flag(flag) => Ok(Value::Bool(flag)),
-        MemberValue::Number(number) => Ok(Value::from(number)),
-        MemberValue::Quality(quality) => quality_value(alloc, quality),
-        MemberValue::Clock(clock) => identity_value(alloc, clock),
-        MemberValue::Port(port) => port_value(alloc, port),
-        MemberValue::State(state) => text_value(alloc, state_name(state)),
-        MemberValue::Mechanism(mechanism) => text_value(alloc, mechanism_name(mechanism)),
-        MemberValue::Text(text) => text_value(alloc, text),
-    }
-}
-
 pub(crate) fn text_value(alloc: Global, text: &str) -> Result<Value, AllocError> {
     Ok(Value::String(String::from_str(alloc, text)?))
 }
 
 pub(crate) fn identity_value(alloc: Global, clock: ClockIdentity) -> Result<Value, AllocError> {
     Ok(Value::String(format!(in alloc; "{clock}")?))
-}
-
-fn port_value(alloc: Global, port: PortIdentity) -> Result<Value, AllocError> {
-    let identity = identity_value(alloc, port.clock)?;
-    json!(in alloc; {"clockIdentity": identity, "portNumber": port.port})
-}
-
-/// A ClockQuality, as an object (5.3.7).
-fn quality_value(alloc: Global, quality: ClockQuality) -> Result<Value, AllocError> {
-    json!(in alloc; {
-        "clockClass": quality.class,
-        "clockAccuracy": quality.accuracy,
-        "offsetScaledLogVariance": quality.variance
-    })
 }

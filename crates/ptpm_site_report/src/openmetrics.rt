@@ -8,7 +8,7 @@ use crate::remarks::Remark;
 use crate::seconds::NanosecondSeconds;
 use crate::span::Span;
 use ptpm_commands::Fault;
-use ptpm_expected::time_sources::source_name;
+use ptpm_members::{Enumeration, MemberValue};
 use ptpm_site::clock::{Clock, last_of};
 use ptpm_site::domain::Domain;
 use ptpm_site::picture::Picture;
@@ -288,14 +288,8 @@ fn write_time<O: Write>(clock: &Clock, out: &mut O) -> io::Result<()> {
         return Ok(());
     };
     let timescale = if set.ptp_timescale { "PTP" } else { "ARB" };
-    match source_name(set.time_source) {
-        Some(name) => write!(out, ",time_source=\"{name}\",timescale=\"{timescale}\""),
-        None => write!(
-            out,
-            ",time_source=\"0x{:02x}\",timescale=\"{timescale}\"",
-            set.time_source
-        ),
-    }
+    let source = MemberValue::Named(Enumeration::TimeSource, set.time_source);
+    write!(out, ",time_source=\"{source}\",timescale=\"{timescale}\"")
 }
 
 /// The labels of a domain.

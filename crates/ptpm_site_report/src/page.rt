@@ -1,6 +1,5 @@
 //! A site as a page in HTML that needs nothing else: its tree as a table, and below each clock what is wrong with it.
 
-use crate::escaped::Escaped;
 use crate::finding_text::Said;
 use crate::grandmaster_line::GrandmasterLine;
 use crate::kinds::{meaning_of, severity_of};
@@ -12,6 +11,7 @@ use crate::printable::Printable;
 use crate::remarks::{Remark, Weight, remarks_at};
 use crate::trees::{ClockRow, Clocks, Row, Tree, notes_of, trees_of};
 use ptpm_commands::Fault;
+use ptpm_draw::Escaped;
 use ptpm_site::source::Source;
 use std::alloc::{AllocError, Global};
 use std::io::Write;

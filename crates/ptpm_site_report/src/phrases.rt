@@ -2,11 +2,10 @@
 
 use ptpm_causes::{Cause, Kind};
 use ptpm_codec::ClockIdentity;
-use ptpm_expected::time_sources::source_name;
+use ptpm_members::{Member, MemberValue};
 use ptpm_site::expected::{Allowed, Wanted};
 use ptpm_site::finding::{Finding, What};
-use ptpm_site::member::{Member, Value, mechanism_name, state_name};
-use std::fmt;
+use std::{fmt, str};
 
 /// The clock of a finding. `None` if it is of the whole domain: no clock leads, and one should.
 pub(crate) fn clock_of(finding: &Finding<'_>) -> Option<ClockIdentity> {
@@ -33,9 +32,9 @@ pub(crate) enum Phrase<'a> {
     /// A member as an inventory names it: with `port/N.` before a port's.
     Member(Option<u16>, Member),
     /// The value of a member, as far as an inventory wants it. `not said` if it was not answered.
-    Said(Member, Option<Value<'a>>, &'a [Wanted]),
+    Said(Option<MemberValue<'a>>, &'a [Wanted]),
     /// What an inventory wants of a member: the values, with ` | ` between them.
-    Wanted(Member, &'a [Wanted]),
+    Wanted(&'a [Wanted]),
     /// Clocks with a space between them; `none` if there is none.
     Clocks(&'a [ClockIdentity]),
     /// The clocks that may lead: those of each choice, with ` | ` between the choices.
@@ -49,9 +48,9 @@ impl fmt::Display for Phrase<'_> {
         match *self {
             Phrase::Member(Some(port), member) => write!(f, "port/{port}.{}", member.name()),
             Phrase::Member(None, member) => f.write_str(member.name()),
-            Phrase::Said(member, Some(value), wanted) => write_said(member, value, wanted, f),
-            Phrase::Said(_, None, _) => f.write_str("not said"),
-            Phrase::Wanted(member, wanted) => write_all_wanted(member, wanted, f),
+            Phrase::Said(Some(value), wanted) => write_said(value, wanted, f),
+            Phrase::Said(None, _) => f.write_str("not said"),
+            Phrase::Wanted(wanted) => write_all_wanted(wanted, f),
             Phrase::Clocks(clocks) => write_clocks(clocks, f),
             Phrase::Choices(choices) => write_choices(choices, f),
             Phrase::Allowed(allowed) => write_allowed(allowed, f),
@@ -61,15 +60,15 @@ impl fmt::Display for Phrase<'_> {
 
 /// Writes clockClass alone if an inventory wants no more.
 fn write_said<W: fmt::Write>(
-    member: Member,
-    value: Value<'_>,
+    value: MemberValue<'_>,
     wanted: &[Wanted],
     f: &mut fmt::Formatter<W>,
 ) -> fmt::Result {
     match value {
-        Value::Quality(quality) if wants_class(wanted) => write!(f, "class {}", quality.class),
-        Value::Number(number) if is_time_source(member) => write_time_source(number, f),
-        _ => write!(f, "{value}"),
+        MemberValue::Quality(quality) if wants_class(wanted) => {
+            write!(f, "class {}", quality.class)
+        }
+        _ => write!(f, "{}", Shown(value)),
     }
 }
 
@@ -77,51 +76,40 @@ fn wants_class(wanted: &[Wanted]) -> bool {
     wanted.iter().all(|one| matches!(one, Wanted::Class(_)))
 }
 
-fn is_time_source(member: Member) -> bool {
-    matches!(member, Member::TimeSource)
-}
+/// A value of a member in a finding: as everywhere, but a text is in quotes, and a TimeInterval is the number that is sent.
+#[derive(Clone, Copy)]
+pub(crate) struct Shown<'a>(pub(crate) MemberValue<'a>);
 
-fn write_time_source<W: fmt::Write>(number: i64, f: &mut fmt::Formatter<W>) -> fmt::Result {
-    let name = match u8::try_from(number) {
-        Ok(number) => source_name(number),
-        Err(_) => None,
-    };
-    match name {
-        Some(name) => f.write_str(name),
-        None => write!(f, "{number}"),
+impl fmt::Display for Shown<'_> {
+    fn fmt<W: fmt::Write>(&self, f: &mut fmt::Formatter<W>) -> fmt::Result {
+        match self.0 {
+            MemberValue::Text(octets) => match str::from_utf8(octets) {
+                Ok(text) => write!(f, "{text:?}"),
+                Err(_) => write!(f, "\"{}\"", self.0),
+            },
+            MemberValue::Interval(number) => write!(f, "{number}"),
+            value => write!(f, "{value}"),
+        }
     }
 }
 
-fn write_all_wanted<W: fmt::Write>(
-    member: Member,
-    wanted: &[Wanted],
-    f: &mut fmt::Formatter<W>,
-) -> fmt::Result {
+fn write_all_wanted<W: fmt::Write>(wanted: &[Wanted], f: &mut fmt::Formatter<W>) -> fmt::Result {
     let mut between = "";
     for one in wanted {
         f.write_str(between)?;
-        write_wanted(member, one, f)?;
+        write_wanted(one, f)?;
         between = " | ";
     }
     Ok(())
 }
 
-fn write_wanted<W: fmt::Write>(
-    member: Member,
-    wanted: &Wanted,
-    f: &mut fmt::Formatter<W>,
-) -> fmt::Result {
+fn write_wanted<W: fmt::Write>(wanted: &Wanted, f: &mut fmt::Formatter<W>) -> fmt::Result {
     match wanted {
-        Wanted::Flag(flag) => write!(f, "{flag}"),
+        Wanted::Value(value) => write!(f, "{}", Shown(*value)),
         Wanted::Range(least, greatest) if least != greatest => write!(f, "{least}..{greatest}"),
-        Wanted::Range(number, _) if is_time_source(member) => write_time_source(*number, f),
         Wanted::Range(number, _) => write!(f, "{number}"),
-        Wanted::Quality(quality) => write!(f, "{quality}"),
         Wanted::Class(class) => write!(f, "class {class}"),
-        Wanted::Clock(clock) => write!(f, "{clock}"),
-        Wanted::Port(port) => write!(f, "{port}"),
-        Wanted::State(state) => f.write_str(state_name(*state)),
-        Wanted::Mechanism(mechanism) => f.write_str(mechanism_name(*mechanism)),
+        Wanted::Reserved => f.write_str("reserved"),
         Wanted::Text(text) => write!(f, "{:?}", text.as_str()),
     }
 }

@@ -1,8 +1,7 @@
 //! The ports of a clock with their states, as text.
 
-use ptpm_data::PortState;
+use ptpm_members::{Enumeration, MemberValue};
 use ptpm_site::clock::{Clock, last_of};
-use ptpm_site::member::state_name;
 use std::fmt;
 
 /// The ports of a clock that answered, by number: `1 SLAVE, 2-4 MASTER`; `-` if none did.
@@ -47,7 +46,8 @@ impl fmt::Display for PortsText<'_> {
 struct Run {
     first: u16,
     last: u16,
-    state: Option<PortState>,
+    /// The number of their portState.
+    state: u8,
 }
 
 impl Run {
@@ -61,7 +61,7 @@ impl Run {
         if follows {
             f.write_str(", ")?;
         }
-        let name = state_name(self.state);
+        let name = MemberValue::Named(Enumeration::PortState, self.state);
         if self.first == self.last {
             write!(f, "{} {name}", self.first)
         } else {

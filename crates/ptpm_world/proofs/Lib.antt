@@ -27,8 +27,8 @@ pub mod TraceLemmas
 pub mod Answering
 pub mod Playing
 pub mod LineLemmas
+mod NextLine
 pub mod FaultLemmas
-mod LineAtHand
 pub mod StartedWorld
 pub mod Telling
 pub mod ScriptLemmas

@@ -3,6 +3,7 @@
 #![tactic(auto)]
 
 mod frames;
+mod line_reader;
 mod lines;
 mod network_laws;
 mod octets;
@@ -17,6 +18,7 @@ mod world;
 mod writing;
 
 pub use frames::Frame;
+pub use line_reader::{LineReadError, LineReader};
 pub use lines::{Lines, SCRIPT_LINES};
 pub use network_laws::{described_network, described_networks, every_world, placed_event};
 pub use ptpm_script::{End, Event, EventError, Name, NetError, Network, read_event};

@@ -3,10 +3,10 @@ use Rattle.ptpm_agent.specs.Laws.{initial_clock_state}
 use Rattle.ptpm_table.specs.Managers.{clock_with}
 use Rattle.ptpm_commands.specs.Answer.{answered_each, clock_shown, state_shown}
 use Rattle.ptpm_commands.specs.FreshClock.{fresh_sets, managers, shown}
-use Rattle.ptpm_commands.specs.Lines.{ReadsNext, datagram_in, left_in}
+use Rattle.ptpm_world.specs.Lines.{ReadsNext}
+use Rattle.ptpm_commands.specs.Lines.{datagram_in, latest_line, left_in}
 use Rattle.ptpm_commands.specs.Taken.{line_datagram}
-use Rattle.ptpm_commands.proofs.LineLemmas.{known-itself}
-use Rattle.ptpm_commands.proofs.TakenLemmas.{all-taken, datagram-fault, first-fault, handed-on, next-has, next-last}
+use Rattle.ptpm_commands.proofs.TakenLemmas.{all-taken, datagram-fault, first-fault, handed-on, known-itself, next-has, next-last}
 use Rattle.ptpm_commands.proofs.Telling.{answers-kept, answers-pass, answers-turn}
 use Rattle.ptpm_commands.proofs.answer.answer_each.Goals as goal
 use Rattle.ptpm_commands.proofs.answer.answer_each.Goals.{in-Some+in_ok-answer_datagram, in_default}
@@ -23,7 +23,7 @@ loop-number-preserved g c =
     let known = left_in R c.args.lines.now in
     let left = left_in R c.loop-number.lines in
     let others = left_in R c.read.new.self in
-    let line = c.read.new.self.line.items in
+    let line = latest_line c.read.new.self in
     let read = subst (λ more. ReadsNext left more line others) c.if-not-branch.false c.in_ok-read.ensures.next in
     elim c.match-branch-3.branch [
       | in-Some+in_ok-answer_datagram w ↦
@@ -61,7 +61,7 @@ returns-in_err-datagram-clause-lines g c =
     let known = left_in R c.args.lines.now in
     let left = left_in R c.loop-number.lines in
     let others = left_in R c.read.new.self in
-    let line = c.read.new.self.line.items in
+    let line = latest_line c.read.new.self in
     let read = subst (λ more. ReadsNext left more line others) c.if-not-branch.false c.in_ok-read.ensures.next in
     handed-on line_datagram text known (W c.args.out.now) (W c.loop-number.out) c.from_residual-in_err-datagram.result _ c.from_residual-in_err-datagram.ensures.1
     (first-fault line_datagram text told.datagrams n known known left others (W c.args.out.now) (W c.loop-number.out) (W c.loop-number.out) _ (known-itself known) told.reaches
@@ -87,7 +87,7 @@ returns-then-not-branch-clause-lines g c =
     let known = left_in R c.args.lines.now in
     let left = left_in R c.loop-number.lines in
     let others = left_in R c.read.new.self in
-    let line = c.read.new.self.line.items in
+    let line = latest_line c.read.new.self in
     let read = subst (λ more. ReadsNext left more line others) c.if-not-branch.true c.in_ok-read.ensures.next in
     all-taken line_datagram text told.datagrams c.loop-number.number known known left others (W c.args.out.now) (W c.loop-number.out) (known-itself known) told.reaches
     (inl (next-last left others line read)) told.printed

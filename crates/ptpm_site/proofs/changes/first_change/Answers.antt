@@ -2,10 +2,10 @@
 use Rattle.std.proofs.Common.{◌≡◌, ◌<◌, List, Some, None, length, take, subst, sym, ap, ◌∙◌, arith}
 use Rattle.std.specs.List.{find}
 use Rattle.std.specs.Option.{option_map}
+use Rattle.ptpm_members.specs.Values.{said}
 use Rattle.ptpm_site.specs.declared.changes.Contradiction.TheVariants as sort
 use Rattle.ptpm_site.specs.Changes.{Statement, contradicts, statement_of, statements}
 use Rattle.ptpm_site.specs.KeptStatements.{StandsFor, statement}
-use Rattle.ptpm_site.specs.Members.{value_of}
 use Rattle.ptpm_site.proofs.KeptStatements.{stands-none}
 use Rattle.ptpm_site.proofs.Statements.{ahead-first, ahead-found, ahead-none, ahead-passed, taken-none, taken-some}
 use Rattle.ptpm_site.proofs.changes.first_change.Goals as goal
@@ -40,7 +40,7 @@ returns-in-Some-changed_by g c =
     let found : find (λ e. contradicts sort.Changed e (statement c.in-Some.later)) (statements g.T.DataSet.says c.args.member (take c.loop-answer.answer-index c.args.received.now)) ≡ Some (statement c.in-Some-changed_by.earlier) =
     c.loop-answer.invariant.stands.alike y ∙ sym c.in-Some-changed_by.ensures in
     sym (c.loop-answer.invariant.unchanged
-    ∙ ahead-found says c.args.member c.args.received.now i x within c.answer-item.is sort.Changed y (value_of c.in-Some-changed_by.earlier.value) some (ap (option_map (λ e. e.value)) found))
+    ∙ ahead-found says c.args.member c.args.received.now i x within c.answer-item.is sort.Changed y (said c.in-Some-changed_by.earlier.value) some (ap (option_map (λ e. e.value)) found))
 
 pub loop-answer-preserved : goal.loop-answer-preserved
 loop-answer-preserved g c =

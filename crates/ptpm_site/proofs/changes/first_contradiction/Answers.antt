@@ -1,10 +1,10 @@
 -- An answer that does not say the member, one that contradicts an earlier one, and one that contradicts none.
 use Rattle.std.proofs.Common.{◌≡◌, ◌<◌, List, Some, None, length, take, subst, sym, ◌∙◌, arith}
 use Rattle.std.specs.List.{find}
+use Rattle.ptpm_members.specs.Values.{said}
 use Rattle.ptpm_site.specs.declared.changes.Contradiction.TheVariants as sort
 use Rattle.ptpm_site.specs.Changes.{Statement, contradicts, statement_of, statements}
 use Rattle.ptpm_site.specs.KeptStatements.{KeepsFirstValues, statement}
-use Rattle.ptpm_site.specs.Members.{value_of}
 use Rattle.ptpm_site.proofs.Statements.{ahead-first, ahead-found, ahead-none, ahead-passed, no_value, taken-none, taken-some}
 use Rattle.ptpm_site.proofs.changes.first_contradiction.Goals as goal
 
@@ -36,7 +36,7 @@ returns-in-Some-contradicted_by g c =
     let within : c.loop-answer.answer-index < length c.args.received.now = omega arith in
     let some : statement_of g.T.DataSet.says c.args.member c.answer-item.result ≡ Some (statement c.in-Some.later) = sym c.in-Some.ensures in
     sym (c.loop-answer.invariant.unchanged
-    ∙ ahead-found says c.args.member c.args.received.now i x within c.answer-item.is sort.IdentityTwice y (value_of c.in-Some-contradicted_by.before) some
+    ∙ ahead-found says c.args.member c.args.received.now i x within c.answer-item.is sort.IdentityTwice y (said c.in-Some-contradicted_by.before) some
     (c.loop-answer.invariant.keeps.alike y ∙ sym c.in-Some-contradicted_by.ensures))
 
 pub loop-answer-preserved : goal.loop-answer-preserved

@@ -5,6 +5,7 @@ use Rattle.std.specs.Option.{option_and_then}
 use Rattle.std.proofs.lemmas.List.{get_or_push, length_push, take_at}
 use Rattle.std.proofs.lemmas.Option.{slice_get_read}
 use Rattle.ptpm_data.specs.declared.port_state.PortState.{PortState}
+use Rattle.ptpm_data.specs.PortState.{state_of}
 use Rattle.ptpm_site.specs.declared.clock.Received.{Received}
 use Rattle.ptpm_site.specs.declared.data_sets.PortDataSet.{PortDataSet}
 use Rattle.ptpm_site.specs.Stay.{stay_by, stay_of}
@@ -13,16 +14,16 @@ use Rattle.ptpm_site.proofs.stay.stay_of.Goals as goal
 stay_at : (received : List (Received PortDataSet)) (last : Received PortDataSet) (earlier : List (Received PortDataSet)) (state : PortState)
     → slice_get received (length received - 1) ≡ Some last
     → take (length received - 1) received ≡ earlier
-    → last.set.state ≡ Some state
+    → state_of last.set.state ≡ Some state
     → stay_of received ≡ stay_by last earlier state
 stay_at received last earlier state h k e =
-    ap (λ o. option_and_then (λ (l : Received PortDataSet). option_and_then (stay_by l (take (length received - 1) received)) l.set.state) o) h
+    ap (λ o. option_and_then (λ (l : Received PortDataSet). option_and_then (stay_by l (take (length received - 1) received)) (state_of l.set.state)) o) h
     ∙ ap (λ o. option_and_then (stay_by last (take (length received - 1) received)) o) e
     ∙ ap (λ l. stay_by last l state) k
 
 stay_after_all : (received : List (Received PortDataSet)) (last : Received PortDataSet) (earlier : List (Received PortDataSet)) (state : PortState)
     → received ≡ earlier ++ last ∷ []
-    → last.set.state ≡ Some state
+    → state_of last.set.state ≡ Some state
     → stay_of received ≡ stay_by last earlier state
 stay_after_all received last earlier state h e =
     let all = earlier ++ last ∷ [] in
@@ -34,4 +35,4 @@ stay_after_all received last earlier state h e =
 pub returns : goal.returns
 returns c =
     let l = c.in_ok-last in
-    c.stay_by.ensures ∙ sym (stay_after_all c.args.received.now l.last.now l.earlier.now c.in_ok-state.state l.ensures.cases.0 c.in_ok-state.was)
+    c.stay_by.ensures ∙ sym (stay_after_all c.args.received.now l.last.now l.earlier.now c.in_ok-state.state l.ensures.cases.0 (sym c.in_ok-state.ensures))

@@ -1,4 +1,5 @@
 use Rattle.ptpm_world.proofs.Common.{◌≡◌, ◌+◌, List, [], ◌∷◌, arith, refl, true, false, None, Some, Ok, Err, ap, subst, sym, ◌∙◌, Appends, Appends-nil, TakesFirst, reading, left_in, names_in, placed, running, is_skipped, after, event_line, behind, read_as}
+use Rattle.ptpm_world.specs.Lines.{latest_line}
 use Rattle.ptpm_world.specs.declared.whole_script.EventLine.{EventLine}
 use Rattle.ptpm_world.proofs.Playing.{at-event, at-line, at-size, event-read, event-skip, next-is, none-is, others_played, play-guards, playing, plays-cut, plays-end, plays-err, plays-first, plays-kept, plays-more}
 use Rattle.ptpm_world.proofs.script.play.Goals as goal
@@ -9,7 +10,7 @@ loop-number-init g c = grind (arith, plays-first)
 pub loop-number-preserved-then-is_skipped : goal.loop-number-preserved-then-is_skipped
 loop-number-preserved-then-is_skipped g c =
     let R = g.R.Read.remaining in
-    let line = c.read_shown.new.self.line.items in
+    let line = latest_line c.read_shown.new.self in
     let h = c.loop-number.invariant in
     let shown = g.W.Write.contents c.read_shown.new.out in
     let counted = c.in_ok-read_shown.ensures.count (ap Ok c.if-branch.true) in
@@ -27,7 +28,7 @@ loop-number-preserved-then-is_skipped g c =
 pub loop-number-preserved : goal.loop-number-preserved
 loop-number-preserved g c =
     let R = g.R.Read.remaining in
-    let line = c.read_shown.new.self.line.items in
+    let line = latest_line c.read_shown.new.self in
     let n = c.loop-number.number + 1 in
     let h = c.loop-number.invariant in
     let called = names_in c.args.world.now in
@@ -59,7 +60,7 @@ pub returns-clause-played : goal.returns-clause-played
 returns-clause-played g c = λ N is.
     let R = g.R.Read.remaining in
     plays-end (plays-kept (g.W.Write.contents c.read_shown.new.out) (c.loop-number.invariant.plays N is) c.read_shown.ensures.kept)
-    (none-is (c.loop-number.script.count + 1) (left_in R c.loop-number.script) (left_in R c.read_shown.new.self) _ c.read_shown.new.self.line.items c.if-branch.false c.in_ok-read_shown.ensures.whole)
+    (none-is (c.loop-number.script.count + 1) (left_in R c.loop-number.script) (left_in R c.read_shown.new.self) _ (latest_line c.read_shown.new.self) c.if-branch.false c.in_ok-read_shown.ensures.whole)
 
 -- an error before the next line is written
 pub returns-in_err-read_shown-clause-played : goal.returns-in_err-read_shown-clause-played
@@ -80,7 +81,7 @@ returns-in_err-line-clause-played g c = λ N is.
     let n = c.loop-number.script.count + 1 in
     let p = c.loop-number.number + 1 in
     let e = c.in_err-line.field-0.0 in
-    let line = c.read_shown.new.self.line.items in
+    let line = latest_line c.read_shown.new.self in
     let had = left_in R c.loop-number.script in
     let has = left_in R c.read_shown.new.self in
     let shown = g.W.Write.contents c.read_shown.new.out in
@@ -95,7 +96,7 @@ returns-in_err-event-clause-played g c = λ N is.
     let n = c.loop-number.script.count + 1 in
     let p = c.loop-number.number + 1 in
     let e = c.in_err-event.field-0.0 in
-    let line = c.read_shown.new.self.line.items in
+    let line = latest_line c.read_shown.new.self in
     let shown = g.W.Write.contents c.read_shown.new.out in
     let take : is_skipped line ≡ false = ap is_skipped (sym c.in_ok-line.ensures.text) ∙ sym c.is_skipped.ensures ∙ c.if-is_skipped.false in
     let came = next-is n c.read_shown.new.self.count None (left_in R c.loop-number.script) (left_in R c.read_shown.new.self) _ line c.if-branch.true c.in_ok-read_shown.ensures.whole
@@ -107,7 +108,7 @@ returns-in_err-event-clause-played g c = λ N is.
 pub returns-in_err-write_event-clause-played : goal.returns-in_err-write_event-clause-played
 returns-in_err-write_event-clause-played g c = λ N is.
     let R = g.R.Read.remaining in
-    let line = c.read_shown.new.self.line.items in
+    let line = latest_line c.read_shown.new.self in
     let n = c.loop-number.script.count + 1 in
     let p = c.loop-number.number + 1 in
     let h = c.loop-number.invariant in

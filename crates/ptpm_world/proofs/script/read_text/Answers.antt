@@ -1,4 +1,5 @@
 use Rattle.ptpm_world.proofs.Common.{arith, ◌≡◌, ◌+◌, ◌++◌, true, false, None, Ok, ap, sym, ◌∙◌, string_bytes, left_in, is_divider, line_feed}
+use Rattle.ptpm_world.specs.Lines.{latest_line}
 use Rattle.ptpm_world.proofs.FaultLemmas.{err-on, outside}
 use Rattle.ptpm_world.proofs.Playing.{FileFault, file-divider, file-end, file-first, file-more, file-size, file-text, next-is, none-is}
 use Rattle.ptpm_world.proofs.ScriptLemmas.{kept-first, kept-on, read-divider, read-whole}
@@ -9,7 +10,7 @@ loop-text-init g c = grind (arith, kept-first, file-first)
 
 pub loop-text-preserved : goal.loop-text-preserved
 loop-text-preserved g c =
-    let line = c.read.new.self.line.items in
+    let line = latest_line c.read.new.self in
     let text = c.in_ok-line.ensures.text in
     let other : is_divider line ≡ false = ap is_divider (sym text) ∙ sym c.is_divider.ensures ∙ c.if-is_divider.false in
     let told = left_in g.R.Read.remaining c.args.script.now in
@@ -27,7 +28,7 @@ loop-text-preserved g c =
 
 pub returns-then-is_divider-clause-text : goal.returns-then-is_divider-clause-text
 returns-then-is_divider-clause-text g c =
-    let line = c.read.new.self.line.items in
+    let line = latest_line c.read.new.self in
     let divider : is_divider line ≡ true = ap is_divider (sym c.in_ok-line.ensures.text) ∙ sym c.is_divider.ensures ∙ c.if-is_divider.true in
     let told = left_in g.R.Read.remaining c.args.script.now in
     let had = left_in g.R.Read.remaining c.loop-text.script in
@@ -44,7 +45,7 @@ pub returns-clause-text : goal.returns-clause-text
 returns-clause-text g c =
     let R = g.R.Read.remaining in
     let k = c.read.new.self.count + 1 in
-    let none = none-is (c.loop-text.script.count + 1) (left_in R c.loop-text.script) (left_in R c.read.new.self) _ c.read.new.self.line.items c.if-branch.false c.in_ok-read.ensures.whole in
+    let none = none-is (c.loop-text.script.count + 1) (left_in R c.loop-text.script) (left_in R c.read.new.self) _ (latest_line c.read.new.self) c.if-branch.false c.in_ok-read.ensures.whole in
     read-whole (left_in R c.args.script.now) _ _ (c.args.script.now.count + 1) k (string_bytes c.loop-text.text) c.loop-text.invariant.kept none
     (file-end (c.args.script.now.count + 1) (c.loop-text.script.count + 1) k (left_in R c.args.script.now) _ _ c.loop-text.invariant.goes none
     (ap (λ j. j + 1) (c.in_ok-read.ensures.same (ap Ok c.if-branch.false))))

@@ -1,4 +1,5 @@
 use Rattle.ptpm_world.proofs.Common.{◌≡◌, ◌+◌, List, [], ◌∷◌, arith, refl, true, false, None, Some, Ok, Err, ap, sym, ◌∙◌, append-nil, IfSome, reading, left_in, placed, is_outside, is_skipped, after, event_line, read_as}
+use Rattle.ptpm_world.specs.Lines.{latest_line}
 use Rattle.ptpm_world.specs.declared.script_error.ScriptError.TheVariants as faults
 use Rattle.ptpm_world.specs.declared.whole_script.EventLine.{EventLine}
 use Rattle.ptpm_world.specs.WholeScript.{EndsWith}
@@ -13,7 +14,7 @@ loop-events-init g c = grind (arith, reads-first)
 pub loop-events-preserved-then-is_skipped : goal.loop-events-preserved-then-is_skipped
 loop-events-preserved-then-is_skipped g c =
     let R = g.R.Read.remaining in
-    let line = c.read.new.self.line.items in
+    let line = latest_line c.read.new.self in
     let h = c.loop-events.invariant in
     let place = c.loop-events.number + 1 in
     let counted = c.in_ok-read.ensures.count (ap Ok c.if-branch.true) in
@@ -29,7 +30,7 @@ loop-events-preserved-then-is_skipped g c =
 pub loop-events-preserved : goal.loop-events-preserved
 loop-events-preserved g c =
     let R = g.R.Read.remaining in
-    let line = c.read.new.self.line.items in
+    let line = latest_line c.read.new.self in
     let h = c.loop-events.invariant in
     let place = c.loop-events.number + 1 in
     let event = c.in_ok-event.event in
@@ -51,7 +52,7 @@ pub returns-clause-events : goal.returns-clause-events
 returns-clause-events g c =
     let R = g.R.Read.remaining in
     reads-end c.loop-events.invariant.reads
-    (none-is (c.loop-events.script.count + 1) (left_in R c.loop-events.script) (left_in R c.read.new.self) _ c.read.new.self.line.items c.if-branch.false c.in_ok-read.ensures.whole)
+    (none-is (c.loop-events.script.count + 1) (left_in R c.loop-events.script) (left_in R c.read.new.self) _ (latest_line c.read.new.self) c.if-branch.false c.in_ok-read.ensures.whole)
 
 pub returns-in_err-read-clause-fault : goal.returns-in_err-read-clause-fault
 returns-in_err-read-clause-fault g c =
@@ -71,7 +72,7 @@ returns-in_err-line-clause-fault g c =
     let n = c.loop-events.script.count + 1 in
     let p = c.loop-events.number + 1 in
     let e = c.in_err-line.field-0.0 in
-    let line = c.read.new.self.line.items in
+    let line = latest_line c.read.new.self in
     let had = left_in R c.loop-events.script in
     let has = left_in R c.read.new.self in
     let came = next-is n c.read.new.self.count (Some e) had has _ line c.if-branch.true c.in_ok-read.ensures.whole
@@ -88,7 +89,7 @@ returns-in_err-event-clause-fault g c =
     let n = c.loop-events.script.count + 1 in
     let p = c.loop-events.number + 1 in
     let e = c.in_err-event.field-0.0 in
-    let line = c.read.new.self.line.items in
+    let line = latest_line c.read.new.self in
     let had = left_in R c.loop-events.script in
     let take : is_skipped line ≡ false = ap is_skipped (sym c.in_ok-line.ensures.text) ∙ sym c.is_skipped.ensures ∙ c.if-is_skipped.false in
     let came = next-is n c.read.new.self.count None had (left_in R c.read.new.self) _ line c.if-branch.true c.in_ok-read.ensures.whole
