@@ -1,5 +1,5 @@
 -- Of what a plan warns (this project's profile).
-use Rattle.std.specs.Prelude.{ℕ, ◌^◌, ◌==◌, nat_lt, ℤ, pos, negsuc, Bool, List, Option, None, Some, if◌then◌else◌}
+use Rattle.std.specs.Prelude.{ℕ, ◌^◌, ◌==◌, nat_lt, ℤ, pos, negsuc, Bool, Option, None, Some, if◌then◌else◌}
 use Rattle.ptpm_codec.specs.Layout.{octet}
 use Rattle.ptpm_data.specs.PortSetting.{said_of}
 use Rattle.ptpm_data.specs.Ranges.{is_in_range}
