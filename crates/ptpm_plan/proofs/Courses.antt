@@ -29,17 +29,8 @@ abbrev pub changes_rank_of : ℕ → ClockIdentity → Change → Bool
 changes_rank_of domain clock c = is_of_rank c.id && ((domain == c.domain) && same_clock clock c.clock)
 
 identity_with : (id : PlannedId) (value : ℕ) (r : Rank) → (rank_with id value r).identity ≡ r.identity
-identity_with ids.UserDescription value r = refl
-identity_with ids.UtcProperties value r = refl
 identity_with ids.Priority1 value r = refl
-identity_with ids.Priority2 value r = refl
-identity_with ids.ClockAccuracy value r = refl
-identity_with ids.Domain value r = refl
-identity_with ids.AnnounceReceiptTimeout value r = refl
-identity_with ids.LogAnnounceInterval value r = refl
-identity_with ids.LogSyncInterval value r = refl
-identity_with ids.DelayMechanism value r = refl
-identity_with ids.LogMinPdelayReqInterval value r = refl
+identity_with _ value r = refl
 
 stays_of : (domain : ℕ) (clock : ClockIdentity) (r : RankedClock) (c : Change) (b : Bool) → IsOf domain clock r
     → IsOf domain clock (cond b (record r { rank = rank_with c.id (octet 0 c.after.items) r.rank }) r)

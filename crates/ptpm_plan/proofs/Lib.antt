@@ -5,5 +5,6 @@ pub mod Groups
 pub mod Least
 pub mod Once
 pub mod OneBest
+pub mod PlannedIds
 pub mod Ranks
 pub mod Steps

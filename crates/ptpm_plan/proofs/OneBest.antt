@@ -87,16 +87,7 @@ parts_of r c e =
 turn_of_rank : (s : Surveyed) (ranks planned : List RankedClock) (c : Change) (id : PlannedId) → is_of_rank id ≡ true
     → turn_by s ranks planned id c ≡ rank_turn (is_best c.domain c.clock ranks) (rank_in c.domain c.clock ranks) (rank_in c.domain c.clock planned)
 turn_of_rank s ranks planned c ids.Priority1 e = refl
-turn_of_rank s ranks planned c ids.Priority2 e = refl
-turn_of_rank s ranks planned c ids.ClockAccuracy e = refl
-turn_of_rank s ranks planned c ids.UserDescription e = absurd (true≢false (sym e))
-turn_of_rank s ranks planned c ids.UtcProperties e = absurd (true≢false (sym e))
-turn_of_rank s ranks planned c ids.Domain e = absurd (true≢false (sym e))
-turn_of_rank s ranks planned c ids.AnnounceReceiptTimeout e = absurd (true≢false (sym e))
-turn_of_rank s ranks planned c ids.LogAnnounceInterval e = absurd (true≢false (sym e))
-turn_of_rank s ranks planned c ids.LogSyncInterval e = absurd (true≢false (sym e))
-turn_of_rank s ranks planned c ids.DelayMechanism e = absurd (true≢false (sym e))
-turn_of_rank s ranks planned c ids.LogMinPdelayReqInterval e = absurd (true≢false (sym e))
+turn_of_rank s ranks planned c _ e = cc
 
 turn_if_better : (best : Bool) (before after : Rank) → is_lt (rank_cmp after before) ≡ true → rank_turn best (Some before) (Some after) ≡ turns.Better after
 unfolding is_better

@@ -9,6 +9,7 @@ use Rattle.ptpm_codec.specs.Identity.{same_clock}
 use Rattle.ptpm_codec.specs.Layout.{octet}
 use Rattle.ptpm_codec.specs.declared.identity.ClockIdentity.{ClockIdentity}
 use Rattle.ptpm_data.specs.declared.data_sets.ClockPrecedence.{ClockPrecedence}
+use Rattle.ptpm_plan.specs.Octets.{pair_at}
 use Rattle.ptpm_plan.specs.declared.best_clock.Alteration.{Alteration}
 use Rattle.ptpm_plan.specs.declared.best_clock.BestClocks.{BestClocks}
 use Rattle.ptpm_plan.specs.declared.best_clock.Rank.{Rank}
@@ -31,6 +32,16 @@ rank_cmp a b = ordering_then (nat_cmp a.priority1 b.priority1)
 
 unfoldable pub is_better : Rank → Rank → Bool
 is_better a b = is_lt (rank_cmp a b)
+
+-- what a DEFAULT_DATA_SET says of the clock's rank (IEEE 1588-2019, 9.3.4 and table 69)
+abbrev pub precedence_in : List ℕ → ClockPrecedence
+precedence_in field = record {
+  priority1 = octet 4 field;
+  class = octet 5 field;
+  accuracy = octet 6 field;
+  variance = pair_at 7 field;
+  priority2 = octet 9 field;
+}
 
 abbrev pub rank_of : ClockIdentity → ClockPrecedence → Rank
 rank_of identity p = record {

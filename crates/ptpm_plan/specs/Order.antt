@@ -59,21 +59,30 @@ rank_turn best (Some before) (Some after) = if is_better after before then turns
 rank_turn best (Some before) None = turns.Unranked
 rank_turn best None after = turns.Unranked
 
+-- by the ranks before and after all changes
+abbrev pub turn_of_ranks : List RankedClock → List RankedClock → Change → Turn
+turn_of_ranks before after c =
+    rank_turn (is_best c.domain c.clock before) (rank_in c.domain c.clock before) (rank_in c.domain c.clock after)
+
 -- ---- the six groups
+
+-- an interval of a port
+abbrev pub turn_of_interval : Surveyed → Change → Turn
+turn_of_interval s c = if is_sender s c then turns.Sender else patience (is_longer c)
 
 -- by the ranks before and after all changes
 module _ (s : Surveyed) (before after : List RankedClock) where
   abbrev pub turn_by : PlannedId → Change → Turn
   turn_by ids.AnnounceReceiptTimeout c = patience (grows c)
-  turn_by ids.LogAnnounceInterval c = if is_sender s c then turns.Sender else patience (is_longer c)
-  turn_by ids.LogSyncInterval c = if is_sender s c then turns.Sender else patience (is_longer c)
+  turn_by ids.LogAnnounceInterval c = turn_of_interval s c
+  turn_by ids.LogSyncInterval c = turn_of_interval s c
   turn_by ids.UserDescription c = turns.Free
   turn_by ids.UtcProperties c = turns.Free
   turn_by ids.DelayMechanism c = turns.Free
   turn_by ids.LogMinPdelayReqInterval c = turns.Free
-  turn_by ids.Priority1 c = rank_turn (is_best c.domain c.clock before) (rank_in c.domain c.clock before) (rank_in c.domain c.clock after)
-  turn_by ids.Priority2 c = rank_turn (is_best c.domain c.clock before) (rank_in c.domain c.clock before) (rank_in c.domain c.clock after)
-  turn_by ids.ClockAccuracy c = rank_turn (is_best c.domain c.clock before) (rank_in c.domain c.clock before) (rank_in c.domain c.clock after)
+  turn_by ids.Priority1 c = turn_of_ranks before after c
+  turn_by ids.Priority2 c = turn_of_ranks before after c
+  turn_by ids.ClockAccuracy c = turn_of_ranks before after c
   turn_by ids.Domain c = turns.Move (record { 0 = hops_of s c })
 
   -- its turn, and then the place in the file, the clock, the port and the id

@@ -1,13 +1,13 @@
 -- What the answers of a survey say of its clocks and ports. The last answer counts.
-use Rattle.std.specs.Prelude.{◌≡◌, ℕ, List, Option, Some, None, reverse}
-use Rattle.std.specs.Int.{w8, cast_signed}
+use Rattle.std.specs.Prelude.{◌≡◌, ℕ, ◌+◌, List, map, Option, Some, None, reverse}
 use Rattle.std.specs.List.{All, find}
 use Rattle.std.specs.Option.{option_map}
 use Rattle.ptpm_codec.specs.declared.identity.ClockIdentity.{ClockIdentity}
+use Rattle.ptpm_data.specs.PortSetting.{place, port_settings}
 use Rattle.ptpm_data.specs.PortState.{state_of}
 use Rattle.ptpm_data.specs.SetField.{octet}
-use Rattle.ptpm_data.specs.declared.data_sets.ClockPrecedence.{ClockPrecedence}
 use Rattle.ptpm_plan.specs.Answers.{is_answer_of, last_answer}
+use Rattle.ptpm_plan.specs.BestClock.{precedence_in}
 use Rattle.ptpm_plan.specs.Octets.{pair_at}
 use Rattle.ptpm_plan.specs.declared.answer.Answer.{Answer}
 use Rattle.ptpm_plan.specs.declared.answer.Said.{Said}
@@ -40,16 +40,6 @@ hops_by domain clock answers = hops_in (find (is_answer_of domain clock) (revers
 
 -- ---- a clock
 
--- what a DEFAULT_DATA_SET says of the clock's rank (IEEE 1588-2019, 9.3.4 and table 69)
-abbrev pub precedence_in : List ℕ → ClockPrecedence
-precedence_in field = record {
-  priority1 = octet 4 field;
-  class = octet 5 field;
-  accuracy = octet 6 field;
-  variance = pair_at 7 field;
-  priority2 = octet 9 field;
-}
-
 -- what its answers say of a clock
 abbrev pub clock_from : List Answer → ℕ → ClockIdentity → SurveyedClock
 clock_from answers domain identity = record {
@@ -65,15 +55,14 @@ IsClockOf answers c = c ≡ clock_from answers c.domain c.identity
 
 -- ---- a port
 
--- what a PORT_DATA_SET says of its port (15.5.3.5.1)
+-- what a PORT_DATA_SET says of its port (15.5.3.7.1): from octet 20 on, an octet of each setting
 abbrev pub port_with : ℕ → ClockIdentity → ℕ → List ℕ → SurveyedPort
 port_with domain clock number field = record {
   domain = domain;
   clock = clock;
   number = number;
   state = state_of (octet 10 field);
-  log_announce = cast_signed w8 (octet 20 field);
-  receipt_timeout = octet 21 field;
+  settings = map (λ setting. octet (20 + place setting) field) port_settings;
 }
 
 abbrev pub port_from : List Answer → ℕ → ClockIdentity → ℕ → Option SurveyedPort

@@ -2,38 +2,26 @@
 
 use crate::change::PlannedId;
 use crate::wish::{ClockWishes, EveryWishes, PlanFile, Wish};
+use ptpm_data::MANAGEMENT_IDS;
 use std::alloc::{AllocError, Global};
 use std::io;
 use std::io::Write;
 
-/// Prints a line for each GET: the domain, and the id. Each id of the file is asked in each domain of the file.
+/// Prints a line for each GET: the domain, and the id. Each id of the file is asked in each domain of the file, in the order of their
+/// numbers.
 pub(crate) fn print_asks<O: Write>(file: &PlanFile, domains: &[u8], out: &mut O) -> io::Result<()> {
     for domain in domains {
         for name in ["DEFAULT_DATA_SET", "USER_DESCRIPTION", "PORT_DATA_SET"] {
             writeln!(out, "{domain} {name}")?;
         }
-        for id in &BY_NUMBER {
-            if file.names(*id) {
-                writeln!(out, "{domain} {}", id.name())?;
+        for number in &MANAGEMENT_IDS {
+            if let Some(name) = file.asked_name(*number) {
+                writeln!(out, "{domain} {name}")?;
             }
         }
     }
     Ok(())
 }
-
-/// The ids of a plan but USER_DESCRIPTION, which is asked anyhow, in the order of their numbers.
-const BY_NUMBER: [PlannedId; 10] = [
-    PlannedId::Priority1,
-    PlannedId::Priority2,
-    PlannedId::Domain,
-    PlannedId::LogAnnounceInterval,
-    PlannedId::AnnounceReceiptTimeout,
-    PlannedId::LogSyncInterval,
-    PlannedId::ClockAccuracy,
-    PlannedId::UtcProperties,
-    PlannedId::DelayMechanism,
-    PlannedId::LogMinPdelayReqInterval,
-];
 
 impl PlanFile {
     /// The domains that the file names, ascending, each once.
@@ -50,6 +38,15 @@ impl PlanFile {
     fn has_domain(&self, domain: u8) -> bool {
         self.clocks.iter().any(|clock| clock.domain == domain)
             || self.every.iter().any(|every| every.domain == domain)
+    }
+
+    /// The name of an id, if the file names it. `None` of USER_DESCRIPTION, which is asked anyhow.
+    fn asked_name(&self, number: u16) -> Option<&'static str> {
+        match PlannedId::numbered(number)? {
+            PlannedId::UserDescription => None,
+            id if self.names(id) => Some(id.name()),
+            _ => None,
+        }
     }
 
     /// Whether the file names an id.

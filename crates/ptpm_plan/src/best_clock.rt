@@ -3,9 +3,10 @@
 ghost use Rattle.std.specs.Prelude.{◌≡◌, IfOk, length, map, option_map};
 ghost use Rattle.std.specs.List.{list_any};
 ghost use Rattle.ptpm_codec.specs.Layout.{octet};
-ghost use Rattle.ptpm_plan.specs.BestClock.{after_change, altered, alterations, best_clocks, best_clocks_in, best_in, changes_rank, is_better, is_of_rank, is_rank_change_in, rank_of, rank_with, ranked, ranks_after, ranks_of, shown};
+ghost use Rattle.ptpm_plan.specs.BestClock.{after_change, altered, alterations, best_clocks, best_clocks_in, best_in, changes_rank, is_better, is_of_rank, is_rank_change_in, precedence_in, rank_of, rank_with, ranked, ranks_after, ranks_of, shown};
 
 use crate::change::{Change, PlannedId};
+use crate::octets::{octet, pair_at};
 use crate::surveyed::{Surveyed, SurveyedClock};
 use ptpm_codec::ClockIdentity;
 use ptpm_data::{ClockPrecedence, Value};
@@ -60,6 +61,19 @@ impl PlannedId {
             self,
             PlannedId::Priority1 | PlannedId::Priority2 | PlannedId::ClockAccuracy
         )
+    }
+}
+
+/// What a DEFAULT_DATA_SET says of the clock's rank (table 69).
+pub(crate) fn precedence_in(field: &[u8]) -> ClockPrecedence
+    ensures { result ≡ precedence_in field.now }
+{
+    ClockPrecedence {
+        priority1: octet(field, 4),
+        class: octet(field, 5),
+        accuracy: octet(field, 6),
+        variance: pair_at(field, 7),
+        priority2: octet(field, 9),
     }
 }
 

@@ -1,10 +1,11 @@
 //! What a plan changes: a member of a clock or of one of its ports.
 
-ghost use Rattle.std.specs.Prelude.{◌≡◌};
-ghost use Rattle.ptpm_plan.specs.PlannedId.{is_of_port, number_of};
+ghost use Rattle.std.specs.Prelude.{◌≡◌, ◌==◌, Some, find, option_map};
+ghost use Rattle.ptpm_data.specs.ManagementId.{is_of_port, row_of, row_value};
+ghost use Rattle.ptpm_plan.specs.PlannedId.{number_of, setting_of};
 
 use ptpm_codec::ClockIdentity;
-use ptpm_data::Value;
+use ptpm_data::{Layout, ManagementIdRow, PortSetting, Scope, Value};
 
 /// The ids that a plan may set, those of the clock first. Changes that are alike in all else are asked in this order.
 #[derive(Clone, Copy, Debug, PartialEq, Eq, PartialOrd, Ord)]
@@ -23,6 +24,21 @@ pub enum PlannedId {
 }
 
 impl PlannedId {
+    /// All of them, in their order.
+    pub const ALL: [PlannedId; 11] = [
+        PlannedId::UserDescription,
+        PlannedId::UtcProperties,
+        PlannedId::Priority1,
+        PlannedId::Priority2,
+        PlannedId::ClockAccuracy,
+        PlannedId::Domain,
+        PlannedId::AnnounceReceiptTimeout,
+        PlannedId::LogAnnounceInterval,
+        PlannedId::LogSyncInterval,
+        PlannedId::DelayMechanism,
+        PlannedId::LogMinPdelayReqInterval,
+    ];
+
     /// Its managementId (15.5.2.3).
     pub fn number(self) -> u16
         ensures { result ≡ number_of self }
@@ -42,18 +58,48 @@ impl PlannedId {
         }
     }
 
+    /// The id of this number, if a plan may set it.
+    pub(crate) fn numbered(number: u16) -> Option<PlannedId>
+        ensures { result ≡ find (λ id. number_of id == number) PlannedId.ALL }
+    {
+        PlannedId::ALL
+            .iter()
+            .copied()
+            .find(|id| id.number() == number)
+    }
+
+    /// What the table of ids says of it.
+    fn row(self) -> ManagementIdRow
+        ensures { row_of (number_of self) ≡ Some (row_value result) }
+    {
+        let Some(row) = ptpm_data::row(self.number()) else {
+            unreachable!()
+        };
+        row
+    }
+
+    /// The standard's name.
+    pub fn name(self) -> &'static str
+        ensures { option_map (λ row. row.name) (row_of (number_of self)) ≡ Some result.now }
+    {
+        self.row().name
+    }
+
     /// Whether it is of each port, and not of the clock.
     pub fn is_of_port(self) -> bool
-        ensures { result ≡ is_of_port self }
+        ensures { result ≡ is_of_port (number_of self) }
     {
-        matches!(
-            self,
-            PlannedId::AnnounceReceiptTimeout
-                | PlannedId::LogAnnounceInterval
-                | PlannedId::LogSyncInterval
-                | PlannedId::DelayMechanism
-                | PlannedId::LogMinPdelayReqInterval
-        )
+        self.row().scope == Scope::Port
+    }
+
+    /// The setting of a port that it is.
+    pub(crate) fn setting(self) -> Option<PortSetting>
+        ensures { result ≡ setting_of self }
+    {
+        match self.row().layout {
+            Layout::Setting(setting) => Some(setting),
+            _ => None,
+        }
     }
 }
 

@@ -24,7 +24,6 @@ mod order;
 mod outcome;
 mod places;
 mod plan;
-mod planned_names;
 mod planning;
 mod report;
 mod rows;

@@ -3,7 +3,7 @@
 
 ghost use Rattle.std.specs.Prelude.{◌≡◌, IfOk, List, Option, Some};
 ghost use Rattle.std.specs.List.Sorted.{IsPermutation, IsSortedByKey, IsStableByKey};
-ghost use Rattle.ptpm_plan.specs.Order.{grows, hops_of, is_best, is_longer, is_master, is_sender, key_by, order_key, patience, rank_in, rank_turn, turn_by};
+ghost use Rattle.ptpm_plan.specs.Order.{grows, hops_of, is_best, is_longer, is_master, is_sender, key_by, order_key, patience, rank_in, rank_turn, turn_by, turn_of_interval, turn_of_ranks};
 
 use crate::best_clock::{Rank, RankedClock, best_in, first_octet, ranks_after, ranks_of};
 use crate::change::{Change, PlannedId};
@@ -65,7 +65,7 @@ impl Outlook<'_> {
     }
 
     fn interval_turn(&self, change: &Change) -> Turn
-        ensures { result ≡ turn_by self.now.surveyed.now self.now.before.now self.now.after.now PlannedId.LogSyncInterval change.now }
+        ensures { result ≡ turn_of_interval self.now.surveyed.now change.now }
     {
         if self.is_sender(change) {
             Turn::Sender
@@ -75,7 +75,7 @@ impl Outlook<'_> {
     }
 
     fn rank_turn(&self, change: &Change) -> Turn
-        ensures { result ≡ turn_by self.now.surveyed.now self.now.before.now self.now.after.now PlannedId.Priority1 change.now }
+        ensures { result ≡ turn_of_ranks self.now.before.now self.now.after.now change.now }
     {
         rank_turn(
             is_best(change.domain, change.clock, self.before),
@@ -84,14 +84,14 @@ impl Outlook<'_> {
         )
     }
 
-    fn move_turn(&self, change: &Change) -> Turn
-        ensures { result ≡ turn_by self.now.surveyed.now self.now.before.now self.now.after.now PlannedId.Domain change.now }
+    /// How many boundary clocks the answers of the clock of a change passed.
+    fn hops(&self, change: &Change) -> u8
+        ensures { result ≡ hops_of self.now.surveyed.now change.now }
     {
-        let hops = match self.surveyed.clock(change.domain, change.clock) {
+        match self.surveyed.clock(change.domain, change.clock) {
             Some(clock) => clock.hops,
             None => 0,
-        };
-        Turn::Move(Reverse(hops))
+        }
     }
 
     fn turn(&self, change: &Change) -> Turn
@@ -105,7 +105,7 @@ impl Outlook<'_> {
             PlannedId::Priority1 | PlannedId::Priority2 | PlannedId::ClockAccuracy => {
                 self.rank_turn(change)
             }
-            PlannedId::Domain => self.move_turn(change),
+            PlannedId::Domain => Turn::Move(Reverse(self.hops(change))),
             PlannedId::UserDescription
             | PlannedId::UtcProperties
             | PlannedId::DelayMechanism

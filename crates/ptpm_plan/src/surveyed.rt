@@ -4,7 +4,7 @@ ghost use Rattle.std.specs.Prelude.{◌≡◌};
 ghost use Rattle.std.specs.Option.{option_copied};
 ghost use Rattle.ptpm_plan.specs.Surveyed.{clock_in, port_in};
 
-use ptpm_codec::ClockIdentity;
+use ptpm_codec::{ClockIdentity, PortIdentity};
 use ptpm_data::{ClockPrecedence, PortState};
 
 /// A clock that answered in a domain.
@@ -28,10 +28,20 @@ pub struct SurveyedPort {
     pub number: u16,
     /// portState. `None` if its number is reserved.
     pub state: Option<PortState>,
-    /// logAnnounceInterval.
-    pub log_announce: i8,
-    /// announceReceiptTimeout.
-    pub receipt_timeout: u8,
+    /// The octet of each setting, in the order of `PortSetting`.
+    pub settings: [u8; 5],
+}
+
+impl SurveyedPort {
+    /// portIdentity.
+    pub fn identity(&self) -> PortIdentity
+        ensures { result ≡ record { clock = self.now.clock; port = self.now.number } }
+    {
+        PortIdentity {
+            clock: self.clock,
+            port: self.number,
+        }
+    }
 }
 
 /// The clocks and ports of a site. Of each there is one entry at most.

@@ -4,14 +4,15 @@ ghost use Rattle.std.specs.Prelude.{◌≡◌, IfOk, OnOk, reverse};
 ghost use Rattle.std.specs.List.{All, find};
 ghost use Rattle.std.specs.Option.{option_copied, option_map};
 ghost use Rattle.ptpm_plan.specs.Answers.{is_answer_of};
-ghost use Rattle.ptpm_plan.specs.Surveying.{IsClockOf, IsPortOf, IsSurvey, clock_from, field_by, hops_by, port_from, precedence_in};
+ghost use Rattle.ptpm_plan.specs.Surveying.{IsClockOf, IsPortOf, IsSurvey, clock_from, field_by, hops_by, port_from};
 
 use crate::answer::{Answer, Said};
 use crate::answers::{Answers, is_answer_of};
+use crate::best_clock::precedence_in;
 use crate::octets::{octet, pair_at};
 use crate::surveyed::{Surveyed, SurveyedClock, SurveyedPort, clock_in, port_in};
 use ptpm_codec::ClockIdentity;
-use ptpm_data::{ClockPrecedence, PortState};
+use ptpm_data::{PortSetting, PortState};
 use std::alloc::{AllocError, Global};
 
 /// managementIds of DEFAULT_DATA_SET and PORT_DATA_SET.
@@ -108,8 +109,7 @@ impl Answers {
             clock,
             number,
             state: PortState::from_number(octet(field, 10)),
-            log_announce: octet(field, 20).cast_signed(),
-            receipt_timeout: octet(field, 21),
+            settings: PortSetting::ALL.map(|setting| octet(field, 20 + setting.place())),
         })
     }
 
@@ -141,18 +141,5 @@ impl Answers {
             .iter()
             .rev()
             .find(|answer| is_answer_of(answer, domain, clock))
-    }
-}
-
-/// What a DEFAULT_DATA_SET says of the clock's rank (table 69).
-fn precedence_in(field: &[u8]) -> ClockPrecedence
-    ensures { result ≡ precedence_in field.now }
-{
-    ClockPrecedence {
-        priority1: octet(field, 4),
-        class: octet(field, 5),
-        accuracy: octet(field, 6),
-        variance: pair_at(field, 7),
-        priority2: octet(field, 9),
     }
 }

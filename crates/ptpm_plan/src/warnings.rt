@@ -2,7 +2,7 @@
 
 ghost use Rattle.std.specs.Prelude.{◌≡◌, ◌^◌, nat_lt, IfOk};
 ghost use Rattle.std.specs.List.{filter_map};
-ghost use Rattle.ptpm_plan.specs.Warnings.{below_doublings, refusal, setting_of, takes};
+ghost use Rattle.ptpm_plan.specs.Warnings.{below_doublings, refusal};
 
 use crate::best_clock::{BestClocks, best_clocks, first_octet};
 use crate::change::{Change, PlannedId};
@@ -39,8 +39,8 @@ fn refusals(alloc: Global, changes: &[Change]) -> Result<Vec<Warning>, AllocErro
 fn refusal(change: &Change) -> Option<Warning>
     ensures { result ≡ refusal change.now }
 {
-    let setting = setting_of(change.id)?;
-    if takes(setting, &change.after) {
+    let setting = change.id.setting()?;
+    if setting.allows(first_octet(&change.after)) {
         return None;
     }
     let port = PortIdentity {
@@ -48,41 +48,6 @@ fn refusal(change: &Change) -> Option<Warning>
         port: change.port,
     };
     Some(Warning::Refused(port, change.id, setting))
-}
-
-/// The setting of a port that an id is.
-fn setting_of(id: PlannedId) -> Option<PortSetting>
-    ensures { result ≡ setting_of id }
-{
-    match id {
-        PlannedId::AnnounceReceiptTimeout => Some(PortSetting::AnnounceReceiptTimeout),
-        PlannedId::LogAnnounceInterval => Some(PortSetting::LogAnnounceInterval),
-        PlannedId::LogSyncInterval => Some(PortSetting::LogSyncInterval),
-        PlannedId::DelayMechanism => Some(PortSetting::DelayMechanism),
-        PlannedId::LogMinPdelayReqInterval => Some(PortSetting::LogMinPdelayReqInterval),
-        PlannedId::UserDescription
-        | PlannedId::UtcProperties
-        | PlannedId::Priority1
-        | PlannedId::Priority2
-        | PlannedId::ClockAccuracy
-        | PlannedId::Domain => None,
-    }
-}
-
-/// Whether a clock with this project's agent takes a value of a port's setting.
-#[tactic(auto, unfolding(crate::specs::Warnings::takes, ptpm_data::specs::PortSetting::said_of))]
-fn takes(setting: PortSetting, field: &Value) -> bool
-    ensures { result ≡ takes setting field.now.items }
-{
-    let octet = first_octet(field);
-    let signed = octet.cast_signed();
-    match setting {
-        PortSetting::AnnounceReceiptTimeout => 2 <= octet && octet <= 10,
-        PortSetting::LogAnnounceInterval => -4 <= signed && signed <= 4,
-        PortSetting::LogSyncInterval => -8 <= signed && signed <= 1,
-        PortSetting::LogMinPdelayReqInterval => -8 <= signed && signed <= 5,
-        PortSetting::DelayMechanism => octet == 1 || octet == 2 || octet == 0xfe,
-    }
 }
 
 /// Adds the domains whose best clock changes more than once.
@@ -109,11 +74,7 @@ fn add_mechanisms(changes: &[Change], found: &mut Vec<Warning>) -> Result<(), Al
 /// A port that sends Announces, or waits for them.
 #[derive(Clone, Copy)]
 struct Announcing {
-    domain: u8,
-    port: PortIdentity,
-    is_sender: bool,
-    log_interval: i8,
-    receipt_timeout: u8,
+    port: SurveyedPort,
     /// It waited for less than two Announces before.
     is_known: bool,
 }
@@ -121,40 +82,44 @@ struct Announcing {
 impl Announcing {
     fn of(port: &SurveyedPort) -> Announcing {
         Announcing {
-            domain: port.domain,
-            port: PortIdentity {
-                clock: port.clock,
-                port: port.number,
-            },
-            is_sender: port.state == Some(PortState::Master),
-            log_interval: port.log_announce,
-            receipt_timeout: port.receipt_timeout,
+            port: *port,
             is_known: false,
         }
     }
 
+    fn is_sender(&self) -> bool {
+        self.port.state == Some(PortState::Master)
+    }
+
+    /// The octet of a setting.
+    fn octet(&self, setting: PortSetting) -> u8 {
+        self.port.settings[setting.place()]
+    }
+
+    fn log_interval(&self) -> i8 {
+        self.octet(PortSetting::LogAnnounceInterval).cast_signed()
+    }
+
     /// Carries out a change, if it is one of this port.
     fn take(&mut self, change: &Change) {
-        let is_own = change.domain == self.domain
+        let is_own = change.domain == self.port.domain
             && change.clock == self.port.clock
-            && change.port == self.port.port;
+            && change.port == self.port.number;
         if !is_own {
             return;
         }
-        let octet = first_octet(&change.after);
-        match change.id {
-            PlannedId::LogAnnounceInterval => self.log_interval = octet.cast_signed(),
-            PlannedId::AnnounceReceiptTimeout => self.receipt_timeout = octet,
-            _ => {}
+        if let Some(setting) = change.id.setting() {
+            self.port.settings[setting.place()] = first_octet(&change.after);
         }
     }
 
     /// Whether it waits for less than two intervals of a sender, and did not before.
     fn becomes_impatient(&mut self, domain: u8, slowest: i8) -> bool {
-        let is_one = self.domain == domain
-            && !self.is_sender
+        let timeout = self.octet(PortSetting::AnnounceReceiptTimeout);
+        let is_one = self.port.domain == domain
+            && !self.is_sender()
             && !self.is_known
-            && is_below_two(slowest, self.log_interval, self.receipt_timeout);
+            && is_below_two(slowest, self.log_interval(), timeout);
         if is_one {
             self.is_known = true;
         }
@@ -195,8 +160,8 @@ fn is_below_power(octet: u8, exponent: u16) -> bool
 fn slowest_sender(domain: u8, ports: &[Announcing]) -> Option<i8> {
     ports
         .iter()
-        .filter(|port| port.is_sender && port.domain == domain)
-        .map(|port| port.log_interval)
+        .filter(|port| port.is_sender() && port.port.domain == domain)
+        .map(|port| port.log_interval())
         .max()
 }
 
@@ -212,7 +177,7 @@ fn add_newly_impatient(
     };
     for port in ports.iter_mut() {
         if port.becomes_impatient(domain, slowest) {
-            found.push(Warning::Impatient(number, port.port))?;
+            found.push(Warning::Impatient(number, port.port.identity()))?;
         }
     }
     Ok(())

@@ -1,11 +1,7 @@
 //! The members that a table of a plan file names.
 
-ghost use Rattle.std.specs.Prelude.{◌≡◌};
-ghost use Rattle.ptpm_plan.specs.PlannedId.{is_of_port};
-
 use crate::change::PlannedId;
 use crate::file_fault::{FileFault, Place, TableFault};
-use crate::planned_names::{ALL, planned};
 use crate::text::Text;
 use crate::wish::{UtcWish, Wish, Wished};
 use std::alloc::{AllocError, Global};
@@ -38,7 +34,7 @@ pub(crate) fn read_wishes(
         check_key(alloc, key.as_str(), owner, keys, place)?;
     }
     let mut wishes = Vec::new(alloc);
-    for id in &ALL {
+    for id in &PlannedId::ALL {
         if let Some(value) = table.get(id.name()) {
             let wished = read_wished(alloc, *id, value, place)?;
             wishes.push(Wish { id: *id, wished })?;
@@ -66,15 +62,13 @@ fn check_key(
 
 /// What is wrong with a key that is to be an id.
 fn fault_of(alloc: Global, key: &str, owner: Owner) -> Result<Option<TableFault>, AllocError> {
-    let Some(id) = planned(key) else {
-        let text = Text::copy_of(alloc, key)?;
-        return Ok(Some(if ptpm_data::by_name(key).is_some() {
-            TableFault::NotPlanned(text)
-        } else {
-            TableFault::UnknownKey(text)
-        }));
+    let Some(row) = ptpm_data::by_name(key) else {
+        return Ok(Some(TableFault::UnknownKey(Text::copy_of(alloc, key)?)));
     };
-    Ok(misplaced(id, owner))
+    match PlannedId::numbered(row.id) {
+        Some(id) => Ok(misplaced(id, owner)),
+        None => Ok(Some(TableFault::NotPlanned(Text::copy_of(alloc, key)?))),
+    }
 }
 
 /// What is wrong with an id in such a table.
