@@ -14,11 +14,13 @@ use Rattle.ptpm_codec.specs.Identity.{every_clock, same_clock}
 use Rattle.ptpm_data.specs.ManagementId.{set_of}
 use Rattle.ptpm_data.specs.Members.{is_same_precedence}
 use Rattle.ptpm_data.specs.Ranges.{all_ones, is_clock_accuracy, is_description}
-use Rattle.ptpm_data.specs.Start.{clock_fault, count_fault, default_data_set, default_port, grandmaster_fault, parent_data_set, ports_fault, start_fault, start_of, started}
+use Rattle.ptpm_data.specs.MemberNames.{member_name}
+use Rattle.ptpm_data.specs.Start.{clock_fault, count_fault, default_data_set, first_out, grandmaster_fault, is_in_clock_range, judged_of_clock, parent_data_set, ports_fault, start_fault}
+use Rattle.ptpm_data.specs.declared.members.Member.{Member}
 use Rattle.ptpm_data.specs.declared.members.Member.TheVariants as members
 use Rattle.ptpm_data.specs.declared.start.ClockStart.{ClockStart}
 use Rattle.ptpm_data.specs.declared.start.StartError.{StartError}
-use Rattle.ptpm_data.specs.declared.start.StartError.TheVariants.{BadValue, GrandmasterDiffers, NoPorts, TooManyPorts}
+use Rattle.ptpm_data.specs.declared.start.StartError.TheVariants.{GrandmasterDiffers, NoPorts, TooManyPorts}
 use Rattle.ptpm_script.specs.declared.net_error.NetError.TheVariants.{BadClock}
 use Rattle.ptpm_script.specs.declared.shapes.Kind.TheVariants as kinds
 use Rattle.ptpm_script.specs.Document.{clock_identity, if_one_clock, is_shaped, kind_of, passes}
@@ -29,12 +31,12 @@ use Rattle.ptpm_script.specs.Values.{clock_at, description_at, flag_at, natural_
 use Rattle.ptpm_check.specs.Faults.{first_refusal}
 use Rattle.ptpm_check.specs.Heads.{ClockHeadValue, items_at, list_of}
 use Rattle.ptpm_check.specs.Marks.{Mark, Spot, at_key, mark_if, value_mark}
-use Rattle.ptpm_check.specs.StartFaults.{clock_fails, clock_ranges, clock_start_marks, count_start_marks, fails, grandmaster_marks, has_octet, is_own_grandmaster, member_marks, only_accuracy, only_description, only_leaps, own_marks, own_marks_if, own_mark_if, ports_start_marks, some_clock}
+use Rattle.ptpm_check.specs.StartFaults.{clock_start_marks, count_start_marks, grandmaster_marks, has_octet, is_own_grandmaster, member_marks, own_marks, own_marks_if, own_mark_if, ports_start_marks, some_clock}
 use Rattle.ptpm_check.proofs.HeadLemmas.{IsClock, IsPort, pairs-read, port-is}
 use Rattle.ptpm_check.proofs.MarkLemmas.{first-append}
-use Rattle.ptpm_check.proofs.PortStartLemmas.{count_one, default_starts, err_unless, natural_absent, ports-tell, ports_one, some_if}
+use Rattle.ptpm_check.proofs.PortStartLemmas.{natural_absent, ports-tell}
 use Rattle.ptpm_check.proofs.TableLemmas.{fitting, key-there, whole_given}
-use Rattle.ptpm_check.proofs.TellLemmas.{Tells, or_none, or_or, tells-append, tells-value}
+use Rattle.ptpm_check.proofs.TellLemmas.{Tells, or_or, tells-append, tells-out, tells-value}
 
 -- ---- the number of ports
 
@@ -74,69 +76,7 @@ count_tells c h k =
     subst (λ o. Tells o (count_start_marks h)) (two_ifs (c.count == 0) (nat_lt 8 c.count) NoPorts TooManyPorts ∙ sym (ap count_fault (ports_long c) ∙ count_is c.count))
     (tells-append _ _ _ _ none many)
 
--- ---- a clock that has all others as this profile has them
-
-clock_fails_is : (c : ClockStart) → grandmaster_fault (default_data_set c) (parent_data_set c) ≡ None → clock_fails c ≡ is_some (clock_fault c)
-unfolding fails start_of
-clock_fails_is c own =
-    let ps = default_port ∷ [] in
-    let g = grandmaster_fault (default_data_set c) (parent_data_set c) in
-    err_unless (start_fault c ps) (started c ps)
-    ∙ ap (λ o. is_some (option_or o (option_or (clock_fault c) (option_or (ports_fault ps) g)))) count_one
-    ∙ ap (λ o. is_some (option_or (clock_fault c) (option_or o g))) (ports_one default_port ∙ default_starts)
-    ∙ ap (λ o. is_some (option_or (clock_fault c) o)) own
-    ∙ ap is_some (or_none (clock_fault c))
-
-description_own : (c : ClockStart) → grandmaster_fault (default_data_set (only_description c)) (parent_data_set (only_description c)) ≡ None
-unfolding grandmaster_fault
-description_own c = refl
-
-description_alone : (c : ClockStart) → clock_fails (only_description c) ≡ not (is_description c.user_description.items)
-unfolding clock_fault set_of
-description_alone c =
-    clock_fails_is (only_description c) (description_own c)
-    ∙ some_if (not (is_description c.user_description.items)) (BadValue members.UserDescription)
-
-same_accuracy : (n : ℕ) → (n == n) ≡ true
-same_accuracy n = eq-eqb n n refl
-
-accuracy_own : (c : ClockStart) → grandmaster_fault (default_data_set (only_accuracy c)) (parent_data_set (only_accuracy c)) ≡ None
-unfolding grandmaster_fault
-accuracy_own c = ap (λ b. if not (b && true) then Some GrandmasterDiffers else None) (same_accuracy c.clock_accuracy)
-
-accuracy_alone : (c : ClockStart) → clock_fails (only_accuracy c) ≡ not (is_clock_accuracy c.clock_accuracy)
-unfolding clock_fault is_description set_of is_utf8 chars
-accuracy_alone c =
-    clock_fails_is (only_accuracy c) (accuracy_own c)
-    ∙ some_if (not (is_clock_accuracy c.clock_accuracy)) (BadValue members.ClockAccuracy)
-
-leaps_own : (c : ClockStart) → grandmaster_fault (default_data_set (only_leaps c)) (parent_data_set (only_leaps c)) ≡ None
-unfolding grandmaster_fault
-leaps_own c = refl
-
-leaps_alone : (c : ClockStart) → clock_fails (only_leaps c) ≡ (c.leap61 && c.leap59)
-unfolding clock_fault is_description set_of is_utf8 chars
-leaps_alone c =
-    clock_fails_is (only_leaps c) (leaps_own c)
-    ∙ some_if (c.leap61 && c.leap59) (BadValue members.Leap59)
-
 -- ---- a clock's members
-
-three_ifs : (a b c : Bool) (x y z : StartError)
-    → option_or (option_or (if a then Some x else None) (if b then Some y else None)) (if c then Some z else None)
-    ≡ (if a then Some x else if b then Some y else if c then Some z else None)
-three_ifs true b c x y z = refl
-three_ifs false true c x y z = refl
-three_ifs false false c x y z = refl
-
-description_absent : (ms : Members) → get_member (codes "user_description") ms ≡ None → not (is_description (description_at (codes "user_description") ms)) ≡ false
-unfolding description_at is_description set_of is_utf8 chars
-description_absent ms none = ap (λ o. not (is_description (take 129 (unwrap_or (option_and_then as_str o) [])))) none
-
-accuracy_absent : (ms : Members) → get_member (codes "clock_accuracy") ms ≡ None
-    → not (is_clock_accuracy (unwrap_or (natural_at 255 (codes "clock_accuracy") ms) 0xfe)) ≡ false
-unfolding set_of
-accuracy_absent ms none = ap (λ o. not (is_clock_accuracy (unwrap_or o 0xfe))) (natural_absent 255 (codes "clock_accuracy") ms none)
 
 and_never : (a : Bool) → (a && false) ≡ false
 and_never true = refl
@@ -145,23 +85,32 @@ and_never false = refl
 leaps_absent : (ms : Members) (a : Bool) → get_member (codes "leap59") ms ≡ None → (a && unwrap_or (flag_at (codes "leap59") ms) false) ≡ false
 leaps_absent ms a none = ap (λ o. a && unwrap_or (option_and_then as_bool o) false) none ∙ and_never a
 
+clock_absent : (ms : Members) (m : Member) → get_member (member_name m) ms ≡ None → is_in_clock_range (clock_start some_clock 0 ms) m ≡ true
+unfolding clock_over description_at is_description set_of is_utf8 chars
+clock_absent ms members.Identity none = refl
+clock_absent ms members.UserDescription none = ap (λ o. is_description (take 129 (unwrap_or (option_and_then as_str o) []))) none
+clock_absent ms members.ClockAccuracy none = ap (λ o. is_clock_accuracy (unwrap_or o 0xfe)) (natural_absent 255 (codes "clock_accuracy") ms none)
+clock_absent ms members.Leap59 none = ap not (leaps_absent ms (unwrap_or (flag_at (codes "leap61") ms) false) none)
+clock_absent ms m none = refl
+
+-- of one identity and another no member but the identity says more
+same_range : (identity : ClockIdentity) (domain : ℕ) (ms : Members) → bytes_eq identity.0 all_ones ≡ false
+    → (m : Member) → is_in_clock_range (clock_start some_clock 0 ms) m ≡ is_in_clock_range (clock_start identity domain ms) m
+unfolding clock_over
+same_range identity domain ms one members.Identity = sym (ap not one)
+same_range identity domain ms one m = refl
+
 members_tell : (spot : Spot) (identity : ClockIdentity) (domain : ℕ) (ms : Members) → bytes_eq identity.0 all_ones ≡ false
     → Tells (clock_fault (clock_start identity domain ms)) (member_marks spot ms)
-unfolding member_marks clock_fault clock_over
+unfolding member_marks clock_fault
 members_tell spot identity domain ms one =
-    let c = clock_start some_clock 0 ms in
-    let text = not (is_description (description_at (codes "user_description") ms)) in
-    let accuracy = not (is_clock_accuracy (unwrap_or (natural_at 255 (codes "clock_accuracy") ms) 0xfe)) in
-    let leaps = unwrap_or (flag_at (codes "leap61") ms) false && unwrap_or (flag_at (codes "leap59") ms) false in
-    let a = tells-value text (clock_fails (only_description c)) (BadValue members.UserDescription) spot (codes "user_description") ms (description_alone c) (description_absent ms) in
-    let b = tells-value accuracy (clock_fails (only_accuracy c)) (BadValue members.ClockAccuracy) spot (codes "clock_accuracy") ms (accuracy_alone c) (accuracy_absent ms) in
-    let d = tells-value leaps (clock_fails (only_leaps c)) (BadValue members.Leap59) spot (codes "leap59") ms (leaps_alone c) (leaps_absent ms (unwrap_or (flag_at (codes "leap61") ms) false)) in
-    subst (λ o. Tells o (clock_ranges spot ms c))
-    (three_ifs text accuracy leaps (BadValue members.UserDescription) (BadValue members.ClockAccuracy) (BadValue members.Leap59)
-    ∙ sym (ap (λ t. if t then Some (BadValue members.Identity) else if text then Some (BadValue members.UserDescription) else if accuracy then Some (BadValue members.ClockAccuracy) else if leaps then Some (BadValue members.Leap59) else None) one))
-    (tells-append _ _ _ _ (tells-append _ _ _ _ a b) d)
+    subst (λ is_in. Tells (first_out is_in judged_of_clock) (member_marks spot ms)) (λ i m. same_range identity domain ms one m i)
+    (tells-out (is_in_clock_range (clock_start some_clock 0 ms)) spot ms judged_of_clock (clock_absent ms))
 
 -- ---- a clock that is its own grandmaster
+
+itself : (n : ℕ) → (n == n) ≡ true
+itself n = eq-eqb n n refl
 
 own_absent : (own most : ℕ) (spot : Spot) (key : List ℕ) (ms : Members)
     → get_member key ms ≡ None
@@ -171,7 +120,7 @@ own_absent : (own most : ℕ) (spot : Spot) (key : List ℕ) (ms : Members)
 unfolding value_mark
 own_absent own most spot key ms none no_number =
     subst (λ n. Tells (if not (unwrap_or n own == own) then Some GrandmasterDiffers else None) (own_mark_if (has_octet own n) spot key ms)) (sym no_number)
-    (subst (λ b. Tells (if not b then Some GrandmasterDiffers else None) (mark_if (is_some (get_member key ms)) (BadClock GrandmasterDiffers) spot (at_key key))) (sym (same_accuracy own))
+    (subst (λ b. Tells (if not b then Some GrandmasterDiffers else None) (mark_if (is_some (get_member key ms)) (BadClock GrandmasterDiffers) spot (at_key key))) (sym (itself own))
     (ap (λ o. first_refusal (mark_if (is_some o) (BadClock GrandmasterDiffers) spot (at_key key))) none))
 
 own_case : (own most : ℕ) (spot : Spot) (key : List ℕ) (ms : Members) (o : Option Data)

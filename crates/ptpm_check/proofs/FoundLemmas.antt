@@ -73,51 +73,51 @@ Pairs R [] (y ∷ ys) = ⊥
 Pairs R (x ∷ xs) [] = ⊥
 Pairs R (x ∷ xs) (y ∷ ys) = R x y × Pairs R xs ys
 
+-- what is shown for two lists by their pairs
+pub pairs-by : {A B : Type 0} (R : A → B → Type 0) (P : List A → List B → Type 0)
+    → P [] []
+    → ((x : A) (y : B) (xs : List A) (ys : List B) → R x y → Pairs R xs ys → P xs ys → P (x ∷ xs) (y ∷ ys))
+    → (xs : List A) (ys : List B) → Pairs R xs ys → P xs ys
+pairs-by R P none more [] [] r = none
+pairs-by R P none more [] (y ∷ ys) r = absurd r
+pairs-by R P none more (x ∷ xs) [] r = absurd r
+pairs-by R P none more (x ∷ xs) (y ∷ ys) r = more x y xs ys r.0 r.1 (pairs-by R P none more xs ys r.1)
+
 pub pairs-append : {A B : Type 0} (R : A → B → Type 0) (xs : List A) (ys : List B) (us : List A) (vs : List B)
     → Pairs R xs ys
     → Pairs R us vs
     → Pairs R (xs ++ us) (ys ++ vs)
-pairs-append R [] [] us vs r s = s
-pairs-append R [] (y ∷ ys) us vs r s = absurd r
-pairs-append R (x ∷ xs) [] us vs r s = absurd r
-pairs-append R (x ∷ xs) (y ∷ ys) us vs r s = (r.0, pairs-append R xs ys us vs r.1 s)
+pairs-append R xs ys us vs r s =
+    pairs-by R (λ xs ys. Pairs R (xs ++ us) (ys ++ vs)) s (λ x y xs ys here rest more. (here, more)) xs ys r
 
 pub pairs-any : {A B : Type 0} (R : A → B → Type 0) (p : A → Bool) (q : B → Bool)
     → ((x : A) (y : B) → R x y → q y ≡ p x)
     → (xs : List A) (ys : List B) → Pairs R xs ys → list_any q ys ≡ list_any p xs
-pairs-any R p q h [] [] r = refl
-pairs-any R p q h [] (y ∷ ys) r = absurd r
-pairs-any R p q h (x ∷ xs) [] r = absurd r
-pairs-any R p q h (x ∷ xs) (y ∷ ys) r = or_same _ _ _ _ (h x y r.0) (pairs-any R p q h xs ys r.1)
+pairs-any R p q h xs ys r =
+    pairs-by R (λ xs ys. list_any q ys ≡ list_any p xs) refl (λ x y xs ys here rest more. or_same _ _ _ _ (h x y here) more) xs ys r
 
 pub pairs-each : {A B C : Type 0} (R : A → B → Type 0) (of : ℕ → B → List C) (p : A → Bool)
     → ((n : ℕ) (x : A) (y : B) → R x y → found (of n y) ≡ p x)
     → (n : ℕ) (xs : List A) (ys : List B) → Pairs R xs ys → found (each of n ys) ≡ list_any p xs
-pairs-each R of p h n [] [] r = refl
-pairs-each R of p h n [] (y ∷ ys) r = absurd r
-pairs-each R of p h n (x ∷ xs) [] r = absurd r
-pairs-each R of p h n (x ∷ xs) (y ∷ ys) r =
-    found-append (of n y) (each of (n + 1) ys) ∙ or_same _ _ _ _ (h n x y r.0) (pairs-each R of p h (n + 1) xs ys r.1)
+pairs-each R of p h n xs ys r =
+    pairs-by R (λ xs ys. (n : ℕ) → found (each of n ys) ≡ list_any p xs) (λ n. refl)
+    (λ x y xs ys here rest more n. found-append (of n y) (each of (n + 1) ys) ∙ or_same _ _ _ _ (h n x y here) (more (n + 1))) xs ys r n
 
 -- the same elements, of which the first pass no test
 pub pairs-with : {A B : Type 0} (R : A → B → Type 0) (p : A → Bool) (xs : List A) (ys : List B)
     → Pairs R xs ys
     → list_any p xs ≡ false
     → Pairs (λ x y. R x y × (p x ≡ false)) xs ys
-pairs-with R p [] [] r h = tt
-pairs-with R p [] (y ∷ ys) r h = absurd r
-pairs-with R p (x ∷ xs) [] r h = absurd r
-pairs-with R p (x ∷ xs) (y ∷ ys) r h =
-    let parts = or_parts (p x) (list_any p xs) h in ((r.0, parts.0), pairs-with R p xs ys r.1 parts.1)
+pairs-with R p xs ys r h =
+    pairs-by R (λ xs ys. list_any p xs ≡ false → Pairs (λ x y. R x y × (p x ≡ false)) xs ys) (λ h. tt)
+    (λ x y xs ys here rest more h. let parts = or_parts (p x) (list_any p xs) h in ((here, parts.0), more parts.1)) xs ys r h
 
 pub pairs-found : {A B C : Type 0} (R : A → B → Type 0) (of : B → List C) (p : A → Bool)
     → ((x : A) (y : B) → R x y → found (of y) ≡ p x)
     → (xs : List A) (ys : List B) → Pairs R xs ys → found (flat_map of ys) ≡ list_any p xs
-pairs-found R of p h [] [] r = refl
-pairs-found R of p h [] (y ∷ ys) r = absurd r
-pairs-found R of p h (x ∷ xs) [] r = absurd r
-pairs-found R of p h (x ∷ xs) (y ∷ ys) r =
-    found-append (of y) (flat_map of ys) ∙ or_same _ _ _ _ (h x y r.0) (pairs-found R of p h xs ys r.1)
+pairs-found R of p h xs ys r =
+    pairs-by R (λ xs ys. found (flat_map of ys) ≡ list_any p xs) refl
+    (λ x y xs ys here rest more. found-append (of y) (flat_map of ys) ∙ or_same _ _ _ _ (h x y here) more) xs ys r
 
 -- how many pass, one after another
 abbrev tally : {A : Type 0} → (A → Bool) → List A → ℕ
@@ -133,11 +133,9 @@ cond_same a b m n h k = ap (λ x. cond x (1 + m) m) h ∙ ap (λ x. cond a (1 + 
 pairs-tally : {A B : Type 0} (R : A → B → Type 0) (p : A → Bool) (q : B → Bool)
     → ((x : A) (y : B) → R x y → q y ≡ p x)
     → (xs : List A) (ys : List B) → Pairs R xs ys → tally q ys ≡ tally p xs
-pairs-tally R p q h [] [] r = refl
-pairs-tally R p q h [] (y ∷ ys) r = absurd r
-pairs-tally R p q h (x ∷ xs) [] r = absurd r
-pairs-tally R p q h (x ∷ xs) (y ∷ ys) r =
-    cond_same (p x) (q y) (tally q ys) (tally p xs) (h x y r.0) (pairs-tally R p q h xs ys r.1)
+pairs-tally R p q h xs ys r =
+    pairs-by R (λ xs ys. tally q ys ≡ tally p xs) refl
+    (λ x y xs ys here rest more. cond_same (p x) (q y) (tally q ys) (tally p xs) (h x y here) more) xs ys r
 
 pub pairs-count : {A B : Type 0} (R : A → B → Type 0) (p : A → Bool) (q : B → Bool)
     → ((x : A) (y : B) → R x y → q y ≡ p x)

@@ -14,7 +14,7 @@ use Rattle.ptpm_check.specs.Heads.{ClockHeadValue, EndHeadValue, SessionHeadValu
 use Rattle.ptpm_check.specs.Marks.{Spot, each, if_any, in_table}
 use Rattle.ptpm_check.specs.declared.place.Array.TheVariants as arrays
 use Rattle.ptpm_check.proofs.EntryTypes.{EndEntry, PortEntry, SessionEntry}
-use Rattle.ptpm_check.proofs.FoundLemmas.{Pairs, pairs-append}
+use Rattle.ptpm_check.proofs.FoundLemmas.{Pairs, pairs-append, pairs-by}
 use Rattle.ptpm_check.proofs.ShapeLemmas.{IsTable, items-in, table-case}
 use Rattle.ptpm_check.proofs.TableLemmas.{array-at, given, name_given}
 
@@ -43,31 +43,25 @@ pairs-read {A} of R h (item d ds) xs e =
     subst (λ l. Pairs R l (d ∷ list_of ds)) more.2 (h d a.0 a.1, pairs-read of R h ds more.0 more.1)
 
 pub pairs-length : {A B : Type 0} (R : A → B → Type 0) (xs : List A) (ys : List B) → Pairs R xs ys → length ys ≡ length xs
-pairs-length R [] [] r = refl
-pairs-length R [] (y ∷ ys) r = absurd r
-pairs-length R (x ∷ xs) [] r = absurd r
-pairs-length R (x ∷ xs) (y ∷ ys) r = ap suc (pairs-length R xs ys r.1)
+pairs-length R xs ys r = pairs-by R (λ xs ys. length ys ≡ length xs) refl (λ x y xs ys here rest more. ap suc more) xs ys r
 
 -- one is made of each
 pub pairs-made : {A B C : Type 0} (R : A → B → Type 0) (Q : A → C → Type 0) (make : ℕ → B → List C)
     → ((n : ℕ) (x : A) (y : B) → R x y → (z : C) × (make n y ≡ z ∷ []) × Q x z)
     → (n : ℕ) (xs : List A) (ys : List B) → Pairs R xs ys → Pairs Q xs (each make n ys)
-pairs-made R Q make h n [] [] r = tt
-pairs-made R Q make h n [] (y ∷ ys) r = absurd r
-pairs-made R Q make h n (x ∷ xs) [] r = absurd r
-pairs-made R Q make h n (x ∷ xs) (y ∷ ys) r =
-    let z = h n x y r.0 in
-    subst (λ l. Pairs Q (x ∷ xs) (l ++ each make (n + 1) ys)) (sym z.1) (z.2, pairs-made R Q make h (n + 1) xs ys r.1)
+pairs-made R Q make h n xs ys r =
+    pairs-by R (λ xs ys. (n : ℕ) → Pairs Q xs (each make n ys)) (λ n. tt)
+    (λ x y xs ys here rest more n.
+    let z = h n x y here in
+    subst (λ l. Pairs Q (x ∷ xs) (l ++ each make (n + 1) ys)) (sym z.1) (z.2, more (n + 1))) xs ys r n
 
 -- some are made of each
 pub pairs-flat : {A B C D : Type 0} (R : A → B → Type 0) (Q : D → C → Type 0) (of : A → List D) (make : ℕ → B → List C)
     → ((n : ℕ) (x : A) (y : B) → R x y → Pairs Q (of x) (make n y))
     → (n : ℕ) (xs : List A) (ys : List B) → Pairs R xs ys → Pairs Q (flat_map of xs) (each make n ys)
-pairs-flat R Q of make h n [] [] r = tt
-pairs-flat R Q of make h n [] (y ∷ ys) r = absurd r
-pairs-flat R Q of make h n (x ∷ xs) [] r = absurd r
-pairs-flat R Q of make h n (x ∷ xs) (y ∷ ys) r =
-    pairs-append Q (of x) (make n y) (flat_map of xs) (each make (n + 1) ys) (h n x y r.0) (pairs-flat R Q of make h (n + 1) xs ys r.1)
+pairs-flat R Q of make h n xs ys r =
+    pairs-by R (λ xs ys. (n : ℕ) → Pairs Q (flat_map of xs) (each make n ys)) (λ n. tt)
+    (λ x y xs ys here rest more n. pairs-append Q (of x) (make n y) (flat_map of xs) (each make (n + 1) ys) (h n x y here) (more (n + 1))) xs ys r n
 
 -- ---- tables of ports
 

@@ -1,3 +1,4 @@
+pub mod Loops
 pub mod ItemLemmas
 pub mod KeyLemmas
 pub mod EntryTypes

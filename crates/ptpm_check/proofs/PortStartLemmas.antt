@@ -2,20 +2,19 @@
 use Rattle.std.proofs.Common.{arith, ◌≡◌, ℕ, ◌+◌, ◌<◌, ◌≤◌, zero, suc, ℤ, pos, ◌==◌, nat_le, Bool, true, false, not, ◌&&◌, if◌then◌else◌, List, [], ◌∷◌, ◌++◌, Option, Some, None, refl, ap, sym, subst, ◌∙◌, is_some, is_none, is_err, codes, flat_map, map, ne_eqb, option_and_then, option_map, unwrap_or}
 use Rattle.std.specs.List.{list_all, list_any, range_with_len}
 use Rattle.std.specs.Option.{option_or}
-use Rattle.std.specs.Str.{chars, is_utf8}
 use Rattle.std.proofs.lemmas.Bool.{and_parts, eqb-true, leb-true, or_parts}
 use Rattle.std.proofs.lemmas.Bool.Decides.{nat_tests}
 use Rattle.toml.specs.Data.{Data, Members, as_integer, as_table, get_member}
 use Rattle.ptpm_data.specs.PortState.{state_of}
-use Rattle.ptpm_data.specs.Ranges.{is_description, is_in_range}
-use Rattle.ptpm_data.specs.ManagementId.{set_of}
-use Rattle.ptpm_data.specs.Start.{clock_fault, count_fault, default_clock, default_data_set, default_port, grandmaster_fault, parent_data_set, port_fault, ports_fault, settings_fault, start_fault, start_of, start_settings, started, unless}
+use Rattle.ptpm_data.specs.MemberNames.{member_name}
+use Rattle.ptpm_data.specs.PortSetting.{row}
+use Rattle.ptpm_data.specs.Ranges.{is_in_range}
+use Rattle.ptpm_data.specs.Start.{default_port, is_in_port_range, judged_of_port, port_fault, ports_fault, start_settings}
+use Rattle.ptpm_data.specs.declared.members.Member.{Member}
 use Rattle.ptpm_data.specs.declared.members.Member.TheVariants as members
 use Rattle.ptpm_data.specs.declared.port_setting.PortSetting.{PortSetting}
 use Rattle.ptpm_data.specs.declared.port_setting.PortSetting.TheVariants as settings
-use Rattle.ptpm_data.specs.declared.start.PortStart.{PortStart}
 use Rattle.ptpm_data.specs.declared.start.StartError.{StartError}
-use Rattle.ptpm_data.specs.declared.start.StartError.TheVariants.{BadValue}
 use Rattle.ptpm_script.specs.declared.net_error.NetError.TheVariants.{BadClock}
 use Rattle.ptpm_script.specs.NetworkFile.{port_over, port_start}
 use Rattle.ptpm_script.specs.NetworkText.{has_like, same_number, start_of_port}
@@ -23,95 +22,11 @@ use Rattle.ptpm_script.specs.Values.{natural_at, natural_up_to, signed_at, signe
 use Rattle.ptpm_check.specs.Faults.{first_refusal}
 use Rattle.ptpm_check.specs.Heads.{members_number}
 use Rattle.ptpm_check.specs.Marks.{Mark, Spot, each, in_port}
-use Rattle.ptpm_check.specs.StartFaults.{fails, port_fails, port_member_marks, port_ranges, port_start_marks, port_start_members, ports_start_marks, rank, rank_marks, rank_of_number, ranked, some_clock}
+use Rattle.ptpm_check.specs.StartFaults.{port_member_marks, port_start_marks, port_start_members, ports_start_marks, rank, rank_marks, rank_of_number, ranked}
 use Rattle.ptpm_check.proofs.EntryTypes.{PortEntry}
-use Rattle.ptpm_check.proofs.FoundLemmas.{Pairs}
+use Rattle.ptpm_check.proofs.FoundLemmas.{Pairs, pairs-by}
 use Rattle.ptpm_check.proofs.HeadLemmas.{IsPort}
-use Rattle.ptpm_check.proofs.TellLemmas.{Tells, or_none, tells-append, tells-value}
-
--- ---- a port that has all others as this profile has them
-
-pub err_unless : {A : Type 0} (o : Option StartError) (a : A) → is_err (unless o a) ≡ is_some o
-err_unless None a = refl
-err_unless (Some e) a = refl
-
-pub count_one : count_fault 1 ≡ None
-unfolding count_fault
-count_one = refl
-
-pub some_if : (b : Bool) (e : StartError) → is_some (if b then Some e else None) ≡ b
-some_if true e = refl
-some_if false e = refl
-
-clock_starts : clock_fault (default_clock some_clock 0) ≡ None
-unfolding clock_fault is_description set_of is_utf8 chars
-clock_starts = refl
-
-grandmaster_starts : grandmaster_fault (default_data_set (default_clock some_clock 0)) (parent_data_set (default_clock some_clock 0)) ≡ None
-unfolding grandmaster_fault
-grandmaster_starts = refl
-
-pub ports_one : (p : PortStart) → ports_fault (p ∷ []) ≡ port_fault p
-unfolding ports_fault
-ports_one p = or_none (port_fault p)
-
--- a port fails by itself exactly if it has a fault
-port_fails_is : (p : PortStart) → port_fails p ≡ is_some (port_fault p)
-unfolding fails start_of
-port_fails_is p =
-    let c = default_clock some_clock 0 in
-    let g = grandmaster_fault (default_data_set c) (parent_data_set c) in
-    err_unless (start_fault c (p ∷ [])) (started c (p ∷ []))
-    ∙ ap (λ o. is_some (option_or o (option_or (clock_fault c) (option_or (ports_fault (p ∷ [])) g)))) count_one
-    ∙ ap (λ o. is_some (option_or o (option_or (ports_fault (p ∷ [])) g))) clock_starts
-    ∙ ap (λ o. is_some (option_or o g)) (ports_one p)
-    ∙ ap (λ o. is_some (option_or (port_fault p) o)) grandmaster_starts
-    ∙ ap is_some (or_none (port_fault p))
-
-settings_start : settings_fault (start_settings default_port) ≡ None
-unfolding settings_fault
-settings_start = refl
-
-abbrev bad_setting : PortSetting → ℤ → Bool
-bad_setting s value = not (is_in_range s value)
-
-state_alone : (n : ℕ) → port_fails (record default_port { state = n }) ≡ is_none (state_of n)
-unfolding port_fault
-state_alone n =
-    port_fails_is (record default_port { state = n })
-    ∙ ap (λ o. is_some (option_or (if is_none (state_of n) then Some (BadValue members.State) else None) o)) settings_start
-    ∙ ap is_some (or_none (if is_none (state_of n) then Some (BadValue members.State) else None))
-    ∙ some_if (is_none (state_of n)) (BadValue members.State)
-
-announce_alone : (z : ℤ) → port_fails (record default_port { log_announce = z }) ≡ bad_setting settings.LogAnnounceInterval z
-unfolding port_fault settings_fault
-announce_alone z =
-    port_fails_is (record default_port { log_announce = z })
-    ∙ some_if (bad_setting settings.LogAnnounceInterval z) (BadValue (members.Setting settings.LogAnnounceInterval))
-
-receipt_alone : (n : ℕ) → port_fails (record default_port { receipt_timeout = n }) ≡ bad_setting settings.AnnounceReceiptTimeout (pos n)
-unfolding port_fault settings_fault
-receipt_alone n =
-    port_fails_is (record default_port { receipt_timeout = n })
-    ∙ some_if (bad_setting settings.AnnounceReceiptTimeout (pos n)) (BadValue (members.Setting settings.AnnounceReceiptTimeout))
-
-sync_alone : (z : ℤ) → port_fails (record default_port { log_sync = z }) ≡ bad_setting settings.LogSyncInterval z
-unfolding port_fault settings_fault
-sync_alone z =
-    port_fails_is (record default_port { log_sync = z })
-    ∙ some_if (bad_setting settings.LogSyncInterval z) (BadValue (members.Setting settings.LogSyncInterval))
-
-delay_alone : (n : ℕ) → port_fails (record default_port { delay_mechanism = n }) ≡ bad_setting settings.DelayMechanism (pos n)
-unfolding port_fault settings_fault
-delay_alone n =
-    port_fails_is (record default_port { delay_mechanism = n })
-    ∙ some_if (bad_setting settings.DelayMechanism (pos n)) (BadValue (members.Setting settings.DelayMechanism))
-
-pdelay_alone : (z : ℤ) → port_fails (record default_port { log_min_pdelay = z }) ≡ bad_setting settings.LogMinPdelayReqInterval z
-unfolding port_fault settings_fault
-pdelay_alone z =
-    port_fails_is (record default_port { log_min_pdelay = z })
-    ∙ some_if (bad_setting settings.LogMinPdelayReqInterval z) (BadValue (members.Setting settings.LogMinPdelayReqInterval))
+use Rattle.ptpm_check.proofs.TellLemmas.{Tells, or_none, tells-append, tells-out}
 
 -- ---- a port's table
 
@@ -123,38 +38,30 @@ signed_absent : (half : ℕ) (key : List ℕ) (ms : Members) → get_member key 
 unfolding signed_at
 signed_absent half key ms none = ap (λ o. option_and_then (signed_up_to half) (option_and_then as_integer o)) none
 
-six_ifs : (a b c d e f : Bool) (u v w x y z : StartError)
-    → option_or (option_or (option_or (option_or (option_or (if a then Some u else None) (if b then Some v else None)) (if c then Some w else None)) (if d then Some x else None)) (if e then Some y else None)) (if f then Some z else None)
-    ≡ option_or (if a then Some u else None) (if b then Some v else if c then Some w else if d then Some x else if e then Some y else if f then Some z else None)
-six_ifs true b c d e f u v w x y z = refl
-six_ifs false true c d e f u v w x y z = refl
-six_ifs false false true d e f u v w x y z = refl
-six_ifs false false false true e f u v w x y z = refl
-six_ifs false false false false true f u v w x y z = refl
-six_ifs false false false false false f u v w x y z = refl
+setting_absent : (s : PortSetting) (ms : Members)
+    → get_member (row s).name ms ≡ None
+    → is_in_range s (start_settings (port_start ms) s) ≡ true
+unfolding port_over
+setting_absent settings.LogAnnounceInterval ms none =
+    ap (λ o. is_in_range settings.LogAnnounceInterval (unwrap_or o (pos 1))) (signed_absent 128 (codes "log_announce") ms none)
+setting_absent settings.AnnounceReceiptTimeout ms none =
+    ap (λ o. is_in_range settings.AnnounceReceiptTimeout (pos (unwrap_or o 3))) (natural_absent 255 (codes "receipt_timeout") ms none)
+setting_absent settings.LogSyncInterval ms none =
+    ap (λ o. is_in_range settings.LogSyncInterval (unwrap_or o (pos 0))) (signed_absent 128 (codes "log_sync") ms none)
+setting_absent settings.DelayMechanism ms none =
+    ap (λ o. is_in_range settings.DelayMechanism (pos (unwrap_or o 1))) (natural_absent 255 (codes "delay_mechanism") ms none)
+setting_absent settings.LogMinPdelayReqInterval ms none =
+    ap (λ o. is_in_range settings.LogMinPdelayReqInterval (unwrap_or o (pos 0))) (signed_absent 128 (codes "log_min_pdelay") ms none)
+
+port_absent : (ms : Members) (m : Member) → get_member (member_name m) ms ≡ None → is_in_port_range (port_start ms) m ≡ true
+unfolding port_over
+port_absent ms members.State none = ap (λ o. is_some (state_of (unwrap_or o 6))) (natural_absent 255 (codes "state") ms none)
+port_absent ms (members.Setting s) none = setting_absent s ms none
+port_absent ms m none = refl
 
 port_tells : (spot : Spot) (ms : Members) → Tells (port_fault (port_start ms)) (port_member_marks spot ms)
-unfolding port_member_marks port_fault settings_fault port_over
-port_tells spot ms =
-    let p = port_start ms in
-    let a = tells-value (is_none (state_of p.state)) (port_fails (record default_port { state = p.state })) (BadValue members.State) spot (codes "state") ms (state_alone p.state)
-    (λ none. ap (λ o. is_none (state_of (unwrap_or o 6))) (natural_absent 255 (codes "state") ms none)) in
-    let b = tells-value (bad_setting settings.LogAnnounceInterval p.log_announce) (port_fails (record default_port { log_announce = p.log_announce })) (BadValue (members.Setting settings.LogAnnounceInterval)) spot (codes "log_announce") ms (announce_alone p.log_announce)
-    (λ none. ap (λ o. bad_setting settings.LogAnnounceInterval (unwrap_or o (pos 1))) (signed_absent 128 (codes "log_announce") ms none)) in
-    let c = tells-value (bad_setting settings.AnnounceReceiptTimeout (pos p.receipt_timeout)) (port_fails (record default_port { receipt_timeout = p.receipt_timeout })) (BadValue (members.Setting settings.AnnounceReceiptTimeout)) spot (codes "receipt_timeout") ms (receipt_alone p.receipt_timeout)
-    (λ none. ap (λ o. bad_setting settings.AnnounceReceiptTimeout (pos (unwrap_or o 3))) (natural_absent 255 (codes "receipt_timeout") ms none)) in
-    let d = tells-value (bad_setting settings.LogSyncInterval p.log_sync) (port_fails (record default_port { log_sync = p.log_sync })) (BadValue (members.Setting settings.LogSyncInterval)) spot (codes "log_sync") ms (sync_alone p.log_sync)
-    (λ none. ap (λ o. bad_setting settings.LogSyncInterval (unwrap_or o (pos 0))) (signed_absent 128 (codes "log_sync") ms none)) in
-    let e = tells-value (bad_setting settings.DelayMechanism (pos p.delay_mechanism)) (port_fails (record default_port { delay_mechanism = p.delay_mechanism })) (BadValue (members.Setting settings.DelayMechanism)) spot (codes "delay_mechanism") ms (delay_alone p.delay_mechanism)
-    (λ none. ap (λ o. bad_setting settings.DelayMechanism (pos (unwrap_or o 1))) (natural_absent 255 (codes "delay_mechanism") ms none)) in
-    let f = tells-value (bad_setting settings.LogMinPdelayReqInterval p.log_min_pdelay) (port_fails (record default_port { log_min_pdelay = p.log_min_pdelay })) (BadValue (members.Setting settings.LogMinPdelayReqInterval)) spot (codes "log_min_pdelay") ms (pdelay_alone p.log_min_pdelay)
-    (λ none. ap (λ o. bad_setting settings.LogMinPdelayReqInterval (unwrap_or o (pos 0))) (signed_absent 128 (codes "log_min_pdelay") ms none)) in
-    subst (λ o. Tells o (port_ranges spot ms p))
-    (six_ifs (is_none (state_of p.state)) (bad_setting settings.LogAnnounceInterval p.log_announce) (bad_setting settings.AnnounceReceiptTimeout (pos p.receipt_timeout))
-    (bad_setting settings.LogSyncInterval p.log_sync) (bad_setting settings.DelayMechanism (pos p.delay_mechanism)) (bad_setting settings.LogMinPdelayReqInterval p.log_min_pdelay)
-    (BadValue members.State) (BadValue (members.Setting settings.LogAnnounceInterval)) (BadValue (members.Setting settings.AnnounceReceiptTimeout))
-    (BadValue (members.Setting settings.LogSyncInterval)) (BadValue (members.Setting settings.DelayMechanism)) (BadValue (members.Setting settings.LogMinPdelayReqInterval)))
-    (tells-append _ _ _ _ (tells-append _ _ _ _ (tells-append _ _ _ _ (tells-append _ _ _ _ (tells-append _ _ _ _ a b) c) d) e) f)
+unfolding port_member_marks port_fault
+port_tells spot ms = tells-out (is_in_port_range (port_start ms)) spot ms judged_of_port (port_absent ms)
 
 port_here : (clock n : ℕ) (p : PortEntry) (d : Data) → IsPort p d → Tells (port_fault p.start) (port_start_marks clock n d)
 port_here clock n p d k =
@@ -163,9 +70,9 @@ port_here clock n p d k =
 
 -- ---- the ports of a clock
 
-pub default_starts : port_fault default_port ≡ None
+default_starts : port_fault default_port ≡ None
 unfolding port_fault
-default_starts = settings_start
+default_starts = refl
 
 -- a port that is there, and its table
 record IsThere (count : ℕ) (p : PortEntry) (d : Data) : Type 0 where
@@ -267,11 +174,9 @@ past_apart n count r high past = ne_eqb n r (λ same. absurd (omega arith))
 
 start_past : (count r : ℕ) (ps : List PortEntry) (ds : List Data) → Pairs (IsThere count) ps ds → count < r
     → start_of_port ps r ≡ default_port
-start_past count r [] [] beside past = refl
-start_past count r [] (d ∷ ds) beside past = absurd beside
-start_past count r (p ∷ ps) [] beside past = absurd beside
-start_past count r (p ∷ ps) (d ∷ ds) beside past =
-    ap (λ b. if b then p.start else start_of_port ps r) (past_apart p.number count r beside.0.high past) ∙ start_past count r ps ds beside.1 past
+start_past count r ps ds beside past =
+    pairs-by (IsThere count) (λ ps ds. start_of_port ps r ≡ default_port) refl
+    (λ p d ps ds here rest more. ap (λ b. if b then p.start else start_of_port ps r) (past_apart p.number count r here.high past) ∙ more) ps ds beside
 
 none_past : (count first len : ℕ) (ps : List PortEntry) (ds : List Data) → Pairs (IsThere count) ps ds → count < first
     → faults_from ps first len ≡ None

@@ -1,5 +1,5 @@
 -- A session has faults of its shape exactly if it has no meaning in the file's version.
-use Rattle.std.proofs.Common.{◌≡◌, ℕ, ◌+◌, pos, Bool, true, false, not, ◌||◌, ◌⊎◌, inl, inr, ◌==◌, if◌then◌else◌, List, [], ◌∷◌, ◌++◌, Option, Some, None, refl, ap, sym, ◌∙◌, is_some, is_none, bit_and, bit_or, bytes_eq, codes, length, option_map, option_and_then}
+use Rattle.std.proofs.Common.{◌≡◌, ℕ, ◌+◌, pos, Bool, true, false, not, ◌||◌, ◌⊎◌, inl, inr, ◌==◌, if◌then◌else◌, List, [], ◌∷◌, ◌++◌, Option, Some, None, refl, ap, sym, subst, ◌∙◌, is_some, is_none, bit_and, bit_or, bytes_eq, codes, length, option_map, option_and_then}
 use Rattle.std.specs.List.{list_any}
 use Rattle.std.proofs.lemmas.List.Folds.{list_any-append}
 use Rattle.toml.specs.Data.{Data, as_array, as_str, as_table, Items, no_items, item, Members, get_member}
@@ -24,16 +24,9 @@ use Rattle.ptpm_check.proofs.TableLemmas.{array_given, fitting, given, port_give
 
 -- ---- rights, each once
 
--- which of the three rights are in a set
+-- the set of those of the three rights that are in it
 abbrev set_of : Bool → Bool → Bool → ℕ
-set_of false false false = 0
-set_of true false false = 1
-set_of false true false = 2
-set_of true true false = 3
-set_of false false true = 4
-set_of true false true = 5
-set_of false true true = 6
-set_of true true true = 7
+set_of a b c = (if a then 1 else 0) + (if b then 2 else 0) + (if c then 4 else 0)
 
 abbrev IsRight : ℕ → Type 0
 IsRight r = (r ≡ 1) ⊎ ((r ≡ 2) ⊎ (r ≡ 4))
@@ -60,39 +53,28 @@ given_right r before = list_any (λ d. passes (λ k. k == r) (right_in d)) befor
 abbrev set_at : List Data → ℕ
 set_at before = set_of (given_right 1 before) (given_right 2 before) (given_right 4 before)
 
--- whether each right is in a set
-set_bits : (a b c : Bool)
-    → ((bit_and (set_of a b c) 1 == 1) ≡ a) × ((bit_and (set_of a b c) 2 == 2) ≡ b) × ((bit_and (set_of a b c) 4 == 4) ≡ c)
-set_bits false false false = (refl, refl, refl)
-set_bits true false false = (refl, refl, refl)
-set_bits false true false = (refl, refl, refl)
-set_bits true true false = (refl, refl, refl)
-set_bits false false true = (refl, refl, refl)
-set_bits true false true = (refl, refl, refl)
-set_bits false true true = (refl, refl, refl)
-set_bits true true true = (refl, refl, refl)
+-- whether each right is in a set, and what the set is with it
+abbrev IsSet : Bool → Bool → Bool → ℕ → Bool → Type 0
+IsSet a b c r has =
+    ((bit_and (set_of a b c) r == r) ≡ has) × (bit_or (set_of a b c) r ≡ set_of (a || (r == 1)) (b || (r == 2)) (c || (r == 4)))
 
--- a set with one right more
-set_more : (a b c : Bool)
-    → (bit_or (set_of a b c) 1 ≡ set_of (a || true) (b || false) (c || false))
-    × (bit_or (set_of a b c) 2 ≡ set_of (a || false) (b || true) (c || false))
-    × (bit_or (set_of a b c) 4 ≡ set_of (a || false) (b || false) (c || true))
-set_more false false false = (refl, refl, refl)
-set_more true false false = (refl, refl, refl)
-set_more false true false = (refl, refl, refl)
-set_more true true false = (refl, refl, refl)
-set_more false false true = (refl, refl, refl)
-set_more true false true = (refl, refl, refl)
-set_more false true true = (refl, refl, refl)
-set_more true true true = (refl, refl, refl)
+sets : (a b c : Bool) → IsSet a b c 1 a × IsSet a b c 2 b × IsSet a b c 4 c
+sets false false false = ((refl, refl), (refl, refl), (refl, refl))
+sets true false false = ((refl, refl), (refl, refl), (refl, refl))
+sets false true false = ((refl, refl), (refl, refl), (refl, refl))
+sets true true false = ((refl, refl), (refl, refl), (refl, refl))
+sets false false true = ((refl, refl), (refl, refl), (refl, refl))
+sets true false true = ((refl, refl), (refl, refl), (refl, refl))
+sets false true true = ((refl, refl), (refl, refl), (refl, refl))
+sets true true true = ((refl, refl), (refl, refl), (refl, refl))
 
-set_has : (before : List Data) (r : ℕ) → IsRight r → (bit_and (set_at before) r == r) ≡ given_right r before
-set_has before r (inl one) =
-    ap (λ k. bit_and (set_at before) k == k) one ∙ (set_bits (given_right 1 before) (given_right 2 before) (given_right 4 before)).0 ∙ ap (λ k. given_right k before) (sym one)
-set_has before r (inr (inl two)) =
-    ap (λ k. bit_and (set_at before) k == k) two ∙ (set_bits (given_right 1 before) (given_right 2 before) (given_right 4 before)).1 ∙ ap (λ k. given_right k before) (sym two)
-set_has before r (inr (inr four)) =
-    ap (λ k. bit_and (set_at before) k == k) four ∙ (set_bits (given_right 1 before) (given_right 2 before) (given_right 4 before)).2 ∙ ap (λ k. given_right k before) (sym four)
+abbrev IsSetAt : List Data → ℕ → Type 0
+IsSetAt before r = IsSet (given_right 1 before) (given_right 2 before) (given_right 4 before) r (given_right r before)
+
+set_has : (before : List Data) (r : ℕ) → IsRight r → IsSetAt before r
+set_has before r (inl one) = subst (IsSetAt before) (sym one) (sets (given_right 1 before) (given_right 2 before) (given_right 4 before)).0
+set_has before r (inr (inl two)) = subst (IsSetAt before) (sym two) (sets (given_right 1 before) (given_right 2 before) (given_right 4 before)).1
+set_has before r (inr (inr four)) = subst (IsSetAt before) (sym four) (sets (given_right 1 before) (given_right 2 before) (given_right 4 before)).2
 
 given_more : (k : ℕ) (before : List Data) (d : Data) (r : ℕ) → right_in d ≡ Some r
     → (given_right k before || (r == k)) ≡ given_right k (before ++ d ∷ [])
@@ -100,25 +82,9 @@ given_more k before d r is =
     sym (list_any-append (λ e. passes (λ m. m == k) (right_in e)) before (d ∷ [])
     ∙ ap (λ t. given_right k before || t) (or_false (passes (λ m. m == k) (right_in d)) ∙ ap (passes (λ m. m == k)) is))
 
-set_same : (a b c x y z : Bool) → a ≡ x → b ≡ y → c ≡ z → set_of a b c ≡ set_of x y z
-set_same a b c x y z h k l = ap (λ t. set_of t b c) h ∙ ap (λ t. set_of x t c) k ∙ ap (λ t. set_of x y t) l
-
 set_next : (before : List Data) (d : Data) (r : ℕ) → IsRight r → right_in d ≡ Some r → bit_or (set_at before) r ≡ set_at (before ++ d ∷ [])
-set_next before d r (inl one) is =
-    let at = is ∙ ap Some one in
-    ap (bit_or (set_at before)) one
-    ∙ (set_more (given_right 1 before) (given_right 2 before) (given_right 4 before)).0
-    ∙ set_same _ _ _ _ _ _ (given_more 1 before d 1 at) (given_more 2 before d 1 at) (given_more 4 before d 1 at)
-set_next before d r (inr (inl two)) is =
-    let at = is ∙ ap Some two in
-    ap (bit_or (set_at before)) two
-    ∙ (set_more (given_right 1 before) (given_right 2 before) (given_right 4 before)).1
-    ∙ set_same _ _ _ _ _ _ (given_more 1 before d 2 at) (given_more 2 before d 2 at) (given_more 4 before d 2 at)
-set_next before d r (inr (inr four)) is =
-    let at = is ∙ ap Some four in
-    ap (bit_or (set_at before)) four
-    ∙ (set_more (given_right 1 before) (given_right 2 before) (given_right 4 before)).2
-    ∙ set_same _ _ _ _ _ _ (given_more 1 before d 4 at) (given_more 2 before d 4 at) (given_more 4 before d 4 at)
+set_next before d r right is =
+    (set_has before r right).1 ∙ (λ i. set_of (given_more 1 before d r is i) (given_more 2 before d r is i) (given_more 4 before d r is i))
 
 abbrev rights_after : List Data → Items → ℕ → Option ℕ
 rights_after before ds right = if bit_and (set_at before) right == right then None else rights_from (bit_or (set_at before) right) ds
@@ -136,7 +102,7 @@ right_step before d ds rest None is later = refl
 right_step before d ds rest (Some r) is later =
     let right = right_is d r is in
     right_given (given_right r before) (bit_and (set_at before) r == r) rest (rights_from (bit_or (set_at before) r) ds)
-    (set_has before r right) (later ∙ ap (λ set. not (is_some (rights_from set ds))) (sym (set_next before d r right is)))
+    (set_has before r right).0 (later ∙ ap (λ set. not (is_some (rights_from set ds))) (sym (set_next before d r right is)))
 
 rights_found : (spot : Spot) (before : List Data) (ds : Items)
     → found (each_after (right_marks spot) before (list_of ds)) ≡ not (is_some (rights_from (set_at before) ds))

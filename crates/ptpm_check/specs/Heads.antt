@@ -121,9 +121,9 @@ ends_of ms = each ends_in 1 (take 256 (items_at (codes "link") ms))
 
 abbrev pub clock_value : ClockHead → ClockHeadValue
 clock_value c = record {
-  spot = spot_of c.place;
+  spot = spot_of c.at.place;
   number = c.number;
-  table = table_view c.table.now;
+  table = table_view c.at.table.now;
   name = option_map (λ s. s.now) c.name;
   identity = c.identity;
   count = c.count;
@@ -131,8 +131,8 @@ clock_value c = record {
 
 abbrev pub session_value : SessionHead → SessionHeadValue
 session_value s = record {
-  spot = spot_of s.place;
-  table = table_view s.table.now;
+  spot = spot_of s.at.place;
+  table = table_view s.at.table.now;
   name = option_map (λ n. n.now) s.name;
   identity = s.identity;
   target = option_map (λ n. n.now) s.target;

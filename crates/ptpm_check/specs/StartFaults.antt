@@ -1,17 +1,13 @@
--- With what a clock of a network file can't start (this project's profile). Each member is judged by itself: by a clock of one port
--- that has all others as this profile has them.
-use Rattle.std.specs.Prelude.{ℕ, ◌==◌, nat_le, nat_lt, Bool, true, not, ◌&&◌, if◌then◌else◌, List, [], ◌∷◌, ◌++◌, codes, flat_map, Option, Some, None, is_err}
+-- With what a clock of a network file can't start (this project's profile).
+use Rattle.std.specs.Prelude.{ℕ, ◌==◌, nat_le, nat_lt, Bool, true, not, ◌&&◌, if◌then◌else◌, List, [], ◌∷◌, ◌++◌, codes, flat_map, Option, Some, None}
 use Rattle.std.specs.List.{range_with_len}
 use Rattle.toml.specs.Data.{Data, as_table, Members}
 use Rattle.ptpm_codec.specs.Identity.{same_clock}
 use Rattle.ptpm_codec.specs.declared.identity.ClockIdentity.{ClockIdentity}
 use Rattle.ptpm_data.specs.MemberNames.{member_name}
-use Rattle.ptpm_data.specs.Start.{default_clock, default_port, start_of}
+use Rattle.ptpm_data.specs.Start.{is_in_clock_range, is_in_port_range, judged_of_clock, judged_of_port}
 use Rattle.ptpm_data.specs.declared.members.Member.{Member}
-use Rattle.ptpm_data.specs.declared.members.Member.TheVariants as members
-use Rattle.ptpm_data.specs.declared.port_setting.PortSetting.TheVariants as settings
 use Rattle.ptpm_data.specs.declared.start.ClockStart.{ClockStart}
-use Rattle.ptpm_data.specs.declared.start.PortStart.{PortStart}
 use Rattle.ptpm_data.specs.declared.start.StartError.{StartError}
 use Rattle.ptpm_data.specs.declared.start.StartError.TheVariants.{NoPorts, TooManyPorts, BadValue, GrandmasterDiffers}
 use Rattle.ptpm_script.specs.Document.{passes}
@@ -27,6 +23,10 @@ start_mark_if test fault spot key ms = value_mark_if test (BadClock fault) spot 
 abbrev pub member_mark_if : Bool → Member → Spot → Members → List Mark
 member_mark_if test member spot ms = start_mark_if test (BadValue member) spot (member_name member) ms
 
+-- of each of some members that is not in its range
+abbrev pub out_marks : (Member → Bool) → Spot → Members → List Member → List Mark
+out_marks is_in spot ms judged = flat_map (λ member. member_mark_if (not (is_in member)) member spot ms) judged
+
 -- ---- the number of ports
 
 unfoldable pub count_start_marks : ClockHeadValue → List Mark
@@ -39,47 +39,13 @@ count_start_marks c =
 abbrev pub some_clock : ClockIdentity
 some_clock = record { 0 = 0 ∷ 0 ∷ 0 ∷ 0 ∷ 0 ∷ 0 ∷ 0 ∷ 0 ∷ [] }
 
--- a clock of one port can't start
-unfoldable pub fails : ClockStart → PortStart → Bool
-fails c p = is_err (start_of c (p ∷ []))
-
-abbrev pub clock_fails : ClockStart → Bool
-clock_fails c = fails c default_port
-
-abbrev pub only_description : ClockStart → ClockStart
-only_description c = record (default_clock some_clock 0) { user_description = c.user_description }
-
-abbrev pub only_accuracy : ClockStart → ClockStart
-only_accuracy c = record (default_clock some_clock 0) { clock_accuracy = c.clock_accuracy }
-
-abbrev pub only_leaps : ClockStart → ClockStart
-only_leaps c = record (default_clock some_clock 0) { leap61 = c.leap61; leap59 = c.leap59 }
-
-abbrev pub clock_ranges : Spot → Members → ClockStart → List Mark
-clock_ranges spot ms c =
-    member_mark_if (clock_fails (only_description c)) members.UserDescription spot ms
-    ++ member_mark_if (clock_fails (only_accuracy c)) members.ClockAccuracy spot ms
-    ++ member_mark_if (clock_fails (only_leaps c)) members.Leap59 spot ms
-
 unfoldable pub member_marks : Spot → Members → List Mark
-member_marks spot ms = clock_ranges spot ms (clock_start some_clock 0 ms)
+member_marks spot ms = out_marks (is_in_clock_range (clock_start some_clock 0 ms)) spot ms judged_of_clock
 
 -- ---- a port's members
 
-abbrev pub port_fails : PortStart → Bool
-port_fails p = fails (default_clock some_clock 0) p
-
-abbrev pub port_ranges : Spot → Members → PortStart → List Mark
-port_ranges spot ms p =
-    member_mark_if (port_fails (record default_port { state = p.state })) members.State spot ms
-    ++ member_mark_if (port_fails (record default_port { log_announce = p.log_announce })) (members.Setting settings.LogAnnounceInterval) spot ms
-    ++ member_mark_if (port_fails (record default_port { receipt_timeout = p.receipt_timeout })) (members.Setting settings.AnnounceReceiptTimeout) spot ms
-    ++ member_mark_if (port_fails (record default_port { log_sync = p.log_sync })) (members.Setting settings.LogSyncInterval) spot ms
-    ++ member_mark_if (port_fails (record default_port { delay_mechanism = p.delay_mechanism })) (members.Setting settings.DelayMechanism) spot ms
-    ++ member_mark_if (port_fails (record default_port { log_min_pdelay = p.log_min_pdelay })) (members.Setting settings.LogMinPdelayReqInterval) spot ms
-
 unfoldable pub port_member_marks : Spot → Members → List Mark
-port_member_marks spot ms = port_ranges spot ms (port_start ms)
+port_member_marks spot ms = out_marks (is_in_port_range (port_start ms)) spot ms judged_of_port
 
 abbrev pub port_start_members : Spot → Option Members → List Mark
 port_start_members spot None = []

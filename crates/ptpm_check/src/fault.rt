@@ -1,16 +1,11 @@
 //! A fault of a network file.
 
-ghost use Rattle.std.specs.Prelude.{◌≡◌, ◌++◌, ◌∷◌, OnOk, []};
-ghost use Rattle.toml.specs.View.{table_view};
-ghost use Rattle.ptpm_check.specs.Marks.{marked, marks_in, part_of, spot_of, value_mark};
-
 use crate::place::Place;
 use crate::value_text::{Quoted, ValueText};
 use ptpm_data::Member;
-use ptpm_script::{Kind, LEAST_ENDS, MOST_ENDS, NetError, TEXT_OCTETS, value_at};
-use std::alloc::AllocError;
+use ptpm_script::{Kind, LEAST_ENDS, MOST_ENDS, NetError, TEXT_OCTETS};
 use std::fmt;
-use toml::{Table, Value};
+use toml::Value;
 
 /// A fault of a network file, with its place, what is there, and what may be there.
 #[derive(Clone, Copy)]
@@ -104,47 +99,6 @@ const START_RANGES: [(Member, &str); 4] = [
     (Member::Leap59, "not both leap61 and leap59"),
     (Member::State, "1 to 9"),
 ];
-
-/// Adds a fault.
-pub(crate) fn add_fault<'a>(
-    faults: &mut Vec<Fault<'a>>,
-    class: NetError,
-    place: Place<'a>,
-    found: Found<'a>,
-    wanted: Wanted<'a>,
-) -> Result<(), AllocError>
-    ensures { OnOk result
-        (marks_in faults.new.items
-        ≡ marks_in faults.old.items ++ marked class (spot_of place.entry) (part_of found.entry) ∷ []) }
-{
-    faults.push(Fault {
-        class,
-        place,
-        found,
-        wanted,
-    })?;
-    Ok(())
-}
-
-/// Adds a fault of the value at a key; none if there is no value.
-#[tactic(auto, unfolding(crate::specs::Marks::value_mark))]
-pub(crate) fn add_at_key<'a>(
-    faults: &mut Vec<Fault<'a>>,
-    class: NetError,
-    place: Place<'a>,
-    table: &'a Table,
-    key: &'static str,
-    wanted: Wanted<'a>,
-) -> Result<(), AllocError>
-    ensures { OnOk result
-        (marks_in faults.new.items
-        ≡ marks_in faults.old.items ++ value_mark class (spot_of place.entry) key.now (table_view table.now)) }
-{
-    match value_at(table, key) {
-        Some(value) => add_fault(faults, class, place, Found::Value(key, value), wanted),
-        None => Ok(()),
-    }
-}
 
 /// For example, `session 1 "m": attempts = 300: a whole number from 0 to 255`.
 impl fmt::Display for Fault<'_> {

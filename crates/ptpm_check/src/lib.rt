@@ -3,6 +3,7 @@
 
 mod event_lines;
 mod fault;
+mod faults;
 mod heads;
 mod key_faults;
 mod laws;

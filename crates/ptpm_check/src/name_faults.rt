@@ -5,62 +5,148 @@ ghost use Rattle.toml.specs.Data.{as_table};
 ghost use Rattle.toml.specs.View.{view};
 ghost use Rattle.ptpm_script.specs.Document.{passes};
 ghost use Rattle.ptpm_check.specs.Heads.{clock_value, end_value, session_value};
-ghost use Rattle.ptpm_check.specs.Marks.{each, marks_in, spot_of};
-ghost use Rattle.ptpm_check.specs.NameFaults.{clock_named, clock_past_ports, end_name_marks, is_no_end, is_past, lacks, name_marks, past_members, past_port, ports_of, target_marks};
+ghost use Rattle.ptpm_check.specs.Marks.{each, spot_of};
+ghost use Rattle.ptpm_check.specs.NameFaults.{clock_named, clock_past_ports, end_name_marks, is_no_clock, is_no_end, is_past, lacks, name_marks, past_members, past_port, ports_of, target_marks};
 ghost use Rattle.ptpm_check.specs.RepeatFaults.{is_clock_name, is_session_name};
 
-use crate::fault::{Fault, Found, Names, Need, Wanted, add_at_key, add_fault};
+use crate::fault::{Found, Names, Need, Wanted};
+use crate::faults::Faults;
 use crate::heads::{ClockHead, EndHead, Heads, SessionHead};
 use crate::nearest::nearest;
-use crate::place::Place;
+use crate::place::{Place, TableAt};
 use crate::values::{is_name_of, items_at, table_of};
 use ptpm_script::{NetError, u16_at};
 use std::alloc::{AllocError, Global};
 use toml::Value;
 
-/// Adds a fault for each port's table, target and end that is not there.
-#[tactic(auto, unfolding(crate::specs::NameFaults::name_marks))]
-pub(crate) fn add_name_faults<'a>(
-    alloc: Global,
-    faults: &mut Vec<Fault<'a>>,
-    heads: &Heads<'a>,
-) -> Result<(), AllocError>
-    ensures { OnOk result
-        (marks_in faults.new.items
-        ≡ marks_in faults.old.items
-        ++ name_marks (map clock_value heads.now.clocks.items) (map session_value heads.now.sessions.items) (map end_value heads.now.ends.items)) }
-{
-    let clocks = heads.clocks.as_slice();
-    let sessions = heads.sessions.as_slice();
-    add_clocks(faults, clocks)?;
-    add_sessions(alloc, faults, clocks, sessions)?;
-    add_ends(alloc, faults, clocks, sessions, heads.ends.as_slice())
-}
-
-/// Adds a fault for each port's table of a clock that is of no port of it.
-fn add_clocks<'a>(faults: &mut Vec<Fault<'a>>, clocks: &[ClockHead<'a>]) -> Result<(), AllocError>
-    ensures { OnOk result
-        (marks_in faults.new.items
-        ≡ marks_in faults.old.items ++ flat_map clock_past_ports (map clock_value clocks.now)) }
-{
-    for clock in clocks {
-        add_ports(faults, clock)?;
+impl<'a> Faults<'a> {
+    /// Adds a fault for each port's table, target and end that is not there.
+    #[tactic(auto, unfolding(crate::specs::NameFaults::name_marks))]
+    pub(crate) fn add_name_faults(&mut self, heads: &Heads<'a>) -> Result<(), AllocError>
+        ensures { OnOk result
+            (self.new
+            ≡ self.old
+            ++ name_marks (map clock_value heads.now.clocks.items) (map session_value heads.now.sessions.items) (map end_value heads.now.ends.items)) }
+    {
+        let clocks = heads.clocks.as_slice();
+        let sessions = heads.sessions.as_slice();
+        self.add_past_ports(clocks)?;
+        self.add_targets(clocks, sessions)?;
+        self.add_ends(clocks, sessions, heads.ends.as_slice())
     }
-    Ok(())
-}
 
-#[tactic(auto, unfolding(crate::specs::NameFaults::clock_past_ports))]
-fn add_ports<'a>(faults: &mut Vec<Fault<'a>>, clock: &ClockHead<'a>) -> Result<(), AllocError>
-    ensures { OnOk result
-        (marks_in faults.new.items
-        ≡ marks_in faults.old.items ++ clock_past_ports (clock_value clock.now)) }
-{
-    match ports_of(clock) {
-        Some(count) => {
-            let ports = items_at(clock.table, "port");
-            add_past_ports(faults, clock.number, clock.name, count, ports)
+    /// Adds a fault for each port's table of a clock that is of no port of it.
+    fn add_past_ports(&mut self, clocks: &[ClockHead<'a>]) -> Result<(), AllocError>
+        ensures { OnOk result
+            (self.new ≡ self.old ++ flat_map clock_past_ports (map clock_value clocks.now)) }
+    {
+        for clock in clocks {
+            self.add_ports_past(clock)?;
         }
-        None => Ok(()),
+        Ok(())
+    }
+
+    #[tactic(auto, unfolding(crate::specs::NameFaults::clock_past_ports))]
+    fn add_ports_past(&mut self, clock: &ClockHead<'a>) -> Result<(), AllocError>
+        ensures { OnOk result (self.new ≡ self.old ++ clock_past_ports (clock_value clock.now)) }
+    {
+        match ports_of(clock) {
+            Some(count) => self.add_tables_past(clock, count, items_at(clock.at.table, "port")),
+            None => Ok(()),
+        }
+    }
+
+    fn add_tables_past(
+        &mut self,
+        clock: &ClockHead<'a>,
+        count: u16,
+        ports: &'a [Value],
+    ) -> Result<(), AllocError>
+        ensures { OnOk result
+            (self.new ≡ self.old ++ each (past_port clock.now.number count) 1 (map view ports.now)) }
+    {
+        for index in 0..ports.len() {
+            let place = Place::Port(clock.number, clock.name, index + 1);
+            self.add_table_past(place, count, &ports[index])?;
+        }
+        Ok(())
+    }
+
+    fn add_table_past(
+        &mut self,
+        place: Place<'a>,
+        count: u16,
+        port: &'a Value,
+    ) -> Result<(), AllocError>
+        ensures { OnOk result
+            (self.new ≡ self.old ++ past_members (spot_of place.entry) count (as_table (view port.now))) }
+    {
+        let Some(table) = table_of(port) else {
+            return Ok(());
+        };
+        let wanted = other_port(u16_at(table, "number"), count);
+        self.add_at(
+            NetError::NoSuchName,
+            TableAt { place, table },
+            "number",
+            wanted,
+        )
+    }
+
+    /// Adds a fault for each target that is not there.
+    #[tactic(auto, unfolding(crate::specs::NameFaults::target_marks))]
+    fn add_targets(
+        &mut self,
+        clocks: &[ClockHead<'a>],
+        sessions: &[SessionHead<'a>],
+    ) -> Result<(), AllocError>
+        ensures { OnOk result
+            (self.new ≡ self.old ++ flat_map (target_marks (map clock_value clocks.now)) (map session_value sessions.now)) }
+    {
+        for session in sessions {
+            let wanted = other_target(self.alloc(), clocks, session.target)?;
+            self.add_at(NetError::NoSuchName, session.at, "target", wanted)?;
+        }
+        Ok(())
+    }
+
+    /// Adds a fault for each end that is not there.
+    fn add_ends(
+        &mut self,
+        clocks: &[ClockHead<'a>],
+        sessions: &[SessionHead<'a>],
+        ends: &[EndHead<'a>],
+    ) -> Result<(), AllocError>
+        ensures { OnOk result
+            (self.new
+            ≡ self.old
+            ++ flat_map (end_name_marks (map clock_value clocks.now) (map session_value sessions.now)) (map end_value ends.now)) }
+    {
+        for end in ends {
+            self.add_end(clocks, sessions, end)?;
+        }
+        Ok(())
+    }
+
+    #[tactic(auto, unfolding(crate::specs::NameFaults::end_name_marks))]
+    fn add_end(
+        &mut self,
+        clocks: &[ClockHead<'a>],
+        sessions: &[SessionHead<'a>],
+        end: &EndHead<'a>,
+    ) -> Result<(), AllocError>
+        ensures { OnOk result
+            (self.new
+            ≡ self.old
+            ++ end_name_marks (map clock_value clocks.now) (map session_value sessions.now) (end_value end.now)) }
+    {
+        match other_end(self.alloc(), clocks, sessions, end)? {
+            Some(wanted) => {
+                let found = Found::Item("ends", end.number, end.value);
+                self.add(NetError::NoSuchName, end.place, found, wanted)
+            }
+            None => Ok(()),
+        }
     }
 }
 
@@ -76,52 +162,15 @@ fn ports_of(clock: &ClockHead<'_>) -> Option<u16>
     }
 }
 
-fn add_past_ports<'a>(
-    faults: &mut Vec<Fault<'a>>,
-    clock: usize,
-    name: Option<&'a str>,
-    count: u16,
-    ports: &'a [Value],
-) -> Result<(), AllocError>
-    ensures { OnOk result
-        (marks_in faults.new.items
-        ≡ marks_in faults.old.items ++ each (past_port clock count) 1 (map view ports.now)) }
-{
-    for index in 0..ports.len() {
-        let place = Place::Port(clock, name, index + 1);
-        add_past_port(faults, place, count, &ports[index])?;
-    }
-    Ok(())
-}
-
-fn add_past_port<'a>(
-    faults: &mut Vec<Fault<'a>>,
-    place: Place<'a>,
-    count: u16,
-    port: &'a Value,
-) -> Result<(), AllocError>
-    ensures { OnOk result
-        (marks_in faults.new.items
-        ≡ marks_in faults.old.items ++ past_members (spot_of place.entry) count (as_table (view port.now))) }
-{
-    let Some(table) = table_of(port) else {
-        return Ok(());
-    };
-    if has_past(u16_at(table, "number"), count) {
-        let wanted = Wanted::Need(Need::PortUpTo(count));
-        add_at_key(faults, NetError::NoSuchName, place, table, "number", wanted)
-    } else {
-        Ok(())
-    }
-}
-
-/// Whether a port's number is none of a clock with this many ports.
-fn has_past(number: Option<u16>, count: u16) -> bool
-    ensures { result ≡ passes (is_past count) number }
+/// What a port's number may be, if it is none of a clock with this many ports.
+fn other_port(number: Option<u16>, count: u16) -> Option<Wanted<'static>>
+    ensures { is_some result ≡ passes (is_past count) number }
 {
     match number {
-        Some(number) => number == 0 || count < number,
-        None => false,
+        Some(number) if number == 0 || count < number => {
+            Some(Wanted::Need(Need::PortUpTo(count)))
+        }
+        _ => None,
     }
 }
 
@@ -189,90 +238,27 @@ fn nearest_session<'a>(
     nearest(alloc, name, names.as_slice())
 }
 
-/// Adds a fault for each target that is not there.
-fn add_sessions<'a>(
+/// What a target may be, if it is not there.
+fn other_target<'a>(
     alloc: Global,
-    faults: &mut Vec<Fault<'a>>,
     clocks: &[ClockHead<'a>],
-    sessions: &[SessionHead<'a>],
-) -> Result<(), AllocError>
-    ensures { OnOk result
-        (marks_in faults.new.items
-        ≡ marks_in faults.old.items
-        ++ flat_map (target_marks (map clock_value clocks.now)) (map session_value sessions.now)) }
+    target: Option<&str>,
+) -> Result<Option<Wanted<'a>>, AllocError>
+    ensures { IfOk result
+        (λ wanted. is_some wanted
+        ≡ passes (is_no_clock (map clock_value clocks.now)) (option_map (λ n. n.now) target.entry)) }
 {
-    for session in sessions {
-        add_target(alloc, faults, clocks, session)?;
-    }
-    Ok(())
-}
-
-#[tactic(auto, unfolding(crate::specs::NameFaults::target_marks))]
-fn add_target<'a>(
-    alloc: Global,
-    faults: &mut Vec<Fault<'a>>,
-    clocks: &[ClockHead<'a>],
-    session: &SessionHead<'a>,
-) -> Result<(), AllocError>
-    ensures { OnOk result
-        (marks_in faults.new.items
-        ≡ marks_in faults.old.items
-        ++ target_marks (map clock_value clocks.now) (session_value session.now)) }
-{
-    let Some(target) = session.target else {
-        return Ok(());
-    };
-    if is_clock_name(clocks, target) {
-        return Ok(());
-    }
-    let wanted = Wanted::Known(Names::Clock, nearest_clock(alloc, target, clocks)?);
-    let (place, table) = (session.place, session.table);
-    add_at_key(faults, NetError::NoSuchName, place, table, "target", wanted)
-}
-
-/// Adds a fault for each end that is not there.
-fn add_ends<'a>(
-    alloc: Global,
-    faults: &mut Vec<Fault<'a>>,
-    clocks: &[ClockHead<'a>],
-    sessions: &[SessionHead<'a>],
-    ends: &[EndHead<'a>],
-) -> Result<(), AllocError>
-    ensures { OnOk result
-        (marks_in faults.new.items
-        ≡ marks_in faults.old.items
-        ++ flat_map (end_name_marks (map clock_value clocks.now) (map session_value sessions.now)) (map end_value ends.now)) }
-{
-    for end in ends {
-        add_end(alloc, faults, clocks, sessions, end)?;
-    }
-    Ok(())
-}
-
-#[tactic(auto, unfolding(crate::specs::NameFaults::end_name_marks))]
-fn add_end<'a>(
-    alloc: Global,
-    faults: &mut Vec<Fault<'a>>,
-    clocks: &[ClockHead<'a>],
-    sessions: &[SessionHead<'a>],
-    end: &EndHead<'a>,
-) -> Result<(), AllocError>
-    ensures { OnOk result
-        (marks_in faults.new.items
-        ≡ marks_in faults.old.items
-        ++ end_name_marks (map clock_value clocks.now) (map session_value sessions.now) (end_value end.now)) }
-{
-    match wanted_end(alloc, clocks, sessions, end)? {
-        Some(wanted) => {
-            let found = Found::Item("ends", end.number, end.value);
-            add_fault(faults, NetError::NoSuchName, end.place, found, wanted)
-        }
-        None => Ok(()),
+    match target {
+        Some(target) if !is_clock_name(clocks, target) => Ok(Some(Wanted::Known(
+            Names::Clock,
+            nearest_clock(alloc, target, clocks)?,
+        ))),
+        _ => Ok(None),
     }
 }
 
 /// What an end that is not there may be instead; `None` if it is there.
-fn wanted_end<'a>(
+fn other_end<'a>(
     alloc: Global,
     clocks: &[ClockHead<'a>],
     sessions: &[SessionHead<'a>],
@@ -283,7 +269,7 @@ fn wanted_end<'a>(
         ≡ is_no_end (map clock_value clocks.now) (map session_value sessions.now) end.now.name.now end.now.port) }
 {
     match end.port {
-        Some(port) => wanted_port(alloc, clocks, end.name, port),
+        Some(port) => other_clock_port(alloc, clocks, end.name, port),
         None if is_session_name(sessions, end.name) => Ok(None),
         None => {
             let near = nearest_session(alloc, end.name, sessions)?;
@@ -293,7 +279,7 @@ fn wanted_end<'a>(
 }
 
 /// The same of a clock's port.
-fn wanted_port<'a>(
+fn other_clock_port<'a>(
     alloc: Global,
     clocks: &[ClockHead<'a>],
     name: &str,
@@ -307,9 +293,7 @@ fn wanted_port<'a>(
         return Ok(Some(Wanted::Known(Names::Clock, near)));
     };
     match ports_of(&clock) {
-        Some(count) if has_past(Some(port), count) => {
-            Ok(Some(Wanted::Need(Need::PortUpTo(count))))
-        }
-        _ => Ok(None),
+        Some(count) => Ok(other_port(Some(port), count)),
+        None => Ok(None),
     }
 }

@@ -7,14 +7,10 @@ ghost use Rattle.ptpm_script.specs.NetworkText.{network_of};
 ghost use Rattle.ptpm_check.specs.Faults.{content_marks, file_marks, first_class, first_refusal, text_marks};
 ghost use Rattle.ptpm_check.specs.Marks.{marked, marks_in, spot_of, whole};
 
-use crate::fault::{Fault, Found, Need, Wanted, add_fault};
+use crate::fault::{Fault, Found, Need, Wanted};
+use crate::faults::Faults;
 use crate::heads::Heads;
-use crate::limit_faults::add_limit_faults;
-use crate::name_faults::add_name_faults;
 use crate::place::Place;
-use crate::repeat_faults::add_repeat_faults;
-use crate::shape_faults::add_shape_faults;
-use crate::start_faults::add_start_faults;
 use ptpm_codec::OutOfMemory;
 use ptpm_script::{NetError, TEXT_OCTETS};
 use std::alloc::{AllocError, Global};
@@ -57,8 +53,9 @@ impl Document {
             (λ faults. first_class faults.items ≡ first_refusal (document_marks self.now)) }
         ensures all { IfOk result (λ faults. marks_in faults.items ≡ document_marks self.now) }
     {
-        match found_in(alloc, &self.content) {
-            Ok(faults) => Ok(faults),
+        let mut faults = Faults::new(alloc);
+        match faults.add_content(&self.content) {
+            Ok(()) => Ok(faults.into_vec()),
             Err(_) => Err(OutOfMemory),
         }
     }
@@ -95,50 +92,37 @@ fn line_of(text: &str, error: &toml::de::Error) -> usize {
     line
 }
 
-/// The faults that are found in a text, in the order of the refusals.
-fn found_in<'a>(alloc: Global, content: &'a Content) -> Result<Vec<Fault<'a>>, AllocError>
-    ensures { IfOk result (λ faults. marks_in faults.items ≡ content_marks content.now) }
-{
-    let mut faults = Vec::new(alloc);
-    match content {
-        Content::Long => add_text(&mut faults, NetError::TooLong, Place::File, Need::Size)?,
-        Content::Broken(line, error) => {
-            let place = Place::Line(*line);
-            add_text(&mut faults, NetError::NotToml, place, Need::Toml(*error))?;
+impl<'a> Faults<'a> {
+    /// Adds the faults that are found in a text, in the order of the refusals.
+    fn add_content(&mut self, content: &'a Content) -> Result<(), AllocError>
+        ensures { OnOk result (self.new ≡ self.old ++ content_marks content.now) }
+    {
+        match content {
+            Content::Long => self.add_text(NetError::TooLong, Place::File, Need::Size),
+            Content::Broken(line, error) => {
+                self.add_text(NetError::NotToml, Place::Line(*line), Need::Toml(*error))
+            }
+            Content::Table(file) => self.add_file(file),
         }
-        Content::Table(file) => add_file_faults(alloc, &mut faults, file)?,
     }
-    Ok(faults)
-}
 
-/// Adds a fault of a text that is no document.
-fn add_text<'a>(
-    faults: &mut Vec<Fault<'a>>,
-    class: NetError,
-    place: Place<'a>,
-    need: Need,
-) -> Result<(), AllocError>
-    ensures { OnOk result
-        (marks_in faults.new.items
-        ≡ marks_in faults.old.items ++ marked class (spot_of place.entry) whole ∷ []) }
-{
-    add_fault(faults, class, place, Found::Untold, Wanted::Need(need))
-}
+    /// Adds a fault of a text that is no document.
+    fn add_text(&mut self, class: NetError, place: Place<'a>, need: Need) -> Result<(), AllocError>
+        ensures { OnOk result (self.new ≡ self.old ++ marked class (spot_of place.entry) whole ∷ []) }
+    {
+        self.add(class, place, Found::Untold, Wanted::Need(need))
+    }
 
-/// Adds the faults of a document.
-#[tactic(auto, unfolding(crate::specs::Faults::file_marks))]
-fn add_file_faults<'a>(
-    alloc: Global,
-    faults: &mut Vec<Fault<'a>>,
-    file: &'a Table,
-) -> Result<(), AllocError>
-    ensures { OnOk result
-        (marks_in faults.new.items ≡ marks_in faults.old.items ++ file_marks (table_view file.now)) }
-{
-    let heads = Heads::of(alloc, file)?;
-    add_shape_faults(alloc, faults, file)?;
-    add_limit_faults(faults, file, heads.sessions.as_slice())?;
-    add_repeat_faults(alloc, faults, &heads)?;
-    add_name_faults(alloc, faults, &heads)?;
-    add_start_faults(faults, heads.clocks.as_slice())
+    /// Adds the faults of a document.
+    #[tactic(auto, unfolding(crate::specs::Faults::file_marks))]
+    fn add_file(&mut self, file: &'a Table) -> Result<(), AllocError>
+        ensures { OnOk result (self.new ≡ self.old ++ file_marks (table_view file.now)) }
+    {
+        let heads = Heads::of(self.alloc(), file)?;
+        self.add_shape_faults(file)?;
+        self.add_limit_faults(file, heads.sessions.as_slice())?;
+        self.add_repeat_faults(&heads)?;
+        self.add_name_faults(&heads)?;
+        self.add_start_faults(heads.clocks.as_slice())
+    }
 }

@@ -4,6 +4,7 @@ ghost use Rattle.std.specs.Prelude.{◌≡◌};
 ghost use Rattle.ptpm_check.specs.Place.{array_key};
 
 use std::fmt;
+use toml::Table;
 
 /// An array of tables of a network file.
 #[derive(Clone, Copy)]
@@ -66,4 +67,11 @@ impl fmt::Display for Place<'_> {
             Place::Port(clock, None, number) => write!(f, "clock {clock}, port table {number}"),
         }
     }
+}
+
+/// A table, and its place.
+#[derive(Clone, Copy)]
+pub(crate) struct TableAt<'a> {
+    pub(crate) place: Place<'a>,
+    pub(crate) table: &'a Table,
 }

@@ -7,118 +7,203 @@ ghost use Rattle.ptpm_script.specs.Document.{passes};
 ghost use Rattle.ptpm_script.specs.NetworkText.{same_port};
 ghost use Rattle.ptpm_codec.specs.Identity.{same_identity};
 ghost use Rattle.ptpm_check.specs.Heads.{clock_value, end_value, number_in, session_value};
-ghost use Rattle.ptpm_check.specs.Marks.{each_after, marks_in, spot_of};
+ghost use Rattle.ptpm_check.specs.Marks.{each_after, spot_of};
 ghost use Rattle.ptpm_check.specs.RepeatFaults.{clock_repeats, end_repeats, is_clock_identity, is_clock_name, is_number_of, is_same_end, is_session_identity, is_session_name, port_repeats, repeat_marks, session_repeats, twice_if};
 
-use crate::fault::{Fault, Found, Wanted, add_at_key, add_fault};
+use crate::fault::{Found, Wanted};
+use crate::faults::Faults;
 use crate::heads::{ClockHead, EndHead, Heads, SessionHead, number_in};
-use crate::place::Place;
+use crate::place::{Place, TableAt};
 use crate::values::{is_clock, is_name_of, is_number, items_at, table_of};
 use ptpm_codec::{ClockIdentity, PortIdentity};
 use ptpm_script::{NetError, u16_at};
 use std::alloc::{AllocError, Global};
-use toml::{Table, Value};
+use toml::Value;
 
-/// Adds a fault for each port's number, name, identity and end that was given before it.
-#[tactic(auto, unfolding(crate::specs::RepeatFaults::repeat_marks))]
-pub(crate) fn add_repeat_faults<'a>(
-    alloc: Global,
-    faults: &mut Vec<Fault<'a>>,
-    heads: &Heads<'a>,
-) -> Result<(), AllocError>
-    ensures { OnOk result
-        (marks_in faults.new.items
-        ≡ marks_in faults.old.items
-        ++ repeat_marks (map clock_value heads.now.clocks.items) (map session_value heads.now.sessions.items) (map end_value heads.now.ends.items)) }
-{
-    let clocks = heads.clocks.as_slice();
-    add_clocks(alloc, faults, clocks)?;
-    add_sessions(faults, clocks, heads.sessions.as_slice())?;
-    add_ends(faults, heads.ends.as_slice())
-}
+impl<'a> Faults<'a> {
+    /// Adds a fault for each port's number, name, identity and end that was given before it.
+    #[tactic(auto, unfolding(crate::specs::RepeatFaults::repeat_marks))]
+    pub(crate) fn add_repeat_faults(&mut self, heads: &Heads<'a>) -> Result<(), AllocError>
+        ensures { OnOk result
+            (self.new
+            ≡ self.old
+            ++ repeat_marks (map clock_value heads.now.clocks.items) (map session_value heads.now.sessions.items) (map end_value heads.now.ends.items)) }
+    {
+        let clocks = heads.clocks.as_slice();
+        self.add_clock_repeats(clocks)?;
+        self.add_session_repeats(clocks, heads.sessions.as_slice())?;
+        self.add_end_repeats(heads.ends.as_slice())
+    }
 
-/// Adds a fault if the value at a key is at another place too.
-fn add_once<'a>(
-    faults: &mut Vec<Fault<'a>>,
-    place: Place<'a>,
-    table: &'a Table,
-    key: &'static str,
-    other: Option<Place<'a>>,
-) -> Result<(), AllocError>
-    ensures { OnOk result
-        (marks_in faults.new.items
-        ≡ marks_in faults.old.items
-        ++ twice_if (is_some other.entry) (spot_of place.entry) key.now (table_view table.now)) }
-{
-    match other {
-        Some(other) => {
-            let wanted = Wanted::Once(other);
-            add_at_key(faults, NetError::Twice, place, table, key, wanted)
+    /// Adds a fault if the value at a key is at another place too.
+    fn add_once(
+        &mut self,
+        at: TableAt<'a>,
+        key: &'static str,
+        other: Option<Place<'a>>,
+    ) -> Result<(), AllocError>
+        ensures { OnOk result
+            (self.new
+            ≡ self.old
+            ++ twice_if (is_some other.entry) (spot_of at.entry.place) key.now (table_view at.entry.table.now)) }
+    {
+        let wanted = match other {
+            Some(other) => Some(Wanted::Once(other)),
+            None => None,
+        };
+        self.add_at(NetError::Twice, at, key, wanted)
+    }
+
+    fn add_clock_repeats(&mut self, clocks: &[ClockHead<'a>]) -> Result<(), AllocError>
+        ensures { OnOk result
+            (self.new ≡ self.old ++ each_after clock_repeats [] (map clock_value clocks.now)) }
+    {
+        for index in 0..clocks.len() {
+            self.add_clock_repeat(&clocks[..index], &clocks[index])?;
         }
-        None => Ok(()),
+        Ok(())
     }
-}
 
-fn add_clocks<'a>(
-    alloc: Global,
-    faults: &mut Vec<Fault<'a>>,
-    clocks: &[ClockHead<'a>],
-) -> Result<(), AllocError>
-    ensures { OnOk result
-        (marks_in faults.new.items
-        ≡ marks_in faults.old.items ++ each_after clock_repeats [] (map clock_value clocks.now)) }
-{
-    for index in 0..clocks.len() {
-        add_clock(alloc, faults, &clocks[..index], &clocks[index])?;
+    #[tactic(auto, unfolding(crate::specs::RepeatFaults::clock_repeats))]
+    fn add_clock_repeat(
+        &mut self,
+        before: &[ClockHead<'a>],
+        clock: &ClockHead<'a>,
+    ) -> Result<(), AllocError>
+        ensures { OnOk result
+            (self.new ≡ self.old ++ clock_repeats (map clock_value before.now) (clock_value clock.now)) }
+    {
+        let ports = items_at(clock.at.table, "port");
+        self.add_port_repeats(clock.number, clock.name, ports)?;
+        self.add_once(clock.at, "name", clock_named(before, clock.name))?;
+        self.add_once(clock.at, "identity", clock_of(before, clock.identity))
     }
-    Ok(())
-}
 
-#[tactic(auto, unfolding(crate::specs::RepeatFaults::clock_repeats))]
-fn add_clock<'a>(
-    alloc: Global,
-    faults: &mut Vec<Fault<'a>>,
-    before: &[ClockHead<'a>],
-    clock: &ClockHead<'a>,
-) -> Result<(), AllocError>
-    ensures { OnOk result
-        (marks_in faults.new.items
-        ≡ marks_in faults.old.items
-        ++ clock_repeats (map clock_value before.now) (clock_value clock.now)) }
-{
-    let (place, table) = (clock.place, clock.table);
-    let ports = items_at(table, "port");
-    add_ports(alloc, faults, clock.number, clock.name, ports)?;
-    let named = clock_named(before, clock.name);
-    add_once(faults, place, table, "name", named)?;
-    let same = clock_of(before, clock.identity);
-    add_once(faults, place, table, "identity", same)
-}
-
-/// Adds a fault for each table of a port of this clock whose number is that of one before.
-fn add_ports<'a>(
-    alloc: Global,
-    faults: &mut Vec<Fault<'a>>,
-    clock: usize,
-    name: Option<&'a str>,
-    ports: &'a [Value],
-) -> Result<(), AllocError>
-    ensures { OnOk result
-        (marks_in faults.new.items
-        ≡ marks_in faults.old.items ++ each_after (port_repeats clock) [] (map view ports.now)) }
-{
-    let numbers = numbers_of(alloc, ports)?;
-    for index in 0..ports.len() {
-        add_port(
-            faults,
-            clock,
-            name,
-            &ports[..index],
-            &numbers[..index],
-            &ports[index],
-        )?;
+    /// Adds a fault for each table of a port of this clock whose number is that of one before.
+    fn add_port_repeats(
+        &mut self,
+        clock: usize,
+        name: Option<&'a str>,
+        ports: &'a [Value],
+    ) -> Result<(), AllocError>
+        ensures { OnOk result
+            (self.new ≡ self.old ++ each_after (port_repeats clock) [] (map view ports.now)) }
+    {
+        let numbers = numbers_of(self.alloc(), ports)?;
+        for index in 0..ports.len() {
+            self.add_port_repeat(
+                clock,
+                name,
+                &ports[..index],
+                &numbers[..index],
+                &ports[index],
+            )?;
+        }
+        Ok(())
     }
-    Ok(())
+
+    #[tactic(auto, unfolding(crate::specs::RepeatFaults::port_repeats))]
+    fn add_port_repeat(
+        &mut self,
+        clock: usize,
+        name: Option<&'a str>,
+        before: &[Value],
+        numbers: &[Option<u16>],
+        port: &'a Value,
+    ) -> Result<(), AllocError>
+        requires { numbers.now ≡ map number_in (map view before.now) }
+        ensures { OnOk result
+            (self.new ≡ self.old ++ port_repeats clock (map view before.now) (view port.now)) }
+    {
+        let Some(table) = table_of(port) else {
+            return Ok(());
+        };
+        let place = Place::Port(clock, name, before.len() + 1);
+        let other = match port_before(numbers, u16_at(table, "number")) {
+            Some(number) => Some(Place::Port(clock, name, number)),
+            None => None,
+        };
+        self.add_once(TableAt { place, table }, "number", other)
+    }
+
+    fn add_session_repeats(
+        &mut self,
+        clocks: &[ClockHead<'a>],
+        sessions: &[SessionHead<'a>],
+    ) -> Result<(), AllocError>
+        ensures { OnOk result
+            (self.new
+            ≡ self.old
+            ++ each_after (session_repeats (map clock_value clocks.now)) [] (map session_value sessions.now)) }
+    {
+        for index in 0..sessions.len() {
+            self.add_session_repeat(clocks, &sessions[..index], &sessions[index])?;
+        }
+        Ok(())
+    }
+
+    /// Adds a fault for each of a session's name and identity that a clock or a session before it has too.
+    #[tactic(auto, unfolding(crate::specs::RepeatFaults::session_repeats))]
+    fn add_session_repeat(
+        &mut self,
+        clocks: &[ClockHead<'a>],
+        before: &[SessionHead<'a>],
+        session: &SessionHead<'a>,
+    ) -> Result<(), AllocError>
+        ensures { OnOk result
+            (self.new
+            ≡ self.old
+            ++ session_repeats (map clock_value clocks.now) (map session_value before.now) (session_value session.now)) }
+    {
+        self.add_once(session.at, "name", clock_named(clocks, session.name))?;
+        self.add_once(session.at, "name", session_named(before, session.name))?;
+        self.add_clock_identity(session.at, clock_of(clocks, clock_in(session.identity)))?;
+        self.add_once(session.at, "identity", session_of(before, session.identity))
+    }
+
+    /// Adds a fault if a session has a clock's clockIdentity.
+    fn add_clock_identity(
+        &mut self,
+        at: TableAt<'a>,
+        clock: Option<Place<'a>>,
+    ) -> Result<(), AllocError>
+        ensures { OnOk result
+            (self.new
+            ≡ self.old
+            ++ twice_if (is_some clock.entry) (spot_of at.entry.place) (codes "identity") (table_view at.entry.table.now)) }
+    {
+        let wanted = match clock {
+            Some(clock) => Some(Wanted::OtherClock(clock)),
+            None => None,
+        };
+        self.add_at(NetError::Twice, at, "identity", wanted)
+    }
+
+    fn add_end_repeats(&mut self, ends: &[EndHead<'a>]) -> Result<(), AllocError>
+        ensures { OnOk result
+            (self.new ≡ self.old ++ each_after end_repeats [] (map end_value ends.now)) }
+    {
+        for index in 0..ends.len() {
+            self.add_end_repeat(&ends[..index], &ends[index])?;
+        }
+        Ok(())
+    }
+
+    #[tactic(auto, unfolding(crate::specs::RepeatFaults::end_repeats))]
+    fn add_end_repeat(
+        &mut self,
+        before: &[EndHead<'a>],
+        end: &EndHead<'a>,
+    ) -> Result<(), AllocError>
+        ensures { OnOk result
+            (self.new ≡ self.old ++ end_repeats (map end_value before.now) (end_value end.now)) }
+    {
+        let Some(other) = same_end(before, end) else {
+            return Ok(());
+        };
+        let found = Found::Item("ends", end.number, end.value);
+        self.add(NetError::Twice, end.place, found, Wanted::Once(other))
+    }
 }
 
 /// The numbers of ports' tables. A file may have some ten thousand of these, so each is looked up once.
@@ -130,31 +215,6 @@ fn numbers_of(alloc: Global, ports: &[Value]) -> Result<Vec<Option<u16>>, AllocE
         numbers.push(number_in(port))?;
     }
     Ok(numbers)
-}
-
-#[tactic(auto, unfolding(crate::specs::RepeatFaults::port_repeats))]
-fn add_port<'a>(
-    faults: &mut Vec<Fault<'a>>,
-    clock: usize,
-    name: Option<&'a str>,
-    before: &[Value],
-    numbers: &[Option<u16>],
-    port: &'a Value,
-) -> Result<(), AllocError>
-    requires { numbers.now ≡ map number_in (map view before.now) }
-    ensures { OnOk result
-        (marks_in faults.new.items
-        ≡ marks_in faults.old.items ++ port_repeats clock (map view before.now) (view port.now)) }
-{
-    let Some(table) = table_of(port) else {
-        return Ok(());
-    };
-    let place = Place::Port(clock, name, before.len() + 1);
-    let other = match port_before(numbers, u16_at(table, "number")) {
-        Some(number) => Some(Place::Port(clock, name, number)),
-        None => None,
-    };
-    add_once(faults, place, table, "number", other)
 }
 
 /// The first table of a port's number, from 1.
@@ -178,7 +238,7 @@ fn clock_named<'a>(clocks: &[ClockHead<'a>], name: Option<&str>) -> Option<Place
     let wanted = name?;
     for clock in clocks {
         if is_name_of(clock.name, wanted) {
-            return Some(clock.place);
+            return Some(clock.at.place);
         }
     }
     None
@@ -191,50 +251,10 @@ fn clock_of<'a>(clocks: &[ClockHead<'a>], identity: Option<ClockIdentity>) -> Op
     let wanted = identity?;
     for clock in clocks {
         if is_clock(clock.identity, wanted) {
-            return Some(clock.place);
+            return Some(clock.at.place);
         }
     }
     None
-}
-
-fn add_sessions<'a>(
-    faults: &mut Vec<Fault<'a>>,
-    clocks: &[ClockHead<'a>],
-    sessions: &[SessionHead<'a>],
-) -> Result<(), AllocError>
-    ensures { OnOk result
-        (marks_in faults.new.items
-        ≡ marks_in faults.old.items
-        ++ each_after (session_repeats (map clock_value clocks.now)) [] (map session_value sessions.now)) }
-{
-    for index in 0..sessions.len() {
-        add_session(faults, clocks, &sessions[..index], &sessions[index])?;
-    }
-    Ok(())
-}
-
-/// Adds a fault for each of a session's name and identity that a clock or a session before it has too.
-#[tactic(auto, unfolding(crate::specs::RepeatFaults::session_repeats))]
-fn add_session<'a>(
-    faults: &mut Vec<Fault<'a>>,
-    clocks: &[ClockHead<'a>],
-    before: &[SessionHead<'a>],
-    session: &SessionHead<'a>,
-) -> Result<(), AllocError>
-    ensures { OnOk result
-        (marks_in faults.new.items
-        ≡ marks_in faults.old.items
-        ++ session_repeats (map clock_value clocks.now) (map session_value before.now) (session_value session.now)) }
-{
-    let (place, table) = (session.place, session.table);
-    let named = clock_named(clocks, session.name);
-    add_once(faults, place, table, "name", named)?;
-    let named = session_named(before, session.name);
-    add_once(faults, place, table, "name", named)?;
-    let clock = clock_of(clocks, clock_in(session.identity));
-    add_clock_identity(faults, place, table, clock)?;
-    let same = session_of(before, session.identity);
-    add_once(faults, place, table, "identity", same)
 }
 
 /// The clockIdentity in a portIdentity.
@@ -247,27 +267,6 @@ fn clock_in(identity: Option<PortIdentity>) -> Option<ClockIdentity>
     }
 }
 
-/// Adds a fault if a session has a clock's clockIdentity.
-fn add_clock_identity<'a>(
-    faults: &mut Vec<Fault<'a>>,
-    place: Place<'a>,
-    table: &'a Table,
-    clock: Option<Place<'a>>,
-) -> Result<(), AllocError>
-    ensures { OnOk result
-        (marks_in faults.new.items
-        ≡ marks_in faults.old.items
-        ++ twice_if (is_some clock.entry) (spot_of place.entry) (codes "identity") (table_view table.now)) }
-{
-    match clock {
-        Some(clock) => {
-            let wanted = Wanted::OtherClock(clock);
-            add_at_key(faults, NetError::Twice, place, table, "identity", wanted)
-        }
-        None => Ok(()),
-    }
-}
-
 /// The place of the first session of a name.
 fn session_named<'a>(sessions: &[SessionHead<'a>], name: Option<&str>) -> Option<Place<'a>>
     ensures { is_some result
@@ -276,7 +275,7 @@ fn session_named<'a>(sessions: &[SessionHead<'a>], name: Option<&str>) -> Option
     let wanted = name?;
     for session in sessions {
         if is_name_of(session.name, wanted) {
-            return Some(session.place);
+            return Some(session.at.place);
         }
     }
     None
@@ -299,41 +298,10 @@ fn session_of<'a>(sessions: &[SessionHead<'a>], identity: Option<PortIdentity>) 
     let wanted = identity?;
     for session in sessions {
         if is_identity(session.identity, wanted) {
-            return Some(session.place);
+            return Some(session.at.place);
         }
     }
     None
-}
-
-fn add_ends<'a>(faults: &mut Vec<Fault<'a>>, ends: &[EndHead<'a>]) -> Result<(), AllocError>
-    ensures { OnOk result
-        (marks_in faults.new.items
-        ≡ marks_in faults.old.items ++ each_after end_repeats [] (map end_value ends.now)) }
-{
-    for index in 0..ends.len() {
-        add_end(faults, &ends[..index], &ends[index])?;
-    }
-    Ok(())
-}
-
-#[tactic(auto, unfolding(crate::specs::RepeatFaults::end_repeats))]
-fn add_end<'a>(
-    faults: &mut Vec<Fault<'a>>,
-    before: &[EndHead<'a>],
-    end: &EndHead<'a>,
-) -> Result<(), AllocError>
-    ensures { OnOk result
-        (marks_in faults.new.items
-        ≡ marks_in faults.old.items ++ end_repeats (map end_value before.now) (end_value end.now)) }
-{
-    match same_end(before, end) {
-        Some(other) => {
-            let found = Found::Item("ends", end.number, end.value);
-            let wanted = Wanted::Once(other);
-            add_fault(faults, NetError::Twice, end.place, found, wanted)
-        }
-        None => Ok(()),
-    }
 }
 
 fn is_same_port(port: Option<u16>, other: Option<u16>) -> bool

@@ -1,12 +1,12 @@
-use Rattle.std.proofs.Common.{codes}
-use Rattle.toml.specs.View.{table_view}
-use Rattle.ptpm_check.specs.Heads.{clock_in, clock_value, clocks_of, items_at}
-use Rattle.ptpm_check.proofs.ItemLemmas.{first-made}
+use Rattle.std.proofs.Common.{◌++◌, ◌∙◌, ap, map}
+use Rattle.toml.specs.View.{view}
+use Rattle.ptpm_check.specs.Heads.{clock_in, clock_value, clocks_of}
+use Rattle.ptpm_check.specs.Marks.{each}
+use Rattle.ptpm_check.proofs.ItemLemmas.{first-views}
 use Rattle.ptpm_check.proofs.heads.clocks_of.Goals as goal
 
-pub returns : goal.returns
+pub loop-index-init : goal.loop-index-init
 unfolding clocks_of
-returns c =
-    first-made clock_value clock_in 64 c.new-clocks.result.items c.add_clocks.new.clocks.items c.items_at.result.now c.first_values.result.now
-    (items_at (codes "clock") (table_view c.args.file.now)) c.new-clocks.ensures.items c.items_at.ensures c.first_values.ensures
-    c.in_ok-add_clocks.ensures
+loop-index-init c =
+    ap (λ made. map clock_value made ++ each clock_in 1 (map view c.first_values-values.result.now)) c.new-clocks.ensures.items
+    ∙ ap (each clock_in 1) (first-views 64 _ _ _ c.items_at.ensures c.first_values-values.ensures)

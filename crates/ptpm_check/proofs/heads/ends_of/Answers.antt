@@ -1,12 +1,12 @@
-use Rattle.std.proofs.Common.{codes}
-use Rattle.toml.specs.View.{table_view}
-use Rattle.ptpm_check.specs.Heads.{end_value, ends_in, ends_of, items_at}
-use Rattle.ptpm_check.proofs.ItemLemmas.{first-made}
+use Rattle.std.proofs.Common.{◌++◌, ◌∙◌, ap, map}
+use Rattle.toml.specs.View.{view}
+use Rattle.ptpm_check.specs.Heads.{ends_in, end_value, ends_of}
+use Rattle.ptpm_check.specs.Marks.{each}
+use Rattle.ptpm_check.proofs.ItemLemmas.{first-views}
 use Rattle.ptpm_check.proofs.heads.ends_of.Goals as goal
 
-pub returns : goal.returns
+pub loop-index-init : goal.loop-index-init
 unfolding ends_of
-returns c =
-    first-made end_value ends_in 256 c.new-ends.result.items c.add_links.new.ends.items c.items_at.result.now c.first_values.result.now
-    (items_at (codes "link") (table_view c.args.file.now)) c.new-ends.ensures.items c.items_at.ensures c.first_values.ensures
-    c.in_ok-add_links.ensures
+loop-index-init c =
+    ap (λ made. map end_value made ++ each ends_in 1 (map view c.first_values-links.result.now)) c.new-ends.ensures.items
+    ∙ ap (each ends_in 1) (first-views 256 _ _ _ c.items_at.ensures c.first_values-links.ensures)

@@ -1,12 +1,12 @@
-use Rattle.std.proofs.Common.{codes}
-use Rattle.toml.specs.View.{table_view}
-use Rattle.ptpm_check.specs.Heads.{items_at, session_in, session_value, sessions_of}
-use Rattle.ptpm_check.proofs.ItemLemmas.{first-made}
+use Rattle.std.proofs.Common.{◌++◌, ◌∙◌, ap, map}
+use Rattle.toml.specs.View.{view}
+use Rattle.ptpm_check.specs.Heads.{session_in, session_value, sessions_of}
+use Rattle.ptpm_check.specs.Marks.{each}
+use Rattle.ptpm_check.proofs.ItemLemmas.{first-views}
 use Rattle.ptpm_check.proofs.heads.sessions_of.Goals as goal
 
-pub returns : goal.returns
+pub loop-index-init : goal.loop-index-init
 unfolding sessions_of
-returns c =
-    first-made session_value session_in 256 c.new-sessions.result.items c.add_sessions.new.sessions.items c.items_at.result.now c.first_values.result.now
-    (items_at (codes "session") (table_view c.args.file.now)) c.new-sessions.ensures.items c.items_at.ensures c.first_values.ensures
-    c.in_ok-add_sessions.ensures
+loop-index-init c =
+    ap (λ made. map session_value made ++ each session_in 1 (map view c.first_values-values.result.now)) c.new-sessions.ensures.items
+    ∙ ap (each session_in 1) (first-views 256 _ _ _ c.items_at.ensures c.first_values-values.ensures)
