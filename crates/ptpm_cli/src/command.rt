@@ -11,7 +11,7 @@ use ptpm_commands::show::{Values, show_as, show_good_lines_as, show_lines_as};
 use ptpm_commands::{Fault, tell};
 use ptpm_draw::{Chosen, draw};
 use ptpm_expected::profile::Profile;
-use ptpm_findings::check_script;
+use ptpm_check::check_script;
 use ptpm_plan::Form as PlanForm;
 use ptpm_schedule::{Chances, schedule};
 use ptpm_site::limits::Limits;

@@ -4,7 +4,7 @@
 use super::ONE_CLOCK;
 use ptpm_commands::Fault;
 use ptpm_draw::{Chosen, draw};
-use ptpm_findings::check_script;
+use ptpm_check::check_script;
 use ptpm_schedule::{Chances, schedule};
 use ptpm_site::limits::Limits;
 use ptpm_site_report::{Form, Options, report};
