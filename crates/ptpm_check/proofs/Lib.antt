@@ -17,3 +17,4 @@ pub mod PortStartLemmas
 pub mod ClockStartLemmas
 pub mod ClassLemmas
 pub mod AnswerLemmas
+pub mod Checking

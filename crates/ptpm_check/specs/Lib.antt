@@ -9,3 +9,4 @@ pub mod Place
 pub mod RepeatFaults
 pub mod ShapeFaults
 pub mod StartFaults
+pub mod Findings

@@ -2,9 +2,9 @@
 //! same input. `tools/refuse_memory` refuses each request for memory in turn.
 
 use super::ONE_CLOCK;
+use ptpm_check::check_script;
 use ptpm_commands::Fault;
 use ptpm_draw::{Chosen, draw};
-use ptpm_findings::check_script;
 use ptpm_schedule::{Chances, schedule};
 use ptpm_site::limits::Limits;
 use ptpm_site_report::{Form, Options, report};

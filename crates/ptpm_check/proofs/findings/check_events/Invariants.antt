@@ -1,8 +1,8 @@
 use Rattle.ptpm_world.proofs.Common.{◌≤◌, ◌+◌, ◌-◌, left_in}
-use Rattle.ptpm_findings.specs.Check.{IsCounted}
-use Rattle.ptpm_findings.proofs.Checking.{ChecksOn}
+use Rattle.ptpm_check.specs.Findings.{IsCounted}
+use Rattle.ptpm_check.proofs.Checking.{ChecksOn}
 use Rattle.ptpm_world.specs.Lines.{line_count}
-use Rattle.ptpm_findings.proofs.check.check_events.Given as goal
+use Rattle.ptpm_check.proofs.findings.check_events.Given as goal
 
 -- No more lines were counted here than in all that was read. What was found is counted, and what is left has the fault that all
 -- had.

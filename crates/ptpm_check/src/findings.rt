@@ -3,14 +3,15 @@
 ghost use Rattle.std.specs.Prelude.{◌≡◌, ◌<◌, ◌+◌, ℕ, IfErr, IfOk, IfSome, Ok, OnOk, Some, false, option_map, true};
 ghost use Rattle.std.specs.Option.{option_or};
 ghost use Rattle.std.specs.Result.{result_err};
-ghost use Rattle.ptpm_findings.specs.Check.{IsCounted, events_fault};
+ghost use Rattle.ptpm_check.specs.Findings.{IsCounted, events_fault};
 ghost use Rattle.ptpm_script.specs.NetworkText.{network_of};
 ghost use Rattle.ptpm_world.specs.declared.script_error.ScriptError.TheVariants.{BadNetwork};
 ghost use Rattle.ptpm_world.specs.Lines.{latest_line, left_in, line_count, whole_lines};
 ghost use Rattle.ptpm_world.specs.Script.{event_of, scripted, scripted_from};
 ghost use Rattle.ptpm_world.specs.ScriptError.{ReadsWhole, is_of_reading, is_outside, text_fault};
 
-use ptpm_check::{Document, event_fault};
+use crate::event_lines::event_fault;
+use crate::network_faults::Document;
 use ptpm_world::{Lines, ScriptError, is_skipped, read_text};
 use std::alloc::Global;
 use std::io::{Read, Write};

@@ -1,7 +1,7 @@
 use Rattle.ptpm_world.proofs.Common.{◌≡◌, false, Some, sym, ap, ◌∙◌, option_map, option_or, result_err, reading, is_skipped}
 use Rattle.ptpm_world.specs.Lines.{latest_line}
-use Rattle.ptpm_findings.proofs.Checking.{bad-event}
-use Rattle.ptpm_findings.proofs.check.check_event.Goals as goal
+use Rattle.ptpm_check.proofs.Checking.{bad-event}
+use Rattle.ptpm_check.proofs.findings.check_event.Goals as goal
 
 pub returns-in_ok-writeln-clause-first : goal.returns-in_ok-writeln-clause-first
 returns-in_ok-writeln-clause-first g c =

@@ -3,7 +3,7 @@ use Rattle.ptpm_world.proofs.Common.{arith, ◌≡◌, ℕ, ◌+◌, List, [], �
 use Rattle.ptpm_script.specs.declared.event.Event.{Event}
 use Rattle.ptpm_script.specs.declared.event.EventError.{EventError}
 use Rattle.ptpm_script.specs.declared.net_error.NetError.{NetError}
-use Rattle.ptpm_findings.specs.Check.{events_fault}
+use Rattle.ptpm_check.specs.Findings.{events_fault}
 use Rattle.ptpm_world.specs.declared.script_error.ScriptError.{ScriptError}
 use Rattle.ptpm_world.specs.declared.script_error.ScriptError.TheVariants.{BadLine, BadNetwork}
 use Rattle.ptpm_world.proofs.Playing.{NextIs, both-on, event-read, both-some}

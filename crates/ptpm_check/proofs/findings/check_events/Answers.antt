@@ -1,8 +1,8 @@
 use Rattle.ptpm_world.proofs.Common.{◌+◌, true, Ok, refl, ap, ◌∙◌, arith, option_or, result_err, left_in, event_of, text_fault}
-use Rattle.ptpm_findings.proofs.Checking.{checks-more}
+use Rattle.ptpm_check.proofs.Checking.{checks-more}
 use Rattle.ptpm_world.proofs.Playing.{next-is}
 use Rattle.ptpm_world.specs.Lines.{latest_line, line_count}
-use Rattle.ptpm_findings.proofs.check.check_events.Goals as goal
+use Rattle.ptpm_check.proofs.findings.check_events.Goals as goal
 
 pub loop-number-preserved : goal.loop-number-preserved
 loop-number-preserved g c =

@@ -1,7 +1,7 @@
 use Rattle.ptpm_world.proofs.Common.{◌+◌, ap, ◌∙◌, option_map, result_err, string_bytes, network_of, left_in}
 use Rattle.ptpm_world.specs.Lines.{line_count}
-use Rattle.ptpm_findings.proofs.Checking.{script-first}
-use Rattle.ptpm_findings.proofs.check.check_lines.Goals as goal
+use Rattle.ptpm_check.proofs.Checking.{script-first}
+use Rattle.ptpm_check.proofs.findings.check_lines.Goals as goal
 use Rattle.ptpm_world.specs.declared.script_error.ScriptError.TheVariants.{BadNetwork}
 
 pub returns-in_ok-check_events-in-Ok-clause-first : goal.returns-in_ok-check_events-in-Ok-clause-first

@@ -4,7 +4,7 @@ use Rattle.std.specs.Option.{option_or}
 use Rattle.std.specs.Result.{result_err}
 use Rattle.ptpm_world.specs.Script.{event_of}
 use Rattle.ptpm_world.specs.ScriptError.{line_fault}
-use Rattle.ptpm_findings.specs.declared.check.Findings.{Findings}
+use Rattle.ptpm_check.specs.declared.findings.Findings.{Findings}
 use Rattle.ptpm_world.specs.declared.script_error.ScriptError.{ScriptError}
 
 -- no fault is counted exactly if there is none
