@@ -321,7 +321,7 @@ static const union { u8 octets[13]; u64 aligned; } octets_of_c147 = { { 78,79,84
 #define c148 (octets_of_c148.octets)
 static const union { u8 octets[13]; u64 aligned; } octets_of_c148 = { { 71,69,78,69,82,65,76,95,69,82,82,79,82 } };
 #define c149 (octets_of_c149.octets)
-static const union { u8 octets[6]; u64 aligned; } octets_of_c149 = { { 0,2,0,0,11,0 } };
+static const union { u8 octets[6]; u64 aligned; } octets_of_c149 = { { 0,2,0,0,10,0 } };
 #define c150 (octets_of_c150.octets)
 static const union { u8 octets[60]; u64 aligned; } octets_of_c150 = { { 0,3,0,0,3,1,2,0,0,0,3,2,1,0,0,2,0,2,0,4,0,4,0,1,0,5,0,5,0,1,0,6,0,6,1,1,0,7,0,7,1,2,0,8,0,9,0,1,0,0,0,10,7,0,0,1,0,18,0,1 } };
 #define c151 (octets_of_c151.octets)
@@ -329,9 +329,9 @@ static const union { u8 octets[18]; u64 aligned; } octets_of_c151 = { { 0,9,0,0,
 #define c152 (octets_of_c152.octets)
 static const union { u8 octets[60]; u64 aligned; } octets_of_c152 = { { 0,12,0,0,8,0,0,13,0,10,3,1,0,14,0,12,1,2,0,15,0,14,2,4,0,16,0,18,0,1,0,17,0,19,0,1,0,18,0,20,1,1,0,19,0,21,1,2,0,20,0,23,0,1,0,21,0,24,7,0 } };
 #define c153 (octets_of_c153.octets)
-static const union { u8 octets[48]; u64 aligned; } octets_of_c153 = { { 0,22,0,0,2,2,0,23,0,2,3,1,0,24,0,2,3,2,0,25,0,2,3,4,0,26,0,2,3,8,0,27,0,2,3,16,0,28,0,2,3,32,0,29,0,3,1,1 } };
+static const union { u8 octets[48]; u64 aligned; } octets_of_c153 = { { 0,22,0,0,2,2,0,23,0,2,3,1,0,24,0,2,3,2,0,25,0,2,3,4,0,26,0,2,3,8,0,27,0,2,3,16,0,28,0,2,3,32,0,29,0,3,9,2 } };
 #define c154 (octets_of_c154.octets)
-static const union { u8 octets[60]; u64 aligned; } octets_of_c154 = { { 3,0,0,0,8,0,0,30,0,10,9,0,0,31,0,11,2,1,0,32,0,12,6,0,0,33,0,20,2,1,0,33,1,21,0,1,0,33,2,22,2,1,0,33,3,23,10,0,0,33,4,24,2,1,4,0,0,25,5,0 } };
+static const union { u8 octets[60]; u64 aligned; } octets_of_c154 = { { 3,0,0,0,8,0,0,30,0,10,9,0,0,31,0,11,2,1,0,32,0,12,6,0,0,33,0,20,2,1,0,33,1,21,0,1,0,33,2,22,2,1,0,33,3,23,9,1,0,33,4,24,2,1,4,0,0,25,5,0 } };
 #define c155 (octets_of_c155.octets)
 static const union { u8 octets[6]; u64 aligned; } octets_of_c155 = { { 0,4,0,0,0,1 } };
 #define c156 (octets_of_c156.octets)
@@ -347,7 +347,7 @@ static const union { u8 octets[6]; u64 aligned; } octets_of_c160 = { { 0,33,1,0,
 #define c161 (octets_of_c161.octets)
 static const union { u8 octets[6]; u64 aligned; } octets_of_c161 = { { 0,33,2,0,2,1 } };
 #define c162 (octets_of_c162.octets)
-static const union { u8 octets[6]; u64 aligned; } octets_of_c162 = { { 0,33,3,0,10,0 } };
+static const union { u8 octets[6]; u64 aligned; } octets_of_c162 = { { 0,33,3,0,9,1 } };
 #define c163 (octets_of_c163.octets)
 static const union { u8 octets[6]; u64 aligned; } octets_of_c163 = { { 0,33,4,0,2,1 } };
 #define c164 (octets_of_c164.octets)
@@ -361,353 +361,381 @@ static const union { u8 octets[4]; u64 aligned; } octets_of_c167 = { { 116,114,1
 #define c168 (octets_of_c168.octets)
 static const union { u8 octets[5]; u64 aligned; } octets_of_c168 = { { 102,97,108,115,101 } };
 #define c169 (octets_of_c169.octets)
-static const union { u8 octets[3]; u64 aligned; } octets_of_c169 = { { 69,50,69 } };
+static const union { u8 octets[12]; u64 aligned; } octets_of_c169 = { { 73,78,73,84,73,65,76,73,90,73,78,71 } };
 #define c170 (octets_of_c170.octets)
-static const union { u8 octets[3]; u64 aligned; } octets_of_c170 = { { 80,50,80 } };
+static const union { u8 octets[6]; u64 aligned; } octets_of_c170 = { { 70,65,85,76,84,89 } };
 #define c171 (octets_of_c171.octets)
-static const union { u8 octets[12]; u64 aligned; } octets_of_c171 = { { 78,79,95,77,69,67,72,65,78,73,83,77 } };
+static const union { u8 octets[8]; u64 aligned; } octets_of_c171 = { { 68,73,83,65,66,76,69,68 } };
 #define c172 (octets_of_c172.octets)
-static const union { u8 octets[10]; u64 aligned; } octets_of_c172 = { { 67,79,77,77,79,78,95,80,50,80 } };
+static const union { u8 octets[9]; u64 aligned; } octets_of_c172 = { { 76,73,83,84,69,78,73,78,71 } };
 #define c173 (octets_of_c173.octets)
-static const union { u8 octets[7]; u64 aligned; } octets_of_c173 = { { 83,80,69,67,73,65,76 } };
+static const union { u8 octets[10]; u64 aligned; } octets_of_c173 = { { 80,82,69,95,77,65,83,84,69,82 } };
 #define c174 (octets_of_c174.octets)
-static const union { u8 octets[11]; u64 aligned; } octets_of_c174 = { { 110,117,109,98,101,114,80,111,114,116,115 } };
+static const union { u8 octets[6]; u64 aligned; } octets_of_c174 = { { 77,65,83,84,69,82 } };
 #define c175 (octets_of_c175.octets)
-static const union { u8 octets[9]; u64 aligned; } octets_of_c175 = { { 115,108,97,118,101,79,110,108,121 } };
+static const union { u8 octets[7]; u64 aligned; } octets_of_c175 = { { 80,65,83,83,73,86,69 } };
 #define c176 (octets_of_c176.octets)
-static const union { u8 octets[12]; u64 aligned; } octets_of_c176 = { { 112,111,114,116,73,100,101,110,116,105,116,121 } };
+static const union { u8 octets[12]; u64 aligned; } octets_of_c176 = { { 85,78,67,65,76,73,66,82,65,84,69,68 } };
 #define c177 (octets_of_c177.octets)
-static const union { u8 octets[13]; u64 aligned; } octets_of_c177 = { { 118,101,114,115,105,111,110,78,117,109,98,101,114 } };
+static const union { u8 octets[5]; u64 aligned; } octets_of_c177 = { { 83,76,65,86,69 } };
 #define c178 (octets_of_c178.octets)
-static const union { u8 octets[13]; u64 aligned; } octets_of_c178 = { { 99,108,111,99,107,65,99,99,117,114,97,99,121 } };
+static const union { u8 octets[10]; u64 aligned; } octets_of_c178 = { { 67,79,77,77,79,78,95,80,50,80 } };
 #define c179 (octets_of_c179.octets)
-static const union { u8 octets[9]; u64 aligned; } octets_of_c179 = { { 99,108,111,99,107,84,121,112,101 } };
+static const union { u8 octets[7]; u64 aligned; } octets_of_c179 = { { 83,80,69,67,73,65,76 } };
 #define c180 (octets_of_c180.octets)
-static const union { u8 octets[21]; u64 aligned; } octets_of_c180 = { { 112,104,121,115,105,99,97,108,76,97,121,101,114,80,114,111,116,111,99,111,108 } };
+static const union { u8 octets[3]; u64 aligned; } octets_of_c180 = { { 69,50,69 } };
 #define c181 (octets_of_c181.octets)
-static const union { u8 octets[15]; u64 aligned; } octets_of_c181 = { { 112,104,121,115,105,99,97,108,65,100,100,114,101,115,115 } };
+static const union { u8 octets[3]; u64 aligned; } octets_of_c181 = { { 80,50,80 } };
 #define c182 (octets_of_c182.octets)
-static const union { u8 octets[15]; u64 aligned; } octets_of_c182 = { { 110,101,116,119,111,114,107,80,114,111,116,111,99,111,108 } };
+static const union { u8 octets[12]; u64 aligned; } octets_of_c182 = { { 78,79,95,77,69,67,72,65,78,73,83,77 } };
 #define c183 (octets_of_c183.octets)
-static const union { u8 octets[12]; u64 aligned; } octets_of_c183 = { { 97,100,100,114,101,115,115,70,105,101,108,100 } };
+static const union { u8 octets[12]; u64 aligned; } octets_of_c183 = { { 65,84,79,77,73,67,95,67,76,79,67,75 } };
 #define c184 (octets_of_c184.octets)
-static const union { u8 octets[20]; u64 aligned; } octets_of_c184 = { { 109,97,110,117,102,97,99,116,117,114,101,114,73,100,101,110,116,105,116,121 } };
+static const union { u8 octets[4]; u64 aligned; } octets_of_c184 = { { 71,78,83,83 } };
 #define c185 (octets_of_c185.octets)
-static const union { u8 octets[18]; u64 aligned; } octets_of_c185 = { { 112,114,111,100,117,99,116,68,101,115,99,114,105,112,116,105,111,110 } };
+static const union { u8 octets[17]; u64 aligned; } octets_of_c185 = { { 84,69,82,82,69,83,84,82,73,65,76,95,82,65,68,73,79 } };
 #define c186 (octets_of_c186.octets)
-static const union { u8 octets[12]; u64 aligned; } octets_of_c186 = { { 114,101,118,105,115,105,111,110,68,97,116,97 } };
+static const union { u8 octets[16]; u64 aligned; } octets_of_c186 = { { 83,69,82,73,65,76,95,84,73,77,69,95,67,79,68,69 } };
 #define c187 (octets_of_c187.octets)
-static const union { u8 octets[15]; u64 aligned; } octets_of_c187 = { { 112,114,111,102,105,108,101,73,100,101,110,116,105,116,121 } };
+static const union { u8 octets[3]; u64 aligned; } octets_of_c187 = { { 80,84,80 } };
 #define c188 (octets_of_c188.octets)
-static const union { u8 octets[12]; u64 aligned; } octets_of_c188 = { { 115,101,99,111,110,100,115,70,105,101,108,100 } };
+static const union { u8 octets[3]; u64 aligned; } octets_of_c188 = { { 78,84,80 } };
 #define c189 (octets_of_c189.octets)
-static const union { u8 octets[16]; u64 aligned; } octets_of_c189 = { { 110,97,110,111,115,101,99,111,110,100,115,70,105,101,108,100 } };
+static const union { u8 octets[8]; u64 aligned; } octets_of_c189 = { { 72,65,78,68,95,83,69,84 } };
 #define c190 (octets_of_c190.octets)
-static const union { u8 octets[12]; u64 aligned; } octets_of_c190 = { { 112,97,116,104,83,101,113,117,101,110,99,101 } };
+static const union { u8 octets[5]; u64 aligned; } octets_of_c190 = { { 79,84,72,69,82 } };
 #define c191 (octets_of_c191.octets)
-static const union { u8 octets[13]; u64 aligned; } octets_of_c191 = { { 109,97,115,116,101,114,95,111,102,102,115,101,116 } };
+static const union { u8 octets[19]; u64 aligned; } octets_of_c191 = { { 73,78,84,69,82,78,65,76,95,79,83,67,73,76,76,65,84,79,82 } };
 #define c192 (octets_of_c192.octets)
-static const union { u8 octets[12]; u64 aligned; } octets_of_c192 = { { 105,110,103,114,101,115,115,95,116,105,109,101 } };
+static const union { u8 octets[8]; u64 aligned; } octets_of_c192 = { { 83,79,70,84,87,65,82,69 } };
 #define c193 (octets_of_c193.octets)
-static const union { u8 octets[26]; u64 aligned; } octets_of_c193 = { { 99,117,109,117,108,97,116,105,118,101,83,99,97,108,101,100,82,97,116,101,79,102,102,115,101,116 } };
+static const union { u8 octets[8]; u64 aligned; } octets_of_c193 = { { 72,65,82,68,87,65,82,69 } };
 #define c194 (octets_of_c194.octets)
-static const union { u8 octets[23]; u64 aligned; } octets_of_c194 = { { 115,99,97,108,101,100,76,97,115,116,71,109,80,104,97,115,101,67,104,97,110,103,101 } };
+static const union { u8 octets[9]; u64 aligned; } octets_of_c194 = { { 76,69,71,65,67,89,95,72,87 } };
 #define c195 (octets_of_c195.octets)
-static const union { u8 octets[19]; u64 aligned; } octets_of_c195 = { { 103,109,84,105,109,101,66,97,115,101,73,110,100,105,99,97,116,111,114 } };
+static const union { u8 octets[7]; u64 aligned; } octets_of_c195 = { { 79,78,69,83,84,69,80 } };
 #define c196 (octets_of_c196.octets)
-static const union { u8 octets[17]; u64 aligned; } octets_of_c196 = { { 108,97,115,116,71,109,80,104,97,115,101,67,104,97,110,103,101 } };
+static const union { u8 octets[8]; u64 aligned; } octets_of_c196 = { { 80,50,80,49,83,84,69,80 } };
 #define c197 (octets_of_c197.octets)
-static const union { u8 octets[9]; u64 aligned; } octets_of_c197 = { { 103,109,80,114,101,115,101,110,116 } };
+static const union { u8 octets[11]; u64 aligned; } octets_of_c197 = { { 110,117,109,98,101,114,80,111,114,116,115 } };
 #define c198 (octets_of_c198.octets)
-static const union { u8 octets[10]; u64 aligned; } octets_of_c198 = { { 103,109,73,100,101,110,116,105,116,121 } };
+static const union { u8 octets[9]; u64 aligned; } octets_of_c198 = { { 115,108,97,118,101,79,110,108,121 } };
 #define c199 (octets_of_c199.octets)
-static const union { u8 octets[23]; u64 aligned; } octets_of_c199 = { { 110,101,105,103,104,98,111,114,80,114,111,112,68,101,108,97,121,84,104,114,101,115,104 } };
+static const union { u8 octets[12]; u64 aligned; } octets_of_c199 = { { 112,111,114,116,73,100,101,110,116,105,116,121 } };
 #define c200 (octets_of_c200.octets)
-static const union { u8 octets[9]; u64 aligned; } octets_of_c200 = { { 97,115,67,97,112,97,98,108,101 } };
+static const union { u8 octets[13]; u64 aligned; } octets_of_c200 = { { 118,101,114,115,105,111,110,78,117,109,98,101,114 } };
 #define c201 (octets_of_c201.octets)
-static const union { u8 octets[12]; u64 aligned; } octets_of_c201 = { { 116,105,109,101,115,116,97,109,112,105,110,103 } };
+static const union { u8 octets[13]; u64 aligned; } octets_of_c201 = { { 99,108,111,99,107,65,99,99,117,114,97,99,121 } };
 #define c202 (octets_of_c202.octets)
-static const union { u8 octets[9]; u64 aligned; } octets_of_c202 = { { 105,110,116,101,114,102,97,99,101 } };
+static const union { u8 octets[12]; u64 aligned; } octets_of_c202 = { { 99,108,111,99,107,81,117,97,108,105,116,121 } };
 #define c203 (octets_of_c203.octets)
-static const union { u8 octets[7]; u64 aligned; } octets_of_c203 = { { 114,120,95,83,121,110,99 } };
+static const union { u8 octets[23]; u64 aligned; } octets_of_c203 = { { 103,114,97,110,100,109,97,115,116,101,114,67,108,111,99,107,81,117,97,108,105,116,121 } };
 #define c204 (octets_of_c204.octets)
-static const union { u8 octets[12]; u64 aligned; } octets_of_c204 = { { 114,120,95,68,101,108,97,121,95,82,101,113 } };
+static const union { u8 octets[5]; u64 aligned; } octets_of_c204 = { { 115,100,111,73,100 } };
 #define c205 (octets_of_c205.octets)
-static const union { u8 octets[13]; u64 aligned; } octets_of_c205 = { { 114,120,95,80,100,101,108,97,121,95,82,101,113 } };
+static const union { u8 octets[9]; u64 aligned; } octets_of_c205 = { { 99,108,111,99,107,84,121,112,101 } };
 #define c206 (octets_of_c206.octets)
-static const union { u8 octets[14]; u64 aligned; } octets_of_c206 = { { 114,120,95,80,100,101,108,97,121,95,82,101,115,112 } };
+static const union { u8 octets[21]; u64 aligned; } octets_of_c206 = { { 112,104,121,115,105,99,97,108,76,97,121,101,114,80,114,111,116,111,99,111,108 } };
 #define c207 (octets_of_c207.octets)
-static const union { u8 octets[12]; u64 aligned; } octets_of_c207 = { { 114,120,95,70,111,108,108,111,119,95,85,112 } };
+static const union { u8 octets[15]; u64 aligned; } octets_of_c207 = { { 112,104,121,115,105,99,97,108,65,100,100,114,101,115,115 } };
 #define c208 (octets_of_c208.octets)
-static const union { u8 octets[13]; u64 aligned; } octets_of_c208 = { { 114,120,95,68,101,108,97,121,95,82,101,115,112 } };
+static const union { u8 octets[15]; u64 aligned; } octets_of_c208 = { { 110,101,116,119,111,114,107,80,114,111,116,111,99,111,108 } };
 #define c209 (octets_of_c209.octets)
-static const union { u8 octets[24]; u64 aligned; } octets_of_c209 = { { 114,120,95,80,100,101,108,97,121,95,82,101,115,112,95,70,111,108,108,111,119,95,85,112 } };
+static const union { u8 octets[12]; u64 aligned; } octets_of_c209 = { { 97,100,100,114,101,115,115,70,105,101,108,100 } };
 #define c210 (octets_of_c210.octets)
-static const union { u8 octets[11]; u64 aligned; } octets_of_c210 = { { 114,120,95,65,110,110,111,117,110,99,101 } };
+static const union { u8 octets[20]; u64 aligned; } octets_of_c210 = { { 109,97,110,117,102,97,99,116,117,114,101,114,73,100,101,110,116,105,116,121 } };
 #define c211 (octets_of_c211.octets)
-static const union { u8 octets[12]; u64 aligned; } octets_of_c211 = { { 114,120,95,83,105,103,110,97,108,105,110,103 } };
+static const union { u8 octets[18]; u64 aligned; } octets_of_c211 = { { 112,114,111,100,117,99,116,68,101,115,99,114,105,112,116,105,111,110 } };
 #define c212 (octets_of_c212.octets)
-static const union { u8 octets[13]; u64 aligned; } octets_of_c212 = { { 114,120,95,77,97,110,97,103,101,109,101,110,116 } };
+static const union { u8 octets[12]; u64 aligned; } octets_of_c212 = { { 114,101,118,105,115,105,111,110,68,97,116,97 } };
 #define c213 (octets_of_c213.octets)
-static const union { u8 octets[7]; u64 aligned; } octets_of_c213 = { { 116,120,95,83,121,110,99 } };
+static const union { u8 octets[15]; u64 aligned; } octets_of_c213 = { { 112,114,111,102,105,108,101,73,100,101,110,116,105,116,121 } };
 #define c214 (octets_of_c214.octets)
-static const union { u8 octets[12]; u64 aligned; } octets_of_c214 = { { 116,120,95,68,101,108,97,121,95,82,101,113 } };
+static const union { u8 octets[12]; u64 aligned; } octets_of_c214 = { { 115,101,99,111,110,100,115,70,105,101,108,100 } };
 #define c215 (octets_of_c215.octets)
-static const union { u8 octets[13]; u64 aligned; } octets_of_c215 = { { 116,120,95,80,100,101,108,97,121,95,82,101,113 } };
+static const union { u8 octets[16]; u64 aligned; } octets_of_c215 = { { 110,97,110,111,115,101,99,111,110,100,115,70,105,101,108,100 } };
 #define c216 (octets_of_c216.octets)
-static const union { u8 octets[14]; u64 aligned; } octets_of_c216 = { { 116,120,95,80,100,101,108,97,121,95,82,101,115,112 } };
+static const union { u8 octets[12]; u64 aligned; } octets_of_c216 = { { 112,97,116,104,83,101,113,117,101,110,99,101 } };
 #define c217 (octets_of_c217.octets)
-static const union { u8 octets[12]; u64 aligned; } octets_of_c217 = { { 116,120,95,70,111,108,108,111,119,95,85,112 } };
+static const union { u8 octets[13]; u64 aligned; } octets_of_c217 = { { 109,97,115,116,101,114,95,111,102,102,115,101,116 } };
 #define c218 (octets_of_c218.octets)
-static const union { u8 octets[13]; u64 aligned; } octets_of_c218 = { { 116,120,95,68,101,108,97,121,95,82,101,115,112 } };
+static const union { u8 octets[12]; u64 aligned; } octets_of_c218 = { { 105,110,103,114,101,115,115,95,116,105,109,101 } };
 #define c219 (octets_of_c219.octets)
-static const union { u8 octets[24]; u64 aligned; } octets_of_c219 = { { 116,120,95,80,100,101,108,97,121,95,82,101,115,112,95,70,111,108,108,111,119,95,85,112 } };
+static const union { u8 octets[26]; u64 aligned; } octets_of_c219 = { { 99,117,109,117,108,97,116,105,118,101,83,99,97,108,101,100,82,97,116,101,79,102,102,115,101,116 } };
 #define c220 (octets_of_c220.octets)
-static const union { u8 octets[11]; u64 aligned; } octets_of_c220 = { { 116,120,95,65,110,110,111,117,110,99,101 } };
+static const union { u8 octets[23]; u64 aligned; } octets_of_c220 = { { 115,99,97,108,101,100,76,97,115,116,71,109,80,104,97,115,101,67,104,97,110,103,101 } };
 #define c221 (octets_of_c221.octets)
-static const union { u8 octets[12]; u64 aligned; } octets_of_c221 = { { 116,120,95,83,105,103,110,97,108,105,110,103 } };
+static const union { u8 octets[19]; u64 aligned; } octets_of_c221 = { { 103,109,84,105,109,101,66,97,115,101,73,110,100,105,99,97,116,111,114 } };
 #define c222 (octets_of_c222.octets)
-static const union { u8 octets[13]; u64 aligned; } octets_of_c222 = { { 116,120,95,77,97,110,97,103,101,109,101,110,116 } };
+static const union { u8 octets[17]; u64 aligned; } octets_of_c222 = { { 108,97,115,116,71,109,80,104,97,115,101,67,104,97,110,103,101 } };
 #define c223 (octets_of_c223.octets)
-static const union { u8 octets[13]; u64 aligned; } octets_of_c223 = { { 99,108,111,99,107,73,100,101,110,116,105,116,121 } };
+static const union { u8 octets[9]; u64 aligned; } octets_of_c223 = { { 103,109,80,114,101,115,101,110,116 } };
 #define c224 (octets_of_c224.octets)
-static const union { u8 octets[12]; u64 aligned; } octets_of_c224 = { { 100,111,109,97,105,110,78,117,109,98,101,114 } };
+static const union { u8 octets[10]; u64 aligned; } octets_of_c224 = { { 103,109,73,100,101,110,116,105,116,121 } };
 #define c225 (octets_of_c225.octets)
-static const union { u8 octets[15]; u64 aligned; } octets_of_c225 = { { 117,115,101,114,68,101,115,99,114,105,112,116,105,111,110 } };
+static const union { u8 octets[23]; u64 aligned; } octets_of_c225 = { { 110,101,105,103,104,98,111,114,80,114,111,112,68,101,108,97,121,84,104,114,101,115,104 } };
 #define c226 (octets_of_c226.octets)
-static const union { u8 octets[11]; u64 aligned; } octets_of_c226 = { { 116,119,111,83,116,101,112,70,108,97,103 } };
+static const union { u8 octets[9]; u64 aligned; } octets_of_c226 = { { 97,115,67,97,112,97,98,108,101 } };
 #define c227 (octets_of_c227.octets)
-static const union { u8 octets[9]; u64 aligned; } octets_of_c227 = { { 112,114,105,111,114,105,116,121,49 } };
+static const union { u8 octets[12]; u64 aligned; } octets_of_c227 = { { 116,105,109,101,115,116,97,109,112,105,110,103 } };
 #define c228 (octets_of_c228.octets)
-static const union { u8 octets[23]; u64 aligned; } octets_of_c228 = { { 99,108,111,99,107,81,117,97,108,105,116,121,46,99,108,111,99,107,67,108,97,115,115 } };
+static const union { u8 octets[9]; u64 aligned; } octets_of_c228 = { { 105,110,116,101,114,102,97,99,101 } };
 #define c229 (octets_of_c229.octets)
-static const union { u8 octets[26]; u64 aligned; } octets_of_c229 = { { 99,108,111,99,107,81,117,97,108,105,116,121,46,99,108,111,99,107,65,99,99,117,114,97,99,121 } };
+static const union { u8 octets[7]; u64 aligned; } octets_of_c229 = { { 114,120,95,83,121,110,99 } };
 #define c230 (octets_of_c230.octets)
-static const union { u8 octets[36]; u64 aligned; } octets_of_c230 = { { 99,108,111,99,107,81,117,97,108,105,116,121,46,111,102,102,115,101,116,83,99,97,108,101,100,76,111,103,86,97,114,105,97,110,99,101 } };
+static const union { u8 octets[12]; u64 aligned; } octets_of_c230 = { { 114,120,95,68,101,108,97,121,95,82,101,113 } };
 #define c231 (octets_of_c231.octets)
-static const union { u8 octets[9]; u64 aligned; } octets_of_c231 = { { 112,114,105,111,114,105,116,121,50 } };
+static const union { u8 octets[13]; u64 aligned; } octets_of_c231 = { { 114,120,95,80,100,101,108,97,121,95,82,101,113 } };
 #define c232 (octets_of_c232.octets)
-static const union { u8 octets[12]; u64 aligned; } octets_of_c232 = { { 115,116,101,112,115,82,101,109,111,118,101,100 } };
+static const union { u8 octets[14]; u64 aligned; } octets_of_c232 = { { 114,120,95,80,100,101,108,97,121,95,82,101,115,112 } };
 #define c233 (octets_of_c233.octets)
-static const union { u8 octets[16]; u64 aligned; } octets_of_c233 = { { 111,102,102,115,101,116,70,114,111,109,77,97,115,116,101,114 } };
+static const union { u8 octets[12]; u64 aligned; } octets_of_c233 = { { 114,120,95,70,111,108,108,111,119,95,85,112 } };
 #define c234 (octets_of_c234.octets)
-static const union { u8 octets[9]; u64 aligned; } octets_of_c234 = { { 109,101,97,110,68,101,108,97,121 } };
+static const union { u8 octets[13]; u64 aligned; } octets_of_c234 = { { 114,120,95,68,101,108,97,121,95,82,101,115,112 } };
 #define c235 (octets_of_c235.octets)
-static const union { u8 octets[18]; u64 aligned; } octets_of_c235 = { { 112,97,114,101,110,116,80,111,114,116,73,100,101,110,116,105,116,121 } };
+static const union { u8 octets[24]; u64 aligned; } octets_of_c235 = { { 114,120,95,80,100,101,108,97,121,95,82,101,115,112,95,70,111,108,108,111,119,95,85,112 } };
 #define c236 (octets_of_c236.octets)
-static const union { u8 octets[11]; u64 aligned; } octets_of_c236 = { { 112,97,114,101,110,116,83,116,97,116,115 } };
+static const union { u8 octets[11]; u64 aligned; } octets_of_c236 = { { 114,120,95,65,110,110,111,117,110,99,101 } };
 #define c237 (octets_of_c237.octets)
-static const union { u8 octets[37]; u64 aligned; } octets_of_c237 = { { 111,98,115,101,114,118,101,100,80,97,114,101,110,116,79,102,102,115,101,116,83,99,97,108,101,100,76,111,103,86,97,114,105,97,110,99,101 } };
+static const union { u8 octets[12]; u64 aligned; } octets_of_c237 = { { 114,120,95,83,105,103,110,97,108,105,110,103 } };
 #define c238 (octets_of_c238.octets)
-static const union { u8 octets[34]; u64 aligned; } octets_of_c238 = { { 111,98,115,101,114,118,101,100,80,97,114,101,110,116,67,108,111,99,107,80,104,97,115,101,67,104,97,110,103,101,82,97,116,101 } };
+static const union { u8 octets[13]; u64 aligned; } octets_of_c238 = { { 114,120,95,77,97,110,97,103,101,109,101,110,116 } };
 #define c239 (octets_of_c239.octets)
-static const union { u8 octets[20]; u64 aligned; } octets_of_c239 = { { 103,114,97,110,100,109,97,115,116,101,114,80,114,105,111,114,105,116,121,49 } };
+static const union { u8 octets[7]; u64 aligned; } octets_of_c239 = { { 116,120,95,83,121,110,99 } };
 #define c240 (octets_of_c240.octets)
-static const union { u8 octets[34]; u64 aligned; } octets_of_c240 = { { 103,114,97,110,100,109,97,115,116,101,114,67,108,111,99,107,81,117,97,108,105,116,121,46,99,108,111,99,107,67,108,97,115,115 } };
+static const union { u8 octets[12]; u64 aligned; } octets_of_c240 = { { 116,120,95,68,101,108,97,121,95,82,101,113 } };
 #define c241 (octets_of_c241.octets)
-static const union { u8 octets[37]; u64 aligned; } octets_of_c241 = { { 103,114,97,110,100,109,97,115,116,101,114,67,108,111,99,107,81,117,97,108,105,116,121,46,99,108,111,99,107,65,99,99,117,114,97,99,121 } };
+static const union { u8 octets[13]; u64 aligned; } octets_of_c241 = { { 116,120,95,80,100,101,108,97,121,95,82,101,113 } };
 #define c242 (octets_of_c242.octets)
-static const union { u8 octets[47]; u64 aligned; } octets_of_c242 = { { 103,114,97,110,100,109,97,115,116,101,114,67,108,111,99,107,81,117,97,108,105,116,121,46,111,102,102,115,101,116,83,99,97,108,101,100,76,111,103,86,97,114,105,97,110,99,101 } };
+static const union { u8 octets[14]; u64 aligned; } octets_of_c242 = { { 116,120,95,80,100,101,108,97,121,95,82,101,115,112 } };
 #define c243 (octets_of_c243.octets)
-static const union { u8 octets[20]; u64 aligned; } octets_of_c243 = { { 103,114,97,110,100,109,97,115,116,101,114,80,114,105,111,114,105,116,121,50 } };
+static const union { u8 octets[12]; u64 aligned; } octets_of_c243 = { { 116,120,95,70,111,108,108,111,119,95,85,112 } };
 #define c244 (octets_of_c244.octets)
-static const union { u8 octets[19]; u64 aligned; } octets_of_c244 = { { 103,114,97,110,100,109,97,115,116,101,114,73,100,101,110,116,105,116,121 } };
+static const union { u8 octets[13]; u64 aligned; } octets_of_c244 = { { 116,120,95,68,101,108,97,121,95,82,101,115,112 } };
 #define c245 (octets_of_c245.octets)
-static const union { u8 octets[16]; u64 aligned; } octets_of_c245 = { { 99,117,114,114,101,110,116,85,116,99,79,102,102,115,101,116 } };
+static const union { u8 octets[24]; u64 aligned; } octets_of_c245 = { { 116,120,95,80,100,101,108,97,121,95,82,101,115,112,95,70,111,108,108,111,119,95,85,112 } };
 #define c246 (octets_of_c246.octets)
-static const union { u8 octets[6]; u64 aligned; } octets_of_c246 = { { 108,101,97,112,54,49 } };
+static const union { u8 octets[11]; u64 aligned; } octets_of_c246 = { { 116,120,95,65,110,110,111,117,110,99,101 } };
 #define c247 (octets_of_c247.octets)
-static const union { u8 octets[6]; u64 aligned; } octets_of_c247 = { { 108,101,97,112,53,57 } };
+static const union { u8 octets[12]; u64 aligned; } octets_of_c247 = { { 116,120,95,83,105,103,110,97,108,105,110,103 } };
 #define c248 (octets_of_c248.octets)
-static const union { u8 octets[21]; u64 aligned; } octets_of_c248 = { { 99,117,114,114,101,110,116,85,116,99,79,102,102,115,101,116,86,97,108,105,100 } };
+static const union { u8 octets[13]; u64 aligned; } octets_of_c248 = { { 116,120,95,77,97,110,97,103,101,109,101,110,116 } };
 #define c249 (octets_of_c249.octets)
-static const union { u8 octets[12]; u64 aligned; } octets_of_c249 = { { 112,116,112,84,105,109,101,115,99,97,108,101 } };
+static const union { u8 octets[13]; u64 aligned; } octets_of_c249 = { { 99,108,111,99,107,73,100,101,110,116,105,116,121 } };
 #define c250 (octets_of_c250.octets)
-static const union { u8 octets[13]; u64 aligned; } octets_of_c250 = { { 116,105,109,101,84,114,97,99,101,97,98,108,101 } };
+static const union { u8 octets[12]; u64 aligned; } octets_of_c250 = { { 100,111,109,97,105,110,78,117,109,98,101,114 } };
 #define c251 (octets_of_c251.octets)
-static const union { u8 octets[18]; u64 aligned; } octets_of_c251 = { { 102,114,101,113,117,101,110,99,121,84,114,97,99,101,97,98,108,101 } };
+static const union { u8 octets[15]; u64 aligned; } octets_of_c251 = { { 117,115,101,114,68,101,115,99,114,105,112,116,105,111,110 } };
 #define c252 (octets_of_c252.octets)
-static const union { u8 octets[10]; u64 aligned; } octets_of_c252 = { { 116,105,109,101,83,111,117,114,99,101 } };
+static const union { u8 octets[11]; u64 aligned; } octets_of_c252 = { { 116,119,111,83,116,101,112,70,108,97,103 } };
 #define c253 (octets_of_c253.octets)
-static const union { u8 octets[9]; u64 aligned; } octets_of_c253 = { { 112,111,114,116,83,116,97,116,101 } };
+static const union { u8 octets[9]; u64 aligned; } octets_of_c253 = { { 112,114,105,111,114,105,116,121,49 } };
 #define c254 (octets_of_c254.octets)
-static const union { u8 octets[22]; u64 aligned; } octets_of_c254 = { { 108,111,103,77,105,110,68,101,108,97,121,82,101,113,73,110,116,101,114,118,97,108 } };
+static const union { u8 octets[23]; u64 aligned; } octets_of_c254 = { { 99,108,111,99,107,81,117,97,108,105,116,121,46,99,108,111,99,107,67,108,97,115,115 } };
 #define c255 (octets_of_c255.octets)
-static const union { u8 octets[13]; u64 aligned; } octets_of_c255 = { { 109,101,97,110,76,105,110,107,68,101,108,97,121 } };
+static const union { u8 octets[26]; u64 aligned; } octets_of_c255 = { { 99,108,111,99,107,81,117,97,108,105,116,121,46,99,108,111,99,107,65,99,99,117,114,97,99,121 } };
 #define c256 (octets_of_c256.octets)
-static const union { u8 octets[60]; u64 aligned; } octets_of_c256 = { { 6,0,0,0,1,2,7,0,0,0,16,0,8,0,0,0,16,1,9,0,0,0,16,2,10,0,0,0,16,3,11,0,0,0,16,4,12,0,0,0,16,5,13,0,0,0,16,6,0,2,0,0,16,7,14,0,0,0,16,8 } };
+static const union { u8 octets[36]; u64 aligned; } octets_of_c256 = { { 99,108,111,99,107,81,117,97,108,105,116,121,46,111,102,102,115,101,116,83,99,97,108,101,100,76,111,103,86,97,114,105,97,110,99,101 } };
 #define c257 (octets_of_c257.octets)
-static const union { u8 octets[12]; u64 aligned; } octets_of_c257 = { { 15,0,0,0,0,6,16,0,0,6,0,4 } };
+static const union { u8 octets[9]; u64 aligned; } octets_of_c257 = { { 112,114,105,111,114,105,116,121,50 } };
 #define c258 (octets_of_c258.octets)
-static const union { u8 octets[12]; u64 aligned; } octets_of_c258 = { { 0,27,0,0,3,16,0,28,0,0,3,32 } };
+static const union { u8 octets[12]; u64 aligned; } octets_of_c258 = { { 115,116,101,112,115,82,101,109,111,118,101,100 } };
 #define c259 (octets_of_c259.octets)
-static const union { u8 octets[12]; u64 aligned; } octets_of_c259 = { { 0,26,0,0,3,8,0,29,0,1,1,1 } };
+static const union { u8 octets[16]; u64 aligned; } octets_of_c259 = { { 111,102,102,115,101,116,70,114,111,109,77,97,115,116,101,114 } };
 #define c260 (octets_of_c260.octets)
-static const union { u8 octets[6]; u64 aligned; } octets_of_c260 = { { 17,0,0,0,15,0 } };
+static const union { u8 octets[9]; u64 aligned; } octets_of_c260 = { { 109,101,97,110,68,101,108,97,121 } };
 #define c261 (octets_of_c261.octets)
-static const union { u8 octets[48]; u64 aligned; } octets_of_c261 = { { 18,0,0,0,2,8,19,0,0,8,2,8,20,0,0,16,2,4,21,0,0,20,2,4,22,0,0,24,0,2,23,0,0,26,13,12,24,0,0,41,3,1,25,0,0,42,7,0 } };
+static const union { u8 octets[18]; u64 aligned; } octets_of_c261 = { { 112,97,114,101,110,116,80,111,114,116,73,100,101,110,116,105,116,121 } };
 #define c262 (octets_of_c262.octets)
-static const union { u8 octets[66]; u64 aligned; } octets_of_c262 = { { 0,5,0,0,0,1,0,6,0,1,1,1,0,7,0,2,1,2,0,22,0,4,2,2,0,23,0,6,3,1,0,24,0,6,3,2,0,25,0,6,3,4,0,26,0,6,3,8,0,27,0,6,3,16,0,28,0,6,3,32,0,29,0,7,1,1 } };
+static const union { u8 octets[11]; u64 aligned; } octets_of_c262 = { { 112,97,114,101,110,116,83,116,97,116,115 } };
 #define c263 (octets_of_c263.octets)
-static const union { u8 octets[12]; u64 aligned; } octets_of_c263 = { { 26,0,0,0,0,4,27,0,0,4,2,4 } };
+static const union { u8 octets[37]; u64 aligned; } octets_of_c263 = { { 111,98,115,101,114,118,101,100,80,97,114,101,110,116,79,102,102,115,101,116,83,99,97,108,101,100,76,111,103,86,97,114,105,97,110,99,101 } };
 #define c264 (octets_of_c264.octets)
-static const union { u8 octets[24]; u64 aligned; } octets_of_c264 = { { 3,0,0,0,8,0,0,30,0,10,9,0,28,0,0,11,14,0,29,0,0,12,11,0 } };
+static const union { u8 octets[34]; u64 aligned; } octets_of_c264 = { { 111,98,115,101,114,118,101,100,80,97,114,101,110,116,67,108,111,99,107,80,104,97,115,101,67,104,97,110,103,101,82,97,116,101 } };
 #define c265 (octets_of_c265.octets)
-static const union { u8 octets[126]; u64 aligned; } octets_of_c265 = { { 3,0,0,0,8,0,30,0,0,10,12,8,31,0,0,18,12,8,32,0,0,26,12,8,33,0,0,34,12,8,34,0,0,74,12,8,35,0,0,82,12,8,36,0,0,90,12,8,37,0,0,98,12,8,38,0,0,106,12,8,39,0,0,114,12,8,40,0,0,138,12,8,41,0,0,146,12,8,42,0,0,154,12,8,43,0,0,162,12,8,44,0,0,202,12,8,45,0,0,210,12,8,46,0,0,218,12,8,47,0,0,226,12,8,48,0,0,234,12,8,49,0,0,242,12,8 } };
+static const union { u8 octets[20]; u64 aligned; } octets_of_c265 = { { 103,114,97,110,100,109,97,115,116,101,114,80,114,105,111,114,105,116,121,49 } };
 #define c266 (octets_of_c266.octets)
-static const union { u8 octets[6]; u64 aligned; } octets_of_c266 = { { 118,97,108,117,101,32 } };
+static const union { u8 octets[34]; u64 aligned; } octets_of_c266 = { { 103,114,97,110,100,109,97,115,116,101,114,67,108,111,99,107,81,117,97,108,105,116,121,46,99,108,111,99,107,67,108,97,115,115 } };
 #define c267 (octets_of_c267.octets)
-static const union { u8 octets[2]; u64 aligned; } octets_of_c267 = { { 48,120 } };
+static const union { u8 octets[37]; u64 aligned; } octets_of_c267 = { { 103,114,97,110,100,109,97,115,116,101,114,67,108,111,99,107,81,117,97,108,105,116,121,46,99,108,111,99,107,65,99,99,117,114,97,99,121 } };
 #define c268 (octets_of_c268.octets)
-static const union { u8 octets[200]; u64 aligned; } octets_of_c268 = { { 48,48,48,49,48,50,48,51,48,52,48,53,48,54,48,55,48,56,48,57,49,48,49,49,49,50,49,51,49,52,49,53,49,54,49,55,49,56,49,57,50,48,50,49,50,50,50,51,50,52,50,53,50,54,50,55,50,56,50,57,51,48,51,49,51,50,51,51,51,52,51,53,51,54,51,55,51,56,51,57,52,48,52,49,52,50,52,51,52,52,52,53,52,54,52,55,52,56,52,57,53,48,53,49,53,50,53,51,53,52,53,53,53,54,53,55,53,56,53,57,54,48,54,49,54,50,54,51,54,52,54,53,54,54,54,55,54,56,54,57,55,48,55,49,55,50,55,51,55,52,55,53,55,54,55,55,55,56,55,57,56,48,56,49,56,50,56,51,56,52,56,53,56,54,56,55,56,56,56,57,57,48,57,49,57,50,57,51,57,52,57,53,57,54,57,55,57,56,57,57 } };
+static const union { u8 octets[47]; u64 aligned; } octets_of_c268 = { { 103,114,97,110,100,109,97,115,116,101,114,67,108,111,99,107,81,117,97,108,105,116,121,46,111,102,102,115,101,116,83,99,97,108,101,100,76,111,103,86,97,114,105,97,110,99,101 } };
 #define c269 (octets_of_c269.octets)
-static const union { u8 octets[12]; u64 aligned; } octets_of_c269 = { { 73,78,73,84,73,65,76,73,90,73,78,71 } };
+static const union { u8 octets[20]; u64 aligned; } octets_of_c269 = { { 103,114,97,110,100,109,97,115,116,101,114,80,114,105,111,114,105,116,121,50 } };
 #define c270 (octets_of_c270.octets)
-static const union { u8 octets[6]; u64 aligned; } octets_of_c270 = { { 70,65,85,76,84,89 } };
+static const union { u8 octets[19]; u64 aligned; } octets_of_c270 = { { 103,114,97,110,100,109,97,115,116,101,114,73,100,101,110,116,105,116,121 } };
 #define c271 (octets_of_c271.octets)
-static const union { u8 octets[8]; u64 aligned; } octets_of_c271 = { { 68,73,83,65,66,76,69,68 } };
+static const union { u8 octets[16]; u64 aligned; } octets_of_c271 = { { 99,117,114,114,101,110,116,85,116,99,79,102,102,115,101,116 } };
 #define c272 (octets_of_c272.octets)
-static const union { u8 octets[9]; u64 aligned; } octets_of_c272 = { { 76,73,83,84,69,78,73,78,71 } };
+static const union { u8 octets[6]; u64 aligned; } octets_of_c272 = { { 108,101,97,112,54,49 } };
 #define c273 (octets_of_c273.octets)
-static const union { u8 octets[10]; u64 aligned; } octets_of_c273 = { { 80,82,69,95,77,65,83,84,69,82 } };
+static const union { u8 octets[6]; u64 aligned; } octets_of_c273 = { { 108,101,97,112,53,57 } };
 #define c274 (octets_of_c274.octets)
-static const union { u8 octets[6]; u64 aligned; } octets_of_c274 = { { 77,65,83,84,69,82 } };
+static const union { u8 octets[21]; u64 aligned; } octets_of_c274 = { { 99,117,114,114,101,110,116,85,116,99,79,102,102,115,101,116,86,97,108,105,100 } };
 #define c275 (octets_of_c275.octets)
-static const union { u8 octets[7]; u64 aligned; } octets_of_c275 = { { 80,65,83,83,73,86,69 } };
+static const union { u8 octets[12]; u64 aligned; } octets_of_c275 = { { 112,116,112,84,105,109,101,115,99,97,108,101 } };
 #define c276 (octets_of_c276.octets)
-static const union { u8 octets[12]; u64 aligned; } octets_of_c276 = { { 85,78,67,65,76,73,66,82,65,84,69,68 } };
+static const union { u8 octets[13]; u64 aligned; } octets_of_c276 = { { 116,105,109,101,84,114,97,99,101,97,98,108,101 } };
 #define c277 (octets_of_c277.octets)
-static const union { u8 octets[5]; u64 aligned; } octets_of_c277 = { { 83,76,65,86,69 } };
+static const union { u8 octets[18]; u64 aligned; } octets_of_c277 = { { 102,114,101,113,117,101,110,99,121,84,114,97,99,101,97,98,108,101 } };
 #define c278 (octets_of_c278.octets)
-static const union { u8 octets[2]; u64 aligned; } octets_of_c278 = { { 92,120 } };
+static const union { u8 octets[10]; u64 aligned; } octets_of_c278 = { { 116,105,109,101,83,111,117,114,99,101 } };
 #define c279 (octets_of_c279.octets)
-static const union { u8 octets[8]; u64 aligned; } octets_of_c279 = { { 83,79,70,84,87,65,82,69 } };
+static const union { u8 octets[9]; u64 aligned; } octets_of_c279 = { { 112,111,114,116,83,116,97,116,101 } };
 #define c280 (octets_of_c280.octets)
-static const union { u8 octets[8]; u64 aligned; } octets_of_c280 = { { 72,65,82,68,87,65,82,69 } };
+static const union { u8 octets[22]; u64 aligned; } octets_of_c280 = { { 108,111,103,77,105,110,68,101,108,97,121,82,101,113,73,110,116,101,114,118,97,108 } };
 #define c281 (octets_of_c281.octets)
-static const union { u8 octets[9]; u64 aligned; } octets_of_c281 = { { 76,69,71,65,67,89,95,72,87 } };
+static const union { u8 octets[13]; u64 aligned; } octets_of_c281 = { { 109,101,97,110,76,105,110,107,68,101,108,97,121 } };
 #define c282 (octets_of_c282.octets)
-static const union { u8 octets[7]; u64 aligned; } octets_of_c282 = { { 79,78,69,83,84,69,80 } };
+static const union { u8 octets[60]; u64 aligned; } octets_of_c282 = { { 9,0,0,0,1,2,10,0,0,0,14,0,11,0,0,0,14,1,12,0,0,0,14,2,13,0,0,0,14,3,14,0,0,0,14,4,15,0,0,0,14,5,16,0,0,0,14,6,0,2,0,0,14,7,17,0,0,0,14,8 } };
 #define c283 (octets_of_c283.octets)
-static const union { u8 octets[8]; u64 aligned; } octets_of_c283 = { { 80,50,80,49,83,84,69,80 } };
+static const union { u8 octets[12]; u64 aligned; } octets_of_c283 = { { 18,0,0,0,0,6,19,0,0,6,0,4 } };
 #define c284 (octets_of_c284.octets)
-static const union { u8 octets[42]; u64 aligned; } octets_of_c284 = { { 0,0,2,0,0,32,1,32,2,32,3,32,4,32,5,32,6,32,7,32,8,32,9,32,10,32,11,32,12,32,13,32,14,32,16,32,17,32,0,96,1,96 } };
+static const union { u8 octets[12]; u64 aligned; } octets_of_c284 = { { 0,27,0,0,3,16,0,28,0,0,3,32 } };
 #define c285 (octets_of_c285.octets)
-static const union { u8 octets[4]; u64 aligned; } octets_of_c285 = { { 112,116,112,115 } };
+static const union { u8 octets[12]; u64 aligned; } octets_of_c285 = { { 0,26,0,0,3,8,0,29,0,1,9,2 } };
 #define c286 (octets_of_c286.octets)
-static const union { u8 octets[4]; u64 aligned; } octets_of_c286 = { { 112,116,112,109 } };
+static const union { u8 octets[6]; u64 aligned; } octets_of_c286 = { { 20,0,0,0,13,0 } };
 #define c287 (octets_of_c287.octets)
-static const union { u8 octets[10]; u64 aligned; } octets_of_c287 = { { 0,1,2,3,4,5,6,7,8,9 } };
+static const union { u8 octets[48]; u64 aligned; } octets_of_c287 = { { 21,0,0,0,2,8,22,0,0,8,2,8,23,0,0,16,2,4,24,0,0,20,2,4,25,0,0,24,0,2,26,0,0,26,12,12,27,0,0,41,3,1,28,0,0,42,7,0 } };
 #define c288 (octets_of_c288.octets)
-static const union { u8 octets[17]; u64 aligned; } octets_of_c288 = { { 67,76,79,67,75,95,68,69,83,67,82,73,80,84,73,79,78 } };
+static const union { u8 octets[66]; u64 aligned; } octets_of_c288 = { { 0,5,0,0,0,1,0,6,0,1,1,1,0,7,0,2,1,2,0,22,0,4,2,2,0,23,0,6,3,1,0,24,0,6,3,2,0,25,0,6,3,4,0,26,0,6,3,8,0,27,0,6,3,16,0,28,0,6,3,32,0,29,0,7,9,2 } };
 #define c289 (octets_of_c289.octets)
-static const union { u8 octets[4]; u64 aligned; } octets_of_c289 = { { 84,73,77,69 } };
+static const union { u8 octets[12]; u64 aligned; } octets_of_c289 = { { 29,0,0,0,0,4,30,0,0,4,2,4 } };
 #define c290 (octets_of_c290.octets)
-static const union { u8 octets[23]; u64 aligned; } octets_of_c290 = { { 84,82,65,67,69,65,66,73,76,73,84,89,95,80,82,79,80,69,82,84,73,69,83 } };
+static const union { u8 octets[24]; u64 aligned; } octets_of_c290 = { { 3,0,0,0,8,0,0,30,0,10,9,0,31,0,0,11,9,3,32,0,0,12,10,0 } };
 #define c291 (octets_of_c291.octets)
-static const union { u8 octets[20]; u64 aligned; } octets_of_c291 = { { 84,73,77,69,83,67,65,76,69,95,80,82,79,80,69,82,84,73,69,83 } };
+static const union { u8 octets[126]; u64 aligned; } octets_of_c291 = { { 3,0,0,0,8,0,33,0,0,10,11,8,34,0,0,18,11,8,35,0,0,26,11,8,36,0,0,34,11,8,37,0,0,74,11,8,38,0,0,82,11,8,39,0,0,90,11,8,40,0,0,98,11,8,41,0,0,106,11,8,42,0,0,114,11,8,43,0,0,138,11,8,44,0,0,146,11,8,45,0,0,154,11,8,46,0,0,162,11,8,47,0,0,202,11,8,48,0,0,210,11,8,49,0,0,218,11,8,50,0,0,226,11,8,51,0,0,234,11,8,52,0,0,242,11,8 } };
 #define c292 (octets_of_c292.octets)
-static const union { u8 octets[15]; u64 aligned; } octets_of_c292 = { { 80,65,84,72,95,84,82,65,67,69,95,76,73,83,84 } };
+static const union { u8 octets[6]; u64 aligned; } octets_of_c292 = { { 118,97,108,117,101,32 } };
 #define c293 (octets_of_c293.octets)
-static const union { u8 octets[14]; u64 aligned; } octets_of_c293 = { { 84,73,77,69,95,83,84,65,84,85,83,95,78,80 } };
+static const union { u8 octets[2]; u64 aligned; } octets_of_c293 = { { 48,120 } };
 #define c294 (octets_of_c294.octets)
-static const union { u8 octets[23]; u64 aligned; } octets_of_c294 = { { 71,82,65,78,68,77,65,83,84,69,82,95,83,69,84,84,73,78,71,83,95,78,80 } };
+static const union { u8 octets[200]; u64 aligned; } octets_of_c294 = { { 48,48,48,49,48,50,48,51,48,52,48,53,48,54,48,55,48,56,48,57,49,48,49,49,49,50,49,51,49,52,49,53,49,54,49,55,49,56,49,57,50,48,50,49,50,50,50,51,50,52,50,53,50,54,50,55,50,56,50,57,51,48,51,49,51,50,51,51,51,52,51,53,51,54,51,55,51,56,51,57,52,48,52,49,52,50,52,51,52,52,52,53,52,54,52,55,52,56,52,57,53,48,53,49,53,50,53,51,53,52,53,53,53,54,53,55,53,56,53,57,54,48,54,49,54,50,54,51,54,52,54,53,54,54,54,55,54,56,54,57,55,48,55,49,55,50,55,51,55,52,55,53,55,54,55,55,55,56,55,57,56,48,56,49,56,50,56,51,56,52,56,53,56,54,56,55,56,56,56,57,57,48,57,49,57,50,57,51,57,52,57,53,57,54,57,55,57,56,57,57 } };
 #define c295 (octets_of_c295.octets)
-static const union { u8 octets[16]; u64 aligned; } octets_of_c295 = { { 80,79,82,84,95,68,65,84,65,95,83,69,84,95,78,80 } };
+static const union { u8 octets[6]; u64 aligned; } octets_of_c295 = { { 99,108,97,115,115,32 } };
 #define c296 (octets_of_c296.octets)
-static const union { u8 octets[18]; u64 aligned; } octets_of_c296 = { { 80,79,82,84,95,80,82,79,80,69,82,84,73,69,83,95,78,80 } };
+static const union { u8 octets[12]; u64 aligned; } octets_of_c296 = { { 32,97,99,99,117,114,97,99,121,32,48,120 } };
 #define c297 (octets_of_c297.octets)
-static const union { u8 octets[13]; u64 aligned; } octets_of_c297 = { { 80,79,82,84,95,83,84,65,84,83,95,78,80 } };
+static const union { u8 octets[12]; u64 aligned; } octets_of_c297 = { { 32,118,97,114,105,97,110,99,101,32,48,120 } };
 #define c298 (octets_of_c298.octets)
-static const union { u8 octets[168]; u64 aligned; } octets_of_c298 = { { 16,0,0,0,0,0,0,0,216,0,0,0,0,0,0,0,16,0,0,0,0,0,0,0,88,0,0,0,0,0,0,0,16,0,0,0,0,0,0,0,12,0,0,0,0,0,0,0,196,5,0,0,0,0,0,0,12,0,0,0,0,0,0,0,16,0,0,0,0,0,0,0,26,0,0,0,0,0,0,0,16,0,0,0,0,0,0,0,16,0,0,0,0,0,0,0,10,0,0,0,0,0,0,0,8,0,3,0,0,0,0,0,24,0,0,0,0,0,0,0,16,0,0,0,0,0,0,0,36,0,0,0,0,0,0,0,24,0,0,0,0,0,0,0,150,0,0,0,0,0,0,0,144,5,0,0,0,0,0,0,36,0,0,0,0,0,0,0 } };
+static const union { u8 octets[2]; u64 aligned; } octets_of_c298 = { { 92,120 } };
 #define c299 (octets_of_c299.octets)
-static const union { u8 octets[40]; u64 aligned; } octets_of_c299 = { { 19,0,0,0,0,0,0,0,22,0,0,0,0,0,0,0,15,0,0,0,0,0,0,0,14,0,0,0,0,0,0,0,23,0,0,0,0,0,0,0 } };
-#if IS_LITTLE_ENDIAN
-static const struct form_of_c300 { slot slot0; slot slot8; slot slot16; slot slot24; slot slot32; } octets_of_c300;
-#define c300 ((const u8 *)&octets_of_c300)
-#else
-static union form_of_c300 { u8 octets[40]; u64 aligned; } octets_of_c300;
+static const union { u8 octets[42]; u64 aligned; } octets_of_c299 = { { 0,0,2,0,0,32,1,32,2,32,3,32,4,32,5,32,6,32,7,32,8,32,9,32,10,32,11,32,12,32,13,32,14,32,16,32,17,32,0,96,1,96 } };
 #define c300 (octets_of_c300.octets)
-#endif
+static const union { u8 octets[4]; u64 aligned; } octets_of_c300 = { { 112,116,112,115 } };
 #define c301 (octets_of_c301.octets)
-static const union { u8 octets[20]; u64 aligned; } octets_of_c301 = { { 0,0,0,0,1,0,0,0,2,0,0,0,3,0,0,0,3,0,0,0 } };
+static const union { u8 octets[4]; u64 aligned; } octets_of_c301 = { { 112,116,112,109 } };
 #define c302 (octets_of_c302.octets)
-static const union { u8 octets[12]; u64 aligned; } octets_of_c302 = { { 51,0,0,0,52,0,0,0,35,0,0,0 } };
+static const union { u8 octets[10]; u64 aligned; } octets_of_c302 = { { 0,1,2,3,4,5,6,7,8,9 } };
 #define c303 (octets_of_c303.octets)
-static const union { u8 octets[72]; u64 aligned; } octets_of_c303 = { { 13,0,0,0,0,0,0,0,0,0,0,0,0,0,0,0,0,0,0,0,0,0,0,0,16,0,0,0,0,0,0,0,10,0,0,0,0,0,0,0,12,0,0,0,0,0,0,0,11,0,0,0,0,0,0,0,11,0,0,0,0,0,0,0,13,0,0,0,0,0,0,0 } };
-#if IS_LITTLE_ENDIAN
-static const struct form_of_c304 { slot slot0; u8 octets8[16]; slot slot24; slot slot32; slot slot40; slot slot48; slot slot56; slot slot64; } octets_of_c304;
-#define c304 ((const u8 *)&octets_of_c304)
-#else
-static union form_of_c304 { u8 octets[72]; u64 aligned; } octets_of_c304;
+static const union { u8 octets[17]; u64 aligned; } octets_of_c303 = { { 67,76,79,67,75,95,68,69,83,67,82,73,80,84,73,79,78 } };
 #define c304 (octets_of_c304.octets)
-#endif
-#if IS_LITTLE_ENDIAN
-static const struct form_of_c305 { slot slot0; slot slot8; slot slot16; slot slot24; slot slot32; } octets_of_c305;
-#define c305 ((const u8 *)&octets_of_c305)
-#else
-static union form_of_c305 { u8 octets[40]; u64 aligned; } octets_of_c305;
+static const union { u8 octets[4]; u64 aligned; } octets_of_c304 = { { 84,73,77,69 } };
 #define c305 (octets_of_c305.octets)
-#endif
+static const union { u8 octets[23]; u64 aligned; } octets_of_c305 = { { 84,82,65,67,69,65,66,73,76,73,84,89,95,80,82,79,80,69,82,84,73,69,83 } };
 #define c306 (octets_of_c306.octets)
-static const union { u8 octets[72]; u64 aligned; } octets_of_c306 = { { 2,0,0,0,0,0,0,0,2,0,0,0,0,0,0,0,2,0,0,0,0,0,0,0,1,0,0,0,0,0,0,0,8,0,0,0,0,0,0,0,11,0,0,0,0,0,0,0,2,0,0,0,0,0,0,0,4,0,0,0,0,0,0,0,21,0,0,0,0,0,0,0 } };
-#if IS_LITTLE_ENDIAN
-static const struct form_of_c307 { slot slot0; slot slot8; slot slot16; slot slot24; slot slot32; slot slot40; slot slot48; slot slot56; slot slot64; } octets_of_c307;
-#define c307 ((const u8 *)&octets_of_c307)
-#else
-static union form_of_c307 { u8 octets[72]; u64 aligned; } octets_of_c307;
+static const union { u8 octets[20]; u64 aligned; } octets_of_c306 = { { 84,73,77,69,83,67,65,76,69,95,80,82,79,80,69,82,84,73,69,83 } };
 #define c307 (octets_of_c307.octets)
-#endif
-#if IS_LITTLE_ENDIAN
-static const struct form_of_c308 { slot slot0; slot slot8; slot slot16; slot slot24; slot slot32; slot slot40; slot slot48; slot slot56; slot slot64; } octets_of_c308;
-#define c308 ((const u8 *)&octets_of_c308)
-#else
-static union form_of_c308 { u8 octets[72]; u64 aligned; } octets_of_c308;
+static const union { u8 octets[15]; u64 aligned; } octets_of_c307 = { { 80,65,84,72,95,84,82,65,67,69,95,76,73,83,84 } };
 #define c308 (octets_of_c308.octets)
-#endif
+static const union { u8 octets[14]; u64 aligned; } octets_of_c308 = { { 84,73,77,69,95,83,84,65,84,85,83,95,78,80 } };
 #define c309 (octets_of_c309.octets)
-static const union { u8 octets[72]; u64 aligned; } octets_of_c309 = { { 12,0,0,0,0,0,0,0,6,0,0,0,0,0,0,0,8,0,0,0,0,0,0,0,9,0,0,0,0,0,0,0,10,0,0,0,0,0,0,0,6,0,0,0,0,0,0,0,7,0,0,0,0,0,0,0,12,0,0,0,0,0,0,0,5,0,0,0,0,0,0,0 } };
+static const union { u8 octets[23]; u64 aligned; } octets_of_c309 = { { 71,82,65,78,68,77,65,83,84,69,82,95,83,69,84,84,73,78,71,83,95,78,80 } };
 #define c310 (octets_of_c310.octets)
-static const union { u8 octets[56]; u64 aligned; } octets_of_c310 = { { 1,0,0,0,0,0,0,0,0,0,0,0,0,0,0,0,0,0,0,0,0,0,0,0,1,0,0,0,0,0,0,0,1,0,0,0,0,0,0,0,1,0,0,0,0,0,0,0,1,0,0,0,0,0,0,0 } };
-#if IS_LITTLE_ENDIAN
-static const struct form_of_c311 { slot slot0; u8 octets8[16]; slot slot24; slot slot32; slot slot40; slot slot48; } octets_of_c311;
-#define c311 ((const u8 *)&octets_of_c311)
-#else
-static union form_of_c311 { u8 octets[56]; u64 aligned; } octets_of_c311;
+static const union { u8 octets[16]; u64 aligned; } octets_of_c310 = { { 80,79,82,84,95,68,65,84,65,95,83,69,84,95,78,80 } };
 #define c311 (octets_of_c311.octets)
-#endif
+static const union { u8 octets[18]; u64 aligned; } octets_of_c311 = { { 80,79,82,84,95,80,82,79,80,69,82,84,73,69,83,95,78,80 } };
 #define c312 (octets_of_c312.octets)
-static const union { u8 octets[56]; u64 aligned; } octets_of_c312 = { { 12,0,0,0,0,0,0,0,0,0,0,0,0,0,0,0,0,0,0,0,0,0,0,0,3,0,0,0,0,0,0,0,3,0,0,0,0,0,0,0,10,0,0,0,0,0,0,0,7,0,0,0,0,0,0,0 } };
+static const union { u8 octets[13]; u64 aligned; } octets_of_c312 = { { 80,79,82,84,95,83,84,65,84,83,95,78,80 } };
 #define c313 (octets_of_c313.octets)
-static const union { u8 octets[40]; u64 aligned; } octets_of_c313 = { { 8,0,0,0,0,0,0,0,8,0,0,0,0,0,0,0,9,0,0,0,0,0,0,0,7,0,0,0,0,0,0,0,8,0,0,0,0,0,0,0 } };
-#if IS_LITTLE_ENDIAN
-static const struct form_of_c314 { slot slot0; slot slot8; slot slot16; slot slot24; slot slot32; } octets_of_c314;
-#define c314 ((const u8 *)&octets_of_c314)
-#else
-static union form_of_c314 { u8 octets[40]; u64 aligned; } octets_of_c314;
+static const union { u8 octets[168]; u64 aligned; } octets_of_c313 = { { 16,0,0,0,0,0,0,0,216,0,0,0,0,0,0,0,16,0,0,0,0,0,0,0,88,0,0,0,0,0,0,0,16,0,0,0,0,0,0,0,12,0,0,0,0,0,0,0,196,5,0,0,0,0,0,0,12,0,0,0,0,0,0,0,16,0,0,0,0,0,0,0,26,0,0,0,0,0,0,0,16,0,0,0,0,0,0,0,16,0,0,0,0,0,0,0,10,0,0,0,0,0,0,0,8,0,3,0,0,0,0,0,24,0,0,0,0,0,0,0,16,0,0,0,0,0,0,0,36,0,0,0,0,0,0,0,24,0,0,0,0,0,0,0,150,0,0,0,0,0,0,0,144,5,0,0,0,0,0,0,36,0,0,0,0,0,0,0 } };
 #define c314 (octets_of_c314.octets)
-#endif
-#define c315 (octets_of_c315.octets)
-static const union { u8 octets[80]; u64 aligned; } octets_of_c315 = { { 17,0,0,0,0,0,0,0,4,0,0,0,0,0,0,0,23,0,0,0,0,0,0,0,20,0,0,0,0,0,0,0,15,0,0,0,0,0,0,0,14,0,0,0,0,0,0,0,23,0,0,0,0,0,0,0,16,0,0,0,0,0,0,0,18,0,0,0,0,0,0,0,13,0,0,0,0,0,0,0 } };
+static const union { u8 octets[40]; u64 aligned; } octets_of_c314 = { { 19,0,0,0,0,0,0,0,22,0,0,0,0,0,0,0,15,0,0,0,0,0,0,0,14,0,0,0,0,0,0,0,23,0,0,0,0,0,0,0 } };
 #if IS_LITTLE_ENDIAN
-static const struct form_of_c316 { slot slot0; slot slot8; slot slot16; slot slot24; slot slot32; slot slot40; slot slot48; slot slot56; slot slot64; slot slot72; } octets_of_c316;
-#define c316 ((const u8 *)&octets_of_c316)
+static const struct form_of_c315 { slot slot0; slot slot8; slot slot16; slot slot24; slot slot32; } octets_of_c315;
+#define c315 ((const u8 *)&octets_of_c315)
 #else
-static union form_of_c316 { u8 octets[80]; u64 aligned; } octets_of_c316;
-#define c316 (octets_of_c316.octets)
+static union form_of_c315 { u8 octets[40]; u64 aligned; } octets_of_c315;
+#define c315 (octets_of_c315.octets)
 #endif
+#define c316 (octets_of_c316.octets)
+static const union { u8 octets[20]; u64 aligned; } octets_of_c316 = { { 0,0,0,0,1,0,0,0,2,0,0,0,3,0,0,0,3,0,0,0 } };
 #define c317 (octets_of_c317.octets)
-static const union { u8 octets[40]; u64 aligned; } octets_of_c317 = { { 1,0,0,0,15,32,0,0,18,32,0,0,19,32,0,0,21,32,0,0,0,192,0,0,1,192,0,0,2,192,0,0,4,192,0,0,5,192,0,0 } };
+static const union { u8 octets[12]; u64 aligned; } octets_of_c317 = { { 51,0,0,0,52,0,0,0,35,0,0,0 } };
 #define c318 (octets_of_c318.octets)
-static const union { u8 octets[24]; u64 aligned; } octets_of_c318 = { { 104,0,0,0,105,0,0,0,106,0,0,0,107,0,0,0,110,0,0,0,35,0,0,0 } };
+static const union { u8 octets[72]; u64 aligned; } octets_of_c318 = { { 13,0,0,0,0,0,0,0,0,0,0,0,0,0,0,0,0,0,0,0,0,0,0,0,16,0,0,0,0,0,0,0,10,0,0,0,0,0,0,0,12,0,0,0,0,0,0,0,11,0,0,0,0,0,0,0,11,0,0,0,0,0,0,0,13,0,0,0,0,0,0,0 } };
+#if IS_LITTLE_ENDIAN
+static const struct form_of_c319 { slot slot0; u8 octets8[16]; slot slot24; slot slot32; slot slot40; slot slot48; slot slot56; slot slot64; } octets_of_c319;
+#define c319 ((const u8 *)&octets_of_c319)
+#else
+static union form_of_c319 { u8 octets[72]; u64 aligned; } octets_of_c319;
 #define c319 (octets_of_c319.octets)
-static const union { u8 octets[9]; u64 aligned; } octets_of_c319 = { { 6,0,0,0,0,0,3,4,5 } };
+#endif
+#if IS_LITTLE_ENDIAN
+static const struct form_of_c320 { slot slot0; slot slot8; slot slot16; slot slot24; slot slot32; } octets_of_c320;
+#define c320 ((const u8 *)&octets_of_c320)
+#else
+static union form_of_c320 { u8 octets[40]; u64 aligned; } octets_of_c320;
 #define c320 (octets_of_c320.octets)
-static const union { u8 octets[14]; u64 aligned; } octets_of_c320 = { { 1,0,2,0,3,0,4,0,5,0,6,0,254,255 } };
+#endif
 #define c321 (octets_of_c321.octets)
-static const union { u8 octets[12]; u64 aligned; } octets_of_c321 = { { 33,0,0,0,40,0,0,0,41,0,0,0 } };
+static const union { u8 octets[72]; u64 aligned; } octets_of_c321 = { { 2,0,0,0,0,0,0,0,2,0,0,0,0,0,0,0,2,0,0,0,0,0,0,0,1,0,0,0,0,0,0,0,8,0,0,0,0,0,0,0,11,0,0,0,0,0,0,0,2,0,0,0,0,0,0,0,4,0,0,0,0,0,0,0,21,0,0,0,0,0,0,0 } };
+#if IS_LITTLE_ENDIAN
+static const struct form_of_c322 { slot slot0; slot slot8; slot slot16; slot slot24; slot slot32; slot slot40; slot slot48; slot slot56; slot slot64; } octets_of_c322;
+#define c322 ((const u8 *)&octets_of_c322)
+#else
+static union form_of_c322 { u8 octets[72]; u64 aligned; } octets_of_c322;
 #define c322 (octets_of_c322.octets)
-static const union { u8 octets[24]; u64 aligned; } octets_of_c322 = { { 38,0,0,0,39,0,0,0,40,0,0,0,41,0,0,0,42,0,0,0,35,0,0,0 } };
+#endif
+#if IS_LITTLE_ENDIAN
+static const struct form_of_c323 { slot slot0; slot slot8; slot slot16; slot slot24; slot slot32; slot slot40; slot slot48; slot slot56; slot slot64; } octets_of_c323;
+#define c323 ((const u8 *)&octets_of_c323)
+#else
+static union form_of_c323 { u8 octets[72]; u64 aligned; } octets_of_c323;
+#define c323 (octets_of_c323.octets)
+#endif
+#define c324 (octets_of_c324.octets)
+static const union { u8 octets[72]; u64 aligned; } octets_of_c324 = { { 12,0,0,0,0,0,0,0,6,0,0,0,0,0,0,0,8,0,0,0,0,0,0,0,9,0,0,0,0,0,0,0,10,0,0,0,0,0,0,0,6,0,0,0,0,0,0,0,7,0,0,0,0,0,0,0,12,0,0,0,0,0,0,0,5,0,0,0,0,0,0,0 } };
+#if IS_LITTLE_ENDIAN
+static const struct form_of_c325 { slot slot0; u8 octets8[16]; slot slot24; slot slot32; slot slot40; slot slot48; } octets_of_c325;
+#define c325 ((const u8 *)&octets_of_c325)
+#else
+static union form_of_c325 { u8 octets[56]; u64 aligned; } octets_of_c325;
+#define c325 (octets_of_c325.octets)
+#endif
+#define c326 (octets_of_c326.octets)
+static const union { u8 octets[56]; u64 aligned; } octets_of_c326 = { { 12,0,0,0,0,0,0,0,0,0,0,0,0,0,0,0,0,0,0,0,0,0,0,0,3,0,0,0,0,0,0,0,3,0,0,0,0,0,0,0,10,0,0,0,0,0,0,0,7,0,0,0,0,0,0,0 } };
+#if IS_LITTLE_ENDIAN
+static const struct form_of_c327 { slot slot0; slot slot8; slot slot16; slot slot24; slot slot32; } octets_of_c327;
+#define c327 ((const u8 *)&octets_of_c327)
+#else
+static union form_of_c327 { u8 octets[40]; u64 aligned; } octets_of_c327;
+#define c327 (octets_of_c327.octets)
+#endif
+#define c328 (octets_of_c328.octets)
+static const union { u8 octets[40]; u64 aligned; } octets_of_c328 = { { 8,0,0,0,0,0,0,0,8,0,0,0,0,0,0,0,9,0,0,0,0,0,0,0,7,0,0,0,0,0,0,0,8,0,0,0,0,0,0,0 } };
+#define c329 (octets_of_c329.octets)
+static const union { u8 octets[80]; u64 aligned; } octets_of_c329 = { { 17,0,0,0,0,0,0,0,4,0,0,0,0,0,0,0,23,0,0,0,0,0,0,0,20,0,0,0,0,0,0,0,15,0,0,0,0,0,0,0,14,0,0,0,0,0,0,0,23,0,0,0,0,0,0,0,16,0,0,0,0,0,0,0,18,0,0,0,0,0,0,0,13,0,0,0,0,0,0,0 } };
+#if IS_LITTLE_ENDIAN
+static const struct form_of_c330 { slot slot0; slot slot8; slot slot16; slot slot24; slot slot32; slot slot40; slot slot48; slot slot56; slot slot64; slot slot72; } octets_of_c330;
+#define c330 ((const u8 *)&octets_of_c330)
+#else
+static union form_of_c330 { u8 octets[80]; u64 aligned; } octets_of_c330;
+#define c330 (octets_of_c330.octets)
+#endif
+#define c331 (octets_of_c331.octets)
+static const union { u8 octets[40]; u64 aligned; } octets_of_c331 = { { 1,0,0,0,15,32,0,0,18,32,0,0,19,32,0,0,21,32,0,0,0,192,0,0,1,192,0,0,2,192,0,0,4,192,0,0,5,192,0,0 } };
+#define c332 (octets_of_c332.octets)
+static const union { u8 octets[24]; u64 aligned; } octets_of_c332 = { { 104,0,0,0,105,0,0,0,106,0,0,0,107,0,0,0,110,0,0,0,35,0,0,0 } };
+#define c333 (octets_of_c333.octets)
+static const union { u8 octets[9]; u64 aligned; } octets_of_c333 = { { 6,0,0,0,0,0,3,4,5 } };
+#define c334 (octets_of_c334.octets)
+static const union { u8 octets[14]; u64 aligned; } octets_of_c334 = { { 1,0,2,0,3,0,4,0,5,0,6,0,254,255 } };
+#define c335 (octets_of_c335.octets)
+static const union { u8 octets[12]; u64 aligned; } octets_of_c335 = { { 33,0,0,0,40,0,0,0,41,0,0,0 } };
+#define c336 (octets_of_c336.octets)
+static const union { u8 octets[24]; u64 aligned; } octets_of_c336 = { { 38,0,0,0,39,0,0,0,40,0,0,0,41,0,0,0,42,0,0,0,35,0,0,0 } };
 #if IS_LITTLE_ENDIAN
 static const struct form_of_c113 octets_of_c113 = { SLOT(c113 + 8), { 112,116,112,109,0,0,0,0 } };
 #else
@@ -719,44 +747,44 @@ static const struct form_of_c140 octets_of_c140 = { SLOT(c140 + 8), { 0 } };
 static union form_of_c140 octets_of_c140 = { { 0 } };
 #endif
 #if IS_LITTLE_ENDIAN
-static const struct form_of_c300 octets_of_c300 = { SLOT(c131 + 0), SLOT(c133 + 0), SLOT(c135 + 0), SLOT(c137 + 0), SLOT(c139 + 0) };
+static const struct form_of_c315 octets_of_c315 = { SLOT(c131 + 0), SLOT(c133 + 0), SLOT(c135 + 0), SLOT(c137 + 0), SLOT(c139 + 0) };
 #else
-static union form_of_c300 octets_of_c300 = { { 0 } };
+static union form_of_c315 octets_of_c315 = { { 0 } };
 #endif
 #if IS_LITTLE_ENDIAN
-static const struct form_of_c304 octets_of_c304 = { SLOT(c148 + 0), { 0 }, SLOT(c142 + 0), SLOT(c143 + 0), SLOT(c144 + 0), SLOT(c145 + 0), SLOT(c146 + 0), SLOT(c147 + 0) };
+static const struct form_of_c319 octets_of_c319 = { SLOT(c148 + 0), { 0 }, SLOT(c142 + 0), SLOT(c143 + 0), SLOT(c144 + 0), SLOT(c145 + 0), SLOT(c146 + 0), SLOT(c147 + 0) };
 #else
-static union form_of_c304 octets_of_c304 = { { 0 } };
+static union form_of_c319 octets_of_c319 = { { 0 } };
 #endif
 #if IS_LITTLE_ENDIAN
-static const struct form_of_c305 octets_of_c305 = { SLOT(c159 + 0), SLOT(c160 + 0), SLOT(c161 + 0), SLOT(c162 + 0), SLOT(c163 + 0) };
+static const struct form_of_c320 octets_of_c320 = { SLOT(c159 + 0), SLOT(c160 + 0), SLOT(c161 + 0), SLOT(c162 + 0), SLOT(c163 + 0) };
 #else
-static union form_of_c305 octets_of_c305 = { { 0 } };
+static union form_of_c320 octets_of_c320 = { { 0 } };
 #endif
 #if IS_LITTLE_ENDIAN
-static const struct form_of_c307 octets_of_c307 = { SLOT(c257 + 0), SLOT(c258 + 0), SLOT(c259 + 0), SLOT(c260 + 0), SLOT(c261 + 0), SLOT(c262 + 0), SLOT(c263 + 0), SLOT(c264 + 0), SLOT(c265 + 0) };
+static const struct form_of_c322 octets_of_c322 = { SLOT(c283 + 0), SLOT(c284 + 0), SLOT(c285 + 0), SLOT(c286 + 0), SLOT(c287 + 0), SLOT(c288 + 0), SLOT(c289 + 0), SLOT(c290 + 0), SLOT(c291 + 0) };
 #else
-static union form_of_c307 octets_of_c307 = { { 0 } };
+static union form_of_c322 octets_of_c322 = { { 0 } };
 #endif
 #if IS_LITTLE_ENDIAN
-static const struct form_of_c308 octets_of_c308 = { SLOT(c269 + 0), SLOT(c270 + 0), SLOT(c271 + 0), SLOT(c272 + 0), SLOT(c273 + 0), SLOT(c274 + 0), SLOT(c275 + 0), SLOT(c276 + 0), SLOT(c277 + 0) };
+static const struct form_of_c323 octets_of_c323 = { SLOT(c169 + 0), SLOT(c170 + 0), SLOT(c171 + 0), SLOT(c172 + 0), SLOT(c173 + 0), SLOT(c174 + 0), SLOT(c175 + 0), SLOT(c176 + 0), SLOT(c177 + 0) };
 #else
-static union form_of_c308 octets_of_c308 = { { 0 } };
+static union form_of_c323 octets_of_c323 = { { 0 } };
 #endif
 #if IS_LITTLE_ENDIAN
-static const struct form_of_c311 octets_of_c311 = { SLOT(c171 + 0), { 0 }, SLOT(c169 + 0), SLOT(c170 + 0), SLOT(c172 + 0), SLOT(c173 + 0) };
+static const struct form_of_c325 octets_of_c325 = { SLOT(c182 + 0), { 0 }, SLOT(c180 + 0), SLOT(c181 + 0), SLOT(c178 + 0), SLOT(c179 + 0) };
 #else
-static union form_of_c311 octets_of_c311 = { { 0 } };
+static union form_of_c325 octets_of_c325 = { { 0 } };
 #endif
 #if IS_LITTLE_ENDIAN
-static const struct form_of_c314 octets_of_c314 = { SLOT(c279 + 0), SLOT(c280 + 0), SLOT(c281 + 0), SLOT(c282 + 0), SLOT(c283 + 0) };
+static const struct form_of_c327 octets_of_c327 = { SLOT(c192 + 0), SLOT(c193 + 0), SLOT(c194 + 0), SLOT(c195 + 0), SLOT(c196 + 0) };
 #else
-static union form_of_c314 octets_of_c314 = { { 0 } };
+static union form_of_c327 octets_of_c327 = { { 0 } };
 #endif
 #if IS_LITTLE_ENDIAN
-static const struct form_of_c316 octets_of_c316 = { SLOT(c288 + 0), SLOT(c289 + 0), SLOT(c290 + 0), SLOT(c291 + 0), SLOT(c292 + 0), SLOT(c293 + 0), SLOT(c294 + 0), SLOT(c295 + 0), SLOT(c296 + 0), SLOT(c297 + 0) };
+static const struct form_of_c330 octets_of_c330 = { SLOT(c303 + 0), SLOT(c304 + 0), SLOT(c305 + 0), SLOT(c306 + 0), SLOT(c307 + 0), SLOT(c308 + 0), SLOT(c309 + 0), SLOT(c310 + 0), SLOT(c311 + 0), SLOT(c312 + 0) };
 #else
-static union form_of_c316 octets_of_c316 = { { 0 } };
+static union form_of_c330 octets_of_c330 = { { 0 } };
 #endif
 
 #if !IS_LITTLE_ENDIAN
@@ -764,61 +792,61 @@ void portable_fill(void);
 void portable_fill(void) {
     store_address(ADDRESS(c113) + 0u, ADDRESS(c113) + 8u);
     store_address(ADDRESS(c140) + 0u, ADDRESS(c140) + 8u);
-    store_address(ADDRESS(c300) + 0u, ADDRESS(c131) + 0u);
-    store_address(ADDRESS(c300) + 8u, ADDRESS(c133) + 0u);
-    store_address(ADDRESS(c300) + 16u, ADDRESS(c135) + 0u);
-    store_address(ADDRESS(c300) + 24u, ADDRESS(c137) + 0u);
-    store_address(ADDRESS(c300) + 32u, ADDRESS(c139) + 0u);
-    store_address(ADDRESS(c304) + 0u, ADDRESS(c148) + 0u);
-    store_address(ADDRESS(c304) + 24u, ADDRESS(c142) + 0u);
-    store_address(ADDRESS(c304) + 32u, ADDRESS(c143) + 0u);
-    store_address(ADDRESS(c304) + 40u, ADDRESS(c144) + 0u);
-    store_address(ADDRESS(c304) + 48u, ADDRESS(c145) + 0u);
-    store_address(ADDRESS(c304) + 56u, ADDRESS(c146) + 0u);
-    store_address(ADDRESS(c304) + 64u, ADDRESS(c147) + 0u);
-    store_address(ADDRESS(c305) + 0u, ADDRESS(c159) + 0u);
-    store_address(ADDRESS(c305) + 8u, ADDRESS(c160) + 0u);
-    store_address(ADDRESS(c305) + 16u, ADDRESS(c161) + 0u);
-    store_address(ADDRESS(c305) + 24u, ADDRESS(c162) + 0u);
-    store_address(ADDRESS(c305) + 32u, ADDRESS(c163) + 0u);
-    store_address(ADDRESS(c307) + 0u, ADDRESS(c257) + 0u);
-    store_address(ADDRESS(c307) + 8u, ADDRESS(c258) + 0u);
-    store_address(ADDRESS(c307) + 16u, ADDRESS(c259) + 0u);
-    store_address(ADDRESS(c307) + 24u, ADDRESS(c260) + 0u);
-    store_address(ADDRESS(c307) + 32u, ADDRESS(c261) + 0u);
-    store_address(ADDRESS(c307) + 40u, ADDRESS(c262) + 0u);
-    store_address(ADDRESS(c307) + 48u, ADDRESS(c263) + 0u);
-    store_address(ADDRESS(c307) + 56u, ADDRESS(c264) + 0u);
-    store_address(ADDRESS(c307) + 64u, ADDRESS(c265) + 0u);
-    store_address(ADDRESS(c308) + 0u, ADDRESS(c269) + 0u);
-    store_address(ADDRESS(c308) + 8u, ADDRESS(c270) + 0u);
-    store_address(ADDRESS(c308) + 16u, ADDRESS(c271) + 0u);
-    store_address(ADDRESS(c308) + 24u, ADDRESS(c272) + 0u);
-    store_address(ADDRESS(c308) + 32u, ADDRESS(c273) + 0u);
-    store_address(ADDRESS(c308) + 40u, ADDRESS(c274) + 0u);
-    store_address(ADDRESS(c308) + 48u, ADDRESS(c275) + 0u);
-    store_address(ADDRESS(c308) + 56u, ADDRESS(c276) + 0u);
-    store_address(ADDRESS(c308) + 64u, ADDRESS(c277) + 0u);
-    store_address(ADDRESS(c311) + 0u, ADDRESS(c171) + 0u);
-    store_address(ADDRESS(c311) + 24u, ADDRESS(c169) + 0u);
-    store_address(ADDRESS(c311) + 32u, ADDRESS(c170) + 0u);
-    store_address(ADDRESS(c311) + 40u, ADDRESS(c172) + 0u);
-    store_address(ADDRESS(c311) + 48u, ADDRESS(c173) + 0u);
-    store_address(ADDRESS(c314) + 0u, ADDRESS(c279) + 0u);
-    store_address(ADDRESS(c314) + 8u, ADDRESS(c280) + 0u);
-    store_address(ADDRESS(c314) + 16u, ADDRESS(c281) + 0u);
-    store_address(ADDRESS(c314) + 24u, ADDRESS(c282) + 0u);
-    store_address(ADDRESS(c314) + 32u, ADDRESS(c283) + 0u);
-    store_address(ADDRESS(c316) + 0u, ADDRESS(c288) + 0u);
-    store_address(ADDRESS(c316) + 8u, ADDRESS(c289) + 0u);
-    store_address(ADDRESS(c316) + 16u, ADDRESS(c290) + 0u);
-    store_address(ADDRESS(c316) + 24u, ADDRESS(c291) + 0u);
-    store_address(ADDRESS(c316) + 32u, ADDRESS(c292) + 0u);
-    store_address(ADDRESS(c316) + 40u, ADDRESS(c293) + 0u);
-    store_address(ADDRESS(c316) + 48u, ADDRESS(c294) + 0u);
-    store_address(ADDRESS(c316) + 56u, ADDRESS(c295) + 0u);
-    store_address(ADDRESS(c316) + 64u, ADDRESS(c296) + 0u);
-    store_address(ADDRESS(c316) + 72u, ADDRESS(c297) + 0u);
+    store_address(ADDRESS(c315) + 0u, ADDRESS(c131) + 0u);
+    store_address(ADDRESS(c315) + 8u, ADDRESS(c133) + 0u);
+    store_address(ADDRESS(c315) + 16u, ADDRESS(c135) + 0u);
+    store_address(ADDRESS(c315) + 24u, ADDRESS(c137) + 0u);
+    store_address(ADDRESS(c315) + 32u, ADDRESS(c139) + 0u);
+    store_address(ADDRESS(c319) + 0u, ADDRESS(c148) + 0u);
+    store_address(ADDRESS(c319) + 24u, ADDRESS(c142) + 0u);
+    store_address(ADDRESS(c319) + 32u, ADDRESS(c143) + 0u);
+    store_address(ADDRESS(c319) + 40u, ADDRESS(c144) + 0u);
+    store_address(ADDRESS(c319) + 48u, ADDRESS(c145) + 0u);
+    store_address(ADDRESS(c319) + 56u, ADDRESS(c146) + 0u);
+    store_address(ADDRESS(c319) + 64u, ADDRESS(c147) + 0u);
+    store_address(ADDRESS(c320) + 0u, ADDRESS(c159) + 0u);
+    store_address(ADDRESS(c320) + 8u, ADDRESS(c160) + 0u);
+    store_address(ADDRESS(c320) + 16u, ADDRESS(c161) + 0u);
+    store_address(ADDRESS(c320) + 24u, ADDRESS(c162) + 0u);
+    store_address(ADDRESS(c320) + 32u, ADDRESS(c163) + 0u);
+    store_address(ADDRESS(c322) + 0u, ADDRESS(c283) + 0u);
+    store_address(ADDRESS(c322) + 8u, ADDRESS(c284) + 0u);
+    store_address(ADDRESS(c322) + 16u, ADDRESS(c285) + 0u);
+    store_address(ADDRESS(c322) + 24u, ADDRESS(c286) + 0u);
+    store_address(ADDRESS(c322) + 32u, ADDRESS(c287) + 0u);
+    store_address(ADDRESS(c322) + 40u, ADDRESS(c288) + 0u);
+    store_address(ADDRESS(c322) + 48u, ADDRESS(c289) + 0u);
+    store_address(ADDRESS(c322) + 56u, ADDRESS(c290) + 0u);
+    store_address(ADDRESS(c322) + 64u, ADDRESS(c291) + 0u);
+    store_address(ADDRESS(c323) + 0u, ADDRESS(c169) + 0u);
+    store_address(ADDRESS(c323) + 8u, ADDRESS(c170) + 0u);
+    store_address(ADDRESS(c323) + 16u, ADDRESS(c171) + 0u);
+    store_address(ADDRESS(c323) + 24u, ADDRESS(c172) + 0u);
+    store_address(ADDRESS(c323) + 32u, ADDRESS(c173) + 0u);
+    store_address(ADDRESS(c323) + 40u, ADDRESS(c174) + 0u);
+    store_address(ADDRESS(c323) + 48u, ADDRESS(c175) + 0u);
+    store_address(ADDRESS(c323) + 56u, ADDRESS(c176) + 0u);
+    store_address(ADDRESS(c323) + 64u, ADDRESS(c177) + 0u);
+    store_address(ADDRESS(c325) + 0u, ADDRESS(c182) + 0u);
+    store_address(ADDRESS(c325) + 24u, ADDRESS(c180) + 0u);
+    store_address(ADDRESS(c325) + 32u, ADDRESS(c181) + 0u);
+    store_address(ADDRESS(c325) + 40u, ADDRESS(c178) + 0u);
+    store_address(ADDRESS(c325) + 48u, ADDRESS(c179) + 0u);
+    store_address(ADDRESS(c327) + 0u, ADDRESS(c192) + 0u);
+    store_address(ADDRESS(c327) + 8u, ADDRESS(c193) + 0u);
+    store_address(ADDRESS(c327) + 16u, ADDRESS(c194) + 0u);
+    store_address(ADDRESS(c327) + 24u, ADDRESS(c195) + 0u);
+    store_address(ADDRESS(c327) + 32u, ADDRESS(c196) + 0u);
+    store_address(ADDRESS(c330) + 0u, ADDRESS(c303) + 0u);
+    store_address(ADDRESS(c330) + 8u, ADDRESS(c304) + 0u);
+    store_address(ADDRESS(c330) + 16u, ADDRESS(c305) + 0u);
+    store_address(ADDRESS(c330) + 24u, ADDRESS(c306) + 0u);
+    store_address(ADDRESS(c330) + 32u, ADDRESS(c307) + 0u);
+    store_address(ADDRESS(c330) + 40u, ADDRESS(c308) + 0u);
+    store_address(ADDRESS(c330) + 48u, ADDRESS(c309) + 0u);
+    store_address(ADDRESS(c330) + 56u, ADDRESS(c310) + 0u);
+    store_address(ADDRESS(c330) + 64u, ADDRESS(c311) + 0u);
+    store_address(ADDRESS(c330) + 72u, ADDRESS(c312) + 0u);
 }
 #endif
 
@@ -870,61 +898,60 @@ static struct s5 f44(u8 a0, u8 a1);
 static u64 f45(u16 a0, address a1);
 static struct s5 f46(address a0, u64 a1);
 static void f47(u64 a0, address a1);
-static void f48(address a0, u8 a1, address a2);
-static u32 f49(address a0, u64 a1, address a2, u64 a3);
-static void f50(address a0, address a1, u64 a2);
-static u8 f51(address a0, u64 a1, address a2);
-static u8 f52(u64 a0, address a1, u64 a2, address a3, u64 a4, u64 a5);
-static u32 f53(address a0, address a1);
-static void f54(address a0, address a1, address a2, u64 a3);
-static struct s2 f55(address a0, address a1, u16 a2, address a3);
-static void f56(address a0, address a1, u8 a2, address a3);
-static u8 f57(address a0, address a1, u64 a2);
-static void f58(address a0, u8 a1, u8 a2, address a3);
-static void f59(address a0, u8 a1, address a2);
-static void f60(address a0, address a1, address a2, u8 a3, u8 a4, address a5);
-static u8 f61(address a0);
-static u8 f62(address a0, address a1);
-static void f63(address a0, address a1);
-static void f64(address a0, u64 a1);
-static struct s2 f65(address a0, address a1);
-static struct s2 f66(address a0, u8 a1, u16 a2, u8 a3, u16 a4, address a5, u64 a6);
-static void f67(address a0, address a1, address a2, u64 a3);
-static struct s2 f68(address a0, address a1, address a2);
-static void f69(address a0, address a1, address a2, u64 a3);
-static void f70(address a0, address a1, address a2, u64 a3, u16 a4, u8 a5);
+static u32 f48(address a0, u64 a1, address a2, u64 a3);
+static void f49(address a0, address a1, u64 a2);
+static u8 f50(address a0, u64 a1, address a2);
+static u8 f51(u64 a0, address a1, u64 a2, address a3, u64 a4, u64 a5);
+static u32 f52(address a0, address a1);
+static void f53(address a0, address a1, address a2, u64 a3);
+static struct s2 f54(address a0, address a1, u16 a2, address a3);
+static void f55(address a0, address a1, u8 a2, address a3);
+static u8 f56(address a0, address a1, u64 a2);
+static void f57(address a0, u8 a1, u8 a2, address a3);
+static void f58(address a0, u8 a1, address a2);
+static void f59(address a0, address a1, address a2, u8 a3, u8 a4, address a5);
+static u8 f60(address a0);
+static u8 f61(address a0, address a1);
+static void f62(address a0, address a1);
+static void f63(address a0, u64 a1);
+static struct s2 f64(address a0, address a1);
+static struct s2 f65(address a0, u8 a1, u16 a2, u8 a3, u16 a4, address a5, u64 a6);
+static void f66(address a0, address a1, address a2, u64 a3);
+static struct s2 f67(address a0, address a1, address a2);
+static void f68(address a0, address a1, address a2, u64 a3);
+static void f69(address a0, address a1, address a2, u64 a3, u16 a4, u8 a5);
+static u32 f70(address a0, u16 a1, address a2, u64 a3, address a4, u64 a5, address a6);
 static u32 f71(address a0, u16 a1, address a2, u64 a3, address a4, u64 a5, address a6);
-static u32 f72(address a0, u16 a1, address a2, u64 a3, address a4, u64 a5, address a6);
-static u32 f73(address a0, u16 a1, address a2, u64 a3, u8 a4, address a5, u64 a6, address a7);
-static void f74(address a0, address a1, u16 a2, address a3, u64 a4, address a5, u64 a6);
+static u32 f72(address a0, u16 a1, address a2, u64 a3, u8 a4, address a5, u64 a6, address a7);
+static void f73(address a0, address a1, u16 a2, address a3, u64 a4, address a5, u64 a6);
+static u8 f74(address a0, address a1);
 static u8 f75(address a0, address a1);
-static u8 f76(address a0, address a1);
-static void f77(address a0, u16 a1, address a2, u8 a3, address a4);
-static void f78(address a0, address a1, u8 a2, address a3);
-static void f79(address a0, u16 a1, u16 a2, u16 a3, address a4);
-static void f80(address a0, u8 a1, address a2);
-static void f81(address a0, address a1, address a2, u8 a3, u8 a4, address a5);
+static void f76(address a0, u16 a1, address a2, u8 a3, address a4);
+static void f77(address a0, address a1, u8 a2, address a3);
+static void f78(address a0, u16 a1, u16 a2, u16 a3, address a4);
+static void f79(address a0, u8 a1, address a2);
+static void f80(address a0, address a1, address a2, u8 a3, u8 a4, address a5);
+static void f81(address a0, address a1, u64 a2);
 static void f82(address a0, address a1, u64 a2);
-static void f83(address a0, address a1, u64 a2);
-static void f84(address a0, address a1, address a2);
-static void f85(address a0, u64 a1, address a2, address a3, u16 a4, address a5);
-static void f86(address a0, u8 a1, u16 a2, address a3, address a4, address a5);
-static void f87(address a0, u16 a1, address a2, address a3);
-static void f88(address a0, address a1, address a2);
-static u32 f89(address a0, u16 a1, address a2, u64 a3, u8 a4, address a5, u64 a6, address a7, address a8);
-static void f90(address a0, address a1, address a2);
-static u32 f91(address a0, address a1, address a2, u64 a3, address a4);
-static void f92(address a0, address a1, address a2, address a3, u64 a4);
-static void f93(address a0, address a1, address a2, address a3);
-static void f94(address a0, address a1, u8 a2);
-static void f95(address a0, address a1, address a2);
-static void f96(address a0, u8 a1, address a2);
-static void f97(address a0, address a1, address a2, u8 a3, address a4);
-static void f98(address a0, address a1, address a2, u64 a3);
-static void f99(address a0, address a1, u8 a2, u16 a3, u16 a4, address a5, u64 a6);
+static void f83(address a0, address a1, address a2);
+static void f84(address a0, u64 a1, address a2, address a3, u16 a4, address a5);
+static void f85(address a0, u8 a1, u16 a2, address a3, address a4, address a5);
+static void f86(address a0, u16 a1, address a2, address a3);
+static void f87(address a0, address a1, address a2);
+static u32 f88(address a0, u16 a1, address a2, u64 a3, u8 a4, address a5, u64 a6, address a7, address a8);
+static void f89(address a0, address a1, address a2);
+static u32 f90(address a0, address a1, address a2, u64 a3, address a4);
+static void f91(address a0, address a1, address a2, address a3, u64 a4);
+static void f92(address a0, address a1, address a2, address a3);
+static void f93(address a0, address a1, u8 a2);
+static void f94(address a0, address a1, address a2);
+static void f95(address a0, u8 a1, address a2);
+static void f96(address a0, address a1, address a2, u8 a3, address a4);
+static void f97(address a0, address a1, address a2, u64 a3);
+static void f98(address a0, address a1, u8 a2, u16 a3, u16 a4, address a5, u64 a6);
+static u8 f99(address a0);
 static u8 f100(address a0);
-static u8 f101(address a0);
-static u8 f102(address a0, u64 a1);
+static u8 f101(address a0, u64 a1);
 u64 portable_ptpm_answer_name(u32 a0, address a1, u64 a2);
 u32 portable_ptpm_asker_earlier(address a0, u8 a1, address a2);
 u32 portable_ptpm_asker_image(address a0, address a1, u64 a2, address a3);
@@ -5075,380 +5102,534 @@ L9:;
 }
 
 static void f15(address a0, address a1, address a2, u64 a3) {
-    u64 v4, v14, v17, v95, v121, v132, v139, v143;
-    u8 v5, v6, v7, v11, v12, v13, v15, v18, v20, v21, v23, v24, v25, v26, v27, v29;
-    u8 v30, v32, v33, v34, v97, v98, v99, v101, v103, v105, v107, v109, v110, v111, v112, v113;
-    u8 v114, v115, v116, v117, v119, v133, v141, v144, v145, v146, v148, v149, v151, v153, v157, v159;
-    u8 v161, v163, v165, v167, v169, v172, v174, v176, v177, v178, v179, v180, v181, v182, v183, v184;
-    u8 v185, v186, v187, v188, v189, v190, v191, v192, v193, v194;
-    address v8, v9, v10, v16, v19, v22, v28, v31, v35, v36, v37, v38, v39, v40, v41, v42;
-    address v43, v44, v45, v46, v47, v48, v49, v50, v51, v52, v53, v54, v55, v56, v57, v58;
-    address v59, v60, v61, v62, v63, v64, v65, v66, v67, v68, v69, v70, v71, v72, v73, v74;
-    address v75, v76, v77, v78, v79, v80, v81, v82, v83, v84, v85, v86, v87, v88, v89, v90;
-    address v91, v92, v93, v94, v96, v100, v102, v104, v106, v108, v118, v120, v122, v123, v124, v125;
-    address v126, v127, v128, v129, v130, v131, v134, v135, v136, v137, v138, v140, v142, v147, v150, v152;
-    address v154, v156, v158, v160, v162, v164, v166, v168, v170, v173, v175, v195, v196, v197, v198, v199;
-    address v200, v201, v202, v203;
-    u16 v155, v171;
-    u64 block0[25];
-    u64 block1[3];
-    u64 block2[26];
-    v8 = ADDRESS(block0);
-    v9 = ADDRESS(block1);
-    v10 = ADDRESS(block2);
-    memory_set(v10, 0u, 204u);
-    v11 = a3 != 0u;
-    v12 = a3 > 8u;
-    v13 = (u8)(((u32)v12 ^ (u32)v11) & UINT64_C(1));
-    if (v13) { goto L1; }
-    else { goto L8; }
+    address v4, v6, v8, v13, v14, v15, v16, v17, v18, v19, v23, v24, v25, v26, v27, v30;
+    address v31, v36, v51, v52, v53, v54, v55, v56, v57, v58, v59, v60, v61, v62, v63, v64;
+    address v65, v66, v67, v68, v69, v70, v71, v72, v73, v74, v75, v76, v77, v78, v79, v80;
+    address v81, v82, v83, v84, v85, v86, v87, v88, v89, v90, v91, v92, v93, v94, v95, v96;
+    address v97, v98, v99, v100, v101, v102, v103, v104, v105, v106, v107, v108, v109, v110, v111, v112;
+    address v113, v114, v115, v116, v117, v118, v119, v120, v121, v122, v123, v124, v125, v127, v128, v129;
+    address v130, v131, v132, v133, v136, v147, v166, v168, v175, v176, v177, v178, v179, v180, v181, v182;
+    address v183, v184, v188, v190, v191, v192, v193, v194, v196, v198, v203, v206, v208, v210, v212, v214;
+    address v216, v218, v220, v222, v224, v226, v229, v231, v252, v254, v255, v256, v257, v258, v259, v260;
+    address v261, v262;
+    struct s3 v5, v12, v46, v47, v155, v159;
+    u64 v7, v9, v28, v32, v126, v134, v146, v169, v185, v195, v199;
+    u8 v10, v11, v20, v21, v22, v29, v33, v34, v35, v37, v38, v39, v40, v41, v42, v43;
+    u8 v44, v45, v48, v49, v50, v135, v137, v138, v139, v140, v141, v142, v143, v144, v145, v148;
+    u8 v152, v153, v154, v156, v157, v158, v160, v161, v162, v163, v164, v165, v167, v170, v171, v172;
+    u8 v173, v174, v186, v187, v189, v197, v200, v201, v202, v204, v205, v207, v209, v213, v215, v217;
+    u8 v219, v221, v223, v225, v228, v230, v232, v233, v234, v235, v236, v237, v238, v239, v240, v241;
+    u8 v242, v243, v244, v245, v246, v247, v248, v249, v250, v251, v253;
+    u16 v149, v150, v151, v211, v227;
+    u64 block0[1];
+    u64 block1[2];
+    u64 block2[25];
+    u64 block3[3];
+    u64 block4[1];
+    u64 block5[26];
+    v14 = ADDRESS(block0);
+    v15 = ADDRESS(block1);
+    v16 = ADDRESS(block2);
+    v17 = ADDRESS(block3);
+    v18 = ADDRESS(block4);
+    v19 = ADDRESS(block5);
+    memory_set(v19, 0u, 204u);
+    v20 = a3 != 0u;
+    v21 = a3 > 8u;
+    v22 = (u8)(((u32)v21 ^ (u32)v20) & UINT64_C(1));
+    if (v22) { goto L1; }
+    else { goto L11; }
 L1:;
-    v14 = load64(a1);
-    v15 = v14 == UINT64_C(18446744073709551615);
-    if (v15) { v5 = 0u; goto L17; }
+    store64(v18, UINT64_C(6755425210990592));
+    v23 = a1 + 236u * 1u;
+    v24 = a1 + 237u * 1u;
+    v25 = a1 + 163u * 1u;
+    v26 = a1 + 16u * 1u;
+    v27 = v18 + 2u * 1u;
+    v28 = load64(a1);
+    v29 = v28 == UINT64_C(18446744073709551615);
+    if (v29) { v4 = v18; goto L8; }
     else { goto L2; }
 L2:;
-    v16 = a1 + 152u * 1u;
-    v17 = load64(v16);
-    v18 = v17 > 128u;
-    if (v18) { v5 = 2u; goto L17; }
+    v30 = a1 + 152u * 1u;
+    v31 = v18 + 4u * 1u;
+    v32 = load64(v30);
+    v33 = v32 > 128u;
+    if (v33) { goto L7; }
     else { goto L3; }
 L3:;
-    v19 = a1 + 16u * 1u;
-    memory_set(v9, 0u, 24u);
-    f16(v9, v19, v17);
-    v20 = load8(v9);
-    v21 = v20 == 0u;
-    if (v21) { goto L4; }
-    else { v5 = 2u; goto L17; }
+    memory_set(v17, 0u, 24u);
+    f16(v17, v26, v32);
+    v34 = load8(v17);
+    v35 = v34 == 0u;
+    if (v35) { goto L4; }
+    else { v4 = v27; goto L8; }
 L4:;
-    v22 = a1 + 163u * 1u;
-    v23 = load8(v22);
-    v24 = (u8)((u32)v23 + (u32)233u);
-    v25 = v24 < 27u;
-    v26 = v23 == 254u;
-    v27 = (u8)(((u32)v26 | (u32)v25) & UINT64_C(1));
-    if (v27) { goto L5; }
-    else { v5 = 6u; goto L17; }
+    v36 = v18 + 6u * 1u;
+    v37 = load8(v25);
+    v38 = (u8)((u32)v37 + (u32)233u);
+    v39 = v38 < 27u;
+    v40 = v37 == 254u;
+    v41 = (u8)(((u32)v40 | (u32)v39) & UINT64_C(1));
+    if (v41) { goto L5; }
+    else { v4 = v31; goto L8; }
 L5:;
-    v28 = a1 + 236u * 1u;
-    v29 = load8(v28);
-    v30 = (u8)((v29) & UINT64_C(1));
-    if (v30) { goto L6; }
-    else { goto L9; }
+    v42 = load8(v23);
+    v43 = (u8)((v42) & UINT64_C(1));
+    if (v43) { goto L6; }
+    else { v5 = (struct s3){ 0 }; v6 = 0u; goto L9; }
 L6:;
-    v31 = a1 + 237u * 1u;
-    v32 = load8(v31);
-    v33 = (u8)((v32) & UINT64_C(1));
-    if (v33) { v5 = 24u; goto L17; }
-    else { goto L9; }
+    v44 = load8(v24);
+    v45 = (u8)((v44) & UINT64_C(1));
+    if (v45) { v4 = v36; goto L8; }
+    else { v5 = (struct s3){ 0 }; v6 = 0u; goto L9; }
 L7:;
-    return;
+    v46 = (struct s3){ 1u, 0u };
+    v46.m1 = v27;
+    v5 = v46; v6 = v27; goto L9;
 L8:;
-    v34 = (u8)v12;
-    store8(a0, 1u);
-    v35 = a0 + 1u * 1u;
-    store8(v35, v34);
-    v36 = a0 + 2u * 1u;
-    store8(v36, 0u);
-    v37 = a0 + 3u * 1u;
-    store8(v37, 0u);
-    v38 = a0 + 8u * 1u;
-    memory_set(v38, 0u, 200u);
-    goto L7;
+    v47 = (struct s3){ 1u, 0u };
+    v47.m1 = v4;
+    v5 = v47; v6 = v4; goto L9;
 L9:;
-    store8(v8, 5u);
-    v39 = v8 + 1u * 1u;
-    memory_set(v39, 0u, 15u);
-    v40 = v8 + 16u * 1u;
-    store8(v40, 1u);
-    v41 = v8 + 17u * 1u;
-    store8(v41, 3u);
-    v42 = v8 + 18u * 1u;
-    store8(v42, 0u);
-    v43 = v8 + 19u * 1u;
-    store8(v43, 1u);
-    v44 = v8 + 20u * 1u;
-    store32(v44, 0u);
-    v45 = v8 + 24u * 1u;
-    store8(v45, 5u);
-    v46 = v8 + 25u * 1u;
-    memory_set(v46, 0u, 15u);
-    v47 = v8 + 40u * 1u;
-    store8(v47, 1u);
-    v48 = v8 + 41u * 1u;
-    store8(v48, 3u);
-    v49 = v8 + 42u * 1u;
-    store8(v49, 0u);
-    v50 = v8 + 43u * 1u;
-    store8(v50, 1u);
-    v51 = v8 + 44u * 1u;
-    store32(v51, 0u);
-    v52 = v8 + 48u * 1u;
-    store8(v52, 5u);
-    v53 = v8 + 49u * 1u;
-    memory_set(v53, 0u, 15u);
-    v54 = v8 + 64u * 1u;
-    store8(v54, 1u);
-    v55 = v8 + 65u * 1u;
-    store8(v55, 3u);
-    v56 = v8 + 66u * 1u;
-    store8(v56, 0u);
-    v57 = v8 + 67u * 1u;
-    store8(v57, 1u);
-    v58 = v8 + 68u * 1u;
-    store32(v58, 0u);
-    v59 = v8 + 72u * 1u;
-    store8(v59, 5u);
-    v60 = v8 + 73u * 1u;
-    memory_set(v60, 0u, 15u);
-    v61 = v8 + 88u * 1u;
-    store8(v61, 1u);
-    v62 = v8 + 89u * 1u;
-    store8(v62, 3u);
-    v63 = v8 + 90u * 1u;
-    store8(v63, 0u);
-    v64 = v8 + 91u * 1u;
-    store8(v64, 1u);
-    v65 = v8 + 92u * 1u;
-    store32(v65, 0u);
-    v66 = v8 + 96u * 1u;
-    store8(v66, 5u);
-    v67 = v8 + 97u * 1u;
-    memory_set(v67, 0u, 15u);
-    v68 = v8 + 112u * 1u;
-    store8(v68, 1u);
-    v69 = v8 + 113u * 1u;
-    store8(v69, 3u);
-    v70 = v8 + 114u * 1u;
-    store8(v70, 0u);
-    v71 = v8 + 115u * 1u;
-    store8(v71, 1u);
-    v72 = v8 + 116u * 1u;
-    store32(v72, 0u);
-    v73 = v8 + 120u * 1u;
-    store8(v73, 5u);
-    v74 = v8 + 121u * 1u;
-    memory_set(v74, 0u, 15u);
-    v75 = v8 + 136u * 1u;
-    store8(v75, 1u);
-    v76 = v8 + 137u * 1u;
-    store8(v76, 3u);
-    v77 = v8 + 138u * 1u;
-    store8(v77, 0u);
-    v78 = v8 + 139u * 1u;
-    store8(v78, 1u);
-    v79 = v8 + 140u * 1u;
-    store32(v79, 0u);
-    v80 = v8 + 144u * 1u;
-    store8(v80, 5u);
-    v81 = v8 + 145u * 1u;
-    memory_set(v81, 0u, 15u);
-    v82 = v8 + 160u * 1u;
-    store8(v82, 1u);
-    v83 = v8 + 161u * 1u;
-    store8(v83, 3u);
-    v84 = v8 + 162u * 1u;
-    store8(v84, 0u);
-    v85 = v8 + 163u * 1u;
-    store8(v85, 1u);
-    v86 = v8 + 164u * 1u;
-    store32(v86, 0u);
-    v87 = v8 + 168u * 1u;
-    store8(v87, 5u);
-    v88 = v8 + 169u * 1u;
-    memory_set(v88, 0u, 15u);
-    v89 = v8 + 184u * 1u;
-    store8(v89, 1u);
-    v90 = v8 + 185u * 1u;
-    store8(v90, 3u);
-    v91 = v8 + 186u * 1u;
-    store8(v91, 0u);
-    v92 = v8 + 187u * 1u;
-    store8(v92, 1u);
-    v93 = v8 + 188u * 1u;
-    store32(v93, 0u);
-    v94 = v8 + 192u * 1u;
-    store64(v94, 0u);
-    if (v11) { v4 = 0u; goto L10; }
-    else { goto L18; }
+    v48 = v5.m0;
+    v49 = (u8)((v48) & UINT64_C(1));
+    if (v49) { goto L31; }
+    else { goto L12; }
 L10:;
-    v95 = (u64)((u64)v4 * (u64)24u);
-    v96 = a2 + v95 * 1u;
-    v97 = load8(v96);
-    v98 = (u8)((u32)v97 + (u32)255u);
-    v99 = v98 < 9u;
-    if (v99) { goto L11; }
-    else { v6 = 30u; v7 = 0u; goto L20; }
+    return;
 L11:;
-    v100 = v96 + 16u * 1u;
-    v101 = load8(v100);
-    v102 = v96 + 17u * 1u;
-    v103 = load8(v102);
-    v104 = v96 + 18u * 1u;
-    v105 = load8(v104);
-    v106 = v96 + 19u * 1u;
-    v107 = load8(v106);
-    v108 = v96 + 20u * 1u;
-    v109 = load8(v108);
-    v110 = (u8)((u32)v101 + (u32)4u);
-    v111 = v110 < 9u;
-    if (v111) { goto L12; }
-    else { v6 = 33u; v7 = 0u; goto L20; }
+    v50 = (u8)v21;
+    store8(a0, 1u);
+    v51 = a0 + 1u * 1u;
+    store8(v51, v50);
+    v52 = a0 + 2u * 1u;
+    store8(v52, 0u);
+    v53 = a0 + 3u * 1u;
+    store8(v53, 0u);
+    v54 = a0 + 8u * 1u;
+    memory_set(v54, 0u, 200u);
+    goto L10;
 L12:;
-    v112 = (u8)((u32)v103 + (u32)254u);
-    v113 = v112 < 9u;
-    if (v113) { goto L13; }
-    else { v6 = 33u; v7 = 1u; goto L20; }
+    store8(v16, 5u);
+    v55 = v16 + 1u * 1u;
+    memory_set(v55, 0u, 15u);
+    v56 = v16 + 16u * 1u;
+    store8(v56, 1u);
+    v57 = v16 + 17u * 1u;
+    store8(v57, 3u);
+    v58 = v16 + 18u * 1u;
+    store8(v58, 0u);
+    v59 = v16 + 19u * 1u;
+    store8(v59, 1u);
+    v60 = v16 + 20u * 1u;
+    store32(v60, 0u);
+    v61 = v16 + 24u * 1u;
+    store8(v61, 5u);
+    v62 = v16 + 25u * 1u;
+    memory_set(v62, 0u, 15u);
+    v63 = v16 + 40u * 1u;
+    store8(v63, 1u);
+    v64 = v16 + 41u * 1u;
+    store8(v64, 3u);
+    v65 = v16 + 42u * 1u;
+    store8(v65, 0u);
+    v66 = v16 + 43u * 1u;
+    store8(v66, 1u);
+    v67 = v16 + 44u * 1u;
+    store32(v67, 0u);
+    v68 = v16 + 48u * 1u;
+    store8(v68, 5u);
+    v69 = v16 + 49u * 1u;
+    memory_set(v69, 0u, 15u);
+    v70 = v16 + 64u * 1u;
+    store8(v70, 1u);
+    v71 = v16 + 65u * 1u;
+    store8(v71, 3u);
+    v72 = v16 + 66u * 1u;
+    store8(v72, 0u);
+    v73 = v16 + 67u * 1u;
+    store8(v73, 1u);
+    v74 = v16 + 68u * 1u;
+    store32(v74, 0u);
+    v75 = v16 + 72u * 1u;
+    store8(v75, 5u);
+    v76 = v16 + 73u * 1u;
+    memory_set(v76, 0u, 15u);
+    v77 = v16 + 88u * 1u;
+    store8(v77, 1u);
+    v78 = v16 + 89u * 1u;
+    store8(v78, 3u);
+    v79 = v16 + 90u * 1u;
+    store8(v79, 0u);
+    v80 = v16 + 91u * 1u;
+    store8(v80, 1u);
+    v81 = v16 + 92u * 1u;
+    store32(v81, 0u);
+    v82 = v16 + 96u * 1u;
+    store8(v82, 5u);
+    v83 = v16 + 97u * 1u;
+    memory_set(v83, 0u, 15u);
+    v84 = v16 + 112u * 1u;
+    store8(v84, 1u);
+    v85 = v16 + 113u * 1u;
+    store8(v85, 3u);
+    v86 = v16 + 114u * 1u;
+    store8(v86, 0u);
+    v87 = v16 + 115u * 1u;
+    store8(v87, 1u);
+    v88 = v16 + 116u * 1u;
+    store32(v88, 0u);
+    v89 = v16 + 120u * 1u;
+    store8(v89, 5u);
+    v90 = v16 + 121u * 1u;
+    memory_set(v90, 0u, 15u);
+    v91 = v16 + 136u * 1u;
+    store8(v91, 1u);
+    v92 = v16 + 137u * 1u;
+    store8(v92, 3u);
+    v93 = v16 + 138u * 1u;
+    store8(v93, 0u);
+    v94 = v16 + 139u * 1u;
+    store8(v94, 1u);
+    v95 = v16 + 140u * 1u;
+    store32(v95, 0u);
+    v96 = v16 + 144u * 1u;
+    store8(v96, 5u);
+    v97 = v16 + 145u * 1u;
+    memory_set(v97, 0u, 15u);
+    v98 = v16 + 160u * 1u;
+    store8(v98, 1u);
+    v99 = v16 + 161u * 1u;
+    store8(v99, 3u);
+    v100 = v16 + 162u * 1u;
+    store8(v100, 0u);
+    v101 = v16 + 163u * 1u;
+    store8(v101, 1u);
+    v102 = v16 + 164u * 1u;
+    store32(v102, 0u);
+    v103 = v16 + 168u * 1u;
+    store8(v103, 5u);
+    v104 = v16 + 169u * 1u;
+    memory_set(v104, 0u, 15u);
+    v105 = v16 + 184u * 1u;
+    store8(v105, 1u);
+    v106 = v16 + 185u * 1u;
+    store8(v106, 3u);
+    v107 = v16 + 186u * 1u;
+    store8(v107, 0u);
+    v108 = v16 + 187u * 1u;
+    store8(v108, 1u);
+    v109 = v16 + 188u * 1u;
+    store32(v109, 0u);
+    v110 = v16 + 192u * 1u;
+    store64(v110, 0u);
+    if (v20) { goto L13; }
+    else { goto L32; }
 L13:;
-    v114 = (u8)((u32)v105 + (u32)8u);
-    v115 = v114 < 10u;
-    if (v115) { goto L14; }
-    else { v6 = 33u; v7 = 2u; goto L20; }
+    v111 = v15 + 1u * 1u;
+    v112 = v15 + 2u * 1u;
+    v113 = v15 + 3u * 1u;
+    v114 = v15 + 4u * 1u;
+    v115 = v15 + 5u * 1u;
+    v116 = v15 + 6u * 1u;
+    v117 = v15 + 7u * 1u;
+    v118 = v15 + 8u * 1u;
+    v119 = v15 + 9u * 1u;
+    v120 = v15 + 10u * 1u;
+    v121 = v15 + 11u * 1u;
+    v122 = v14 + 1u * 1u;
+    v123 = v14 + 2u * 1u;
+    v124 = v14 + 3u * 1u;
+    v125 = v14 + 4u * 1u;
+    v7 = 0u; goto L14;
 L14:;
-    switch (v107) {
-    case 1u: goto L15;
-    case 2u: goto L15;
-    case 254u: goto L15;
-    default: v6 = 33u; v7 = 3u; goto L20;
-    }
+    v126 = (u64)((u64)v7 * (u64)24u);
+    v127 = a2 + v126 * 1u;
+    store8(v15, 30u);
+    store8(v111, 0u);
+    store8(v112, 33u);
+    store8(v113, 0u);
+    store8(v114, 33u);
+    store8(v115, 1u);
+    store8(v116, 33u);
+    store8(v117, 2u);
+    store8(v118, 33u);
+    store8(v119, 3u);
+    store8(v120, 33u);
+    store8(v121, 4u);
+    v128 = v127 + 16u * 1u;
+    v129 = v127 + 17u * 1u;
+    v130 = v127 + 18u * 1u;
+    v131 = v127 + 19u * 1u;
+    v132 = v127 + 20u * 1u;
+    v8 = v15; v9 = 6u; goto L15;
 L15:;
-    v116 = (u8)((u32)v109 + (u32)8u);
-    v117 = v116 < 14u;
-    if (v117) { goto L16; }
-    else { v6 = 33u; v7 = 4u; goto L20; }
+    v133 = v8 + 2u * 1u;
+    v134 = (u64)((u64)v9 + (u64)UINT64_C(18446744073709551615));
+    v135 = load8(v8);
+    v136 = v8 + 1u * 1u;
+    v137 = load8(v136);
+    switch (v135) {
+    case 30u: goto L16;
+    case 33u: goto L17;
+    case 0u: goto L25;
+    case 1u: goto L25;
+    case 2u: goto L25;
+    case 3u: goto L25;
+    case 4u: goto L25;
+    case 5u: goto L25;
+    case 6u: goto L25;
+    case 7u: goto L25;
+    case 8u: goto L25;
+    case 9u: goto L25;
+    case 10u: goto L25;
+    case 11u: goto L25;
+    case 12u: goto L25;
+    case 13u: goto L25;
+    case 14u: goto L25;
+    case 15u: goto L25;
+    case 16u: goto L25;
+    case 17u: goto L25;
+    case 18u: goto L25;
+    case 19u: goto L25;
+    case 20u: goto L25;
+    case 21u: goto L25;
+    case 22u: goto L25;
+    case 23u: goto L25;
+    case 24u: goto L25;
+    case 25u: goto L25;
+    case 26u: goto L25;
+    case 27u: goto L25;
+    case 28u: goto L25;
+    case 29u: goto L25;
+    case 31u: goto L25;
+    case 32u: goto L25;
+    default: goto L24;
+    }
 L16:;
-    v118 = v96 + 1u * 1u;
-    v119 = load8(v118);
-    v120 = v96 + 8u * 1u;
-    v121 = load64(v120);
-    v122 = v8 + v95 * 1u;
-    store8(v122, v98);
-    v123 = v122 + 1u * 1u;
-    store8(v123, v119);
-    v124 = v122 + 2u * 1u;
-    memory_set(v124, 0u, 6u);
-    v125 = v122 + 8u * 1u;
-    store64(v125, v121);
-    v126 = v122 + 16u * 1u;
-    store8(v126, v101);
-    v127 = v122 + 17u * 1u;
-    store8(v127, v103);
-    v128 = v122 + 18u * 1u;
-    store8(v128, v105);
-    v129 = v122 + 19u * 1u;
-    store8(v129, v107);
-    v130 = v122 + 20u * 1u;
-    store8(v130, v109);
-    v131 = v122 + 21u * 1u;
-    memory_set(v131, 0u, 3u);
-    v132 = (u64)((u64)v4 + (u64)1u);
-    store64(v94, v132);
-    v133 = v132 == a3;
-    if (v133) { goto L18; }
-    else { v4 = v132; goto L10; }
+    v138 = load8(v127);
+    v139 = (u8)((u32)v138 + (u32)255u);
+    v140 = v139 < 9u;
+    if (v140) { goto L27; }
+    else { goto L28; }
 L17:;
-    store8(a0, 1u);
-    v134 = a0 + 1u * 1u;
-    store8(v134, 2u);
-    v135 = a0 + 2u * 1u;
-    store8(v135, v5);
-    v136 = a0 + 3u * 1u;
-    store8(v136, 0u);
-    v137 = a0 + 8u * 1u;
-    memory_set(v137, 0u, 200u);
-    goto L7;
-L18:;
-    v138 = v10 + 4u * 1u;
-    memory_cpy(v138, v8, 200u);
-    v139 = load64(a1);
-    v140 = a1 + 224u * 1u;
-    v141 = load8(v140);
-    v142 = a1 + 225u * 1u;
-    v143 = load64(v142);
-    v144 = v141 != 1u;
-    v145 = v143 == v139;
-    v146 = v144 ? 1u : v145;
-    if (v146) { goto L19; }
-    else { goto L21; }
-L19:;
-    v147 = a1 + 222u * 1u;
+    v141 = load8(v128);
+    v142 = load8(v129);
+    v143 = load8(v130);
+    v144 = load8(v131);
+    v145 = load8(v132);
+    store8(v14, v141);
+    store8(v122, v142);
+    store8(v123, v143);
+    store8(v124, v144);
+    store8(v125, v145);
+    v146 = (u64)v137;
+    v147 = v14 + v146 * 1u;
     v148 = load8(v147);
-    v149 = v148 != 1u;
-    v150 = a1 + 223u * 1u;
-    v151 = load8(v150);
-    v152 = a1 + 166u * 1u;
-    v153 = load8(v152);
-    v154 = a1 + 220u * 1u;
-    v155 = load16(v154);
-    v156 = a1 + 218u * 1u;
-    v157 = load8(v156);
-    v158 = a1 + 217u * 1u;
-    v159 = load8(v158);
-    v160 = a1 + 216u * 1u;
-    v161 = load8(v160);
-    v162 = a1 + 215u * 1u;
-    v163 = load8(v162);
-    v164 = a1 + 214u * 1u;
-    v165 = load8(v164);
-    v166 = a1 + 213u * 1u;
-    v167 = load8(v166);
-    v168 = a1 + 212u * 1u;
-    v169 = load8(v168);
-    v170 = a1 + 164u * 1u;
-    v171 = load16(v170);
-    v172 = load8(v22);
-    v173 = a1 + 162u * 1u;
-    v174 = load8(v173);
-    v175 = a1 + 161u * 1u;
-    v176 = load8(v175);
-    v177 = v157 != 1u;
-    v178 = v161 != 1u;
-    v179 = v165 != 1u;
-    v180 = v169 != 1u;
-    v181 = v167 == v176;
-    v182 = v180 ? 1u : v181;
-    v183 = v163 == v174;
-    v184 = v179 ? 1u : v183;
-    v185 = v182 ? v184 : 0u;
-    v186 = v159 == v172;
-    v187 = v178 ? 1u : v186;
-    v188 = v185 ? v187 : 0u;
-    v189 = v155 == v171;
-    v190 = v177 ? 1u : v189;
-    v191 = v188 ? v190 : 0u;
-    v192 = v151 == v153;
-    v193 = v149 ? 1u : v192;
-    v194 = v191 ? v193 : 0u;
-    if (v194) { goto L21; }
-    else { goto L22; }
+    switch (v137) {
+    case 0u: v10 = 4u; v11 = 4u; goto L21;
+    case 1u: goto L26;
+    case 2u: goto L18;
+    case 3u: goto L22;
+    case 4u: goto L19;
+    default: goto L20;
+    }
+L18:;
+    v10 = 8u; v11 = 1u; goto L21;
+L19:;
+    v10 = 8u; v11 = 5u; goto L21;
 L20:;
-    store8(a0, 1u);
-    v195 = a0 + 1u * 1u;
-    store8(v195, 2u);
-    v196 = a0 + 2u * 1u;
-    store8(v196, v6);
-    v197 = a0 + 3u * 1u;
-    store8(v197, v7);
-    v198 = a0 + 8u * 1u;
-    memory_set(v198, 0u, 200u);
-    goto L7;
+    UNREACHABLE;
 L21:;
-    v199 = a0 + 8u * 1u;
-    store32(a0, 0u);
-    memory_cpy(v199, v138, 200u);
-    goto L7;
+    v149 = (u16)v10;
+    v150 = (u16)((u32)0u - (u32)v149);
+    v151 = (u16)((i16)(i8)v148);
+    v152 = (i16)v150 <= (i16)v151;
+    v153 = (i8)v148 <= (i8)v11;
+    v154 = (u8)(((u32)v152 & (u32)v153) & UINT64_C(1));
+    if (v154) { goto L27; }
+    else { goto L28; }
 L22:;
+    switch (v148) {
+    case 1u: goto L25;
+    case 2u: goto L25;
+    case 254u: goto L25;
+    default: goto L23;
+    }
+L23:;
+    v155 = (struct s3){ 1u, 0u };
+    v155.m1 = v8;
+    v12 = v155; v13 = v8; goto L29;
+L24:;
+    UNREACHABLE;
+L25:;
+    goto L27;
+L26:;
+    v156 = (u8)((u32)v148 + (u32)254u);
+    v157 = v156 < 9u;
+    if (v157) { goto L27; }
+    else { goto L28; }
+L27:;
+    v158 = v134 == 0u;
+    if (v158) { v12 = (struct s3){ 0 }; v13 = 0u; goto L29; }
+    else { v8 = v133; v9 = v134; goto L15; }
+L28:;
+    v159 = (struct s3){ 1u, 0u };
+    v159.m1 = v8;
+    v12 = v159; v13 = v8; goto L29;
+L29:;
+    v160 = v12.m0;
+    v161 = (u8)((v160) & UINT64_C(1));
+    if (v161) { goto L34; }
+    else { goto L30; }
+L30:;
+    v162 = load8(v127);
+    v163 = (u8)((u32)v162 + (u32)255u);
+    v164 = v163 < 9u;
+    v165 = v164 ? v163 : 0u;
+    v166 = v127 + 1u * 1u;
+    v167 = load8(v166);
+    v168 = v127 + 8u * 1u;
+    v169 = load64(v168);
+    v170 = load8(v128);
+    v171 = load8(v129);
+    v172 = load8(v130);
+    v173 = load8(v131);
+    v174 = load8(v132);
+    v175 = v16 + v126 * 1u;
+    store8(v175, v165);
+    v176 = v175 + 1u * 1u;
+    store8(v176, v167);
+    v177 = v175 + 2u * 1u;
+    memory_set(v177, 0u, 6u);
+    v178 = v175 + 8u * 1u;
+    store64(v178, v169);
+    v179 = v175 + 16u * 1u;
+    store8(v179, v170);
+    v180 = v175 + 17u * 1u;
+    store8(v180, v171);
+    v181 = v175 + 18u * 1u;
+    store8(v181, v172);
+    v182 = v175 + 19u * 1u;
+    store8(v182, v173);
+    v183 = v175 + 20u * 1u;
+    store8(v183, v174);
+    v184 = v175 + 21u * 1u;
+    memory_set(v184, 0u, 3u);
+    v185 = (u64)((u64)v7 + (u64)1u);
+    store64(v110, v185);
+    v186 = v185 == a3;
+    if (v186) { goto L32; }
+    else { v7 = v185; goto L14; }
+L31:;
+    v187 = load8(v6);
+    v188 = v6 + 1u * 1u;
+    v189 = load8(v188);
     store8(a0, 1u);
-    v200 = a0 + 1u * 1u;
-    store8(v200, 3u);
-    v201 = a0 + 2u * 1u;
-    store8(v201, 0u);
-    v202 = a0 + 3u * 1u;
-    store8(v202, 0u);
-    v203 = a0 + 8u * 1u;
-    memory_set(v203, 0u, 200u);
-    goto L7;
+    v190 = a0 + 1u * 1u;
+    store8(v190, 2u);
+    v191 = a0 + 2u * 1u;
+    store8(v191, v187);
+    v192 = a0 + 3u * 1u;
+    store8(v192, v189);
+    v193 = a0 + 8u * 1u;
+    memory_set(v193, 0u, 200u);
+    goto L10;
+L32:;
+    v194 = v19 + 4u * 1u;
+    memory_cpy(v194, v16, 200u);
+    v195 = load64(a1);
+    v196 = a1 + 224u * 1u;
+    v197 = load8(v196);
+    v198 = a1 + 225u * 1u;
+    v199 = load64(v198);
+    v200 = v197 != 1u;
+    v201 = v199 == v195;
+    v202 = v200 ? 1u : v201;
+    if (v202) { goto L33; }
+    else { goto L35; }
+L33:;
+    v203 = a1 + 222u * 1u;
+    v204 = load8(v203);
+    v205 = v204 != 1u;
+    v206 = a1 + 223u * 1u;
+    v207 = load8(v206);
+    v208 = a1 + 166u * 1u;
+    v209 = load8(v208);
+    v210 = a1 + 220u * 1u;
+    v211 = load16(v210);
+    v212 = a1 + 218u * 1u;
+    v213 = load8(v212);
+    v214 = a1 + 217u * 1u;
+    v215 = load8(v214);
+    v216 = a1 + 216u * 1u;
+    v217 = load8(v216);
+    v218 = a1 + 215u * 1u;
+    v219 = load8(v218);
+    v220 = a1 + 214u * 1u;
+    v221 = load8(v220);
+    v222 = a1 + 213u * 1u;
+    v223 = load8(v222);
+    v224 = a1 + 212u * 1u;
+    v225 = load8(v224);
+    v226 = a1 + 164u * 1u;
+    v227 = load16(v226);
+    v228 = load8(v25);
+    v229 = a1 + 162u * 1u;
+    v230 = load8(v229);
+    v231 = a1 + 161u * 1u;
+    v232 = load8(v231);
+    v233 = v213 != 1u;
+    v234 = v217 != 1u;
+    v235 = v221 != 1u;
+    v236 = v225 != 1u;
+    v237 = v223 == v232;
+    v238 = v236 ? 1u : v237;
+    v239 = v219 == v230;
+    v240 = v235 ? 1u : v239;
+    v241 = v238 ? v240 : 0u;
+    v242 = v215 == v228;
+    v243 = v234 ? 1u : v242;
+    v244 = v241 ? v243 : 0u;
+    v245 = v211 == v227;
+    v246 = v233 ? 1u : v245;
+    v247 = v244 ? v246 : 0u;
+    v248 = v207 == v209;
+    v249 = v205 ? 1u : v248;
+    v250 = v247 ? v249 : 0u;
+    if (v250) { goto L35; }
+    else { goto L36; }
+L34:;
+    v251 = load8(v13);
+    v252 = v13 + 1u * 1u;
+    v253 = load8(v252);
+    store8(a0, 1u);
+    v254 = a0 + 1u * 1u;
+    store8(v254, 2u);
+    v255 = a0 + 2u * 1u;
+    store8(v255, v251);
+    v256 = a0 + 3u * 1u;
+    store8(v256, v253);
+    v257 = a0 + 8u * 1u;
+    memory_set(v257, 0u, 200u);
+    goto L10;
+L35:;
+    v258 = a0 + 8u * 1u;
+    store32(a0, 0u);
+    memory_cpy(v258, v194, 200u);
+    goto L10;
+L36:;
+    store8(a0, 1u);
+    v259 = a0 + 1u * 1u;
+    store8(v259, 3u);
+    v260 = a0 + 2u * 1u;
+    store8(v260, 0u);
+    v261 = a0 + 3u * 1u;
+    store8(v261, 0u);
+    v262 = a0 + 8u * 1u;
+    memory_set(v262, 0u, 200u);
+    goto L10;
 }
 
 static void f16(address a0, address a1, u64 a2) {
@@ -9942,7 +10123,7 @@ L13:;
     UNREACHABLE;
 L14:;
     v6 = (u64)a1;
-    v7 = ADDRESS(c305) + v6 * 8u;
+    v7 = ADDRESS(c320) + v6 * 8u;
     v8 = load_address(v7);
     v2 = 6u; v3 = v8; goto L15;
 L15:;
@@ -9956,20 +10137,18 @@ L15:;
     case 0u: goto L19;
     case 1u: goto L19;
     case 2u: goto L19;
+    case 11u: goto L19;
     case 12u: goto L19;
-    case 13u: goto L19;
     case 3u: v4 = 1u; goto L21;
     case 4u: v4 = 1u; goto L21;
     case 5u: v4 = 1u; goto L21;
     case 9u: v4 = 1u; goto L21;
-    case 10u: v4 = 1u; goto L21;
-    case 14u: v4 = 1u; goto L21;
     case 6u: goto L16;
     case 7u: goto L16;
     case 8u: goto L17;
-    case 11u: goto L18;
-    case 15u: goto L18;
-    case 16u: goto L18;
+    case 10u: goto L18;
+    case 13u: goto L18;
+    case 14u: goto L18;
     default: goto L20;
     }
 L16:;
@@ -9996,27 +10175,27 @@ L22:;
 
 static void f39(address a0, address a1, address a2, u64 a3, address a4) {
     u64 v5, v7, v10, v11, v13, v14, v15, v20, v21, v22, v79, v82, v88, v89, v90, v91;
-    u64 v93, v95, v98, v99, v102, v300, v315, v316, v323, v324;
+    u64 v93, v95, v98, v99, v102, v301, v316, v317, v324, v325;
     address v6, v28, v29, v30, v31, v33, v35, v37, v39, v41, v44, v49, v52, v53, v80, v81;
-    address v87, v92, v96, v97, v104, v142, v149, v156, v163, v176, v183, v190, v197, v204, v211, v218;
-    address v225, v232, v245, v252, v259, v266, v273, v280, v287, v289, v311, v312, v313, v314, v318, v320;
-    address v326, v327, v328, v329;
+    address v87, v92, v96, v97, v104, v143, v150, v157, v164, v177, v184, v191, v198, v205, v212, v219;
+    address v226, v233, v246, v253, v260, v267, v274, v281, v288, v290, v312, v313, v314, v315, v319, v321;
+    address v327, v328, v329, v330;
     u8 v8, v9, v12, v16, v18, v19, v23, v24, v25, v26, v27, v32, v34, v36, v38, v40;
     u8 v42, v43, v45, v46, v47, v48, v50, v51, v54, v55, v56, v57, v58, v59, v60, v61;
     u8 v62, v63, v64, v65, v66, v67, v68, v69, v70, v71, v72, v73, v74, v75, v76, v77;
     u8 v78, v83, v84, v85, v86, v94, v100, v101, v103, v105, v106, v108, v109, v111, v113, v114;
     u8 v117, v119, v121, v122, v123, v124, v125, v127, v128, v129, v130, v132, v133, v134, v135, v136;
-    u8 v137, v138, v139, v140, v141, v143, v144, v145, v146, v147, v148, v150, v151, v152, v153, v154;
-    u8 v155, v157, v158, v159, v160, v161, v162, v164, v165, v166, v167, v168, v169, v170, v171, v172;
-    u8 v173, v174, v175, v177, v178, v179, v180, v181, v182, v184, v185, v186, v187, v188, v189, v191;
-    u8 v192, v193, v194, v195, v196, v198, v199, v200, v201, v202, v203, v205, v206, v207, v208, v209;
-    u8 v210, v212, v213, v214, v215, v216, v217, v219, v220, v221, v222, v223, v224, v226, v227, v228;
-    u8 v229, v230, v231, v233, v234, v235, v236, v237, v238, v239, v240, v241, v242, v243, v244, v246;
-    u8 v247, v248, v249, v250, v251, v253, v254, v255, v256, v257, v258, v260, v261, v262, v263, v264;
-    u8 v265, v267, v268, v269, v270, v271, v272, v274, v275, v276, v277, v278, v279, v281, v282, v283;
-    u8 v284, v285, v286, v288, v290, v291, v292, v293, v294, v295, v296, v297, v298, v299, v301, v304;
-    u8 v305, v306, v308, v309, v310, v317, v319, v321, v322, v325;
-    struct s2 v17, v120, v126, v131, v302, v303, v307;
+    u8 v137, v138, v139, v140, v141, v142, v144, v145, v146, v147, v148, v149, v151, v152, v153, v154;
+    u8 v155, v156, v158, v159, v160, v161, v162, v163, v165, v166, v167, v168, v169, v170, v171, v172;
+    u8 v173, v174, v175, v176, v178, v179, v180, v181, v182, v183, v185, v186, v187, v188, v189, v190;
+    u8 v192, v193, v194, v195, v196, v197, v199, v200, v201, v202, v203, v204, v206, v207, v208, v209;
+    u8 v210, v211, v213, v214, v215, v216, v217, v218, v220, v221, v222, v223, v224, v225, v227, v228;
+    u8 v229, v230, v231, v232, v234, v235, v236, v237, v238, v239, v240, v241, v242, v243, v244, v245;
+    u8 v247, v248, v249, v250, v251, v252, v254, v255, v256, v257, v258, v259, v261, v262, v263, v264;
+    u8 v265, v266, v268, v269, v270, v271, v272, v273, v275, v276, v277, v278, v279, v280, v282, v283;
+    u8 v284, v285, v286, v287, v289, v291, v292, v293, v294, v295, v296, v297, v298, v299, v300, v302;
+    u8 v305, v306, v307, v309, v310, v311, v318, v320, v322, v323, v326;
+    struct s2 v17, v120, v126, v131, v303, v304, v308;
     struct s4 v107, v112;
     u16 v110, v115, v116, v118;
     u64 block0[3];
@@ -10039,24 +10218,22 @@ static void f39(address a0, address a1, address a2, u64 a3, address a4) {
     v41 = a1 + 5u * 1u;
     v42 = load8(v41);
     switch (v40) {
-    case 11u: goto L1;
+    case 10u: goto L1;
     case 0u: goto L22;
     case 1u: goto L23;
     case 2u: goto L24;
     case 3u: goto L29;
     case 4u: goto L31;
     case 5u: goto L33;
-    case 10u: goto L34;
-    case 6u: v23 = v34; v24 = 3u; v25 = 1u; v26 = v32; v27 = v36; goto L70;
-    case 7u: v23 = v34; v24 = 3u; v25 = 1u; v26 = v32; v27 = v36; goto L70;
-    case 8u: v23 = v34; v24 = 3u; v25 = 1u; v26 = v32; v27 = v36; goto L70;
-    case 9u: v23 = v34; v24 = 3u; v25 = 1u; v26 = v32; v27 = v36; goto L70;
-    case 16u: v23 = v34; v24 = 3u; v25 = 1u; v26 = v32; v27 = v36; goto L70;
-    case 12u: v23 = v34; v24 = 3u; v25 = 1u; v26 = v32; v27 = v36; goto L70;
-    case 13u: v23 = v34; v24 = 3u; v25 = 1u; v26 = v32; v27 = v36; goto L70;
-    case 14u: v23 = v34; v24 = 3u; v25 = 1u; v26 = v32; v27 = v36; goto L70;
-    case 15u: v23 = v34; v24 = 3u; v25 = 1u; v26 = v32; v27 = v36; goto L70;
-    default: goto L66;
+    case 9u: goto L34;
+    case 6u: v23 = v34; v24 = 3u; v25 = 1u; v26 = v32; v27 = v36; goto L71;
+    case 7u: v23 = v34; v24 = 3u; v25 = 1u; v26 = v32; v27 = v36; goto L71;
+    case 8u: v23 = v34; v24 = 3u; v25 = 1u; v26 = v32; v27 = v36; goto L71;
+    case 14u: v23 = v34; v24 = 3u; v25 = 1u; v26 = v32; v27 = v36; goto L71;
+    case 11u: v23 = v34; v24 = 3u; v25 = 1u; v26 = v32; v27 = v36; goto L71;
+    case 12u: v23 = v34; v24 = 3u; v25 = 1u; v26 = v32; v27 = v36; goto L71;
+    case 13u: v23 = v34; v24 = 3u; v25 = 1u; v26 = v32; v27 = v36; goto L71;
+    default: goto L67;
     }
 L1:;
     memory_set(v29, 0u, 136u);
@@ -10173,7 +10350,7 @@ L17:;
     store8(a4, v100);
     memory_cpy(v96, v30, v88);
     v101 = v99 == 0u;
-    if (v101) { v23 = 0u; v24 = 0u; v25 = 0u; v26 = 0u; v27 = 0u; goto L70; }
+    if (v101) { v23 = 0u; v24 = 0u; v25 = 0u; v26 = 0u; v27 = 0u; goto L71; }
     else { goto L18; }
 L18:;
     v102 = (u64)((u64)v99 + (u64)UINT64_C(18446744073709551615));
@@ -10186,67 +10363,67 @@ L19:;
 L20:;
     v104 = v97 + v102 * 1u;
     store8(v104, 0u);
-    v23 = 0u; v24 = 0u; v25 = 0u; v26 = 0u; v27 = 0u; goto L70;
+    v23 = 0u; v24 = 0u; v25 = 0u; v26 = 0u; v27 = 0u; goto L71;
 L21:;
-    v23 = v34; v24 = 3u; v25 = 1u; v26 = v32; v27 = v36; goto L70;
+    v23 = v34; v24 = 3u; v25 = 1u; v26 = v32; v27 = v36; goto L71;
 L22:;
     v105 = v42 == 1u;
-    if (v105) { goto L63; }
-    else { v23 = v34; v24 = 3u; v25 = 1u; v26 = v32; v27 = v36; goto L70; }
+    if (v105) { goto L64; }
+    else { v23 = v34; v24 = 3u; v25 = 1u; v26 = v32; v27 = v36; goto L71; }
 L23:;
     v106 = v42 == 1u;
-    if (v106) { goto L63; }
-    else { v23 = v34; v24 = 3u; v25 = 1u; v26 = v32; v27 = v36; goto L70; }
+    if (v106) { goto L64; }
+    else { v23 = v34; v24 = 3u; v25 = 1u; v26 = v32; v27 = v36; goto L71; }
 L24:;
     switch (v42) {
     case 1u: goto L25;
     case 2u: goto L27;
-    default: v23 = v34; v24 = 3u; v25 = 1u; v26 = v32; v27 = v36; goto L70;
+    default: v23 = v34; v24 = 3u; v25 = 1u; v26 = v32; v27 = v36; goto L71;
     }
 L25:;
     v107 = f40(127u, a2, a3);
     v108 = v107.m0;
     v109 = (u8)((v108) & UINT64_C(1));
     if (v109) { goto L26; }
-    else { v23 = v34; v24 = 3u; v25 = 1u; v26 = v32; v27 = v36; goto L70; }
+    else { v23 = v34; v24 = 3u; v25 = 1u; v26 = v32; v27 = v36; goto L71; }
 L26:;
     v110 = v107.m1;
     v111 = (u8)(v110);
-    v18 = 0u; v19 = v111; v20 = 1u; goto L65;
+    v18 = 0u; v19 = v111; v20 = 1u; goto L66;
 L27:;
     v112 = f40(32767u, a2, a3);
     v113 = v112.m0;
     v114 = (u8)((v113) & UINT64_C(1));
     if (v114) { goto L28; }
-    else { v23 = v34; v24 = 3u; v25 = 1u; v26 = v32; v27 = v36; goto L70; }
+    else { v23 = v34; v24 = 3u; v25 = 1u; v26 = v32; v27 = v36; goto L71; }
 L28:;
     v115 = v112.m1;
     v116 = swap16(v115);
     v117 = (u8)(v116);
     v118 = (u16)((u32)v116 >> (8u & 15u));
     v119 = (u8)(v118);
-    v18 = v119; v19 = v117; v20 = 2u; goto L65;
+    v18 = v119; v19 = v117; v20 = 2u; goto L66;
 L29:;
     v120 = f41(a2, a3);
     v121 = v120.m0;
     v122 = (u8)((v121) & UINT64_C(1));
     if (v122) { goto L30; }
-    else { v23 = v34; v24 = 3u; v25 = 1u; v26 = v32; v27 = v36; goto L70; }
+    else { v23 = v34; v24 = 3u; v25 = 1u; v26 = v32; v27 = v36; goto L71; }
 L30:;
     v123 = v120.m1;
     v124 = (u8)((v123) & UINT64_C(1));
     v125 = v124 ? v42 : 0u;
-    v18 = 0u; v19 = v125; v20 = 1u; goto L65;
+    v18 = 0u; v19 = v125; v20 = 1u; goto L66;
 L31:;
     v126 = f41(a2, a3);
     v127 = v126.m0;
     v128 = (u8)((v127) & UINT64_C(1));
     if (v128) { goto L32; }
-    else { v23 = v34; v24 = 3u; v25 = 1u; v26 = v32; v27 = v36; goto L70; }
+    else { v23 = v34; v24 = 3u; v25 = 1u; v26 = v32; v27 = v36; goto L71; }
 L32:;
     v129 = v126.m1;
     v130 = (u8)((u32)v129 & (u32)1u);
-    v18 = 0u; v19 = v130; v20 = 1u; goto L65;
+    v18 = 0u; v19 = v130; v20 = 1u; goto L66;
 L33:;
     v131 = f42(a2, a3);
     v132 = v131.m0;
@@ -10254,322 +10431,326 @@ L33:;
     v134 = v131.m1;
     v135 = v134 < 16u;
     v136 = v133 ? v135 : 0u;
-    if (v136) { v18 = 0u; v19 = v134; v20 = 1u; goto L65; }
-    else { v23 = v34; v24 = 3u; v25 = 1u; v26 = v32; v27 = v36; goto L70; }
+    if (v136) { v18 = 0u; v19 = v134; v20 = 1u; goto L66; }
+    else { v23 = v34; v24 = 3u; v25 = 1u; v26 = v32; v27 = v36; goto L71; }
 L34:;
-    switch (a3) {
-    case 3u: goto L35;
-    case 10u: goto L40;
-    case 7u: goto L50;
-    case 12u: v15 = 0u; goto L57;
-    default: goto L60;
-    }
+    v137 = v42 == 1u;
+    if (v137) { goto L35; }
+    else { v23 = v34; v24 = 3u; v25 = 1u; v26 = v32; v27 = v36; goto L71; }
 L35:;
-    v137 = load8(a2);
-    v138 = (u8)((u32)v137 + (u32)191u);
-    v139 = v138 < 26u;
-    v140 = (u8)((u32)v137 + (u32)32u);
-    v141 = v139 ? v140 : v137;
-    switch (v141) {
-    case 101u: goto L36;
-    case 112u: goto L38;
-    default: goto L60;
+    switch (a3) {
+    case 3u: goto L36;
+    case 10u: goto L41;
+    case 7u: goto L51;
+    case 12u: v15 = 0u; goto L58;
+    default: goto L61;
     }
 L36:;
-    v142 = a2 + 1u * 1u;
-    v143 = load8(v142);
-    v144 = (u8)((u32)v143 + (u32)191u);
-    v145 = v144 < 26u;
-    v146 = (u8)((u32)v143 + (u32)32u);
-    v147 = v145 ? v146 : v143;
-    v148 = v147 == 50u;
-    if (v148) { goto L37; }
-    else { goto L60; }
+    v138 = load8(a2);
+    v139 = (u8)((u32)v138 + (u32)191u);
+    v140 = v139 < 26u;
+    v141 = (u8)((u32)v138 + (u32)32u);
+    v142 = v140 ? v141 : v138;
+    switch (v142) {
+    case 101u: goto L37;
+    case 112u: goto L39;
+    default: goto L61;
+    }
 L37:;
-    v149 = a2 + 2u * 1u;
-    v150 = load8(v149);
-    v151 = (u8)((u32)v150 + (u32)191u);
-    v152 = v151 < 26u;
-    v153 = (u8)((u32)v150 + (u32)32u);
-    v154 = v152 ? v153 : v150;
-    v155 = v154 == 101u;
-    if (v155) { v16 = 1u; goto L59; }
-    else { goto L60; }
+    v143 = a2 + 1u * 1u;
+    v144 = load8(v143);
+    v145 = (u8)((u32)v144 + (u32)191u);
+    v146 = v145 < 26u;
+    v147 = (u8)((u32)v144 + (u32)32u);
+    v148 = v146 ? v147 : v144;
+    v149 = v148 == 50u;
+    if (v149) { goto L38; }
+    else { goto L61; }
 L38:;
-    v156 = a2 + 1u * 1u;
-    v157 = load8(v156);
-    v158 = (u8)((u32)v157 + (u32)191u);
-    v159 = v158 < 26u;
-    v160 = (u8)((u32)v157 + (u32)32u);
-    v161 = v159 ? v160 : v157;
-    v162 = v161 == 50u;
-    if (v162) { goto L39; }
-    else { goto L60; }
+    v150 = a2 + 2u * 1u;
+    v151 = load8(v150);
+    v152 = (u8)((u32)v151 + (u32)191u);
+    v153 = v152 < 26u;
+    v154 = (u8)((u32)v151 + (u32)32u);
+    v155 = v153 ? v154 : v151;
+    v156 = v155 == 101u;
+    if (v156) { v16 = 1u; goto L60; }
+    else { goto L61; }
 L39:;
-    v163 = a2 + 2u * 1u;
-    v164 = load8(v163);
-    v165 = (u8)((u32)v164 + (u32)191u);
-    v166 = v165 < 26u;
-    v167 = (u8)((u32)v164 + (u32)32u);
-    v168 = v166 ? v167 : v164;
-    v169 = v168 == 112u;
-    if (v169) { v16 = 2u; goto L59; }
-    else { goto L60; }
+    v157 = a2 + 1u * 1u;
+    v158 = load8(v157);
+    v159 = (u8)((u32)v158 + (u32)191u);
+    v160 = v159 < 26u;
+    v161 = (u8)((u32)v158 + (u32)32u);
+    v162 = v160 ? v161 : v158;
+    v163 = v162 == 50u;
+    if (v163) { goto L40; }
+    else { goto L61; }
 L40:;
-    v170 = load8(a2);
-    v171 = (u8)((u32)v170 + (u32)191u);
-    v172 = (u8)((u32)v170 + (u32)32u);
-    v173 = v171 < 26u;
-    v174 = v173 ? v172 : v170;
-    v175 = v174 == 99u;
-    if (v175) { goto L41; }
-    else { goto L60; }
+    v164 = a2 + 2u * 1u;
+    v165 = load8(v164);
+    v166 = (u8)((u32)v165 + (u32)191u);
+    v167 = v166 < 26u;
+    v168 = (u8)((u32)v165 + (u32)32u);
+    v169 = v167 ? v168 : v165;
+    v170 = v169 == 112u;
+    if (v170) { v16 = 2u; goto L60; }
+    else { goto L61; }
 L41:;
-    v176 = a2 + 1u * 1u;
-    v177 = load8(v176);
-    v178 = (u8)((u32)v177 + (u32)191u);
-    v179 = v178 < 26u;
-    v180 = (u8)((u32)v177 + (u32)32u);
-    v181 = v179 ? v180 : v177;
-    v182 = v181 == 111u;
-    if (v182) { goto L42; }
-    else { goto L60; }
+    v171 = load8(a2);
+    v172 = (u8)((u32)v171 + (u32)191u);
+    v173 = (u8)((u32)v171 + (u32)32u);
+    v174 = v172 < 26u;
+    v175 = v174 ? v173 : v171;
+    v176 = v175 == 99u;
+    if (v176) { goto L42; }
+    else { goto L61; }
 L42:;
-    v183 = a2 + 2u * 1u;
-    v184 = load8(v183);
-    v185 = (u8)((u32)v184 + (u32)191u);
-    v186 = v185 < 26u;
-    v187 = (u8)((u32)v184 + (u32)32u);
-    v188 = v186 ? v187 : v184;
-    v189 = v188 == 109u;
-    if (v189) { goto L43; }
-    else { goto L60; }
+    v177 = a2 + 1u * 1u;
+    v178 = load8(v177);
+    v179 = (u8)((u32)v178 + (u32)191u);
+    v180 = v179 < 26u;
+    v181 = (u8)((u32)v178 + (u32)32u);
+    v182 = v180 ? v181 : v178;
+    v183 = v182 == 111u;
+    if (v183) { goto L43; }
+    else { goto L61; }
 L43:;
-    v190 = a2 + 3u * 1u;
-    v191 = load8(v190);
-    v192 = (u8)((u32)v191 + (u32)191u);
-    v193 = v192 < 26u;
-    v194 = (u8)((u32)v191 + (u32)32u);
-    v195 = v193 ? v194 : v191;
-    v196 = v195 == 109u;
-    if (v196) { goto L44; }
-    else { goto L60; }
+    v184 = a2 + 2u * 1u;
+    v185 = load8(v184);
+    v186 = (u8)((u32)v185 + (u32)191u);
+    v187 = v186 < 26u;
+    v188 = (u8)((u32)v185 + (u32)32u);
+    v189 = v187 ? v188 : v185;
+    v190 = v189 == 109u;
+    if (v190) { goto L44; }
+    else { goto L61; }
 L44:;
-    v197 = a2 + 4u * 1u;
-    v198 = load8(v197);
-    v199 = (u8)((u32)v198 + (u32)191u);
-    v200 = v199 < 26u;
-    v201 = (u8)((u32)v198 + (u32)32u);
-    v202 = v200 ? v201 : v198;
-    v203 = v202 == 111u;
-    if (v203) { goto L45; }
-    else { goto L60; }
+    v191 = a2 + 3u * 1u;
+    v192 = load8(v191);
+    v193 = (u8)((u32)v192 + (u32)191u);
+    v194 = v193 < 26u;
+    v195 = (u8)((u32)v192 + (u32)32u);
+    v196 = v194 ? v195 : v192;
+    v197 = v196 == 109u;
+    if (v197) { goto L45; }
+    else { goto L61; }
 L45:;
-    v204 = a2 + 5u * 1u;
-    v205 = load8(v204);
-    v206 = (u8)((u32)v205 + (u32)191u);
-    v207 = v206 < 26u;
-    v208 = (u8)((u32)v205 + (u32)32u);
-    v209 = v207 ? v208 : v205;
-    v210 = v209 == 110u;
-    if (v210) { goto L46; }
-    else { goto L60; }
+    v198 = a2 + 4u * 1u;
+    v199 = load8(v198);
+    v200 = (u8)((u32)v199 + (u32)191u);
+    v201 = v200 < 26u;
+    v202 = (u8)((u32)v199 + (u32)32u);
+    v203 = v201 ? v202 : v199;
+    v204 = v203 == 111u;
+    if (v204) { goto L46; }
+    else { goto L61; }
 L46:;
-    v211 = a2 + 6u * 1u;
-    v212 = load8(v211);
-    v213 = (u8)((u32)v212 + (u32)191u);
-    v214 = v213 < 26u;
-    v215 = (u8)((u32)v212 + (u32)32u);
-    v216 = v214 ? v215 : v212;
-    v217 = v216 == 95u;
-    if (v217) { goto L47; }
-    else { goto L60; }
+    v205 = a2 + 5u * 1u;
+    v206 = load8(v205);
+    v207 = (u8)((u32)v206 + (u32)191u);
+    v208 = v207 < 26u;
+    v209 = (u8)((u32)v206 + (u32)32u);
+    v210 = v208 ? v209 : v206;
+    v211 = v210 == 110u;
+    if (v211) { goto L47; }
+    else { goto L61; }
 L47:;
-    v218 = a2 + 7u * 1u;
-    v219 = load8(v218);
-    v220 = (u8)((u32)v219 + (u32)191u);
-    v221 = v220 < 26u;
-    v222 = (u8)((u32)v219 + (u32)32u);
-    v223 = v221 ? v222 : v219;
-    v224 = v223 == 112u;
-    if (v224) { goto L48; }
-    else { goto L60; }
+    v212 = a2 + 6u * 1u;
+    v213 = load8(v212);
+    v214 = (u8)((u32)v213 + (u32)191u);
+    v215 = v214 < 26u;
+    v216 = (u8)((u32)v213 + (u32)32u);
+    v217 = v215 ? v216 : v213;
+    v218 = v217 == 95u;
+    if (v218) { goto L48; }
+    else { goto L61; }
 L48:;
-    v225 = a2 + 8u * 1u;
-    v226 = load8(v225);
-    v227 = (u8)((u32)v226 + (u32)191u);
-    v228 = v227 < 26u;
-    v229 = (u8)((u32)v226 + (u32)32u);
-    v230 = v228 ? v229 : v226;
-    v231 = v230 == 50u;
-    if (v231) { goto L49; }
-    else { goto L60; }
+    v219 = a2 + 7u * 1u;
+    v220 = load8(v219);
+    v221 = (u8)((u32)v220 + (u32)191u);
+    v222 = v221 < 26u;
+    v223 = (u8)((u32)v220 + (u32)32u);
+    v224 = v222 ? v223 : v220;
+    v225 = v224 == 112u;
+    if (v225) { goto L49; }
+    else { goto L61; }
 L49:;
-    v232 = a2 + 9u * 1u;
-    v233 = load8(v232);
-    v234 = (u8)((u32)v233 + (u32)191u);
-    v235 = v234 < 26u;
-    v236 = (u8)((u32)v233 + (u32)32u);
-    v237 = v235 ? v236 : v233;
-    v238 = v237 == 112u;
-    if (v238) { v16 = 3u; goto L59; }
-    else { goto L60; }
+    v226 = a2 + 8u * 1u;
+    v227 = load8(v226);
+    v228 = (u8)((u32)v227 + (u32)191u);
+    v229 = v228 < 26u;
+    v230 = (u8)((u32)v227 + (u32)32u);
+    v231 = v229 ? v230 : v227;
+    v232 = v231 == 50u;
+    if (v232) { goto L50; }
+    else { goto L61; }
 L50:;
-    v239 = load8(a2);
-    v240 = (u8)((u32)v239 + (u32)191u);
-    v241 = (u8)((u32)v239 + (u32)32u);
-    v242 = v240 < 26u;
-    v243 = v242 ? v241 : v239;
-    v244 = v243 == 115u;
-    if (v244) { goto L51; }
-    else { goto L60; }
+    v233 = a2 + 9u * 1u;
+    v234 = load8(v233);
+    v235 = (u8)((u32)v234 + (u32)191u);
+    v236 = v235 < 26u;
+    v237 = (u8)((u32)v234 + (u32)32u);
+    v238 = v236 ? v237 : v234;
+    v239 = v238 == 112u;
+    if (v239) { v16 = 3u; goto L60; }
+    else { goto L61; }
 L51:;
-    v245 = a2 + 1u * 1u;
-    v246 = load8(v245);
-    v247 = (u8)((u32)v246 + (u32)191u);
-    v248 = v247 < 26u;
-    v249 = (u8)((u32)v246 + (u32)32u);
-    v250 = v248 ? v249 : v246;
-    v251 = v250 == 112u;
-    if (v251) { goto L52; }
-    else { goto L60; }
+    v240 = load8(a2);
+    v241 = (u8)((u32)v240 + (u32)191u);
+    v242 = (u8)((u32)v240 + (u32)32u);
+    v243 = v241 < 26u;
+    v244 = v243 ? v242 : v240;
+    v245 = v244 == 115u;
+    if (v245) { goto L52; }
+    else { goto L61; }
 L52:;
-    v252 = a2 + 2u * 1u;
-    v253 = load8(v252);
-    v254 = (u8)((u32)v253 + (u32)191u);
-    v255 = v254 < 26u;
-    v256 = (u8)((u32)v253 + (u32)32u);
-    v257 = v255 ? v256 : v253;
-    v258 = v257 == 101u;
-    if (v258) { goto L53; }
-    else { goto L60; }
+    v246 = a2 + 1u * 1u;
+    v247 = load8(v246);
+    v248 = (u8)((u32)v247 + (u32)191u);
+    v249 = v248 < 26u;
+    v250 = (u8)((u32)v247 + (u32)32u);
+    v251 = v249 ? v250 : v247;
+    v252 = v251 == 112u;
+    if (v252) { goto L53; }
+    else { goto L61; }
 L53:;
-    v259 = a2 + 3u * 1u;
-    v260 = load8(v259);
-    v261 = (u8)((u32)v260 + (u32)191u);
-    v262 = v261 < 26u;
-    v263 = (u8)((u32)v260 + (u32)32u);
-    v264 = v262 ? v263 : v260;
-    v265 = v264 == 99u;
-    if (v265) { goto L54; }
-    else { goto L60; }
+    v253 = a2 + 2u * 1u;
+    v254 = load8(v253);
+    v255 = (u8)((u32)v254 + (u32)191u);
+    v256 = v255 < 26u;
+    v257 = (u8)((u32)v254 + (u32)32u);
+    v258 = v256 ? v257 : v254;
+    v259 = v258 == 101u;
+    if (v259) { goto L54; }
+    else { goto L61; }
 L54:;
-    v266 = a2 + 4u * 1u;
-    v267 = load8(v266);
-    v268 = (u8)((u32)v267 + (u32)191u);
-    v269 = v268 < 26u;
-    v270 = (u8)((u32)v267 + (u32)32u);
-    v271 = v269 ? v270 : v267;
-    v272 = v271 == 105u;
-    if (v272) { goto L55; }
-    else { goto L60; }
+    v260 = a2 + 3u * 1u;
+    v261 = load8(v260);
+    v262 = (u8)((u32)v261 + (u32)191u);
+    v263 = v262 < 26u;
+    v264 = (u8)((u32)v261 + (u32)32u);
+    v265 = v263 ? v264 : v261;
+    v266 = v265 == 99u;
+    if (v266) { goto L55; }
+    else { goto L61; }
 L55:;
-    v273 = a2 + 5u * 1u;
-    v274 = load8(v273);
-    v275 = (u8)((u32)v274 + (u32)191u);
-    v276 = v275 < 26u;
-    v277 = (u8)((u32)v274 + (u32)32u);
-    v278 = v276 ? v277 : v274;
-    v279 = v278 == 97u;
-    if (v279) { goto L56; }
-    else { goto L60; }
+    v267 = a2 + 4u * 1u;
+    v268 = load8(v267);
+    v269 = (u8)((u32)v268 + (u32)191u);
+    v270 = v269 < 26u;
+    v271 = (u8)((u32)v268 + (u32)32u);
+    v272 = v270 ? v271 : v268;
+    v273 = v272 == 105u;
+    if (v273) { goto L56; }
+    else { goto L61; }
 L56:;
-    v280 = a2 + 6u * 1u;
-    v281 = load8(v280);
-    v282 = (u8)((u32)v281 + (u32)191u);
-    v283 = v282 < 26u;
-    v284 = (u8)((u32)v281 + (u32)32u);
-    v285 = v283 ? v284 : v281;
-    v286 = v285 == 108u;
-    if (v286) { v16 = 4u; goto L59; }
-    else { goto L60; }
+    v274 = a2 + 5u * 1u;
+    v275 = load8(v274);
+    v276 = (u8)((u32)v275 + (u32)191u);
+    v277 = v276 < 26u;
+    v278 = (u8)((u32)v275 + (u32)32u);
+    v279 = v277 ? v278 : v275;
+    v280 = v279 == 97u;
+    if (v280) { goto L57; }
+    else { goto L61; }
 L57:;
-    v287 = a2 + v15 * 1u;
-    v288 = load8(v287);
-    v289 = ADDRESS(c171) + v15 * 1u;
-    v290 = load8(v289);
-    v291 = (u8)((u32)v288 + (u32)191u);
-    v292 = v291 < 26u;
-    v293 = (u8)((u32)v288 + (u32)32u);
-    v294 = v292 ? v293 : v288;
-    v295 = (u8)((u32)v290 + (u32)191u);
-    v296 = v295 < 26u;
-    v297 = (u8)((u32)v290 + (u32)32u);
-    v298 = v296 ? v297 : v290;
-    v299 = v294 == v298;
-    if (v299) { goto L58; }
-    else { goto L60; }
+    v281 = a2 + 6u * 1u;
+    v282 = load8(v281);
+    v283 = (u8)((u32)v282 + (u32)191u);
+    v284 = v283 < 26u;
+    v285 = (u8)((u32)v282 + (u32)32u);
+    v286 = v284 ? v285 : v282;
+    v287 = v286 == 108u;
+    if (v287) { v16 = 4u; goto L60; }
+    else { goto L61; }
 L58:;
-    v300 = (u64)((u64)v15 + (u64)1u);
-    v301 = v300 == 12u;
-    if (v301) { v16 = 254u; goto L59; }
-    else { v15 = v300; goto L57; }
+    v288 = a2 + v15 * 1u;
+    v289 = load8(v288);
+    v290 = ADDRESS(c182) + v15 * 1u;
+    v291 = load8(v290);
+    v292 = (u8)((u32)v289 + (u32)191u);
+    v293 = v292 < 26u;
+    v294 = (u8)((u32)v289 + (u32)32u);
+    v295 = v293 ? v294 : v289;
+    v296 = (u8)((u32)v291 + (u32)191u);
+    v297 = v296 < 26u;
+    v298 = (u8)((u32)v291 + (u32)32u);
+    v299 = v297 ? v298 : v291;
+    v300 = v295 == v299;
+    if (v300) { goto L59; }
+    else { goto L61; }
 L59:;
-    v302 = (struct s2){ 1u, 0u };
-    v302.m1 = v16;
-    v17 = v302; goto L61;
+    v301 = (u64)((u64)v15 + (u64)1u);
+    v302 = v301 == 12u;
+    if (v302) { v16 = 254u; goto L60; }
+    else { v15 = v301; goto L58; }
 L60:;
-    v303 = f42(a2, a3);
-    v17 = v303; goto L61;
+    v303 = (struct s2){ 1u, 0u };
+    v303.m1 = v16;
+    v17 = v303; goto L62;
 L61:;
-    v304 = v17.m0;
-    v305 = v304 == 1u;
-    if (v305) { goto L62; }
-    else { v23 = v34; v24 = 3u; v25 = 1u; v26 = v32; v27 = v36; goto L70; }
+    v304 = f42(a2, a3);
+    v17 = v304; goto L62;
 L62:;
-    v306 = v17.m1;
-    v18 = 0u; v19 = v306; v20 = 1u; goto L65;
+    v305 = v17.m0;
+    v306 = v305 == 1u;
+    if (v306) { goto L63; }
+    else { v23 = v34; v24 = 3u; v25 = 1u; v26 = v32; v27 = v36; goto L71; }
 L63:;
-    v307 = f42(a2, a3);
-    v308 = v307.m0;
-    v309 = v308 == 1u;
-    if (v309) { goto L64; }
-    else { v23 = v34; v24 = 3u; v25 = 1u; v26 = v32; v27 = v36; goto L70; }
+    v307 = v17.m1;
+    v18 = 0u; v19 = v307; v20 = 1u; goto L66;
 L64:;
-    v310 = v307.m1;
-    v18 = 0u; v19 = v310; v20 = 1u; goto L65;
+    v308 = f42(a2, a3);
+    v309 = v308.m0;
+    v310 = v309 == 1u;
+    if (v310) { goto L65; }
+    else { v23 = v34; v24 = 3u; v25 = 1u; v26 = v32; v27 = v36; goto L71; }
 L65:;
-    store8(v31, v19);
-    v311 = v31 + 1u * 1u;
-    store8(v311, v18);
-    v312 = v31 + 2u * 1u;
-    memory_set(v312, 0u, 6u);
-    v313 = v31 + 8u * 1u;
-    store64(v313, v20);
-    v314 = a4 + 136u * 1u;
-    v315 = load64(v314);
-    v316 = (u64)v38;
-    v21 = v316; v22 = 0u; goto L67;
+    v311 = v308.m1;
+    v18 = 0u; v19 = v311; v20 = 1u; goto L66;
 L66:;
-    UNREACHABLE;
+    store8(v31, v19);
+    v312 = v31 + 1u * 1u;
+    store8(v312, v18);
+    v313 = v31 + 2u * 1u;
+    memory_set(v313, 0u, 6u);
+    v314 = v31 + 8u * 1u;
+    store64(v314, v20);
+    v315 = a4 + 136u * 1u;
+    v316 = load64(v315);
+    v317 = (u64)v38;
+    v21 = v317; v22 = 0u; goto L68;
 L67:;
-    v317 = v21 < v315;
-    if (v317) { goto L68; }
-    else { goto L69; }
+    UNREACHABLE;
 L68:;
-    v318 = v31 + v22 * 1u;
-    v319 = load8(v318);
-    v320 = a4 + v21 * 1u;
-    v321 = load8(v320);
-    v322 = (u8)((u32)v321 | (u32)v319);
-    store8(v320, v322);
-    goto L69;
+    v318 = v21 < v316;
+    if (v318) { goto L69; }
+    else { goto L70; }
 L69:;
-    v323 = (u64)((u64)v21 + (u64)1u);
-    v324 = (u64)((u64)v22 + (u64)1u);
-    v325 = v324 == v20;
-    if (v325) { v23 = 0u; v24 = 0u; v25 = 0u; v26 = 0u; v27 = 0u; goto L70; }
-    else { v21 = v323; v22 = v324; goto L67; }
+    v319 = v31 + v22 * 1u;
+    v320 = load8(v319);
+    v321 = a4 + v21 * 1u;
+    v322 = load8(v321);
+    v323 = (u8)((u32)v322 | (u32)v320);
+    store8(v321, v323);
+    goto L70;
 L70:;
+    v324 = (u64)((u64)v21 + (u64)1u);
+    v325 = (u64)((u64)v22 + (u64)1u);
+    v326 = v325 == v20;
+    if (v326) { v23 = 0u; v24 = 0u; v25 = 0u; v26 = 0u; v27 = 0u; goto L71; }
+    else { v21 = v324; v22 = v325; goto L68; }
+L71:;
     store8(a0, v25);
-    v326 = a0 + 1u * 1u;
-    store8(v326, v24);
-    v327 = a0 + 2u * 1u;
-    store8(v327, v26);
-    v328 = a0 + 3u * 1u;
-    store8(v328, v23);
-    v329 = a0 + 4u * 1u;
-    store8(v329, v27);
+    v327 = a0 + 1u * 1u;
+    store8(v327, v24);
+    v328 = a0 + 2u * 1u;
+    store8(v328, v26);
+    v329 = a0 + 3u * 1u;
+    store8(v329, v23);
+    v330 = a0 + 4u * 1u;
+    store8(v330, v27);
     return;
 }
 
@@ -10985,7 +11166,7 @@ static struct s5 f43(address a0) {
     v3 = load8(a0);
     switch (v3) {
     case 0u: goto L1;
-    case 1u: v1 = 11u; v2 = ADDRESS(c174); goto L50;
+    case 1u: v1 = 11u; v2 = ADDRESS(c197); goto L53;
     case 2u: goto L2;
     case 3u: goto L3;
     case 4u: goto L4;
@@ -11034,7 +11215,10 @@ static struct s5 f43(address a0) {
     case 47u: goto L47;
     case 48u: goto L48;
     case 49u: goto L49;
-    default: goto L51;
+    case 50u: goto L50;
+    case 51u: goto L51;
+    case 52u: goto L52;
+    default: goto L54;
     }
 L1:;
     v4 = a0 + 2u * 1u;
@@ -11044,110 +11228,116 @@ L1:;
     v8 = f44(v7, v5);
     v9 = v8.m0;
     v10 = v8.m1;
-    v1 = v10; v2 = v9; goto L50;
+    v1 = v10; v2 = v9; goto L53;
 L2:;
-    v1 = 9u; v2 = ADDRESS(c175); goto L50;
+    v1 = 9u; v2 = ADDRESS(c198); goto L53;
 L3:;
-    v1 = 12u; v2 = ADDRESS(c176); goto L50;
+    v1 = 12u; v2 = ADDRESS(c199); goto L53;
 L4:;
-    v1 = 13u; v2 = ADDRESS(c177); goto L50;
+    v1 = 13u; v2 = ADDRESS(c200); goto L53;
 L5:;
-    v1 = 13u; v2 = ADDRESS(c178); goto L50;
+    v1 = 13u; v2 = ADDRESS(c201); goto L53;
 L6:;
-    v1 = 9u; v2 = ADDRESS(c179); goto L50;
+    v1 = 12u; v2 = ADDRESS(c202); goto L53;
 L7:;
-    v1 = 21u; v2 = ADDRESS(c180); goto L50;
+    v1 = 23u; v2 = ADDRESS(c203); goto L53;
 L8:;
-    v1 = 15u; v2 = ADDRESS(c181); goto L50;
+    v1 = 5u; v2 = ADDRESS(c204); goto L53;
 L9:;
-    v1 = 15u; v2 = ADDRESS(c182); goto L50;
+    v1 = 9u; v2 = ADDRESS(c205); goto L53;
 L10:;
-    v1 = 12u; v2 = ADDRESS(c183); goto L50;
+    v1 = 21u; v2 = ADDRESS(c206); goto L53;
 L11:;
-    v1 = 20u; v2 = ADDRESS(c184); goto L50;
+    v1 = 15u; v2 = ADDRESS(c207); goto L53;
 L12:;
-    v1 = 18u; v2 = ADDRESS(c185); goto L50;
+    v1 = 15u; v2 = ADDRESS(c208); goto L53;
 L13:;
-    v1 = 12u; v2 = ADDRESS(c186); goto L50;
+    v1 = 12u; v2 = ADDRESS(c209); goto L53;
 L14:;
-    v1 = 15u; v2 = ADDRESS(c187); goto L50;
+    v1 = 20u; v2 = ADDRESS(c210); goto L53;
 L15:;
-    v1 = 12u; v2 = ADDRESS(c188); goto L50;
+    v1 = 18u; v2 = ADDRESS(c211); goto L53;
 L16:;
-    v1 = 16u; v2 = ADDRESS(c189); goto L50;
+    v1 = 12u; v2 = ADDRESS(c212); goto L53;
 L17:;
-    v1 = 12u; v2 = ADDRESS(c190); goto L50;
+    v1 = 15u; v2 = ADDRESS(c213); goto L53;
 L18:;
-    v1 = 13u; v2 = ADDRESS(c191); goto L50;
+    v1 = 12u; v2 = ADDRESS(c214); goto L53;
 L19:;
-    v1 = 12u; v2 = ADDRESS(c192); goto L50;
+    v1 = 16u; v2 = ADDRESS(c215); goto L53;
 L20:;
-    v1 = 26u; v2 = ADDRESS(c193); goto L50;
+    v1 = 12u; v2 = ADDRESS(c216); goto L53;
 L21:;
-    v1 = 23u; v2 = ADDRESS(c194); goto L50;
+    v1 = 13u; v2 = ADDRESS(c217); goto L53;
 L22:;
-    v1 = 19u; v2 = ADDRESS(c195); goto L50;
+    v1 = 12u; v2 = ADDRESS(c218); goto L53;
 L23:;
-    v1 = 17u; v2 = ADDRESS(c196); goto L50;
+    v1 = 26u; v2 = ADDRESS(c219); goto L53;
 L24:;
-    v1 = 9u; v2 = ADDRESS(c197); goto L50;
+    v1 = 23u; v2 = ADDRESS(c220); goto L53;
 L25:;
-    v1 = 10u; v2 = ADDRESS(c198); goto L50;
+    v1 = 19u; v2 = ADDRESS(c221); goto L53;
 L26:;
-    v1 = 23u; v2 = ADDRESS(c199); goto L50;
+    v1 = 17u; v2 = ADDRESS(c222); goto L53;
 L27:;
-    v1 = 9u; v2 = ADDRESS(c200); goto L50;
+    v1 = 9u; v2 = ADDRESS(c223); goto L53;
 L28:;
-    v1 = 12u; v2 = ADDRESS(c201); goto L50;
+    v1 = 10u; v2 = ADDRESS(c224); goto L53;
 L29:;
-    v1 = 9u; v2 = ADDRESS(c202); goto L50;
+    v1 = 23u; v2 = ADDRESS(c225); goto L53;
 L30:;
-    v1 = 7u; v2 = ADDRESS(c203); goto L50;
+    v1 = 9u; v2 = ADDRESS(c226); goto L53;
 L31:;
-    v1 = 12u; v2 = ADDRESS(c204); goto L50;
+    v1 = 12u; v2 = ADDRESS(c227); goto L53;
 L32:;
-    v1 = 13u; v2 = ADDRESS(c205); goto L50;
+    v1 = 9u; v2 = ADDRESS(c228); goto L53;
 L33:;
-    v1 = 14u; v2 = ADDRESS(c206); goto L50;
+    v1 = 7u; v2 = ADDRESS(c229); goto L53;
 L34:;
-    v1 = 12u; v2 = ADDRESS(c207); goto L50;
+    v1 = 12u; v2 = ADDRESS(c230); goto L53;
 L35:;
-    v1 = 13u; v2 = ADDRESS(c208); goto L50;
+    v1 = 13u; v2 = ADDRESS(c231); goto L53;
 L36:;
-    v1 = 24u; v2 = ADDRESS(c209); goto L50;
+    v1 = 14u; v2 = ADDRESS(c232); goto L53;
 L37:;
-    v1 = 11u; v2 = ADDRESS(c210); goto L50;
+    v1 = 12u; v2 = ADDRESS(c233); goto L53;
 L38:;
-    v1 = 12u; v2 = ADDRESS(c211); goto L50;
+    v1 = 13u; v2 = ADDRESS(c234); goto L53;
 L39:;
-    v1 = 13u; v2 = ADDRESS(c212); goto L50;
+    v1 = 24u; v2 = ADDRESS(c235); goto L53;
 L40:;
-    v1 = 7u; v2 = ADDRESS(c213); goto L50;
+    v1 = 11u; v2 = ADDRESS(c236); goto L53;
 L41:;
-    v1 = 12u; v2 = ADDRESS(c214); goto L50;
+    v1 = 12u; v2 = ADDRESS(c237); goto L53;
 L42:;
-    v1 = 13u; v2 = ADDRESS(c215); goto L50;
+    v1 = 13u; v2 = ADDRESS(c238); goto L53;
 L43:;
-    v1 = 14u; v2 = ADDRESS(c216); goto L50;
+    v1 = 7u; v2 = ADDRESS(c239); goto L53;
 L44:;
-    v1 = 12u; v2 = ADDRESS(c217); goto L50;
+    v1 = 12u; v2 = ADDRESS(c240); goto L53;
 L45:;
-    v1 = 13u; v2 = ADDRESS(c218); goto L50;
+    v1 = 13u; v2 = ADDRESS(c241); goto L53;
 L46:;
-    v1 = 24u; v2 = ADDRESS(c219); goto L50;
+    v1 = 14u; v2 = ADDRESS(c242); goto L53;
 L47:;
-    v1 = 11u; v2 = ADDRESS(c220); goto L50;
+    v1 = 12u; v2 = ADDRESS(c243); goto L53;
 L48:;
-    v1 = 12u; v2 = ADDRESS(c221); goto L50;
+    v1 = 13u; v2 = ADDRESS(c244); goto L53;
 L49:;
-    v1 = 13u; v2 = ADDRESS(c222); goto L50;
+    v1 = 24u; v2 = ADDRESS(c245); goto L53;
 L50:;
+    v1 = 11u; v2 = ADDRESS(c246); goto L53;
+L51:;
+    v1 = 12u; v2 = ADDRESS(c247); goto L53;
+L52:;
+    v1 = 13u; v2 = ADDRESS(c248); goto L53;
+L53:;
     v11 = (struct s5){ 0 };
     v11.m0 = v2;
     v12 = v11;
     v12.m1 = v1;
     return v12;
-L51:;
+L54:;
     UNREACHABLE;
 }
 
@@ -11156,7 +11346,7 @@ static struct s5 f44(u8 a0, u8 a1) {
     address v3, v5, v8, v9;
     struct s5 v10, v11;
     switch (a0) {
-    case 0u: v2 = 13u; v3 = ADDRESS(c223); goto L34;
+    case 0u: v2 = 13u; v3 = ADDRESS(c249); goto L34;
     case 1u: goto L1;
     case 2u: goto L2;
     case 3u: goto L3;
@@ -11193,75 +11383,75 @@ static struct s5 f44(u8 a0, u8 a1) {
     default: goto L35;
     }
 L1:;
-    v2 = 12u; v3 = ADDRESS(c224); goto L34;
+    v2 = 12u; v3 = ADDRESS(c250); goto L34;
 L2:;
-    v2 = 15u; v3 = ADDRESS(c225); goto L34;
+    v2 = 15u; v3 = ADDRESS(c251); goto L34;
 L3:;
-    v2 = 11u; v3 = ADDRESS(c226); goto L34;
+    v2 = 11u; v3 = ADDRESS(c252); goto L34;
 L4:;
-    v2 = 9u; v3 = ADDRESS(c227); goto L34;
-L5:;
-    v2 = 23u; v3 = ADDRESS(c228); goto L34;
-L6:;
-    v2 = 26u; v3 = ADDRESS(c229); goto L34;
-L7:;
-    v2 = 36u; v3 = ADDRESS(c230); goto L34;
-L8:;
-    v2 = 9u; v3 = ADDRESS(c231); goto L34;
-L9:;
-    v2 = 12u; v3 = ADDRESS(c232); goto L34;
-L10:;
-    v2 = 16u; v3 = ADDRESS(c233); goto L34;
-L11:;
-    v2 = 9u; v3 = ADDRESS(c234); goto L34;
-L12:;
-    v2 = 18u; v3 = ADDRESS(c235); goto L34;
-L13:;
-    v2 = 11u; v3 = ADDRESS(c236); goto L34;
-L14:;
-    v2 = 37u; v3 = ADDRESS(c237); goto L34;
-L15:;
-    v2 = 34u; v3 = ADDRESS(c238); goto L34;
-L16:;
-    v2 = 20u; v3 = ADDRESS(c239); goto L34;
-L17:;
-    v2 = 34u; v3 = ADDRESS(c240); goto L34;
-L18:;
-    v2 = 37u; v3 = ADDRESS(c241); goto L34;
-L19:;
-    v2 = 47u; v3 = ADDRESS(c242); goto L34;
-L20:;
-    v2 = 20u; v3 = ADDRESS(c243); goto L34;
-L21:;
-    v2 = 19u; v3 = ADDRESS(c244); goto L34;
-L22:;
-    v2 = 16u; v3 = ADDRESS(c245); goto L34;
-L23:;
-    v2 = 6u; v3 = ADDRESS(c246); goto L34;
-L24:;
-    v2 = 6u; v3 = ADDRESS(c247); goto L34;
-L25:;
-    v2 = 21u; v3 = ADDRESS(c248); goto L34;
-L26:;
-    v2 = 12u; v3 = ADDRESS(c249); goto L34;
-L27:;
-    v2 = 13u; v3 = ADDRESS(c250); goto L34;
-L28:;
-    v2 = 18u; v3 = ADDRESS(c251); goto L34;
-L29:;
-    v2 = 10u; v3 = ADDRESS(c252); goto L34;
-L30:;
     v2 = 9u; v3 = ADDRESS(c253); goto L34;
+L5:;
+    v2 = 23u; v3 = ADDRESS(c254); goto L34;
+L6:;
+    v2 = 26u; v3 = ADDRESS(c255); goto L34;
+L7:;
+    v2 = 36u; v3 = ADDRESS(c256); goto L34;
+L8:;
+    v2 = 9u; v3 = ADDRESS(c257); goto L34;
+L9:;
+    v2 = 12u; v3 = ADDRESS(c258); goto L34;
+L10:;
+    v2 = 16u; v3 = ADDRESS(c259); goto L34;
+L11:;
+    v2 = 9u; v3 = ADDRESS(c260); goto L34;
+L12:;
+    v2 = 18u; v3 = ADDRESS(c261); goto L34;
+L13:;
+    v2 = 11u; v3 = ADDRESS(c262); goto L34;
+L14:;
+    v2 = 37u; v3 = ADDRESS(c263); goto L34;
+L15:;
+    v2 = 34u; v3 = ADDRESS(c264); goto L34;
+L16:;
+    v2 = 20u; v3 = ADDRESS(c265); goto L34;
+L17:;
+    v2 = 34u; v3 = ADDRESS(c266); goto L34;
+L18:;
+    v2 = 37u; v3 = ADDRESS(c267); goto L34;
+L19:;
+    v2 = 47u; v3 = ADDRESS(c268); goto L34;
+L20:;
+    v2 = 20u; v3 = ADDRESS(c269); goto L34;
+L21:;
+    v2 = 19u; v3 = ADDRESS(c270); goto L34;
+L22:;
+    v2 = 16u; v3 = ADDRESS(c271); goto L34;
+L23:;
+    v2 = 6u; v3 = ADDRESS(c272); goto L34;
+L24:;
+    v2 = 6u; v3 = ADDRESS(c273); goto L34;
+L25:;
+    v2 = 21u; v3 = ADDRESS(c274); goto L34;
+L26:;
+    v2 = 12u; v3 = ADDRESS(c275); goto L34;
+L27:;
+    v2 = 13u; v3 = ADDRESS(c276); goto L34;
+L28:;
+    v2 = 18u; v3 = ADDRESS(c277); goto L34;
+L29:;
+    v2 = 10u; v3 = ADDRESS(c278); goto L34;
+L30:;
+    v2 = 9u; v3 = ADDRESS(c279); goto L34;
 L31:;
-    v2 = 22u; v3 = ADDRESS(c254); goto L34;
+    v2 = 22u; v3 = ADDRESS(c280); goto L34;
 L32:;
-    v2 = 13u; v3 = ADDRESS(c255); goto L34;
+    v2 = 13u; v3 = ADDRESS(c281); goto L34;
 L33:;
     v4 = (u64)a1;
-    v5 = ADDRESS(c299) + v4 * 8u;
+    v5 = ADDRESS(c314) + v4 * 8u;
     v6 = load64(v5);
     v7 = (u64)a1;
-    v8 = ADDRESS(c300) + v7 * 8u;
+    v8 = ADDRESS(c315) + v7 * 8u;
     v9 = load_address(v8);
     v2 = v6; v3 = v9; goto L34;
 L34:;
@@ -11518,7 +11708,7 @@ L1:;
     v18 = (u16)((u32)v15 - (u32)v17);
     v19 = (u16)((u32)v18 << (1u & 15u));
     v20 = (u64)v19;
-    v21 = ADDRESS(c268) + v20 * 1u;
+    v21 = ADDRESS(c294) + v20 * 1u;
     v22 = load8(v21);
     v23 = v21 + 1u * 1u;
     v24 = load8(v23);
@@ -11530,7 +11720,7 @@ L1:;
     v28 = (u64)((u64)v3 + (u64)UINT64_C(18446744073709551612));
     v29 = (u16)((u32)v16 << (1u & 15u));
     v30 = (u64)v29;
-    v31 = ADDRESS(c268) + v30 * 1u;
+    v31 = ADDRESS(c294) + v30 * 1u;
     v32 = load8(v31);
     v33 = v31 + 1u * 1u;
     v34 = load8(v33);
@@ -11559,7 +11749,7 @@ L4:;
 L5:;
     v44 = (u64)((u64)v4 + (u64)UINT64_C(18446744073709551614));
     v45 = (u64)((u64)v5 << (1u & 63u));
-    v46 = ADDRESS(c268) + v45 * 1u;
+    v46 = ADDRESS(c294) + v45 * 1u;
     v47 = load8(v46);
     v48 = v46 + 1u * 1u;
     v49 = load8(v48);
@@ -11575,7 +11765,7 @@ L6:;
     v55 = (u16)((u32)v52 - (u32)v54);
     v56 = (u16)((u32)v55 << (1u & 15u));
     v57 = (u64)v56;
-    v58 = ADDRESS(c268) + v57 * 1u;
+    v58 = ADDRESS(c294) + v57 * 1u;
     v59 = load8(v58);
     v60 = v58 + 1u * 1u;
     v61 = load8(v60);
@@ -11598,7 +11788,7 @@ L8:;
     v70 = (u64)((u64)v4 + (u64)UINT64_C(18446744073709551612));
     v71 = (u16)((u32)v53 << (1u & 15u));
     v72 = (u64)v71;
-    v73 = ADDRESS(c268) + v72 * 1u;
+    v73 = ADDRESS(c294) + v72 * 1u;
     v74 = load8(v73);
     v75 = v73 + 1u * 1u;
     v76 = load8(v75);
@@ -11640,143 +11830,7 @@ L13:;
     return;
 }
 
-static void f48(address a0, u8 a1, address a2) {
-    u64 v3, v4, v5, v6, v7, v11, v18, v20, v22, v26, v28, v29, v30, v35, v41, v43;
-    u64 v45, v49, v51, v52, v55, v63, v65, v73;
-    u8 v8, v9, v15, v16, v21, v23, v24, v31, v34, v36, v38, v39, v44, v46, v47, v53;
-    u8 v56, v57, v58, v59, v60, v61, v66, v67, v68, v69, v70, v71;
-    address v10, v12, v13, v14, v17, v19, v25, v27, v32, v33, v37, v40, v42, v48, v50, v54;
-    address v62, v64, v72, v74;
-    v8 = load8(a0);
-    v9 = v8 == 1u;
-    if (v9) { goto L1; }
-    else { goto L7; }
-L1:;
-    v10 = a0 + 16u * 1u;
-    v11 = load64(v10);
-    v12 = a0 + 8u * 1u;
-    v13 = load_address(v12);
-    v14 = a2 + 16u * 1u;
-    v15 = load8(v14);
-    v16 = v15 == 1u;
-    if (v16) { goto L2; }
-    else { goto L18; }
-L2:;
-    v17 = a2 + 24u * 1u;
-    v18 = load64(v17);
-    v19 = a2 + 8u * 1u;
-    v20 = load64(v19);
-    v21 = v20 < v18;
-    v22 = (u64)((u64)v20 - (u64)v18);
-    v23 = v22 < v11;
-    v24 = v21 ? 1u : v23;
-    if (v24) { v4 = 0u; v5 = 0u; goto L6; }
-    else { goto L3; }
-L3:;
-    v25 = load_address(a2);
-    v26 = (u64)((u64)v18 + (u64)v11);
-    v27 = v25 + v18 * 1u;
-    v28 = (u64)v27;
-    v29 = (u64)v13;
-    v30 = (u64)((u64)v28 - (u64)v29);
-    v31 = v30 < v11;
-    if (v31) { v3 = 0u; goto L5; }
-    else { goto L4; }
-L4:;
-    memory_move(v27, v13, v11);
-    v4 = v26; v5 = 1u; goto L6;
-L5:;
-    v32 = v27 + v3 * 1u;
-    v33 = v13 + v3 * 1u;
-    v34 = load8(v33);
-    store8(v32, v34);
-    v35 = (u64)((u64)v3 + (u64)1u);
-    v36 = v35 == v11;
-    if (v36) { v4 = v26; v5 = 1u; goto L6; }
-    else { v3 = v35; goto L5; }
-L6:;
-    store64(v14, v5);
-    store64(v17, v4);
-    goto L18;
-L7:;
-    v37 = a2 + 16u * 1u;
-    v38 = load8(v37);
-    v39 = v38 == 1u;
-    if (v39) { goto L8; }
-    else { goto L18; }
-L8:;
-    v40 = a2 + 24u * 1u;
-    v41 = load64(v40);
-    v42 = a2 + 8u * 1u;
-    v43 = load64(v42);
-    v44 = v43 < v41;
-    v45 = (u64)((u64)v43 - (u64)v41);
-    v46 = v45 < 2u;
-    v47 = v44 ? 1u : v46;
-    if (v47) { goto L17; }
-    else { goto L9; }
-L9:;
-    v48 = load_address(a2);
-    v49 = (u64)((u64)v41 + (u64)2u);
-    v50 = v48 + v41 * 1u;
-    v51 = (u64)v50;
-    v52 = (u64)((u64)v51 - (u64)ADDRESS(c267));
-    v53 = v52 < 2u;
-    if (v53) { goto L10; }
-    else { goto L11; }
-L10:;
-    store8(v50, 48u);
-    v54 = v50 + 1u * 1u;
-    store8(v54, 120u);
-    goto L12;
-L11:;
-    store16(v50, 30768u);
-    goto L12;
-L12:;
-    v55 = load64(v42);
-    v56 = v55 > v49;
-    if (v56) { goto L13; }
-    else { goto L16; }
-L13:;
-    v57 = a1 < 160u;
-    v58 = (u8)((u32)a1 >> (4u & 7u));
-    v59 = (u8)((u32)v58 | (u32)48u);
-    v60 = (u8)((u32)v58 + (u32)87u);
-    v61 = v57 ? v59 : v60;
-    v62 = load_address(a2);
-    v63 = (u64)((u64)v41 + (u64)3u);
-    v64 = v62 + v49 * 1u;
-    store8(v64, v61);
-    v65 = load64(v42);
-    v66 = v65 > v63;
-    if (v66) { goto L14; }
-    else { v6 = 0u; v7 = 0u; goto L15; }
-L14:;
-    v67 = (u8)((u32)a1 & (u32)15u);
-    v68 = v67 < 10u;
-    v69 = (u8)((u32)v67 | (u32)48u);
-    v70 = (u8)((u32)v67 + (u32)87u);
-    v71 = v68 ? v69 : v70;
-    v72 = load_address(a2);
-    v73 = (u64)((u64)v41 + (u64)4u);
-    v74 = v72 + v63 * 1u;
-    store8(v74, v71);
-    v6 = v73; v7 = 1u; goto L15;
-L15:;
-    store64(v37, v7);
-    store64(v40, v6);
-    goto L18;
-L16:;
-    memory_set(v37, 0u, 16u);
-    goto L18;
-L17:;
-    memory_set(v37, 0u, 16u);
-    goto L18;
-L18:;
-    return;
-}
-
-static u32 f49(address a0, u64 a1, address a2, u64 a3) {
+static u32 f48(address a0, u64 a1, address a2, u64 a3) {
     u32 v4, v6, v7, v9, v13, v14, v15, v17, v18, v19, v20, v22, v23, v24, v25, v27;
     u32 v28, v29, v30, v32, v33, v34, v35, v37, v38, v39, v40, v42, v43, v44, v45, v47;
     u32 v48, v49, v50, v52, v53, v54, v60, v61, v62, v64, v65, v66, v67, v69, v70, v71;
@@ -11896,7 +11950,7 @@ L4:;
     return v104;
 }
 
-static void f50(address a0, address a1, u64 a2) {
+static void f49(address a0, address a1, u64 a2) {
     u32 v3, v31, v32, v33, v34, v35, v36, v37, v38, v39, v40, v41, v77, v78, v79, v81;
     u32 v82, v83, v84, v86, v87, v88, v89, v91, v92, v93, v94, v96, v97, v98, v99, v101;
     u32 v102, v103, v104, v106, v107, v108, v109, v111, v112, v113, v114, v116, v117, v118, v121, v122;
@@ -11931,7 +11985,7 @@ L1:;
     if (v19) { goto L4; }
     else { goto L2; }
 L2:;
-    v20 = f4(a1, 4u, ADDRESS(c286), 4u);
+    v20 = f4(a1, 4u, ADDRESS(c301), 4u);
     if (v20) { goto L5; }
     else { goto L4; }
 L3:;
@@ -12001,7 +12055,7 @@ L8:;
     if (v64) { goto L13; }
     else { goto L9; }
 L9:;
-    v65 = f4(v50, 4u, ADDRESS(c285), 4u);
+    v65 = f4(v50, 4u, ADDRESS(c300), 4u);
     if (v65) { goto L10; }
     else { goto L13; }
 L10:;
@@ -12137,7 +12191,7 @@ L14:;
     goto L3;
 }
 
-static u8 f51(address a0, u64 a1, address a2) {
+static u8 f50(address a0, u64 a1, address a2) {
     address v3, v7, v8, v10, v14, v21, v24, v27, v30, v33, v36, v39, v42, v45, v48, v51;
     address v54, v57, v60, v63, v66, v69, v72, v75, v78, v81, v84, v87, v90, v93, v96, v99;
     address v102, v105, v108, v111, v114;
@@ -12376,7 +12430,7 @@ L38:;
     return v5;
 }
 
-static u8 f52(u64 a0, address a1, u64 a2, address a3, u64 a4, u64 a5) {
+static u8 f51(u64 a0, address a1, u64 a2, address a3, u64 a4, u64 a5) {
     u64 v6, v8, v12, v13, v16, v17, v18, v19, v20, v21, v22, v24, v25, v26, v27, v28;
     u64 v31, v32, v35, v36, v37, v40, v41, v42, v43, v44, v45, v46, v47, v48, v49, v50;
     u64 v51, v52, v54, v55, v56, v58, v59, v61, v69, v72, v84, v86, v88, v90, v91, v92;
@@ -12522,7 +12576,7 @@ L13:;
     v7 = 1u; goto L10;
 }
 
-static u32 f53(address a0, address a1) {
+static u32 f52(address a0, address a1) {
     u32 v2;
     u64 v3, v4, v11, v13, v17, v19, v23, v25, v29, v31, v33, v35, v37, v39, v42, v46;
     u64 v50, v56, v62, v83, v87, v93;
@@ -12736,7 +12790,7 @@ L28:;
     v2 = 35u; goto L2;
 }
 
-static void f54(address a0, address a1, address a2, u64 a3) {
+static void f53(address a0, address a1, address a2, u64 a3) {
     address v4, v5, v6, v7, v8, v9, v12, v13, v14, v16, v18, v23, v25, v27, v29, v31;
     address v33, v43, v44, v45, v46, v47, v48, v51, v53, v57, v61, v63, v66, v71, v75, v77;
     address v83, v84, v86, v98, v99, v100, v101, v102, v103, v104, v105, v106, v107, v108, v109, v110;
@@ -12879,7 +12933,7 @@ L7:;
     v89 = (u16)((u32)v88 << (8u & 15u));
     v90 = (u16)v87;
     v91 = (u16)((u32)v89 | (u32)v90);
-    v92 = f55(v53, v8, v91, v7);
+    v92 = f54(v53, v8, v91, v7);
     v93 = v92.m0;
     v94 = v93 == 1u;
     if (v94) { goto L9; }
@@ -12934,7 +12988,7 @@ L9:;
     store8(v116, 1u);
     v117 = v4 + 1137u * 1u;
     memory_set(v117, 0u, 159u);
-    f56(v5, v7, v95, v4);
+    f55(v5, v7, v95, v4);
     v118 = load8(v102);
     v119 = v4 + 1288u * 1u;
     v120 = load64(v119);
@@ -13003,7 +13057,7 @@ L13:;
     goto L10;
 }
 
-static struct s2 f55(address a0, address a1, u16 a2, address a3) {
+static struct s2 f54(address a0, address a1, u16 a2, address a3) {
     address v4, v10, v13, v14, v15, v17, v19, v22, v27, v30, v32, v34, v36, v43, v47, v50;
     address v53, v54, v55, v62, v63, v68, v69, v74, v75, v81, v82, v90;
     u64 v5, v6, v11, v18, v23, v24, v37, v56, v86;
@@ -13166,7 +13220,7 @@ L22:;
     return v93;
 }
 
-static void f56(address a0, address a1, u8 a2, address a3) {
+static void f55(address a0, address a1, u8 a2, address a3) {
     address v4, v25, v26, v27, v28, v29, v31, v32, v33, v34, v35, v36, v37, v38, v48, v49;
     address v50, v76, v77, v78, v80, v81, v84, v85, v86, v87, v91, v92, v95, v96, v97, v99;
     address v101, v102, v105, v106, v107, v108, v110, v111, v114, v115, v116, v117;
@@ -13431,7 +13485,7 @@ L48:;
     store8(v77, v17);
     v78 = v25 + 3u * 1u;
     store8(v78, v18);
-    v79 = f57(v25, v49, v51);
+    v79 = f56(v25, v49, v51);
     if (v79) { goto L51; }
     else { v19 = 3u; goto L49; }
 L49:;
@@ -13440,7 +13494,7 @@ L49:;
 L50:;
     goto L51;
 L51:;
-    f58(a0, v12, v13, a1);
+    f57(a0, v12, v13, a1);
     if (v8) { goto L53; }
     else { v23 = 0u; v24 = 0u; goto L62; }
 L52:;
@@ -13526,10 +13580,10 @@ L60:;
     store64(v102, v109);
     goto L63;
 L61:;
-    f59(a0, v12, a3);
+    f58(a0, v12, a3);
     goto L63;
 L62:;
-    f60(a0, v27, a1, v24, v23, a3);
+    f59(a0, v27, a1, v24, v23, a3);
     goto L63;
 L63:;
     return;
@@ -13551,7 +13605,7 @@ L64:;
     goto L63;
 }
 
-static u8 f57(address a0, address a1, u64 a2) {
+static u8 f56(address a0, address a1, u64 a2) {
     address v3, v6, v8, v10, v12, v15, v29;
     u64 v4, v17;
     u8 v5, v7, v9, v11, v13, v14, v16, v18, v19, v20, v21, v25, v27, v28, v30, v31;
@@ -13652,7 +13706,7 @@ L14:;
     UNREACHABLE;
 }
 
-static void f58(address a0, u8 a1, u8 a2, address a3) {
+static void f57(address a0, u8 a1, u8 a2, address a3) {
     u64 v4, v6, v7, v8, v9, v10, v17, v21, v23, v24, v25, v27, v29, v32, v33, v35;
     u64 v36, v37, v42, v45, v50, v51, v57, v58, v64, v65, v92, v95, v96, v100, v102, v103;
     u64 v106, v112, v115, v119, v121, v122, v129, v132, v134, v136, v137;
@@ -13971,7 +14025,7 @@ L44:;
     UNREACHABLE;
 }
 
-static void f59(address a0, u8 a1, address a2) {
+static void f58(address a0, u8 a1, address a2) {
     address v3, v4, v5, v6, v7, v9, v12, v13, v14, v15, v16, v19, v20, v22, v25, v26;
     address v27, v28, v31, v32;
     u8 v8, v11, v24;
@@ -14050,7 +14104,7 @@ L7:;
     return;
 }
 
-static void f60(address a0, address a1, address a2, u8 a3, u8 a4, address a5) {
+static void f59(address a0, address a1, address a2, u8 a3, u8 a4, address a5) {
     u16 v6, v7, v17, v21, v22, v39, v51, v64, v65, v70, v71, v72, v73, v82, v100, v117;
     u16 v127;
     u64 v8, v20, v31, v32, v35, v36, v44, v47, v48, v55, v58, v59, v61, v63, v75, v76;
@@ -14316,7 +14370,7 @@ L22:;
     return;
 }
 
-static u8 f61(address a0) {
+static u8 f60(address a0) {
     u8 v1, v2, v3;
     address v4;
     u16 v5;
@@ -14357,7 +14411,7 @@ L3:;
     return v1;
 }
 
-static u8 f62(address a0, address a1) {
+static u8 f61(address a0, address a1) {
     address v2, v5, v6, v7, v8, v10, v12, v17, v20, v22, v24, v30, v31, v33, v39, v41;
     address v46, v48, v50, v52, v59, v60, v61, v62, v63, v64;
     u64 v3, v9, v18, v21, v44, v45, v51, v53;
@@ -14443,14 +14497,14 @@ L3:;
     store_address(v63, v2);
     v64 = v6 + 16u * 1u;
     store64(v64, v3);
-    v65 = f55(v17, v5, v38, v6);
+    v65 = f54(v17, v5, v38, v6);
     v66 = v65.m0;
     v4 = v66; goto L4;
 L4:;
     return v4;
 }
 
-static void f63(address a0, address a1) {
+static void f62(address a0, address a1) {
     u64 v2, v3, v4, v9, v11, v12, v13, v14, v15, v16, v17, v19, v21, v23, v40, v41;
     u64 v42, v66, v78, v79, v80, v104, v130, v134, v144, v145, v146, v151;
     address v5, v8, v18, v22, v30, v31, v34, v38, v39, v45, v46, v48, v49, v51, v52, v54;
@@ -14488,7 +14542,7 @@ L3:;
     if (v20) { v3 = v17; goto L5; }
     else { goto L4; }
 L4:;
-    f64(a1, v17);
+    f63(a1, v17);
     v21 = load64(v18);
     v3 = v21; goto L5;
 L5:;
@@ -14689,7 +14743,7 @@ L17:;
     return;
 }
 
-static void f64(address a0, u64 a1) {
+static void f63(address a0, u64 a1) {
     u64 v2, v3, v5, v8, v9, v10, v13, v14, v19;
     address v4, v7, v12, v16, v17;
     u8 v6, v11, v15, v18, v20;
@@ -14736,7 +14790,7 @@ L7:;
     return;
 }
 
-static struct s2 f65(address a0, address a1) {
+static struct s2 f64(address a0, address a1) {
     address v2, v6, v7, v11, v13, v15, v16, v17, v26, v31, v32, v38, v40, v41, v42, v43;
     address v44, v46, v47, v48, v49, v53, v55;
     u64 v3, v8, v18, v23, v25, v27, v28, v29, v34, v36, v37, v45;
@@ -14845,7 +14899,7 @@ L11:;
     return v57;
 }
 
-static struct s2 f66(address a0, u8 a1, u16 a2, u8 a3, u16 a4, address a5, u64 a6) {
+static struct s2 f65(address a0, u8 a1, u16 a2, u8 a3, u16 a4, address a5, u64 a6) {
     u16 v7, v15, v17;
     u8 v8, v9, v12, v13, v16, v18, v19, v21, v22, v23, v24, v32, v33;
     address v10, v11, v14, v25, v26, v27, v28, v29, v30;
@@ -14933,7 +14987,7 @@ L9:;
     store_address(v29, a5);
     v30 = v10 + 16u * 1u;
     store64(v30, a6);
-    v31 = f65(a0, v10);
+    v31 = f64(a0, v10);
     v32 = v31.m0;
     v33 = v31.m1;
     v8 = v33; v9 = v32; goto L10;
@@ -14945,7 +14999,7 @@ L10:;
     return v35;
 }
 
-static void f67(address a0, address a1, address a2, u64 a3) {
+static void f66(address a0, address a1, address a2, u64 a3) {
     u64 v4, v5, v11, v25, v32, v43, v83, v84, v90, v91;
     u8 v6, v7, v8, v9, v10, v16, v17, v19, v20, v23, v36, v37, v60, v61, v63, v64;
     u8 v66, v67, v69, v70, v75, v76, v78, v79, v80, v87, v88, v95, v96, v101, v105, v106;
@@ -15030,7 +15084,7 @@ L2:;
     store_address(v58, v41);
     v59 = v12 + 48u * 1u;
     store64(v59, v43);
-    f63(v12, a2);
+    f62(v12, a2);
     v60 = load8(v18);
     v61 = (u8)((u32)v60 + (u32)255u);
     store8(v18, v61);
@@ -15158,7 +15212,7 @@ L17:;
     return;
 }
 
-static struct s2 f68(address a0, address a1, address a2) {
+static struct s2 f67(address a0, address a1, address a2) {
     u8 v3, v4, v5, v6, v7, v8, v10, v17, v20, v22, v23, v27, v35, v36, v39, v40;
     u8 v41, v43, v44, v48, v56, v57, v59, v60, v68, v69;
     struct s2 v9, v34, v37, v55, v58, v67, v70, v71;
@@ -15221,7 +15275,7 @@ L4:;
     store_address(v32, a2);
     v33 = v13 + 16u * 1u;
     store64(v33, 26u);
-    v34 = f65(a0, v13);
+    v34 = f64(a0, v13);
     v35 = v34.m0;
     v36 = v34.m1;
     v3 = v36; v4 = v35; goto L5;
@@ -15265,7 +15319,7 @@ L10:;
     store_address(v53, a2);
     v54 = v12 + 16u * 1u;
     store64(v54, 20u);
-    v55 = f65(a0, v12);
+    v55 = f64(a0, v12);
     v56 = v55.m0;
     v57 = v55.m1;
     v5 = v57; v6 = v56; goto L11;
@@ -15292,7 +15346,7 @@ L13:;
     store_address(v65, a2);
     v66 = v11 + 16u * 1u;
     store64(v66, 20u);
-    v67 = f65(a0, v11);
+    v67 = f64(a0, v11);
     v68 = v67.m0;
     v69 = v67.m1;
     v7 = v69; v8 = v68; goto L14;
@@ -15306,7 +15360,7 @@ L15:;
     return v71;
 }
 
-static void f69(address a0, address a1, address a2, u64 a3) {
+static void f68(address a0, address a1, address a2, u64 a3) {
     u8 v4, v12, v15, v16, v22, v24, v25, v26, v28, v29, v30, v32, v34, v35, v37, v39;
     u8 v46, v50, v54, v56, v63, v65, v66, v69, v70, v71, v74, v76, v78, v90, v92, v96;
     u8 v98, v103, v104, v105, v108, v110, v126, v130, v133, v134, v137, v138, v142, v147, v150, v152;
@@ -15653,7 +15707,7 @@ L34:;
     goto L18;
 }
 
-static void f70(address a0, address a1, address a2, u64 a3, u16 a4, u8 a5) {
+static void f69(address a0, address a1, address a2, u64 a3, u16 a4, u8 a5) {
     address v6, v7, v8, v9, v12, v13, v15, v17, v19, v21, v23, v24, v25, v26, v27, v28;
     address v29, v30, v35, v36, v37, v38, v40, v41, v42, v47, v49, v54, v55, v56, v57, v58;
     address v60, v61, v62, v63, v64, v65, v66, v68, v70, v72, v74, v76, v79, v81, v82, v83;
@@ -15704,7 +15758,7 @@ L1:;
     v29 = v7 + 25u * 1u;
     memory_set(v29, 0u, 71u);
     v30 = a1 + 48u * 1u;
-    v31 = f68(v7, v12, v30);
+    v31 = f67(v7, v12, v30);
     v32 = v31.m0;
     v33 = v31.m1;
     v34 = v32 == 0u;
@@ -15776,7 +15830,7 @@ L9:;
     store8(v65, 0u);
     v66 = a1 + 353u * 1u;
     store8(v66, 0u);
-    f67(v8, a1, a2, a3);
+    f66(v8, a1, a2, a3);
     v67 = load8(v8);
     v68 = v8 + 1u * 1u;
     v69 = load8(v68);
@@ -15818,7 +15872,7 @@ L9:;
     goto L2;
 }
 
-static u32 f71(address a0, u16 a1, address a2, u64 a3, address a4, u64 a5, address a6) {
+static u32 f70(address a0, u16 a1, address a2, u64 a3, address a4, u64 a5, address a6) {
     u16 v7, v33, v60, v61, v62, v63, v70, v71, v72, v84, v87, v88, v89, v95, v96, v97;
     u16 v98, v114, v115, v116, v117, v118, v139, v160, v161;
     u64 v8, v10, v25, v28, v32, v55, v65, v74, v80, v102, v103, v109, v111, v113, v132, v137;
@@ -15918,7 +15972,7 @@ L8:;
     if (v52) { goto L11; }
     else { goto L9; }
 L9:;
-    v53 = f75(v27, v16);
+    v53 = f74(v27, v16);
     if (v53) { goto L10; }
     else { goto L27; }
 L10:;
@@ -15949,7 +16003,7 @@ L11:;
     if (v75) { goto L29; }
     else { goto L12; }
 L12:;
-    v76 = f76(v27, v16);
+    v76 = f75(v27, v16);
     if (v76) { goto L13; }
     else { goto L30; }
 L13:;
@@ -16026,7 +16080,7 @@ L17:;
     store_address(v123, v112);
     v124 = v15 + 16u * 1u;
     store64(v124, v113);
-    v125 = f55(v73, v14, v98, v15);
+    v125 = f54(v73, v14, v98, v15);
     v126 = v125.m0;
     switch (v126) {
     case 0u: goto L36;
@@ -16076,10 +16130,10 @@ L24:;
 L25:;
     return v11;
 L26:;
-    v145 = f72(a0, a1, a2, a3, a4, a5, a6);
+    v145 = f71(a0, a1, a2, a3, a4, a5, a6);
     v11 = v145; goto L25;
 L27:;
-    f86(v27, 1u, a1, a2, v40, v18);
+    f85(v27, 1u, a1, a2, v40, v18);
     v146 = load64(v37);
     store64(a6, v146);
     v12 = 1u; goto L39;
@@ -16091,23 +16145,23 @@ L28:;
     v150 = (u32)((u32)v149 + (u32)16u);
     v12 = v150; goto L39;
 L29:;
-    f86(v27, 2u, a1, a2, v40, v18);
+    f85(v27, 2u, a1, a2, v40, v18);
     v151 = load64(v37);
     store64(a6, v151);
     v12 = 2u; goto L39;
 L30:;
-    f86(v27, 3u, a1, a2, v40, v18);
+    f85(v27, 3u, a1, a2, v40, v18);
     v152 = load64(v37);
     store64(a6, v152);
     v12 = 3u; goto L39;
 L31:;
-    f86(v27, 4u, a1, a2, v40, v18);
+    f85(v27, 4u, a1, a2, v40, v18);
     v153 = load64(v37);
     store64(a6, v153);
     v12 = 4u; goto L39;
 L32:;
     v154 = v125.m1;
-    f77(v27, a1, v40, v154, v18);
+    f76(v27, a1, v40, v154, v18);
     v155 = load64(v37);
     store64(a6, v155);
     v12 = 5u; goto L39;
@@ -16131,22 +16185,22 @@ L33:;
     v167 = v9 + 1440u * 1u;
     v168 = load64(v167);
     v169 = v9 + 1448u * 1u;
-    f85(v166, v168, v169, v13, a1, v18);
+    f84(v166, v168, v169, v13, a1, v18);
     v170 = load64(v37);
     store64(a6, v170);
     v12 = 6u; goto L39;
 L34:;
-    f86(v27, 7u, a1, a2, v40, v18);
+    f85(v27, 7u, a1, a2, v40, v18);
     v171 = load64(v37);
     store64(a6, v171);
     v12 = 7u; goto L39;
 L35:;
-    f86(v27, 8u, a1, a2, v40, v18);
+    f85(v27, 8u, a1, a2, v40, v18);
     v172 = load64(v37);
     store64(a6, v172);
     v12 = 8u; goto L39;
 L36:;
-    f86(v27, 9u, a1, a2, v40, v18);
+    f85(v27, 9u, a1, a2, v40, v18);
     v173 = load64(v37);
     store64(a6, v173);
     v12 = 9u; goto L39;
@@ -16164,7 +16218,7 @@ L39:;
     v11 = v12; goto L25;
 }
 
-static u32 f72(address a0, u16 a1, address a2, u64 a3, address a4, u64 a5, address a6) {
+static u32 f71(address a0, u16 a1, address a2, u64 a3, address a4, u64 a5, address a6) {
     u32 v7, v19;
     address v8, v9, v13, v16, v17;
     u8 v10, v11, v12, v15;
@@ -16196,7 +16250,7 @@ L2:;
     memory_set(v17, 0u, 7u);
     v7 = 32u; goto L4;
 L3:;
-    v19 = f73(v16, a1, a2, a3, 0u, a4, a5, a6);
+    v19 = f72(v16, a1, a2, a3, 0u, a4, a5, a6);
     store64(v8, 4u);
     store_address(v13, v16);
     store_address(a0, v8);
@@ -16207,7 +16261,7 @@ L4:;
     return v7;
 }
 
-static u32 f73(address a0, u16 a1, address a2, u64 a3, u8 a4, address a5, u64 a6, address a7) {
+static u32 f72(address a0, u16 a1, address a2, u64 a3, u8 a4, address a5, u64 a6, address a7) {
     u64 v8, v9, v10, v11, v19, v20, v21, v22, v24, v30, v31, v34, v35, v36, v40, v51;
     u64 v60, v90, v91, v93;
     u32 v12, v94, v95;
@@ -16284,7 +16338,7 @@ L8:;
     if (v46) { goto L9; }
     else { goto L25; }
 L9:;
-    f74(v13, v16, a1, a2, a3, a5, a6);
+    f73(v13, v16, a1, a2, a3, a5, a6);
     v47 = load8(v13);
     v48 = v13 + 1u * 1u;
     v49 = load8(v48);
@@ -16404,7 +16458,7 @@ L28:;
     return v12;
 }
 
-static void f74(address a0, address a1, u16 a2, address a3, u64 a4, address a5, u64 a6) {
+static void f73(address a0, address a1, u16 a2, address a3, u64 a4, address a5, u64 a6) {
     u16 v7, v47, v48, v49, v50, v57, v58, v59, v69, v70, v71, v72, v78, v82, v88, v89;
     u16 v90, v91, v107, v108, v109, v110, v134, v149, v160;
     u64 v8, v10, v11, v13, v42, v52, v61, v64, v77, v95, v96, v102, v104, v106, v127, v132;
@@ -16461,7 +16515,7 @@ L2:;
     if (v39) { goto L5; }
     else { goto L3; }
 L3:;
-    v40 = f75(a1, v20);
+    v40 = f74(a1, v20);
     if (v40) { goto L4; }
     else { v15 = 1u; goto L35; }
 L4:;
@@ -16583,7 +16637,7 @@ L13:;
     store_address(v115, v105);
     v116 = v19 + 16u * 1u;
     store64(v116, v106);
-    v117 = f55(v60, v18, v91, v19);
+    v117 = f54(v60, v18, v91, v19);
     v118 = v117.m0;
     switch (v118) {
     case 0u: v15 = 9u; goto L35;
@@ -16605,7 +16659,7 @@ L17:;
     v16 = v120; v17 = 0u; goto L36;
 L18:;
     v121 = v117.m1;
-    f77(a1, a2, v27, v121, v22);
+    f76(a1, a2, v27, v121, v22);
     v16 = 0u; v17 = 5u; goto L36;
 L19:;
     v122 = v28 + 44u * 1u;
@@ -16689,7 +16743,7 @@ L30:;
     memory_move(v162, v12, 80u);
     goto L32;
 L31:;
-    f82(v162, v12, v155);
+    f81(v162, v12, v155);
     goto L32;
 L32:;
     v163 = v159 + 8u * 1u;
@@ -16714,7 +16768,7 @@ L34:;
     if (v170) { v16 = 0u; v17 = 6u; goto L36; }
     else { v11 = v169; v12 = v156; v13 = v153; v14 = v152; goto L27; }
 L35:;
-    f86(a1, v15, a2, a3, v27, v22);
+    f85(a1, v15, a2, a3, v27, v22);
     v16 = 0u; v17 = v15; goto L36;
 L36:;
     v171 = load64(v24);
@@ -16726,7 +16780,7 @@ L36:;
     return;
 }
 
-static u8 f75(address a0, address a1) {
+static u8 f74(address a0, address a1) {
     address v2, v6, v7, v8, v9, v11, v13, v18, v21, v23, v25, v34, v38, v41, v42, v44;
     address v50, v55, v57, v59, v61, v67, v68, v69, v70, v71, v72;
     u64 v3, v10, v19, v22, v35, v53, v54, v60, v62;
@@ -16847,7 +16901,7 @@ L9:;
     store_address(v71, v2);
     v72 = v7 + 16u * 1u;
     store64(v72, v3);
-    v73 = f55(v18, v6, v49, v7);
+    v73 = f54(v18, v6, v49, v7);
     v74 = v73.m0;
     v75 = v74 == 2u;
     v4 = v75; goto L10;
@@ -16857,7 +16911,7 @@ L11:;
     return v5;
 }
 
-static u8 f76(address a0, address a1) {
+static u8 f75(address a0, address a1) {
     u8 v2, v7, v9, v16, v17, v18, v22;
     address v3, v4, v6, v8, v14, v19;
     u64 v5, v15, v20;
@@ -16898,7 +16952,7 @@ L4:;
     return v2;
 }
 
-static void f77(address a0, u16 a1, address a2, u8 a3, address a4) {
+static void f76(address a0, u16 a1, address a2, u8 a3, address a4) {
     address v5, v7, v11, v12, v13, v14, v15, v17, v19, v21, v27, v29, v35, v37, v39, v41;
     address v46, v48, v50, v52, v54, v56, v66, v67, v68, v69, v70, v71, v72, v73, v74, v75;
     address v76, v81, v82, v83, v84, v86, v88, v90, v91, v92, v100, v101, v107, v109, v111, v112;
@@ -17044,7 +17098,7 @@ L2:;
     v108 = swap16(v65);
     v109 = v13 + 52u * 1u;
     store16(v109, v108);
-    f78(a0, v12, a3, v13);
+    f77(a0, v12, a3, v13);
     v110 = load8(v74);
     v111 = a0 + 448u * 1u;
     v112 = load_address(v111);
@@ -17164,10 +17218,10 @@ L17:;
     memory_move(v150, v158, 80u);
     goto L23;
 L18:;
-    f82(v150, v158, v157);
+    f81(v150, v158, v157);
     goto L23;
 L19:;
-    f83(v150, v158, v157);
+    f82(v150, v158, v157);
     goto L23;
 L20:;
     v167 = v127 + 2088u * 1u;
@@ -17180,13 +17234,13 @@ L21:;
     store64(v167, 0u);
     goto L22;
 L22:;
-    f84(a4, v149, v150);
+    f83(a4, v149, v150);
     goto L23;
 L23:;
     return;
 }
 
-static void f78(address a0, address a1, u8 a2, address a3) {
+static void f77(address a0, address a1, u8 a2, address a3) {
     address v4, v27, v28, v29, v30, v31, v33, v34, v35, v36, v37, v38, v39, v40, v50, v51;
     address v52, v78, v79, v80, v82, v83, v85, v86, v90, v92, v93, v96, v97, v98, v103, v104;
     address v106, v107, v108, v109, v112, v113, v114, v119, v120, v124, v126, v127, v130, v132, v133, v135;
@@ -17455,7 +17509,7 @@ L48:;
     store8(v79, v17);
     v80 = v27 + 3u * 1u;
     store8(v80, v18);
-    v81 = f57(v27, v51, v53);
+    v81 = f56(v27, v51, v53);
     if (v81) { goto L51; }
     else { v19 = 3u; goto L49; }
 L49:;
@@ -17464,7 +17518,7 @@ L49:;
 L50:;
     goto L51;
 L51:;
-    f58(a0, v12, v13, a1);
+    f57(a0, v12, v13, a1);
     if (v8) { goto L53; }
     else { v25 = 0u; v26 = 0u; goto L68; }
 L52:;
@@ -17488,7 +17542,7 @@ L52:;
     v97 = v96 + 2u * 1u;
     store16(v97, 60u);
     v98 = v96 + 4u * 1u;
-    f79(a3, v84, v89, v91, v98);
+    f78(a3, v84, v89, v91, v98);
     v99 = load64(v93);
     v100 = (u64)((u64)v99 + (u64)1u);
     store64(v93, v100);
@@ -17625,10 +17679,10 @@ L66:;
     store64(v138, v160);
     goto L69;
 L67:;
-    f80(a0, v12, a3);
+    f79(a0, v12, a3);
     goto L69;
 L68:;
-    f81(a0, v29, a1, v26, v25, a3);
+    f80(a0, v29, a1, v26, v25, a3);
     goto L69;
 L69:;
     return;
@@ -17650,14 +17704,14 @@ L70:;
     v173 = v172 + 2u * 1u;
     store16(v173, 60u);
     v174 = v172 + 4u * 1u;
-    f79(a3, v163, 2u, v167, v174);
+    f78(a3, v163, 2u, v167, v174);
     v175 = load64(v169);
     v176 = (u64)((u64)v175 + (u64)1u);
     store64(v169, v176);
     goto L69;
 }
 
-static void f79(address a0, u16 a1, u16 a2, u16 a3, address a4) {
+static void f78(address a0, u16 a1, u16 a2, u16 a3, address a4) {
     u64 v5, v7, v8, v9, v14, v16, v17;
     address v6, v11, v12, v19, v20, v21, v23, v25, v26, v28;
     u8 v10, v13, v15, v18;
@@ -17714,7 +17768,7 @@ L6:;
     return;
 }
 
-static void f80(address a0, u8 a1, address a2) {
+static void f79(address a0, u8 a1, address a2) {
     u64 v3, v4, v5, v6, v11, v19, v20, v27, v28, v29, v34, v36, v37, v38, v43, v52;
     u64 v53, v55, v63, v64, v71, v72, v73, v78, v80, v81, v82, v87, v96, v97;
     address v7, v9, v10, v12, v13, v15, v16, v17, v18, v21, v24, v25, v26, v31, v32, v40;
@@ -17880,7 +17934,7 @@ L15:;
     return;
 }
 
-static void f81(address a0, address a1, address a2, u8 a3, u8 a4, address a5) {
+static void f80(address a0, address a1, address a2, u8 a3, u8 a4, address a5) {
     u16 v6, v7, v17, v21, v22, v40, v42, v43, v51, v56, v74, v75, v88, v89, v94, v95;
     u16 v96, v97, v102, v126, v127, v132, v150, v151, v166, v184, v186, v187, v192, v210, v211;
     u64 v8, v9, v10, v11, v13, v14, v20, v31, v34, v35, v36, v46, v47, v52, v53, v60;
@@ -17927,7 +17981,7 @@ L3:;
     v34 = (u64)v7;
     v35 = (u64)v22;
     v36 = (u64)a4;
-    v37 = ADDRESS(c320) + v36 * 2u;
+    v37 = ADDRESS(c334) + v36 * 2u;
     v8 = v34; goto L4;
 L4:;
     v38 = load8(v24);
@@ -17950,7 +18004,7 @@ L5:;
     store16(v49, 60u);
     v50 = v48 + 4u * 1u;
     v51 = (u16)(v8);
-    f79(a5, v51, v42, v43, v50);
+    f78(a5, v51, v42, v43, v50);
     v52 = load64(v45);
     v53 = (u64)((u64)v52 + (u64)1u);
     store64(v45, v53);
@@ -18274,7 +18328,7 @@ L37:;
     return;
 }
 
-static void f82(address a0, address a1, u64 a2) {
+static void f81(address a0, address a1, u64 a2) {
     u64 v3, v4, v5, v6, v11;
     u8 v7, v10, v12;
     address v8, v9;
@@ -18300,7 +18354,7 @@ L3:;
     return;
 }
 
-static void f83(address a0, address a1, u64 a2) {
+static void f82(address a0, address a1, u64 a2) {
     u64 v3, v4, v5, v7, v10, v12, v14, v15, v16, v21, v24, v25, v28, v29, v30, v35;
     u64 v37;
     address v6, v9, v11, v18, v19, v27, v32, v33;
@@ -18379,7 +18433,7 @@ L12:;
     return;
 }
 
-static void f84(address a0, address a1, address a2) {
+static void f83(address a0, address a1, address a2) {
     u64 v3, v4, v5, v6, v7, v8, v10, v15, v19, v22, v24, v25, v26, v29, v30, v31;
     u64 v36, v38, v41, v42, v43, v48, v50, v53, v54, v55, v60, v62, v65, v66, v67, v72;
     u64 v74, v75;
@@ -18531,7 +18585,7 @@ L21:;
     return;
 }
 
-static void f85(address a0, u64 a1, address a2, address a3, u16 a4, address a5) {
+static void f84(address a0, u64 a1, address a2, address a3, u16 a4, address a5) {
     u64 v6, v8, v15, v17, v19, v22, v40, v41;
     address v7, v9, v11, v12, v13, v14, v16, v20, v21, v23, v25, v26, v28, v34, v36, v38;
     address v39;
@@ -18577,7 +18631,7 @@ L5:;
     memory_move(v26, v7, 80u);
     goto L7;
 L6:;
-    f82(v26, v7, v19);
+    f81(v26, v7, v19);
     goto L7;
 L7:;
     v27 = load8(a3);
@@ -18613,7 +18667,7 @@ L10:;
     return;
 }
 
-static void f86(address a0, u8 a1, u16 a2, address a3, address a4, address a5) {
+static void f85(address a0, u8 a1, u16 a2, address a3, address a4, address a5) {
     address v6, v8, v9, v10, v12, v13, v18, v22, v24, v27, v30, v36, v40, v42, v45, v47;
     address v50, v53, v55, v57, v59, v61, v63, v73, v74, v75, v76, v77, v78, v79, v81, v83;
     address v85, v91, v93, v99, v101, v103, v104, v105, v110, v111, v112, v114, v116, v118, v119, v120;
@@ -18696,7 +18750,7 @@ L6:;
 L7:;
     UNREACHABLE;
 L8:;
-    f87(a0, a2, a3, a5);
+    f86(a0, a2, a3, a5);
     goto L9;
 L9:;
     v44 = a1 == 9u;
@@ -18818,13 +18872,13 @@ L12:;
     v129 = swap16(v72);
     v130 = v9 + 52u * 1u;
     store16(v130, v129);
-    f88(a0, v8, v9);
+    f87(a0, v8, v9);
     goto L13;
 L13:;
     return;
 }
 
-static void f87(address a0, u16 a1, address a2, address a3) {
+static void f86(address a0, u16 a1, address a2, address a3) {
     u64 v4, v5, v7, v15, v16, v17, v19, v20, v22, v26, v27, v35, v39, v40, v45, v50;
     u64 v51, v52;
     address v6, v11, v12, v13, v14, v23, v25, v28, v37, v38, v42, v43, v47;
@@ -18926,7 +18980,7 @@ L11:;
     return;
 }
 
-static void f88(address a0, address a1, address a2) {
+static void f87(address a0, address a1, address a2) {
     address v3, v15, v16, v17, v20, v22, v23, v24, v25, v26, v27, v28, v29, v30, v31, v33;
     address v34, v36, v38, v39, v42, v43, v44, v49, v50, v52, v53, v54, v56, v57, v60, v61;
     address v62, v65, v67, v68, v70, v71, v72, v73, v76, v77, v78, v79, v84, v85, v90, v92;
@@ -19050,7 +19104,7 @@ L22:;
     v43 = v42 + 2u * 1u;
     store16(v43, 60u);
     v44 = v42 + 4u * 1u;
-    f79(a2, v32, v35, v37, v44);
+    f78(a2, v32, v35, v37, v44);
     v45 = load64(v39);
     v46 = (u64)((u64)v45 + (u64)1u);
     store64(v39, v46);
@@ -19089,7 +19143,7 @@ L28:;
     v61 = v60 + 2u * 1u;
     store16(v61, 60u);
     v62 = v60 + 4u * 1u;
-    f79(a2, v51, 6u, v55, v62);
+    f78(a2, v51, 6u, v55, v62);
     v63 = load64(v57);
     v64 = (u64)((u64)v63 + (u64)1u);
     store64(v57, v64);
@@ -19177,14 +19231,14 @@ L38:;
     store64(v73, v95);
     goto L23;
 L39:;
-    f80(a0, v8, a2);
+    f79(a0, v8, a2);
     goto L23;
 L40:;
-    f81(a0, v16, a1, v14, v13, a2);
+    f80(a0, v16, a1, v14, v13, a2);
     goto L23;
 }
 
-static u32 f89(address a0, u16 a1, address a2, u64 a3, u8 a4, address a5, u64 a6, address a7, address a8) {
+static u32 f88(address a0, u16 a1, address a2, u64 a3, u8 a4, address a5, u64 a6, address a7, address a8) {
     u64 v9, v22, v25, v33;
     u32 v10, v11, v28, v31;
     address v12, v13, v14, v15, v16, v17, v21, v24, v26, v27, v30, v32, v34;
@@ -19229,14 +19283,14 @@ L3:;
     v27 = load_address(v24);
     f31(v14, v27);
     memory_cpy(v13, v14, 440u);
-    v28 = f73(v24, a1, a2, a3, a4, a5, a6, a7);
+    v28 = f72(v24, a1, a2, a3, a4, a5, a6, a7);
     memory_set(v12, 0u, 12u);
     v29 = v28 == 5u;
     if (v29) { goto L4; }
     else { v9 = 0u; v10 = 0u; goto L5; }
 L4:;
     v30 = load_address(v24);
-    f90(v12, v30, v13);
+    f89(v12, v30, v13);
     v31 = load32(v12);
     v32 = v12 + 4u * 1u;
     v33 = load64(v32);
@@ -19255,7 +19309,7 @@ L6:;
     return v11;
 }
 
-static void f90(address a0, address a1, address a2) {
+static void f89(address a0, address a1, address a2) {
     u64 v3, v5, v7, v8, v12, v13, v15, v16, v18, v19, v20, v22, v23, v24, v25, v27;
     u64 v28, v29, v30, v31, v33, v34, v35, v36, v37, v38, v40, v41, v42, v43, v44, v45;
     u64 v46, v48, v49, v50, v51, v52, v53, v54, v55, v56, v57, v58, v59, v60, v61, v62;
@@ -20254,7 +20308,7 @@ L48:;
     return;
 }
 
-static u32 f91(address a0, address a1, address a2, u64 a3, address a4) {
+static u32 f90(address a0, address a1, address a2, u64 a3, address a4) {
     u32 v5, v8, v70, v71;
     u8 v6, v7, v12, v13, v14, v17, v22, v24, v26, v28, v30, v32, v34, v36, v38, v40;
     u8 v42, v44, v47, v48, v49, v50, v51, v52, v53, v54, v55, v56, v57, v58, v59, v60;
@@ -20293,7 +20347,7 @@ L2:;
 L3:;
     memory_set(v9, 0u, 24u);
     v21 = load_address(v18);
-    f92(v9, v21, a1, a2, a3);
+    f91(v9, v21, a1, a2, a3);
     v22 = load8(v9);
     v23 = v9 + 1u * 1u;
     v24 = load8(v23);
@@ -20503,7 +20557,7 @@ L52:;
     v5 = v8; goto L4;
 }
 
-static void f92(address a0, address a1, address a2, address a3, u64 a4) {
+static void f91(address a0, address a1, address a2, address a3, u64 a4) {
     u64 v5, v6, v7, v9, v18, v21, v24, v26, v42, v43, v51, v65, v67, v68, v69, v74;
     u64 v75, v95, v99, v129, v133, v146, v147, v149, v150, v281, v283, v284, v286, v288, v295, v311;
     u64 v321, v323, v327, v347, v352, v361, v366, v367, v368, v369, v370, v371, v372, v373, v374, v375;
@@ -20956,7 +21010,7 @@ L20:;
     else { goto L21; }
 L21:;
     v325 = a1 + 192u * 1u;
-    f93(v33, v40, a1, v325);
+    f92(v33, v40, a1, v325);
     v326 = v33 + 20u * 1u;
     v327 = load64(v326);
     v328 = v33 + 34u * 1u;
@@ -21023,7 +21077,7 @@ L30:;
     if (v362) { goto L31; }
     else { v24 = v361; goto L28; }
 L31:;
-    f93(v34, v40, a1, v325);
+    f92(v34, v40, a1, v325);
     memory_cpy(v325, v34, 36u);
     v363 = v160 ? v80 : v285;
     v364 = v157 ? v84 : v287;
@@ -21145,7 +21199,7 @@ L37:;
     goto L1;
 }
 
-static void f93(address a0, address a1, address a2, address a3) {
+static void f92(address a0, address a1, address a2, address a3) {
     u64 v4, v6, v7, v8, v18, v20, v24, v26, v28, v30, v49, v50, v51, v52, v53, v54;
     u64 v55, v56, v57, v58, v59, v60, v64, v66, v67, v69, v71, v90, v91, v92, v93, v94;
     u64 v95, v96, v97, v98, v99, v100, v101, v103, v107, v109;
@@ -21313,7 +21367,7 @@ L6:;
     return;
 }
 
-static void f94(address a0, address a1, u8 a2) {
+static void f93(address a0, address a1, u8 a2) {
     address v3, v4, v5, v6, v10, v12, v13, v14, v15, v16, v17, v18, v19, v20, v21, v22;
     address v23, v24, v25, v26, v27, v28, v29, v30, v31, v32;
     u8 v7, v8, v9;
@@ -21372,7 +21426,7 @@ static void f94(address a0, address a1, u8 a2) {
     v31 = v3 + 1137u * 1u;
     memory_set(v31, 0u, 159u);
     store8(v6, a2);
-    f95(a0, v5, v3);
+    f94(a0, v5, v3);
     memory_cpy(v4, v3, 1296u);
     v32 = a1 + 10u * 1u;
     v33 = load16(v32);
@@ -21380,7 +21434,7 @@ static void f94(address a0, address a1, u8 a2) {
     return;
 }
 
-static void f95(address a0, address a1, address a2) {
+static void f94(address a0, address a1, address a2) {
     address v3, v10, v11, v12, v15, v17, v18, v19, v20, v21, v22, v23, v24, v28, v30, v31;
     address v34, v35, v36, v37, v39, v41, v42, v45, v46, v47, v48, v50, v52, v53, v56, v57;
     address v58, v59;
@@ -21569,15 +21623,15 @@ L28:;
     store64(v53, v60);
     goto L23;
 L29:;
-    f96(a0, v8, a2);
+    f95(a0, v8, a2);
     goto L23;
 L30:;
     v61 = (u8)v27;
-    f97(a0, v11, a1, v61, a2);
+    f96(a0, v11, a1, v61, a2);
     goto L23;
 }
 
-static void f96(address a0, u8 a1, address a2) {
+static void f95(address a0, u8 a1, address a2) {
     address v3, v5, v7, v8, v11, v12, v13, v14, v16, v18, v19, v22, v23, v24, v25;
     u8 v4, v6, v17;
     u64 v9, v10, v15, v20, v21, v26;
@@ -21628,7 +21682,7 @@ L3:;
     return;
 }
 
-static void f97(address a0, address a1, address a2, u8 a3, address a4) {
+static void f96(address a0, address a1, address a2, u8 a3, address a4) {
     u16 v5, v6, v9, v13, v14, v26;
     u64 v7, v12, v19, v20, v22, v23, v31, v32;
     address v8, v11, v16, v17, v18, v24, v25, v27, v28, v29, v30;
@@ -21682,7 +21736,7 @@ L5:;
     return;
 }
 
-static void f98(address a0, address a1, address a2, u64 a3) {
+static void f97(address a0, address a1, address a2, u64 a3) {
     u8 v4, v25, v28, v32, v33;
     address v5, v6, v7, v8, v9, v10, v11, v12, v13, v14, v15, v16, v17, v18, v19, v20;
     address v21, v22, v23, v24, v26, v29, v30, v31, v34, v35, v36, v37, v38, v39, v40, v41;
@@ -21825,7 +21879,7 @@ L3:;
     return;
 }
 
-static void f99(address a0, address a1, u8 a2, u16 a3, u16 a4, address a5, u64 a6) {
+static void f98(address a0, address a1, u8 a2, u16 a3, u16 a4, address a5, u64 a6) {
     u8 v7, v8, v15, v16, v20, v24, v25, v30, v31, v32, v40, v41, v62, v63, v66, v67;
     u8 v68, v69;
     address v9, v10, v11, v12, v13, v14, v17, v21, v22, v23, v26, v27, v28, v33, v34, v35;
@@ -21959,7 +22013,7 @@ L8:;
     store8(v60, 1u);
     v61 = v9 + 1137u * 1u;
     memory_set(v61, 0u, 159u);
-    f56(a1, v10, 7u, v9);
+    f55(a1, v10, 7u, v9);
     v62 = load8(v46);
     v63 = load8(v47);
     v64 = v9 + 1288u * 1u;
@@ -21971,7 +22025,7 @@ L8:;
     if (v68) { v7 = 3u; v8 = v63; goto L10; }
     else { goto L9; }
 L9:;
-    f90(v14, a1, v11);
+    f89(v14, a1, v11);
     v70 = v13 + 1u * 1u;
     memory_cpy(v70, v14, 12u);
     v7 = 0u; v8 = 0u; goto L10;
@@ -21987,7 +22041,7 @@ L10:;
     goto L2;
 }
 
-static u8 f100(address a0) {
+static u8 f99(address a0) {
     u64 v1, v6, v11, v13, v15, v16, v18, v20, v24, v25, v27, v29, v32, v34, v38, v40;
     u64 v41, v43, v45, v49, v50, v52, v54, v57, v59;
     struct pair v2, v3, v26, v30, v31, v51, v55, v56;
@@ -22000,7 +22054,7 @@ static u8 f100(address a0) {
     else { v1 = v6; goto L3; }
 L1:;
     v8 = a0 + 48u * 1u;
-    v9 = f101(v8);
+    v9 = f100(v8);
     v10 = (u8)((v9) & UINT64_C(1));
     if (v10) { v4 = 1u; goto L17; }
     else { goto L2; }
@@ -22104,7 +22158,7 @@ L17:;
     return v4;
 }
 
-static u8 f101(address a0) {
+static u8 f100(address a0) {
     u64 v1, v2, v3, v5, v7, v8, v9, v10, v12, v13, v14, v15, v19, v22, v23, v24;
     u64 v25, v32, v34, v35, v36, v39, v40, v47, v118, v119, v121, v124, v127, v128, v131, v133;
     u64 v134, v135, v136, v138, v139, v141, v142, v144, v150, v151, v153, v155, v158, v160, v162, v163;
@@ -22429,7 +22483,7 @@ L30:;
     if (v190) { goto L31; }
     else { v9 = v7; v10 = 0u; goto L33; }
 L31:;
-    v191 = f102(a0, v3);
+    v191 = f101(a0, v3);
     if (v191) { goto L32; }
     else { goto L36; }
 L32:;
@@ -22620,7 +22674,7 @@ L44:;
     return v16;
 }
 
-static u8 f102(address a0, u64 a1) {
+static u8 f101(address a0, u64 a1) {
     u8 v2, v7, v12, v16, v17, v23, v28;
     struct pair v3, v21, v25, v26;
     address v4, v8, v18, v30;
@@ -23088,7 +23142,7 @@ L6:;
     store8(a2, v3);
     v20 = load8(v13);
     v21 = (u64)v20;
-    v22 = ADDRESS(c301) + v21 * 4u;
+    v22 = ADDRESS(c316) + v21 * 4u;
     v23 = load32(v22);
     v4 = v23; goto L7;
 L7:;
@@ -23686,7 +23740,7 @@ L34:;
     portable_rattle_dealloc(v156);
     v32 = 35u; goto L36;
 L35:;
-    v215 = ADDRESS(c318) + v31 * 4u;
+    v215 = ADDRESS(c332) + v31 * 4u;
     v216 = load32(v215);
     v32 = v216; goto L36;
 L36:;
@@ -24405,7 +24459,7 @@ L8:;
     v8 = 35u; goto L10;
 L9:;
     v43 = (u64)v26;
-    v44 = ADDRESS(c302) + v43 * 4u;
+    v44 = ADDRESS(c317) + v43 * 4u;
     v45 = load32(v44);
     v8 = v45; goto L10;
 L10:;
@@ -25019,7 +25073,7 @@ L68:;
     UNREACHABLE;
 L69:;
     v297 = (u64)v254;
-    v298 = ADDRESS(c302) + v297 * 4u;
+    v298 = ADDRESS(c317) + v297 * 4u;
     v299 = load32(v298);
     v16 = v299; goto L73;
 L70:;
@@ -25072,10 +25126,10 @@ u64 portable_ptpm_error_name(u16 a0, address a1, u64 a2) {
     else { v4 = 0u; goto L5; }
 L1:;
     v13 = (u64)v8;
-    v14 = ADDRESS(c303) + v13 * 8u;
+    v14 = ADDRESS(c318) + v13 * 8u;
     v15 = load64(v14);
     v16 = (u64)v8;
-    v17 = ADDRESS(c304) + v16 * 8u;
+    v17 = ADDRESS(c319) + v16 * 8u;
     v18 = load_address(v17);
     v19 = a2 < v15;
     if (v19) { v4 = 0u; goto L5; }
@@ -25535,7 +25589,7 @@ L45:;
     UNREACHABLE;
 L46:;
     v235 = (u64)v53;
-    v236 = ADDRESS(c305) + v235 * 8u;
+    v236 = ADDRESS(c320) + v235 * 8u;
     v237 = load_address(v236);
     v54 = v237; goto L47;
 L47:;
@@ -25702,110 +25756,119 @@ L71:;
 
 u64 portable_ptpm_field_text(u16 a0, address a1, u64 a2, address a3, u64 a4) {
     u8 v5, v6, v12, v13, v16, v17, v20, v21, v26, v27, v29, v30, v35, v36, v39, v40;
-    u8 v41, v42, v43, v44, v48, v49, v50, v51, v75, v78, v96, v97, v101, v102, v103, v104;
-    u8 v108, v109, v110, v111, v122, v128, v133, v137, v141, v144, v145, v149, v150, v153, v154, v155;
-    u8 v156, v159, v160, v162, v175, v178, v184, v186, v189, v192, v194, v197, v198, v199, v200, v201;
-    u8 v203, v205, v210, v211, v212, v214, v215, v220, v225, v240, v241, v242, v245, v251, v252, v253;
-    u8 v256, v258, v264, v266, v267, v268, v269, v270, v275, v277, v265, v279, v280, v281, v282, v262;
-    u8 v284, v286, v287, v289, v295, v297, v299, v301, v303, v305, v309, v312, v315, v319, v322, v324;
-    u8 v325, v332, v335, v337, v339, v343, v345, v348, v350, v351, v357, v359, v360, v362, v363, v364;
-    u8 v365, v366, v367, v368, v371, v376, v377, v378, v379, v380, v381, v385, v387, v396, v401, v402;
-    u8 v403, v407, v408, v409, v412, v413, v418, v420, v428, v429, v430, v434, v437, v438, v444, v448;
-    u8 v450, v453, v457, v459, v462, v464, v467, v471, v475, v477, v480, v482, v485, v490, v495, v498;
-    u8 v502, v504, v507, v509, v512, v517, v522, v527, v529, v532, v535, v539, v541, v544, v546, v549;
-    u8 v554, v559, v564, v566, v569, v575, v580, v587, v591, v593, v596, v598, v601, v606, v611, v616;
-    u8 v618, v621, v627, v632, v635, v638, v640, v650, v654, v656, v660, v662, v665, v672, v674, v675;
-    u8 v678, v681, v687, v695, v698, v706, v712, v713, v714, v717, v729, v731, v739, v741, v744, v745;
-    u8 v746, v747, v748, v754, v756, v766, v768, v772, v773, v774, v781, v783, v786, v791, v794, v796;
-    u8 v797, v803, v805, v806, v813, v816, v818, v821, v826, v827, v830, v840, v841, v842, v843, v845;
-    u8 v846, v847, v848, v849, v850, v851, v854, v859, v860, v861, v862, v863, v864, v868, v870, v871;
-    u8 v872, v873, v874, v875, v876, v879, v884, v885, v886, v887, v888, v889, v893, v895, v897, v899;
-    u8 v900, v903, v907, v908, v909, v910, v918, v919, v920, v931, v933, v934, v935, v936, v937, v938;
-    u8 v941, v945, v948, v950, v951, v957, v960, v961, v962, v963, v964, v965, v970, v971, v972, v973;
-    u8 v974, v975, v979, v981, v982, v983, v986, v991, v992, v993, v994, v995, v996, v997, v1000, v1005;
-    u8 v1006, v1007, v1008, v1009, v1010, v1014, v1016, v1017, v1018, v1026, v1027, v1028, v1029, v1030, v1031, v1032;
-    u8 v1035, v1040, v1041, v1042, v1043, v1044, v1045, v1049, v1051, v1054, v1055, v1058, v1062, v1063, v1064, v1067;
-    u8 v1071, v1072, v1074, v1076;
+    u8 v41, v42, v43, v44, v48, v49, v50, v51, v81, v84, v85, v86, v88, v109, v110, v114;
+    u8 v115, v116, v117, v121, v122, v123, v124, v141, v147, v150, v154, v155, v158, v159, v163, v164;
+    u8 v167, v168, v169, v170, v173, v174, v176, v186, v189, v195, v197, v200, v203, v205, v208, v209;
+    u8 v210, v211, v212, v214, v216, v221, v222, v223, v225, v226, v231, v236, v251, v252, v253, v256;
+    u8 v262, v263, v264, v267, v269, v275, v277, v278, v279, v280, v281, v286, v288, v276, v290, v291;
+    u8 v292, v293, v273, v295, v297, v298, v300, v306, v308, v310, v312, v314, v316, v320, v323, v326;
+    u8 v330, v333, v335, v336, v343, v346, v348, v350, v354, v356, v359, v361, v362, v368, v370, v371;
+    u8 v373, v374, v375, v376, v377, v378, v379, v382, v387, v388, v389, v390, v391, v392, v396, v398;
+    u8 v407, v411, v415, v416, v417, v418, v419, v420, v421, v422, v423, v424, v427, v433, v434, v436;
+    u8 v441, v443, v449, v452, v454, v455, v457, v460, v466, v472, v477, v481, v487, v491, v493, v496;
+    u8 v500, v502, v505, v507, v510, v514, v518, v520, v523, v525, v528, v533, v538, v541, v545, v547;
+    u8 v550, v552, v555, v560, v565, v570, v572, v575, v578, v582, v584, v587, v589, v592, v597, v602;
+    u8 v607, v609, v612, v618, v623, v630, v634, v636, v639, v641, v644, v649, v654, v659, v661, v664;
+    u8 v670, v675, v678, v681, v683, v694, v697, v699, v705, v707, v710, v718, v720, v721, v724, v727;
+    u8 v733, v743, v746, v750, v759, v775, v781, v793, v795, v803, v805, v808, v809, v810, v811, v812;
+    u8 v818, v820, v830, v832, v836, v837, v838, v845, v847, v850, v855, v858, v860, v861, v865, v868;
+    u8 v871, v873, v874, v881, v884, v886, v888, v889, v890, v893, v898, v899, v902, v912, v913, v914;
+    u8 v915, v917, v918, v919, v920, v921, v922, v923, v926, v931, v932, v933, v934, v935, v936, v940;
+    u8 v942, v944, v945, v946, v947, v948, v949, v952, v957, v958, v959, v960, v961, v962, v966, v968;
+    u8 v970, v972, v973, v976, v981, v982, v983, v990, v991, v992, v993, v994, v995, v1008, v1011, v1013;
+    u8 v1014, v1021, v1024, v1026, v1027, v1030, v1032, v1033, v1039, v1042, v1043, v1044, v1045, v1046, v1047, v1052;
+    u8 v1053, v1054, v1055, v1056, v1057, v1061, v1064, v1066, v1067, v1073, v1080, v1081, v1084, v1086, v1087, v1093;
+    u8 v1106, v1107, v1108, v1109, v1110, v1111, v1116, v1117, v1118, v1119, v1120, v1121, v1126, v1128, v1129, v1135;
+    u8 v1149, v1150, v1151, v1152, v1153, v1154, v1155, v1160, v1161, v1162, v1163, v1164, v1165, v1169, v1171, v1172;
+    u8 v1173, v1174, v1175, v1176, v1181, v1182, v1183, v1184, v1185, v1186, v1191, v1193, v1194, v1195, v1196, v1197;
+    u8 v1198, v1201, v1205, v1208, v1210, v1211, v1217, v1220, v1221, v1222, v1223, v1224, v1225, v1230, v1231, v1232;
+    u8 v1233, v1234, v1235, v1239, v1241, v1243, v1244, v1247, v1252, v1253, v1254, v1255, v1256, v1257, v1258, v1261;
+    u8 v1266, v1267, v1268, v1269, v1270, v1271, v1275, v1277, v1278, v1281, v1282, v1283, v1284, v1285, v1286, v1287;
+    u8 v1290, v1295, v1296, v1297, v1298, v1299, v1300, v1304, v1306, v1309, v1310, v1313, v1317, v1318, v1319, v1322;
+    u8 v1326, v1327, v1329, v1331;
     u64 v7, v8, v9, v11, v14, v15, v18, v19, v22, v23, v24, v25, v28, v31, v32, v33;
-    u64 v34, v37, v38, v45, v46, v47, v52, v53, v55, v56, v58, v59, v61, v62, v63, v65;
-    u64 v67, v69, v70, v71, v73, v76, v77, v79, v80, v81, v82, v83, v84, v85, v86, v87;
-    u64 v88, v89, v90, v91, v92, v93, v94, v98, v99, v100, v105, v106, v107, v112, v113, v114;
-    u64 v116, v117, v119, v121, v123, v124, v125, v126, v127, v130, v131, v132, v134, v135, v136, v138;
-    u64 v140, v142, v146, v147, v148, v151, v152, v157, v158, v161, v163, v176, v179, v185, v188, v191;
-    u64 v193, v195, v196, v202, v206, v207, v208, v209, v213, v217, v221, v222, v223, v224, v226, v243;
-    u64 v244, v255, v257, v260, v263, v272, v274, v276, v283, v285, v288, v291, v293, v306, v308, v310;
-    u64 v311, v313, v314, v318, v320, v321, v323, v327, v329, v330, v331, v336, v338, v341, v344, v346;
-    u64 v347, v349, v353, v355, v356, v369, v370, v373, v375, v383, v386, v388, v389, v391, v392, v393;
-    u64 v394, v395, v397, v398, v399, v400, v404, v405, v406, v410, v411, v414, v415, v416, v421, v422;
-    u64 v423, v424, v425, v426, v431, v432, v433, v435, v436, v441, v447, v449, v452, v456, v458, v461;
-    u64 v465, v466, v468, v469, v474, v476, v479, v483, v484, v486, v487, v489, v492, v494, v497, v501;
-    u64 v503, v506, v510, v511, v513, v514, v516, v519, v521, v524, v526, v530, v531, v533, v534, v538;
-    u64 v540, v543, v547, v548, v550, v551, v553, v556, v558, v561, v563, v567, v568, v570, v571, v574;
-    u64 v577, v579, v582, v584, v590, v592, v595, v599, v600, v602, v603, v605, v608, v610, v613, v615;
-    u64 v619, v620, v622, v623, v626, v629, v631, v637, v639, v642, v644, v649, v653, v655, v658, v659;
-    u64 v663, v664, v666, v667, v669, v670, v671, v673, v679, v680, v682, v683, v686, v689, v690, v691;
-    u64 v692, v694, v697, v699, v700, v701, v702, v704, v705, v707, v708, v709, v710, v711, v715, v718;
-    u64 v719, v720, v721, v727, v735, v737, v749, v751, v752, v764, v775, v777, v779, v787, v790, v792;
-    u64 v793, v795, v799, v801, v802, v804, v808, v810, v811, v812, v817, v819, v820, v823, v825, v828;
-    u64 v829, v832, v838, v852, v853, v856, v858, v866, v869, v877, v878, v881, v883, v891, v894, v898;
-    u64 v901, v902, v905, v911, v914, v916, v917, v921, v923, v924, v927, v929, v939, v940, v943, v946;
-    u64 v947, v949, v953, v955, v956, v959, v967, v969, v977, v980, v984, v985, v988, v998, v999, v1002;
-    u64 v1004, v1012, v1015, v1019, v1021, v1022, v1033, v1034, v1037, v1039, v1047, v1050, v1053, v1056, v1057, v1060;
-    u64 v1065, v1066, v1069, v1073, v1075, v1077;
-    address v10, v54, v57, v60, v64, v66, v68, v72, v115, v118, v120, v129, v139, v143, v164, v165;
-    address v166, v167, v168, v169, v170, v171, v172, v173, v174, v177, v180, v181, v182, v183, v190, v204;
-    address v216, v218, v219, v227, v228, v229, v230, v231, v232, v233, v234, v235, v236, v237, v238, v239;
-    address v246, v247, v248, v249, v250, v254, v259, v261, v271, v273, v278, v290, v292, v294, v296, v298;
-    address v300, v302, v304, v307, v317, v326, v328, v333, v334, v340, v342, v352, v354, v358, v361, v372;
-    address v374, v382, v384, v390, v417, v419, v439, v440, v445, v446, v451, v454, v455, v460, v463, v470;
-    address v472, v473, v478, v481, v488, v491, v493, v496, v499, v500, v505, v508, v515, v518, v520, v523;
-    address v525, v528, v536, v537, v542, v545, v552, v555, v557, v560, v562, v565, v572, v573, v576, v578;
-    address v581, v583, v588, v589, v594, v597, v604, v607, v609, v612, v614, v617, v624, v625, v628, v630;
-    address v633, v634, v636, v641, v643, v651, v652, v657, v661, v668, v676, v677, v684, v685, v688, v693;
-    address v696, v703, v716, v728, v730, v732, v733, v734, v738, v740, v742, v743, v750, v753, v755, v757;
-    address v758, v765, v767, v769, v770, v771, v776, v780, v782, v784, v785, v788, v789, v798, v800, v807;
-    address v809, v814, v815, v822, v824, v831, v833, v844, v855, v857, v865, v867, v880, v882, v890, v892;
-    address v896, v904, v906, v912, v913, v915, v922, v925, v926, v928, v930, v932, v942, v944, v952, v954;
-    address v958, v966, v968, v976, v978, v987, v989, v990, v1001, v1003, v1011, v1013, v1020, v1023, v1024, v1025;
-    address v1036, v1038, v1046, v1048, v1052, v1059, v1061, v1068, v1070;
-    struct s5 v74, v187, v316, v442, v443, v585, v586, v645, v646, v647, v648;
-    u32 v95, v427, v834, v835, v836, v837, v839;
-    u16 v722, v723, v724, v725, v726, v736, v759, v760, v761, v762, v763, v778;
-    u64 block0[3];
-    u64 block1[3];
-    u64 block2[3];
-    u64 block3[5];
+    u64 v34, v37, v38, v45, v46, v47, v52, v54, v55, v57, v58, v60, v61, v63, v64, v65;
+    u64 v67, v69, v71, v72, v73, v75, v77, v80, v82, v83, v87, v89, v90, v91, v92, v93;
+    u64 v94, v95, v96, v97, v98, v99, v100, v101, v102, v103, v104, v105, v106, v107, v111, v112;
+    u64 v113, v118, v119, v120, v125, v126, v127, v129, v130, v131, v132, v133, v134, v135, v136, v137;
+    u64 v138, v139, v140, v142, v143, v144, v145, v146, v148, v149, v151, v152, v153, v156, v160, v161;
+    u64 v162, v165, v166, v171, v172, v175, v177, v187, v190, v196, v199, v202, v204, v206, v207, v213;
+    u64 v217, v218, v219, v220, v224, v228, v232, v233, v234, v235, v237, v254, v255, v266, v268, v271;
+    u64 v274, v283, v285, v287, v294, v296, v299, v302, v304, v317, v319, v321, v322, v324, v325, v329;
+    u64 v331, v332, v334, v338, v340, v341, v342, v347, v349, v352, v355, v357, v358, v360, v364, v366;
+    u64 v367, v380, v381, v384, v386, v394, v397, v399, v400, v402, v403, v404, v405, v406, v408, v409;
+    u64 v410, v412, v413, v414, v425, v426, v428, v429, v430, v431, v432, v435, v437, v438, v439, v444;
+    u64 v445, v446, v447, v448, v450, v451, v453, v458, v459, v461, v462, v463, v464, v465, v467, v468;
+    u64 v469, v470, v471, v473, v474, v475, v476, v478, v479, v480, v484, v490, v492, v495, v499, v501;
+    u64 v504, v508, v509, v511, v512, v517, v519, v522, v526, v527, v529, v530, v532, v535, v537, v540;
+    u64 v544, v546, v549, v553, v554, v556, v557, v559, v562, v564, v567, v569, v573, v574, v576, v577;
+    u64 v581, v583, v586, v590, v591, v593, v594, v596, v599, v601, v604, v606, v610, v611, v613, v614;
+    u64 v617, v620, v622, v625, v627, v633, v635, v638, v642, v643, v645, v646, v648, v651, v653, v656;
+    u64 v658, v662, v663, v665, v666, v669, v672, v674, v680, v682, v685, v687, v693, v696, v698, v701;
+    u64 v703, v704, v708, v709, v711, v712, v714, v715, v716, v717, v719, v725, v726, v728, v729, v732;
+    u64 v735, v736, v737, v738, v739, v740, v742, v745, v747, v748, v749, v751, v752, v753, v754, v755;
+    u64 v757, v758, v760, v761, v762, v763, v764, v765, v766, v767, v768, v769, v770, v771, v772, v773;
+    u64 v774, v776, v778, v780, v782, v783, v784, v785, v791, v799, v801, v813, v815, v816, v828, v839;
+    u64 v841, v843, v851, v854, v856, v857, v859, v863, v866, v869, v870, v872, v876, v878, v879, v880;
+    u64 v885, v887, v891, v892, v895, v897, v900, v901, v904, v910, v924, v925, v928, v930, v938, v941;
+    u64 v950, v951, v954, v956, v964, v967, v971, v974, v975, v978, v980, v984, v987, v989, v996, v999;
+    u64 v1001, v1002, v1005, v1007, v1009, v1010, v1012, v1016, v1018, v1019, v1020, v1025, v1028, v1029, v1031, v1035;
+    u64 v1037, v1038, v1041, v1049, v1051, v1059, v1062, v1063, v1065, v1069, v1071, v1072, v1079, v1082, v1083, v1085;
+    u64 v1089, v1091, v1092, v1105, v1113, v1115, v1123, v1125, v1127, v1131, v1133, v1134, v1147, v1148, v1157, v1159;
+    u64 v1167, v1170, v1178, v1180, v1188, v1199, v1200, v1203, v1206, v1207, v1209, v1213, v1215, v1216, v1219, v1227;
+    u64 v1229, v1237, v1240, v1245, v1246, v1249, v1259, v1260, v1263, v1265, v1273, v1276, v1288, v1289, v1292, v1294;
+    u64 v1302, v1305, v1308, v1311, v1312, v1315, v1320, v1321, v1324, v1328, v1330, v1332;
+    address v10, v53, v56, v59, v62, v66, v68, v70, v74, v76, v79, v128, v157, v178, v179, v180;
+    address v181, v182, v183, v184, v185, v188, v191, v192, v193, v194, v201, v215, v227, v229, v230, v238;
+    address v239, v240, v241, v242, v243, v244, v245, v246, v247, v248, v249, v250, v257, v258, v259, v260;
+    address v261, v265, v270, v272, v282, v284, v289, v301, v303, v305, v307, v309, v311, v313, v315, v318;
+    address v328, v337, v339, v344, v345, v351, v353, v363, v365, v369, v372, v383, v385, v393, v395, v401;
+    address v440, v442, v456, v482, v483, v488, v489, v494, v497, v498, v503, v506, v513, v515, v516, v521;
+    address v524, v531, v534, v536, v539, v542, v543, v548, v551, v558, v561, v563, v566, v568, v571, v579;
+    address v580, v585, v588, v595, v598, v600, v603, v605, v608, v615, v616, v619, v621, v624, v626, v631;
+    address v632, v637, v640, v647, v650, v652, v655, v657, v660, v667, v668, v671, v673, v676, v677, v679;
+    address v684, v686, v692, v695, v700, v702, v706, v713, v722, v723, v730, v731, v734, v741, v744, v756;
+    address v792, v794, v796, v797, v798, v802, v804, v806, v807, v814, v817, v819, v821, v822, v829, v831;
+    address v833, v834, v835, v840, v844, v846, v848, v849, v852, v853, v862, v864, v867, v875, v877, v882;
+    address v883, v894, v896, v903, v905, v916, v927, v929, v937, v939, v953, v955, v963, v965, v969, v977;
+    address v979, v985, v986, v988, v997, v998, v1000, v1003, v1004, v1006, v1015, v1017, v1022, v1023, v1034, v1036;
+    address v1040, v1048, v1050, v1058, v1060, v1068, v1070, v1074, v1075, v1076, v1077, v1078, v1088, v1090, v1094, v1095;
+    address v1096, v1097, v1098, v1099, v1100, v1101, v1102, v1103, v1104, v1112, v1114, v1122, v1124, v1130, v1132, v1136;
+    address v1137, v1138, v1139, v1140, v1141, v1142, v1143, v1144, v1145, v1146, v1156, v1158, v1166, v1168, v1177, v1179;
+    address v1187, v1189, v1190, v1192, v1202, v1204, v1212, v1214, v1218, v1226, v1228, v1236, v1238, v1242, v1248, v1250;
+    address v1251, v1262, v1264, v1272, v1274, v1279, v1280, v1291, v1293, v1301, v1303, v1307, v1314, v1316, v1323, v1325;
+    struct s5 v78, v198, v327, v485, v486, v628, v629, v688, v689, v690, v691;
+    u32 v108, v906, v907, v908, v909, v911, v943;
+    u16 v777, v779, v786, v787, v788, v789, v790, v800, v823, v824, v825, v826, v827, v842;
+    u64 block0[5];
+    u64 block1[1];
+    u64 block2[2];
+    u64 block3[1];
     u64 block4[1];
-    u64 block5[2];
+    u64 block5[1];
     u64 block6[1];
-    u64 block7[1];
-    u64 block8[1];
-    u64 block9[1];
-    u64 block10[4];
-    v164 = ADDRESS(block0);
-    v165 = ADDRESS(block1);
-    v166 = ADDRESS(block2);
-    v167 = ADDRESS(block3);
-    v168 = ADDRESS(block4);
-    v169 = ADDRESS(block5);
-    v170 = ADDRESS(block6);
-    v171 = ADDRESS(block7);
-    v172 = ADDRESS(block8);
-    v173 = ADDRESS(block9);
-    v174 = ADDRESS(block10);
-    v175 = a1 == 0u;
-    v176 = v175 ? 4096u : 0u;
-    v177 = a1 + v176 * 1u;
-    v178 = a3 == 0u;
-    v179 = v178 ? 4096u : 0u;
-    v180 = a3 + v179 * 1u;
-    store_address(v174, v180);
-    v181 = v174 + 8u * 1u;
-    store64(v181, a4);
-    v182 = v174 + 16u * 1u;
-    store64(v182, 1u);
-    v183 = v174 + 24u * 1u;
-    store64(v183, 0u);
+    u64 block7[4];
+    v178 = ADDRESS(block0);
+    v179 = ADDRESS(block1);
+    v180 = ADDRESS(block2);
+    v181 = ADDRESS(block3);
+    v182 = ADDRESS(block4);
+    v183 = ADDRESS(block5);
+    v184 = ADDRESS(block6);
+    v185 = ADDRESS(block7);
+    v186 = a1 == 0u;
+    v187 = v186 ? 4096u : 0u;
+    v188 = a1 + v187 * 1u;
+    v189 = a3 == 0u;
+    v190 = v189 ? 4096u : 0u;
+    v191 = a3 + v190 * 1u;
+    store_address(v185, v191);
+    v192 = v185 + 8u * 1u;
+    store64(v192, a4);
+    v193 = v185 + 16u * 1u;
+    store64(v193, 1u);
+    v194 = v185 + 24u * 1u;
+    store64(v194, 0u);
     switch (a0) {
     case 0u: v5 = 0u; v6 = 0u; goto L21;
     case 2u: goto L1;
@@ -25841,8 +25904,8 @@ u64 portable_ptpm_field_text(u16 a0, address a1, u64 a2, address a3, u64 a4) {
     default: goto L53;
     }
 L1:;
-    v184 = a2 == 0u;
-    if (v184) { goto L54; }
+    v195 = a2 == 0u;
+    if (v195) { goto L54; }
     else { goto L50; }
 L2:;
     v5 = 2u; v6 = 0u; goto L21;
@@ -25883,9 +25946,9 @@ L19:;
 L20:;
     v5 = 11u; v6 = 4u; goto L21;
 L21:;
-    v185 = f38(v5, v6);
-    v186 = a2 == v185;
-    if (v186) { goto L22; }
+    v196 = f38(v5, v6);
+    v197 = a2 == v196;
+    if (v197) { goto L22; }
     else { goto L53; }
 L22:;
     switch (v5) {
@@ -25945,1677 +26008,2149 @@ L39:;
 L40:;
     v7 = 6u; v8 = 8u; goto L47;
 L41:;
-    v187 = f46(v177, a2);
-    v188 = v187.m1;
-    v189 = v188 == 0u;
-    if (v189) { goto L53; }
+    v198 = f46(v188, a2);
+    v199 = v198.m1;
+    v200 = v199 == 0u;
+    if (v200) { goto L53; }
     else { goto L42; }
 L42:;
-    v190 = v187.m0;
-    v191 = (u64)((u64)v188 + (u64)UINT64_C(18446744073709551615));
-    v192 = load8(v190);
-    v193 = (u64)v192;
-    v194 = v191 >= v193;
-    v195 = v191 > v193 ? (u64)((u64)v191 - (u64)v193) : 0u;
-    v196 = (u64)((u64)v195 & (u64)UINT64_C(18446744073709551614));
-    v197 = v196 == 6u;
-    v198 = (u8)(((u32)v194 & (u32)v197) & UINT64_C(1));
-    v199 = a2 > 1u;
-    v200 = (u8)(((u32)v199 & (u32)v198) & UINT64_C(1));
-    if (v200) { v9 = 10u; v10 = ADDRESS(c256); goto L52; }
+    v201 = v198.m0;
+    v202 = (u64)((u64)v199 + (u64)UINT64_C(18446744073709551615));
+    v203 = load8(v201);
+    v204 = (u64)v203;
+    v205 = v202 >= v204;
+    v206 = v202 > v204 ? (u64)((u64)v202 - (u64)v204) : 0u;
+    v207 = (u64)((u64)v206 & (u64)UINT64_C(18446744073709551614));
+    v208 = v207 == 6u;
+    v209 = (u8)(((u32)v205 & (u32)v208) & UINT64_C(1));
+    v210 = a2 > 1u;
+    v211 = (u8)(((u32)v210 & (u32)v209) & UINT64_C(1));
+    if (v211) { v9 = 10u; v10 = ADDRESS(c282); goto L52; }
     else { goto L53; }
 L43:;
-    v201 = a2 > 11u;
-    if (v201) { goto L44; }
+    v212 = a2 > 11u;
+    if (v212) { goto L44; }
     else { goto L53; }
 L44:;
-    v202 = (u64)((u64)a2 + (u64)UINT64_C(18446744073709551604));
-    v203 = v202 == 0u;
-    if (v203) { goto L55; }
+    v213 = (u64)((u64)a2 + (u64)UINT64_C(18446744073709551604));
+    v214 = v213 == 0u;
+    if (v214) { goto L55; }
     else { goto L45; }
 L45:;
-    v204 = v177 + 12u * 1u;
-    v205 = load8(v204);
-    v206 = (u64)v205;
-    v207 = (u64)((u64)v206 + (u64)1u);
-    v208 = (u64)((u64)v207 & (u64)1u);
-    v209 = (u64)((u64)v208 + (u64)v207);
-    v210 = v202 == v209;
-    if (v210) { v9 = 4u; v10 = ADDRESS(c264); goto L52; }
+    v215 = v188 + 12u * 1u;
+    v216 = load8(v215);
+    v217 = (u64)v216;
+    v218 = (u64)((u64)v217 + (u64)1u);
+    v219 = (u64)((u64)v218 & (u64)1u);
+    v220 = (u64)((u64)v219 + (u64)v218);
+    v221 = v213 == v220;
+    if (v221) { v9 = 4u; v10 = ADDRESS(c290); goto L52; }
     else { goto L53; }
 L46:;
     v7 = 8u; v8 = 266u; goto L47;
 L47:;
-    v211 = a2 == v8;
-    if (v211) { goto L49; }
+    v222 = a2 == v8;
+    if (v222) { goto L49; }
     else { goto L53; }
 L48:;
-    v212 = a2 > 7u;
-    v213 = (u64)((u64)a2 & (u64)7u);
-    v214 = v213 == 0u;
-    v215 = (u8)(((u32)v212 & (u32)v214) & UINT64_C(1));
-    if (v215) { v9 = 1u; v10 = ADDRESS(c260); goto L52; }
+    v223 = a2 > 7u;
+    v224 = (u64)((u64)a2 & (u64)7u);
+    v225 = v224 == 0u;
+    v226 = (u8)(((u32)v223 & (u32)v225) & UINT64_C(1));
+    if (v226) { v9 = 1u; v10 = ADDRESS(c286); goto L52; }
     else { goto L53; }
 L49:;
-    v216 = ADDRESS(c306) + v7 * 8u;
-    v217 = load64(v216);
-    v218 = ADDRESS(c307) + v7 * 8u;
-    v219 = load_address(v218);
-    v9 = v217; v10 = v219; goto L52;
+    v227 = ADDRESS(c321) + v7 * 8u;
+    v228 = load64(v227);
+    v229 = ADDRESS(c322) + v7 * 8u;
+    v230 = load_address(v229);
+    v9 = v228; v10 = v230; goto L52;
 L50:;
-    v220 = load8(v177);
-    v221 = (u64)v220;
-    v222 = (u64)((u64)v221 + (u64)1u);
-    v223 = (u64)((u64)v222 & (u64)1u);
-    v224 = (u64)((u64)v223 + (u64)v222);
-    v225 = a2 == v224;
-    if (v225) { v9 = 1u; v10 = ADDRESS(c149); goto L52; }
+    v231 = load8(v188);
+    v232 = (u64)v231;
+    v233 = (u64)((u64)v232 + (u64)1u);
+    v234 = (u64)((u64)v233 & (u64)1u);
+    v235 = (u64)((u64)v234 + (u64)v233);
+    v236 = a2 == v235;
+    if (v236) { v9 = 1u; v10 = ADDRESS(c149); goto L52; }
     else { goto L53; }
 L51:;
-    v226 = (u64)v6;
-    v227 = ADDRESS(c305) + v226 * 8u;
-    v228 = load_address(v227);
-    v9 = 1u; v10 = v228; goto L52;
+    v237 = (u64)v6;
+    v238 = ADDRESS(c320) + v237 * 8u;
+    v239 = load_address(v238);
+    v9 = 1u; v10 = v239; goto L52;
 L52:;
-    v229 = v173 + 1u * 1u;
-    v230 = v173 + 2u * 1u;
-    v231 = v164 + 8u * 1u;
-    v232 = v164 + 16u * 1u;
-    v233 = v165 + 8u * 1u;
-    v234 = v165 + 16u * 1u;
-    v235 = v166 + 8u * 1u;
-    v236 = v166 + 16u * 1u;
-    v237 = v169 + 6u * 1u;
-    v238 = v168 + 1u * 1u;
-    v239 = v168 + 7u * 1u;
+    v240 = v184 + 1u * 1u;
+    v241 = v184 + 2u * 1u;
+    v242 = v180 + 1u * 1u;
+    v243 = v180 + 2u * 1u;
+    v244 = v180 + 4u * 1u;
+    v245 = v180 + 6u * 1u;
+    v246 = v179 + 1u * 1u;
+    v247 = v179 + 2u * 1u;
+    v248 = v179 + 3u * 1u;
+    v249 = v179 + 5u * 1u;
+    v250 = v179 + 7u * 1u;
     v26 = 1u; v27 = 1u; v28 = 0u; goto L77;
 L53:;
-    v240 = a4 < 6u;
-    if (v240) { goto L61; }
+    v251 = a4 < 6u;
+    if (v251) { goto L61; }
     else { goto L57; }
 L54:;
-    v241 = a4 < 6u;
-    if (v241) { goto L277; }
+    v252 = a4 < 6u;
+    if (v252) { goto L342; }
     else { goto L57; }
 L55:;
-    v242 = a4 < 6u;
-    if (v242) { v11 = 0u; v12 = 0u; v13 = 0u; goto L56; }
+    v253 = a4 < 6u;
+    if (v253) { v11 = 0u; v12 = 0u; v13 = 0u; goto L56; }
     else { goto L57; }
 L56:;
     v15 = v11; v16 = v12; v17 = v13; v18 = 0u; goto L69;
 L57:;
-    v243 = (u64)v180;
-    v244 = (u64)((u64)v243 - (u64)ADDRESS(c266));
-    v245 = v244 < 6u;
-    if (v245) { goto L58; }
+    v254 = (u64)v191;
+    v255 = (u64)((u64)v254 - (u64)ADDRESS(c292));
+    v256 = v255 < 6u;
+    if (v256) { goto L58; }
     else { goto L59; }
 L58:;
-    store8(v180, 118u);
-    v246 = v180 + 1u * 1u;
-    store8(v246, 97u);
-    v247 = v180 + 2u * 1u;
-    store8(v247, 108u);
-    v248 = v180 + 3u * 1u;
-    store8(v248, 117u);
-    v249 = v180 + 4u * 1u;
-    store8(v249, 101u);
-    v250 = v180 + 5u * 1u;
-    store8(v250, 32u);
+    store8(v191, 118u);
+    v257 = v191 + 1u * 1u;
+    store8(v257, 97u);
+    v258 = v191 + 2u * 1u;
+    store8(v258, 108u);
+    v259 = v191 + 3u * 1u;
+    store8(v259, 117u);
+    v260 = v191 + 4u * 1u;
+    store8(v260, 101u);
+    v261 = v191 + 5u * 1u;
+    store8(v261, 32u);
     goto L60;
 L59:;
-    memory_cpy(v180, ADDRESS(c266), 6u);
+    memory_cpy(v191, ADDRESS(c292), 6u);
     goto L60;
 L60:;
-    v251 = a2 == 0u;
-    if (v251) { goto L62; }
+    v262 = a2 == 0u;
+    if (v262) { goto L62; }
     else { v11 = 6u; v12 = 1u; v13 = 1u; goto L56; }
 L61:;
-    v252 = a2 == 0u;
-    if (v252) { goto L277; }
+    v263 = a2 == 0u;
+    if (v263) { goto L342; }
     else { v11 = 0u; v12 = 0u; v13 = 0u; goto L56; }
 L62:;
-    v253 = a4 == 6u;
-    if (v253) { goto L277; }
+    v264 = a4 == 6u;
+    if (v264) { goto L342; }
     else { goto L63; }
 L63:;
-    v254 = v180 + 6u * 1u;
-    store8(v254, 45u);
+    v265 = v191 + 6u * 1u;
+    store8(v265, 45u);
     v24 = a4; v25 = 7u; goto L75;
 L64:;
-    v255 = (u64)((u64)v14 + (u64)1u);
-    v256 = v255 == a2;
-    if (v256) { goto L73; }
-    else { v14 = v255; goto L64; }
+    v266 = (u64)((u64)v14 + (u64)1u);
+    v267 = v266 == a2;
+    if (v267) { goto L73; }
+    else { v14 = v266; goto L64; }
 L65:;
-    v257 = load64(v181);
-    v258 = v257 > v15;
-    if (v258) { goto L66; }
+    v268 = load64(v192);
+    v269 = v268 > v15;
+    if (v269) { goto L66; }
     else { goto L71; }
 L66:;
-    v259 = load_address(v174);
-    v260 = (u64)((u64)v15 + (u64)1u);
-    v261 = v259 + v15 * 1u;
-    store8(v261, v262);
-    v263 = load64(v181);
-    v264 = v263 > v260;
-    if (v264) { goto L67; }
+    v270 = load_address(v185);
+    v271 = (u64)((u64)v15 + (u64)1u);
+    v272 = v270 + v15 * 1u;
+    store8(v272, v273);
+    v274 = load64(v192);
+    v275 = v274 > v271;
+    if (v275) { goto L67; }
     else { goto L68; }
 L67:;
-    v266 = (u8)((u32)v265 & (u32)15u);
-    v267 = v266 < 10u;
-    v268 = (u8)((u32)v266 | (u32)48u);
-    v269 = (u8)((u32)v266 + (u32)87u);
-    v270 = v267 ? v268 : v269;
-    v271 = load_address(v174);
-    v272 = (u64)((u64)v15 + (u64)2u);
-    v273 = v271 + v260 * 1u;
-    store8(v273, v270);
-    v274 = (u64)((u64)v18 + (u64)1u);
-    v275 = v274 == a2;
-    if (v275) { v23 = v272; goto L74; }
-    else { v19 = v272; v20 = 1u; v21 = 1u; v22 = v274; goto L72; }
+    v277 = (u8)((u32)v276 & (u32)15u);
+    v278 = v277 < 10u;
+    v279 = (u8)((u32)v277 | (u32)48u);
+    v280 = (u8)((u32)v277 + (u32)87u);
+    v281 = v278 ? v279 : v280;
+    v282 = load_address(v185);
+    v283 = (u64)((u64)v15 + (u64)2u);
+    v284 = v282 + v271 * 1u;
+    store8(v284, v281);
+    v285 = (u64)((u64)v18 + (u64)1u);
+    v286 = v285 == a2;
+    if (v286) { v23 = v283; goto L74; }
+    else { v19 = v283; v20 = 1u; v21 = 1u; v22 = v285; goto L72; }
 L68:;
-    v276 = (u64)((u64)v18 + (u64)1u);
-    v277 = v276 == a2;
-    if (v277) { v161 = 0u; v162 = 0u; goto L278; }
-    else { v19 = 0u; v20 = 0u; v21 = 0u; v22 = v276; goto L72; }
+    v287 = (u64)((u64)v18 + (u64)1u);
+    v288 = v287 == a2;
+    if (v288) { v175 = 0u; v176 = 0u; goto L343; }
+    else { v19 = 0u; v20 = 0u; v21 = 0u; v22 = v287; goto L72; }
 L69:;
-    v278 = v177 + v18 * 1u;
-    v265 = load8(v278);
-    v279 = (u8)((u32)v265 >> (4u & 7u));
-    v280 = v265 < 160u;
-    v281 = (u8)((u32)v279 | (u32)48u);
-    v282 = (u8)((u32)v279 + (u32)87u);
-    v262 = v280 ? v281 : v282;
+    v289 = v188 + v18 * 1u;
+    v276 = load8(v289);
+    v290 = (u8)((u32)v276 >> (4u & 7u));
+    v291 = v276 < 160u;
+    v292 = (u8)((u32)v290 | (u32)48u);
+    v293 = (u8)((u32)v290 + (u32)87u);
+    v273 = v291 ? v292 : v293;
     if (v17) { goto L65; }
     else { goto L70; }
 L70:;
-    v283 = (u64)((u64)v18 + (u64)1u);
-    v284 = v283 == a2;
-    if (v284) { goto L73; }
-    else { v14 = v283; goto L64; }
+    v294 = (u64)((u64)v18 + (u64)1u);
+    v295 = v294 == a2;
+    if (v295) { goto L73; }
+    else { v14 = v294; goto L64; }
 L71:;
-    v285 = (u64)((u64)v18 + (u64)1u);
-    v286 = v285 == a2;
-    if (v286) { v161 = 0u; v162 = 0u; goto L278; }
-    else { v19 = 0u; v20 = 0u; v21 = 0u; v22 = v285; goto L72; }
+    v296 = (u64)((u64)v18 + (u64)1u);
+    v297 = v296 == a2;
+    if (v297) { v175 = 0u; v176 = 0u; goto L343; }
+    else { v19 = 0u; v20 = 0u; v21 = 0u; v22 = v296; goto L72; }
 L72:;
     v15 = v19; v16 = v20; v17 = v21; v18 = v22; goto L69;
 L73:;
-    v287 = v16 == 0u;
-    if (v287) { v161 = v15; v162 = v16; goto L278; }
+    v298 = v16 == 0u;
+    if (v298) { v175 = v15; v176 = v16; goto L343; }
     else { v23 = v15; goto L74; }
 L74:;
-    v288 = load64(v181);
-    v24 = v288; v25 = v23; goto L75;
+    v299 = load64(v192);
+    v24 = v299; v25 = v23; goto L75;
 L75:;
-    v289 = v24 > v25;
-    if (v289) { goto L76; }
-    else { goto L277; }
+    v300 = v24 > v25;
+    if (v300) { goto L76; }
+    else { goto L342; }
 L76:;
-    v290 = load_address(v174);
-    v291 = (u64)((u64)v25 + (u64)1u);
-    v292 = v290 + v25 * 1u;
-    store8(v292, 10u);
-    v163 = v291; goto L279;
+    v301 = load_address(v185);
+    v302 = (u64)((u64)v25 + (u64)1u);
+    v303 = v301 + v25 * 1u;
+    store8(v303, 10u);
+    v177 = v302; goto L344;
 L77:;
-    v293 = (u64)((u64)v28 * (u64)6u);
-    v294 = v10 + v293 * 1u;
-    v295 = load8(v294);
-    v296 = v294 + 1u * 1u;
-    v297 = load8(v296);
-    v298 = v294 + 2u * 1u;
-    v299 = load8(v298);
-    v300 = v294 + 3u * 1u;
-    v301 = load8(v300);
-    v302 = v294 + 4u * 1u;
-    v303 = load8(v302);
-    v304 = v294 + 5u * 1u;
-    v305 = load8(v304);
-    v306 = (u64)v301;
-    v307 = v177 + v306 * 1u;
-    v308 = (u64)((u64)a2 - (u64)v306);
-    v309 = v27 == 1u;
-    if (v309) { goto L78; }
+    v304 = (u64)((u64)v28 * (u64)6u);
+    v305 = v10 + v304 * 1u;
+    v306 = load8(v305);
+    v307 = v305 + 1u * 1u;
+    v308 = load8(v307);
+    v309 = v305 + 2u * 1u;
+    v310 = load8(v309);
+    v311 = v305 + 3u * 1u;
+    v312 = load8(v311);
+    v313 = v305 + 4u * 1u;
+    v314 = load8(v313);
+    v315 = v305 + 5u * 1u;
+    v316 = load8(v315);
+    v317 = (u64)v312;
+    v318 = v188 + v317 * 1u;
+    v319 = (u64)((u64)a2 - (u64)v317);
+    v320 = v27 == 1u;
+    if (v320) { goto L78; }
     else { v29 = v26; v30 = v27; goto L79; }
 L78:;
-    v310 = load64(v183);
-    v311 = load64(v181);
-    v312 = v311 >= v310;
-    v313 = v312 ? v310 : 0u;
-    v314 = (u64)v312;
-    store64(v182, v314);
-    store64(v183, v313);
-    v315 = (u8)v312;
-    v29 = v315; v30 = v315; goto L79;
+    v321 = load64(v194);
+    v322 = load64(v192);
+    v323 = v322 >= v321;
+    v324 = v323 ? v321 : 0u;
+    v325 = (u64)v323;
+    store64(v193, v325);
+    store64(v194, v324);
+    v326 = (u8)v323;
+    v29 = v326; v30 = v326; goto L79;
 L79:;
-    store8(v173, v295);
-    store8(v229, v297);
-    store8(v230, v299);
-    v316 = f43(v173);
-    v317 = v316.m0;
-    v318 = v316.m1;
-    v319 = v30 == 1u;
-    if (v319) { goto L80; }
+    store8(v184, v306);
+    store8(v240, v308);
+    store8(v241, v310);
+    v327 = f43(v184);
+    v328 = v327.m0;
+    v329 = v327.m1;
+    v330 = v30 == 1u;
+    if (v330) { goto L80; }
     else { v35 = v29; v36 = v30; goto L89; }
 L80:;
-    v320 = load64(v183);
-    v321 = load64(v181);
-    v322 = v321 < v320;
-    v323 = (u64)((u64)v321 - (u64)v320);
-    v324 = v323 < v318;
-    v325 = v322 ? 1u : v324;
-    if (v325) { goto L84; }
+    v331 = load64(v194);
+    v332 = load64(v192);
+    v333 = v332 < v331;
+    v334 = (u64)((u64)v332 - (u64)v331);
+    v335 = v334 < v329;
+    v336 = v333 ? 1u : v335;
+    if (v336) { goto L84; }
     else { goto L81; }
 L81:;
-    v326 = load_address(v174);
-    v327 = (u64)((u64)v320 + (u64)v318);
-    v328 = v326 + v320 * 1u;
-    v329 = (u64)v328;
-    v330 = (u64)v317;
-    v331 = (u64)((u64)v329 - (u64)v330);
-    v332 = v331 < v318;
-    if (v332) { v31 = 0u; goto L83; }
+    v337 = load_address(v185);
+    v338 = (u64)((u64)v331 + (u64)v329);
+    v339 = v337 + v331 * 1u;
+    v340 = (u64)v339;
+    v341 = (u64)v328;
+    v342 = (u64)((u64)v340 - (u64)v341);
+    v343 = v342 < v329;
+    if (v343) { v31 = 0u; goto L83; }
     else { goto L82; }
 L82:;
-    memory_move(v328, v317, v318);
-    v32 = v321; goto L86;
+    memory_move(v339, v328, v329);
+    v32 = v332; goto L86;
 L83:;
-    v333 = v328 + v31 * 1u;
-    v334 = v317 + v31 * 1u;
-    v335 = load8(v334);
-    store8(v333, v335);
-    v336 = (u64)((u64)v31 + (u64)1u);
-    v337 = v336 == v318;
-    if (v337) { goto L85; }
-    else { v31 = v336; goto L83; }
+    v344 = v339 + v31 * 1u;
+    v345 = v328 + v31 * 1u;
+    v346 = load8(v345);
+    store8(v344, v346);
+    v347 = (u64)((u64)v31 + (u64)1u);
+    v348 = v347 == v329;
+    if (v348) { goto L85; }
+    else { v31 = v347; goto L83; }
 L84:;
-    memory_set(v182, 0u, 16u);
+    memory_set(v193, 0u, 16u);
     v35 = 0u; v36 = 0u; goto L89;
 L85:;
-    v338 = load64(v181);
-    v32 = v338; goto L86;
+    v349 = load64(v192);
+    v32 = v349; goto L86;
 L86:;
-    v339 = v32 > v327;
-    if (v339) { goto L87; }
+    v350 = v32 > v338;
+    if (v350) { goto L87; }
     else { v33 = 0u; v34 = 0u; goto L88; }
 L87:;
-    v340 = load_address(v174);
-    v341 = (u64)((u64)v327 + (u64)1u);
-    v342 = v340 + v327 * 1u;
-    store8(v342, 32u);
-    v33 = v341; v34 = 1u; goto L88;
+    v351 = load_address(v185);
+    v352 = (u64)((u64)v338 + (u64)1u);
+    v353 = v351 + v338 * 1u;
+    store8(v353, 32u);
+    v33 = v352; v34 = 1u; goto L88;
 L88:;
-    store64(v182, v34);
-    store64(v183, v33);
-    v343 = (u8)(v34);
-    v35 = v343; v36 = v343; goto L89;
+    store64(v193, v34);
+    store64(v194, v33);
+    v354 = (u8)(v34);
+    v35 = v354; v36 = v354; goto L89;
 L89:;
-    switch (v303) {
+    switch (v314) {
     case 1u: goto L90;
-    case 0u: goto L161;
-    case 16u: goto L115;
+    case 0u: goto L167;
+    case 14u: goto L118;
     case 2u: goto L104;
-    case 3u: v78 = v305; goto L164;
-    case 4u: goto L105;
-    case 5u: goto L106;
-    case 6u: goto L107;
-    case 7u: goto L108;
-    case 8u: goto L109;
-    case 9u: goto L215;
-    case 10u: goto L218;
-    case 11u: goto L110;
-    case 12u: goto L112;
-    case 13u: goto L113;
-    case 14u: goto L253;
-    case 15u: goto L114;
-    default: goto L162;
+    case 3u: goto L105;
+    case 4u: goto L106;
+    case 5u: goto L107;
+    case 6u: goto L108;
+    case 7u: goto L109;
+    case 8u: goto L110;
+    case 9u: goto L111;
+    case 10u: goto L112;
+    case 11u: goto L115;
+    case 12u: goto L116;
+    case 13u: goto L117;
+    default: goto L168;
     }
 L90:;
-    v344 = (u64)v305;
-    v345 = v36 == 1u;
-    if (v345) { goto L91; }
+    v355 = (u64)v316;
+    v356 = v36 == 1u;
+    if (v356) { goto L91; }
     else { v39 = v35; v40 = v36; goto L96; }
 L91:;
-    v346 = load64(v183);
-    v347 = load64(v181);
-    v348 = v347 < v346;
-    v349 = (u64)((u64)v347 - (u64)v346);
-    v350 = v349 < 2u;
-    v351 = v348 ? 1u : v350;
-    if (v351) { v37 = 0u; v38 = 0u; goto L95; }
+    v357 = load64(v194);
+    v358 = load64(v192);
+    v359 = v358 < v357;
+    v360 = (u64)((u64)v358 - (u64)v357);
+    v361 = v360 < 2u;
+    v362 = v359 ? 1u : v361;
+    if (v362) { v37 = 0u; v38 = 0u; goto L95; }
     else { goto L92; }
 L92:;
-    v352 = load_address(v174);
-    v353 = (u64)((u64)v346 + (u64)2u);
-    v354 = v352 + v346 * 1u;
-    v355 = (u64)v354;
-    v356 = (u64)((u64)v355 - (u64)ADDRESS(c267));
-    v357 = v356 < 2u;
-    if (v357) { goto L93; }
+    v363 = load_address(v185);
+    v364 = (u64)((u64)v357 + (u64)2u);
+    v365 = v363 + v357 * 1u;
+    v366 = (u64)v365;
+    v367 = (u64)((u64)v366 - (u64)ADDRESS(c293));
+    v368 = v367 < 2u;
+    if (v368) { goto L93; }
     else { goto L94; }
 L93:;
-    store8(v354, 48u);
-    v358 = v354 + 1u * 1u;
-    store8(v358, 120u);
-    v37 = v353; v38 = 1u; goto L95;
+    store8(v365, 48u);
+    v369 = v365 + 1u * 1u;
+    store8(v369, 120u);
+    v37 = v364; v38 = 1u; goto L95;
 L94:;
-    store16(v354, 30768u);
-    v37 = v353; v38 = 1u; goto L95;
+    store16(v365, 30768u);
+    v37 = v364; v38 = 1u; goto L95;
 L95:;
-    store64(v182, v38);
-    store64(v183, v37);
-    v359 = (u8)(v38);
-    v39 = v359; v40 = v359; goto L96;
+    store64(v193, v38);
+    store64(v194, v37);
+    v370 = (u8)(v38);
+    v39 = v370; v40 = v370; goto L96;
 L96:;
-    v360 = v305 == 0u;
-    if (v360) { v154 = v39; v155 = v40; v156 = v40; goto L271; }
+    v371 = v316 == 0u;
+    if (v371) { v168 = v39; v169 = v40; v170 = v40; goto L336; }
     else { v41 = v39; v42 = v40; v43 = v40; v44 = v40; v45 = 0u; goto L97; }
 L97:;
-    v361 = v307 + v45 * 1u;
-    v362 = load8(v361);
-    v363 = (u8)((u32)v362 >> (4u & 7u));
-    v364 = v362 < 160u;
-    v365 = (u8)((u32)v363 | (u32)48u);
-    v366 = (u8)((u32)v363 + (u32)87u);
-    v367 = v364 ? v365 : v366;
-    v368 = v44 == 1u;
-    if (v368) { goto L98; }
+    v372 = v318 + v45 * 1u;
+    v373 = load8(v372);
+    v374 = (u8)((u32)v373 >> (4u & 7u));
+    v375 = v373 < 160u;
+    v376 = (u8)((u32)v374 | (u32)48u);
+    v377 = (u8)((u32)v374 + (u32)87u);
+    v378 = v375 ? v376 : v377;
+    v379 = v44 == 1u;
+    if (v379) { goto L98; }
     else { v48 = v41; v49 = v42; v50 = v43; v51 = v44; goto L103; }
 L98:;
-    v369 = load64(v183);
-    v370 = load64(v181);
-    v371 = v370 > v369;
-    if (v371) { goto L99; }
+    v380 = load64(v194);
+    v381 = load64(v192);
+    v382 = v381 > v380;
+    if (v382) { goto L99; }
     else { goto L102; }
 L99:;
-    v372 = load_address(v174);
-    v373 = (u64)((u64)v369 + (u64)1u);
-    v374 = v372 + v369 * 1u;
-    store8(v374, v367);
-    v375 = load64(v181);
-    v376 = v375 > v373;
-    if (v376) { goto L100; }
+    v383 = load_address(v185);
+    v384 = (u64)((u64)v380 + (u64)1u);
+    v385 = v383 + v380 * 1u;
+    store8(v385, v378);
+    v386 = load64(v192);
+    v387 = v386 > v384;
+    if (v387) { goto L100; }
     else { v46 = 0u; v47 = 0u; goto L101; }
 L100:;
-    v377 = (u8)((u32)v362 & (u32)15u);
-    v378 = v377 < 10u;
-    v379 = (u8)((u32)v377 | (u32)48u);
-    v380 = (u8)((u32)v377 + (u32)87u);
-    v381 = v378 ? v379 : v380;
-    v382 = load_address(v174);
-    v383 = (u64)((u64)v369 + (u64)2u);
-    v384 = v382 + v373 * 1u;
-    store8(v384, v381);
-    v46 = v383; v47 = 1u; goto L101;
+    v388 = (u8)((u32)v373 & (u32)15u);
+    v389 = v388 < 10u;
+    v390 = (u8)((u32)v388 | (u32)48u);
+    v391 = (u8)((u32)v388 + (u32)87u);
+    v392 = v389 ? v390 : v391;
+    v393 = load_address(v185);
+    v394 = (u64)((u64)v380 + (u64)2u);
+    v395 = v393 + v384 * 1u;
+    store8(v395, v392);
+    v46 = v394; v47 = 1u; goto L101;
 L101:;
-    store64(v182, v47);
-    store64(v183, v46);
-    v385 = (u8)(v47);
-    v48 = v385; v49 = v385; v50 = v385; v51 = v385; goto L103;
+    store64(v193, v47);
+    store64(v194, v46);
+    v396 = (u8)(v47);
+    v48 = v396; v49 = v396; v50 = v396; v51 = v396; goto L103;
 L102:;
-    memory_set(v182, 0u, 16u);
+    memory_set(v193, 0u, 16u);
     v48 = 0u; v49 = 0u; v50 = 0u; v51 = 0u; goto L103;
 L103:;
-    v386 = (u64)((u64)v45 + (u64)1u);
-    v387 = v386 == v344;
-    if (v387) { v154 = v48; v155 = v49; v156 = v50; goto L271; }
-    else { v41 = v48; v42 = v49; v43 = v50; v44 = v51; v45 = v386; goto L97; }
+    v397 = (u64)((u64)v45 + (u64)1u);
+    v398 = v397 == v355;
+    if (v398) { v168 = v48; v169 = v49; v170 = v50; goto L336; }
+    else { v41 = v48; v42 = v49; v43 = v50; v44 = v51; v45 = v397; goto L97; }
 L104:;
-    v388 = (u64)v305;
-    store64(v172, 0u);
-    v389 = (u64)((u64)8u - (u64)v388);
-    v390 = v172 + v389 * 1u;
-    memory_cpy(v390, v307, v388);
-    v391 = load64(v172);
-    v392 = swap64(v391);
-    v393 = (u64)((u64)v388 << (3u & 63u));
-    v394 = (u64)((u64)v393 + (u64)UINT64_C(18446744073709551615));
-    v395 = (u64)((u64)v392 >> (v394 & 63u));
-    v396 = v395 == 0u;
-    v397 = (u64)((u64)UINT64_C(18446744073709551614) << (v394 & 63u));
-    v398 = v396 ? 0u : v397;
-    v399 = (u64)((u64)v398 + (u64)v392);
-    memory_set(v167, 0u, 40u);
-    v400 = (i64)v399 < 0 ? (u64)(0u - (u64)v399) : v399;
-    v401 = v400 > 9999u;
-    if (v401) { v80 = v400; v81 = 40u; goto L166; }
-    else { v82 = 40u; v83 = v400; goto L167; }
+    v399 = (u64)v316;
+    store64(v183, 0u);
+    v400 = (u64)((u64)8u - (u64)v399);
+    v401 = v183 + v400 * 1u;
+    memory_cpy(v401, v318, v399);
+    v402 = load64(v183);
+    v403 = swap64(v402);
+    v404 = (u64)((u64)v399 << (3u & 63u));
+    v405 = (u64)((u64)v404 + (u64)UINT64_C(18446744073709551615));
+    v406 = (u64)((u64)v403 >> (v405 & 63u));
+    v407 = v406 == 0u;
+    v408 = (u64)((u64)UINT64_C(18446744073709551614) << (v405 & 63u));
+    v409 = v407 ? 0u : v408;
+    v410 = (u64)((u64)v409 + (u64)v403);
+    v411 = (u8)(v403);
+    v412 = (u64)((u64)v410 >> (8u & 63u));
+    v413 = (u64)((u64)v410 >> (16u & 63u));
+    v414 = (u64)((u64)v410 & (u64)UINT64_C(18446744069414584320));
+    v84 = 1u; v85 = 0u; v86 = 0u; v87 = 0u; v88 = v411; v89 = v412; v90 = v413; v91 = v414; v92 = 0u; goto L169;
 L105:;
-    v78 = 3u; goto L164;
+    v415 = load8(v318);
+    v416 = (u8)((u32)v415 & (u32)v316);
+    v417 = v416 != 0u;
+    v418 = (u8)v417;
+    v84 = 2u; v85 = v418; v86 = 0u; v87 = 0u; v88 = 0u; v89 = 0u; v90 = 0u; v91 = 0u; v92 = 0u; goto L169;
 L106:;
-    v402 = load8(v307);
-    v403 = (u8)((u32)v402 & (u32)15u);
-    v75 = v403; v76 = 0u; v77 = 0u; goto L163;
+    v419 = load8(v318);
+    v420 = (u8)((u32)v419 & (u32)3u);
+    v421 = v420 != 0u;
+    v422 = (u8)v421;
+    v84 = 2u; v85 = v422; v86 = 0u; v87 = 0u; v88 = 0u; v89 = 0u; v90 = 0u; v91 = 0u; v92 = 0u; goto L169;
 L107:;
-    v404 = load64(v307);
-    v405 = swap64(v404);
-    v406 = (i64)v405 < 0 ? (u64)(0u - (u64)v405) : v405;
-    v407 = (i64)v405 < (i64)0u;
-    v408 = v36 == 1u;
-    v409 = v407 ? v408 : 0u;
-    if (v409) { goto L186; }
-    else { goto L189; }
+    v423 = load8(v318);
+    v424 = (u8)((u32)v423 & (u32)15u);
+    v84 = 0u; v85 = 0u; v86 = 0u; v87 = 0u; v88 = v424; v89 = 0u; v90 = 0u; v91 = 0u; v92 = 0u; goto L169;
 L108:;
-    v410 = load64(v307);
-    v411 = (u64)((u64)v410 >> (56u & 63u));
-    v412 = (u8)(v411);
-    v413 = (u8)(v410);
-    v414 = (u64)((u64)v410 >> (8u & 63u));
-    v415 = (u64)((v414) & UINT64_C(281474976710655));
-    store8(v168, v413);
-    store8(v238 + 0u, (u8)((u64)v415 >> 0));
-    store8(v238 + 1u, (u8)((u64)v415 >> 8));
-    store8(v238 + 2u, (u8)((u64)v415 >> 16));
-    store8(v238 + 3u, (u8)((u64)v415 >> 24));
-    store8(v238 + 4u, (u8)((u64)v415 >> 32));
-    store8(v238 + 5u, (u8)((u64)v415 >> 40));
-    store8(v239, v412);
-    v97 = v36; v98 = 0u; goto L195;
+    v425 = load64(v318);
+    v426 = swap64(v425);
+    v427 = (u8)(v426);
+    v428 = (u64)((u64)v426 >> (8u & 63u));
+    v429 = (u64)((u64)v426 >> (16u & 63u));
+    v430 = (u64)((u64)v426 & (u64)UINT64_C(18446744069414584320));
+    v84 = 3u; v85 = 0u; v86 = 0u; v87 = 0u; v88 = v427; v89 = v428; v90 = v429; v91 = v430; v92 = 0u; goto L169;
 L109:;
-    v416 = load64(v307);
-    v417 = v307 + 8u * 1u;
-    v418 = load8(v417);
-    v419 = v307 + 9u * 1u;
-    v420 = load8(v419);
-    v421 = (u64)v418;
-    v422 = (u64)((u64)v421 << (8u & 63u));
-    v423 = (u64)v420;
-    v424 = (u64)((u64)v422 | (u64)v423);
-    v425 = (u64)((v416) & UINT64_C(281474976710655));
-    v426 = (16u & 63u) ? (u64)(((u64)v424 << (16u & 63u)) | ((u64)v416 >> (64u - (16u & 63u)))) : v424;
-    store8(v169 + 0u, (u8)((u64)v425 >> 0));
-    store8(v169 + 1u, (u8)((u64)v425 >> 8));
-    store8(v169 + 2u, (u8)((u64)v425 >> 16));
-    store8(v169 + 3u, (u8)((u64)v425 >> 24));
-    store8(v169 + 4u, (u8)((u64)v425 >> 32));
-    store8(v169 + 5u, (u8)((u64)v425 >> 40));
-    v427 = (u32)(v426);
-    store32(v237, v427);
-    v428 = (u8)(v416);
-    v102 = v428; v103 = v36; v104 = v36; v105 = 0u; goto L202;
+    v431 = load64(v318);
+    v432 = (u64)((u64)v431 >> (56u & 63u));
+    v433 = (u8)(v432);
+    v434 = (u8)(v431);
+    v435 = (u64)((u64)v431 >> (8u & 63u));
+    v436 = (u8)(v435);
+    v437 = (u64)((u64)v431 >> (16u & 63u));
+    v438 = (u64)((v437) & UINT64_C(1099511627775));
+    v84 = 4u; v85 = v434; v86 = v436; v87 = v438; v88 = v433; v89 = 0u; v90 = 0u; v91 = 0u; v92 = 0u; goto L169;
 L110:;
-    v429 = v308 == 0u;
-    if (v429) { goto L221; }
-    else { goto L111; }
+    v439 = load64(v318);
+    v440 = v318 + 8u * 1u;
+    v441 = load8(v440);
+    v442 = v318 + 9u * 1u;
+    v443 = load8(v442);
+    v444 = (u64)v441;
+    v445 = (u64)((u64)v444 << (8u & 63u));
+    v446 = (u64)v443;
+    v447 = (u64)((u64)v445 | (u64)v446);
+    v448 = (u64)((u64)v439 >> (48u & 63u));
+    v449 = (u8)(v439);
+    v450 = (u64)((u64)v439 >> (8u & 63u));
+    v451 = (u64)((v450) & UINT64_C(1099511627775));
+    v452 = (u8)(v448);
+    v453 = (u64)((u64)v439 >> (56u & 63u));
+    v84 = 5u; v85 = 0u; v86 = v449; v87 = v451; v88 = v452; v89 = v453; v90 = v447; v91 = 0u; v92 = 0u; goto L169;
 L111:;
-    v430 = load8(v307);
-    v431 = (u64)v430;
-    v120 = v307; v121 = v431; goto L222;
+    v454 = load8(v318);
+    v84 = 6u; v85 = v316; v86 = v454; v87 = 0u; v88 = 0u; v89 = 0u; v90 = 0u; v91 = 0u; v92 = 0u; goto L169;
 L112:;
-    v432 = (u64)v305;
-    store64(v171, 0u);
-    memory_cpy(v171, v307, v432);
-    v433 = load64(v171);
-    v434 = (u8)(v433);
-    v435 = (u64)((u64)v433 & (u64)UINT64_C(18446744069414584320));
-    v75 = v434; v76 = v433; v77 = v435; goto L163;
+    v455 = v319 == 0u;
+    if (v455) { v52 = 0u; v53 = v318; goto L114; }
+    else { goto L113; }
 L113:;
-    v436 = (u64)v305;
-    v129 = v307; v130 = v436; goto L241;
-L114:;
-    v437 = v308 < 8u;
-    if (v437) { goto L270; }
-    else { v141 = v36; v142 = v308; v143 = v307; goto L256; }
-L115:;
-    switch (v305) {
-    case 0u: goto L116;
-    case 1u: goto L117;
-    case 2u: goto L119;
-    case 3u: goto L123;
-    case 4u: goto L128;
-    case 5u: goto L134;
-    case 6u: goto L141;
-    case 7u: goto L150;
-    case 8u: goto L151;
-    default: goto L153;
-    }
-L116:;
-    v438 = v308 < 2u;
-    v439 = v307 + 2u * 1u;
-    v440 = v438 ? ADDRESS(c112) : v439;
-    v441 = v308 > 2u ? (u64)((u64)v308 - (u64)2u) : 0u;
-    v442 = (struct s5){ 0 };
-    v442.m0 = v440;
-    v443 = v442;
-    v443.m1 = v441;
-    v74 = v443; goto L159;
-L117:;
-    v444 = v308 < 3u;
-    if (v444) { goto L240; }
-    else { goto L118; }
-L118:;
-    v445 = v307 + 2u * 1u;
-    v446 = v307 + 3u * 1u;
-    v447 = (u64)((u64)v308 + (u64)UINT64_C(18446744073709551613));
-    v448 = load8(v445);
-    v449 = (u64)v448;
-    v450 = v447 < v449;
-    v451 = v446 + v449 * 1u;
-    v452 = v447 > v449 ? (u64)((u64)v447 - (u64)v449) : 0u;
-    if (v450) { goto L240; }
-    else { v68 = v451; v69 = v452; goto L154; }
-L119:;
-    v453 = v308 < 3u;
-    if (v453) { v70 = 0u; v71 = 0u; v72 = ADDRESS(c112); goto L156; }
-    else { goto L120; }
-L120:;
-    v454 = v307 + 2u * 1u;
-    v455 = v307 + 3u * 1u;
-    v456 = (u64)((u64)v308 + (u64)UINT64_C(18446744073709551613));
-    v457 = load8(v454);
+    v456 = v318 + 1u * 1u;
+    v457 = load8(v318);
     v458 = (u64)v457;
-    v459 = v456 < v458;
-    v460 = v455 + v458 * 1u;
-    v461 = v456 > v458 ? (u64)((u64)v456 - (u64)v458) : 0u;
-    if (v459) { v70 = 0u; v71 = 0u; v72 = ADDRESS(c112); goto L156; }
+    v52 = v458; v53 = v456; goto L114;
+L114:;
+    v459 = (u64)v53;
+    v460 = (u8)(v459);
+    v461 = (u64)((u64)v459 >> (8u & 63u));
+    v462 = (u64)((u64)v459 >> (16u & 63u));
+    v463 = (u64)((u64)v459 & (u64)UINT64_C(18446744069414584320));
+    v84 = 8u; v85 = 0u; v86 = 0u; v87 = 0u; v88 = v460; v89 = v461; v90 = v462; v91 = v463; v92 = v52; goto L169;
+L115:;
+    v464 = (u64)v316;
+    store64(v182, 0u);
+    memory_cpy(v182, v318, v464);
+    v465 = load64(v182);
+    v466 = (u8)(v465);
+    v467 = (u64)((u64)v465 >> (8u & 63u));
+    v468 = (u64)((u64)v465 >> (16u & 63u));
+    v469 = (u64)((u64)v465 & (u64)UINT64_C(18446744069414584320));
+    v84 = 0u; v85 = 0u; v86 = 0u; v87 = 0u; v88 = v466; v89 = v467; v90 = v468; v91 = v469; v92 = 0u; goto L169;
+L116:;
+    v470 = (u64)v316;
+    v471 = (u64)v318;
+    v472 = (u8)(v471);
+    v473 = (u64)((u64)v471 >> (8u & 63u));
+    v474 = (u64)((u64)v471 >> (16u & 63u));
+    v475 = (u64)((u64)v471 & (u64)UINT64_C(18446744069414584320));
+    v84 = 9u; v85 = 0u; v86 = 0u; v87 = 0u; v88 = v472; v89 = v473; v90 = v474; v91 = v475; v92 = v470; goto L169;
+L117:;
+    v476 = (u64)v318;
+    v477 = (u8)(v476);
+    v478 = (u64)((u64)v476 >> (8u & 63u));
+    v479 = (u64)((u64)v476 >> (16u & 63u));
+    v480 = (u64)((u64)v476 & (u64)UINT64_C(18446744069414584320));
+    v84 = 10u; v85 = 0u; v86 = 0u; v87 = 0u; v88 = v477; v89 = v478; v90 = v479; v91 = v480; v92 = v319; goto L169;
+L118:;
+    switch (v316) {
+    case 0u: goto L119;
+    case 1u: goto L120;
+    case 2u: goto L122;
+    case 3u: goto L126;
+    case 4u: goto L131;
+    case 5u: goto L137;
+    case 6u: goto L144;
+    case 7u: goto L153;
+    case 8u: goto L154;
+    default: goto L156;
+    }
+L119:;
+    v481 = v319 < 2u;
+    v482 = v318 + 2u * 1u;
+    v483 = v481 ? ADDRESS(c112) : v482;
+    v484 = v319 > 2u ? (u64)((u64)v319 - (u64)2u) : 0u;
+    v485 = (struct s5){ 0 };
+    v485.m0 = v483;
+    v486 = v485;
+    v486.m1 = v484;
+    v78 = v486; goto L163;
+L120:;
+    v487 = v319 < 3u;
+    if (v487) { v81 = 9u; v82 = ADDRESS(c112); v83 = 0u; goto L166; }
     else { goto L121; }
 L121:;
-    v462 = v461 < 2u;
-    if (v462) { v70 = 0u; v71 = v461; v72 = ADDRESS(c112); goto L156; }
-    else { goto L122; }
+    v488 = v318 + 2u * 1u;
+    v489 = v318 + 3u * 1u;
+    v490 = (u64)((u64)v319 + (u64)UINT64_C(18446744073709551613));
+    v491 = load8(v488);
+    v492 = (u64)v491;
+    v493 = v490 < v492;
+    v494 = v489 + v492 * 1u;
+    v495 = v490 > v492 ? (u64)((u64)v490 - (u64)v492) : 0u;
+    if (v493) { v81 = 9u; v82 = ADDRESS(c112); v83 = 0u; goto L166; }
+    else { v70 = v494; v71 = v495; goto L157; }
 L122:;
-    v463 = v460 + 1u * 1u;
-    v464 = load8(v460);
-    v465 = (u64)v464;
-    v466 = (u64)((u64)v465 << (8u & 63u));
-    v467 = load8(v463);
-    v468 = (u64)v467;
-    v469 = (u64)((u64)v466 | (u64)v468);
-    v470 = v460 + 2u * 1u;
-    v70 = v469; v71 = v461; v72 = v470; goto L156;
+    v496 = v319 < 3u;
+    if (v496) { v72 = 0u; v73 = 0u; v74 = ADDRESS(c112); goto L159; }
+    else { goto L123; }
 L123:;
-    v471 = v308 < 3u;
-    if (v471) { v52 = 0u; v53 = 0u; v54 = ADDRESS(c112); goto L127; }
+    v497 = v318 + 2u * 1u;
+    v498 = v318 + 3u * 1u;
+    v499 = (u64)((u64)v319 + (u64)UINT64_C(18446744073709551613));
+    v500 = load8(v497);
+    v501 = (u64)v500;
+    v502 = v499 < v501;
+    v503 = v498 + v501 * 1u;
+    v504 = v499 > v501 ? (u64)((u64)v499 - (u64)v501) : 0u;
+    if (v502) { v72 = 0u; v73 = 0u; v74 = ADDRESS(c112); goto L159; }
     else { goto L124; }
 L124:;
-    v472 = v307 + 2u * 1u;
-    v473 = v307 + 3u * 1u;
-    v474 = (u64)((u64)v308 + (u64)UINT64_C(18446744073709551613));
-    v475 = load8(v472);
-    v476 = (u64)v475;
-    v477 = v474 < v476;
-    v478 = v473 + v476 * 1u;
-    v479 = v474 > v476 ? (u64)((u64)v474 - (u64)v476) : 0u;
-    if (v477) { v52 = 0u; v53 = 0u; v54 = ADDRESS(c112); goto L127; }
+    v505 = v504 < 2u;
+    if (v505) { v72 = 0u; v73 = v504; v74 = ADDRESS(c112); goto L159; }
     else { goto L125; }
 L125:;
-    v480 = v479 < 2u;
-    if (v480) { v52 = 0u; v53 = v479; v54 = ADDRESS(c112); goto L127; }
-    else { goto L126; }
+    v506 = v503 + 1u * 1u;
+    v507 = load8(v503);
+    v508 = (u64)v507;
+    v509 = (u64)((u64)v508 << (8u & 63u));
+    v510 = load8(v506);
+    v511 = (u64)v510;
+    v512 = (u64)((u64)v509 | (u64)v511);
+    v513 = v503 + 2u * 1u;
+    v72 = v512; v73 = v504; v74 = v513; goto L159;
 L126:;
-    v481 = v478 + 1u * 1u;
-    v482 = load8(v478);
-    v483 = (u64)v482;
-    v484 = (u64)((u64)v483 << (8u & 63u));
-    v485 = load8(v481);
-    v486 = (u64)v485;
-    v487 = (u64)((u64)v484 | (u64)v486);
-    v488 = v478 + 2u * 1u;
-    v52 = v487; v53 = v479; v54 = v488; goto L127;
+    v514 = v319 < 3u;
+    if (v514) { v54 = 0u; v55 = 0u; v56 = ADDRESS(c112); goto L130; }
+    else { goto L127; }
 L127:;
-    v489 = v53 > 2u ? (u64)((u64)v53 - (u64)2u) : 0u;
-    v490 = v489 < v52;
-    v491 = v54 + v52 * 1u;
-    v492 = v489 > v52 ? (u64)((u64)v489 - (u64)v52) : 0u;
-    v493 = v490 ? ADDRESS(c112) : v491;
-    v494 = v490 ? 0u : v492;
-    v495 = v494 < 2u;
-    v496 = v493 + 2u * 1u;
-    v497 = (u64)((u64)v494 + (u64)UINT64_C(18446744073709551614));
-    if (v495) { goto L240; }
-    else { v68 = v496; v69 = v497; goto L154; }
+    v515 = v318 + 2u * 1u;
+    v516 = v318 + 3u * 1u;
+    v517 = (u64)((u64)v319 + (u64)UINT64_C(18446744073709551613));
+    v518 = load8(v515);
+    v519 = (u64)v518;
+    v520 = v517 < v519;
+    v521 = v516 + v519 * 1u;
+    v522 = v517 > v519 ? (u64)((u64)v517 - (u64)v519) : 0u;
+    if (v520) { v54 = 0u; v55 = 0u; v56 = ADDRESS(c112); goto L130; }
+    else { goto L128; }
 L128:;
-    v498 = v308 < 3u;
-    if (v498) { v55 = 0u; v56 = 0u; v57 = ADDRESS(c112); goto L132; }
+    v523 = v522 < 2u;
+    if (v523) { v54 = 0u; v55 = v522; v56 = ADDRESS(c112); goto L130; }
     else { goto L129; }
 L129:;
-    v499 = v307 + 2u * 1u;
-    v500 = v307 + 3u * 1u;
-    v501 = (u64)((u64)v308 + (u64)UINT64_C(18446744073709551613));
-    v502 = load8(v499);
-    v503 = (u64)v502;
-    v504 = v501 < v503;
-    v505 = v500 + v503 * 1u;
-    v506 = v501 > v503 ? (u64)((u64)v501 - (u64)v503) : 0u;
-    if (v504) { v55 = 0u; v56 = 0u; v57 = ADDRESS(c112); goto L132; }
-    else { goto L130; }
+    v524 = v521 + 1u * 1u;
+    v525 = load8(v521);
+    v526 = (u64)v525;
+    v527 = (u64)((u64)v526 << (8u & 63u));
+    v528 = load8(v524);
+    v529 = (u64)v528;
+    v530 = (u64)((u64)v527 | (u64)v529);
+    v531 = v521 + 2u * 1u;
+    v54 = v530; v55 = v522; v56 = v531; goto L130;
 L130:;
-    v507 = v506 < 2u;
-    if (v507) { v55 = 0u; v56 = v506; v57 = ADDRESS(c112); goto L132; }
-    else { goto L131; }
+    v532 = v55 > 2u ? (u64)((u64)v55 - (u64)2u) : 0u;
+    v533 = v532 < v54;
+    v534 = v56 + v54 * 1u;
+    v535 = v532 > v54 ? (u64)((u64)v532 - (u64)v54) : 0u;
+    v536 = v533 ? ADDRESS(c112) : v534;
+    v537 = v533 ? 0u : v535;
+    v538 = v537 < 2u;
+    v539 = v536 + 2u * 1u;
+    v540 = (u64)((u64)v537 + (u64)UINT64_C(18446744073709551614));
+    if (v538) { v81 = 9u; v82 = ADDRESS(c112); v83 = 0u; goto L166; }
+    else { v70 = v539; v71 = v540; goto L157; }
 L131:;
-    v508 = v505 + 1u * 1u;
-    v509 = load8(v505);
-    v510 = (u64)v509;
-    v511 = (u64)((u64)v510 << (8u & 63u));
-    v512 = load8(v508);
-    v513 = (u64)v512;
-    v514 = (u64)((u64)v511 | (u64)v513);
-    v515 = v505 + 2u * 1u;
-    v55 = v514; v56 = v506; v57 = v515; goto L132;
+    v541 = v319 < 3u;
+    if (v541) { v57 = 0u; v58 = 0u; v59 = ADDRESS(c112); goto L135; }
+    else { goto L132; }
 L132:;
-    v516 = v56 > 2u ? (u64)((u64)v56 - (u64)2u) : 0u;
-    v517 = v516 < v55;
-    v518 = v57 + v55 * 1u;
-    v519 = v516 > v55 ? (u64)((u64)v516 - (u64)v55) : 0u;
-    v520 = v517 ? ADDRESS(c112) : v518;
-    v521 = v517 ? 0u : v519;
-    v522 = v521 < 2u;
-    v523 = v520 + 2u * 1u;
-    v524 = v521 > 2u ? (u64)((u64)v521 - (u64)2u) : 0u;
-    v525 = v522 ? ADDRESS(c112) : v523;
-    v526 = v522 ? 0u : v524;
-    v527 = v526 < 2u;
-    if (v527) { v73 = 0u; goto L158; }
+    v542 = v318 + 2u * 1u;
+    v543 = v318 + 3u * 1u;
+    v544 = (u64)((u64)v319 + (u64)UINT64_C(18446744073709551613));
+    v545 = load8(v542);
+    v546 = (u64)v545;
+    v547 = v544 < v546;
+    v548 = v543 + v546 * 1u;
+    v549 = v544 > v546 ? (u64)((u64)v544 - (u64)v546) : 0u;
+    if (v547) { v57 = 0u; v58 = 0u; v59 = ADDRESS(c112); goto L135; }
     else { goto L133; }
 L133:;
-    v528 = v525 + 1u * 1u;
-    v529 = load8(v525);
-    v530 = (u64)v529;
-    v531 = (u64)((u64)v530 << (8u & 63u));
-    v532 = load8(v528);
-    v533 = (u64)v532;
-    v534 = (u64)((u64)v531 | (u64)v533);
-    v73 = v534; goto L158;
+    v550 = v549 < 2u;
+    if (v550) { v57 = 0u; v58 = v549; v59 = ADDRESS(c112); goto L135; }
+    else { goto L134; }
 L134:;
-    v535 = v308 < 3u;
-    if (v535) { v58 = 0u; v59 = 0u; v60 = ADDRESS(c112); goto L138; }
-    else { goto L135; }
+    v551 = v548 + 1u * 1u;
+    v552 = load8(v548);
+    v553 = (u64)v552;
+    v554 = (u64)((u64)v553 << (8u & 63u));
+    v555 = load8(v551);
+    v556 = (u64)v555;
+    v557 = (u64)((u64)v554 | (u64)v556);
+    v558 = v548 + 2u * 1u;
+    v57 = v557; v58 = v549; v59 = v558; goto L135;
 L135:;
-    v536 = v307 + 2u * 1u;
-    v537 = v307 + 3u * 1u;
-    v538 = (u64)((u64)v308 + (u64)UINT64_C(18446744073709551613));
-    v539 = load8(v536);
-    v540 = (u64)v539;
-    v541 = v538 < v540;
-    v542 = v537 + v540 * 1u;
-    v543 = v538 > v540 ? (u64)((u64)v538 - (u64)v540) : 0u;
-    if (v541) { v58 = 0u; v59 = 0u; v60 = ADDRESS(c112); goto L138; }
+    v559 = v58 > 2u ? (u64)((u64)v58 - (u64)2u) : 0u;
+    v560 = v559 < v57;
+    v561 = v59 + v57 * 1u;
+    v562 = v559 > v57 ? (u64)((u64)v559 - (u64)v57) : 0u;
+    v563 = v560 ? ADDRESS(c112) : v561;
+    v564 = v560 ? 0u : v562;
+    v565 = v564 < 2u;
+    v566 = v563 + 2u * 1u;
+    v567 = v564 > 2u ? (u64)((u64)v564 - (u64)2u) : 0u;
+    v568 = v565 ? ADDRESS(c112) : v566;
+    v569 = v565 ? 0u : v567;
+    v570 = v569 < 2u;
+    if (v570) { v75 = 0u; goto L161; }
     else { goto L136; }
 L136:;
-    v544 = v543 < 2u;
-    if (v544) { v58 = 0u; v59 = v543; v60 = ADDRESS(c112); goto L138; }
-    else { goto L137; }
+    v571 = v568 + 1u * 1u;
+    v572 = load8(v568);
+    v573 = (u64)v572;
+    v574 = (u64)((u64)v573 << (8u & 63u));
+    v575 = load8(v571);
+    v576 = (u64)v575;
+    v577 = (u64)((u64)v574 | (u64)v576);
+    v75 = v577; goto L161;
 L137:;
-    v545 = v542 + 1u * 1u;
-    v546 = load8(v542);
-    v547 = (u64)v546;
-    v548 = (u64)((u64)v547 << (8u & 63u));
-    v549 = load8(v545);
-    v550 = (u64)v549;
-    v551 = (u64)((u64)v548 | (u64)v550);
-    v552 = v542 + 2u * 1u;
-    v58 = v551; v59 = v543; v60 = v552; goto L138;
+    v578 = v319 < 3u;
+    if (v578) { v60 = 0u; v61 = 0u; v62 = ADDRESS(c112); goto L141; }
+    else { goto L138; }
 L138:;
-    v553 = v59 > 2u ? (u64)((u64)v59 - (u64)2u) : 0u;
-    v554 = v553 < v58;
-    v555 = v60 + v58 * 1u;
-    v556 = v553 > v58 ? (u64)((u64)v553 - (u64)v58) : 0u;
-    v557 = v554 ? ADDRESS(c112) : v555;
-    v558 = v554 ? 0u : v556;
-    v559 = v558 < 2u;
-    v560 = v557 + 2u * 1u;
-    v561 = v558 > 2u ? (u64)((u64)v558 - (u64)2u) : 0u;
-    v562 = v559 ? ADDRESS(c112) : v560;
-    v563 = v559 ? 0u : v561;
-    v564 = v563 < 2u;
-    if (v564) { v61 = 0u; goto L140; }
+    v579 = v318 + 2u * 1u;
+    v580 = v318 + 3u * 1u;
+    v581 = (u64)((u64)v319 + (u64)UINT64_C(18446744073709551613));
+    v582 = load8(v579);
+    v583 = (u64)v582;
+    v584 = v581 < v583;
+    v585 = v580 + v583 * 1u;
+    v586 = v581 > v583 ? (u64)((u64)v581 - (u64)v583) : 0u;
+    if (v584) { v60 = 0u; v61 = 0u; v62 = ADDRESS(c112); goto L141; }
     else { goto L139; }
 L139:;
-    v565 = v562 + 1u * 1u;
-    v566 = load8(v562);
-    v567 = (u64)v566;
-    v568 = (u64)((u64)v567 << (8u & 63u));
-    v569 = load8(v565);
-    v570 = (u64)v569;
-    v571 = (u64)((u64)v568 | (u64)v570);
-    v61 = v571; goto L140;
+    v587 = v586 < 2u;
+    if (v587) { v60 = 0u; v61 = v586; v62 = ADDRESS(c112); goto L141; }
+    else { goto L140; }
 L140:;
-    v572 = v562 + 2u * 1u;
-    v573 = v564 ? ADDRESS(c112) : v572;
-    v574 = v563 > 2u ? (u64)((u64)v563 - (u64)2u) : 0u;
-    v575 = v574 < v61;
-    v576 = v573 + v61 * 1u;
-    v577 = v574 > v61 ? (u64)((u64)v574 - (u64)v61) : 0u;
-    v578 = v575 ? ADDRESS(c112) : v576;
-    v579 = v575 ? 0u : v577;
-    v580 = v579 < 4u;
-    v581 = v578 + 4u * 1u;
-    v582 = v579 > 4u ? (u64)((u64)v579 - (u64)4u) : 0u;
-    v583 = v580 ? ADDRESS(c112) : v581;
-    v584 = v580 ? 0u : v582;
-    v585 = (struct s5){ 0 };
-    v585.m0 = v583;
-    v586 = v585;
-    v586.m1 = v584;
-    v74 = v586; goto L159;
+    v588 = v585 + 1u * 1u;
+    v589 = load8(v585);
+    v590 = (u64)v589;
+    v591 = (u64)((u64)v590 << (8u & 63u));
+    v592 = load8(v588);
+    v593 = (u64)v592;
+    v594 = (u64)((u64)v591 | (u64)v593);
+    v595 = v585 + 2u * 1u;
+    v60 = v594; v61 = v586; v62 = v595; goto L141;
 L141:;
-    v587 = v308 < 3u;
-    if (v587) { v62 = 0u; v63 = 0u; v64 = ADDRESS(c112); goto L145; }
+    v596 = v61 > 2u ? (u64)((u64)v61 - (u64)2u) : 0u;
+    v597 = v596 < v60;
+    v598 = v62 + v60 * 1u;
+    v599 = v596 > v60 ? (u64)((u64)v596 - (u64)v60) : 0u;
+    v600 = v597 ? ADDRESS(c112) : v598;
+    v601 = v597 ? 0u : v599;
+    v602 = v601 < 2u;
+    v603 = v600 + 2u * 1u;
+    v604 = v601 > 2u ? (u64)((u64)v601 - (u64)2u) : 0u;
+    v605 = v602 ? ADDRESS(c112) : v603;
+    v606 = v602 ? 0u : v604;
+    v607 = v606 < 2u;
+    if (v607) { v63 = 0u; goto L143; }
     else { goto L142; }
 L142:;
-    v588 = v307 + 2u * 1u;
-    v589 = v307 + 3u * 1u;
-    v590 = (u64)((u64)v308 + (u64)UINT64_C(18446744073709551613));
-    v591 = load8(v588);
-    v592 = (u64)v591;
-    v593 = v590 < v592;
-    v594 = v589 + v592 * 1u;
-    v595 = v590 > v592 ? (u64)((u64)v590 - (u64)v592) : 0u;
-    if (v593) { v62 = 0u; v63 = 0u; v64 = ADDRESS(c112); goto L145; }
-    else { goto L143; }
+    v608 = v605 + 1u * 1u;
+    v609 = load8(v605);
+    v610 = (u64)v609;
+    v611 = (u64)((u64)v610 << (8u & 63u));
+    v612 = load8(v608);
+    v613 = (u64)v612;
+    v614 = (u64)((u64)v611 | (u64)v613);
+    v63 = v614; goto L143;
 L143:;
-    v596 = v595 < 2u;
-    if (v596) { v62 = 0u; v63 = v595; v64 = ADDRESS(c112); goto L145; }
-    else { goto L144; }
+    v615 = v605 + 2u * 1u;
+    v616 = v607 ? ADDRESS(c112) : v615;
+    v617 = v606 > 2u ? (u64)((u64)v606 - (u64)2u) : 0u;
+    v618 = v617 < v63;
+    v619 = v616 + v63 * 1u;
+    v620 = v617 > v63 ? (u64)((u64)v617 - (u64)v63) : 0u;
+    v621 = v618 ? ADDRESS(c112) : v619;
+    v622 = v618 ? 0u : v620;
+    v623 = v622 < 4u;
+    v624 = v621 + 4u * 1u;
+    v625 = v622 > 4u ? (u64)((u64)v622 - (u64)4u) : 0u;
+    v626 = v623 ? ADDRESS(c112) : v624;
+    v627 = v623 ? 0u : v625;
+    v628 = (struct s5){ 0 };
+    v628.m0 = v626;
+    v629 = v628;
+    v629.m1 = v627;
+    v78 = v629; goto L163;
 L144:;
-    v597 = v594 + 1u * 1u;
-    v598 = load8(v594);
-    v599 = (u64)v598;
-    v600 = (u64)((u64)v599 << (8u & 63u));
-    v601 = load8(v597);
-    v602 = (u64)v601;
-    v603 = (u64)((u64)v600 | (u64)v602);
-    v604 = v594 + 2u * 1u;
-    v62 = v603; v63 = v595; v64 = v604; goto L145;
+    v630 = v319 < 3u;
+    if (v630) { v64 = 0u; v65 = 0u; v66 = ADDRESS(c112); goto L148; }
+    else { goto L145; }
 L145:;
-    v605 = v63 > 2u ? (u64)((u64)v63 - (u64)2u) : 0u;
-    v606 = v605 < v62;
-    v607 = v64 + v62 * 1u;
-    v608 = v605 > v62 ? (u64)((u64)v605 - (u64)v62) : 0u;
-    v609 = v606 ? ADDRESS(c112) : v607;
-    v610 = v606 ? 0u : v608;
-    v611 = v610 < 2u;
-    v612 = v609 + 2u * 1u;
-    v613 = v610 > 2u ? (u64)((u64)v610 - (u64)2u) : 0u;
-    v614 = v611 ? ADDRESS(c112) : v612;
-    v615 = v611 ? 0u : v613;
-    v616 = v615 < 2u;
-    if (v616) { v65 = 0u; goto L147; }
+    v631 = v318 + 2u * 1u;
+    v632 = v318 + 3u * 1u;
+    v633 = (u64)((u64)v319 + (u64)UINT64_C(18446744073709551613));
+    v634 = load8(v631);
+    v635 = (u64)v634;
+    v636 = v633 < v635;
+    v637 = v632 + v635 * 1u;
+    v638 = v633 > v635 ? (u64)((u64)v633 - (u64)v635) : 0u;
+    if (v636) { v64 = 0u; v65 = 0u; v66 = ADDRESS(c112); goto L148; }
     else { goto L146; }
 L146:;
-    v617 = v614 + 1u * 1u;
-    v618 = load8(v614);
-    v619 = (u64)v618;
-    v620 = (u64)((u64)v619 << (8u & 63u));
-    v621 = load8(v617);
-    v622 = (u64)v621;
-    v623 = (u64)((u64)v620 | (u64)v622);
-    v65 = v623; goto L147;
+    v639 = v638 < 2u;
+    if (v639) { v64 = 0u; v65 = v638; v66 = ADDRESS(c112); goto L148; }
+    else { goto L147; }
 L147:;
-    v624 = v614 + 2u * 1u;
-    v625 = v616 ? ADDRESS(c112) : v624;
-    v626 = v615 > 2u ? (u64)((u64)v615 - (u64)2u) : 0u;
-    v627 = v626 < v65;
-    v628 = v625 + v65 * 1u;
-    v629 = v626 > v65 ? (u64)((u64)v626 - (u64)v65) : 0u;
-    v630 = v627 ? ADDRESS(c112) : v628;
-    v631 = v627 ? 0u : v629;
-    v632 = v631 < 4u;
-    v633 = v630 + 4u * 1u;
-    v634 = v632 ? ADDRESS(c112) : v633;
-    v635 = v631 < 5u;
-    if (v635) { v66 = v634; v67 = 0u; goto L149; }
-    else { goto L148; }
+    v640 = v637 + 1u * 1u;
+    v641 = load8(v637);
+    v642 = (u64)v641;
+    v643 = (u64)((u64)v642 << (8u & 63u));
+    v644 = load8(v640);
+    v645 = (u64)v644;
+    v646 = (u64)((u64)v643 | (u64)v645);
+    v647 = v637 + 2u * 1u;
+    v64 = v646; v65 = v638; v66 = v647; goto L148;
 L148:;
-    v636 = v630 + 5u * 1u;
-    v637 = (u64)((u64)v631 + (u64)UINT64_C(18446744073709551611));
-    v638 = load8(v633);
-    v639 = (u64)v638;
-    v640 = v637 < v639;
-    v641 = v636 + v639 * 1u;
-    v642 = v637 > v639 ? (u64)((u64)v637 - (u64)v639) : 0u;
-    v643 = v640 ? ADDRESS(c112) : v641;
-    v644 = v640 ? 0u : v642;
-    v66 = v643; v67 = v644; goto L149;
+    v648 = v65 > 2u ? (u64)((u64)v65 - (u64)2u) : 0u;
+    v649 = v648 < v64;
+    v650 = v66 + v64 * 1u;
+    v651 = v648 > v64 ? (u64)((u64)v648 - (u64)v64) : 0u;
+    v652 = v649 ? ADDRESS(c112) : v650;
+    v653 = v649 ? 0u : v651;
+    v654 = v653 < 2u;
+    v655 = v652 + 2u * 1u;
+    v656 = v653 > 2u ? (u64)((u64)v653 - (u64)2u) : 0u;
+    v657 = v654 ? ADDRESS(c112) : v655;
+    v658 = v654 ? 0u : v656;
+    v659 = v658 < 2u;
+    if (v659) { v67 = 0u; goto L150; }
+    else { goto L149; }
 L149:;
-    v645 = (struct s5){ 0 };
-    v645.m0 = v66;
-    v646 = v645;
-    v646.m1 = v67;
-    v74 = v646; goto L159;
+    v660 = v657 + 1u * 1u;
+    v661 = load8(v657);
+    v662 = (u64)v661;
+    v663 = (u64)((u64)v662 << (8u & 63u));
+    v664 = load8(v660);
+    v665 = (u64)v664;
+    v666 = (u64)((u64)v663 | (u64)v665);
+    v67 = v666; goto L150;
 L150:;
-    v647 = f46(v307, v308);
-    v74 = v647; goto L159;
+    v667 = v657 + 2u * 1u;
+    v668 = v659 ? ADDRESS(c112) : v667;
+    v669 = v658 > 2u ? (u64)((u64)v658 - (u64)2u) : 0u;
+    v670 = v669 < v67;
+    v671 = v668 + v67 * 1u;
+    v672 = v669 > v67 ? (u64)((u64)v669 - (u64)v67) : 0u;
+    v673 = v670 ? ADDRESS(c112) : v671;
+    v674 = v670 ? 0u : v672;
+    v675 = v674 < 4u;
+    v676 = v673 + 4u * 1u;
+    v677 = v675 ? ADDRESS(c112) : v676;
+    v678 = v674 < 5u;
+    if (v678) { v68 = v677; v69 = 0u; goto L152; }
+    else { goto L151; }
 L151:;
-    v648 = f46(v307, v308);
-    v649 = v648.m1;
-    v650 = v649 == 0u;
-    if (v650) { goto L240; }
-    else { goto L152; }
+    v679 = v673 + 5u * 1u;
+    v680 = (u64)((u64)v674 + (u64)UINT64_C(18446744073709551611));
+    v681 = load8(v676);
+    v682 = (u64)v681;
+    v683 = v680 < v682;
+    v684 = v679 + v682 * 1u;
+    v685 = v680 > v682 ? (u64)((u64)v680 - (u64)v682) : 0u;
+    v686 = v683 ? ADDRESS(c112) : v684;
+    v687 = v683 ? 0u : v685;
+    v68 = v686; v69 = v687; goto L152;
 L152:;
-    v651 = v648.m0;
-    v652 = v651 + 1u * 1u;
-    v653 = (u64)((u64)v649 + (u64)UINT64_C(18446744073709551615));
-    v654 = load8(v651);
-    v655 = (u64)v654;
-    v656 = v653 < v655;
-    v657 = v652 + v655 * 1u;
-    v658 = v653 > v655 ? (u64)((u64)v653 - (u64)v655) : 0u;
-    v659 = v658 < 6u ? v658 : 6u;
-    if (v656) { goto L240; }
-    else { v129 = v657; v130 = v659; goto L241; }
+    v688 = (struct s5){ 0 };
+    v688.m0 = v68;
+    v689 = v688;
+    v689.m1 = v69;
+    v78 = v689; goto L163;
 L153:;
-    UNREACHABLE;
+    v690 = f46(v318, v319);
+    v78 = v690; goto L163;
 L154:;
-    v660 = v69 < 2u;
-    if (v660) { goto L240; }
+    v691 = f46(v318, v319);
+    v692 = v691.m0;
+    v693 = v691.m1;
+    v694 = v693 == 0u;
+    if (v694) { v76 = v692; v77 = 0u; goto L162; }
     else { goto L155; }
 L155:;
-    v661 = v68 + 1u * 1u;
-    v662 = load8(v68);
-    v663 = (u64)v662;
-    v664 = (u64)((u64)v663 << (8u & 63u));
-    v665 = load8(v661);
-    v666 = (u64)v665;
-    v667 = (u64)((u64)v664 | (u64)v666);
-    v668 = v68 + 2u * 1u;
-    v669 = (u64)((u64)v69 + (u64)UINT64_C(18446744073709551614));
-    v670 = v669 < v667 ? v669 : v667;
-    v129 = v668; v130 = v670; goto L241;
+    v695 = v692 + 1u * 1u;
+    v696 = (u64)((u64)v693 + (u64)UINT64_C(18446744073709551615));
+    v697 = load8(v692);
+    v698 = (u64)v697;
+    v699 = v696 < v698;
+    v700 = v695 + v698 * 1u;
+    v701 = v696 > v698 ? (u64)((u64)v696 - (u64)v698) : 0u;
+    v702 = v699 ? ADDRESS(c112) : v700;
+    v703 = v701 < 6u ? v701 : 6u;
+    v704 = v699 ? 0u : v703;
+    v76 = v702; v77 = v704; goto L162;
 L156:;
-    v671 = v71 > 2u ? (u64)((u64)v71 - (u64)2u) : 0u;
-    v672 = v671 < v70;
-    v673 = v671 > v70 ? (u64)((u64)v671 - (u64)v70) : 0u;
-    v674 = v673 < 2u;
-    v675 = (u8)(((u32)v672 | (u32)v674) & UINT64_C(1));
-    if (v675) { v79 = 0u; goto L165; }
-    else { goto L157; }
+    UNREACHABLE;
 L157:;
-    v676 = v72 + v70 * 1u;
-    v677 = v676 + 1u * 1u;
-    v678 = load8(v676);
-    v679 = (u64)v678;
-    v680 = (u64)((u64)v679 << (8u & 63u));
-    v681 = load8(v677);
-    v682 = (u64)v681;
-    v683 = (u64)((u64)v680 | (u64)v682);
-    v79 = v683; goto L165;
+    v705 = v71 < 2u;
+    if (v705) { v81 = 9u; v82 = ADDRESS(c112); v83 = 0u; goto L166; }
+    else { goto L158; }
 L158:;
-    v684 = v525 + 2u * 1u;
-    v685 = v527 ? ADDRESS(c112) : v684;
-    v686 = v526 > 2u ? (u64)((u64)v526 - (u64)2u) : 0u;
-    v687 = v686 < v73;
-    v688 = v685 + v73 * 1u;
-    v689 = v686 > v73 ? (u64)((u64)v686 - (u64)v73) : 0u;
-    v690 = v689 < 3u ? v689 : 3u;
-    v691 = (u64)v688;
-    v692 = v687 ? ADDRESS(c112) : v691;
-    v693 = (address)v692;
-    if (v687) { goto L240; }
-    else { v129 = v693; v130 = v690; goto L241; }
+    v706 = v70 + 1u * 1u;
+    v707 = load8(v70);
+    v708 = (u64)v707;
+    v709 = (u64)((u64)v708 << (8u & 63u));
+    v710 = load8(v706);
+    v711 = (u64)v710;
+    v712 = (u64)((u64)v709 | (u64)v711);
+    v713 = v70 + 2u * 1u;
+    v714 = (u64)((u64)v71 + (u64)UINT64_C(18446744073709551614));
+    v715 = v714 < v712 ? v714 : v712;
+    v716 = (u64)v713;
+    v81 = 9u; v82 = v716; v83 = v715; goto L166;
 L159:;
-    v694 = v74.m1;
-    v695 = v694 == 0u;
-    if (v695) { goto L221; }
+    v717 = v73 > 2u ? (u64)((u64)v73 - (u64)2u) : 0u;
+    v718 = v717 < v72;
+    v719 = v717 > v72 ? (u64)((u64)v717 - (u64)v72) : 0u;
+    v720 = v719 < 2u;
+    v721 = (u8)(((u32)v718 | (u32)v720) & UINT64_C(1));
+    if (v721) { v81 = 0u; v82 = 0u; v83 = 0u; goto L166; }
     else { goto L160; }
 L160:;
-    v696 = v74.m0;
-    v697 = (u64)((u64)v694 + (u64)UINT64_C(18446744073709551615));
-    v698 = load8(v696);
-    v699 = (u64)v698;
-    v700 = v697 < v699 ? v697 : v699;
-    v120 = v696; v121 = v700; goto L222;
+    v722 = v74 + v72 * 1u;
+    v723 = v722 + 1u * 1u;
+    v724 = load8(v722);
+    v725 = (u64)v724;
+    v726 = (u64)((u64)v725 << (8u & 63u));
+    v727 = load8(v723);
+    v728 = (u64)v727;
+    v729 = (u64)((u64)v726 | (u64)v728);
+    v81 = 0u; v82 = v729; v83 = 0u; goto L166;
 L161:;
-    v701 = (u64)v305;
-    store64(v170, 0u);
-    v702 = (u64)((u64)8u - (u64)v701);
-    v703 = v170 + v702 * 1u;
-    memory_cpy(v703, v307, v701);
-    v704 = load64(v170);
-    v705 = swap64(v704);
-    v706 = (u8)(v705);
-    v707 = (u64)((u64)v705 & (u64)UINT64_C(18446744069414584320));
-    v75 = v706; v76 = v705; v77 = v707; goto L163;
+    v730 = v568 + 2u * 1u;
+    v731 = v570 ? ADDRESS(c112) : v730;
+    v732 = v569 > 2u ? (u64)((u64)v569 - (u64)2u) : 0u;
+    v733 = v732 < v75;
+    v734 = v731 + v75 * 1u;
+    v735 = v732 > v75 ? (u64)((u64)v732 - (u64)v75) : 0u;
+    v736 = v735 < 3u ? v735 : 3u;
+    v737 = v733 ? 0u : v736;
+    v738 = (u64)v734;
+    v739 = v733 ? ADDRESS(c112) : v738;
+    v81 = 9u; v82 = v739; v83 = v737; goto L166;
 L162:;
-    UNREACHABLE;
+    v740 = (u64)v76;
+    v81 = 9u; v82 = v740; v83 = v77; goto L166;
 L163:;
-    v708 = (u64)v75;
-    v709 = (u64)((u64)v76 & (u64)UINT64_C(4294967040));
-    v710 = (u64)((u64)v709 | (u64)v708);
-    v711 = (u64)((u64)v710 | (u64)v77);
-    v79 = v711; goto L165;
+    v741 = v78.m0;
+    v742 = v78.m1;
+    v743 = v742 == 0u;
+    if (v743) { v79 = v741; v80 = 0u; goto L165; }
+    else { goto L164; }
 L164:;
-    v712 = load8(v307);
-    v713 = (u8)((u32)v712 & (u32)v78);
-    v714 = v713 == 0u;
-    v715 = v714 ? 5u : 4u;
-    v716 = v714 ? ADDRESS(c168) : ADDRESS(c167);
-    v717 = v36 == 1u;
-    if (v717) { goto L181; }
-    else { goto L270; }
+    v744 = v741 + 1u * 1u;
+    v745 = (u64)((u64)v742 + (u64)UINT64_C(18446744073709551615));
+    v746 = load8(v741);
+    v747 = (u64)v746;
+    v748 = v745 < v747 ? v745 : v747;
+    v79 = v744; v80 = v748; goto L165;
 L165:;
-    f47(v79, v174);
-    goto L270;
+    v749 = (u64)v79;
+    v81 = 8u; v82 = v749; v83 = v80; goto L166;
 L166:;
-    v718 = v80;
-    v719 = (u64)((u64)v718 / (u64)10000u);
-    v720 = (u64)((u64)v719 * (u64)10000u);
-    v721 = (u64)((u64)v718 - (u64)v720);
-    v722 = (u16)(v721);
-    v723 = (u16)((u32)v722 / (u32)100u);
-    v724 = (u16)((u32)v723 * (u32)100u);
-    v725 = (u16)((u32)v722 - (u32)v724);
-    v726 = (u16)((u32)v725 << (1u & 15u));
-    v727 = (u64)v726;
-    v728 = ADDRESS(c268) + v727 * 1u;
-    v729 = load8(v728);
-    v730 = v728 + 1u * 1u;
-    v731 = load8(v730);
-    v732 = v167 + v81 * 1u;
-    v733 = v732 + UINT64_C(18446744073709551614) * 1u;
-    store8(v733, v729);
-    v734 = v732 + UINT64_C(18446744073709551615) * 1u;
-    store8(v734, v731);
-    v735 = (u64)((u64)v81 + (u64)UINT64_C(18446744073709551612));
-    v736 = (u16)((u32)v723 << (1u & 15u));
-    v737 = (u64)v736;
-    v738 = ADDRESS(c268) + v737 * 1u;
-    v739 = load8(v738);
-    v740 = v738 + 1u * 1u;
-    v741 = load8(v740);
-    v742 = v167 + v735 * 1u;
-    store8(v742, v739);
-    v743 = v742 + 1u * 1u;
-    store8(v743, v741);
-    v744 = v80 > UINT64_C(99999999);
-    if (v744) { v80 = v719; v81 = v735; goto L166; }
-    else { v82 = v735; v83 = v719; goto L167; }
+    v750 = (u8)(v82);
+    v751 = (u64)((u64)v82 >> (8u & 63u));
+    v752 = (u64)((u64)v82 >> (16u & 63u));
+    v753 = (u64)((u64)v82 & (u64)UINT64_C(18446744069414584320));
+    v84 = v81; v85 = 0u; v86 = 0u; v87 = 0u; v88 = v750; v89 = v751; v90 = v752; v91 = v753; v92 = v83; goto L169;
 L167:;
-    v745 = v83 < 100u;
-    if (v745) { goto L168; }
-    else { goto L171; }
+    v754 = (u64)v316;
+    store64(v181, 0u);
+    v755 = (u64)((u64)8u - (u64)v754);
+    v756 = v181 + v755 * 1u;
+    memory_cpy(v756, v318, v754);
+    v757 = load64(v181);
+    v758 = swap64(v757);
+    v759 = (u8)(v758);
+    v760 = (u64)((u64)v758 >> (8u & 63u));
+    v761 = (u64)((u64)v758 >> (16u & 63u));
+    v762 = (u64)((u64)v758 & (u64)UINT64_C(18446744069414584320));
+    v84 = 0u; v85 = 0u; v86 = 0u; v87 = 0u; v88 = v759; v89 = v760; v90 = v761; v91 = v762; v92 = 0u; goto L169;
 L168:;
-    v746 = v83 < 10u;
-    if (v746) { goto L169; }
-    else { goto L170; }
+    UNREACHABLE;
 L169:;
-    v747 = (u8)(v83);
-    v748 = (u8)((u32)v747 | (u32)48u);
-    v749 = (u64)((u64)v82 + (u64)UINT64_C(18446744073709551615));
-    v750 = v167 + v749 * 1u;
-    store8(v750, v748);
-    v84 = v749; goto L174;
+    v763 = (u64)v87;
+    v764 = (u64)(((u64)v763 << (8u & 63u)) & UINT64_C(281474976710655));
+    v765 = (u64)v764;
+    v766 = (u64)((u64)v89 << (8u & 63u));
+    v767 = (u64)((u64)v766 & (u64)65280u);
+    v768 = (u64)v88;
+    v769 = (u64)((u64)v90 << (16u & 63u));
+    v770 = (u64)((u64)v769 & (u64)UINT64_C(4294901760));
+    v771 = (u64)((u64)v767 | (u64)v768);
+    v772 = (u64)((u64)v771 | (u64)v770);
+    v773 = (u64)((u64)v772 | (u64)v91);
+    v774 = (u64)(((u64)v765 >> (8u & 63u)) & UINT64_C(72057594037927935));
+    v775 = (u8)(v774);
+    v776 = (u64)(((u64)v765 >> (16u & 63u)) & UINT64_C(72057594037927935));
+    v777 = (u16)(v776);
+    v778 = (u64)(((u64)v765 >> (32u & 63u)) & UINT64_C(72057594037927935));
+    v779 = (u16)(v778);
+    store64(v179, 0u);
+    memory_set(v180, 0u, 10u);
+    switch (v84) {
+    case 0u: goto L170;
+    case 1u: goto L171;
+    case 2u: goto L187;
+    case 3u: goto L193;
+    case 4u: goto L203;
+    case 5u: goto L211;
+    case 6u: goto L225;
+    case 7u: goto L259;
+    case 8u: goto L289;
+    case 9u: goto L307;
+    case 10u: goto L319;
+    default: goto L35;
+    }
 L170:;
-    v751 = (u64)((u64)v82 + (u64)UINT64_C(18446744073709551614));
-    v752 = (u64)((u64)v83 << (1u & 63u));
-    v753 = ADDRESS(c268) + v752 * 1u;
-    v754 = load8(v753);
-    v755 = v753 + 1u * 1u;
-    v756 = load8(v755);
-    v757 = v167 + v751 * 1u;
-    store8(v757, v754);
-    v758 = v757 + 1u * 1u;
-    store8(v758, v756);
-    v84 = v751; goto L174;
+    f47(v773, v185);
+    goto L335;
 L171:;
-    v759 = (u16)(v83);
-    v760 = (u16)((u32)v759 / (u32)100u);
-    v761 = (u16)((u32)v760 * (u32)100u);
-    v762 = (u16)((u32)v759 - (u32)v761);
-    v763 = (u16)((u32)v762 << (1u & 15u));
-    v764 = (u64)v763;
-    v765 = ADDRESS(c268) + v764 * 1u;
-    v766 = load8(v765);
-    v767 = v765 + 1u * 1u;
-    v768 = load8(v767);
-    v769 = v167 + v82 * 1u;
-    v770 = v769 + UINT64_C(18446744073709551614) * 1u;
-    store8(v770, v766);
-    v771 = v769 + UINT64_C(18446744073709551615) * 1u;
-    store8(v771, v768);
-    v772 = v83 < 1000u;
-    if (v772) { goto L172; }
-    else { goto L173; }
+    memory_set(v178, 0u, 40u);
+    v780 = (i64)v773 < 0 ? (u64)(0u - (u64)v773) : v773;
+    v781 = v780 > 9999u;
+    if (v781) { v93 = v780; v94 = 40u; goto L172; }
+    else { v95 = 40u; v96 = v780; goto L173; }
 L172:;
-    v773 = (u8)(v760);
-    v774 = (u8)((u32)v773 | (u32)48u);
-    v775 = (u64)((u64)v82 + (u64)UINT64_C(18446744073709551613));
-    v776 = v167 + v775 * 1u;
-    store8(v776, v774);
-    v84 = v775; goto L174;
+    v782 = v93;
+    v783 = (u64)((u64)v782 / (u64)10000u);
+    v784 = (u64)((u64)v783 * (u64)10000u);
+    v785 = (u64)((u64)v782 - (u64)v784);
+    v786 = (u16)(v785);
+    v787 = (u16)((u32)v786 / (u32)100u);
+    v788 = (u16)((u32)v787 * (u32)100u);
+    v789 = (u16)((u32)v786 - (u32)v788);
+    v790 = (u16)((u32)v789 << (1u & 15u));
+    v791 = (u64)v790;
+    v792 = ADDRESS(c294) + v791 * 1u;
+    v793 = load8(v792);
+    v794 = v792 + 1u * 1u;
+    v795 = load8(v794);
+    v796 = v178 + v94 * 1u;
+    v797 = v796 + UINT64_C(18446744073709551614) * 1u;
+    store8(v797, v793);
+    v798 = v796 + UINT64_C(18446744073709551615) * 1u;
+    store8(v798, v795);
+    v799 = (u64)((u64)v94 + (u64)UINT64_C(18446744073709551612));
+    v800 = (u16)((u32)v787 << (1u & 15u));
+    v801 = (u64)v800;
+    v802 = ADDRESS(c294) + v801 * 1u;
+    v803 = load8(v802);
+    v804 = v802 + 1u * 1u;
+    v805 = load8(v804);
+    v806 = v178 + v799 * 1u;
+    store8(v806, v803);
+    v807 = v806 + 1u * 1u;
+    store8(v807, v805);
+    v808 = v93 > UINT64_C(99999999);
+    if (v808) { v93 = v783; v94 = v799; goto L172; }
+    else { v95 = v799; v96 = v783; goto L173; }
 L173:;
-    v777 = (u64)((u64)v82 + (u64)UINT64_C(18446744073709551612));
-    v778 = (u16)((u32)v760 << (1u & 15u));
-    v779 = (u64)v778;
-    v780 = ADDRESS(c268) + v779 * 1u;
-    v781 = load8(v780);
-    v782 = v780 + 1u * 1u;
-    v783 = load8(v782);
-    v784 = v167 + v777 * 1u;
-    store8(v784, v781);
-    v785 = v784 + 1u * 1u;
-    store8(v785, v783);
-    v84 = v777; goto L174;
+    v809 = v96 < 100u;
+    if (v809) { goto L174; }
+    else { goto L177; }
 L174:;
-    v786 = (i64)v399 > (i64)UINT64_C(18446744073709551615);
-    if (v786) { v85 = v84; goto L176; }
-    else { goto L175; }
+    v810 = v96 < 10u;
+    if (v810) { goto L175; }
+    else { goto L176; }
 L175:;
-    v787 = (u64)((u64)v84 + (u64)UINT64_C(18446744073709551615));
-    v788 = v167 + v787 * 1u;
-    store8(v788, 45u);
-    v85 = v787; goto L176;
+    v811 = (u8)(v96);
+    v812 = (u8)((u32)v811 | (u32)48u);
+    v813 = (u64)((u64)v95 + (u64)UINT64_C(18446744073709551615));
+    v814 = v178 + v813 * 1u;
+    store8(v814, v812);
+    v97 = v813; goto L180;
 L176:;
-    v789 = v167 + v85 * 1u;
-    v790 = (u64)((u64)40u - (u64)v85);
-    v791 = v36 == 1u;
-    if (v791) { goto L177; }
-    else { goto L180; }
+    v815 = (u64)((u64)v95 + (u64)UINT64_C(18446744073709551614));
+    v816 = (u64)((u64)v96 << (1u & 63u));
+    v817 = ADDRESS(c294) + v816 * 1u;
+    v818 = load8(v817);
+    v819 = v817 + 1u * 1u;
+    v820 = load8(v819);
+    v821 = v178 + v815 * 1u;
+    store8(v821, v818);
+    v822 = v821 + 1u * 1u;
+    store8(v822, v820);
+    v97 = v815; goto L180;
 L177:;
-    v792 = load64(v183);
-    v793 = load64(v181);
-    v794 = v793 < v792;
-    v795 = (u64)((u64)v793 - (u64)v792);
-    v796 = v795 < v790;
-    v797 = v794 ? 1u : v796;
-    if (v797) { v86 = 0u; v87 = 0u; goto L179; }
-    else { goto L178; }
+    v823 = (u16)(v96);
+    v824 = (u16)((u32)v823 / (u32)100u);
+    v825 = (u16)((u32)v824 * (u32)100u);
+    v826 = (u16)((u32)v823 - (u32)v825);
+    v827 = (u16)((u32)v826 << (1u & 15u));
+    v828 = (u64)v827;
+    v829 = ADDRESS(c294) + v828 * 1u;
+    v830 = load8(v829);
+    v831 = v829 + 1u * 1u;
+    v832 = load8(v831);
+    v833 = v178 + v95 * 1u;
+    v834 = v833 + UINT64_C(18446744073709551614) * 1u;
+    store8(v834, v830);
+    v835 = v833 + UINT64_C(18446744073709551615) * 1u;
+    store8(v835, v832);
+    v836 = v96 < 1000u;
+    if (v836) { goto L178; }
+    else { goto L179; }
 L178:;
-    v798 = load_address(v174);
-    v799 = (u64)((u64)v792 + (u64)v790);
-    v800 = v798 + v792 * 1u;
-    memory_cpy(v800, v789, v790);
-    v86 = v799; v87 = 1u; goto L179;
+    v837 = (u8)(v824);
+    v838 = (u8)((u32)v837 | (u32)48u);
+    v839 = (u64)((u64)v95 + (u64)UINT64_C(18446744073709551613));
+    v840 = v178 + v839 * 1u;
+    store8(v840, v838);
+    v97 = v839; goto L180;
 L179:;
-    store64(v182, v87);
-    store64(v183, v86);
-    goto L180;
-L180:;
-    goto L270;
-L181:;
-    v801 = load64(v183);
-    v802 = load64(v181);
-    v803 = v802 < v801;
-    v804 = (u64)((u64)v802 - (u64)v801);
-    v805 = v804 < v715;
-    v806 = v803 ? 1u : v805;
-    if (v806) { v89 = 0u; v90 = 0u; goto L185; }
-    else { goto L182; }
-L182:;
-    v807 = load_address(v174);
-    v808 = (u64)((u64)v801 + (u64)v715);
-    v809 = v807 + v801 * 1u;
-    v810 = (u64)v809;
-    v811 = (u64)v716;
-    v812 = (u64)((u64)v810 - (u64)v811);
-    v813 = v812 < v715;
-    if (v813) { v88 = 0u; goto L184; }
-    else { goto L183; }
-L183:;
-    memory_cpy(v809, v716, v715);
-    v89 = v808; v90 = 1u; goto L185;
-L184:;
-    v814 = v809 + v88 * 1u;
-    v815 = v716 + v88 * 1u;
-    v816 = load8(v815);
-    store8(v814, v816);
-    v817 = (u64)((u64)v88 + (u64)1u);
-    v818 = v817 == v715;
-    if (v818) { v89 = v808; v90 = 1u; goto L185; }
-    else { v88 = v817; goto L184; }
-L185:;
-    store64(v182, v90);
-    store64(v183, v89);
-    goto L270;
-L186:;
-    v819 = load64(v183);
-    v820 = load64(v181);
-    v821 = v820 > v819;
-    if (v821) { goto L187; }
-    else { v91 = 0u; v92 = 0u; goto L188; }
-L187:;
-    v822 = load_address(v174);
-    v823 = (u64)((u64)v819 + (u64)1u);
-    v824 = v822 + v819 * 1u;
-    store8(v824, 45u);
-    v91 = v823; v92 = 1u; goto L188;
-L188:;
-    store64(v182, v92);
-    store64(v183, v91);
-    goto L189;
-L189:;
-    v825 = (u64)((u64)v406 >> (16u & 63u));
-    f47(v825, v174);
-    v826 = load8(v182);
-    v827 = v826 == 1u;
-    if (v827) { goto L190; }
-    else { goto L193; }
-L190:;
-    v828 = load64(v183);
-    v829 = load64(v181);
-    v830 = v829 > v828;
-    if (v830) { goto L191; }
-    else { v93 = 0u; v94 = 0u; goto L192; }
-L191:;
-    v831 = load_address(v174);
-    v832 = (u64)((u64)v828 + (u64)1u);
-    v833 = v831 + v828 * 1u;
-    store8(v833, 46u);
-    v93 = v832; v94 = 1u; goto L192;
-L192:;
-    store64(v182, v94);
-    store64(v183, v93);
-    goto L193;
-L193:;
-    v834 = (u32)(v406);
-    v835 = (u32)((u32)v834 & (u32)65535u);
-    v95 = v835; v96 = 16u; goto L194;
-L194:;
-    v836 = (u32)((u32)v95 * (u32)10u);
-    v837 = (u32)((u32)v836 >> (16u & 31u));
-    v838 = (u64)v837;
-    f47(v838, v174);
-    v839 = (u32)((u32)v836 & (u32)65534u);
-    v840 = v839 == 0u;
-    v841 = (u8)((u32)v96 + (u32)255u);
-    v842 = v841 == 0u;
-    v843 = v840 ? 1u : v842;
-    if (v843) { goto L270; }
-    else { v95 = v839; v96 = v841; goto L194; }
-L195:;
-    v844 = v168 + v98 * 1u;
+    v841 = (u64)((u64)v95 + (u64)UINT64_C(18446744073709551612));
+    v842 = (u16)((u32)v824 << (1u & 15u));
+    v843 = (u64)v842;
+    v844 = ADDRESS(c294) + v843 * 1u;
     v845 = load8(v844);
-    v846 = (u8)((u32)v845 >> (4u & 7u));
-    v847 = v845 < 160u;
-    v848 = (u8)((u32)v846 | (u32)48u);
-    v849 = (u8)((u32)v846 + (u32)87u);
-    v850 = v847 ? v848 : v849;
-    v851 = v97 == 1u;
-    if (v851) { goto L196; }
-    else { v101 = v97; goto L201; }
+    v846 = v844 + 1u * 1u;
+    v847 = load8(v846);
+    v848 = v178 + v841 * 1u;
+    store8(v848, v845);
+    v849 = v848 + 1u * 1u;
+    store8(v849, v847);
+    v97 = v841; goto L180;
+L180:;
+    v850 = (i64)v91 > (i64)UINT64_C(18446744073709551615);
+    if (v850) { v98 = v97; goto L182; }
+    else { goto L181; }
+L181:;
+    v851 = (u64)((u64)v97 + (u64)UINT64_C(18446744073709551615));
+    v852 = v178 + v851 * 1u;
+    store8(v852, 45u);
+    v98 = v851; goto L182;
+L182:;
+    v853 = v178 + v98 * 1u;
+    v854 = (u64)((u64)40u - (u64)v98);
+    v855 = v36 == 1u;
+    if (v855) { goto L183; }
+    else { goto L186; }
+L183:;
+    v856 = load64(v194);
+    v857 = load64(v192);
+    v858 = v857 < v856;
+    v859 = (u64)((u64)v857 - (u64)v856);
+    v860 = v859 < v854;
+    v861 = v858 ? 1u : v860;
+    if (v861) { v99 = 0u; v100 = 0u; goto L185; }
+    else { goto L184; }
+L184:;
+    v862 = load_address(v185);
+    v863 = (u64)((u64)v856 + (u64)v854);
+    v864 = v862 + v856 * 1u;
+    memory_cpy(v864, v853, v854);
+    v99 = v863; v100 = 1u; goto L185;
+L185:;
+    store64(v193, v100);
+    store64(v194, v99);
+    goto L186;
+L186:;
+    goto L335;
+L187:;
+    v865 = (u8)((v85) & UINT64_C(1));
+    v866 = v865 ? 4u : 5u;
+    v867 = v865 ? ADDRESS(c167) : ADDRESS(c168);
+    v868 = v36 == 1u;
+    if (v868) { goto L188; }
+    else { goto L335; }
+L188:;
+    v869 = load64(v194);
+    v870 = load64(v192);
+    v871 = v870 < v869;
+    v872 = (u64)((u64)v870 - (u64)v869);
+    v873 = v872 < v866;
+    v874 = v871 ? 1u : v873;
+    if (v874) { v102 = 0u; v103 = 0u; goto L192; }
+    else { goto L189; }
+L189:;
+    v875 = load_address(v185);
+    v876 = (u64)((u64)v869 + (u64)v866);
+    v877 = v875 + v869 * 1u;
+    v878 = (u64)v877;
+    v879 = (u64)v867;
+    v880 = (u64)((u64)v878 - (u64)v879);
+    v881 = v880 < v866;
+    if (v881) { v101 = 0u; goto L191; }
+    else { goto L190; }
+L190:;
+    memory_cpy(v877, v867, v866);
+    v102 = v876; v103 = 1u; goto L192;
+L191:;
+    v882 = v877 + v101 * 1u;
+    v883 = v867 + v101 * 1u;
+    v884 = load8(v883);
+    store8(v882, v884);
+    v885 = (u64)((u64)v101 + (u64)1u);
+    v886 = v885 == v866;
+    if (v886) { v102 = v876; v103 = 1u; goto L192; }
+    else { v101 = v885; goto L191; }
+L192:;
+    store64(v193, v103);
+    store64(v194, v102);
+    goto L335;
+L193:;
+    v887 = (i64)v773 < 0 ? (u64)(0u - (u64)v773) : v773;
+    v888 = (i64)v91 < (i64)0u;
+    v889 = v36 == 1u;
+    v890 = v888 ? v889 : 0u;
+    if (v890) { goto L194; }
+    else { goto L197; }
+L194:;
+    v891 = load64(v194);
+    v892 = load64(v192);
+    v893 = v892 > v891;
+    if (v893) { goto L195; }
+    else { v104 = 0u; v105 = 0u; goto L196; }
+L195:;
+    v894 = load_address(v185);
+    v895 = (u64)((u64)v891 + (u64)1u);
+    v896 = v894 + v891 * 1u;
+    store8(v896, 45u);
+    v104 = v895; v105 = 1u; goto L196;
 L196:;
-    v852 = load64(v183);
-    v853 = load64(v181);
-    v854 = v853 > v852;
-    if (v854) { goto L197; }
-    else { goto L200; }
+    store64(v193, v105);
+    store64(v194, v104);
+    goto L197;
 L197:;
-    v855 = load_address(v174);
-    v856 = (u64)((u64)v852 + (u64)1u);
-    v857 = v855 + v852 * 1u;
-    store8(v857, v850);
-    v858 = load64(v181);
-    v859 = v858 > v856;
-    if (v859) { goto L198; }
-    else { v99 = 0u; v100 = 0u; goto L199; }
+    v897 = (u64)((u64)v887 >> (16u & 63u));
+    f47(v897, v185);
+    v898 = load8(v193);
+    v899 = v898 == 1u;
+    if (v899) { goto L198; }
+    else { goto L201; }
 L198:;
-    v860 = (u8)((u32)v845 & (u32)15u);
-    v861 = v860 < 10u;
-    v862 = (u8)((u32)v860 | (u32)48u);
-    v863 = (u8)((u32)v860 + (u32)87u);
-    v864 = v861 ? v862 : v863;
-    v865 = load_address(v174);
-    v866 = (u64)((u64)v852 + (u64)2u);
-    v867 = v865 + v856 * 1u;
-    store8(v867, v864);
-    v99 = v866; v100 = 1u; goto L199;
+    v900 = load64(v194);
+    v901 = load64(v192);
+    v902 = v901 > v900;
+    if (v902) { goto L199; }
+    else { v106 = 0u; v107 = 0u; goto L200; }
 L199:;
-    store64(v182, v100);
-    store64(v183, v99);
-    v868 = (u8)(v100);
-    v101 = v868; goto L201;
+    v903 = load_address(v185);
+    v904 = (u64)((u64)v900 + (u64)1u);
+    v905 = v903 + v900 * 1u;
+    store8(v905, 46u);
+    v106 = v904; v107 = 1u; goto L200;
 L200:;
-    memory_set(v182, 0u, 16u);
-    v101 = 0u; goto L201;
+    store64(v193, v107);
+    store64(v194, v106);
+    goto L201;
 L201:;
-    v869 = (u64)((u64)v98 + (u64)1u);
-    v870 = v869 == 8u;
-    if (v870) { goto L270; }
-    else { v97 = v101; v98 = v869; goto L195; }
+    v906 = (u32)(v887);
+    v907 = (u32)((u32)v906 & (u32)65535u);
+    v108 = v907; v109 = 16u; goto L202;
 L202:;
-    v871 = (u8)((u32)v102 >> (4u & 7u));
-    v872 = v102 < 160u;
-    v873 = (u8)((u32)v871 | (u32)48u);
-    v874 = (u8)((u32)v871 + (u32)87u);
-    v875 = v872 ? v873 : v874;
-    v876 = v104 == 1u;
-    if (v876) { goto L203; }
-    else { v108 = v103; v109 = v104; goto L207; }
+    v908 = (u32)((u32)v108 * (u32)10u);
+    v909 = (u32)((u32)v908 >> (16u & 31u));
+    v910 = (u64)v909;
+    f47(v910, v185);
+    v911 = (u32)((u32)v908 & (u32)65534u);
+    v912 = v911 == 0u;
+    v913 = (u8)((u32)v109 + (u32)255u);
+    v914 = v913 == 0u;
+    v915 = v912 ? 1u : v914;
+    if (v915) { goto L335; }
+    else { v108 = v911; v109 = v913; goto L202; }
 L203:;
-    v877 = load64(v183);
-    v878 = load64(v181);
-    v879 = v878 > v877;
-    if (v879) { goto L204; }
-    else { goto L209; }
+    store8(v179, v85);
+    store8(v246, v86);
+    store8(v247, v775);
+    store16(v248, v777);
+    store16(v249, v779);
+    store8(v250, v88);
+    v110 = v36; v111 = 0u; goto L204;
 L204:;
-    v880 = load_address(v174);
-    v881 = (u64)((u64)v877 + (u64)1u);
-    v882 = v880 + v877 * 1u;
-    store8(v882, v875);
-    v883 = load64(v181);
-    v884 = v883 > v881;
-    if (v884) { goto L205; }
-    else { v106 = 0u; v107 = 0u; goto L206; }
+    v916 = v179 + v111 * 1u;
+    v917 = load8(v916);
+    v918 = (u8)((u32)v917 >> (4u & 7u));
+    v919 = v917 < 160u;
+    v920 = (u8)((u32)v918 | (u32)48u);
+    v921 = (u8)((u32)v918 + (u32)87u);
+    v922 = v919 ? v920 : v921;
+    v923 = v110 == 1u;
+    if (v923) { goto L205; }
+    else { v114 = v110; goto L210; }
 L205:;
-    v885 = (u8)((u32)v102 & (u32)15u);
-    v886 = v885 < 10u;
-    v887 = (u8)((u32)v885 | (u32)48u);
-    v888 = (u8)((u32)v885 + (u32)87u);
-    v889 = v886 ? v887 : v888;
-    v890 = load_address(v174);
-    v891 = (u64)((u64)v877 + (u64)2u);
-    v892 = v890 + v881 * 1u;
-    store8(v892, v889);
-    v106 = v891; v107 = 1u; goto L206;
+    v924 = load64(v194);
+    v925 = load64(v192);
+    v926 = v925 > v924;
+    if (v926) { goto L206; }
+    else { goto L209; }
 L206:;
-    store64(v182, v107);
-    store64(v183, v106);
-    v893 = (u8)(v107);
-    v108 = v893; v109 = v893; goto L207;
+    v927 = load_address(v185);
+    v928 = (u64)((u64)v924 + (u64)1u);
+    v929 = v927 + v924 * 1u;
+    store8(v929, v922);
+    v930 = load64(v192);
+    v931 = v930 > v928;
+    if (v931) { goto L207; }
+    else { v112 = 0u; v113 = 0u; goto L208; }
 L207:;
-    v894 = (u64)((u64)v105 + (u64)1u);
-    v895 = v894 == 8u;
-    if (v895) { goto L210; }
-    else { v110 = v108; v111 = v109; v112 = v894; goto L208; }
+    v932 = (u8)((u32)v917 & (u32)15u);
+    v933 = v932 < 10u;
+    v934 = (u8)((u32)v932 | (u32)48u);
+    v935 = (u8)((u32)v932 + (u32)87u);
+    v936 = v933 ? v934 : v935;
+    v937 = load_address(v185);
+    v938 = (u64)((u64)v924 + (u64)2u);
+    v939 = v937 + v928 * 1u;
+    store8(v939, v936);
+    v112 = v938; v113 = 1u; goto L208;
 L208:;
-    v896 = v169 + v112 * 1u;
-    v897 = load8(v896);
-    v102 = v897; v103 = v110; v104 = v111; v105 = v112; goto L202;
+    store64(v193, v113);
+    store64(v194, v112);
+    v940 = (u8)(v113);
+    v114 = v940; goto L210;
 L209:;
-    memory_set(v182, 0u, 16u);
-    v898 = (u64)((u64)v105 + (u64)1u);
-    v899 = v898 == 8u;
-    if (v899) { goto L214; }
-    else { v110 = 0u; v111 = 0u; v112 = v898; goto L208; }
+    memory_set(v193, 0u, 16u);
+    v114 = 0u; goto L210;
 L210:;
-    v900 = v108 == 1u;
-    if (v900) { goto L211; }
-    else { goto L214; }
+    v941 = (u64)((u64)v111 + (u64)1u);
+    v942 = v941 == 8u;
+    if (v942) { goto L335; }
+    else { v110 = v114; v111 = v941; goto L204; }
 L211:;
-    v901 = load64(v183);
-    v902 = load64(v181);
-    v903 = v902 > v901;
-    if (v903) { goto L212; }
-    else { v113 = 0u; v114 = 0u; goto L213; }
+    store8(v242, v775);
+    store16(v243, v777);
+    store16(v244, v779);
+    v943 = (u32)(v772);
+    store32(v245, v943);
+    v115 = v86; v116 = v36; v117 = v36; v118 = 0u; goto L212;
 L212:;
-    v904 = load_address(v174);
-    v905 = (u64)((u64)v901 + (u64)1u);
-    v906 = v904 + v901 * 1u;
-    store8(v906, 47u);
-    v113 = v905; v114 = 1u; goto L213;
+    v944 = (u8)((u32)v115 >> (4u & 7u));
+    v945 = v115 < 160u;
+    v946 = (u8)((u32)v944 | (u32)48u);
+    v947 = (u8)((u32)v944 + (u32)87u);
+    v948 = v945 ? v946 : v947;
+    v949 = v117 == 1u;
+    if (v949) { goto L213; }
+    else { v121 = v116; v122 = v117; goto L217; }
 L213:;
-    store64(v182, v114);
-    store64(v183, v113);
-    goto L214;
+    v950 = load64(v194);
+    v951 = load64(v192);
+    v952 = v951 > v950;
+    if (v952) { goto L214; }
+    else { goto L219; }
 L214:;
-    f47(v424, v174);
-    goto L270;
+    v953 = load_address(v185);
+    v954 = (u64)((u64)v950 + (u64)1u);
+    v955 = v953 + v950 * 1u;
+    store8(v955, v948);
+    v956 = load64(v192);
+    v957 = v956 > v954;
+    if (v957) { goto L215; }
+    else { v119 = 0u; v120 = 0u; goto L216; }
 L215:;
-    v907 = load8(v307);
-    v908 = (u8)((u32)v907 + (u32)255u);
-    v909 = v908 < 9u;
-    if (v909) { goto L216; }
-    else { v115 = 0u; v116 = 0u; goto L217; }
+    v958 = (u8)((u32)v115 & (u32)15u);
+    v959 = v958 < 10u;
+    v960 = (u8)((u32)v958 | (u32)48u);
+    v961 = (u8)((u32)v958 + (u32)87u);
+    v962 = v959 ? v960 : v961;
+    v963 = load_address(v185);
+    v964 = (u64)((u64)v950 + (u64)2u);
+    v965 = v963 + v954 * 1u;
+    store8(v965, v962);
+    v119 = v964; v120 = 1u; goto L216;
 L216:;
-    v910 = (u8)((u32)v907 + (u32)255u);
-    v911 = (u64)v910;
-    v912 = ADDRESS(c308) + v911 * 8u;
-    v913 = load_address(v912);
-    v914 = (u64)v910;
-    v915 = ADDRESS(c309) + v914 * 8u;
-    v916 = load64(v915);
-    v115 = v913; v116 = v916; goto L217;
+    store64(v193, v120);
+    store64(v194, v119);
+    v966 = (u8)(v120);
+    v121 = v966; v122 = v966; goto L217;
 L217:;
-    v917 = (u64)v909;
-    store64(v166, v917);
-    store_address(v235, v115);
-    store64(v236, v116);
-    f48(v166, v907, v174);
-    goto L270;
+    v967 = (u64)((u64)v118 + (u64)1u);
+    v968 = v967 == 8u;
+    if (v968) { goto L220; }
+    else { v123 = v121; v124 = v122; v125 = v967; goto L218; }
 L218:;
-    v918 = load8(v307);
-    v919 = (u8)((u32)v918 + (u32)2u);
-    v920 = v919 < 7u;
-    if (v920) { goto L219; }
-    else { v117 = 0u; v118 = 0u; v119 = 0u; goto L220; }
+    v969 = v180 + v125 * 1u;
+    v970 = load8(v969);
+    v115 = v970; v116 = v123; v117 = v124; v118 = v125; goto L212;
 L219:;
-    v921 = (u64)v919;
-    v922 = ADDRESS(c310) + v921 * 8u;
-    v923 = load64(v922);
-    v924 = (u64)v919;
-    v925 = ADDRESS(c311) + v924 * 8u;
-    v926 = load_address(v925);
-    v927 = (u64)v919;
-    v928 = ADDRESS(c312) + v927 * 8u;
-    v929 = load64(v928);
-    v117 = v923; v118 = v926; v119 = v929; goto L220;
+    memory_set(v193, 0u, 16u);
+    v971 = (u64)((u64)v118 + (u64)1u);
+    v972 = v971 == 8u;
+    if (v972) { goto L224; }
+    else { v123 = 0u; v124 = 0u; v125 = v971; goto L218; }
 L220:;
-    store64(v165, v117);
-    store_address(v233, v118);
-    store64(v234, v119);
-    f48(v165, v918, v174);
-    goto L270;
-L221:;
-    goto L270;
-L222:;
-    v930 = v120 + 1u * 1u;
-    v931 = v121 == 0u;
-    if (v931) { goto L270; }
-    else { v122 = v36; v123 = 0u; goto L223; }
-L223:;
-    v932 = v930 + v123 * 1u;
-    v933 = load8(v932);
-    v934 = (u8)((u32)v933 + (u32)129u);
-    v935 = v934 < 161u;
-    v936 = v933 == 92u;
-    v937 = (u8)(((u32)v936 | (u32)v935) & UINT64_C(1));
-    v938 = v122 == 1u;
-    if (v937) { goto L228; }
+    v973 = v121 == 1u;
+    if (v973) { goto L221; }
     else { goto L224; }
+L221:;
+    v974 = load64(v194);
+    v975 = load64(v192);
+    v976 = v975 > v974;
+    if (v976) { goto L222; }
+    else { v126 = 0u; v127 = 0u; goto L223; }
+L222:;
+    v977 = load_address(v185);
+    v978 = (u64)((u64)v974 + (u64)1u);
+    v979 = v977 + v974 * 1u;
+    store8(v979, 47u);
+    v126 = v978; v127 = 1u; goto L223;
+L223:;
+    store64(v193, v127);
+    store64(v194, v126);
+    goto L224;
 L224:;
-    if (v938) { goto L225; }
-    else { v128 = v122; goto L239; }
+    v980 = (u64)((u64)v90 & (u64)65535u);
+    f47(v980, v185);
+    goto L335;
 L225:;
-    v939 = load64(v183);
-    v940 = load64(v181);
-    v941 = v940 > v939;
-    if (v941) { goto L226; }
-    else { v124 = 0u; v125 = 0u; goto L227; }
+    switch (v85) {
+    case 0u: goto L226;
+    case 1u: goto L228;
+    case 2u: goto L229;
+    case 3u: goto L238;
+    default: goto L239;
+    }
 L226:;
-    v942 = load_address(v174);
-    v943 = (u64)((u64)v939 + (u64)1u);
-    v944 = v942 + v939 * 1u;
-    store8(v944, v933);
-    v124 = v943; v125 = 1u; goto L227;
+    v981 = (u8)((u32)v86 + (u32)255u);
+    v982 = v981 < 9u;
+    if (v982) { goto L227; }
+    else { goto L248; }
 L227:;
-    store64(v182, v125);
-    store64(v183, v124);
-    v945 = (u8)(v125);
-    v128 = v945; goto L239;
+    v983 = (u8)((u32)v86 + (u32)255u);
+    v984 = (u64)v983;
+    v985 = ADDRESS(c323) + v984 * 8u;
+    v986 = load_address(v985);
+    v987 = (u64)v983;
+    v988 = ADDRESS(c324) + v987 * 8u;
+    v989 = load64(v988);
+    v128 = v986; v129 = v989; goto L242;
 L228:;
-    if (v938) { goto L229; }
-    else { v128 = v122; goto L239; }
+    v990 = (u8)((u32)v86 + (u32)2u);
+    v991 = v990 < 7u;
+    v992 = (u8)((u32)121u >> (v990 & 7u));
+    v993 = (u8)((v992) & UINT64_C(1));
+    v994 = v991 ? v993 : 0u;
+    if (v994) { goto L240; }
+    else { goto L248; }
 L229:;
-    v946 = load64(v183);
-    v947 = load64(v181);
-    v948 = v947 < v946;
-    v949 = (u64)((u64)v947 - (u64)v946);
-    v950 = v949 < 2u;
-    v951 = v948 ? 1u : v950;
-    if (v951) { goto L238; }
-    else { goto L230; }
+    switch (v86) {
+    case 16u: v128 = ADDRESS(c183); v129 = 12u; goto L242;
+    case 32u: goto L230;
+    case 48u: goto L231;
+    case 57u: goto L232;
+    case 64u: goto L233;
+    case 80u: goto L234;
+    case 96u: goto L235;
+    case 144u: goto L236;
+    case 160u: goto L237;
+    default: goto L248;
+    }
 L230:;
-    v952 = load_address(v174);
-    v953 = (u64)((u64)v946 + (u64)2u);
-    v954 = v952 + v946 * 1u;
-    v955 = (u64)v954;
-    v956 = (u64)((u64)v955 - (u64)ADDRESS(c278));
-    v957 = v956 < 2u;
-    if (v957) { goto L231; }
-    else { goto L232; }
+    v128 = ADDRESS(c184); v129 = 4u; goto L242;
 L231:;
-    store8(v954, 92u);
-    v958 = v954 + 1u * 1u;
-    store8(v958, 120u);
-    goto L233;
+    v128 = ADDRESS(c185); v129 = 17u; goto L242;
 L232:;
-    store16(v954, 30812u);
-    goto L233;
+    v128 = ADDRESS(c186); v129 = 16u; goto L242;
 L233:;
-    v959 = load64(v181);
-    v960 = v959 > v953;
-    if (v960) { goto L234; }
-    else { goto L237; }
+    v128 = ADDRESS(c187); v129 = 3u; goto L242;
 L234:;
-    v961 = v933 < 160u;
-    v962 = (u8)((u32)v933 >> (4u & 7u));
-    v963 = (u8)((u32)v962 | (u32)48u);
-    v964 = (u8)((u32)v962 + (u32)87u);
-    v965 = v961 ? v963 : v964;
-    v966 = load_address(v174);
-    v967 = (u64)((u64)v946 + (u64)3u);
-    v968 = v966 + v953 * 1u;
-    store8(v968, v965);
-    v969 = load64(v181);
-    v970 = v969 > v967;
-    if (v970) { goto L235; }
-    else { v126 = 0u; v127 = 0u; goto L236; }
+    v128 = ADDRESS(c188); v129 = 3u; goto L242;
 L235:;
-    v971 = (u8)((u32)v933 & (u32)15u);
-    v972 = v971 < 10u;
-    v973 = (u8)((u32)v971 | (u32)48u);
-    v974 = (u8)((u32)v971 + (u32)87u);
-    v975 = v972 ? v973 : v974;
-    v976 = load_address(v174);
-    v977 = (u64)((u64)v946 + (u64)4u);
-    v978 = v976 + v967 * 1u;
-    store8(v978, v975);
-    v126 = v977; v127 = 1u; goto L236;
+    v128 = ADDRESS(c189); v129 = 8u; goto L242;
 L236:;
-    store64(v182, v127);
-    store64(v183, v126);
-    v979 = (u8)(v127);
-    v128 = v979; goto L239;
+    v128 = ADDRESS(c190); v129 = 5u; goto L242;
 L237:;
-    memory_set(v182, 0u, 16u);
-    v128 = 0u; goto L239;
+    v128 = ADDRESS(c191); v129 = 19u; goto L242;
 L238:;
-    memory_set(v182, 0u, 16u);
-    v128 = 0u; goto L239;
+    v995 = v86 < 5u;
+    if (v995) { goto L241; }
+    else { goto L248; }
 L239:;
-    v980 = (u64)((u64)v123 + (u64)1u);
-    v981 = v980 == v121;
-    if (v981) { goto L270; }
-    else { v122 = v128; v123 = v980; goto L223; }
+    UNREACHABLE;
 L240:;
-    goto L242;
+    v996 = (u64)v990;
+    v997 = ADDRESS(c325) + v996 * 8u;
+    v998 = load_address(v997);
+    v999 = (u64)v990;
+    v1000 = ADDRESS(c326) + v999 * 8u;
+    v1001 = load64(v1000);
+    v128 = v998; v129 = v1001; goto L242;
 L241:;
-    v982 = v130 == 0u;
-    if (v982) { goto L242; }
-    else { v133 = v36; v134 = 0u; goto L246; }
+    v1002 = (u64)v86;
+    v1003 = ADDRESS(c327) + v1002 * 8u;
+    v1004 = load_address(v1003);
+    v1005 = (u64)v86;
+    v1006 = ADDRESS(c328) + v1005 * 8u;
+    v1007 = load64(v1006);
+    v128 = v1004; v129 = v1007; goto L242;
 L242:;
-    v983 = v36 == 1u;
-    if (v983) { goto L243; }
-    else { goto L270; }
+    v1008 = v36 == 1u;
+    if (v1008) { goto L243; }
+    else { goto L335; }
 L243:;
-    v984 = load64(v183);
-    v985 = load64(v181);
-    v986 = v985 > v984;
-    if (v986) { goto L244; }
-    else { v131 = 0u; v132 = 0u; goto L245; }
+    v1009 = load64(v194);
+    v1010 = load64(v192);
+    v1011 = v1010 < v1009;
+    v1012 = (u64)((u64)v1010 - (u64)v1009);
+    v1013 = v1012 < v129;
+    v1014 = v1011 ? 1u : v1013;
+    if (v1014) { v131 = 0u; v132 = 0u; goto L247; }
+    else { goto L244; }
 L244:;
-    v987 = load_address(v174);
-    v988 = (u64)((u64)v984 + (u64)1u);
-    v989 = v987 + v984 * 1u;
-    store8(v989, 45u);
-    v131 = v988; v132 = 1u; goto L245;
+    v1015 = load_address(v185);
+    v1016 = (u64)((u64)v1009 + (u64)v129);
+    v1017 = v1015 + v1009 * 1u;
+    v1018 = (u64)v1017;
+    v1019 = (u64)v128;
+    v1020 = (u64)((u64)v1018 - (u64)v1019);
+    v1021 = v1020 < v129;
+    if (v1021) { v130 = 0u; goto L246; }
+    else { goto L245; }
 L245:;
-    store64(v182, v132);
-    store64(v183, v131);
-    goto L270;
+    memory_move(v1017, v128, v129);
+    v131 = v1016; v132 = 1u; goto L247;
 L246:;
-    v990 = v129 + v134 * 1u;
-    v991 = load8(v990);
-    v992 = (u8)((u32)v991 >> (4u & 7u));
-    v993 = v991 < 160u;
-    v994 = (u8)((u32)v992 | (u32)48u);
-    v995 = (u8)((u32)v992 + (u32)87u);
-    v996 = v993 ? v994 : v995;
-    v997 = v133 == 1u;
-    if (v997) { goto L247; }
-    else { v137 = v133; goto L252; }
+    v1022 = v1017 + v130 * 1u;
+    v1023 = v128 + v130 * 1u;
+    v1024 = load8(v1023);
+    store8(v1022, v1024);
+    v1025 = (u64)((u64)v130 + (u64)1u);
+    v1026 = v1025 == v129;
+    if (v1026) { v131 = v1016; v132 = 1u; goto L247; }
+    else { v130 = v1025; goto L246; }
 L247:;
-    v998 = load64(v183);
-    v999 = load64(v181);
-    v1000 = v999 > v998;
-    if (v1000) { goto L248; }
-    else { goto L251; }
+    store64(v193, v132);
+    store64(v194, v131);
+    goto L335;
 L248:;
-    v1001 = load_address(v174);
-    v1002 = (u64)((u64)v998 + (u64)1u);
-    v1003 = v1001 + v998 * 1u;
-    store8(v1003, v996);
-    v1004 = load64(v181);
-    v1005 = v1004 > v1002;
-    if (v1005) { goto L249; }
-    else { v135 = 0u; v136 = 0u; goto L250; }
+    v1027 = v36 == 1u;
+    if (v1027) { goto L249; }
+    else { goto L335; }
 L249:;
-    v1006 = (u8)((u32)v991 & (u32)15u);
-    v1007 = v1006 < 10u;
-    v1008 = (u8)((u32)v1006 | (u32)48u);
-    v1009 = (u8)((u32)v1006 + (u32)87u);
-    v1010 = v1007 ? v1008 : v1009;
-    v1011 = load_address(v174);
-    v1012 = (u64)((u64)v998 + (u64)2u);
-    v1013 = v1011 + v1002 * 1u;
-    store8(v1013, v1010);
-    v135 = v1012; v136 = 1u; goto L250;
+    v1028 = load64(v194);
+    v1029 = load64(v192);
+    v1030 = v1029 < v1028;
+    v1031 = (u64)((u64)v1029 - (u64)v1028);
+    v1032 = v1031 < 2u;
+    v1033 = v1030 ? 1u : v1032;
+    if (v1033) { goto L258; }
+    else { goto L250; }
 L250:;
-    store64(v182, v136);
-    store64(v183, v135);
-    v1014 = (u8)(v136);
-    v137 = v1014; goto L252;
+    v1034 = load_address(v185);
+    v1035 = (u64)((u64)v1028 + (u64)2u);
+    v1036 = v1034 + v1028 * 1u;
+    v1037 = (u64)v1036;
+    v1038 = (u64)((u64)v1037 - (u64)ADDRESS(c293));
+    v1039 = v1038 < 2u;
+    if (v1039) { goto L251; }
+    else { goto L252; }
 L251:;
-    memory_set(v182, 0u, 16u);
-    v137 = 0u; goto L252;
+    store8(v1036, 48u);
+    v1040 = v1036 + 1u * 1u;
+    store8(v1040, 120u);
+    goto L253;
 L252:;
-    v1015 = (u64)((u64)v134 + (u64)1u);
-    v1016 = v1015 == v130;
-    if (v1016) { goto L270; }
-    else { v133 = v137; v134 = v1015; goto L246; }
+    store16(v1036, 30768u);
+    goto L253;
 L253:;
-    v1017 = load8(v307);
-    v1018 = v1017 < 5u;
-    if (v1018) { goto L254; }
-    else { v138 = 0u; v139 = 0u; v140 = 0u; goto L255; }
+    v1041 = load64(v192);
+    v1042 = v1041 > v1035;
+    if (v1042) { goto L254; }
+    else { goto L257; }
 L254:;
-    v1019 = (u64)v1017;
-    v1020 = ADDRESS(c313) + v1019 * 8u;
-    v1021 = load64(v1020);
-    v1022 = (u64)v1017;
-    v1023 = ADDRESS(c314) + v1022 * 8u;
-    v1024 = load_address(v1023);
-    v138 = v1021; v139 = v1024; v140 = 1u; goto L255;
+    v1043 = v86 < 160u;
+    v1044 = (u8)((u32)v86 >> (4u & 7u));
+    v1045 = (u8)((u32)v1044 | (u32)48u);
+    v1046 = (u8)((u32)v1044 + (u32)87u);
+    v1047 = v1043 ? v1045 : v1046;
+    v1048 = load_address(v185);
+    v1049 = (u64)((u64)v1028 + (u64)3u);
+    v1050 = v1048 + v1035 * 1u;
+    store8(v1050, v1047);
+    v1051 = load64(v192);
+    v1052 = v1051 > v1049;
+    if (v1052) { goto L255; }
+    else { v133 = 0u; v134 = 0u; goto L256; }
 L255:;
-    store64(v164, v140);
-    store_address(v231, v139);
-    store64(v232, v138);
-    f48(v164, v1017, v174);
-    goto L270;
+    v1053 = (u8)((u32)v86 & (u32)15u);
+    v1054 = v1053 < 10u;
+    v1055 = (u8)((u32)v1053 | (u32)48u);
+    v1056 = (u8)((u32)v1053 + (u32)87u);
+    v1057 = v1054 ? v1055 : v1056;
+    v1058 = load_address(v185);
+    v1059 = (u64)((u64)v1028 + (u64)4u);
+    v1060 = v1058 + v1049 * 1u;
+    store8(v1060, v1057);
+    v133 = v1059; v134 = 1u; goto L256;
 L256:;
-    v144 = v141; v145 = v141; v146 = 0u; goto L257;
+    store64(v193, v134);
+    store64(v194, v133);
+    goto L335;
 L257:;
-    v1025 = v143 + v146 * 1u;
-    v1026 = load8(v1025);
-    v1027 = (u8)((u32)v1026 >> (4u & 7u));
-    v1028 = v1026 < 160u;
-    v1029 = (u8)((u32)v1027 | (u32)48u);
-    v1030 = (u8)((u32)v1027 + (u32)87u);
-    v1031 = v1028 ? v1029 : v1030;
-    v1032 = v145 == 1u;
-    if (v1032) { goto L258; }
-    else { v149 = v144; v150 = v145; goto L263; }
+    memory_set(v193, 0u, 16u);
+    goto L335;
 L258:;
-    v1033 = load64(v183);
-    v1034 = load64(v181);
-    v1035 = v1034 > v1033;
-    if (v1035) { goto L259; }
-    else { goto L262; }
+    memory_set(v193, 0u, 16u);
+    goto L335;
 L259:;
-    v1036 = load_address(v174);
-    v1037 = (u64)((u64)v1033 + (u64)1u);
-    v1038 = v1036 + v1033 * 1u;
-    store8(v1038, v1031);
-    v1039 = load64(v181);
-    v1040 = v1039 > v1037;
-    if (v1040) { goto L260; }
-    else { v147 = 0u; v148 = 0u; goto L261; }
+    v1061 = v36 == 1u;
+    if (v1061) { goto L260; }
+    else { goto L265; }
 L260:;
-    v1041 = (u8)((u32)v1026 & (u32)15u);
-    v1042 = v1041 < 10u;
-    v1043 = (u8)((u32)v1041 | (u32)48u);
-    v1044 = (u8)((u32)v1041 + (u32)87u);
-    v1045 = v1042 ? v1043 : v1044;
-    v1046 = load_address(v174);
-    v1047 = (u64)((u64)v1033 + (u64)2u);
-    v1048 = v1046 + v1037 * 1u;
-    store8(v1048, v1045);
-    v147 = v1047; v148 = 1u; goto L261;
+    v1062 = load64(v194);
+    v1063 = load64(v192);
+    v1064 = v1063 < v1062;
+    v1065 = (u64)((u64)v1063 - (u64)v1062);
+    v1066 = v1065 < 6u;
+    v1067 = v1064 ? 1u : v1066;
+    if (v1067) { v135 = 0u; v136 = 0u; goto L264; }
+    else { goto L261; }
 L261:;
-    store64(v182, v148);
-    store64(v183, v147);
-    v1049 = (u8)(v148);
-    v149 = v1049; v150 = v1049; goto L263;
+    v1068 = load_address(v185);
+    v1069 = (u64)((u64)v1062 + (u64)6u);
+    v1070 = v1068 + v1062 * 1u;
+    v1071 = (u64)v1070;
+    v1072 = (u64)((u64)v1071 - (u64)ADDRESS(c295));
+    v1073 = v1072 < 6u;
+    if (v1073) { goto L262; }
+    else { goto L263; }
 L262:;
-    memory_set(v182, 0u, 16u);
-    v149 = 0u; v150 = 0u; goto L263;
+    store8(v1070, 99u);
+    v1074 = v1070 + 1u * 1u;
+    store8(v1074, 108u);
+    v1075 = v1070 + 2u * 1u;
+    store8(v1075, 97u);
+    v1076 = v1070 + 3u * 1u;
+    store8(v1076, 115u);
+    v1077 = v1070 + 4u * 1u;
+    store8(v1077, 115u);
+    v1078 = v1070 + 5u * 1u;
+    store8(v1078, 32u);
+    v135 = v1069; v136 = 1u; goto L264;
 L263:;
-    v1050 = (u64)((u64)v146 + (u64)1u);
-    v1051 = v1050 == 8u;
-    if (v1051) { goto L264; }
-    else { v144 = v149; v145 = v150; v146 = v1050; goto L257; }
+    memory_cpy(v1070, ADDRESS(c295), 6u);
+    v135 = v1069; v136 = 1u; goto L264;
 L264:;
-    v1052 = v143 + 8u * 1u;
-    v1053 = (u64)((u64)v142 + (u64)UINT64_C(18446744073709551608));
-    v1054 = v1053 > 7u;
-    if (v1054) { goto L265; }
-    else { goto L270; }
+    store64(v193, v136);
+    store64(v194, v135);
+    goto L265;
 L265:;
-    v1055 = v149 == 1u;
-    if (v1055) { goto L266; }
-    else { v153 = v149; goto L269; }
+    v1079 = (u64)v86;
+    f47(v1079, v185);
+    v1080 = load8(v193);
+    v1081 = v1080 == 1u;
+    if (v1081) { goto L266; }
+    else { goto L335; }
 L266:;
-    v1056 = load64(v183);
-    v1057 = load64(v181);
-    v1058 = v1057 > v1056;
-    if (v1058) { goto L267; }
-    else { v151 = 0u; v152 = 0u; goto L268; }
+    v1082 = load64(v194);
+    v1083 = load64(v192);
+    v1084 = v1083 < v1082;
+    v1085 = (u64)((u64)v1083 - (u64)v1082);
+    v1086 = v1085 < 12u;
+    v1087 = v1084 ? 1u : v1086;
+    if (v1087) { goto L286; }
+    else { goto L267; }
 L267:;
-    v1059 = load_address(v174);
-    v1060 = (u64)((u64)v1056 + (u64)1u);
-    v1061 = v1059 + v1056 * 1u;
-    store8(v1061, 32u);
-    v151 = v1060; v152 = 1u; goto L268;
+    v1088 = load_address(v185);
+    v1089 = (u64)((u64)v1082 + (u64)12u);
+    v1090 = v1088 + v1082 * 1u;
+    v1091 = (u64)v1090;
+    v1092 = (u64)((u64)v1091 - (u64)ADDRESS(c296));
+    v1093 = v1092 < 12u;
+    if (v1093) { goto L268; }
+    else { goto L269; }
 L268:;
-    store64(v182, v152);
-    store64(v183, v151);
-    v1062 = (u8)(v152);
-    v153 = v1062; goto L269;
+    store8(v1090, 32u);
+    v1094 = v1090 + 1u * 1u;
+    store8(v1094, 97u);
+    v1095 = v1090 + 2u * 1u;
+    store8(v1095, 99u);
+    v1096 = v1090 + 3u * 1u;
+    store8(v1096, 99u);
+    v1097 = v1090 + 4u * 1u;
+    store8(v1097, 117u);
+    v1098 = v1090 + 5u * 1u;
+    store8(v1098, 114u);
+    v1099 = v1090 + 6u * 1u;
+    store8(v1099, 97u);
+    v1100 = v1090 + 7u * 1u;
+    store8(v1100, 99u);
+    v1101 = v1090 + 8u * 1u;
+    store8(v1101, 121u);
+    v1102 = v1090 + 9u * 1u;
+    store8(v1102, 32u);
+    v1103 = v1090 + 10u * 1u;
+    store8(v1103, 48u);
+    v1104 = v1090 + 11u * 1u;
+    store8(v1104, 120u);
+    v1105 = load64(v192);
+    v137 = v1105; goto L270;
 L269:;
-    v141 = v153; v142 = v1053; v143 = v1052; goto L256;
+    memory_cpy(v1090, ADDRESS(c296), 12u);
+    v137 = v1083; goto L270;
 L270:;
-    v1063 = load8(v182);
-    v154 = v1063; v155 = v1063; v156 = v1063; goto L271;
+    v1106 = v137 > v1089;
+    if (v1106) { goto L271; }
+    else { goto L272; }
 L271:;
-    v1064 = v156 == 1u;
-    if (v1064) { goto L272; }
-    else { v159 = v154; v160 = v155; goto L275; }
+    v1107 = v775 < 160u;
+    v1108 = (u8)((u32)v775 >> (4u & 7u));
+    v1109 = (u8)((u32)v1108 | (u32)48u);
+    v1110 = (u8)((u32)v1108 + (u32)87u);
+    v1111 = v1107 ? v1109 : v1110;
+    v1112 = load_address(v185);
+    v1113 = (u64)((u64)v1082 + (u64)13u);
+    v1114 = v1112 + v1089 * 1u;
+    store8(v1114, v1111);
+    v1115 = load64(v192);
+    v1116 = v1115 > v1113;
+    if (v1116) { goto L274; }
+    else { goto L273; }
 L272:;
-    v1065 = load64(v183);
-    v1066 = load64(v181);
-    v1067 = v1066 > v1065;
-    if (v1067) { goto L273; }
-    else { v157 = 0u; v158 = 0u; goto L274; }
+    memory_set(v193, 0u, 16u);
+    goto L335;
 L273:;
-    v1068 = load_address(v174);
-    v1069 = (u64)((u64)v1065 + (u64)1u);
-    v1070 = v1068 + v1065 * 1u;
-    store8(v1070, 10u);
-    v157 = v1069; v158 = 1u; goto L274;
+    memory_set(v193, 0u, 16u);
+    goto L335;
 L274:;
-    store64(v182, v158);
-    store64(v183, v157);
-    v1071 = (u8)(v158);
-    v159 = v1071; v160 = v1071; goto L275;
+    v1117 = (u8)((u32)v775 & (u32)15u);
+    v1118 = v1117 < 10u;
+    v1119 = (u8)((u32)v1117 | (u32)48u);
+    v1120 = (u8)((u32)v1117 + (u32)87u);
+    v1121 = v1118 ? v1119 : v1120;
+    v1122 = load_address(v185);
+    v1123 = (u64)((u64)v1082 + (u64)14u);
+    v1124 = v1122 + v1113 * 1u;
+    store8(v1124, v1121);
+    v1125 = load64(v192);
+    v1126 = v1125 >= v1123;
+    v1127 = (u64)((u64)v1125 - (u64)v1123);
+    v1128 = v1127 > 11u;
+    v1129 = v1126 ? v1128 : 0u;
+    if (v1129) { goto L275; }
+    else { goto L287; }
 L275:;
-    v1072 = v159;
-    v1073 = (u64)((u64)v28 + (u64)1u);
-    v1074 = v1073 == v9;
-    if (v1074) { goto L276; }
-    else { v26 = v1072; v27 = v160; v28 = v1073; goto L77; }
+    v1130 = load_address(v185);
+    v1131 = (u64)((u64)v1082 + (u64)26u);
+    v1132 = v1130 + v1123 * 1u;
+    v1133 = (u64)v1132;
+    v1134 = (u64)((u64)v1133 - (u64)ADDRESS(c297));
+    v1135 = v1134 < 12u;
+    if (v1135) { goto L276; }
+    else { goto L277; }
 L276:;
-    v1075 = load64(v183);
-    v161 = v1075; v162 = v1072; goto L278;
+    store8(v1132, 32u);
+    v1136 = v1132 + 1u * 1u;
+    store8(v1136, 118u);
+    v1137 = v1132 + 2u * 1u;
+    store8(v1137, 97u);
+    v1138 = v1132 + 3u * 1u;
+    store8(v1138, 114u);
+    v1139 = v1132 + 4u * 1u;
+    store8(v1139, 105u);
+    v1140 = v1132 + 5u * 1u;
+    store8(v1140, 97u);
+    v1141 = v1132 + 6u * 1u;
+    store8(v1141, 110u);
+    v1142 = v1132 + 7u * 1u;
+    store8(v1142, 99u);
+    v1143 = v1132 + 8u * 1u;
+    store8(v1143, 101u);
+    v1144 = v1132 + 9u * 1u;
+    store8(v1144, 32u);
+    v1145 = v1132 + 10u * 1u;
+    store8(v1145, 48u);
+    v1146 = v1132 + 11u * 1u;
+    store8(v1146, 120u);
+    v1147 = load64(v192);
+    v138 = v1147; goto L278;
 L277:;
-    v163 = 0u; goto L279;
+    memory_cpy(v1132, ADDRESS(c297), 12u);
+    v138 = v1125; goto L278;
 L278:;
-    v1076 = v162 == 1u;
-    v1077 = v1076 ? v161 : 0u;
-    v163 = v1077; goto L279;
+    v1148 = (u64)(((u64)v765 >> (24u & 63u)) & UINT64_C(72057594037927935));
+    v1149 = (u8)(v1148);
+    v1150 = v138 > v1131;
+    if (v1150) { goto L279; }
+    else { goto L281; }
 L279:;
-    return v163;
+    v1151 = v1149 < 160u;
+    v1152 = (u8)((u32)v1149 >> (4u & 7u));
+    v1153 = (u8)((u32)v1152 | (u32)48u);
+    v1154 = (u8)((u32)v1152 + (u32)87u);
+    v1155 = v1151 ? v1153 : v1154;
+    v1156 = load_address(v185);
+    v1157 = (u64)((u64)v1082 + (u64)27u);
+    v1158 = v1156 + v1131 * 1u;
+    store8(v1158, v1155);
+    v1159 = load64(v192);
+    v1160 = v1159 > v1157;
+    if (v1160) { goto L280; }
+    else { goto L288; }
+L280:;
+    v1161 = (u8)((u32)v1149 & (u32)15u);
+    v1162 = v1161 < 10u;
+    v1163 = (u8)((u32)v1161 | (u32)48u);
+    v1164 = (u8)((u32)v1161 + (u32)87u);
+    v1165 = v1162 ? v1163 : v1164;
+    v1166 = load_address(v185);
+    v1167 = (u64)((u64)v1082 + (u64)28u);
+    v1168 = v1166 + v1157 * 1u;
+    store8(v1168, v1165);
+    v1169 = (u8)(v776);
+    v1170 = load64(v192);
+    v1171 = v1170 > v1167;
+    if (v1171) { goto L282; }
+    else { goto L285; }
+L281:;
+    memory_set(v193, 0u, 16u);
+    goto L335;
+L282:;
+    v1172 = v1169 < 160u;
+    v1173 = (u8)((u32)v1169 >> (4u & 7u));
+    v1174 = (u8)((u32)v1173 | (u32)48u);
+    v1175 = (u8)((u32)v1173 + (u32)87u);
+    v1176 = v1172 ? v1174 : v1175;
+    v1177 = load_address(v185);
+    v1178 = (u64)((u64)v1082 + (u64)29u);
+    v1179 = v1177 + v1167 * 1u;
+    store8(v1179, v1176);
+    v1180 = load64(v192);
+    v1181 = v1180 > v1178;
+    if (v1181) { goto L283; }
+    else { v139 = 0u; v140 = 0u; goto L284; }
+L283:;
+    v1182 = (u8)((u32)v1169 & (u32)15u);
+    v1183 = v1182 < 10u;
+    v1184 = (u8)((u32)v1182 | (u32)48u);
+    v1185 = (u8)((u32)v1182 + (u32)87u);
+    v1186 = v1183 ? v1184 : v1185;
+    v1187 = load_address(v185);
+    v1188 = (u64)((u64)v1082 + (u64)30u);
+    v1189 = v1187 + v1178 * 1u;
+    store8(v1189, v1186);
+    v139 = v1188; v140 = 1u; goto L284;
+L284:;
+    store64(v193, v140);
+    store64(v194, v139);
+    goto L335;
+L285:;
+    memory_set(v193, 0u, 16u);
+    goto L335;
+L286:;
+    memory_set(v193, 0u, 16u);
+    goto L335;
+L287:;
+    memory_set(v193, 0u, 16u);
+    goto L335;
+L288:;
+    memory_set(v193, 0u, 16u);
+    goto L335;
+L289:;
+    v1190 = (address)v773;
+    v1191 = v92 == 0u;
+    if (v1191) { goto L335; }
+    else { v141 = v36; v142 = 0u; goto L290; }
+L290:;
+    v1192 = v1190 + v142 * 1u;
+    v1193 = load8(v1192);
+    v1194 = (u8)((u32)v1193 + (u32)129u);
+    v1195 = v1194 < 161u;
+    v1196 = v1193 == 92u;
+    v1197 = (u8)(((u32)v1196 | (u32)v1195) & UINT64_C(1));
+    v1198 = v141 == 1u;
+    if (v1197) { goto L295; }
+    else { goto L291; }
+L291:;
+    if (v1198) { goto L292; }
+    else { v147 = v141; goto L306; }
+L292:;
+    v1199 = load64(v194);
+    v1200 = load64(v192);
+    v1201 = v1200 > v1199;
+    if (v1201) { goto L293; }
+    else { v143 = 0u; v144 = 0u; goto L294; }
+L293:;
+    v1202 = load_address(v185);
+    v1203 = (u64)((u64)v1199 + (u64)1u);
+    v1204 = v1202 + v1199 * 1u;
+    store8(v1204, v1193);
+    v143 = v1203; v144 = 1u; goto L294;
+L294:;
+    store64(v193, v144);
+    store64(v194, v143);
+    v1205 = (u8)(v144);
+    v147 = v1205; goto L306;
+L295:;
+    if (v1198) { goto L296; }
+    else { v147 = v141; goto L306; }
+L296:;
+    v1206 = load64(v194);
+    v1207 = load64(v192);
+    v1208 = v1207 < v1206;
+    v1209 = (u64)((u64)v1207 - (u64)v1206);
+    v1210 = v1209 < 2u;
+    v1211 = v1208 ? 1u : v1210;
+    if (v1211) { goto L305; }
+    else { goto L297; }
+L297:;
+    v1212 = load_address(v185);
+    v1213 = (u64)((u64)v1206 + (u64)2u);
+    v1214 = v1212 + v1206 * 1u;
+    v1215 = (u64)v1214;
+    v1216 = (u64)((u64)v1215 - (u64)ADDRESS(c298));
+    v1217 = v1216 < 2u;
+    if (v1217) { goto L298; }
+    else { goto L299; }
+L298:;
+    store8(v1214, 92u);
+    v1218 = v1214 + 1u * 1u;
+    store8(v1218, 120u);
+    goto L300;
+L299:;
+    store16(v1214, 30812u);
+    goto L300;
+L300:;
+    v1219 = load64(v192);
+    v1220 = v1219 > v1213;
+    if (v1220) { goto L301; }
+    else { goto L304; }
+L301:;
+    v1221 = v1193 < 160u;
+    v1222 = (u8)((u32)v1193 >> (4u & 7u));
+    v1223 = (u8)((u32)v1222 | (u32)48u);
+    v1224 = (u8)((u32)v1222 + (u32)87u);
+    v1225 = v1221 ? v1223 : v1224;
+    v1226 = load_address(v185);
+    v1227 = (u64)((u64)v1206 + (u64)3u);
+    v1228 = v1226 + v1213 * 1u;
+    store8(v1228, v1225);
+    v1229 = load64(v192);
+    v1230 = v1229 > v1227;
+    if (v1230) { goto L302; }
+    else { v145 = 0u; v146 = 0u; goto L303; }
+L302:;
+    v1231 = (u8)((u32)v1193 & (u32)15u);
+    v1232 = v1231 < 10u;
+    v1233 = (u8)((u32)v1231 | (u32)48u);
+    v1234 = (u8)((u32)v1231 + (u32)87u);
+    v1235 = v1232 ? v1233 : v1234;
+    v1236 = load_address(v185);
+    v1237 = (u64)((u64)v1206 + (u64)4u);
+    v1238 = v1236 + v1227 * 1u;
+    store8(v1238, v1235);
+    v145 = v1237; v146 = 1u; goto L303;
+L303:;
+    store64(v193, v146);
+    store64(v194, v145);
+    v1239 = (u8)(v146);
+    v147 = v1239; goto L306;
+L304:;
+    memory_set(v193, 0u, 16u);
+    v147 = 0u; goto L306;
+L305:;
+    memory_set(v193, 0u, 16u);
+    v147 = 0u; goto L306;
+L306:;
+    v1240 = (u64)((u64)v142 + (u64)1u);
+    v1241 = v1240 == v92;
+    if (v1241) { goto L335; }
+    else { v141 = v147; v142 = v1240; goto L290; }
+L307:;
+    v1242 = (address)v773;
+    v1243 = v92 == 0u;
+    if (v1243) { goto L308; }
+    else { v150 = v36; v151 = 0u; goto L312; }
+L308:;
+    v1244 = v36 == 1u;
+    if (v1244) { goto L309; }
+    else { goto L335; }
+L309:;
+    v1245 = load64(v194);
+    v1246 = load64(v192);
+    v1247 = v1246 > v1245;
+    if (v1247) { goto L310; }
+    else { v148 = 0u; v149 = 0u; goto L311; }
+L310:;
+    v1248 = load_address(v185);
+    v1249 = (u64)((u64)v1245 + (u64)1u);
+    v1250 = v1248 + v1245 * 1u;
+    store8(v1250, 45u);
+    v148 = v1249; v149 = 1u; goto L311;
+L311:;
+    store64(v193, v149);
+    store64(v194, v148);
+    goto L335;
+L312:;
+    v1251 = v1242 + v151 * 1u;
+    v1252 = load8(v1251);
+    v1253 = (u8)((u32)v1252 >> (4u & 7u));
+    v1254 = v1252 < 160u;
+    v1255 = (u8)((u32)v1253 | (u32)48u);
+    v1256 = (u8)((u32)v1253 + (u32)87u);
+    v1257 = v1254 ? v1255 : v1256;
+    v1258 = v150 == 1u;
+    if (v1258) { goto L313; }
+    else { v154 = v150; goto L318; }
+L313:;
+    v1259 = load64(v194);
+    v1260 = load64(v192);
+    v1261 = v1260 > v1259;
+    if (v1261) { goto L314; }
+    else { goto L317; }
+L314:;
+    v1262 = load_address(v185);
+    v1263 = (u64)((u64)v1259 + (u64)1u);
+    v1264 = v1262 + v1259 * 1u;
+    store8(v1264, v1257);
+    v1265 = load64(v192);
+    v1266 = v1265 > v1263;
+    if (v1266) { goto L315; }
+    else { v152 = 0u; v153 = 0u; goto L316; }
+L315:;
+    v1267 = (u8)((u32)v1252 & (u32)15u);
+    v1268 = v1267 < 10u;
+    v1269 = (u8)((u32)v1267 | (u32)48u);
+    v1270 = (u8)((u32)v1267 + (u32)87u);
+    v1271 = v1268 ? v1269 : v1270;
+    v1272 = load_address(v185);
+    v1273 = (u64)((u64)v1259 + (u64)2u);
+    v1274 = v1272 + v1263 * 1u;
+    store8(v1274, v1271);
+    v152 = v1273; v153 = 1u; goto L316;
+L316:;
+    store64(v193, v153);
+    store64(v194, v152);
+    v1275 = (u8)(v153);
+    v154 = v1275; goto L318;
+L317:;
+    memory_set(v193, 0u, 16u);
+    v154 = 0u; goto L318;
+L318:;
+    v1276 = (u64)((u64)v151 + (u64)1u);
+    v1277 = v1276 == v92;
+    if (v1277) { goto L335; }
+    else { v150 = v154; v151 = v1276; goto L312; }
+L319:;
+    v1278 = v92 < 8u;
+    if (v1278) { goto L335; }
+    else { goto L320; }
+L320:;
+    v1279 = (address)v773;
+    v155 = v36; v156 = v92; v157 = v1279; goto L321;
+L321:;
+    v158 = v155; v159 = v155; v160 = 0u; goto L322;
+L322:;
+    v1280 = v157 + v160 * 1u;
+    v1281 = load8(v1280);
+    v1282 = (u8)((u32)v1281 >> (4u & 7u));
+    v1283 = v1281 < 160u;
+    v1284 = (u8)((u32)v1282 | (u32)48u);
+    v1285 = (u8)((u32)v1282 + (u32)87u);
+    v1286 = v1283 ? v1284 : v1285;
+    v1287 = v159 == 1u;
+    if (v1287) { goto L323; }
+    else { v163 = v158; v164 = v159; goto L328; }
+L323:;
+    v1288 = load64(v194);
+    v1289 = load64(v192);
+    v1290 = v1289 > v1288;
+    if (v1290) { goto L324; }
+    else { goto L327; }
+L324:;
+    v1291 = load_address(v185);
+    v1292 = (u64)((u64)v1288 + (u64)1u);
+    v1293 = v1291 + v1288 * 1u;
+    store8(v1293, v1286);
+    v1294 = load64(v192);
+    v1295 = v1294 > v1292;
+    if (v1295) { goto L325; }
+    else { v161 = 0u; v162 = 0u; goto L326; }
+L325:;
+    v1296 = (u8)((u32)v1281 & (u32)15u);
+    v1297 = v1296 < 10u;
+    v1298 = (u8)((u32)v1296 | (u32)48u);
+    v1299 = (u8)((u32)v1296 + (u32)87u);
+    v1300 = v1297 ? v1298 : v1299;
+    v1301 = load_address(v185);
+    v1302 = (u64)((u64)v1288 + (u64)2u);
+    v1303 = v1301 + v1292 * 1u;
+    store8(v1303, v1300);
+    v161 = v1302; v162 = 1u; goto L326;
+L326:;
+    store64(v193, v162);
+    store64(v194, v161);
+    v1304 = (u8)(v162);
+    v163 = v1304; v164 = v1304; goto L328;
+L327:;
+    memory_set(v193, 0u, 16u);
+    v163 = 0u; v164 = 0u; goto L328;
+L328:;
+    v1305 = (u64)((u64)v160 + (u64)1u);
+    v1306 = v1305 == 8u;
+    if (v1306) { goto L329; }
+    else { v158 = v163; v159 = v164; v160 = v1305; goto L322; }
+L329:;
+    v1307 = v157 + 8u * 1u;
+    v1308 = (u64)((u64)v156 + (u64)UINT64_C(18446744073709551608));
+    v1309 = v1308 > 7u;
+    if (v1309) { goto L330; }
+    else { goto L335; }
+L330:;
+    v1310 = v163 == 1u;
+    if (v1310) { goto L331; }
+    else { v167 = v163; goto L334; }
+L331:;
+    v1311 = load64(v194);
+    v1312 = load64(v192);
+    v1313 = v1312 > v1311;
+    if (v1313) { goto L332; }
+    else { v165 = 0u; v166 = 0u; goto L333; }
+L332:;
+    v1314 = load_address(v185);
+    v1315 = (u64)((u64)v1311 + (u64)1u);
+    v1316 = v1314 + v1311 * 1u;
+    store8(v1316, 32u);
+    v165 = v1315; v166 = 1u; goto L333;
+L333:;
+    store64(v193, v166);
+    store64(v194, v165);
+    v1317 = (u8)(v166);
+    v167 = v1317; goto L334;
+L334:;
+    v155 = v167; v156 = v1308; v157 = v1307; goto L321;
+L335:;
+    v1318 = load8(v193);
+    v168 = v1318; v169 = v1318; v170 = v1318; goto L336;
+L336:;
+    v1319 = v170 == 1u;
+    if (v1319) { goto L337; }
+    else { v173 = v168; v174 = v169; goto L340; }
+L337:;
+    v1320 = load64(v194);
+    v1321 = load64(v192);
+    v1322 = v1321 > v1320;
+    if (v1322) { goto L338; }
+    else { v171 = 0u; v172 = 0u; goto L339; }
+L338:;
+    v1323 = load_address(v185);
+    v1324 = (u64)((u64)v1320 + (u64)1u);
+    v1325 = v1323 + v1320 * 1u;
+    store8(v1325, 10u);
+    v171 = v1324; v172 = 1u; goto L339;
+L339:;
+    store64(v193, v172);
+    store64(v194, v171);
+    v1326 = (u8)(v172);
+    v173 = v1326; v174 = v1326; goto L340;
+L340:;
+    v1327 = v173;
+    v1328 = (u64)((u64)v28 + (u64)1u);
+    v1329 = v1328 == v9;
+    if (v1329) { goto L341; }
+    else { v26 = v1327; v27 = v174; v28 = v1328; goto L77; }
+L341:;
+    v1330 = load64(v194);
+    v175 = v1330; v176 = v1327; goto L343;
+L342:;
+    v177 = 0u; goto L344;
+L343:;
+    v1331 = v176 == 1u;
+    v1332 = v1331 ? v175 : 0u;
+    v177 = v1332; goto L344;
+L344:;
+    return v177;
 }
 
 u32 portable_ptpm_id_at(u64 a0) {
@@ -27629,7 +28164,7 @@ u32 portable_ptpm_id_at(u64 a0) {
     else { v1 = UINT32_C(65536); goto L2; }
 L1:;
     v3 = (u64)((u64)a0 << (1u & 63u));
-    v4 = ADDRESS(c284) + v3 * 1u;
+    v4 = ADDRESS(c299) + v3 * 1u;
     v5 = load16(v4);
     v6 = (u32)v5;
     v1 = v6; goto L2;
@@ -27747,7 +28282,7 @@ u32 portable_ptpm_id_named(address a0, u64 a1) {
     v2 = 0u; goto L1;
 L1:;
     v10 = (u64)((u64)v2 << (1u & 63u));
-    v11 = ADDRESS(c284) + v10 * 1u;
+    v11 = ADDRESS(c299) + v10 * 1u;
     v12 = load16(v11);
     switch (v12) {
     case 0u: v3 = ADDRESS(c114); v4 = 19u; goto L22;
@@ -27875,7 +28410,7 @@ L1:;
     v18 = v7 + 4u * 1u;
     store64(v18, v17);
     store64(v16, 12u);
-    v19 = f49(v14, a2, v7, 12u);
+    v19 = f48(v14, a2, v7, 12u);
     v20 = swap32(v19);
     v21 = v7 + 12u * 1u;
     store32(v21, v20);
@@ -27901,7 +28436,7 @@ u32 portable_ptpm_image_unseal(address a0, u64 a1, address a2, address a3) {
     memory_set(v5, 0u, 24u);
     store64(a2, 0u);
     store64(a3, 0u);
-    f50(v5, v8, a1);
+    f49(v5, v8, a1);
     v9 = load8(v5);
     v10 = v9 == 0u;
     if (v10) { goto L1; }
@@ -27988,11 +28523,11 @@ u16 portable_ptpm_limits_say(address a0, u64 a1, address a2) {
     default: goto L11;
     }
 L1:;
-    v11 = f51(v8, a1, a2);
+    v11 = f50(v8, a1, a2);
     if (v11) { v5 = 6u; goto L12; }
     else { goto L11; }
 L2:;
-    v12 = f51(v8, a1, a2);
+    v12 = f50(v8, a1, a2);
     if (v12) { v5 = 5u; goto L12; }
     else { goto L3; }
 L3:;
@@ -28080,7 +28615,7 @@ L3:;
     memory_set(v17, 0u, 24u);
     v26 = (u64)((u64)v5 * (u64)a2);
     v27 = v20 + v26 * 1u;
-    f50(v17, v27, a2);
+    f49(v17, v27, a2);
     v28 = load8(v17);
     v29 = v28 == 0u;
     if (v29) { goto L5; }
@@ -28123,10 +28658,10 @@ u32 portable_ptpm_other_id_at(u64 a0) {
     if (v2) { goto L1; }
     else { v1 = UINT32_C(65536); goto L2; }
 L1:;
-    v3 = ADDRESS(c287) + a0 * 1u;
+    v3 = ADDRESS(c302) + a0 * 1u;
     v4 = load8(v3);
     v5 = (u64)v4;
-    v6 = ADDRESS(c317) + v5 * 4u;
+    v6 = ADDRESS(c331) + v5 * 4u;
     v7 = load32(v6);
     v1 = v7; goto L2;
 L2:;
@@ -28141,7 +28676,7 @@ u64 portable_ptpm_other_id_name(u16 a0, address a1, u64 a2) {
     v8 = v7 ? 4096u : 0u;
     v9 = a1 + v8 * 1u;
     switch (a0) {
-    case 1u: v3 = ADDRESS(c288); v4 = 17u; goto L10;
+    case 1u: v3 = ADDRESS(c303); v4 = 17u; goto L10;
     case 8207u: goto L9;
     case 8210u: goto L1;
     case 8211u: goto L2;
@@ -28154,23 +28689,23 @@ u64 portable_ptpm_other_id_name(u16 a0, address a1, u64 a2) {
     default: v6 = 0u; goto L14;
     }
 L1:;
-    v3 = ADDRESS(c290); v4 = 23u; goto L10;
+    v3 = ADDRESS(c305); v4 = 23u; goto L10;
 L2:;
-    v3 = ADDRESS(c291); v4 = 20u; goto L10;
+    v3 = ADDRESS(c306); v4 = 20u; goto L10;
 L3:;
-    v3 = ADDRESS(c292); v4 = 15u; goto L10;
+    v3 = ADDRESS(c307); v4 = 15u; goto L10;
 L4:;
-    v3 = ADDRESS(c293); v4 = 14u; goto L10;
+    v3 = ADDRESS(c308); v4 = 14u; goto L10;
 L5:;
-    v3 = ADDRESS(c294); v4 = 23u; goto L10;
+    v3 = ADDRESS(c309); v4 = 23u; goto L10;
 L6:;
-    v3 = ADDRESS(c295); v4 = 16u; goto L10;
+    v3 = ADDRESS(c310); v4 = 16u; goto L10;
 L7:;
-    v3 = ADDRESS(c296); v4 = 18u; goto L10;
+    v3 = ADDRESS(c311); v4 = 18u; goto L10;
 L8:;
-    v3 = ADDRESS(c297); v4 = 13u; goto L10;
+    v3 = ADDRESS(c312); v4 = 13u; goto L10;
 L9:;
-    v3 = ADDRESS(c289); v4 = 4u; goto L10;
+    v3 = ADDRESS(c304); v4 = 4u; goto L10;
 L10:;
     v10 = a2 < v4;
     if (v10) { v6 = 0u; goto L14; }
@@ -28222,13 +28757,13 @@ L1:;
     v14 = load64(v13);
     v2 = 0u; goto L2;
 L2:;
-    v15 = ADDRESS(c287) + v2 * 1u;
+    v15 = ADDRESS(c302) + v2 * 1u;
     v16 = load8(v15);
     v17 = (u64)v16;
-    v18 = ADDRESS(c315) + v17 * 8u;
+    v18 = ADDRESS(c329) + v17 * 8u;
     v19 = load64(v18);
     v20 = (u64)v16;
-    v21 = ADDRESS(c316) + v20 * 8u;
+    v21 = ADDRESS(c330) + v20 * 8u;
     v22 = load_address(v21);
     v23 = v14 == v19;
     if (v23) { v3 = 0u; goto L4; }
@@ -28261,7 +28796,7 @@ L5:;
     else { v2 = v39; goto L2; }
 L6:;
     v41 = (u64)v16;
-    v42 = ADDRESS(c317) + v41 * 4u;
+    v42 = ADDRESS(c331) + v41 * 4u;
     v43 = load32(v42);
     v4 = v43; goto L7;
 L7:;
@@ -28352,7 +28887,7 @@ L1:;
     store8(v67, v18);
     v68 = v7 + 25u * 1u;
     memory_set(v68, 0u, 7u);
-    v69 = f52(v11, v14, 4096u, v7, a3, a4);
+    v69 = f51(v11, v14, 4096u, v7, a3, a4);
     v5 = v69; goto L2;
 L2:;
     return v5;
@@ -28449,7 +28984,7 @@ L2:;
     store8(v72, v23);
     v73 = v9 + 25u * 1u;
     memory_set(v73, 0u, 7u);
-    v74 = f52(a0, v12, a2, v9, a5, a6);
+    v74 = f51(a0, v12, a2, v9, a5, a6);
     v7 = v74; goto L3;
 L3:;
     return v7;
@@ -28585,7 +29120,7 @@ L2:;
     v44 = v5 + 1u * 1u;
     v45 = load8(v44);
     v46 = (u64)v45;
-    v47 = ADDRESS(c318) + v46 * 4u;
+    v47 = ADDRESS(c332) + v46 * 4u;
     v48 = load32(v47);
     v4 = v48; goto L10;
 L3:;
@@ -28785,7 +29320,7 @@ L1:;
 L2:;
     v12 = (u64)((u64)v2 << (3u & 63u));
     v13 = v9 + v12 * 1u;
-    v14 = ADDRESS(c298) + v12 * 1u;
+    v14 = ADDRESS(c313) + v12 * 1u;
     v15 = load64(v13);
     v16 = load64(v14);
     v17 = v15 == v16;
@@ -28795,7 +29330,7 @@ L3:;
     v18 = (u64)((u64)v2 | (u64)1u);
     v19 = (u64)((u64)v18 << (3u & 63u));
     v20 = v9 + v19 * 1u;
-    v21 = ADDRESS(c298) + v19 * 1u;
+    v21 = ADDRESS(c313) + v19 * 1u;
     v22 = load64(v20);
     v23 = load64(v21);
     v24 = v22 == v23;
@@ -28805,7 +29340,7 @@ L4:;
     v25 = (u64)((u64)v2 | (u64)2u);
     v26 = (u64)((u64)v25 << (3u & 63u));
     v27 = v9 + v26 * 1u;
-    v28 = ADDRESS(c298) + v26 * 1u;
+    v28 = ADDRESS(c313) + v26 * 1u;
     v29 = load64(v27);
     v30 = load64(v28);
     v31 = v29 == v30;
@@ -28815,7 +29350,7 @@ L5:;
     v32 = (u64)((u64)v2 | (u64)3u);
     v33 = (u64)((u64)v32 << (3u & 63u));
     v34 = v9 + v33 * 1u;
-    v35 = ADDRESS(c298) + v33 * 1u;
+    v35 = ADDRESS(c313) + v33 * 1u;
     v36 = load64(v34);
     v37 = load64(v35);
     v38 = v36 == v37;
@@ -28845,7 +29380,7 @@ L10:;
 L11:;
     v47 = (u64)((u64)v4 << (3u & 63u));
     v48 = v9 + v47 * 1u;
-    v49 = ADDRESS(c298) + v47 * 1u;
+    v49 = ADDRESS(c313) + v47 * 1u;
     v50 = load64(v48);
     v51 = load64(v49);
     v52 = v50 == v51;
@@ -28855,7 +29390,7 @@ L12:;
     v53 = (u64)((u64)v4 | (u64)1u);
     v54 = (u64)((u64)v53 << (3u & 63u));
     v55 = v9 + v54 * 1u;
-    v56 = ADDRESS(c298) + v54 * 1u;
+    v56 = ADDRESS(c313) + v54 * 1u;
     v57 = load64(v55);
     v58 = load64(v56);
     v59 = v57 == v58;
@@ -28865,7 +29400,7 @@ L13:;
     v60 = (u64)((u64)v4 | (u64)2u);
     v61 = (u64)((u64)v60 << (3u & 63u));
     v62 = v9 + v61 * 1u;
-    v63 = ADDRESS(c298) + v61 * 1u;
+    v63 = ADDRESS(c313) + v61 * 1u;
     v64 = load64(v62);
     v65 = load64(v63);
     v66 = v64 == v65;
@@ -28875,7 +29410,7 @@ L14:;
     v67 = (u64)((u64)v4 | (u64)3u);
     v68 = (u64)((u64)v67 << (3u & 63u));
     v69 = v9 + v68 * 1u;
-    v70 = ADDRESS(c298) + v68 * 1u;
+    v70 = ADDRESS(c313) + v68 * 1u;
     v71 = load64(v69);
     v72 = load64(v70);
     v73 = v71 == v72;
@@ -29219,7 +29754,7 @@ L1:;
     memory_set(v35, 0u, 24u);
     v36 = v4 + 136u * 1u;
     store64(v36, UINT64_C(2611923443488327891));
-    v37 = f53(a0, v4);
+    v37 = f52(a0, v4);
     v2 = v37; goto L2;
 L2:;
     return v2;
@@ -29304,7 +29839,7 @@ L4:;
     memory_set(v40, 0u, 24u);
     v41 = v5 + 136u * 1u;
     store64(v41, UINT64_C(2611923443488327891));
-    v42 = f53(a0, v5);
+    v42 = f52(a0, v5);
     v3 = v42; goto L5;
 L5:;
     return v3;
@@ -29373,7 +29908,7 @@ L5:;
     if (v33) { goto L24; }
     else { goto L6; }
 L6:;
-    f54(v13, v28, v16, a3);
+    f53(v13, v28, v16, a3);
     v34 = load8(v13);
     v35 = v34 == 1u;
     if (v35) { goto L7; }
@@ -29456,7 +29991,7 @@ L10:;
     store_address(v91, v77);
     v92 = v9 + 16u * 1u;
     store64(v92, v78);
-    v93 = f61(v9);
+    v93 = f60(v9);
     if (v93) { goto L11; }
     else { goto L17; }
 L11:;
@@ -29507,7 +30042,7 @@ L16:;
 L17:;
     goto L19;
 L18:;
-    v118 = f62(v28, v10);
+    v118 = f61(v28, v10);
     v119 = v118 < 2u;
     if (v119) { goto L22; }
     else { goto L19; }
@@ -30005,7 +30540,7 @@ L3:;
     store_address(v43, ADDRESS(c112));
     v44 = v5 + 48u * 1u;
     store64(v44, 0u);
-    f63(v5, v6);
+    f62(v5, v6);
     v45 = v6 + 1472u * 1u;
     v46 = load64(v45);
     memory_cpy(v9, v6, v46);
@@ -30200,7 +30735,7 @@ L15:;
     portable_rattle_dealloc(v116);
     v12 = (struct s2){ 0 }; goto L18;
 L16:;
-    v126 = f66(v58, v78, a4, 0u, 0u, v64, a7);
+    v126 = f65(v58, v78, a4, 0u, 0u, v64, a7);
     v127 = v58 + 48u * 1u;
     v128 = load8(v127);
     v129 = v58 + 80u * 1u;
@@ -30334,7 +30869,7 @@ L31:;
     store8(v187, 0u);
     v188 = v73 + 353u * 1u;
     store8(v188, 0u);
-    f67(v53, v73, v76, a1);
+    f66(v53, v73, v76, a1);
     v189 = load8(v53);
     v190 = v53 + 1u * 1u;
     v191 = load8(v190);
@@ -30432,7 +30967,7 @@ L40:;
     else { goto L44; }
 L41:;
     v249 = v73 + 48u * 1u;
-    v250 = f68(v52, v55, v249);
+    v250 = f67(v52, v55, v249);
     v251 = v250.m0;
     v252 = v251 == 0u;
     if (v252) { goto L44; }
@@ -30491,7 +31026,7 @@ L49:;
 L50:;
     v279 = v73 + 80u * 1u;
     v280 = v73 + 48u * 1u;
-    v281 = f68(v279, v55, v280);
+    v281 = f67(v279, v55, v280);
     v282 = v281.m0;
     v26 = v282; goto L51;
 L51:;
@@ -30660,7 +31195,7 @@ L76:;
 L77:;
     v346 = v12.m1;
     v347 = (u64)v346;
-    v348 = ADDRESS(c322) + v347 * 4u;
+    v348 = ADDRESS(c336) + v347 * 4u;
     v349 = load32(v348);
     v47 = v349; goto L78;
 L78:;
@@ -30722,7 +31257,7 @@ L3:;
     else { goto L16; }
 L4:;
     v28 = v23 + 80u * 1u;
-    f69(v10, v28, v14, a2);
+    f68(v10, v28, v14, a2);
     v29 = load8(v10);
     v30 = v10 + 24u * 1u;
     v31 = load8(v30);
@@ -30794,7 +31329,7 @@ L11:;
     goto L18;
 L12:;
     v69 = v23 + 240u * 1u;
-    f69(v11, v69, v14, a2);
+    f68(v11, v69, v14, a2);
     v70 = load8(v11);
     v71 = v11 + 24u * 1u;
     v72 = load8(v71);
@@ -31117,7 +31652,7 @@ L11:;
     store_address(v56, v37);
     v57 = v11 + 16u * 1u;
     store64(v57, v39);
-    v58 = f65(v28, v11);
+    v58 = f64(v28, v11);
     v59 = v58.m0;
     v60 = v58.m1;
     v2 = v60; v3 = v59; goto L12;
@@ -31128,7 +31663,7 @@ L12:;
     v62.m1 = v2;
     v4 = v62; goto L14;
 L13:;
-    v63 = f66(v28, v29, v31, 0u, 0u, v37, v39);
+    v63 = f65(v28, v29, v31, 0u, 0u, v37, v39);
     v4 = v63; goto L14;
 L14:;
     v64 = v4.m0;
@@ -31172,7 +31707,7 @@ L20:;
 L21:;
     v78 = v4.m1;
     v79 = (u64)v78;
-    v80 = ADDRESS(c322) + v79 * 4u;
+    v80 = ADDRESS(c336) + v79 * 4u;
     v81 = load32(v80);
     v8 = 5u; v9 = v81; goto L22;
 L22:;
@@ -31254,7 +31789,7 @@ L6:;
     store8(v51, 0u);
     v52 = v38 + 353u * 1u;
     store8(v52, 0u);
-    f67(v22, v38, v40, a1);
+    f66(v22, v38, v40, a1);
     v53 = load8(v22);
     v54 = v22 + 1u * 1u;
     v55 = load8(v54);
@@ -31507,7 +32042,7 @@ L15:;
     store8(v71, 0u);
     v72 = v28 + 353u * 1u;
     store8(v72, 0u);
-    f67(v16, v28, v30, a1);
+    f66(v16, v28, v30, a1);
     v73 = load8(v16);
     v74 = v16 + 1u * 1u;
     v75 = load8(v74);
@@ -31857,7 +32392,7 @@ L6:;
     v43 = load16(v42);
     v44 = v33 + 237u * 1u;
     v45 = load8(v44);
-    f70(v23, v33, v36, a1, v43, v45);
+    f69(v23, v33, v36, a1, v43, v45);
     goto L47;
 L7:;
     memory_set(v22, 0u, 64u);
@@ -31971,7 +32506,7 @@ L15:;
     store_address(v96, v18);
     v97 = v20 + 48u * 1u;
     store64(v97, 0u);
-    f63(v20, v36);
+    f62(v20, v36);
     v98 = v33 + 32u * 1u;
     v99 = load64(v98);
     v100 = (u64)((u64)v99 + (u64)a1) < v99 ? UINT64_C(18446744073709551615) : (u64)((u64)v99 + (u64)a1);
@@ -32135,7 +32670,7 @@ L24:;
     store_address(v192, v175);
     v193 = v19 + 48u * 1u;
     store64(v193, v177);
-    f63(v19, v36);
+    f62(v19, v36);
     v194 = load8(v152);
     v195 = (u8)((u32)v194 + (u32)255u);
     store8(v152, v195);
@@ -32289,7 +32824,7 @@ L43:;
     v263 = load16(v262);
     v264 = (u16)((u32)v263 + (u32)16384u);
     v265 = (u8)((u32)v238 + (u32)255u);
-    f70(v22, v33, v36, a1, v264, v265);
+    f69(v22, v33, v36, a1, v264, v265);
     goto L44;
 L44:;
     memory_cpy(v23, v22, 64u);
@@ -32390,7 +32925,7 @@ L58:;
     v16 = 0u; goto L60;
 L59:;
     v307 = (u64)v284;
-    v308 = ADDRESS(c322) + v307 * 4u;
+    v308 = ADDRESS(c336) + v307 * 4u;
     v309 = load32(v308);
     v16 = v309; goto L60;
 L60:;
@@ -32416,7 +32951,7 @@ u32 portable_ptpm_clock_handle(address a0, u16 a1, address a2, u64 a3, address a
     v10 = a4 == 0u;
     v11 = v10 ? 4096u : 0u;
     v12 = a4 + v11 * 1u;
-    v13 = f71(a0, a1, v9, a3, v12, a5, a6);
+    v13 = f70(a0, a1, v9, a3, v12, a5, a6);
     return v13;
 }
 
@@ -32476,12 +33011,12 @@ L3:;
     store8(v22, 1u);
     v32 = a0 + 9u * 1u;
     memory_set(v32, 0u, 7u);
-    v33 = f71(a0, a1, v16, a3, v19, a5, a6);
+    v33 = f70(a0, a1, v16, a3, v19, a5, a6);
     v34 = v33 == 5u;
     if (v34) { goto L5; }
     else { v10 = v33; goto L10; }
 L4:;
-    v35 = f89(a0, a1, v16, a3, 0u, v19, a5, a6, a7);
+    v35 = f88(a0, a1, v16, a3, 0u, v19, a5, a6, a7);
     v10 = v35; goto L10;
 L5:;
     memory_set(v11, 0u, 12u);
@@ -32509,7 +33044,7 @@ L7:;
     memory_set(v32, 0u, 7u);
     v8 = 0u; v9 = 0u; goto L9;
 L8:;
-    f90(v11, v43, v12);
+    f89(v11, v43, v12);
     store64(v36, 1u);
     store_address(v40, v43);
     store_address(a0, v36);
@@ -32568,13 +33103,13 @@ L2:;
     memory_set(v23, 0u, 7u);
     goto L4;
 L3:;
-    f92(v9, v21, a1, v12, a3);
+    f91(v9, v21, a1, v12, a3);
     v24 = load8(v9);
     v25 = v24 == 0u;
     if (v25) { goto L5; }
     else { goto L14; }
 L4:;
-    v26 = f91(a0, a1, v12, a3, a4);
+    v26 = f90(a0, a1, v12, a3, a4);
     v8 = v26; goto L53;
 L5:;
     v27 = v9 + 8u * 1u;
@@ -32957,7 +33492,7 @@ L21:;
     memory_move(v109, v11, 80u);
     goto L23;
 L22:;
-    f82(v109, v11, v103);
+    f81(v109, v11, v103);
     goto L23;
 L23:;
     v110 = v106 + 8u * 1u;
@@ -33163,7 +33698,7 @@ L11:;
     if (v102) { goto L17; }
     else { goto L72; }
 L12:;
-    f74(v43, v62, a1, v49, a3, v52, a6);
+    f73(v43, v62, a1, v49, a3, v52, a6);
     v103 = load8(v43);
     v104 = v43 + 1u * 1u;
     v105 = load8(v104);
@@ -33172,21 +33707,21 @@ L12:;
     v27 = v103; v28 = v105; v29 = v107; goto L61;
 L13:;
     v108 = (u64)v92;
-    v109 = ADDRESS(c319) + v108 * 1u;
+    v109 = ADDRESS(c333) + v108 * 1u;
     v110 = load8(v109);
     memory_set(v41, 0u, 16u);
-    f54(v40, v62, v49, a3);
+    f53(v40, v62, v49, a3);
     v111 = load8(v40);
     v112 = v111 == 1u;
     if (v112) { goto L14; }
     else { goto L15; }
 L14:;
     v113 = v40 + 8u * 1u;
-    f94(v62, v113, v110);
-    f74(v41, v62, a1, v49, a3, v52, a6);
+    f93(v62, v113, v110);
+    f73(v41, v62, a1, v49, a3, v52, a6);
     v12 = 5u; v13 = 0u; goto L16;
 L15:;
-    f74(v41, v62, a1, v49, a3, v52, a6);
+    f73(v41, v62, a1, v49, a3, v52, a6);
     v114 = load8(v41);
     v115 = v41 + 1u * 1u;
     v116 = load8(v115);
@@ -33251,7 +33786,7 @@ L18:;
     store_address(v158, v144);
     v159 = v36 + 16u * 1u;
     store64(v159, v145);
-    v160 = f61(v36);
+    v160 = f60(v36);
     if (v160) { goto L19; }
     else { goto L25; }
 L19:;
@@ -33302,7 +33837,7 @@ L24:;
 L25:;
     goto L48;
 L26:;
-    v185 = f62(v62, v37);
+    v185 = f61(v62, v37);
     v186 = v185 == 0u;
     if (v186) { goto L27; }
     else { goto L48; }
@@ -33582,7 +34117,7 @@ L49:;
     store_address(v346, v332);
     v347 = v32 + 16u * 1u;
     store64(v347, v333);
-    v348 = f61(v32);
+    v348 = f60(v32);
     if (v348) { goto L50; }
     else { goto L56; }
 L50:;
@@ -33633,7 +34168,7 @@ L55:;
 L56:;
     goto L59;
 L57:;
-    v373 = f62(v62, v33);
+    v373 = f61(v62, v33);
     v374 = v373 == 1u;
     if (v374) { goto L58; }
     else { goto L59; }
@@ -33675,13 +34210,13 @@ L58:;
     store_address(v399, v332);
     v400 = v35 + 32u * 1u;
     store64(v400, v333);
-    f98(v62, v35, v120, v119);
-    f74(v39, v62, a1, v49, a3, v52, a6);
+    f97(v62, v35, v120, v119);
+    f73(v39, v62, a1, v49, a3, v52, a6);
     v401 = v39 + 8u * 1u;
     v402 = load64(v401);
     v24 = 5u; v25 = 0u; v26 = v402; goto L60;
 L59:;
-    f74(v39, v62, a1, v49, a3, v52, a6);
+    f73(v39, v62, a1, v49, a3, v52, a6);
     v403 = load8(v39);
     v404 = v39 + 1u * 1u;
     v405 = load8(v404);
@@ -33692,7 +34227,7 @@ L60:;
     v27 = v24; v28 = v25; v29 = v26; goto L61;
 L61:;
     store64(a7, v29);
-    f90(v46, v62, v44);
+    f89(v46, v62, v44);
     memory_cpy(a8, v46, 12u);
     switch (v27) {
     case 0u: goto L62;
@@ -33763,7 +34298,7 @@ L77:;
     if (v418) { goto L78; }
     else { v31 = 32u; goto L82; }
 L78:;
-    v419 = f89(a0, a1, v49, a3, 1u, v52, a6, a7, a8);
+    v419 = f88(a0, a1, v49, a3, 1u, v52, a6, a7, a8);
     v31 = v419; goto L82;
 L79:;
     memory_set(a0, 0u, 16u);
@@ -33931,7 +34466,7 @@ L2:;
     store8(v21, 1u);
     goto L4;
 L3:;
-    f99(v15, v28, a1, a2, a3, v18, a5);
+    f98(v15, v28, a1, a2, a3, v18, a5);
     v30 = load8(v15);
     v31 = v30 == 0u;
     if (v31) { goto L16; }
@@ -33961,7 +34496,7 @@ L6:;
 L7:;
     memory_set(v13, 0u, 16u);
     v41 = load_address(v39);
-    f99(v13, v41, a1, a2, a3, v18, a5);
+    f98(v13, v41, a1, a2, a3, v18, a5);
     v42 = load8(v13);
     v43 = v42 == 0u;
     if (v43) { goto L8; }
@@ -33997,14 +34532,14 @@ L11:;
     else { goto L13; }
 L12:;
     v58 = (u64)v54;
-    v59 = ADDRESS(c320) + v58 * 2u;
+    v59 = ADDRESS(c334) + v58 * 2u;
     v60 = load16(v59);
     store16(a7, v60);
     v8 = 4u; v9 = 26u; goto L14;
 L13:;
     store16(a7, 0u);
     v61 = (u64)v56;
-    v62 = ADDRESS(c321) + v61 * 4u;
+    v62 = ADDRESS(c335) + v61 * 4u;
     v63 = load32(v62);
     v8 = 4u; v9 = v63; goto L14;
 L14:;
@@ -34031,14 +34566,14 @@ L18:;
     v69 = v15 + 2u * 1u;
     v70 = load8(v69);
     v71 = (u64)v70;
-    v72 = ADDRESS(c320) + v71 * 2u;
+    v72 = ADDRESS(c334) + v71 * 2u;
     v73 = load16(v72);
     store16(a7, v73);
     v11 = 26u; goto L20;
 L19:;
     store16(a7, 0u);
     v74 = (u64)v67;
-    v75 = ADDRESS(c321) + v74 * 4u;
+    v75 = ADDRESS(c335) + v74 * 4u;
     v76 = load32(v75);
     v11 = v76; goto L20;
 L20:;
@@ -34085,7 +34620,7 @@ L2:;
 L3:;
     v22 = a1 < 4u;
     v23 = v22 ? a1 : 2u;
-    v24 = f66(v20, v23, a2, 1u, a3, v11, a5);
+    v24 = f65(v20, v23, a2, 1u, a3, v11, a5);
     v25 = v24.m0;
     v26 = v25 == 0u;
     if (v26) { goto L4; }
@@ -34122,7 +34657,7 @@ L6:;
 L7:;
     v44 = v24.m1;
     v45 = (u64)v44;
-    v46 = ADDRESS(c322) + v45 * 4u;
+    v46 = ADDRESS(c336) + v45 * 4u;
     v47 = load32(v46);
     v6 = 2u; v7 = v47; goto L8;
 L8:;
@@ -34212,7 +34747,7 @@ L8:;
     store_address(v44, v15);
     v45 = v12 + 16u * 1u;
     store64(v45, a5);
-    v46 = f65(v24, v12);
+    v46 = f64(v24, v12);
     v47 = v46.m0;
     v48 = v46.m1;
     v49 = v47 == 0u;
@@ -34254,7 +34789,7 @@ L12:;
     else { goto L13; }
 L13:;
     v69 = (u64)v8;
-    v70 = ADDRESS(c322) + v69 * 4u;
+    v70 = ADDRESS(c336) + v69 * 4u;
     v71 = load32(v70);
     v9 = 2u; v10 = v71; goto L14;
 L14:;
@@ -34374,7 +34909,7 @@ L2:;
     v3 = v19; v4 = 37u; goto L18;
 L3:;
     memory_set(v6, 0u, 56u);
-    f69(v6, v18, v9, a2);
+    f68(v6, v18, v9, a2);
     v20 = load8(v6);
     v21 = v6 + 16u * 1u;
     v22 = load64(v21);
@@ -34780,7 +35315,7 @@ L8:;
     store_address(v73, v56);
     v74 = v7 + 48u * 1u;
     store64(v74, v58);
-    f63(v7, v29);
+    f62(v7, v29);
     v75 = load8(v33);
     v76 = (u8)((u32)v75 + (u32)255u);
     store8(v33, v76);
@@ -35661,7 +36196,7 @@ L41:;
     if (v573) { goto L42; }
     else { v16 = v450; v17 = v449; goto L44; }
 L42:;
-    v574 = f100(v106);
+    v574 = f99(v106);
     v575 = v574 == 0u;
     if (v575) { goto L43; }
     else { goto L50; }
