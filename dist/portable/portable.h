@@ -202,6 +202,14 @@ SMALL int wide_is(struct wide x, struct wide y) { return x.high == y.high && x.l
 
 SMALL int wide_is_less(struct wide x, struct wide y) { return x.high != y.high ? x.high < y.high : x.low < y.low; }
 
+/* Of numbers in two's complement: their order is that of the numbers with the other highest bit. */
+SMALL int wide_is_below(struct wide x, struct wide y) {
+    u64 top = (u64)1 << 63;
+    return wide_is_less(wide_of(x.high ^ top, x.low), wide_of(y.high ^ top, y.low));
+}
+
+SMALL struct wide wide_signed(i64 x) { return wide_of(x < 0 ? ~(u64)0 : 0, (u64)x); }
+
 /* How many bits are set. */
 SMALL u32 ctpop(u64 x) {
     u32 count = 0;

@@ -1,14 +1,16 @@
 """Integers of 128 bits as C: pairs of 64 bits, by functions of portable.h."""
 import re
 
-from .instructions import cut
+from .instructions import cut, signed
 from .llvm import not_known, number_of, parts_of, take_type, without_flags
 
 KIND = 'i128'
 FUNCTIONS = {'add': 'wide_add', 'sub': 'wide_subtract', 'mul': 'wide_multiply', 'and': 'wide_and', 'or': 'wide_or', 'xor': 'wide_xor',
              'shl': 'wide_left', 'lshr': 'wide_right'}
 COMPARISONS = {'eq': 'wide_is({0}, {1})', 'ne': '!wide_is({0}, {1})', 'ult': 'wide_is_less({0}, {1})', 'ugt': 'wide_is_less({1}, {0})',
-               'ule': '!wide_is_less({1}, {0})', 'uge': '!wide_is_less({0}, {1})'}
+               'ule': '!wide_is_less({1}, {0})', 'uge': '!wide_is_less({0}, {1})',
+               'slt': 'wide_is_below({0}, {1})', 'sgt': 'wide_is_below({1}, {0})',
+               'sle': '!wide_is_below({1}, {0})', 'sge': '!wide_is_below({0}, {1})'}
 
 
 def is_wide(operation, words):
@@ -60,9 +62,11 @@ def call(it, operation, more):
 def cast(it, words):
     """Between 128 bits and at most 64."""
     found = re.fullmatch(r'(i\d+) (.*) to (i\d+)', words)
-    if not found or it.operation not in ('zext', 'trunc'):
+    if not found or it.operation not in ('zext', 'sext', 'trunc'):
         not_known('a cast of 128 bits', words)
     value = it.value(found[1], found[2])
     if it.operation == 'zext':
         return it.result(KIND, f'wide_of(0, {value})')
+    if it.operation == 'sext':
+        return it.result(KIND, f'wide_signed({signed(found[1], value)})')
     return it.result(found[3], cut(found[3], f'({value}).low'))

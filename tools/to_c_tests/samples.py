@@ -226,6 +226,8 @@ def wide_integers():
         yield function(f'{operation}_128', [*begun, f'%r = call i128 @llvm.{called}.i128(i128 %x, i128 %y)', *ended])
     for condition in wide.COMPARISONS:
         yield function(f'icmp_{condition}_128', [*begun, f'%t = icmp {condition} i128 %x, %y', *answered(1, 't')])
+    yield function('sext_64_128', ['%r = sext i64 %a0 to i128', *ended])
+    yield function('sext_8_128', ['%e = trunc i64 %a0 to i8', '%r = sext i8 %e to i128', *ended])
     yield function('trunc_128_12', [*begun, '%z = sub i128 %x, 18446744073709551617', '%t = trunc i128 %z to i12', *answered(12, 't')])
 
 
