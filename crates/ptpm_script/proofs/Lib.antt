@@ -1,9 +1,20 @@
 pub mod WordLemmas
 mod OctetTextLemmas
-pub mod EntryLemmas
-pub mod PlaceLemmas
+pub mod Loops
+pub mod ItemLemmas
+pub mod Judged
+pub mod Sound
+pub mod ApartLemmas
+pub mod TableLemmas
+pub mod IdentityLemmas
+pub mod ShapeLemmas
 pub mod RepeatLemmas
-pub mod NetworkLemmas
+pub mod LimitLemmas
+pub mod NameLemmas
+pub mod TellLemmas
+pub mod PortStartLemmas
+pub mod ClockStartLemmas
 pub mod NetworkLaw
-pub mod SizeLaw
 pub mod NetworkFacts
+pub mod FindLemmas
+pub mod SizeLaw

@@ -1,121 +1,75 @@
 -- The network of every text that is one: its identities have eight octets, its portNumbers 16 bits, and its data sets their
 -- sizes.
-use Rattle.std.proofs.Common.{◌≡◌, ℕ, List, length, Option, Some, Ok, ap, subst, arith}
-use Rattle.std.specs.Prelude.{slice_get, codes}
+use Rattle.std.proofs.Common.{◌≡◌, ℕ, ◌≤◌, List, [], ◌∷◌, length, map, Option, Some, None, Ok, refl, sym, subst, IsOk, arith}
+use Rattle.std.specs.List.{AllByRecursion}
+use Rattle.std.specs.Prelude.{codes, unwrap_or}
 use Rattle.std.proofs.lemmas.List.{length-map}
-use Rattle.std.proofs.lemmas.Bool.Decides.{nat_tests}
-use Rattle.std.proofs.lemmas.Option.{cond_some}
-use Rattle.hex.proofs.HexLemmas.{decode_pairs-ok, decode_sized-ok}
-use Rattle.toml.specs.Data.{Data, Members}
-use Rattle.ptpm_codec.specs.declared.identity.ClockIdentity.{ClockIdentity}
-use Rattle.ptpm_codec.specs.declared.identity.PortIdentity.{PortIdentity}
+use Rattle.toml.specs.Data.{Members}
 use Rattle.ptpm_codec.specs.Message.{PortIdentityFits}
-use Rattle.ptpm_data.specs.declared.start.ClockStart.{ClockStart}
+use Rattle.ptpm_codec.proofs.OrderedLaws.{option_or-none}
 use Rattle.ptpm_data.specs.RequestLaws.{IsSized}
-use Rattle.ptpm_data.proofs.StartLemmas.{count_sound, description_small, description_sound}
-use Rattle.ptpm_script.specs.declared.link_entries.EndEntry.{EndEntry}
-use Rattle.ptpm_script.specs.declared.network.NetworkSession.{NetworkSession}
-use Rattle.ptpm_script.specs.declared.session_entries.SessionEntry.{SessionEntry}
-use Rattle.ptpm_script.specs.Document.{clock_identity, port_identity, shaped, table_of}
-use Rattle.ptpm_script.specs.Entries.{ClockEntryValue}
-use Rattle.ptpm_script.specs.NetworkFile.{FileValue, clock_entry, clock_of_table, clock_over, clock_rules, file_of, file_of_table, file_rules, file_with, session_entry, session_of_table, session_rules}
-use Rattle.ptpm_script.specs.NetworkText.{clock_of, network_of, network_of_file, session_of}
-use Rattle.ptpm_script.specs.NetworkValue.{AreSized, ClockValue, NetworkValue, first_sets}
-use Rattle.ptpm_script.specs.Values.{clock_at, port_at, text_at}
-use Rattle.ptpm_script.proofs.NetworkLemmas.{all_made, and_then_ok, given_ok}
-use Rattle.ptpm_script.proofs.NetworkLaw.{Placed, clock_made, clock_part, else_ok, else_some, entry_at, identity_part, is_placed, opt_inv, session_made, starts_well, then_ok}
+use Rattle.ptpm_data.specs.Start.{clock_fault, port_data_set, start_of}
+use Rattle.ptpm_data.specs.declared.start.ClockStart.{ClockStart}
+use Rattle.ptpm_data.specs.declared.start.PortStart.{PortStart}
+use Rattle.ptpm_data.proofs.StartLemmas.{description_small, description_sound}
+use Rattle.ptpm_script.specs.Heads.{ClockHeadValue, SessionHeadValue, clocks_of, sessions_of}
+use Rattle.ptpm_script.specs.NetworkText.{clock_of, network_in, network_of, session_of, some_port}
+use Rattle.ptpm_script.specs.NetworkValue.{AreSized, CanStart, IsAccepted, NetworkValue, first_sets}
+use Rattle.ptpm_script.specs.StartFaults.{some_clock}
+use Rattle.ptpm_script.specs.Starts.{clock_over}
+use Rattle.ptpm_script.specs.Values.{clock_at, port_at}
+use Rattle.ptpm_script.proofs.ApartLemmas.{all-map}
+use Rattle.ptpm_script.proofs.IdentityLemmas.{clock_at-size, port_at-fits}
+use Rattle.ptpm_script.proofs.NetworkLaw.{accepted, document-of, unmarked}
+use Rattle.ptpm_script.proofs.ShapeLemmas.{shape-sound}
+use Rattle.ptpm_script.proofs.Sound.{SoundClock, SoundFile, SoundSession}
 
--- ---- identities
+-- what holds of what is there, and of what stands in its place
+either : {A : Type 0} (P : A → Type 0) (o : Option A) (a : A) → ((x : A) → o ≡ Some x → P x) → P a → P (unwrap_or o a)
+either P None a there other = other
+either P (Some x) a there other = there x refl
 
-clock_size : (text : List ℕ) (c : ClockIdentity) → clock_identity text ≡ Some c → length c.0 ≡ 8
-unfolding clock_identity
-clock_size text c h = grind (arith, opt_inv, else_some, decode_sized-ok, decode_pairs-ok)
+faultless : (c : ClockStart) (ports : List PortStart) → IsOk (start_of c ports) → clock_fault c ≡ None
+unfolding start_of
+faultless c ports h = grind (arith, option_or-none)
 
-port_size : (text : List ℕ) (p : PortIdentity) → port_identity text ≡ Some p → PortIdentityFits p
-unfolding port_identity
-port_size text p h = grind (arith, opt_inv, clock_size, clock_part, cond_some, nat_tests)
+clock_sized : (c : ClockHeadValue) → SoundClock c → CanStart (clock_of c) → IsSized (first_sets (clock_of c))
+unfolding clock_of clock_over
+clock_sized c sound can =
+    let start = (clock_of c).start in
+    let ports = (clock_of c).ports in
+    let identity : length start.identity.0 ≡ 8 = subst (λ o. length (unwrap_or o some_clock).0 ≡ 8) (sym sound.identity_is) sound.identity_size in
+    record {
+      some_port = subst (λ n. 1 ≤ n) (sym (length-map ports port_data_set)) can.some_port;
+      at_most_eight = subst (λ n. n ≤ 8) (sym (length-map ports port_data_set)) can.at_most_eight;
+      text = description_small start.user_description.items (description_sound start (faultless start ports can.starts));
+      identity = identity;
+      parent = either (λ p. length p.clock.0 ≡ 8) (port_at (codes "parent_port") c.table) (record { clock = start.identity; port = 0 })
+          (λ p h. (port_at-fits (codes "parent_port") c.table p h).clock) identity;
+      grandmaster = either (λ g. length g.0 ≡ 8) (clock_at (codes "grandmaster") c.table) start.identity
+          (clock_at-size (codes "grandmaster") c.table) identity;
+    }
 
--- ---- clocks of a file
+clocks_sized : (cs : List ClockHeadValue) → AllByRecursion SoundClock cs → AllByRecursion CanStart (map clock_of cs)
+    → AllByRecursion (λ c. IsSized (first_sets c)) (map clock_of cs)
+clocks_sized [] sound can = tt
+clocks_sized (c ∷ cs) sound can = (clock_sized c sound.0 can.0, clocks_sized cs sound.1 can.1)
 
--- what a clock starts with of other clocks has its size
-record IsStartSized (c : ClockStart) : Type 0 where
-  identity : length c.identity.0 ≡ 8
-  parent : (p : PortIdentity) → c.parent_port ≡ Some p → length p.clock.0 ≡ 8
-  grandmaster : (g : ClockIdentity) → c.grandmaster ≡ Some g → length g.0 ≡ 8
+session_sized : (cs : List ClockHeadValue) (s : SessionHeadValue) → SoundSession s → PortIdentityFits (session_of cs s).identity
+unfolding session_of
+session_sized cs s sound = subst (λ o. PortIdentityFits (unwrap_or o some_port)) (sym sound.identity_is) sound.identity_fits
 
-clock_at_size : (key : List ℕ) (ms : Members) (c : ClockIdentity)
-    → clock_at key ms ≡ Some c
-    → length c.0 ≡ 8
-clock_at_size key ms c h = let o = opt_inv {A = List ℕ} clock_identity (text_at key ms) c h in clock_size o.0 c o.2
-
-port_at_size : (key : List ℕ) (ms : Members) (p : PortIdentity)
-    → port_at key ms ≡ Some p
-    → PortIdentityFits p
-port_at_size key ms p h = let o = opt_inv {A = List ℕ} port_identity (text_at key ms) p h in port_size o.0 p o.2
-
-table_size : (ms : Members) (c : ClockEntryValue)
-    → clock_of_table ms ≡ Some c
-    → IsStartSized c.start
-unfolding clock_over
-table_size ms c h = grind (arith, clock_at_size, port_at_size)
-
-entry_size : (d : Data) (c : ClockEntryValue) → clock_entry d ≡ Some c → IsStartSized c.start
-unfolding clock_entry
-entry_size d c h = let ms = opt_inv {A = Members} clock_of_table (table_of clock_rules d) c h in table_size ms.0 c ms.2
-
--- ---- clocks of a network
-
-made_size : (c : ClockEntryValue) (y : ClockValue)
-    → IsStartSized c.start
-    → clock_of c ≡ Ok y
-    → IsSized (first_sets y)
-made_size c y size h = grind (arith, clock_made, starts_well, count_sound, length-map, description_small, description_sound)
-
--- ---- sessions
-
-session_size : (d : Data) (s : SessionEntry)
-    → session_entry d ≡ Some s
-    → PortIdentityFits s.identity
-unfolding session_entry
-session_size d s h =
-    let ms = opt_inv {A = Members} session_of_table (table_of session_rules d) s h in
-    port_at_size (codes "identity") ms.0 s.identity (identity_part ms.0 s ms.2)
-
-placed_size : (cs : List ClockEntryValue) (s : SessionEntry) (t : NetworkSession)
-    → PortIdentityFits s.identity
-    → session_of cs s ≡ Ok t
-    → PortIdentityFits t.identity
-placed_size cs s t size h = subst (λ k. PortIdentityFits k.identity) (session_made cs s t h).2 size
-
--- ---- the whole
-
-abbrev AreEntriesSized : FileValue → Type 0
-AreEntriesSized f =
-    ((i : ℕ) (c : ClockEntryValue) → slice_get f.clocks i ≡ Some c → IsStartSized c.start)
-    × ((i : ℕ) (s : SessionEntry) → slice_get f.sessions i ≡ Some s → PortIdentityFits s.identity)
-
-file_parts : (v : Option ℕ) (c : Option (List ClockEntryValue)) (s : Option (List SessionEntry))
-    (l : Option (List (List EndEntry))) (f : FileValue)
-    → file_with v c s l ≡ Some f → (c ≡ Some f.clocks) × (s ≡ Some f.sessions)
-file_parts (Some v) (Some c) (Some s) (Some l) f h = let q = (cond_some _ _ f h).1 in (ap (λ g. Some g.clocks) q, ap (λ g. Some g.sessions) q)
-file_parts _ _ _ _ f h = cc
-
-entries_size : (ms : Members) (f : FileValue) → file_of ms ≡ Some f → AreEntriesSized f
-unfolding file_of
-entries_size ms f h =
-    let t = opt_inv {A = Members} file_of_table (shaped file_rules ms) f h in
-    let parts = file_parts _ _ _ _ f t.2 in (
-      λ i c e. (let d = entry_at clock_entry (codes "clock") t.0 f.clocks i c parts.0 e in entry_size d.0 c d.1),
-      λ i s e. (let d = entry_at session_entry (codes "session") t.0 f.sessions i s parts.1 e in session_size d.0 s d.1),
-    )
-
-is_sized : (f : FileValue) (n : NetworkValue) → AreEntriesSized f → Placed f n → AreSized n
-is_sized f n entries p = record {
-  clocks = all_made clock_of (λ y. IsSized (first_sets y)) f.clocks n.clocks p.clocks (λ i c y e h. made_size c y (entries.0 i c e) h);
-  sessions = all_made (session_of f.clocks) (λ t. PortIdentityFits t.identity) f.sessions n.sessions p.sessions
-      (λ i s t e h. placed_size f.clocks s t (entries.1 i s e) h);
-}
+document_sized : (ms : Members) → SoundFile ms → AllByRecursion CanStart (network_in ms).clocks → AreSized (network_in ms)
+unfolding network_in
+document_sized ms sound can =
+    let cs = clocks_of ms in
+    record {
+      clocks = clocks_sized cs sound.clocks can;
+      sessions = all-map (session_of cs) SoundSession (λ s. PortIdentityFits s.identity) (session_sized cs) (sessions_of ms) sound.sessions;
+    }
 
 pub sized : (text : List ℕ) (n : NetworkValue) → network_of text ≡ Ok n → AreSized n
-unfolding network_of network_of_file
-sized text n h = grind (arith, else_ok, and_then_ok, entries_size, given_ok, is_sized, is_placed, then_ok)
+sized text n h =
+    let d = document-of text n h in
+    let can = (subst IsAccepted (sym d.3) (accepted text n h)).clocks in
+    subst AreSized d.3 (document_sized d.0 (shape-sound d.0 (unmarked d.0 d.2).shape) can)

@@ -3,7 +3,7 @@ use Rattle.std.specs.Prelude.{ℕ, ◌-◌, ℤ, pos, negsuc, nat_le, int_le, Bo
 use Rattle.ptpm_codec.specs.declared.identity.ClockIdentity.{ClockIdentity}
 use Rattle.ptpm_codec.specs.declared.identity.PortIdentity.{PortIdentity}
 use Rattle.toml.specs.Data.{Members, as_str, as_bool, as_integer, get_member}
-use Rattle.ptpm_script.specs.Document.{clock_identity, port_identity}
+use Rattle.ptpm_script.specs.Spellings.{clock_identity, port_identity}
 
 abbrev pub text_at : List ℕ → Members → Option (List ℕ)
 text_at key ms = option_and_then as_str (get_member key ms)

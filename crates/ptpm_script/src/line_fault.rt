@@ -5,6 +5,7 @@ ghost use Rattle.ptpm_script.specs.EventLine.{error_of};
 
 use crate::event::EventError;
 use ptpm_codec::OutOfMemory;
+use std::alloc::AllocError;
 
 /// The first fault of a line: a word that is not what is expected at its place.
 #[derive(Clone, Copy, Debug, PartialEq, Eq)]
@@ -72,6 +73,17 @@ impl From<OutOfMemory> for LineError {
     ghost from_gives = { λ _ e. e ≡ errors.OutOfMemory };
 
     fn from(_refused: OutOfMemory) -> LineError {
+        LineError::OutOfMemory
+    }
+}
+
+impl From<AllocError> for LineError {
+    ghost use Rattle.std.specs.Prelude.{◌≡◌};
+    ghost use Rattle.ptpm_script.specs.declared.line_fault.LineError.TheVariants as errors;
+
+    ghost from_gives = { λ _ e. e ≡ errors.OutOfMemory };
+
+    fn from(_refused: AllocError) -> LineError {
         LineError::OutOfMemory
     }
 }

@@ -2,10 +2,10 @@
 
 ghost use Rattle.std.specs.Prelude.{◌≡◌, IfOk};
 ghost use Rattle.std.specs.List.{list_all};
-ghost use Rattle.ptpm_script.specs.Document.{is_name, is_name_octet};
+ghost use Rattle.ptpm_script.specs.Spellings.{is_name, is_name_octet};
 
 use ptpm_codec::OutOfMemory;
-use std::alloc::Global;
+use std::alloc::{AllocError, Global};
 use std::marker::Model;
 
 /// The name of a clock or of a session. Contracts see it as its text.
@@ -24,20 +24,21 @@ impl Model for Name {
 
 impl Name {
     /// A name of this text. Nothing is made if memory is refused.
-    pub(crate) fn copy_of(alloc: Global, text: &str) -> Result<Name, OutOfMemory>
+    pub(crate) fn copy_of(alloc: Global, text: &str) -> Result<Name, AllocError>
         ensures { IfOk result (λ n. n ≡ text.now) }
     {
-        match String::from_str(alloc, text) {
-            Ok(text) => Ok(Name { text }),
-            Err(_) => Err(OutOfMemory),
-        }
+        let text = String::from_str(alloc, text)?;
+        Ok(Name { text })
     }
 
     /// The same name once more. Nothing is made if memory is refused.
     pub fn copy(&self, alloc: Global) -> Result<Name, OutOfMemory>
         ensures { IfOk result (λ n. n ≡ self.now) }
     {
-        Name::copy_of(alloc, self.as_str())
+        match Name::copy_of(alloc, self.as_str()) {
+            Ok(name) => Ok(name),
+            Err(_) => Err(OutOfMemory),
+        }
     }
 
     /// Its text, lent.
@@ -49,7 +50,7 @@ impl Name {
 }
 
 /// Whether a text is a name of a network file: 1 to 32 ASCII letters, digits and underscores.
-#[tactic(auto, unfolding(crate::specs::Document::is_name))]
+#[tactic(auto, unfolding(crate::specs::Spellings::is_name))]
 pub fn is_name(text: &str) -> bool
     ensures { result ≡ is_name text.now }
 {

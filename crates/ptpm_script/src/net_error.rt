@@ -2,7 +2,7 @@
 
 use ptpm_codec::OutOfMemory;
 use ptpm_data::StartError;
-use std::alloc::AllocFailed;
+use std::alloc::{AllocError, AllocFailed};
 use std::fmt;
 use thiserror::Error;
 
@@ -55,6 +55,17 @@ impl From<OutOfMemory> for NetError {
     ghost from_gives = { λ _ e. e ≡ errors.OutOfMemory };
 
     fn from(_refused: OutOfMemory) -> NetError {
+        NetError::OutOfMemory
+    }
+}
+
+impl From<AllocError> for NetError {
+    ghost use Rattle.std.specs.Prelude.{◌≡◌};
+    ghost use Rattle.ptpm_script.specs.declared.net_error.NetError.TheVariants as errors;
+
+    ghost from_gives = { λ _ e. e ≡ errors.OutOfMemory };
+
+    fn from(_refused: AllocError) -> NetError {
         NetError::OutOfMemory
     }
 }

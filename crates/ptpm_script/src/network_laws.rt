@@ -1,10 +1,19 @@
 //! What holds of the network of every text that is one. Each law is the contract of a function that does nothing; the first
 //! speaks only of the definitions.
 
-ghost use Rattle.std.specs.Prelude.{◌≡◌, ℕ, List, Ok};
-ghost use Rattle.ptpm_script.specs.NetworkText.{IsOfText, network_of};
+ghost use Rattle.std.specs.Prelude.{◌≡◌, ℕ, List, [], map, option_map, Ok};
+ghost use Rattle.std.specs.Result.{result_err};
+ghost use Rattle.toml.specs.Data.{Members};
+ghost use Rattle.ptpm_script.specs.declared.net_error.NetError.TheVariants.{BadClock};
+ghost use Rattle.ptpm_script.specs.Faults.{first_refusal, text_marks};
+ghost use Rattle.ptpm_script.specs.Heads.{clocks_of, ends_of, sessions_of};
+ghost use Rattle.ptpm_script.specs.NameFaults.{name_marks};
+ghost use Rattle.ptpm_script.specs.NetworkText.{IsOfText, clock_of, first_start_fault, network_of};
 ghost use Rattle.ptpm_script.specs.NetworkValue.{IsAccepted, NetworkValue};
 ghost use Rattle.ptpm_script.specs.NetworkView.{network_value};
+ghost use Rattle.ptpm_script.specs.RepeatFaults.{repeat_marks};
+ghost use Rattle.ptpm_script.specs.ShapeFaults.{shape_marks};
+ghost use Rattle.ptpm_script.specs.StartFaults.{start_marks};
 
 use crate::network::Network;
 
@@ -22,3 +31,18 @@ pub fn network_law(network: &Network)
 {
     let _ = network;
 }
+
+/// A text is refused as the first fault in it says, and is a network exactly if none is found.
+pub fn faults_found()
+    ensures { (text : List ℕ) → first_refusal (text_marks text) ≡ result_err (network_of text) }
+{}
+
+/// If only starts of clocks are at fault in a file, it is refused for what the first of these starts is refused for.
+pub fn clock_start_faults()
+    ensures { (ms : Members)
+        → shape_marks ms ≡ []
+        → repeat_marks (clocks_of ms) (sessions_of ms) (ends_of ms) ≡ []
+        → name_marks (clocks_of ms) (sessions_of ms) (ends_of ms) ≡ []
+        → first_refusal (start_marks (clocks_of ms))
+        ≡ option_map (λ e. BadClock e) (first_start_fault (map clock_of (clocks_of ms))) }
+{}

@@ -1,14 +1,14 @@
 //! Identities and ends as a network file writes them (this project's profile).
 
 ghost use Rattle.std.specs.Prelude.{◌≡◌, option_map};
-ghost use Rattle.ptpm_script.specs.Document.{clock_identity, end_of, port_identity};
+ghost use Rattle.ptpm_script.specs.Spellings.{clock_identity, end_of, port_identity};
 
 use crate::names::is_name;
 use crate::numbers::decimal_u16;
 use ptpm_codec::{ClockIdentity, PortIdentity};
 
 /// A clockIdentity of sixteen hexadecimal digits, not all ones.
-#[tactic(auto, unfolding(crate::specs::Document::clock_identity))]
+#[tactic(auto, unfolding(crate::specs::Spellings::clock_identity))]
 pub(crate) fn clock_identity(text: &str) -> Option<ClockIdentity>
     ensures { result ≡ clock_identity text.now }
 {
@@ -20,7 +20,7 @@ pub(crate) fn clock_identity(text: &str) -> Option<ClockIdentity>
 }
 
 /// A clockIdentity, a slash and a decimal port.
-#[tactic(auto, unfolding(crate::specs::Document::port_identity))]
+#[tactic(auto, unfolding(crate::specs::Spellings::port_identity))]
 pub(crate) fn port_identity(text: &str) -> Option<PortIdentity>
     ensures { result ≡ port_identity text.now }
 {
@@ -32,7 +32,7 @@ pub(crate) fn port_identity(text: &str) -> Option<PortIdentity>
 }
 
 /// An end of a link: a session's name, or a clock's, a dot and a decimal port.
-#[tactic(auto, unfolding(crate::specs::Document::end_of))]
+#[tactic(auto, unfolding(crate::specs::Spellings::end_of))]
 pub fn end_spelling(text: &str) -> Option<(&str, Option<u16>)>
     ensures { option_map (λ e. (e.0.now, e.1)) result ≡ end_of text.now }
 {

@@ -1,26 +1,24 @@
-//! The values at the keys of a table that keeps to its rules: if one is of another kind, there is none.
+//! The values at the keys of a table: if one is of another kind, there is none.
 
-ghost use Rattle.std.specs.Prelude.{◌≡◌, IfOk, option_map, unwrap_or, [], take, length, ◌≤◌};
+ghost use Rattle.std.specs.Prelude.{◌≡◌, option_map, unwrap_or, take, length, ◌≤◌};
 ghost use Rattle.toml.specs.Data.{as_str, as_bool, as_integer, get_member};
 ghost use Rattle.toml.specs.View.{view, table_view};
 ghost use Rattle.ptpm_script.specs.Values.{clock_at, description_at, integer_at, natural_at, port_at, signed_at, text_at, flag_at};
 
-use crate::names::Name;
 use crate::spellings::{clock_identity, port_identity};
 use arrayvec::ArrayVec;
-use ptpm_codec::{ClockIdentity, OutOfMemory, PortIdentity};
-use std::alloc::Global;
+use ptpm_codec::{ClockIdentity, PortIdentity};
 use toml::{Table, Value};
 
 /// The value at a key.
-pub fn value_at<'a>(table: &'a Table, key: &str) -> Option<&'a Value>
+pub(crate) fn value_at<'a>(table: &'a Table, key: &str) -> Option<&'a Value>
     ensures { option_map (λ v. view v.now) result ≡ get_member key.now (table_view table.now) }
 {
     table.get(key)
 }
 
 /// The text at a key.
-pub fn text_at<'a>(table: &'a Table, key: &str) -> Option<&'a str>
+pub(crate) fn text_at<'a>(table: &'a Table, key: &str) -> Option<&'a str>
     ensures { option_map (λ s. s.now) result ≡ text_at key.now (table_view table.now) }
 {
     value_at(table, key)?.as_str()
@@ -42,51 +40,36 @@ pub(crate) fn i64_at(table: &Table, key: &str) -> Option<i64>
 pub(crate) fn u8_at(table: &Table, key: &str) -> Option<u8>
     ensures { result ≡ natural_at 255 key.now (table_view table.now) }
 {
-    match i64_at(table, key) {
-        Some(number) if 0 <= number && number <= 0xff => Some(number as u8),
-        _ => None,
-    }
+    u8::try_from(i64_at(table, key)?).ok()
 }
 
 /// The number at a key, if it is one from 0 to 65,535.
 #[tactic(auto, unfolding(crate::specs::Values::natural_at))]
-pub fn u16_at(table: &Table, key: &str) -> Option<u16>
+pub(crate) fn u16_at(table: &Table, key: &str) -> Option<u16>
     ensures { result ≡ natural_at 65535 key.now (table_view table.now) }
 {
-    match i64_at(table, key) {
-        Some(number) if 0 <= number && number <= 0xffff => Some(number as u16),
-        _ => None,
-    }
+    u16::try_from(i64_at(table, key)?).ok()
 }
 
 #[tactic(auto, unfolding(crate::specs::Values::signed_at))]
 pub(crate) fn i8_at(table: &Table, key: &str) -> Option<i8>
     ensures { result ≡ signed_at 128 key.now (table_view table.now) }
 {
-    match i64_at(table, key) {
-        Some(number) if -0x80 <= number && number <= 0x7f => Some(number as i8),
-        _ => None,
-    }
+    i8::try_from(i64_at(table, key)?).ok()
 }
 
 #[tactic(auto, unfolding(crate::specs::Values::signed_at))]
 pub(crate) fn i16_at(table: &Table, key: &str) -> Option<i16>
     ensures { result ≡ signed_at 32768 key.now (table_view table.now) }
 {
-    match i64_at(table, key) {
-        Some(number) if -0x8000 <= number && number <= 0x7fff => Some(number as i16),
-        _ => None,
-    }
+    i16::try_from(i64_at(table, key)?).ok()
 }
 
 #[tactic(auto, unfolding(crate::specs::Values::signed_at))]
 pub(crate) fn i32_at(table: &Table, key: &str) -> Option<i32>
     ensures { result ≡ signed_at 2147483648 key.now (table_view table.now) }
 {
-    match i64_at(table, key) {
-        Some(number) if -0x8000_0000 <= number && number <= 0x7fff_ffff => Some(number as i32),
-        _ => None,
-    }
+    i32::try_from(i64_at(table, key)?).ok()
 }
 
 pub(crate) fn flag_or(table: &Table, key: &str, default: bool) -> bool
@@ -132,24 +115,17 @@ pub(crate) fn i64_or(table: &Table, key: &str, default: i64) -> i64
 }
 
 /// The clockIdentity at a key.
-pub fn clock_at(table: &Table, key: &str) -> Option<ClockIdentity>
+pub(crate) fn clock_at(table: &Table, key: &str) -> Option<ClockIdentity>
     ensures { result ≡ clock_at key.now (table_view table.now) }
 {
     clock_identity(text_at(table, key)?)
 }
 
 /// The portIdentity at a key.
-pub fn port_at(table: &Table, key: &str) -> Option<PortIdentity>
+pub(crate) fn port_at(table: &Table, key: &str) -> Option<PortIdentity>
     ensures { result ≡ port_at key.now (table_view table.now) }
 {
     port_identity(text_at(table, key)?)
-}
-
-/// A text as a name.
-pub(crate) fn name_at(alloc: Global, table: &Table, key: &str) -> Result<Name, OutOfMemory>
-    ensures { IfOk result (λ n. n ≡ unwrap_or (text_at key.now (table_view table.now)) []) }
-{
-    Name::copy_of(alloc, text_at(table, key).unwrap_or(""))
 }
 
 /// The first octets of a text, at most this number.

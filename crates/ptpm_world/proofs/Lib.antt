@@ -33,3 +33,4 @@ pub mod StartedWorld
 pub mod Telling
 pub mod ScriptLemmas
 pub mod Reading
+pub mod Checking

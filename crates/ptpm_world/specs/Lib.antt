@@ -15,3 +15,4 @@ pub mod Writing
 pub mod Script
 pub mod WholeScript
 pub mod MachineTrace
+pub mod Findings

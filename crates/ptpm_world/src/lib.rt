@@ -2,6 +2,7 @@
 //! or duplicate messages, and each clock carries out each request once (IEEE 1588-2019, clause 15).
 #![tactic(auto)]
 
+mod findings;
 mod frames;
 mod line_reader;
 mod lines;
@@ -17,6 +18,7 @@ mod whole_script;
 mod world;
 mod writing;
 
+pub use findings::{Findings, check_script};
 pub use frames::Frame;
 pub use line_reader::{LineReadError, LineReader};
 pub use lines::{Lines, SCRIPT_LINES};

@@ -2,13 +2,12 @@
 //! same input. `tools/refuse_memory` refuses each request for memory in turn.
 
 use super::ONE_CLOCK;
-use ptpm_check::check_script;
 use ptpm_commands::Fault;
 use ptpm_draw::{Chosen, draw};
 use ptpm_schedule::{Chances, schedule};
 use ptpm_site::limits::Limits;
 use ptpm_site_report::{Form, Options, report};
-use ptpm_world::{ScriptError, run_script};
+use ptpm_world::{ScriptError, check_script, run_script};
 use std::alloc::Global;
 use std::io;
 use std::io::Read;

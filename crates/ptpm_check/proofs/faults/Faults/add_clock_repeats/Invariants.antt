@@ -1,7 +1,0 @@
-use Rattle.ptpm_check.specs.Heads.{clock_value}
-use Rattle.ptpm_check.specs.RepeatFaults.{clock_repeats}
-use Rattle.ptpm_check.proofs.Loops.{ByOthers}
-use Rattle.ptpm_check.proofs.faults.Faults.add_clock_repeats.Given as goal
-
-abbrev pub invariant-loop-index : goal.invariant-loop-index
-invariant-loop-index l = ByOthers clock_value clock_repeats l.initial.self l.self l.index l.clocks

@@ -1,7 +1,0 @@
-use Rattle.ptpm_check.specs.Heads.{end_value}
-use Rattle.ptpm_check.specs.RepeatFaults.{end_repeats}
-use Rattle.ptpm_check.proofs.Loops.{ByOthers}
-use Rattle.ptpm_check.proofs.faults.Faults.add_end_repeats.Given as goal
-
-abbrev pub invariant-loop-index : goal.invariant-loop-index
-invariant-loop-index l = ByOthers end_value end_repeats l.initial.self l.self l.index l.ends

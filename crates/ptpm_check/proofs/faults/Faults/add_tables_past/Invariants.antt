@@ -1,7 +1,0 @@
-use Rattle.toml.specs.View.{view}
-use Rattle.ptpm_check.specs.NameFaults.{past_port}
-use Rattle.ptpm_check.proofs.Loops.{ByNumber}
-use Rattle.ptpm_check.proofs.faults.Faults.add_tables_past.Given as goal
-
-abbrev pub invariant-loop-index : goal.invariant-loop-index
-invariant-loop-index l = ByNumber view (past_port l.clock.number l.count) l.initial.self l.self l.index l.ports

@@ -1,8 +1,0 @@
-use Rattle.std.proofs.Common.{map}
-use Rattle.ptpm_check.specs.Heads.{clock_value, session_value}
-use Rattle.ptpm_check.specs.NameFaults.{target_marks}
-use Rattle.ptpm_check.proofs.Loops.{ByItself}
-use Rattle.ptpm_check.proofs.faults.Faults.add_targets.Given as goal
-
-abbrev pub invariant-loop-session : goal.invariant-loop-session
-invariant-loop-session l = ByItself session_value (target_marks (map clock_value l.clocks)) l.initial.self l.self l.session-index l.sessions

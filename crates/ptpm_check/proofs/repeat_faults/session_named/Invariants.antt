@@ -1,9 +1,0 @@
-use Rattle.std.proofs.Common.{◌≡◌, drop, map}
-use Rattle.ptpm_check.specs.Heads.{session_value}
-use Rattle.ptpm_check.specs.RepeatFaults.{is_session_name}
-use Rattle.ptpm_check.proofs.repeat_faults.session_named.Given as goal
-
--- none before this one is
-abbrev pub invariant-loop-session : goal.invariant-loop-session
-invariant-loop-session l =
-    is_session_name (map session_value l.sessions) l.wanted ≡ is_session_name (map session_value (drop l.session-index l.sessions)) l.wanted

@@ -1,0 +1,10 @@
+use Rattle.std.proofs.Common.{◌≡◌, ◌+◌, ◌++◌, drop, map}
+use Rattle.toml.specs.View.{table_view, view}
+use Rattle.ptpm_script.specs.Heads.{session_in, session_value, sessions_of}
+use Rattle.ptpm_script.specs.Marks.{each}
+use Rattle.ptpm_script.proofs.heads.sessions_of.Given as goal
+
+-- what is made, and what those ahead will make, is all
+abbrev pub invariant-loop-index : goal.invariant-loop-index
+invariant-loop-index l =
+    map session_value l.sessions.items ++ each session_in (l.index + 1) (map view (drop l.index l.values)) ≡ sessions_of (table_view l.file)

@@ -1,6 +1,0 @@
-use Rattle.std.proofs.Common.{◌≡◌, drop, map}
-use Rattle.ptpm_script.specs.Document.{kind_of, key_rule}
-use Rattle.ptpm_script.proofs.shapes.kind_of.Given as goal
-
-abbrev pub invariant-loop-rule : goal.invariant-loop-rule
-invariant-loop-rule l = kind_of (map key_rule l.rules) l.key ≡ kind_of (map key_rule (drop l.rule-index l.rules)) l.key

@@ -1,0 +1,166 @@
+//! A text, read as a network file: every fault in it, or the network that it is.
+
+ghost use Rattle.std.specs.Prelude.{◌≡◌, ◌++◌, ◌∷◌, IfOk, OnOk, Some, [], map};
+ghost use Rattle.std.specs.Result.{result_err};
+ghost use Rattle.toml.specs.View.{table_view};
+ghost use Rattle.ptpm_script.specs.NetworkText.{IsAnswerAs, content_network, network_of, network_of_document};
+ghost use Rattle.ptpm_script.specs.Faults.{content_marks, file_marks, first_class, first_refusal, text_marks};
+ghost use Rattle.ptpm_script.specs.Heads.{clock_value, clocks_of, end_value, ends_of, session_value, sessions_of};
+ghost use Rattle.ptpm_script.specs.NetworkValue.{value_of};
+ghost use Rattle.ptpm_script.specs.Marks.{marked, marks_in, spot_of, whole};
+
+use crate::fault::{Fault, Found, Need, Wanted};
+use crate::faults::Faults;
+use crate::heads::Heads;
+use crate::limits::TEXT_OCTETS;
+use crate::net_error::NetError;
+use crate::place::Place;
+use crate::reading::Parts;
+use ptpm_codec::OutOfMemory;
+use std::alloc::{AllocError, Global};
+use toml::Table;
+
+/// A text, read as a network file. It keeps what its faults point to.
+#[derive(Drop)]
+pub struct Document {
+    content: Content,
+}
+
+/// What a text is.
+#[derive(Drop)]
+enum Content {
+    /// A text that is too long.
+    Long,
+    /// A text that is no TOML from this line on.
+    Broken(usize, toml::de::Error),
+    Table(Table),
+}
+
+impl Document {
+    ghost use Rattle.ptpm_script.specs.DocumentView.{document_marks, document_network};
+
+    /// Reads a text, whether or not it is a network file. The first fault of it is of the refusal that `Network::from_toml` answers.
+    /// Nothing is made if memory is refused.
+    pub fn of(alloc: Global, text: &str) -> Result<Document, OutOfMemory>
+        ensures refusal { IfOk result
+            (λ d. first_refusal (document_marks d) ≡ result_err (network_of text.now)) }
+        ensures found { IfOk result (λ d. document_marks d ≡ text_marks text.now) }
+        ensures network { IfOk result (λ d. document_network d ≡ network_of text.now) }
+    {
+        let content = content_of(alloc, text)?;
+        Ok(Document { content })
+    }
+
+    /// Its faults, in the order of the refusals: none exactly if the text is a network file. They are those of the text by the
+    /// definitions, and none is left out.
+    pub fn faults(&self, alloc: Global) -> Result<Vec<Fault<'_>>, OutOfMemory>
+        ensures first { IfOk result
+            (λ faults. first_class faults.items ≡ first_refusal (document_marks self.now)) }
+        ensures all { IfOk result (λ faults. marks_in faults.items ≡ document_marks self.now) }
+    {
+        let mut faults = Faults::new(alloc);
+        match faults.add_content(&self.content) {
+            Ok(()) => Ok(faults.into_vec()),
+            Err(_) => Err(OutOfMemory),
+        }
+    }
+
+    /// The parts of the network that it is, or the refusal that its first fault is of.
+    pub(crate) fn parts(&self, alloc: Global) -> Result<Parts, NetError>
+        ensures { IsAnswerAs (λ p. value_of p.clocks.items p.sessions.items p.links.items) result
+            (document_network self.now) }
+    {
+        match &self.content {
+            Content::Long => Err(NetError::TooLong),
+            Content::Broken(..) => Err(NetError::NotToml),
+            Content::Table(file) => parts_of(alloc, file),
+        }
+    }
+}
+
+/// What a text is, whether or not it is a network file.
+#[tactic(auto, unfolding(crate::specs::Faults::text_marks, crate::specs::NetworkText::network_of))]
+fn content_of(alloc: Global, text: &str) -> Result<Content, OutOfMemory>
+    ensures found { IfOk result (λ content. content_marks content ≡ text_marks text.now) }
+    ensures network { IfOk result (λ content. content_network content ≡ network_of text.now) }
+{
+    if text.len() > TEXT_OCTETS {
+        return Ok(Content::Long);
+    }
+    match toml::table_from_str(alloc, text) {
+        Ok(table) => Ok(Content::Table(table)),
+        Err(error) if error.is_memory() => Err(OutOfMemory),
+        Err(error) => Ok(Content::Broken(line_of(text, &error), error)),
+    }
+}
+
+/// The parts of the network that a document is, or the refusal that its first fault is of.
+#[tactic(auto, using(crate::proofs::Judged::judged_by_first))]
+fn parts_of(alloc: Global, file: &Table) -> Result<Parts, NetError>
+    ensures { IsAnswerAs (λ p. value_of p.clocks.items p.sessions.items p.links.items) result
+        (network_of_document (Some (table_view file.now))) }
+{
+    let heads = Heads::of(alloc, file)?;
+    let mut faults = Faults::new(alloc);
+    faults.add_file(file, &heads)?;
+    match faults.refusal() {
+        Some(class) => Err(class),
+        None => Ok(Parts::of(alloc, file, &heads)?),
+    }
+}
+
+/// The line of a text, from 1, that has an error.
+fn line_of(text: &str, error: &toml::de::Error) -> usize {
+    let before = match error.span() {
+        Some(span) => span.start,
+        None => 0,
+    };
+    let octets = text.as_bytes();
+    let mut line = 1usize;
+    for index in 0..octets.len().min(before) {
+        if octets[index] == b'\n' {
+            line = line.saturating_add(1);
+        }
+    }
+    line
+}
+
+impl<'a> Faults<'a> {
+    /// Adds the faults that are found in a text, in the order of the refusals.
+    fn add_content(&mut self, content: &'a Content) -> Result<(), AllocError>
+        ensures { OnOk result (self.new ≡ self.old ++ content_marks content.now) }
+    {
+        match content {
+            Content::Long => self.add_text(NetError::TooLong, Place::File, Need::Size),
+            Content::Broken(line, error) => {
+                self.add_text(NetError::NotToml, Place::Line(*line), Need::Toml(*error))
+            }
+            Content::Table(file) => {
+                let heads = Heads::of(self.alloc(), file)?;
+                self.add_file(file, &heads)
+            }
+        }
+    }
+
+    /// Adds a fault of a text that is no document.
+    fn add_text(&mut self, class: NetError, place: Place<'a>, need: Need) -> Result<(), AllocError>
+        ensures { OnOk result (self.new ≡ self.old ++ marked class (spot_of place.entry) whole ∷ []) }
+    {
+        self.add(class, place, Found::Untold, Wanted::Need(need))
+    }
+
+    /// Adds the faults of a document.
+    #[tactic(auto, unfolding(crate::specs::Faults::file_marks))]
+    fn add_file(&mut self, file: &'a Table, heads: &Heads<'a>) -> Result<(), AllocError>
+        requires clocks { map clock_value heads.now.clocks.items ≡ clocks_of (table_view file.now) }
+        requires sessions { map session_value heads.now.sessions.items ≡ sessions_of (table_view file.now) }
+        requires ends { map end_value heads.now.ends.items ≡ ends_of (table_view file.now) }
+        ensures { OnOk result (self.new ≡ self.old ++ file_marks (table_view file.now)) }
+    {
+        self.add_shape_faults(file)?;
+        self.add_limit_faults(file, heads.sessions.as_slice())?;
+        self.add_repeat_faults(heads)?;
+        self.add_name_faults(heads)?;
+        self.add_start_faults(heads.clocks.as_slice())
+    }
+}

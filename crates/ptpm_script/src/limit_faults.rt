@@ -1,0 +1,139 @@
+//! How much a network may have.
+
+ghost use Rattle.std.specs.Prelude.{◌≡◌, ◌++◌, OnOk, [], codes, is_some, map, option_and_then};
+ghost use Rattle.toml.specs.Data.{as_array, get_member};
+ghost use Rattle.toml.specs.View.{view, table_view};
+ghost use Rattle.ptpm_script.specs.Spellings.{passes};
+ghost use Rattle.ptpm_script.specs.Heads.{session_value};
+ghost use Rattle.ptpm_script.specs.LimitFaults.{count_marks, has_bad_size, limit_marks, link_size_marks, manager_marks, managers_of};
+ghost use Rattle.ptpm_script.specs.Marks.{each, each_after};
+
+use crate::fault::{Found, Need, Wanted};
+use crate::faults::Faults;
+use crate::heads::SessionHead;
+use crate::limits::{CLOCKS, LEAST_ENDS, LINKS, MANAGERS, MOST_ENDS, SESSIONS};
+use crate::net_error::NetError;
+use crate::place::{Array, Place, TableAt};
+use crate::tables::{array_at, is_name_of, items_at, table_of};
+use std::alloc::AllocError;
+use toml::{Table, Value};
+
+impl<'a> Faults<'a> {
+    /// Adds a fault for each limit that is passed.
+    #[tactic(auto, unfolding(crate::specs::LimitFaults::limit_marks))]
+    pub(crate) fn add_limit_faults(
+        &mut self,
+        file: &'a Table,
+        sessions: &[SessionHead<'a>],
+    ) -> Result<(), AllocError>
+        ensures { OnOk result
+            (self.new ≡ self.old ++ limit_marks (table_view file.now) (map session_value sessions.now)) }
+    {
+        self.add_count(items_at(file, "clock"), "clocks", CLOCKS)?;
+        self.add_count(items_at(file, "session"), "sessions", SESSIONS)?;
+        self.add_count(items_at(file, "link"), "links", LINKS)?;
+        self.add_link_sizes(items_at(file, "link"))?;
+        self.add_crowded(sessions)
+    }
+
+    fn add_count(
+        &mut self,
+        items: &'a [Value],
+        of: &'static str,
+        most: usize,
+    ) -> Result<(), AllocError>
+        ensures { OnOk result (self.new ≡ self.old ++ count_marks of.now most (map view items.now)) }
+    {
+        let count = items.len();
+        if count <= most {
+            return Ok(());
+        }
+        let wanted = Wanted::Need(Need::AtMost(most));
+        self.add(
+            NetError::TooMany,
+            Place::File,
+            Found::Count(count, of),
+            wanted,
+        )
+    }
+
+    /// Adds a fault for each link of too few ends or of too many.
+    fn add_link_sizes(&mut self, links: &'a [Value]) -> Result<(), AllocError>
+        ensures { OnOk result (self.new ≡ self.old ++ each link_size_marks 1 (map view links.now)) }
+    {
+        for index in 0..links.len() {
+            self.add_link_size(index + 1, &links[index])?;
+        }
+        Ok(())
+    }
+
+    #[tactic(auto, unfolding(crate::specs::LimitFaults::link_size_marks))]
+    fn add_link_size(&mut self, number: usize, link: &'a Value) -> Result<(), AllocError>
+        ensures { OnOk result (self.new ≡ self.old ++ link_size_marks number (view link.now)) }
+    {
+        let Some(table) = table_of(link) else {
+            return Ok(());
+        };
+        let place = Place::Table(Array::Link, number, None);
+        let at = TableAt { place, table };
+        self.add_at(NetError::TooMany, at, "ends", other_size(table))
+    }
+
+    /// Adds a fault for the first session of each target that has too many.
+    fn add_crowded(&mut self, sessions: &[SessionHead<'a>]) -> Result<(), AllocError>
+        ensures { let all = map session_value sessions.now in
+            OnOk result (self.new ≡ self.old ++ each_after (manager_marks all) [] all) }
+    {
+        for index in 0..sessions.len() {
+            self.add_managers(sessions, &sessions[..index], &sessions[index])?;
+        }
+        Ok(())
+    }
+
+    #[tactic(auto, unfolding(crate::specs::LimitFaults::manager_marks))]
+    fn add_managers(
+        &mut self,
+        all: &[SessionHead<'a>],
+        before: &[SessionHead<'a>],
+        session: &SessionHead<'a>,
+    ) -> Result<(), AllocError>
+        ensures { OnOk result
+            (self.new
+            ≡ self.old
+            ++ manager_marks (map session_value all.now) (map session_value before.now) (session_value session.now)) }
+    {
+        let Some(target) = session.target else {
+            return Ok(());
+        };
+        let count = managers_of(target, all);
+        if count <= MANAGERS || managers_of(target, before) != 0 {
+            return Ok(());
+        }
+        let wanted = Wanted::Need(Need::Managers(count, MANAGERS));
+        self.add_at(NetError::TooMany, session.at, "target", Some(wanted))
+    }
+}
+
+/// How many ends a link is to have, if they are an array and too few or too many.
+fn other_size(link: &Table) -> Option<Wanted<'static>>
+    ensures { is_some result
+        ≡ passes has_bad_size (option_and_then as_array (get_member (codes "ends") (table_view link.now))) }
+{
+    let count = array_at(link, "ends")?.len();
+    if count < LEAST_ENDS || MOST_ENDS < count {
+        Some(Wanted::Need(Need::Ends(count)))
+    } else {
+        None
+    }
+}
+
+/// How many sessions have this target.
+#[tactic(auto, unfolding(crate::specs::LimitFaults::managers_of))]
+fn managers_of(target: &str, sessions: &[SessionHead<'_>]) -> usize
+    ensures { result ≡ managers_of target.now (map session_value sessions.now) }
+{
+    sessions
+        .iter()
+        .filter(|session| is_name_of(session.target, target))
+        .count()
+}
