@@ -1,5 +1,5 @@
 -- The texts of the members that an event changed (this project's profile).
-use Rattle.std.specs.Prelude.{ℕ, ◌-◌, ◌*◌, ◌/◌, ◌%◌, ◌^◌, ◌==◌, Bool, if◌then◌else◌, List, [], ◌∷◌, ◌++◌, Option, Some, None, codes, decimal, drop, flat_map, slice_get}
+use Rattle.std.specs.Prelude.{ℕ, ◌-◌, ◌*◌, ◌/◌, ◌%◌, ◌^◌, ◌==◌, Bool, if◌then◌else◌, List, [], ◌∷◌, ◌++◌, Option, Some, None, codes, decimal, drop, flat_map, slice_get, take}
 use Rattle.ptpm_data.specs.declared.changed.ChangedMembers.{ChangedMembers}
 use Rattle.ptpm_data.specs.declared.changed.PortMembers.{PortMembers}
 use Rattle.ptpm_data.specs.declared.members.Member.{Member}
@@ -7,26 +7,42 @@ use Rattle.ptpm_data.specs.MemberNames.{member_name, member_place}
 use Rattle.ptpm_data.specs.DataField.{data_field_of_id}
 use Rattle.ptpm_data.specs.Members.{has_port}
 use Rattle.ptpm_draw.specs.declared.changes.Change.{Change}
+use Rattle.ptpm_draw.specs.declared.members.ValueText.{ValueText}
+use Rattle.ptpm_draw.specs.declared.members.ValueText.TheVariants as shown
 use Rattle.ptpm_members.specs.FieldText.{members_in}
 use Rattle.ptpm_members.specs.declared.forms.Field.{Field}
+use Rattle.ptpm_members.specs.declared.forms.Form.{Form}
+use Rattle.ptpm_members.specs.declared.forms.Form.TheVariants as forms
 use Rattle.ptpm_members.specs.declared.names.Member.{Member as FieldMember}
 use Rattle.ptpm_members.specs.declared.names.Member.TheVariants as names
 use Rattle.ptpm_members.specs.Values as values
-use Rattle.ptpm_members.specs.Values.{Said, said_in}
+use Rattle.ptpm_members.specs.Values.{Said, said, said_in}
 use Rattle.ptpm_members.specs.ValueText.{said_text, shown_text}
+use Rattle.ptpm_script.specs.OctetText.{text_of_octets}
 
--- a value as each text has it; one that is a text itself is in quotation marks
-abbrev pub value_shown : Said → List ℕ
-value_shown (values.Text octets) = 34 ∷ shown_text octets ++ 34 ∷ []
-value_shown value = said_text value
+-- one that is a text itself is in quotation marks
+abbrev pub said_shown : Said → List ℕ
+said_shown (values.Text octets) = 34 ∷ shown_text octets ++ 34 ∷ []
+said_shown value = said_text value
+
+-- the value of a member whose octets come first, as each text has it: what is in hexadecimal there is so here
+abbrev pub value_shown : Form → List ℕ → List ℕ
+value_shown (forms.Hexadecimal n) octets = codes "0x" ++ text_of_octets (take n octets)
+value_shown form octets = said_shown (said_in form octets)
+
+-- one of the program
+abbrev pub value_text : ValueText → List ℕ
+value_text (shown.Hexadecimal octets) = codes "0x" ++ text_of_octets octets.now
+value_text (shown.Quoted value) = 34 ∷ said_text (said value) ++ 34 ∷ []
+value_text (shown.Plain value) = said_text (said value)
 
 -- the port, unless it is a member of the clock
 abbrev pub port_shown : ℕ → List ℕ
 port_shown port = if port == 0 then [] else codes "port " ++ decimal port ++ codes " "
 
--- the name in a network file, and the value
-unfoldable pub member_shown : ℕ → Member → Said → List ℕ
-member_shown port member value = port_shown port ++ member_name member ++ codes " " ++ value_shown value
+-- the name in a network file, and the text of the value
+unfoldable pub member_shown : ℕ → Member → List ℕ → List ℕ
+member_shown port member value = port_shown port ++ member_name member ++ codes " " ++ value
 
 -- ---- the members that changed
 
@@ -45,7 +61,7 @@ is_changed members port member = changed_bits members port / 2 ^ member_place me
 -- the text of a member that octets have, if it changed
 abbrev pub text_of : ChangedMembers → ℕ → List ℕ → Field → FieldMember → List (List ℕ)
 text_of members port octets field (names.DataSet member) =
-    if is_changed members port member then member_shown port member (said_in field.2 (drop field.1 octets)) ∷ [] else []
+    if is_changed members port member then member_shown port member (value_shown field.2 (drop field.1 octets)) ∷ [] else []
 text_of members port octets field other = []
 
 unfoldable pub texts_of : ChangedMembers → ℕ → List ℕ → List Field → List (List ℕ)

@@ -5,13 +5,13 @@ ghost use Rattle.ptpm_codec.specs.declared.message.Action.TheVariants.{Get};
 ghost use Rattle.ptpm_data.specs.DataField.{permits};
 ghost use Rattle.ptpm_data.specs.ManagementId.{is_of_port};
 ghost use Rattle.ptpm_data.specs.Members.{HasPort};
-ghost use Rattle.ptpm_draw.specs.MemberText.{changed_bits, changed_texts, clock_texts, is_changed, member_shown, member_texts, port_bits, port_texts, text_of, value_shown};
+ghost use Rattle.ptpm_draw.specs.MemberText.{changed_bits, changed_texts, clock_texts, is_changed, member_shown, member_texts, port_bits, port_texts, text_of, value_shown, value_text};
 ghost use Rattle.ptpm_members.specs.FieldText.{IsPlaced};
-ghost use Rattle.ptpm_members.specs.Values.{said, said_in};
 
 use crate::changes::Change;
 use ptpm_data::{ChangedMembers, Member as DataSetMember, PortMembers, Value};
-use ptpm_members::{Field, Member, MemberValue, members_in, value_in};
+use ptpm_members::{Field, Form, Member, MemberValue, members_in, value_in};
+use ptpm_script::Hexadecimal;
 use std::alloc::{AllocError, Global};
 use std::fmt;
 
@@ -176,12 +176,18 @@ fn port_bits(members: Option<&PortMembers>) -> u64
 }
 
 /// The value of a member at its place.
-fn value_of(field: Field, octets: &[u8]) -> MemberValue<'_>
+fn value_of(field: Field, octets: &[u8]) -> ValueText<'_>
     requires { IsPlaced octets.now field }
-    ensures { said result ≡ said_in field.2 (drop field.1 octets.now) }
+    ensures { value_text result ≡ value_shown field.2 (drop field.1 octets.now) }
 {
     let (_, behind) = octets.split_at(usize::from(field.1));
-    value_in(field.2, behind)
+    match field.2 {
+        Form::Hexadecimal(size) => ValueText::Hexadecimal(&behind[..usize::from(size)]),
+        form => match value_in(form, behind) {
+            MemberValue::Text(text) => ValueText::Quoted(MemberValue::Text(text)),
+            value => ValueText::Plain(value),
+        },
+    }
 }
 
 /// A member's name and value; a port's, after its number.
@@ -190,30 +196,36 @@ fn member_text(
     alloc: Global,
     port: u16,
     member: DataSetMember,
-    value: MemberValue<'_>,
+    value: ValueText<'_>,
 ) -> Result<String, AllocError>
-    ensures { IfOk result (λ text. string_bytes text ≡ member_shown port member (said value.entry)) }
+    ensures { IfOk result (λ text. string_bytes text ≡ member_shown port member (value_text value.entry)) }
 {
     let mut text = String::new(alloc);
     if port != 0 {
         write!(text, "port {port} ")?;
     }
-    write!(text, "{member} {}", ValueText(value))?;
+    write!(text, "{member} {value}")?;
     Ok(text)
 }
 
-/// A member's value, as each text has it. One that is a text itself is in quotation marks: it may have commas, and be empty, and other
-/// members follow it after a comma.
+/// A member's value, as each text has it.
 #[derive(Clone, Copy)]
-struct ValueText<'a>(MemberValue<'a>);
+enum ValueText<'a> {
+    /// A number that is in hexadecimal, by its octets.
+    Hexadecimal(&'a [u8]),
+    /// A text. It may have commas, and be empty, and other members follow it after a comma.
+    Quoted(MemberValue<'a>),
+    Plain(MemberValue<'a>),
+}
 
 impl fmt::Display for ValueText<'_> {
-    ghost output = { λ value. Some (value_shown (said value.0)) };
+    ghost output = { λ value. Some (value_text value) };
 
     fn fmt<W: fmt::Write>(&self, f: &mut fmt::Formatter<W>) -> fmt::Result {
-        match self.0 {
-            MemberValue::Text(_) => write!(f, "\"{}\"", self.0),
-            value => write!(f, "{value}"),
+        match *self {
+            ValueText::Hexadecimal(octets) => write!(f, "0x{}", Hexadecimal(octets)),
+            ValueText::Quoted(value) => write!(f, "\"{value}\""),
+            ValueText::Plain(value) => write!(f, "{value}"),
         }
     }
 }

@@ -1,5 +1,5 @@
 -- The first fault of a script, line by line.
-use Rattle.ptpm_world.proofs.Common.{◌≡◌, ℕ, ◌<◌, ◌≤◌, ◌++◌, List, [], ◌∷◌, length, length-append, Bool, true, false, None, Some, Ok, Err, refl, sym, ap, subst, ◌∙◌, append_assoc, append-nil, arith, IfErr, IfOk, IsErrAnd, OnSome, Option, Result, nat_lt, option_map, zip, ◌==◌, onto_first, Consumes, IsAtEnd, lines_of_parts, strip_carriage_return, cond-false, cond-true, lt-ltb, whole_lines, HasNextFault, ReadsWhole, is_of_writing, is_outside, next_fault, size_fault, text_fault}
+use Rattle.ptpm_world.proofs.Common.{◌≡◌, ℕ, ◌<◌, ◌≤◌, List, [], ◌∷◌, Bool, true, false, None, Some, Ok, Err, refl, sym, ap, subst, ◌∙◌, arith, IfErr, IfOk, IsErrAnd, OnSome, Option, Result, nat_lt, Consumes, IsAtEnd, cond-false, cond-true, lt-ltb, whole_lines, HasNextFault, ReadsWhole, is_of_writing, is_outside, next_fault, size_fault}
 use Rattle.std.proofs.lemmas.Bool.Decides.{nat_tests}
 use Rattle.ptpm_world.specs.declared.script_error.ScriptError.{ScriptError}
 use Rattle.ptpm_world.specs.declared.script_error.ScriptError.TheVariants as faults
