@@ -3,16 +3,17 @@
 
 ghost use Rattle.std.specs.Prelude.{◌≡◌, ◌≢◌, ◌<◌, ◌≤◌, ℕ, [], Err, IfSome, IfNone, List, Result, Some, length};
 ghost use Rattle.ptpm_c.specs.Fields.{IsReported};
-ghost use Rattle.ptpm_host.specs.Names.{id_at, no_id};
+ghost use Rattle.ptpm_host.specs.Names.{no_id};
 ghost use Rattle.ptpm_host.specs.declared.refusal.ParseRefusal.{ParseRefusal};
 ghost use Rattle.ptpm_host.specs.declared.refusal.ParseRefusal.TheVariants.{NotWords};
 ghost use Rattle.ptpm_host.specs.Parsing.{IsParsed};
 ghost use Rattle.ptpm_host.specs.Texts.{HandsOut};
 ghost use Rattle.ptpm_host.specs.Words.{AreWords, most_words};
 ghost use Rattle.ptpm_members.specs.FieldText.{field_text};
+ghost use Rattle.ptpm_members.specs.IdNames.{id_at};
 
-use ptpm_host::{NO_ID, hand_out_lines, id_at, parse_field, parse_number};
-use ptpm_members::FieldText;
+use ptpm_host::{NO_ID, hand_out_lines, parse_field, parse_number};
+use ptpm_members::{FieldText, id_at};
 
 /// The managementId at this place of this profile's, which are in ascending order and counted from 0. 65,536, which is no id, past
 /// the last.

@@ -4,12 +4,11 @@ ghost use Rattle.std.specs.Prelude.{◌≡◌, ◌≢◌, ℕ, IfNone, IfSome, S
 ghost use Rattle.std.specs.Str.{is_utf8};
 ghost use Rattle.ptpm_host.specs.AnswerNames.{answer_name};
 ghost use Rattle.ptpm_host.specs.ErrorNames.{error_name};
-ghost use Rattle.ptpm_host.specs.Names.{capitals, id_name, name_within, no_id, other_id_at, other_id_name, other_id_named};
+ghost use Rattle.ptpm_host.specs.Names.{name_within, no_id};
+ghost use Rattle.ptpm_members.specs.IdNames.{capitals, id_name, other_id_at, other_id_name, other_id_named};
 
-use ptpm_host::{
-    NO_ID, answer_name, error_name, hand_out_name, id_name, id_named, other_id_at, other_id_name,
-    other_id_named,
-};
+use ptpm_host::{NO_ID, answer_name, error_name, hand_out_name};
+use ptpm_members::{id_named, other_id_at, other_id_name, other_id_named, profile_id_name};
 
 /// The managementId that has this name of ASCII letters in either case, such as `PRIORITY1` or `priority1`. 65,536, which is no id,
 /// if no id has it.
@@ -32,7 +31,7 @@ pub extern "C" fn ptpm_id_name(id: u16, octets: &mut [u8]) -> usize
     ensures name { take result octets.new ≡ name_within (length octets.old) (id_name id) }
     ensures behind { drop result octets.new ≡ drop result octets.old }
 {
-    hand_out_name(id_name(id), octets)
+    hand_out_name(profile_id_name(id), octets)
 }
 
 /// The managementId that other clocks have and this profile lacks, and that has this name of ASCII letters in either case. Its

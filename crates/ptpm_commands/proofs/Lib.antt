@@ -1,6 +1,5 @@
 pub mod CellLemmas
 pub mod FreshClock
-pub mod IdentityTextLemmas
 pub mod Naming
 pub mod ShownLines
 pub mod TakenLemmas

@@ -4,8 +4,6 @@ pub mod DatagramLine
 pub mod Faults
 pub mod FreshClock
 pub mod Ids
-pub mod IdText
-pub mod IdentityText
 pub mod Lines
 pub mod RequestWords
 pub mod Show

@@ -13,9 +13,9 @@ use Rattle.ptpm_codec.specs.Message.{is_data_field}
 use Rattle.ptpm_commands.specs.declared.faults.Fault.{Fault}
 use Rattle.ptpm_commands.specs.declared.faults.Fault.TheVariants as faults
 use Rattle.ptpm_commands.specs.declared.make.RequestWords.{RequestWords}
-use Rattle.ptpm_commands.specs.IdentityText.{identity_of}
-use Rattle.ptpm_commands.specs.IdText.{id_of}
 use Rattle.ptpm_members.specs.declared.parsing.ParseFault.{ParseFault}
+use Rattle.ptpm_members.specs.IdNames.{id_of}
+use Rattle.ptpm_members.specs.Identities.{port_identity_of}
 use Rattle.ptpm_members.specs.Parsed.{parsed}
 use Rattle.ptpm_script.specs.OctetText.{text_of_octets}
 use Rattle.ptpm_script.specs.RequestNames.{action_named}
@@ -53,7 +53,7 @@ with_identities words action id octets (Some source) (Some target) = Ok (request
 -- the request of an action, an id and a dataField that were read; the dataField is judged first
 abbrev pub request_of : RequestWords → Action → ℕ → List ℕ → Result Message Fault
 request_of words action id octets =
-    if is_data_field octets then with_identities words action id octets (identity_of words.from.now) (identity_of words.to.now)
+    if is_data_field octets then with_identities words action id octets (port_identity_of words.from.now) (port_identity_of words.to.now)
     else Err faults.BadValue
 
 -- ---- the words, in the order in which they are judged

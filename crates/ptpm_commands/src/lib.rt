@@ -6,8 +6,6 @@ mod clock;
 mod columns;
 mod datagram_line;
 mod faults;
-mod id_text;
-mod identity_text;
 pub mod ids;
 pub mod lines;
 pub mod make;

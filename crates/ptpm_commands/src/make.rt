@@ -6,11 +6,9 @@ ghost use Rattle.ptpm_commands.specs.RequestWords.{IsMade, IsMadeOf, action_and_
 ghost use Rattle.ptpm_codec.specs.Message.{IsRequestAction, IsValid};
 
 use crate::faults::Fault;
-use crate::id_text::id_of;
-use crate::identity_text::identity_of;
 use arrayvec::ArrayVec;
 use ptpm_codec::{Action, Draft, DraftBody, encode, is_data_field};
-use ptpm_members::parse;
+use ptpm_members::{id_of, parse, port_identity_of};
 use ptpm_script::{Hexadecimal, action_named};
 use std::alloc::{AllocError, Global};
 use std::io::Write;
@@ -20,7 +18,7 @@ use std::io::Write;
 pub struct RequestWords<'a> {
     /// `get`, `set` or `command`.
     pub action: &'a str,
-    /// A name of the table of management ids, or four hexadecimal digits, also after `0x`.
+    /// A name of the table of management ids in either case, or four hexadecimal digits, also after `0x`.
     pub id: &'a str,
     /// The dataField in hexadecimal.
     pub value: &'a str,
@@ -77,7 +75,7 @@ fn action_and_id(words: &RequestWords<'_>) -> Result<(Action, u16), Fault>
     ensures action { IfOk result (λ r. IsRequestAction r.0) }
 {
     let action = action_named(words.action).ok_or(Fault::BadAction)?;
-    let id = id_of(words.id).ok_or(Fault::BadId)?;
+    let id = id_of(words.id.as_bytes()).ok_or(Fault::BadId)?;
     Ok((action, id))
 }
 
@@ -142,8 +140,8 @@ fn request_of<'a>(
     if !is_data_field(octets) {
         return Err(Fault::BadValue);
     }
-    let source = identity_of(words.from).ok_or(Fault::BadIdentity)?;
-    let target = identity_of(words.to).ok_or(Fault::BadIdentity)?;
+    let source = port_identity_of(words.from).ok_or(Fault::BadIdentity)?;
+    let target = port_identity_of(words.to).ok_or(Fault::BadIdentity)?;
     Ok(Draft {
         sdo: 0,
         domain: words.domain,

@@ -28,7 +28,7 @@ use Rattle.ptpm_saved.specs.declared.error.RestoreError.TheVariants as images
 use Rattle.ptpm_saved.specs.ErrorText.{restore_error_text as clock_image_error_text}
 use Rattle.ptpm_host.specs.AnswerNames.{answer_name, name_in, cause_word, reason_word, verdict_word, words_in_capitals}
 use Rattle.ptpm_host.specs.ErrorNames.{error_name}
-use Rattle.ptpm_host.specs.Names.{capitals}
+use Rattle.ptpm_members.specs.IdNames.{capitals}
 use Rattle.ptpm_host.specs.Numbers.{begin_number, cause_number, give_up_number, image_number, reason_number, restore_number, resume_number, values_number, verdict_number}
 
 cause_named : (c : DecodeError) → answer_name (cause_number c) ≡ cause_word c

@@ -5,8 +5,8 @@ use Rattle.std.proofs.lemmas.Bool.Decides.{nat_tests}
 use Rattle.ptpm_data.specs.ManagementId.{RowValue, id_table, row_of}
 use Rattle.ptpm_host.specs.AnswerNames.{answer_name, name_in, clock_member_names, datagram_names, port_member_names, refusal_names}
 use Rattle.ptpm_host.specs.ErrorNames.{error_name, error_names}
-use Rattle.ptpm_host.specs.Names.{id_name}
-use Rattle.ptpm_host.proofs.IdNames.{of_found}
+use Rattle.ptpm_members.specs.IdNames.{id_name}
+use Rattle.ptpm_members.proofs.IdNames.{of_found}
 
 -- no name, or one of at most 27 octets
 abbrev Fits : Option (List ℕ) → Type 0

@@ -1,30 +1,5 @@
--- The names of management ids as a user of a host writes and reads them, and how a name is handed out.
-use Rattle.std.specs.Prelude.{ℕ, nat_lt, if◌then◌else◌, List, [], length, map, Option, Some, None, option_map, slice_get}
-use Rattle.std.specs.Char.{to_ascii_uppercase}
-use Rattle.ptpm_data.specs.ManagementId.{id_table, row_of}
-use Rattle.ptpm_members.specs.OtherIds.{other_ids, other_name, other_named, other_number, other_of}
-
--- a name in capitals (ASCII); any other octet stays
-abbrev pub capitals : List ℕ → List ℕ
-capitals name = map to_ascii_uppercase name
-
--- the standard's name of a managementId (15.5.2.3), in capitals, if this profile has the id
-abbrev pub id_name : ℕ → Option (List ℕ)
-id_name id = option_map (λ e. e.name) (row_of id)
-
--- the id at a place of the table of ids
-abbrev pub id_at : ℕ → Option ℕ
-id_at place = option_map (λ e. e.id) (slice_get id_table place)
-
--- ids that only other clocks have, and whose members are read: a name, the id of a name, and the id at a place
-abbrev pub other_id_name : ℕ → Option (List ℕ)
-other_id_name id = option_map other_name (other_of id)
-
-abbrev pub other_id_named : List ℕ → Option ℕ
-other_id_named name = option_map other_number (other_named name)
-
-abbrev pub other_id_at : ℕ → Option ℕ
-other_id_at place = option_map other_number (slice_get other_ids place)
+-- How a name is handed out to a host.
+use Rattle.std.specs.Prelude.{ℕ, nat_lt, if◌then◌else◌, List, [], length, Option, Some, None}
 
 -- means no id, since an id has 16 bits
 abbrev pub no_id : ℕ

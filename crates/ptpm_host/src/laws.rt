@@ -19,7 +19,7 @@ ghost use Rattle.ptpm_saved.specs.declared.error.RestoreError.{RestoreError as C
 ghost use Rattle.ptpm_saved.specs.ErrorText.{restore_error_text as clock_image_error_text};
 ghost use Rattle.ptpm_host.specs.AnswerNames.{answer_name, reason_word, verdict_word, words_in_capitals};
 ghost use Rattle.ptpm_host.specs.ErrorNames.{error_name};
-ghost use Rattle.ptpm_host.specs.Names.{capitals, id_name};
+ghost use Rattle.ptpm_members.specs.IdNames.{capitals, id_name};
 ghost use Rattle.ptpm_host.specs.Numbers.{begin_number, give_up_number, image_number, reason_number, restore_number, resume_number, values_number, verdict_number};
 ghost use Rattle.ptpm_host.specs.MostSent.{SendsNoMore, SendsNoMoreAlone, WaitsNoMore};
 ghost use Rattle.ptpm_host.specs.PassedOnLaw.{NotTwice};

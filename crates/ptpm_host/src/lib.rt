@@ -12,7 +12,6 @@ mod deciding;
 mod device;
 mod error_names;
 mod handed;
-mod id_names;
 mod judged;
 mod laws;
 mod limits;
@@ -50,10 +49,9 @@ pub use clock::{Handled, HostedClock, MOST_SENT};
 pub use device::{Asking, Question, Say};
 pub use error_names::error_name;
 pub use handed::{Handed, earlier_number};
-pub use id_names::{NO_ID, id_at, id_name, id_named, other_id_at, other_id_name, other_id_named};
 pub use laws::{most_sent_law, names_law, passed_on_law, rate_law};
 pub use limits::{Limit, limits_say};
-pub use names::hand_out_name;
+pub use names::{NO_ID, hand_out_name};
 pub use numbers::{
     ASKED_CHANGE, ASKED_VALUE, CANT_OBJECT, NO_ASKER, NO_CLOCK, NO_MEMORY, NO_ROOM, NO_SESSION,
     NO_SURVEY, OTHER_SIZES, asker_number, begin_number, change_number, clock_restore_number,

@@ -3,6 +3,9 @@
 ghost use Rattle.std.specs.Prelude.{◌≡◌, drop, length, option_map, take};
 ghost use Rattle.ptpm_host.specs.Names.{name_within};
 
+/// Means no managementId, since an id has 16 bits.
+pub const NO_ID: u32 = 65_536;
+
 /// Leaves a name at the head of `octets`, and answers how many octets it has. That is 0 if there is none, or no room for
 /// the whole. What follows it stays. Takes no memory.
 pub fn hand_out_name(name: Option<&str>, octets: &mut [u8]) -> usize

@@ -11,3 +11,5 @@ pub mod Naming
 pub mod OneOctet
 pub mod TextBack
 pub mod SetBack
+pub mod IdNames
+pub mod IdentityLemmas

@@ -8,6 +8,8 @@ pub mod ValueText
 pub mod FieldText
 pub mod Typed
 pub mod Parsed
+pub mod IdNames
+pub mod Identities
 pub mod RoundTrip
 pub mod ParseFaultText
 pub mod Formatted

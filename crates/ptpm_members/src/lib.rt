@@ -6,6 +6,8 @@ mod description;
 mod field_text;
 mod formatted;
 mod forms;
+mod id_names;
+mod identities;
 mod laws;
 mod names;
 mod number_names;
@@ -21,6 +23,10 @@ mod values;
 pub use description::DescriptionPart;
 pub use field_text::{FieldText, members_in};
 pub use forms::{Field, Form};
+pub use id_names::{
+    id_at, id_named, id_of, other_id_at, other_id_name, other_id_named, profile_id_name,
+};
+pub use identities::{clock_identity_of, port_identity_of};
 pub use laws::{member_law, typed_again_law};
 pub use names::Member;
 pub use number_names::{Enumeration, mechanism_name, state_name};

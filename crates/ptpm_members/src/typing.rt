@@ -52,7 +52,7 @@ fn two_octets(number: i16) -> Octets
 }
 
 /// The number that decimal digits, and nothing else, write, if it is at most this.
-fn number_up_to(most: u64, text: &str) -> Option<u64>
+pub(crate) fn number_up_to(most: u64, text: &str) -> Option<u64>
     ensures value { result ≡ number_up_to most text.now }
     ensures small { IfSome result (λ n. n ≤ most) }
 {

@@ -7,7 +7,7 @@ use Rattle.std.proofs.lemmas.Str.Ascii.{lowercase-uppercase}
 use Rattle.std.specs.Char.{to_ascii_uppercase, to_ascii_lowercase}
 use Rattle.ptpm_data.specs.declared.management_id.ManagementIdRow.{ManagementIdRow}
 use Rattle.ptpm_data.specs.ManagementId.{RowValue, id_table, row_of, row_named, row_value, if_named}
-use Rattle.ptpm_host.specs.Names.{capitals, id_name}
+use Rattle.ptpm_members.specs.IdNames.{capitals, id_name}
 
 -- ---- what holds of every row holds of a row that is found
 

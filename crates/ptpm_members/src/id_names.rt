@@ -1,19 +1,18 @@
-//! Management ids by name, and names of them.
+//! Management ids by name, names of them, and the id that a person types.
 
 ghost use Rattle.std.specs.Prelude.{◌≡◌, ℕ, IfSome, Some, option_map, true};
 ghost use Rattle.std.specs.Str.{is_utf8};
 ghost use Rattle.ptpm_data.specs.ManagementId.{if_named, row_named, row_of, row_value};
-ghost use Rattle.ptpm_host.specs.Names.{capitals, id_at, id_name, other_id_at, other_id_name, other_id_named};
+ghost use Rattle.ptpm_members.specs.IdNames.{capitals, four_digits, id_at, id_name, id_named, id_of, other_id_at, other_id_name, other_id_named};
 
+use crate::other_ids::{OTHER_IDS, OtherId};
+use hex::FromHex;
+use ptpm_codec::u16_at;
 use ptpm_data::{MANAGEMENT_IDS, ManagementIdRow, row};
-use ptpm_members::{OTHER_IDS, OtherId};
 use std::str;
 
-/// Means no managementId, since an id has 16 bits.
-pub const NO_ID: u32 = 65_536;
-
 /// The standard's name of a managementId, such as `PRIORITY1`; `None` if this profile lacks the id.
-pub fn id_name(id: u16) -> Option<&'static str>
+pub fn profile_id_name(id: u16) -> Option<&'static str>
     ensures { option_map (λ name. name.now) result ≡ id_name id }
 {
     Some(row(id)?.name)
@@ -23,11 +22,31 @@ pub fn id_name(id: u16) -> Option<&'static str>
 pub fn id_named(name: &[u8]) -> Option<u16>
     ensures named { IfSome result (λ id. id_name id ≡ Some (capitals name.now)) }
     ensures found { (id : ℕ) → id_name id ≡ Some (capitals name.now) → result ≡ Some id }
+    ensures value { result ≡ id_named name.now }
 {
     match row_named(name) {
         Some(row) => Some(row.id),
         None => None,
     }
+}
+
+/// The managementId that a person types: a name in either case, such as `priority1`, or four hexadecimal digits, also after `0x`.
+#[tactic(auto, unfolding(crate::specs::IdNames::id_of))]
+pub fn id_of(text: &[u8]) -> Option<u16>
+    ensures { result ≡ id_of text.now }
+{
+    match text {
+        [b'0', b'x' | b'X', digits @ ..] => four_digits(digits),
+        _ => id_named(text).or(four_digits(text)),
+    }
+}
+
+/// The number that four hexadecimal digits write, in either case.
+fn four_digits(digits: &[u8]) -> Option<u16>
+    ensures { result ≡ four_digits digits.now }
+{
+    let octets = <[u8; 2] as FromHex>::from_hex(digits).ok()?;
+    Some(u16_at(&octets, 0))
 }
 
 /// The managementId at this place of the table of ids, in ascending order; `None` past the last.

@@ -1,8 +1,8 @@
 use Rattle.std.proofs.Common.{ap, sym, ◌∙◌, option_map}
 use Rattle.ptpm_data.specs.ManagementId.{row_value}
-use Rattle.ptpm_host.proofs.IdNames.{is_named, is_not_named, is_no_row}
-use Rattle.ptpm_host.proofs.id_names.row_if_named.Goals as goal
-use Rattle.ptpm_host.proofs.id_names.row_if_named.Goals.{in_default-via-in-Some+else-eq_ignore_ascii_case, in_default-via-in_default}
+use Rattle.ptpm_members.proofs.IdNames.{is_named, is_not_named, is_no_row}
+use Rattle.ptpm_members.proofs.id_names.row_if_named.Goals as goal
+use Rattle.ptpm_members.proofs.id_names.row_if_named.Goals.{in_default-via-in-Some+else-eq_ignore_ascii_case, in_default-via-in_default}
 
 pub returns-in-Some : goal.returns-in-Some
 returns-in-Some c =

@@ -1,8 +1,8 @@
 use Rattle.std.proofs.Common.{arith, option_map, ◌∙◌, sym, ap}
 use Rattle.ptpm_data.specs.ManagementId.{row_value}
 use Rattle.ptpm_data.proofs.NameLemmas.{named_among_all, goes_on, is_found, is_nowhere, management_ids}
-use Rattle.ptpm_host.specs.Names.{capitals}
-use Rattle.ptpm_host.proofs.id_names.row_named.Goals as goal
+use Rattle.ptpm_members.specs.IdNames.{capitals}
+use Rattle.ptpm_members.proofs.id_names.row_named.Goals as goal
 
 pub loop-id-init : goal.loop-id-init
 loop-id-init c = named_among_all (capitals c.args.name.now)

@@ -1,7 +1,7 @@
 use Rattle.std.proofs.Common.{arith, ◌∙◌, None, sym}
 use Rattle.std.proofs.lemmas.Str.Pattern.{split_once_first}
-use Rattle.ptpm_commands.proofs.IdentityTextLemmas.{no_mark}
-use Rattle.ptpm_commands.proofs.identity_text.identity_around.Goals as goal
+use Rattle.ptpm_members.proofs.IdentityLemmas.{no_mark}
+use Rattle.ptpm_members.proofs.identities.port_identity_around.Goals as goal
 
 pub returns-in_err-clock : goal.returns-in_err-clock
 returns-in_err-clock c =

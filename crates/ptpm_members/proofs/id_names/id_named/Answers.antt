@@ -1,8 +1,8 @@
 use Rattle.std.proofs.Common.{ap, sym, ◌∙◌, option_map}
 use Rattle.ptpm_data.specs.ManagementId.{row_value}
-use Rattle.ptpm_host.specs.Names.{capitals}
-use Rattle.ptpm_host.proofs.IdNames.{name_of_named, is_only_id, has_no_id}
-use Rattle.ptpm_host.proofs.id_names.id_named.Goals as goal
+use Rattle.ptpm_members.specs.IdNames.{capitals}
+use Rattle.ptpm_members.proofs.IdNames.{name_of_named, is_only_id, has_no_id}
+use Rattle.ptpm_members.proofs.id_names.id_named.Goals as goal
 
 pub returns-in-Some-clause-named : goal.returns-in-Some-clause-named
 returns-in-Some-clause-named c =
