@@ -3,10 +3,10 @@
 use crate::inventory::{Entry, Inventory, MemberRule, Presence, Rule};
 use crate::inventory_fault::{InventoryFault, LineFault, ReadFault};
 use crate::members::{clock_member, port_member};
-use crate::wanted_values::{identity, wanted_values};
+use crate::wanted_values::wanted_values;
 use crate::words::{first_choice, first_word, without_note};
 use ptpm_codec::ClockIdentity;
-use ptpm_members::Member;
+use ptpm_members::{Member, clock_identity_of};
 use ptpm_site::domain::Domain;
 use std::alloc::Global;
 use std::str;
@@ -79,7 +79,7 @@ fn rule_of(alloc: Global, clock: &str, member: &str, value: &str) -> Result<Rule
             "clock" | "optional" | "mute" => Err(ReadFault::Bad(LineFault::NotOfEach)),
             _ => Ok(Rule::EachMember(member_rule(alloc, member, value)?)),
         },
-        _ => match identity(clock) {
+        _ => match clock_identity_of(clock) {
             Some(clock) => clock_rule(alloc, clock, member, value),
             None => Err(ReadFault::Bad(LineFault::NoClock)),
         },
@@ -183,7 +183,7 @@ fn leaders(alloc: Global, text: &str) -> Result<Vec<Vec<ClockIdentity>>, ReadFau
 fn identities(alloc: Global, text: &str) -> Result<Vec<ClockIdentity>, ReadFault> {
     let mut clocks = Vec::new(alloc);
     for word in text.split_whitespace() {
-        match identity(word) {
+        match clock_identity_of(word) {
             Some(clock) => clocks.push(clock)?,
             None => return Err(ReadFault::Bad(LineFault::NoValue)),
         }

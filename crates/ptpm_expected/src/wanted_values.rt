@@ -2,10 +2,11 @@
 
 use crate::quoted::unquoted_text;
 use crate::words::{first_choice, first_word};
-use hex::FromHex;
-use ptpm_codec::{ClockIdentity, PortIdentity};
 use ptpm_data::Layout;
-use ptpm_members::{ClockQuality, Enumeration, Form, Member, MemberValue, fields};
+use ptpm_members::{
+    ClockQuality, Enumeration, Form, Member, MemberValue, clock_identity_of, fields, flag_of,
+    octet_of, port_identity_of,
+};
 use ptpm_site::expected::Wanted;
 use std::alloc::{AllocError, Global};
 use std::str::FromStr;
@@ -66,19 +67,11 @@ fn form_of(member: Member) -> Option<Form> {
 /// A value of a form that takes no memory.
 fn value_of_form(form: Form, text: &str) -> Option<Wanted> {
     match form {
-        Form::Flag(_) => Some(Wanted::Value(MemberValue::Flag(flag(text)?))),
-        Form::ClockIdentity => Some(Wanted::Value(MemberValue::Clock(identity(text)?))),
-        Form::PortIdentity => Some(Wanted::Value(MemberValue::Port(port_identity(text)?))),
+        Form::Flag(_) => Some(Wanted::Value(MemberValue::Flag(flag_of(text)?))),
+        Form::ClockIdentity => Some(Wanted::Value(MemberValue::Clock(clock_identity_of(text)?))),
+        Form::PortIdentity => Some(Wanted::Value(MemberValue::Port(port_identity_of(text)?))),
         Form::Named(enumeration) => of_enumeration(enumeration, text),
         _ => numbers(text),
-    }
-}
-
-fn flag(text: &str) -> Option<bool> {
-    match text {
-        "true" => Some(true),
-        "false" => Some(false),
-        _ => None,
     }
 }
 
@@ -91,14 +84,11 @@ fn of_enumeration(enumeration: Enumeration, text: &str) -> Option<Wanted> {
     }
 }
 
-/// The number of a name, or the number itself: in decimal, or `0x` and two hexadecimal digits.
+/// The number of a name in either case, or the number itself.
 fn number_of(enumeration: Enumeration, text: &str) -> Option<u8> {
     match enumeration.number_of(text) {
-        Some(number) if enumeration.name_of(number) == Some(text) => Some(number),
-        _ => match text.strip_prefix("0x") {
-            Some(digits) => Some(<[u8; 1] as FromHex>::from_hex(digits).ok()?[0]),
-            None => u8::from_str(text).ok(),
-        },
+        Some(number) => Some(number),
+        None => octet_of(text),
     }
 }
 
@@ -146,19 +136,4 @@ fn after_name<'a>(name: &str, text: &'a str) -> Option<(&'a str, &'a str)> {
         return None;
     }
     Some(first_word(rest))
-}
-
-/// A clockIdentity: sixteen hexadecimal digits in either case.
-pub(crate) fn identity(text: &str) -> Option<ClockIdentity> {
-    let octets = <[u8; 8] as FromHex>::from_hex(text).ok()?;
-    Some(ClockIdentity(octets))
-}
-
-/// A clockIdentity and a port number, with `/` between them.
-fn port_identity(text: &str) -> Option<PortIdentity> {
-    let (clock, port) = text.split_once('/')?;
-    Some(PortIdentity {
-        clock: identity(clock)?,
-        port: u16::from_str(port).ok()?,
-    })
 }

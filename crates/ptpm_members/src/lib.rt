@@ -34,4 +34,5 @@ pub use other_ids::{OTHER_IDS, OtherId, id_name};
 pub use parsing::{ParseFault, parse};
 pub use tables::fields;
 pub use text_sink::TextSink;
+pub use typing::{flag_of, octet_of};
 pub use values::{ClockQuality, MemberValue, value_in};

@@ -74,9 +74,9 @@ fn has_plus(text: &str) -> bool
     }
 }
 
-/// A number of one octet: in decimal, or `0x` and two hexadecimal digits.
+/// A number of one octet that a person types: in decimal, or `0x` and two hexadecimal digits.
 #[tactic(auto, unfolding(crate::specs::Typed::octet_of))]
-fn octet_of(text: &str) -> Option<u8>
+pub fn octet_of(text: &str) -> Option<u8>
     ensures { result ≡ octet_of text.now }
 {
     match text.as_bytes() {
@@ -132,9 +132,9 @@ fn negative(size: u64) -> i16
     (-(size as i32)) as i16
 }
 
-/// `true` and `false` in either case, or 1 and 0.
+/// A flag that a person types: `true` and `false` in either case, or 1 and 0.
 #[tactic(auto, unfolding(crate::specs::Typed::flag_of))]
-fn flag_of(text: &str) -> Option<bool>
+pub fn flag_of(text: &str) -> Option<bool>
     ensures { result ≡ flag_of text.now }
 {
     if text.eq_ignore_ascii_case("true") {

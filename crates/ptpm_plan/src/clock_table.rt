@@ -6,8 +6,7 @@ use crate::table_values::{domain_at, shaped, text_at};
 use crate::text::Text;
 use crate::wish::{ClockWishes, PortWishes, Target};
 use crate::wishes_table::{Owner, read_wishes};
-use hex::FromHex;
-use ptpm_codec::ClockIdentity;
+use ptpm_members::clock_identity_of;
 use std::alloc::Global;
 use toml::{Table, Value};
 
@@ -42,7 +41,7 @@ fn read_target(alloc: Global, table: &Table, place: Place) -> Result<Target, Fil
     let identity = text_at(table, "identity", place)?;
     let description = text_at(table, "description", place)?;
     match (identity, description) {
-        (Some(text), None) => match identity_of(text) {
+        (Some(text), None) => match clock_identity_of(text) {
             Some(identity) => Ok(Target::Identity(identity)),
             None => Err(FileFault::at(
                 place,
@@ -52,12 +51,6 @@ fn read_target(alloc: Global, table: &Table, place: Place) -> Result<Target, Fil
         (None, Some(text)) => Ok(Target::Description(Text::copy_of(alloc, text)?)),
         _ => Err(FileFault::at(place, TableFault::NotOneName)),
     }
-}
-
-/// The clock of sixteen hexadecimal digits.
-pub(crate) fn identity_of(text: &str) -> Option<ClockIdentity> {
-    let octets = <[u8; 8] as FromHex>::from_hex(text).ok()?;
-    Some(ClockIdentity(octets))
 }
 
 fn read_alias(

@@ -1,11 +1,12 @@
 //! What a plan file asks of every clock of a domain.
 
-use crate::clock_table::{clock_of_alias, identity_of};
+use crate::clock_table::clock_of_alias;
 use crate::file_fault::{FileFault, Place, TableFault};
 use crate::table_values::{domain_at, shaped};
 use crate::text::Text;
 use crate::wish::{ClockWishes, EveryWishes, Target, Wish};
 use crate::wishes_table::{Owner, read_wishes};
+use ptpm_members::clock_identity_of;
 use std::alloc::{AllocError, Global};
 use toml::{Table, Value};
 
@@ -89,7 +90,7 @@ fn excepted(
     if let Some(clock) = clock_of_alias(clocks, text) {
         return Ok(copy_of(alloc, &clock.target)?);
     }
-    match identity_of(text) {
+    match clock_identity_of(text) {
         Some(identity) => Ok(Target::Identity(identity)),
         None => {
             let text = Text::copy_of(alloc, text)?;

@@ -1,7 +1,7 @@
 //! Names that an operator gave to clocks.
 
-use hex::FromHex;
 use ptpm_codec::ClockIdentity;
+use ptpm_members::clock_identity_of;
 use std::alloc::{AllocError, Global};
 use std::collections::BTreeMap;
 use std::fmt;
@@ -42,14 +42,13 @@ impl Names {
     }
 }
 
-/// A clock by its identity, sixteen hexadecimal digits in either case, and its name.
+/// A clock by its identity, and its name.
 fn named_clock(words: &str) -> Option<(ClockIdentity, &str)> {
     let (clock, name) = words.split_once('=')?;
     if name.is_empty() {
         return None;
     }
-    let octets = <[u8; 8] as FromHex>::from_hex(clock).ok()?;
-    Some((ClockIdentity(octets), name))
+    Some((clock_identity_of(clock)?, name))
 }
 
 /// A name in quotes, after a space. Each character that is not printable is escaped.
