@@ -240,7 +240,7 @@ fn parse<'a>(alloc: Global, words: &'a [&'a str]) -> Result<Task<'a>, clap::Erro
         )?),
         Err(WithoutTask::BadName) => Err(ptpm.error(
             ErrorKind::InvalidValue,
-            "invalid value for '--name <ID=NAME>': not sixteen hexadecimal digits, '=' and a name",
+            "invalid value for '--name <ID=NAME>': not a clockIdentity, '=' and a name",
         )?),
         Err(WithoutTask::BadFinding) => Err(ptpm.error(
             ErrorKind::InvalidValue,
@@ -649,7 +649,7 @@ fn with_request<'a>(alloc: Global, make: Command<'a>) -> Result<Command<'a>, All
     let id = required_word(
         alloc,
         "ID",
-        "A name that `ids` prints, or four hexadecimal digits",
+        "A name that `ids` prints in either case, or four hexadecimal digits",
     );
     let make = with(make, id)?;
     let value = word(

@@ -45,7 +45,10 @@ fn read_target(alloc: Global, table: &Table, place: Place) -> Result<Target, Fil
             Some(identity) => Ok(Target::Identity(identity)),
             None => Err(FileFault::at(
                 place,
-                TableFault::Takes("identity", "sixteen hexadecimal digits"),
+                TableFault::Takes(
+                    "identity",
+                    "a clockIdentity, such as aabbccfffeddee01 or aabbcc.fffe.ddee01",
+                ),
             )),
         },
         (None, Some(text)) => Ok(Target::Description(Text::copy_of(alloc, text)?)),
