@@ -1,5 +1,5 @@
-//! Identities that a person types: of a clock `aabbccfffeddee01`, or `aabbcc.fffe.ddee01` as pmc prints it, and of its port
-//! `aabbccfffeddee01/1` or `aabbcc.fffe.ddee01-1` (5.3.4 and 5.3.5; this project's profile).
+//! Identities that a person types (5.3.4 and 5.3.5; this project's profile). That of a clock is `aabbccfffeddee01`, or
+//! `aabbcc.fffe.ddee01` as pmc prints it. That of its port is `aabbccfffeddee01/1` or `aabbcc.fffe.ddee01-1`.
 
 ghost use Rattle.std.specs.Prelude.{◌≡◌, ◌<◌};
 ghost use Rattle.ptpm_members.specs.Identities.{clock_identity_of, is_dotted, clock_of_digits, port_identity_around, port_identity_of};
