@@ -10,5 +10,6 @@ pub mod Typed
 pub mod Parsed
 pub mod RoundTrip
 pub mod ParseFaultText
+pub mod Takes
 pub mod Formatted
 pub mod FormattedLaws
