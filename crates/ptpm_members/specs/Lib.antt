@@ -12,5 +12,6 @@ pub mod IdNames
 pub mod Identities
 pub mod RoundTrip
 pub mod ParseFaultText
+pub mod Takes
 pub mod Formatted
 pub mod FormattedLaws

@@ -47,7 +47,7 @@ impl Enumeration {
     }
 
     /// The numbers that have a name.
-    pub fn named_numbers(self) -> &'static [u8]
+    pub(crate) fn named_numbers(self) -> &'static [u8]
         ensures { result.now ≡ named_numbers self }
     {
         match self {

@@ -167,7 +167,7 @@ fn push_fraction<T: TextSink>(digits: u8, number: u32, sink: &mut T)
 
 /// The name of a number, or the number in hexadecimal if it has none.
 #[tactic(auto, unfolding(crate::specs::NumberNames::enumeration_text))]
-fn push_named<T: TextSink>(enumeration: Enumeration, number: u8, sink: &mut T)
+pub(crate) fn push_named<T: TextSink>(enumeration: Enumeration, number: u8, sink: &mut T)
     ensures { T.pushed sink.old (enumeration_text enumeration number) sink.new }
 {
     match enumeration.name_of(number) {
