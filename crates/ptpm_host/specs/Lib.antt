@@ -12,6 +12,7 @@ pub mod Survey
 pub mod Asker
 pub mod StepStanding
 pub mod Names
+pub mod MemberKinds
 pub mod Texts
 pub mod TextsLaws
 pub mod AnswerNames

@@ -16,6 +16,7 @@ mod judged;
 mod laws;
 mod limits;
 mod managers;
+mod member_kinds;
 mod most_sent;
 mod names;
 mod numbers;
@@ -51,6 +52,7 @@ pub use error_names::error_name;
 pub use handed::{Handed, earlier_number};
 pub use laws::{most_sent_law, names_law, passed_on_law, rate_law};
 pub use limits::{Limit, limits_say};
+pub use member_kinds::member_kind;
 pub use names::{NO_ID, hand_out_name};
 pub use numbers::{
     ASKED_CHANGE, ASKED_VALUE, CANT_OBJECT, NO_ASKER, NO_CLOCK, NO_MEMORY, NO_ROOM, NO_SESSION,
