@@ -8,7 +8,7 @@ use ptpm_data::Value;
 use ptpm_members::members_in;
 
 /// An answer to a GET.
-#[derive(Debug, Drop)]
+#[derive(Drop)]
 pub struct Answer {
     /// domainNumber.
     pub domain: u8,
@@ -22,7 +22,7 @@ pub struct Answer {
 }
 
 /// What an answer says of its id.
-#[derive(Debug, Drop)]
+#[derive(Drop)]
 pub enum Said {
     /// The dataField.
     Is(Value),

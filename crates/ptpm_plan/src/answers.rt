@@ -13,7 +13,7 @@ use std::alloc::{AllocError, Global};
 const USER_DESCRIPTION: u16 = 0x0002;
 
 /// All answers of a survey.
-#[derive(Debug, Drop)]
+#[derive(Drop)]
 pub struct Answers {
     pub list: Vec<Answer>,
 }

@@ -15,7 +15,7 @@ use ptpm_codec::ClockIdentity;
 use std::alloc::Global;
 
 /// The clock that a table is of, and the place of the table in the file.
-#[derive(Clone, Copy, Debug)]
+#[derive(Clone, Copy)]
 pub(crate) struct Of {
     pub(crate) place: usize,
     pub(crate) domain: u8,
@@ -23,7 +23,7 @@ pub(crate) struct Of {
 }
 
 /// A table of the file whose description is not that of one clock.
-#[derive(Clone, Copy, Debug)]
+#[derive(Clone, Copy)]
 pub struct Unnamed {
     /// The place of the table among the clocks of the file, from 0.
     pub place: usize,

@@ -13,7 +13,7 @@ use ptpm_data::{ClockPrecedence, Value};
 use std::alloc::{AllocError, Global};
 
 /// What decides which of two clocks is the better master, one member after the other (9.3.4). The lesser rank is the better one.
-#[derive(Clone, Copy, Debug, PartialEq, Eq, PartialOrd, Ord)]
+#[derive(Clone, Copy, PartialEq, Eq, PartialOrd, Ord)]
 pub struct Rank {
     pub priority1: u8,
     /// clockClass.
@@ -27,14 +27,14 @@ pub struct Rank {
 }
 
 /// A clock of a domain with its rank.
-#[derive(Clone, Copy, Debug)]
+#[derive(Clone, Copy)]
 pub struct RankedClock {
     pub domain: u8,
     pub rank: Rank,
 }
 
 /// Another clock is the best one of a domain from a change on.
-#[derive(Clone, Copy, Debug)]
+#[derive(Clone, Copy)]
 pub struct Alteration {
     /// The number of the change, from 1.
     pub after: usize,
@@ -43,7 +43,7 @@ pub struct Alteration {
 }
 
 /// Which clock of a domain is the best one.
-#[derive(Debug, Drop)]
+#[derive(Drop)]
 pub struct BestClocks {
     pub domain: u8,
     /// The best one now.

@@ -8,7 +8,7 @@ use ptpm_codec::ClockIdentity;
 use ptpm_data::{Layout, ManagementIdRow, PortSetting, Scope, Value};
 
 /// The ids that a plan may set, those of the clock first. Changes that are alike in all else are asked in this order.
-#[derive(Clone, Copy, Debug, PartialEq, Eq, PartialOrd, Ord)]
+#[derive(Clone, Copy, PartialEq, Eq, PartialOrd, Ord)]
 pub enum PlannedId {
     UserDescription,
     UtcProperties,
@@ -104,7 +104,7 @@ impl PlannedId {
 }
 
 /// A SET that a plan asks for.
-#[derive(Debug, Drop)]
+#[derive(Drop)]
 pub struct Change {
     /// The place in the file of the table that asks for it, from 0: the clocks in their order, and then each `every`.
     pub place: usize,

@@ -6,7 +6,7 @@ use crate::text::Text;
 use std::alloc::{AllocError, AllocFailed};
 
 /// Why a file is no plan, and where in it.
-#[derive(Debug, Drop)]
+#[derive(Drop)]
 pub enum FileFault {
     /// Memory was refused. This says nothing of the file.
     OutOfMemory,
@@ -21,7 +21,7 @@ pub enum FileFault {
 }
 
 /// A table of the file, or the file itself. Tables of one name are counted from 1.
-#[derive(Clone, Copy, Debug)]
+#[derive(Clone, Copy)]
 pub enum Place {
     File,
     Clock(usize),
@@ -34,7 +34,7 @@ pub enum Place {
 }
 
 /// What is wrong with a table.
-#[derive(Debug, Drop)]
+#[derive(Drop)]
 pub enum TableFault {
     /// `version` is not 1.
     Version,

@@ -11,7 +11,7 @@ use crate::wish::Target;
 use ptpm_codec::ClockIdentity;
 
 /// Which clock a table names.
-#[derive(Clone, Copy, Debug)]
+#[derive(Clone, Copy)]
 pub enum Named {
     One(ClockIdentity),
     /// This many clocks of the domain have the description: none, or several.

@@ -14,7 +14,7 @@ use std::alloc::{AllocError, Global};
 use std::cmp::Reverse;
 
 /// When a change is asked: the earlier variants first. The ranks are those after all changes.
-#[derive(Clone, Copy, Debug, PartialEq, Eq, PartialOrd, Ord)]
+#[derive(Clone, Copy, PartialEq, Eq, PartialOrd, Ord)]
 pub enum Turn {
     /// A port that receives waits longer.
     MorePatience,
@@ -35,7 +35,7 @@ pub enum Turn {
 }
 
 /// What the changes of a plan are sorted by.
-#[derive(Clone, Copy, Debug, PartialEq, Eq, PartialOrd, Ord)]
+#[derive(Clone, Copy, PartialEq, Eq, PartialOrd, Ord)]
 pub struct OrderKey {
     pub turn: Turn,
     pub place: usize,

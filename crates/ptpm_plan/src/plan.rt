@@ -24,7 +24,7 @@ use crate::wish::{ClockWishes, PlanFile};
 use std::alloc::{AllocError, Global};
 
 /// What a file changes at the clocks of a site.
-#[derive(Debug, Drop)]
+#[derive(Drop)]
 pub struct Plan {
     pub surveyed: Surveyed,
     pub rows: Vec<Row>,

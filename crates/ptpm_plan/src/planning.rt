@@ -13,7 +13,7 @@ use std::alloc::Global;
 use std::io::{Read, Write};
 
 /// How a plan is printed.
-#[derive(Clone, Copy, Debug)]
+#[derive(Clone, Copy)]
 pub enum Form {
     Text,
     /// One object.
@@ -23,7 +23,7 @@ pub enum Form {
 }
 
 /// Why there is no plan.
-#[derive(Debug, Drop)]
+#[derive(Drop)]
 pub enum PlanFault {
     /// The file is refused.
     File(FileFault),

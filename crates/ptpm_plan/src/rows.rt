@@ -11,7 +11,7 @@ use crate::verdict::{Verdict, verdict_of};
 use std::alloc::{AllocError, Global};
 
 /// What becomes of a member.
-#[derive(Debug, Drop)]
+#[derive(Drop)]
 pub struct Row {
     /// The place in the file of the first table that asks for it, as in `Change`.
     pub place: usize,

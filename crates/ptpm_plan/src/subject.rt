@@ -5,7 +5,7 @@ use crate::wish::Wished;
 use ptpm_codec::ClockIdentity;
 
 /// A member of a clock, or of one of its ports.
-#[derive(Clone, Copy, Debug)]
+#[derive(Clone, Copy)]
 pub struct Subject {
     /// domainNumber of the clock.
     pub domain: u8,
@@ -16,7 +16,7 @@ pub struct Subject {
 }
 
 /// A member, and what the file wants it to be.
-#[derive(Clone, Copy, Debug)]
+#[derive(Clone, Copy)]
 pub struct Asked<'a> {
     /// The place of the table in the file, as in `Change`.
     pub place: usize,

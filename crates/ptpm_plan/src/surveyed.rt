@@ -8,7 +8,7 @@ use ptpm_codec::{ClockIdentity, PortIdentity};
 use ptpm_data::{ClockPrecedence, PortState};
 
 /// A clock that answered in a domain.
-#[derive(Clone, Copy, Debug)]
+#[derive(Clone, Copy)]
 pub struct SurveyedClock {
     pub domain: u8,
     pub identity: ClockIdentity,
@@ -21,7 +21,7 @@ pub struct SurveyedClock {
 }
 
 /// A port whose PORT_DATA_SET was answered.
-#[derive(Clone, Copy, Debug)]
+#[derive(Clone, Copy)]
 pub struct SurveyedPort {
     pub domain: u8,
     pub clock: ClockIdentity,
@@ -45,7 +45,7 @@ impl SurveyedPort {
 }
 
 /// The clocks and ports of a site. Of each there is one entry at most.
-#[derive(Debug, Drop)]
+#[derive(Drop)]
 pub struct Surveyed {
     pub clocks: Vec<SurveyedClock>,
     pub ports: Vec<SurveyedPort>,

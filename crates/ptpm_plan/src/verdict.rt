@@ -20,7 +20,7 @@ use std::alloc::{AllocError, Global};
 const DEFAULT_DATA_SET: u16 = 0x2000;
 
 /// What becomes of a member that is asked for.
-#[derive(Debug, Drop)]
+#[derive(Drop)]
 pub enum Verdict {
     /// The clock gave no answer for it.
     NotReached,

@@ -6,7 +6,7 @@ use ptpm_data::PortSetting;
 use std::fmt;
 
 /// What an operator is to know before a plan is applied. Changes are numbered from 1, in the order in which they are asked.
-#[derive(Clone, Copy, Debug)]
+#[derive(Clone, Copy)]
 pub enum Warning {
     /// A clock with this project's agent refuses the value of this setting of a port.
     Refused(PortIdentity, PlannedId, PortSetting),

@@ -5,7 +5,7 @@ use crate::text::Text;
 use ptpm_codec::ClockIdentity;
 
 /// What a member is to be, as a person types it.
-#[derive(Debug, Drop)]
+#[derive(Drop)]
 pub enum Wished {
     /// The sole member of an id.
     Alone(Text),
@@ -14,7 +14,7 @@ pub enum Wished {
 }
 
 /// What the members of UTC_PROPERTIES are to be. One that is left out stays as it is.
-#[derive(Debug, Drop)]
+#[derive(Drop)]
 pub struct UtcWish {
     /// currentUtcOffset.
     pub offset: Option<Text>,
@@ -25,14 +25,14 @@ pub struct UtcWish {
 }
 
 /// What an id is to be.
-#[derive(Debug, Drop)]
+#[derive(Drop)]
 pub struct Wish {
     pub id: PlannedId,
     pub wished: Wished,
 }
 
 /// Which clock a table of the file names.
-#[derive(Debug, Drop)]
+#[derive(Drop)]
 pub enum Target {
     Identity(ClockIdentity),
     /// The clock with this userDescription.
@@ -40,7 +40,7 @@ pub enum Target {
 }
 
 /// A clock of the file.
-#[derive(Debug, Drop)]
+#[derive(Drop)]
 pub struct ClockWishes {
     /// Its place among the clocks of the file, from 0.
     pub place: usize,
@@ -53,14 +53,14 @@ pub struct ClockWishes {
 }
 
 /// A port of a clock of the file.
-#[derive(Debug, Drop)]
+#[derive(Drop)]
 pub struct PortWishes {
     pub number: u16,
     pub wishes: Vec<Wish>,
 }
 
 /// What the file asks of each clock of a domain, except some.
-#[derive(Debug, Drop)]
+#[derive(Drop)]
 pub struct EveryWishes {
     /// Its place in the file, after all clocks.
     pub place: usize,
@@ -72,7 +72,7 @@ pub struct EveryWishes {
 }
 
 /// A plan file.
-#[derive(Debug, Drop)]
+#[derive(Drop)]
 pub struct PlanFile {
     pub clocks: Vec<ClockWishes>,
     pub every: Vec<EveryWishes>,

@@ -8,7 +8,7 @@ use std::alloc::{AllocError, Global};
 use toml::{Table, Value};
 
 /// What the ids of a table are of.
-#[derive(Clone, Copy, Debug)]
+#[derive(Clone, Copy)]
 pub(crate) enum Owner {
     Clock,
     /// Every clock: of these no plan sets the USER_DESCRIPTION.
