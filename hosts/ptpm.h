@@ -367,7 +367,7 @@ enum {
     PTPM_STEP_OF_ANOTHER = 6            /* it is another program's, and comes first */
 };
 
-/* No sequenceId. */
+/* No sequenceId; and what ptpm_number_named returns if no number has the name. */
 enum { PTPM_NO_NUMBER = 65536 };
 
 #undef PTPM_TO_EIGHT
@@ -1410,13 +1410,19 @@ void ptpm_rate_start(struct ptpm_rate *rate, uint64_t tokens, uint64_t now);
    Writes:  *rate. */
 bool ptpm_rate_take(struct ptpm_rate *rate, uint64_t now);
 
-/* The number that ptpm_id_named returns if no id has the name, and how many octets a name has at most. */
+/* The number that ptpm_id_named and ptpm_id_parse return if there is no such id, and how many octets a name has at most. */
 enum { PTPM_NO_ID = 65536, PTPM_MOST_NAME = 27 };
 
 /* Finds the managementId of a name, such as PRIORITY1 or priority1 (15.5.2.3).
    Takes:   the name in ASCII, of size octets and in either case, without a zero after it.
    Returns: the id, which fits a uint16_t; or PTPM_NO_ID if no id of this profile has the name. */
 uint32_t ptpm_id_named(const char *name, size_t size);
+
+/* Finds the managementId that a person types: its name, such as priority1, or its number, such as 2005 or 0x2005.
+   Takes:   a name of this profile in either case; or four hexadecimal digits in either case, also after 0x or 0X. It has size octets,
+            without a zero after it.
+   Returns: the id, which fits a uint16_t; or PTPM_NO_ID if the text is neither. Four digits are an id even if this profile lacks it. */
+uint32_t ptpm_id_parse(const char *text, size_t size);
 
 /* Gives the managementIds of this profile, one after another.
    Takes:   a place from 0 on. The ids are in ascending order.
@@ -1448,6 +1454,29 @@ size_t ptpm_answer_name(uint32_t number, char *text, size_t room);
    Writes:  as many octets from text on: the name, with no zero after it. */
 size_t ptpm_error_name(uint16_t error, char *text, size_t room);
 
+/* What ptpm_number_named knows: names of portStates (table 20), of delayMechanisms (table 21) and of timeSources (table 6). */
+enum { PTPM_PORT_STATES = 1, PTPM_DELAY_MECHANISMS = 2, PTPM_TIME_SOURCES = 3 };
+
+/* Finds the number that the standard gives a name, such as 9 for SLAVE. ptpm_field_text writes numbers by these names.
+   Takes:   PTPM_PORT_STATES, PTPM_DELAY_MECHANISMS or PTPM_TIME_SOURCES; and the name in either case, of size octets, without a zero
+            after it.
+   Returns: the number, which fits a uint8_t; or PTPM_NO_NUMBER if none has the name. */
+uint32_t ptpm_number_named(uint32_t names, const char *name, size_t size);
+
+/* Reads the clockIdentity that a person types, such as aabbccfffeddee01 or aabbcc.fffe.ddee01.
+   Takes:   sixteen hexadecimal digits in either case, with no dot, or with one after the sixth and one after the tenth. They have size
+            octets, without a zero after them.
+   Returns: whether the text is one.
+   Writes:  identity, and only if it returns true. */
+bool ptpm_identity_parse(const char *text, size_t size, uint8_t identity[8]);
+
+/* Reads the portIdentity that a person types, such as aabbccfffeddee01/1 or aabbcc.fffe.ddee01-1.
+   Takes:   a clockIdentity as ptpm_identity_parse takes it, a slash or a hyphen, and a decimal number up to 65535. They have size octets,
+            without a zero after them.
+   Returns: whether the text is one.
+   Writes:  clock and *port, and only if it returns true. */
+bool ptpm_port_identity_parse(const char *text, size_t size, uint8_t clock[8], uint16_t *port);
+
 /* The most octets that ptpm_field_text writes, of a dataField that a message can have. */
 enum { PTPM_MOST_FIELD_TEXT = 5034 };
 
@@ -1474,6 +1503,17 @@ size_t ptpm_field_text(uint16_t id, const uint8_t *octets, size_t size, char *te
             is written. *member, the place of the member with PTPM_OTHER_NAME or PTPM_NO_VALUE, from 0 on, and else 0. */
 enum ptpm_parsed ptpm_field_parse(uint16_t id, const char *words, size_t size, uint8_t *octets, size_t room, size_t *count,
                                   size_t *member);
+
+/* The most octets that ptpm_field_takes writes. */
+enum { PTPM_MOST_TAKES = 69 };
+
+/* Says what ptpm_field_parse takes for a member, such as "a number from -128 to 127". That is for a person whose value was refused.
+   A member that no SET has may take "no value".
+   Takes:   the managementId; the member's place in the dataField, from 0 on, as ptpm_field_parse gives it; and room octets, for which
+            PTPM_MOST_TAKES is enough.
+   Returns: how many octets the text has; 0 if this profile has no such member, or room is too small for the whole text.
+   Writes:  as many octets from text on: the text, with no zero after it. If it returns 0, anything may be there. */
+size_t ptpm_field_takes(uint16_t id, size_t place, char *text, size_t room);
 
 #ifdef __cplusplus
 }

@@ -145,9 +145,23 @@ static void longest_text(void) {
     check(size == PTPM_MOST_FIELD_TEXT && memcmp(text, "clockType 0xffff\n", 17) == 0, "the longest text has PTPM_MOST_FIELD_TEXT octets");
 }
 
+/* The longest text of what a member takes. */
+static void longest_takes(void) {
+    size_t most = 0;
+    for (size_t at = 0; ptpm_id_at(at) != PTPM_NO_ID; at++) {
+        char text[PTPM_MOST_FIELD_TEXT];
+        for (size_t place = 0, size = 1; size > 0; place++) {
+            size = ptpm_field_takes((uint16_t)ptpm_id_at(at), place, text, sizeof text);
+            if (size > most) most = size;
+        }
+    }
+    check(most == PTPM_MOST_TAKES, "the longest text of what a member takes has PTPM_MOST_TAKES octets");
+}
+
 int main(void) {
     ids();
     longest_text();
+    longest_takes();
     sole_members();
     utc_properties();
     descriptions();

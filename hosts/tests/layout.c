@@ -192,7 +192,12 @@ static void states_and_mechanisms(void) {
     };
     struct ptpm_clock_settings s = own_values();
     struct ptpm_manager_settings none = { .port = 0 };
+    for (size_t i = 0; i < sizeof mechanisms / sizeof *mechanisms; i++) {
+        check(ptpm_number_named(PTPM_DELAY_MECHANISMS, mechanisms[i].name, strlen(mechanisms[i].name)) == mechanisms[i].number,
+              mechanisms[i].name);
+    }
     for (size_t i = 0; i < sizeof states / sizeof *states; i++) {
+        check(ptpm_number_named(PTPM_PORT_STATES, states[i].name, strlen(states[i].name)) == states[i].number, states[i].name);
         struct ptpm_port_settings port = ports[0];
         port.state = states[i].number;
         port.delay_mechanism = mechanisms[i % 3].number;

@@ -104,7 +104,9 @@ class Header:
         if 'size_t *' in text:
             return [f'u64 {name}_out = 0;'], [f'ADDRESS(&{name}_out)'], [f'*{name} = (size_t)load64(ADDRESS(&{name}_out));']
         if 'uint16_t *' in text:
-            return [f'u16 {name}_out = 0;'], [f'ADDRESS(&{name}_out)'], [f'*{name} = load16(ADDRESS(&{name}_out));']
+            # A call may leave it as it was.
+            before = [f'u16 {name}_out;', f'store16(ADDRESS(&{name}_out), *{name});']
+            return before, [f'ADDRESS(&{name}_out)'], [f'*{name} = load16(ADDRESS(&{name}_out));']
         if 'uint64_t *' in text:
             return [f'u64 {name}_out = 0;'], [f'ADDRESS(&{name}_out)'], [f'*{name} = load64(ADDRESS(&{name}_out));']
         if struct and struct[2] in self.numbers:

@@ -8,6 +8,7 @@ pub mod Sizes
 pub mod Lending
 pub mod LendingHandle
 pub mod Fields
+pub mod Typed
 pub mod Withholding
 pub mod Said
 pub mod Changing

@@ -1,7 +1,7 @@
 //! dataFields for hosts in C: the ids that have them, their members as text, and what a person types for them. No call here takes
 //! a handle or memory.
 
-ghost use Rattle.std.specs.Prelude.{◌≡◌, ◌≢◌, ◌<◌, ◌≤◌, ℕ, [], Err, IfSome, IfNone, List, Result, Some, length};
+ghost use Rattle.std.specs.Prelude.{◌≡◌, ◌≢◌, ◌<◌, ◌≤◌, ℕ, [], Err, IfSome, IfNone, List, Result, Some, length, slice_get};
 ghost use Rattle.ptpm_c.specs.Fields.{IsReported};
 ghost use Rattle.ptpm_host.specs.Names.{no_id};
 ghost use Rattle.ptpm_host.specs.declared.refusal.ParseRefusal.{ParseRefusal};
@@ -11,9 +11,12 @@ ghost use Rattle.ptpm_host.specs.Texts.{HandsOut};
 ghost use Rattle.ptpm_host.specs.Words.{AreWords, most_words};
 ghost use Rattle.ptpm_members.specs.FieldText.{field_text};
 ghost use Rattle.ptpm_members.specs.IdNames.{id_at};
+ghost use Rattle.ptpm_members.specs.Tables.{fields_of_id};
+ghost use Rattle.ptpm_members.specs.Takes.{takes_text};
 
-use ptpm_host::{NO_ID, hand_out_lines, parse_field, parse_number};
-use ptpm_members::{FieldText, id_at};
+use ptpm_data::row;
+use ptpm_host::{NO_ID, hand_out_lines, hand_out_takes, parse_field, parse_number};
+use ptpm_members::{Field, FieldText, Takes, fields, id_at};
 
 /// The managementId at this place of this profile's, which are in ascending order and counted from 0. 65,536, which is no id, past
 /// the last.
@@ -78,4 +81,28 @@ pub extern "C" fn ptpm_field_parse(
             parse_number(refusal)
         }
     }
+}
+
+/// Leaves in words what a SET takes for a member at the head of `text`, and answers how many octets they have. The member is the one
+/// at this place of the id's dataField, counted from 0. 0 if there is no such member, or no room for all words, and only then. What
+/// `text` holds without room is not said. What comes after the words stays.
+#[unsafe(no_mangle)]
+pub extern "C" fn ptpm_field_takes(id: u16, place: usize, text: &mut [u8]) -> usize
+    ensures words { IfSome (slice_get (fields_of_id id) place)
+        (λ f. result ≢ 0 → HandsOut (takes_text f.2) (Some result) text.old text.new) }
+    ensures no_room { IfSome (slice_get (fields_of_id id) place)
+        (λ f. result ≡ 0 → length text.old < length (takes_text f.2)) }
+    ensures no_member { IfNone (slice_get (fields_of_id id) place) ((result ≡ 0) × (text.new ≡ text.old)) }
+{
+    match member_at(id, place) {
+        Some(field) => hand_out_takes(Takes(field.2), text).unwrap_or(0),
+        None => 0,
+    }
+}
+
+/// The member at this place of an id's dataField, counted from 0.
+fn member_at(id: u16, place: usize) -> Option<Field>
+    ensures { result ≡ slice_get (fields_of_id id) place }
+{
+    fields(row(id)?.layout).get(place).copied()
 }

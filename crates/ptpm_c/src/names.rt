@@ -1,14 +1,20 @@
-//! Names for hosts in C: of managementIds, of what calls answer, and of managementErrorIds. No call here takes a handle or memory.
+//! Names for hosts in C: of managementIds, of what calls answer, of managementErrorIds, and of numbers and identities that a person
+//! types. No call here takes a handle or memory.
 
-ghost use Rattle.std.specs.Prelude.{◌≡◌, ◌≢◌, ℕ, IfNone, IfSome, Some, drop, length, take, true};
+ghost use Rattle.std.specs.Prelude.{◌≡◌, ◌≢◌, ℕ, IfNone, IfSome, Some, drop, length, option_and_then, take, true};
 ghost use Rattle.std.specs.Str.{is_utf8};
+ghost use Rattle.ptpm_c.specs.Typed.{IsClockRead, IsPortRead};
 ghost use Rattle.ptpm_host.specs.AnswerNames.{answer_name};
 ghost use Rattle.ptpm_host.specs.ErrorNames.{error_name};
-ghost use Rattle.ptpm_host.specs.Names.{name_within, no_id};
-ghost use Rattle.ptpm_members.specs.IdNames.{capitals, id_name, other_id_at, other_id_name, other_id_named};
+ghost use Rattle.ptpm_host.specs.Names.{name_within, no_id, no_number, number_named, text_of};
+ghost use Rattle.ptpm_members.specs.IdNames.{capitals, id_name, id_of, other_id_at, other_id_name, other_id_named};
+ghost use Rattle.ptpm_members.specs.Identities.{clock_identity_of, port_identity_of};
 
-use ptpm_host::{NO_ID, answer_name, error_name, hand_out_name};
-use ptpm_members::{id_named, other_id_at, other_id_name, other_id_named, profile_id_name};
+use ptpm_host::{NO_ID, NO_NUMBER, answer_name, error_name, hand_out_name, number_named, text_of};
+use ptpm_members::{
+    clock_identity_of, id_named, id_of, other_id_at, other_id_name, other_id_named,
+    port_identity_of, profile_id_name,
+};
 
 /// The managementId that has this name of ASCII letters in either case, such as `PRIORITY1` or `priority1`. 65,536, which is no id,
 /// if no id has it.
@@ -18,6 +24,19 @@ pub extern "C" fn ptpm_id_named(name: &[u8]) -> u32
     ensures found { (id : ℕ) → id_name id ≡ Some (capitals name.now) → result ≡ id }
 {
     match id_named(name) {
+        Some(id) => u32::from(id),
+        None => NO_ID,
+    }
+}
+
+/// The managementId that a person types: its name in either case, or four hexadecimal digits, also after `0x`. 65,536, which is no
+/// id, if it is none.
+#[unsafe(no_mangle)]
+pub extern "C" fn ptpm_id_parse(text: &[u8]) -> u32
+    ensures found { IfSome (id_of text.now) (λ id. result ≡ id) }
+    ensures none { IfNone (id_of text.now) (result ≡ no_id) }
+{
+    match id_of(text) {
         Some(id) => u32::from(id),
         None => NO_ID,
     }
@@ -91,4 +110,52 @@ pub extern "C" fn ptpm_error_name(error: u16, octets: &mut [u8]) -> usize
     ensures behind { drop result octets.new ≡ drop result octets.old }
 {
     hand_out_name(error_name(error), octets)
+}
+
+/// The number of a name of the standard, in either case. The names are those of portStates for 1, of delayMechanisms for 2, and of
+/// timeSources for 3. 65,536, which is no such number, if none has it.
+#[unsafe(no_mangle)]
+pub extern "C" fn ptpm_number_named(names: u32, name: &[u8]) -> u32
+    ensures found { IfSome (number_named names name.now) (λ number. result ≡ number) }
+    ensures none { IfNone (number_named names name.now) (result ≡ no_number) }
+{
+    match number_named(names, name) {
+        Some(number) => u32::from(number),
+        None => NO_NUMBER,
+    }
+}
+
+/// Leaves the clockIdentity that a person types in `identity`: sixteen hexadecimal digits in either case, also with a dot after the
+/// sixth and the tenth. Answers whether the text is one. If not, `identity` stays.
+#[unsafe(no_mangle)]
+pub extern "C" fn ptpm_identity_parse(text: &[u8], identity: &mut [u8; 8]) -> bool
+    ensures { IsClockRead (option_and_then clock_identity_of (text_of text.now)) result identity.old identity.new }
+{
+    let Some(text) = text_of(text) else {
+        return false;
+    };
+    let Some(clock) = clock_identity_of(text) else {
+        return false;
+    };
+    let octets = clock.0;
+    *identity = octets;
+    true
+}
+
+/// Leaves the portIdentity that a person types in `clock` and `port`: a clockIdentity, a slash or a hyphen, and a decimal number up
+/// to 65,535. Answers whether the text is one. If not, both stay.
+#[unsafe(no_mangle)]
+pub extern "C" fn ptpm_port_identity_parse(text: &[u8], clock: &mut [u8; 8], port: &mut u16) -> bool
+    ensures { IsPortRead (option_and_then port_identity_of (text_of text.now)) result (clock.old, port.old) (clock.new, port.new) }
+{
+    let Some(text) = text_of(text) else {
+        return false;
+    };
+    let Some(identity) = port_identity_of(text) else {
+        return false;
+    };
+    let octets = identity.clock.0;
+    *clock = octets;
+    *port = identity.port;
+    true
 }

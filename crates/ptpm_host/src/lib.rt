@@ -53,7 +53,7 @@ pub use handed::{Handed, earlier_number};
 pub use laws::{most_sent_law, names_law, passed_on_law, rate_law};
 pub use limits::{Limit, limits_say};
 pub use member_kinds::member_kind;
-pub use names::{NO_ID, hand_out_name};
+pub use names::{NO_ID, NO_NUMBER, hand_out_name, number_named, text_of};
 pub use numbers::{
     ASKED_CHANGE, ASKED_VALUE, CANT_OBJECT, NO_ASKER, NO_CLOCK, NO_MEMORY, NO_ROOM, NO_SESSION,
     NO_SURVEY, OTHER_SIZES, asker_number, begin_number, change_number, clock_restore_number,
@@ -80,5 +80,5 @@ pub use settings::{ClockSettings, ManagerSettings, PortSettings};
 pub use steps::step_standing;
 pub use survey::{HostedSurvey, Source, SurveyAnswer};
 pub use survey_settings::{SURVEY_PORT, SurveySettings};
-pub use texts::hand_out_lines;
+pub use texts::{hand_out_lines, hand_out_takes};
 pub use version::VERSION_NUMBER;

@@ -3,8 +3,9 @@
 ghost use Rattle.std.specs.Prelude.{◌≡◌, Option};
 ghost use Rattle.ptpm_host.specs.Texts.{HandsOut, IsPut, KeepsText};
 ghost use Rattle.ptpm_members.specs.FieldText.{field_text};
+ghost use Rattle.ptpm_members.specs.Takes.{takes_text};
 
-use ptpm_members::{FieldText, TextSink};
+use ptpm_members::{FieldText, Takes, TextSink};
 
 /// The octets of the caller that a text goes to, filled from the head on.
 #[derive(Drop)]
@@ -66,5 +67,18 @@ pub fn hand_out_lines(text: &FieldText<'_>, octets: &mut [u8]) -> Option<usize>
         size: Some(0),
     };
     text.push_into(&mut room);
+    room.size
+}
+
+/// Leaves in words what a SET takes for a member at the head of `octets`, and answers how many octets they have. `None` if there
+/// is no room for all of them. What comes after them stays. Takes no memory.
+pub fn hand_out_takes(takes: Takes, octets: &mut [u8]) -> Option<usize>
+    ensures { HandsOut (takes_text takes.0) result octets.old octets.new }
+{
+    let mut room = Room {
+        octets,
+        size: Some(0),
+    };
+    takes.push_into(&mut room);
     room.size
 }

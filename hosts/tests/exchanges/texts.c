@@ -21,19 +21,18 @@ static void say_name(size_t size) {
     say("%.*s\n", size == 0 ? 1 : (int)size, size == 0 ? "-" : (const char *)room);
 }
 
-static void say_id(const void *name, size_t size) {
-    uint32_t id = ptpm_id_named(name, size);
+static void say_id(uint32_t id) {
     if (id == PTPM_NO_ID) say("-\n");
     else say("%04x\n", id);
 }
 
 /* `id NAME`; `id-of OCTETS` of a name as octets. */
-static void run_id(char *words) { say_id(words == NULL ? "" : words, words == NULL ? 0 : strlen(words)); }
+static void run_id(char *words) { say_id(ptpm_id_named(words == NULL ? "" : words, words == NULL ? 0 : strlen(words))); }
 
 static void run_id_of(char *words) {
     static struct octets name;
     read_octets(&words, &name);
-    say_id(name.at, name.size);
+    say_id(ptpm_id_named((const char *)name.at, name.size));
 }
 
 static void run_id_name(char *words) {
@@ -44,11 +43,7 @@ static void run_id_name(char *words) {
 }
 
 /* `other-id NAME`, `other-id-name ID` and `other-ids`: the same for the ids that other clocks have. */
-static void run_other_id(char *words) {
-    uint32_t id = ptpm_other_id_named(words == NULL ? "" : words, words == NULL ? 0 : strlen(words));
-    if (id == PTPM_NO_ID) say("-\n");
-    else say("%04x\n", id);
-}
+static void run_other_id(char *words) { say_id(ptpm_other_id_named(words == NULL ? "" : words, words == NULL ? 0 : strlen(words))); }
 
 static void run_other_id_name(char *words) {
     size_t octets = next_room(&words, PTPM_MOST_NAME);
@@ -79,6 +74,62 @@ static void run_ids(char *words) {
     (void)words;
     for (size_t place = 0; ptpm_id_at(place) != PTPM_NO_ID; place++) say("%s%04x", place == 0 ? "" : " ", ptpm_id_at(place));
     say("\n");
+}
+
+/* What a person types: the rest of the command, or after the word octets these octets. */
+static const struct octets *typed_text(char **words) {
+    static struct octets text;
+    if (takes_word(words, "octets")) {
+        read_octets(words, &text);
+        return &text;
+    }
+    text.size = *words == NULL ? 0 : strlen(*words);
+    if (text.size > 0) memcpy(text.at, *words, text.size);
+    return &text;
+}
+
+/* `typed-id TEXT`; `number-named NAMES NAME` of the names with this number. */
+static void run_typed_id(char *words) {
+    const struct octets *text = typed_text(&words);
+    say_id(ptpm_id_parse((const char *)text->at, text->size));
+}
+
+static void run_number_named(char *words) {
+    uint32_t names = (uint32_t)next_number(&words, 0);
+    const struct octets *name = typed_text(&words);
+    uint32_t number = ptpm_number_named(names, (const char *)name->at, name->size);
+    if (number == PTPM_NO_NUMBER) say("-\n");
+    else say("%u\n", number);
+}
+
+/* `identity TEXT`: the clock; `port-identity TEXT`: the clock and its port. What is none is written nowhere. */
+static void run_identity(char *words) {
+    const struct octets *text = typed_text(&words);
+    clear_room();
+    bool is_one = ptpm_identity_parse((const char *)text->at, text->size, room);
+    if (!wrote_alone(is_one ? 8 : 0)) say("it writes more than that\n");
+    say_octets(room, is_one ? 8 : 0);
+    say("\n");
+}
+
+static void run_port_identity(char *words) {
+    const struct octets *text = typed_text(&words);
+    uint16_t port = 0xeeee;
+    clear_room();
+    bool is_one = ptpm_port_identity_parse((const char *)text->at, text->size, room, &port);
+    if (!wrote_alone(is_one ? 8 : 0) || (!is_one && port != 0xeeee)) say("it writes more than that\n");
+    say_octets(room, is_one ? 8 : 0);
+    if (is_one) say(" port %u", port);
+    say("\n");
+}
+
+/* `takes ID PLACE`: what a SET takes for a member. */
+static void run_takes(char *words) {
+    size_t octets = next_room(&words, PTPM_MOST_TAKES);
+    uint16_t id = next_hex(&words);
+    size_t place = (size_t)next_number(&words, 0);
+    clear_room();
+    say_name(ptpm_field_takes(id, place, (char *)room, octets));
 }
 
 /* `text ID OCTETS`: the members of a dataField. */
@@ -162,6 +213,8 @@ static void run_tokens(char *words) {
 const struct command text_commands[] = {
     { "id", run_id }, { "id-of", run_id_of }, { "id-name", run_id_name }, { "answer-name", run_answer_name }, { "error-name", run_error_name },
     { "other-id", run_other_id }, { "other-id-name", run_other_id_name }, { "other-ids", run_other_ids },
+    { "typed-id", run_typed_id }, { "number-named", run_number_named }, { "identity", run_identity },
+    { "port-identity", run_port_identity }, { "takes", run_takes },
     { "ids", run_ids }, { "text", run_text }, { "parse", run_parse }, { "raw", run_raw }, { "first", run_first },
     { "first-of", run_first_of },
     { "bucket", run_bucket }, { "tokens", run_tokens }, { NULL, NULL },
