@@ -463,15 +463,21 @@ PTPM_STEP_UNKNOWN = 4
 PTPM_STEP_TOLD = 5
 PTPM_STEP_OF_ANOTHER = 6
 
-# No sequenceId.
+# No sequenceId; and what ptpm_number_named answers if no number has the name.
 PTPM_NO_NUMBER = 65536
 
-# What ptpm_id_named answers if no id has the name.
+# What ptpm_id_named and ptpm_id_parse answer if there is no such id.
 PTPM_NO_ID = 65536
+
+# The names that ptpm_number_named knows.
+PTPM_PORT_STATES = 1
+PTPM_DELAY_MECHANISMS = 2
+PTPM_TIME_SOURCES = 3
 
 # The greatest counts and sizes.
 PTPM_MOST_NAME = 27
 PTPM_MOST_FIELD_TEXT = 5034
+PTPM_MOST_TAKES = 69
 
 
 class ptpm_clock(Structure):
@@ -875,6 +881,7 @@ CALLS: Dict[str, Tuple[Any, List[Any]]] = {
     "ptpm_rate_start": (None, [POINTER(ptpm_rate), c_uint64, c_uint64]),
     "ptpm_rate_take": (c_bool, [POINTER(ptpm_rate), c_uint64]),
     "ptpm_id_named": (c_uint32, [c_char_p, c_size_t]),
+    "ptpm_id_parse": (c_uint32, [c_char_p, c_size_t]),
     "ptpm_id_at": (c_uint32, [c_size_t]),
     "ptpm_id_name": (c_size_t, [c_uint16, POINTER(c_char), c_size_t]),
     "ptpm_other_id_named": (c_uint32, [c_char_p, c_size_t]),
@@ -882,11 +889,15 @@ CALLS: Dict[str, Tuple[Any, List[Any]]] = {
     "ptpm_other_id_name": (c_size_t, [c_uint16, POINTER(c_char), c_size_t]),
     "ptpm_answer_name": (c_size_t, [c_uint32, POINTER(c_char), c_size_t]),
     "ptpm_error_name": (c_size_t, [c_uint16, POINTER(c_char), c_size_t]),
+    "ptpm_number_named": (c_uint32, [c_uint32, c_char_p, c_size_t]),
+    "ptpm_identity_parse": (c_bool, [c_char_p, c_size_t, POINTER(c_uint8)]),
+    "ptpm_port_identity_parse": (c_bool, [c_char_p, c_size_t, POINTER(c_uint8), POINTER(c_uint16)]),
     "ptpm_field_text": (c_size_t, [c_uint16, c_char_p, c_size_t, POINTER(c_char), c_size_t]),
     "ptpm_field_parse": (
         c_uint32,
         [c_uint16, c_char_p, c_size_t, POINTER(c_uint8), c_size_t, POINTER(c_size_t), POINTER(c_size_t)],
     ),
+    "ptpm_field_takes": (c_size_t, [c_uint16, c_size_t, POINTER(c_char), c_size_t]),
 }
 
 # The structs, in the order of the header.

@@ -6,7 +6,7 @@ import ctypes
 import os
 import threading
 from pathlib import Path
-from typing import Any, Callable, NoReturn, Type
+from typing import Any, Callable, NoReturn, Tuple, Type
 
 from . import _header as header
 
@@ -49,11 +49,17 @@ def _judge(library: ctypes.CDLL) -> None:
 library = _load()
 
 
-def name_by(call: Callable[..., int], number: int) -> str:
-    """The name that a call of the library has for a number; an empty one if it has none."""
-    text = ctypes.create_string_buffer(header.PTPM_MOST_NAME)
-    size = call(number, text, len(text))
+def text_by(call: Callable[..., int], *words: Any, room: int = header.PTPM_MOST_NAME) -> str:
+    """The text that a call of the library writes, such as the name of a number; an empty one if it has none."""
+    text = ctypes.create_string_buffer(room)
+    size = call(*words, text, room)
     return text.raw[:size].decode("ascii")
+
+
+def typed(text: str) -> Tuple[bytes, int]:
+    """A text for the library to read, and how many octets it has. What is no character is no UTF-8, and is refused there."""
+    octets = str.encode(text, errors="surrogatepass")
+    return octets, len(octets)
 
 
 class Handle:

@@ -7,13 +7,13 @@ from enum import IntEnum
 from typing import Callable
 
 from . import _header as header
-from ._library import library, name_by
+from ._library import library, text_by
 from .errors import PtpmError
 
 
 def answer_name(number: int) -> str:
     """The name of the number that a call returned, such as NO_ROOM, or the number if it has none."""
-    return name_by(library.ptpm_answer_name, number) or str(number)
+    return text_by(library.ptpm_answer_name, number) or str(number)
 
 
 class Error(PtpmError):

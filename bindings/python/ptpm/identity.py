@@ -2,13 +2,11 @@
 
 from __future__ import annotations
 
-import re
+import ctypes
 from dataclasses import dataclass
 from typing import Union
 
-_TOGETHER = re.compile(r"[0-9a-fA-F]{16}", re.ASCII)
-_POINTED = re.compile(r"([0-9a-fA-F]{6})\.([0-9a-fA-F]{4})\.([0-9a-fA-F]{6})", re.ASCII)
-_PORT = re.compile(r"(.*)[/-]([0-9]+)", re.ASCII)
+from ._library import library, typed
 
 
 @dataclass(frozen=True, order=True)
@@ -34,11 +32,10 @@ class Identity:
             return identity
         if isinstance(identity, bytes):
             return cls(identity)
-        if _TOGETHER.fullmatch(identity):
-            return cls(bytes.fromhex(identity))
-        if _POINTED.fullmatch(identity):
-            return cls(bytes.fromhex(identity.replace(".", "")))
-        raise ValueError(f"{identity!r} is no identity, such as aabbccfffeddee01 or aabbcc.fffe.ddee01")
+        octets = (ctypes.c_uint8 * 8)()
+        if not library.ptpm_identity_parse(*typed(identity), octets):
+            raise ValueError(f"{identity!r} is no identity, such as aabbccfffeddee01 or aabbcc.fffe.ddee01")
+        return cls(bytes(octets))
 
     @classmethod
     def of_mac(cls, mac: bytes) -> Identity:
@@ -67,10 +64,10 @@ class PortIdentity:
         """A portIdentity, or the one that a text spells."""
         if isinstance(identity, PortIdentity):
             return identity
-        found = _PORT.fullmatch(identity)
-        if found is None or int(found[2]) > 65535:
+        clock, port = (ctypes.c_uint8 * 8)(), ctypes.c_uint16()
+        if not library.ptpm_port_identity_parse(*typed(identity), clock, ctypes.byref(port)):
             raise ValueError(f"{identity!r} is no identity of a port, such as aabbccfffeddee01/1 or aabbcc.fffe.ddee01-1")
-        return cls(Identity.of(found[1]), int(found[2]))
+        return cls(Identity(bytes(clock)), port.value)
 
     @property
     def pointed(self) -> str:

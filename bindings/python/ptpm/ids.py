@@ -2,14 +2,11 @@
 
 from __future__ import annotations
 
-import re
 from enum import IntEnum
 from typing import Union
 
 from . import _header as header
-from ._library import library, name_by
-
-_NUMBER = re.compile(r"(0[xX])?[0-9a-fA-F]{4}", re.ASCII)
+from ._library import library, text_by, typed
 
 
 class Action(IntEnum):
@@ -56,22 +53,18 @@ def id_of(named: IdLike) -> int:
         if not 0 <= named <= 65535:
             raise OverflowError(f"a managementId is 0 to 65535, not {named}")
         return int(named)
-    text = named.encode()
-    number: int = library.ptpm_id_named(text, len(text))
-    if number == header.PTPM_NO_ID and hasattr(library, "ptpm_other_id_named"):
-        number = library.ptpm_other_id_named(text, len(text))
-    if number != header.PTPM_NO_ID:
-        return number
-    if _NUMBER.fullmatch(named):
-        return int(named, 16)
+    for call in (library.ptpm_other_id_named, library.ptpm_id_parse):
+        number: int = call(*typed(named))
+        if number != header.PTPM_NO_ID:
+            return number
     raise ValueError(f"{named!r} is neither the name of a managementId nor four hexadecimal digits")
 
 
 def id_name(number: int) -> str:
     """The standard's name of a managementId, or four hexadecimal digits if this profile lacks it."""
-    return name_by(library.ptpm_id_name, number) or f"{number:04x}"
+    return text_by(library.ptpm_id_name, number) or f"{number:04x}"
 
 
 def error_name(number: int) -> str:
     """The standard's name of a managementErrorId (15.5.4.3, table 109), or its number if it has none."""
-    return name_by(library.ptpm_error_name, number) or f"0x{number:04x}"
+    return text_by(library.ptpm_error_name, number) or f"0x{number:04x}"

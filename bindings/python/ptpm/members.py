@@ -9,7 +9,7 @@ from decimal import Decimal
 from typing import Callable, Dict, Iterable, List, Mapping, NoReturn, Sequence, Tuple, Union
 
 from . import _header as header
-from ._library import library, name_by
+from ._library import library, text_by
 from .identity import Identity, PortIdentity
 from .ids import ManagementId
 from .settings import DelayMechanism, PortState, TimeSource
@@ -30,10 +30,8 @@ _TEXTS = ("userDescription", "physicalLayerProtocol", "productDescription", "rev
 
 def _pairs(number: int, octets: bytes) -> List[Tuple[str, str]]:
     """The name and the value of each member that the library has in a dataField."""
-    text = ctypes.create_string_buffer(header.PTPM_MOST_FIELD_TEXT)
-    size = library.ptpm_field_text(number, octets, len(octets), text, len(text))
-    lines = [line.partition(" ") for line in text.raw[:size].decode("ascii").splitlines()]
-    return [(name, value) for name, _, value in lines]
+    text = text_by(library.ptpm_field_text, number, octets, len(octets), room=header.PTPM_MOST_FIELD_TEXT)
+    return [(name, value) for name, _, value in (line.partition(" ") for line in text.splitlines())]
 
 
 def _has_members(pairs: Sequence[Tuple[str, str]]) -> bool:
@@ -115,45 +113,29 @@ def lines(number: int, octets: bytes) -> List[str]:
     return [f"{name} {_shown_text(_text_octets(text)) if name in _TEXTS else text}" for name, text in pairs]
 
 
-def _zeros(number: int) -> List[Tuple[str, str]]:
-    """The members of an id of this profile, in the order of its dataField, with the values of one in which no bit is set."""
-    if not name_by(library.ptpm_id_name, number):
+def _names(number: int) -> List[str]:
+    """The names of the members of an id of this profile, in the order of its dataField."""
+    if not text_by(library.ptpm_id_name, number):
         return []
     for size in range(2, header.PTPM_MOST_READ, 2):
         pairs = _pairs(number, bytes(size))
         if _has_members(pairs):
-            return pairs
+            return [name for name, _ in pairs]
     return []
-
-
-# What a SET takes for a member of this name that is no flag, and for any other.
-_WANTED = {
-    "userDescription": f"a text of at most {MOST_TEXT} octets in UTF-8",
-    "delayMechanism": f"{', '.join(DelayMechanism.__members__)} or a number from 0 to 255",
-    "currentUtcOffset": "a number from -32768 to 32767",
-    "versionNumber": "a number from 0 to 15, or 0x and two hexadecimal digits",
-}
-_INTERVAL = "a number from -128 to 127"
-_NUMBER = "a number from 0 to 255, or 0x and two hexadecimal digits"
-
-
-def _wanted(name: str, zero: str) -> str:
-    if name.startswith("log"):
-        return _INTERVAL
-    return "true or false" if zero == "false" else _WANTED.get(name, _NUMBER)
 
 
 def _refuse(number: int, words: Sequence[str], why: int, place: int) -> NoReturn:
     """Says what is wrong with words that are no dataField."""
-    pairs = _zeros(number)
     if why == header.PTPM_NO_VALUE:
         fault = "" if len(words) == 1 else f"{words[2 * place]} {words[2 * place + 1]}: "
-        raise ValueError(f"{fault}it takes {_wanted(*pairs[place])}")
+        takes = text_by(library.ptpm_field_takes, number, place, room=header.PTPM_MOST_TAKES)
+        raise ValueError(f"{fault}it takes {takes}")
+    names = _names(number)
     if why == header.PTPM_OTHER_NAME:
-        raise ValueError(f"{words[2 * place]}: the member that comes next is {pairs[place][0]}")
-    if not pairs:
+        raise ValueError(f"{words[2 * place]}: the member that comes next is {names[place]}")
+    if not names:
         raise ValueError("it takes a dataField as octets")
-    raise ValueError(f"it takes {' '.join(f'{name} VALUE' for name, _ in pairs)}")
+    raise ValueError(f"it takes {' '.join(f'{name} VALUE' for name in names)}")
 
 
 def _parsed(number: int, words: Sequence[str]) -> Tuple[int, bytes, int]:
@@ -187,8 +169,7 @@ def _word(value: Value) -> str:
 def _in_order(number: int, values: Mapping[str, Value]) -> Iterable[str]:
     """The words for values by their names, in the order of the dataField."""
     given = {name.lower(): value for name, value in values.items()}
-    names = [name for name, _ in _zeros(number)]
-    for name in names:
+    for name in _names(number):
         if name.lower() not in given:
             raise ValueError(f"{name} is missing")
         yield from (name, _word(given.pop(name.lower())))
@@ -217,7 +198,7 @@ def data_field(number: int, value: DataField) -> bytes:
 
 def has_one_member(number: int) -> bool:
     """Whether an id has one member, which is no text, so that a SET takes its value as a word."""
-    return len(_zeros(number)) == 1 and number != ManagementId.USER_DESCRIPTION
+    return len(_names(number)) == 1 and number != ManagementId.USER_DESCRIPTION
 
 
 def takes_no_value(number: int) -> bool:

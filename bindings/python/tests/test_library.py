@@ -10,6 +10,7 @@ from decimal import Decimal
 
 import ptpm
 from ptpm import ClockMembers, HandleAnswer, PortMembers, SessionAnswer, SurveyAnswer
+from ptpm import _header as header
 from ptpm._library import library
 
 from . import CLOCK, MANAGER
@@ -293,10 +294,10 @@ class Passing(unittest.TestCase):
 class Texts(unittest.TestCase):
     def test_texts_that_are_no_identity_are_refused(self) -> None:
         pointed = ("aabbcc.fffeddee01", "aabb.ccfffe.ddee01", "aabbcc.fffe.ddee0x")
-        for text in ("", CLOCK[:-1], f"{CLOCK}1", "aabbccfffeddee\u0661\u0662", *pointed):
-            self.assertRaises(ValueError, ptpm.Identity.of, text)
-        for text in (CLOCK, f"{CLOCK}/", f"{CLOCK}/+1", f"{CLOCK}/65536", f"{CLOCK}/1/1"):
-            self.assertRaises(ValueError, ptpm.PortIdentity.of, text)
+        for text in ("", CLOCK[:-1], f"{CLOCK}1", "aabbccfffeddee\u0661\u0662", f"{CLOCK[:-1]}\udcff", *pointed):
+            self.assertRaisesRegex(ValueError, "is no identity, such as", ptpm.Identity.of, text)
+        for text in (CLOCK, f"{CLOCK}/", f"{CLOCK}/+1", f"{CLOCK}/65536", f"{CLOCK}/1/1", "1/1"):
+            self.assertRaisesRegex(ValueError, "is no identity of a port, such as", ptpm.PortIdentity.of, text)
 
     def test_numbers_of_a_newer_library_are_kept(self) -> None:
         self.assertEqual((HandleAnswer(29), int(HandleAnswer(29))), (HandleAnswer(29), 29))
@@ -305,6 +306,40 @@ class Texts(unittest.TestCase):
     def test_ids_of_other_clocks_have_names(self) -> None:
         named = {"CLOCK_DESCRIPTION": 0x0001, "time_status_np": 0xC000, "PORT_STATS_NP": 0xC005}
         self.assertEqual({name: ptpm.id_of(name) for name in named}, named)
+
+    def test_ids_by_their_names_and_numbers(self) -> None:
+        for text in ("PRIORITY1", "priority1", "2005", "0x2005", "0X2005"):
+            self.assertEqual(ptpm.id_of(text), ptpm.ManagementId.PRIORITY1)
+        for text in ("", "PRIORITY3", "205", "02005", "0x", "0xPRIORITY1", "200\udcff"):
+            self.assertRaisesRegex(ValueError, "neither the name of a managementId nor four", ptpm.id_of, text)
+
+    def test_names_of_numbers_are_those_of_the_library(self) -> None:
+        for names, kind, named, key, place, size in (
+            (header.PTPM_PORT_STATES, ptpm.PortState, ptpm.ManagementId.PORT_DATA_SET, "portState", 10, 26),
+            (header.PTPM_DELAY_MECHANISMS, ptpm.DelayMechanism, ptpm.ManagementId.DELAY_MECHANISM, "delayMechanism", 0, 2),
+            (header.PTPM_TIME_SOURCES, ptpm.TimeSource, ptpm.ManagementId.TIME_PROPERTIES_DATA_SET, "timeSource", 3, 4),
+        ):
+            for member in kind:
+                name = member.name.encode()
+                self.assertEqual(library.ptpm_number_named(names, name, len(name)), member)
+            for number in range(256):
+                octets = bytes(place) + bytes((number,)) + bytes(size - place - 1)
+                self.assertEqual(ptpm.members(named, octets)[key], number)
+
+    def test_a_value_is_refused_with_what_its_member_takes(self) -> None:
+        for named, takes in {
+            "PRIORITY1": "a number from 0 to 255, or 0x and two hexadecimal digits",
+            "LOG_SYNC_INTERVAL": "a number from -128 to 127",
+            "SLAVE_ONLY": "true or false",
+            "VERSION_NUMBER": "a number from 0 to 15, or 0x and two hexadecimal digits",
+            "DELAY_MECHANISM": "E2E, P2P, COMMON_P2P, SPECIAL, NO_MECHANISM or a number from 0 to 255",
+        }.items():
+            self.assertRaisesRegex(ValueError, f"^it takes {takes}$", ptpm.data_field, ptpm.id_of(named), "?")
+        utc = {"currentUtcOffset": 32768, "leap61": 0, "leap59": 0, "currentUtcOffsetValid": 0}
+        with self.assertRaisesRegex(ValueError, "^currentUtcOffset 32768: it takes a number from -32768 to 32767$"):
+            ptpm.data_field(ptpm.ManagementId.UTC_PROPERTIES, utc)
+        with self.assertRaisesRegex(ValueError, "leap59 2: it takes true or false$"):
+            ptpm.data_field(ptpm.ManagementId.UTC_PROPERTIES, {**utc, "currentUtcOffset": 37, "leap59": 2})
 
     def test_members_of_another_length_are_left_as_they_are(self) -> None:
         self.assertEqual(ptpm.members(ptpm.ManagementId.PRIORITY1, bytes(4)), {})

@@ -5,13 +5,13 @@ use crate::sys;
 use core::fmt;
 use core::str::FromStr;
 
-/// A managementId (15.5.2.3, table 59). It is read from its name in either case, or from four hexadecimal digits:
+/// A managementId (15.5.2.3, table 59). It is read from its name in either case, or from four hexadecimal digits, also after `0x`:
 ///
 /// ```
 /// use ptpm::ManagementId;
 ///
 /// assert_eq!("priority1".parse(), Ok(ManagementId::PRIORITY1));
-/// assert_eq!("2005".parse(), Ok(ManagementId::PRIORITY1));
+/// assert_eq!("0x2005".parse(), Ok(ManagementId::PRIORITY1));
 /// assert_eq!(ManagementId::PRIORITY1.to_string(), "PRIORITY1");
 /// assert_eq!(ManagementId(0xc001).to_string(), "c001");
 /// ```
@@ -70,13 +70,8 @@ impl FromStr for ManagementId {
 
     fn from_str(text: &str) -> Result<Self, UnknownId> {
         // SAFETY: the text and its size are those of a slice, which may be read.
-        let id = unsafe { sys::ptpm_id_named(text.as_ptr().cast(), text.len()) };
-        if let Ok(id) = u16::try_from(id) {
-            return Ok(Self(id));
-        }
-        let is_number = text.len() == 4 && text.bytes().all(|digit| digit.is_ascii_hexdigit());
-        let number = if is_number { u16::from_str_radix(text, 16).ok() } else { None };
-        number.map(Self).ok_or(UnknownId)
+        let id = unsafe { sys::ptpm_id_parse(text.as_ptr().cast(), text.len()) };
+        u16::try_from(id).map(Self).map_err(|_| UnknownId)
     }
 }
 

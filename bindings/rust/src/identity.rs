@@ -1,5 +1,6 @@
 //! Who a clock is, and which port of it (IEEE 1588-2019, 5.3.4 and 5.3.5).
 
+use crate::sys;
 use core::fmt;
 use core::str::FromStr;
 
@@ -56,32 +57,14 @@ impl Identity {
     }
 }
 
-fn digit(character: u8) -> Option<u8> {
-    match character {
-        b'0'..=b'9' => Some(character - b'0'),
-        b'a'..=b'f' => Some(character - b'a' + 10),
-        b'A'..=b'F' => Some(character - b'A' + 10),
-        _ => None,
-    }
-}
-
 impl FromStr for Identity {
     type Err = NoIdentity;
 
     fn from_str(text: &str) -> Result<Self, NoIdentity> {
-        let text = text.as_bytes();
-        let is_pointed = text.len() == 18 && text[6] == b'.' && text[11] == b'.';
-        if !is_pointed && text.len() != 16 {
-            return Err(NoIdentity);
-        }
         let mut octets = [0; 8];
-        for (place, octet) in octets.iter_mut().enumerate() {
-            let points = if is_pointed { usize::from(place > 2) + usize::from(place > 4) } else { 0 };
-            let at = 2 * place + points;
-            let (Some(high), Some(low)) = (digit(text[at]), digit(text[at + 1])) else { return Err(NoIdentity) };
-            *octet = high << 4 | low;
-        }
-        Ok(Self(octets))
+        // SAFETY: the text and its size are those of a slice, which may be read. The octets may be written, and lie apart.
+        let is_one = unsafe { sys::ptpm_identity_parse(text.as_ptr().cast(), text.len(), octets.as_mut_ptr()) };
+        is_one.then_some(Self(octets)).ok_or(NoIdentity)
     }
 }
 
@@ -99,11 +82,10 @@ impl FromStr for PortIdentity {
     type Err = NoIdentity;
 
     fn from_str(text: &str) -> Result<Self, NoIdentity> {
-        let (clock, port) = text.split_once(['/', '-']).ok_or(NoIdentity)?;
-        if port.is_empty() || !port.bytes().all(|digit| digit.is_ascii_digit()) {
-            return Err(NoIdentity);
-        }
-        Ok(Self { clock: clock.parse()?, port: port.parse().map_err(|_| NoIdentity)? })
+        let (mut clock, mut port) = ([0; 8], 0);
+        // SAFETY: as above; the port may be written too.
+        let is_one = unsafe { sys::ptpm_port_identity_parse(text.as_ptr().cast(), text.len(), clock.as_mut_ptr(), &mut port) };
+        is_one.then_some(Self { clock: Identity(clock), port }).ok_or(NoIdentity)
     }
 }
 

@@ -529,6 +529,7 @@ extern "C" {
     pub fn ptpm_rate_start(rate: *mut ptpm_rate, tokens: u64, now: u64);
     pub fn ptpm_rate_take(rate: *mut ptpm_rate, now: u64) -> bool;
     pub fn ptpm_id_named(name: *const c_char, size: usize) -> u32;
+    pub fn ptpm_id_parse(text: *const c_char, size: usize) -> u32;
     pub fn ptpm_id_at(place: usize) -> u32;
     pub fn ptpm_id_name(id: u16, text: *mut c_char, room: usize) -> usize;
     pub fn ptpm_other_id_named(name: *const c_char, size: usize) -> u32;
@@ -536,6 +537,9 @@ extern "C" {
     pub fn ptpm_other_id_name(id: u16, text: *mut c_char, room: usize) -> usize;
     pub fn ptpm_answer_name(number: u32, text: *mut c_char, room: usize) -> usize;
     pub fn ptpm_error_name(error: u16, text: *mut c_char, room: usize) -> usize;
+    pub fn ptpm_number_named(names: u32, name: *const c_char, size: usize) -> u32;
+    pub fn ptpm_identity_parse(text: *const c_char, size: usize, identity: *mut u8) -> bool;
+    pub fn ptpm_port_identity_parse(text: *const c_char, size: usize, clock: *mut u8, port: *mut u16) -> bool;
     pub fn ptpm_field_text(id: u16, octets: *const u8, size: usize, text: *mut c_char, room: usize) -> usize;
     pub fn ptpm_field_parse(
         id: u16,
@@ -546,6 +550,7 @@ extern "C" {
         count: *mut usize,
         member: *mut usize,
     ) -> ptpm_parsed;
+    pub fn ptpm_field_takes(id: u16, place: usize, text: *mut c_char, room: usize) -> usize;
 }
 
 /// Says whether a call with this answer was refused.

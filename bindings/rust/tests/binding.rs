@@ -376,6 +376,17 @@ fn texts_that_are_no_identity_are_refused() {
 }
 
 #[test]
+fn ids_are_read_from_names_and_numbers() {
+    for text in ["PRIORITY1", "priority1", "2005", "0x2005", "0X2005"] {
+        assert_eq!(text.parse(), Ok(ManagementId::PRIORITY1), "{text}");
+    }
+    assert_eq!("c001".parse(), Ok(ManagementId(0xc001)));
+    for text in ["", "PRIORITY3", "205", "02005", "0x", "0xPRIORITY1", "200é"] {
+        assert!(text.parse::<ManagementId>().is_err(), "{text}");
+    }
+}
+
+#[test]
 fn numbers_of_a_newer_library_are_kept() {
     assert_eq!(Handled::of_number(29), Handled::Other(29));
     assert_eq!(Handled::Other(29).number(), 29);

@@ -438,12 +438,18 @@ pub const PTPM_STEP_UNKNOWN: u32 = 4;
 pub const PTPM_STEP_TOLD: u32 = 5;
 pub const PTPM_STEP_OF_ANOTHER: u32 = 6;
 
-// No sequenceId.
+// No sequenceId; and what `ptpm_number_named` answers if no number has the name.
 pub const PTPM_NO_NUMBER: u32 = 65536;
 
-// What `ptpm_id_named` answers if no id has the name.
+// What `ptpm_id_named` and `ptpm_id_parse` answer if there is no such id.
 pub const PTPM_NO_ID: u32 = 65536;
+
+// The names that `ptpm_number_named` knows.
+pub const PTPM_PORT_STATES: u32 = 1;
+pub const PTPM_DELAY_MECHANISMS: u32 = 2;
+pub const PTPM_TIME_SOURCES: u32 = 3;
 
 // The greatest counts and sizes.
 pub const PTPM_MOST_NAME: usize = 27;
 pub const PTPM_MOST_FIELD_TEXT: usize = 5034;
+pub const PTPM_MOST_TAKES: usize = 69;
