@@ -27,10 +27,4 @@ const char *answer_name(uint32_t answer);
 /* The member whose value an answer refuses, such as PRIORITY1 of PTPM_BAD_PRIORITY1. The whole name of an answer that refuses none. */
 const char *refused_member(uint32_t answer);
 
-/* The portState (8.2.15.3.1) of a name, in either case; -1 if it is none. */
-int state_named(const char *text);
-
-/* The timeSource (7.6.2.8) of a name, in either case; -1 if it is none. */
-int source_named(const char *text);
-
 #endif

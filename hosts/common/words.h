@@ -1,5 +1,4 @@
-/* Numbers, octets, and identities of clocks and ports, in the words of a command line or of a file. An identity is spelt as ptpm does
-   it, aabbccfffeddee01/1, or as pmc does, aabbcc.fffe.ddee01-1. */
+/* Numbers, octets, and identities of clocks, in the words of a command line or of a file. The library reads identities. */
 #ifndef WORDS_H
 #define WORDS_H
 
@@ -19,17 +18,9 @@ size_t read_octets(const char **text, uint8_t *octets, size_t most);
 /* Whether a line has only printed characters of ASCII, blanks, tabs and returns. */
 bool is_ascii(const char *line);
 
-/* A clockIdentity: sixteen hexadecimal digits in either case, also with a dot after the sixth and the tenth. The rest of the
-   text; NULL if it does not begin with one. */
-const char *identity_at(const char *text, uint8_t identity[8]);
-
-/* The portNumber after a clockIdentity: a slash or a hyphen, and a decimal number, at most `most`. -1 if the rest of the text
-   is none. */
-long port_behind(const char *rest, long most);
-
 enum { IDENTITY_TEXT = 17 };
 
-/* Sixteen hexadecimal digits, and the end of the text. */
+/* A clockIdentity as sixteen hexadecimal digits, and the end of the text. */
 void write_identity(char text[IDENTITY_TEXT], const uint8_t identity[8]);
 
 #endif

@@ -1,7 +1,6 @@
 #define _GNU_SOURCE
 #include "observation.h"
 #include "field_text.h"
-#include "names.h"
 #include "output.h"
 #include "words.h"
 #include <errno.h>
@@ -152,14 +151,14 @@ static bool put_interval(const struct observed_member *member, const char *name,
     return true;
 }
 
-/* Numbers of an octet that have names: the number of one, those that are taken, and one for an example. */
-struct enumeration { int (*number_of)(const char *name); long long least, most; const char *example; };
+/* Numbers of an octet that have names: what the library calls these, the numbers that are taken, and a name for an example. */
+struct enumeration { uint32_t names; long long least, most; const char *example; };
 
-static const struct enumeration states = { state_named, 1, 9, "SLAVE" }, sources = { source_named, 0, UINT8_MAX, "GNSS" };
+static const struct enumeration states = { PTPM_PORT_STATES, 1, 9, "SLAVE" }, sources = { PTPM_TIME_SOURCES, 0, UINT8_MAX, "GNSS" };
 
 static bool put_named(const struct enumeration *of, const char *name, const char *text, uint8_t *at) {
-    long long number = of->number_of(text);
-    if (number < 0 && !read_integer(text, of->least, of->most, &number)) {
+    long long number = ptpm_number_named(of->names, text, strlen(text));
+    if (number == PTPM_NO_NUMBER && !read_integer(text, of->least, of->most, &number)) {
         return wrong("%s %s: it takes a number from %lld to %lld, or a name such as %s", name, text, of->least, of->most, of->example);
     }
     *at = (uint8_t)number;
@@ -174,13 +173,8 @@ static bool put_flag(const char *name, const char *text, uint8_t *at) {
 }
 
 static bool put_identity(const char *name, const char *text, uint8_t *at) {
-    uint8_t identity[8];
-    const char *rest = identity_at(text, identity);
-    if (rest == NULL || *rest != '\0') {
-        return wrong("%s %s: it takes a clockIdentity, such as aabbccfffeddee01 or aabbcc.fffe.ddee01", name, text);
-    }
-    memcpy(at, identity, sizeof identity);
-    return true;
+    if (ptpm_identity_parse(text, strlen(text), at)) return true;
+    return wrong("%s %s: it takes a clockIdentity, such as aabbccfffeddee01 or aabbcc.fffe.ddee01", name, text);
 }
 
 static bool put_kind(const struct observed_member *member, const char *name, const char *text, uint8_t *at) {
@@ -201,12 +195,6 @@ static bool put_value(const struct observed_member *member, const char *name, co
     return is_right;
 }
 
-/* The portNumber of a portIdentity, whose clock is written; -1 if the text is none. */
-static long read_port_identity(const char *text, uint8_t clock[8]) {
-    const char *rest = identity_at(text, clock);
-    return rest == NULL ? -1 : port_behind(rest, UINT16_MAX);
-}
-
 static bool put_of_port(struct observation *observation, size_t port, const struct observed_member *member, char *const *words) {
     if (port > observation->port_count) observation->port_count = port;
     return put_value(member, words[0], words[1], &observation->ports[port - 1]);
@@ -225,16 +213,18 @@ static bool take_port(struct observation *observation, char **words, size_t coun
 /* It comes before the other members of a port, as ptpm-manage prints them. */
 static bool take_port_identity(struct observation *observation, const char *text) {
     uint8_t clock[8];
-    long port = read_port_identity(text, clock);
-    if (port < 1 || port > OBSERVED_PORTS) return wrong("portIdentity %s: it takes that of a port from 1 to 8", text);
-    observation->printed_port = (size_t)port;
+    uint16_t port;
+    bool is_observable = ptpm_port_identity_parse(text, strlen(text), clock, &port) && port >= 1 && port <= OBSERVED_PORTS;
+    if (!is_observable) return wrong("portIdentity %s: it takes that of a port from 1 to 8", text);
+    observation->printed_port = port;
     return true;
 }
 
 static bool take_parent_port(struct observation *observation, const char *text) {
-    long port = read_port_identity(text, observation->clock.parent_port_clock);
-    if (port < 0) return wrong("parentPortIdentity %s: it takes a clockIdentity and a port, such as aabbccfffeddee01/1", text);
-    observation->clock.parent_port_number = (uint16_t)port;
+    struct ptpm_observed_clock *clock = &observation->clock;
+    if (!ptpm_port_identity_parse(text, strlen(text), clock->parent_port_clock, &clock->parent_port_number)) {
+        return wrong("parentPortIdentity %s: it takes a clockIdentity and a port, such as aabbccfffeddee01/1", text);
+    }
     observation->grandmaster |= 1u << PARENT_PORT_CLOCK | 1u << PARENT_PORT_NUMBER;
     return true;
 }

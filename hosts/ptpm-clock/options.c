@@ -157,10 +157,9 @@ static const char *socket_path(const char *option) {
 /* IDENTITY/PORT, with every right. */
 static struct ptpm_manager_settings read_manager(const char *text) {
     struct ptpm_manager_settings manager = { .rights = PTPM_CLOCK_SET | PTPM_PORT_SET | PTPM_PORT_COMMAND };
-    const char *rest = identity_at(text, manager.clock);
-    long port = rest == NULL ? -1 : port_behind(rest, 65535);
-    if (port < 0) refuse_command_line("-m %s: it takes aabbccfffeddee01/1 or aabbcc.fffe.ddee01-1", text);
-    manager.port = (uint16_t)port;
+    if (!ptpm_port_identity_parse(text, strlen(text), manager.clock, &manager.port)) {
+        refuse_command_line("-m %s: it takes aabbccfffeddee01/1 or aabbcc.fffe.ddee01-1", text);
+    }
     return manager;
 }
 
@@ -276,8 +275,7 @@ void read_options(struct options *options, int argc, char **argv) {
         take_option(options, option, argv);
     }
     if (optind == argc) refuse_command_line("the clock's identity is missing");
-    const char *rest = identity_at(argv[optind], options->settings.identity);
-    if (rest == NULL || *rest != '\0') {
+    if (!ptpm_identity_parse(argv[optind], strlen(argv[optind]), options->settings.identity)) {
         refuse_command_line("%s: it takes a clockIdentity, such as aabbccfffeddee01 or aabbcc.fffe.ddee01", argv[optind]);
     }
     options->interfaces = argv + optind + 1;

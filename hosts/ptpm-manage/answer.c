@@ -124,7 +124,7 @@ static bool is_number_with_name(const struct member *member) {
     return is_one_of(member, numbers);
 }
 
-/* Whether the member is a clockIdentity or a portIdentity. A number may have as many digits. */
+/* Whether the member is a clockIdentity or a portIdentity, if it isn't octets. */
 static bool is_identity(const struct member *member) {
     static const char last[] = "Identity";
     size_t size = strlen(member->name);
@@ -141,8 +141,9 @@ static void print_words_as_json(FILE *to, const char *value) {
     fputs("\"]", to);
 }
 
-/* A clockIdentity, or a portIdentity, whose portNumber is in `rest` after a slash. */
-static void print_identity_as_json(FILE *to, const char *value, const char *rest) {
+/* A clockIdentity, or a portIdentity, whose portNumber is after a slash. */
+static void print_identity_as_json(FILE *to, const char *value) {
+    const char *rest = strchrnul(value, '/');
     if (*rest == '\0') fprintf(to, "\"%s\"", value);
     else fprintf(to, "{\"clockIdentity\":\"%.*s\",\"portNumber\":%s}", (int)(rest - value), value, rest + 1);
 }
@@ -150,13 +151,12 @@ static void print_identity_as_json(FILE *to, const char *value, const char *rest
 /* A value as `ptpm site --json` has it: a TimeInterval in nanoseconds times 2^16, and each number in decimal. One that may have a name
    is a text: the name, or 0x and two digits. */
 static void print_value_as_json(FILE *to, const struct member *member) {
-    uint8_t identity[8];
     int64_t interval;
-    const char *value = member->value, *rest = is_identity(member) ? identity_at(value, identity) : NULL;
+    const char *value = member->value;
     if (is_number_with_name(member)) fprintf(to, "\"%s\"", value);
     else if (is_named(member, "pathSequence")) print_words_as_json(to, value);
     else if (is_in_hexadecimal(member)) fprintf(to, "\"%s\"", strcmp(value, "-") == 0 ? "" : value);
-    else if (rest != NULL) print_identity_as_json(to, value, rest);
+    else if (is_identity(member)) print_identity_as_json(to, value);
     else if (strncmp(value, "0x", 2) == 0) fprintf(to, "%llu", strtoull(value, NULL, 16));
     else if (strchr(value, '.') != NULL && read_interval(value, &interval)) fprintf(to, "%" PRId64, interval);
     else fputs(value, to);

@@ -2,6 +2,7 @@
 #include "clock_names.h"
 #include "notices.h"
 #include "program.h"
+#include "ptpm.h"
 #include "words.h"
 #include <ctype.h>
 #include <errno.h>
@@ -26,11 +27,13 @@ static size_t place_of(const uint8_t identity[8]) {
 
 /* Takes a line without its end: of a clock that is named twice the later name counts. */
 static void take_line(const char *path, size_t number, const char *line) {
+    static const char blanks[] = " \t";
     uint8_t identity[8];
     char text[IDENTITY_TEXT], *named;
-    const char *name = identity_at(line, identity);
-    if (name == NULL || !isblank((unsigned char)*name)) refuse("--names %s: line %zu has no clockIdentity with a name after it", path, number);
-    while (isblank((unsigned char)*name)) name++;
+    size_t size = strcspn(line, blanks);
+    const char *name = line + size + strspn(line + size, blanks);
+    bool is_named = line[size] != '\0' && ptpm_identity_parse(line, size, identity);
+    if (!is_named) refuse("--names %s: line %zu has no clockIdentity with a name after it", path, number);
     if (*name == '\0' || strlen(name) > MOST_NAME) refuse("--names %s: line %zu: a name has 1 to %d octets", path, number, MOST_NAME);
     size_t place = place_of(identity);
     if (place == MOST_NAMES) refuse("--names %s: it has more than %d clocks", path, MOST_NAMES);
@@ -65,7 +68,7 @@ bool find_named_clock(const char *name, uint8_t identity[8]) {
     size_t found = 0;
     for (size_t place = 0; place < count; place++) {
         if (strcmp(names[place] + NAME_AT, name) != 0) continue;
-        identity_at(names[place], identity);
+        ptpm_identity_parse(names[place], IDENTITY_TEXT - 1, identity);
         found++;
     }
     if (found > 1) refuse("--target %s: %zu clocks have this name", name, found);

@@ -63,37 +63,12 @@ size_t most_words(uint16_t id, const char *first) {
     return is_one_word ? 1 : 2 * members;
 }
 
-/* The names of the delay mechanisms, as the library has them, and what else a SET of one takes. */
-static const char *wanted_mechanism(void) {
-    static char text[128];
-    size_t size = 0;
-    for (unsigned number = 0; number <= UINT8_MAX; number++) {
-        const uint8_t octets[2] = { (uint8_t)number };
-        struct field_lines lines;
-        start_lines(&lines, PTPM_ID_DELAY_MECHANISM, octets, sizeof octets);
-        const char *name = value_of(&lines, "delayMechanism");
-        bool is_name = name != NULL && (*name < '0' || *name > '9');
-        if (is_name) size += (size_t)snprintf(text + size, sizeof text - size, size == 0 ? "%s" : ", %s", name);
-    }
-    snprintf(text + size, sizeof text - size, " or a number from 0 to 255");
-    return text;
-}
-
-/* What a SET of a member takes, by its name and its value without a bit set. */
-static const char *wanted(const struct member *member) {
-    if (is_named(member, "userDescription")) return "a text of at most 128 octets in UTF-8";
-    if (is_named(member, "delayMechanism")) return wanted_mechanism();
-    if (is_named(member, "currentUtcOffset")) return "a number from -32768 to 32767";
-    if (is_named(member, "versionNumber")) return "a number from 0 to 15, or 0x and two hexadecimal digits";
-    if (strncmp(member->name, "log", 3) == 0) return "a number from -128 to 127";
-    return strcmp(member->value, "false") == 0 ? "true or false" : "a number from 0 to 255, or 0x and two hexadecimal digits";
-}
-
 /* Says which value is none of its member. */
-static _Noreturn void refuse_value(const char *named, const struct member *member, const char *const *words, size_t count,
-                                   size_t place) {
-    if (count == 1) refuse("set %s %s: it takes %s", named, words[0], wanted(member));
-    refuse("set %s %s %s: it takes %s", named, words[2 * place], words[2 * place + 1], wanted(member));
+static _Noreturn void refuse_value(uint16_t id, const char *named, const char *const *words, size_t count, size_t place) {
+    char taken[PTPM_MOST_TAKES];
+    int size = (int)ptpm_field_takes(id, place, taken, sizeof taken);
+    if (count == 1) refuse("set %s %s: it takes %.*s", named, words[0], size, taken);
+    refuse("set %s %s %s: it takes %.*s", named, words[2 * place], words[2 * place + 1], size, taken);
 }
 
 /* Says which members a SET of the id takes, each with its value. */
@@ -115,7 +90,7 @@ static _Noreturn void refuse_words(uint16_t id, const char *named, const char *c
     struct member member = { "", "" };
     member_at(&lines, id, place, &member);
     switch (why) {
-    case PTPM_NO_VALUE: refuse_value(named, &member, words, count, place);
+    case PTPM_NO_VALUE: refuse_value(id, named, words, count, place);
     case PTPM_OTHER_NAME: refuse("set %s %s: the member that comes next is %s", named, words[2 * place], member.name);
     case PTPM_WORD_COUNT: refuse_count(id, named);
     default: refuse("%s: the value is no UTF-8", named);

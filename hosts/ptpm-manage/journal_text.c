@@ -1,6 +1,7 @@
 #define _GNU_SOURCE
 #include "journal_text.h"
 #include "names.h"
+#include "ptpm.h"
 #include "words.h"
 #include <stdlib.h>
 #include <string.h>
@@ -104,9 +105,9 @@ static void take_octets(struct reader *reader, struct value *value) {
 }
 
 static void take_identity(struct reader *reader, uint8_t identity[8]) {
-    const char *rest = identity_at(reader->at, identity);
-    if (rest == NULL) reader->is_wrong = true;
-    else reader->at = rest;
+    size_t size = strcspn(reader->at, "\"/");
+    if (!ptpm_identity_parse(reader->at, size, identity)) reader->is_wrong = true;
+    reader->at += size;
 }
 
 static void take_one_step(struct reader *reader, struct step *step) {

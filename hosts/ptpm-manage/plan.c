@@ -91,12 +91,12 @@ static bool take_step(struct step *step, char *line, size_t number) {
         if (words[i] == NULL) return false;
     }
     long domain = decimal(words[2], DOMAINS - 1), port = decimal(words[4], UINT16_MAX), id = id_named(words[5]);
-    const char *after = identity_at(words[3], step->clock);
+    bool is_clock = ptpm_identity_parse(words[3], strlen(words[3]), step->clock);
     step->domain = (uint8_t)domain;
     step->port = (uint16_t)port;
     step->id = (uint16_t)id;
     return strcmp(words[0], "step") == 0 && (size_t)decimal(words[1], LONG_MAX / 10) == number && domain >= 0 && port >= 0 && id >= 0
-           && after != NULL && *after == '\0' && take_value(&step->before, words[6]) && take_value(&step->after, words[7]);
+           && is_clock && take_value(&step->before, words[6]) && take_value(&step->after, words[7]);
 }
 
 /* Reads the steps after an empty line, and takes that and them off the text. */

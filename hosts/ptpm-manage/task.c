@@ -316,13 +316,19 @@ static void judge_site_options(const struct site_options *site) {
 
 /* The clock that is asked, by its name or its identity, and the port after that, if one is named there. */
 static void read_target(struct task *task, struct words *words, const char *text) {
-    const char *rest = identity_at(text, task->settings.target);
+    enum { PLAIN = 16, DOTTED = 18 };       /* octets of a clockIdentity */
+    uint8_t *clock = task->settings.target;
+    size_t size = strlen(text), clock_size = strnlen(text, strcspn(text, ".") == 6 ? DOTTED : PLAIN);
+    uint16_t port;
     words->target_port = NOT_NAMED;
-    if (find_named_clock(text, task->settings.target)) return;
+    if (find_named_clock(text, clock) || ptpm_identity_parse(text, size, clock)) return;
+    if (ptpm_port_identity_parse(text, size, clock, &port)) {
+        words->target_port = port;
+        return;
+    }
+    if (ptpm_identity_parse(text, clock_size, clock)) refuse("--target %s: %s is no port", text, text + clock_size);
     const char *also = clock_name_count() > 0 ? "a name of --names, " : "";
-    if (rest == NULL) refuse("--target %s: it takes %saabbccfffeddee01 or aabbcc.fffe.ddee01, and after it -1 for port 1", text, also);
-    words->target_port = *rest == '\0' ? NOT_NAMED : port_behind(rest, 65535);
-    if (*rest != '\0' && words->target_port < 0) refuse("--target %s: %s is no port", text, rest);
+    refuse("--target %s: it takes %saabbccfffeddee01 or aabbcc.fffe.ddee01, and after it -1 for port 1", text, also);
 }
 
 static void read_port(struct words *words, const char *text) {
@@ -331,11 +337,10 @@ static void read_port(struct words *words, const char *text) {
 }
 
 static void read_manager(struct task *task, const char *text) {
-    const char *rest = identity_at(text, task->settings.clock);
-    long port = rest == NULL ? -1 : port_behind(rest, 65534);
-    if (port < 0) refuse("--manager %s: it takes aabbccfffeddee01/1 or aabbcc.fffe.ddee01-1", text);
-    if (port >= FIRST_OF_NOBODY) refuse("--manager %s: a port from %d on is of no manager", text, FIRST_OF_NOBODY);
-    task->settings.port = (uint16_t)port;
+    uint16_t *port = &task->settings.port;
+    bool is_named = ptpm_port_identity_parse(text, strlen(text), task->settings.clock, port) && *port != UINT16_MAX;
+    if (!is_named) refuse("--manager %s: it takes aabbccfffeddee01/1 or aabbcc.fffe.ddee01-1", text);
+    if (*port >= FIRST_OF_NOBODY) refuse("--manager %s: a port from %d on is of no manager", text, FIRST_OF_NOBODY);
     task->has_manager = true;
 }
 

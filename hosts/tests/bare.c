@@ -7,8 +7,8 @@
 #define _GNU_SOURCE
 #include "message_places.h"
 #include "program.h"
+#include "ptpm.h"
 #include "udp.h"
-#include "words.h"
 #include <errno.h>
 #include <linux/io_uring.h>
 #include <stdbool.h>
@@ -169,7 +169,7 @@ static void answer_by_ring(void) {
 
 int main(int argc, char **argv) {
     const char *what;
-    if (argc != 4 || identity_at(argv[2], own) == NULL) usage();
+    if (argc != 4 || !ptpm_identity_parse(argv[2], strlen(argv[2]), own)) usage();
     port_socket = open_udp(argv[1], false, &what);
     if (port_socket < 0) give_up(what);
     to_size = group(&to, false);

@@ -7,6 +7,7 @@
 #include "message_places.h"
 #include "monotonic.h"
 #include "program.h"
+#include "ptpm.h"
 #include "udp.h"
 #include "words.h"
 #include <stdbool.h>
@@ -96,7 +97,7 @@ static long part(unsigned long percent) {
 int main(int argc, char **argv) {
     const char *what;
     int room = 1 << 24;
-    if (argc != 5 || identity_at(argv[2], request + TARGET_AT) == NULL) usage();
+    if (argc != 5 || !ptpm_identity_parse(argv[2], strlen(argv[2]), request + TARGET_AT)) usage();
     long rate = decimal(argv[3], 1000000), seconds = decimal(argv[4], 1000);
     if (rate < 0 || seconds < 1) usage();
     port_socket = open_udp(argv[1], false, &what);
