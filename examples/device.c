@@ -34,21 +34,11 @@ void tell_operator(uint32_t answer) {
     printf("%.*s\n", (int)ptpm_answer_name(answer, name, sizeof name), name);
 }
 
-/* The octets of the sixteen hexadecimal digits at the head of a text; whether there are that many. */
-static int read_identity(const char *text, uint8_t identity[8]) {
-    for (int i = 0; i < 8; i++) {
-        unsigned octet;
-        if (strlen(text) < 16 || sscanf(text + 2 * i, "%2x", &octet) != 1) return 0;
-        identity[i] = (uint8_t)octet;
-    }
-    return 1;
-}
-
 int main(int count, char **words) {
     struct ptpm_manager_settings manager = { { 0 }, 0, PTPM_CLOCK_SET | PTPM_PORT_SET | PTPM_PORT_COMMAND };
     uint8_t identity[8];
-    if (count != 5 || !read_identity(words[1], identity) || !read_identity(words[2], manager.clock)
-        || sscanf(words[2] + 16, "/%hu", &manager.port) != 1) {
+    if (count != 5 || !ptpm_identity_parse(words[1], strlen(words[1]), identity)
+        || !ptpm_port_identity_parse(words[2], strlen(words[2]), manager.clock, &manager.port)) {
         fprintf(stderr, "usage: %s IDENTITY MANAGER INTERFACE INTERFACE\n", words[0]);
         return 2;
     }
