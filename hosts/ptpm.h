@@ -1490,6 +1490,29 @@ enum { PTPM_MOST_FIELD_TEXT = 5034 };
             there. */
 size_t ptpm_field_text(uint16_t id, const uint8_t *octets, size_t size, char *text, size_t room);
 
+/* What a member's value is in its line of ptpm_field_text. A number is in decimal, or 0x and hexadecimal digits. A TimeInterval is in
+   nanoseconds. Octets are in hexadecimal, or - for none. In a text \xHH is an octet. What has a name is its name, or 0x and two digits. */
+enum ptpm_member_kind {
+    PTPM_NO_MEMBER = 0,
+    PTPM_IS_NUMBER = 1,
+    PTPM_IS_FLAG = 2,
+    PTPM_IS_INTERVAL = 3,
+    PTPM_IS_CLOCK = 4,                  /* a clockIdentity */
+    PTPM_IS_PORT = 5,                   /* a portIdentity */
+    PTPM_IS_CLOCKS = 6,                 /* clockIdentities, with a space between two of them */
+    PTPM_IS_TEXT = 7,
+    PTPM_IS_OCTETS = 8,
+    PTPM_IS_PORT_STATE = 16,
+    PTPM_IS_DELAY_MECHANISM = 17,
+    PTPM_IS_TIME_SOURCE = 18,
+    PTPM_IS_TIMESTAMPING = 19           /* a way of timestamping, of linuxptp */
+};
+
+/* Says what a member's value is. So a program that prints or stores members needs no list of their names.
+   Takes:   the managementId; a dataField of size octets; and the place of the member's line in ptpm_field_text, from 0 on.
+   Returns: what its value is; or PTPM_NO_MEMBER if there is no such line, or it has the octets and no member. */
+enum ptpm_member_kind ptpm_member_kind(uint16_t id, const uint8_t *octets, size_t size, size_t place);
+
 /* Gives the dataField of a SET from what a person types: the name of each member in the standard, in either case, and its value.
    They are in the order of ptpm_field_text. The name of a sole member may be left out: "100" and "priority1", "100" are the same. A
    value is written as ptpm_field_text writes it. A number of one octet without a sign may be decimal, or 0x and two hexadecimal

@@ -70,19 +70,6 @@ void print_octets(FILE *to, const char *lead, const uint8_t *octets, size_t size
     putc('\n', to);
 }
 
-static bool is_one_of(const struct member *member, const char *const *names) {
-    while (*names != NULL && !is_named(member, *names)) names++;
-    return *names != NULL;
-}
-
-/* Whether the member is a text, a PTPText (5.3.9). Its characters are printed as the locale has them. */
-static bool is_text(const struct member *member) {
-    static const char *const texts[] = {
-        "userDescription", "physicalLayerProtocol", "productDescription", "revisionData", "interface", NULL,
-    };
-    return is_one_of(member, texts);
-}
-
 enum { MOST_TEXT = 255 };       /* octets of a PTPText */
 
 /* The octets of a text, in which the library has \x and two hexadecimal digits for an octet. How many they are. */
@@ -102,33 +89,12 @@ void print_members(FILE *to, const char *lead, uint16_t id, const uint8_t *octet
     struct member member;
     uint8_t text[MOST_TEXT];
     start_lines(&lines, id, octets, size);
-    while (next_member(&lines, &member)) {
+    for (size_t place = 0; next_member(&lines, &member); place++) {
         fprintf(to, "%s%s ", lead, member.name);
-        if (is_text(&member)) print_text(to, text, text_octets(member.value, text));
+        if (ptpm_member_kind(id, octets, size, place) == PTPM_IS_TEXT) print_text(to, text, text_octets(member.value, text));
         else fputs(member.value, to);
         putc('\n', to);
     }
-}
-
-/* Whether the member is octets, which come in hexadecimal, or - if there is none. */
-static bool is_in_hexadecimal(const struct member *member) {
-    static const char *const octets[] = {
-        "physicalAddress", "addressField", "manufacturerIdentity", "profileIdentity", "lastGmPhaseChange", NULL,
-    };
-    return is_one_of(member, octets);
-}
-
-/* Whether the member is a number that may have a name. */
-static bool is_number_with_name(const struct member *member) {
-    static const char *const numbers[] = { "portState", "delayMechanism", "timeSource", "timestamping", NULL };
-    return is_one_of(member, numbers);
-}
-
-/* Whether the member is a clockIdentity or a portIdentity, if it isn't octets. */
-static bool is_identity(const struct member *member) {
-    static const char last[] = "Identity";
-    size_t size = strlen(member->name);
-    return size >= sizeof last - 1 && strcmp(member->name + size - (sizeof last - 1), last) == 0;
 }
 
 /* Words with a space between two of them, as an array. */
@@ -148,18 +114,32 @@ static void print_identity_as_json(FILE *to, const char *value) {
     else fprintf(to, "{\"clockIdentity\":\"%.*s\",\"portNumber\":%s}", (int)(rest - value), value, rest + 1);
 }
 
+/* A text, whose characters are printed as the locale has them. */
+static void print_text_as_json(FILE *to, const char *value) {
+    uint8_t text[MOST_TEXT];
+    print_json_text(to, text, text_octets(value, text));
+}
+
 /* A value as `ptpm site --json` has it: a TimeInterval in nanoseconds times 2^16, and each number in decimal. One that may have a name
    is a text: the name, or 0x and two digits. */
-static void print_value_as_json(FILE *to, const struct member *member) {
+static void print_value_as_json(FILE *to, enum ptpm_member_kind kind, const char *value) {
     int64_t interval;
-    const char *value = member->value;
-    if (is_number_with_name(member)) fprintf(to, "\"%s\"", value);
-    else if (is_named(member, "pathSequence")) print_words_as_json(to, value);
-    else if (is_in_hexadecimal(member)) fprintf(to, "\"%s\"", strcmp(value, "-") == 0 ? "" : value);
-    else if (is_identity(member)) print_identity_as_json(to, value);
-    else if (strncmp(value, "0x", 2) == 0) fprintf(to, "%llu", strtoull(value, NULL, 16));
-    else if (strchr(value, '.') != NULL && read_interval(value, &interval)) fprintf(to, "%" PRId64, interval);
-    else fputs(value, to);
+    switch (kind) {
+    case PTPM_IS_TEXT: print_text_as_json(to, value); break;
+    case PTPM_IS_CLOCKS: print_words_as_json(to, value); break;
+    case PTPM_IS_OCTETS: fprintf(to, "\"%s\"", strcmp(value, "-") == 0 ? "" : value); break;
+    case PTPM_IS_CLOCK:
+    case PTPM_IS_PORT: print_identity_as_json(to, value); break;
+    case PTPM_IS_FLAG: fputs(value, to); break;
+    case PTPM_IS_INTERVAL:
+        if (read_interval(value, &interval)) fprintf(to, "%" PRId64, interval);
+        break;
+    case PTPM_IS_NUMBER:
+        if (strncmp(value, "0x", 2) == 0) fprintf(to, "%llu", strtoull(value, NULL, 16));
+        else fputs(value, to);
+        break;
+    default: fprintf(to, "\"%s\"", value);
+    }
 }
 
 void print_octets_as_json(FILE *to, const uint8_t *octets, size_t size) {
@@ -188,18 +168,17 @@ static size_t print_name_as_json(FILE *to, const char *name, bool is_first, size
 void print_members_as_json(FILE *to, const char *name, uint16_t id, const uint8_t *octets, size_t size) {
     struct field_lines lines;
     struct member member;
-    uint8_t text[MOST_TEXT];
     size_t structure = 0;
     start_lines(&lines, id, octets, size);
-    for (bool is_first = true; next_member(&lines, &member); is_first = false) {
-        if (is_named(&member, "value")) {
+    for (size_t place = 0; next_member(&lines, &member); place++) {
+        enum ptpm_member_kind kind = ptpm_member_kind(id, octets, size, place);
+        if (kind == PTPM_NO_MEMBER) {
             print_octets_as_json(to, octets, size);
             return;
         }
-        if (is_first) fprintf(to, "\"%s\":{", name);
-        structure = print_name_as_json(to, member.name, is_first, structure);
-        if (is_text(&member)) print_json_text(to, text, text_octets(member.value, text));
-        else print_value_as_json(to, &member);
+        if (place == 0) fprintf(to, "\"%s\":{", name);
+        structure = print_name_as_json(to, member.name, place == 0, structure);
+        print_value_as_json(to, kind, member.value);
     }
     fputs(structure > 0 ? "}}" : "}", to);
 }

@@ -401,6 +401,21 @@ PTPM_OTHER_CLOCK = 108
 PTPM_OTHER_PORTS = 109
 PTPM_OTHER_SESSION = 110
 
+# enum ptpm_member_kind.
+PTPM_NO_MEMBER = 0
+PTPM_IS_NUMBER = 1
+PTPM_IS_FLAG = 2
+PTPM_IS_INTERVAL = 3
+PTPM_IS_CLOCK = 4
+PTPM_IS_PORT = 5
+PTPM_IS_CLOCKS = 6
+PTPM_IS_TEXT = 7
+PTPM_IS_OCTETS = 8
+PTPM_IS_PORT_STATE = 16
+PTPM_IS_DELAY_MECHANISM = 17
+PTPM_IS_TIME_SOURCE = 18
+PTPM_IS_TIMESTAMPING = 19
+
 # enum ptpm_parsed.
 PTPM_PARSED = 0
 PTPM_PARSE_NO_ROOM = 34
@@ -893,6 +908,7 @@ CALLS: Dict[str, Tuple[Any, List[Any]]] = {
     "ptpm_identity_parse": (c_bool, [c_char_p, c_size_t, POINTER(c_uint8)]),
     "ptpm_port_identity_parse": (c_bool, [c_char_p, c_size_t, POINTER(c_uint8), POINTER(c_uint16)]),
     "ptpm_field_text": (c_size_t, [c_uint16, c_char_p, c_size_t, POINTER(c_char), c_size_t]),
+    "ptpm_member_kind": (c_uint32, [c_uint16, c_char_p, c_size_t, c_size_t]),
     "ptpm_field_parse": (
         c_uint32,
         [c_uint16, c_char_p, c_size_t, POINTER(c_uint8), c_size_t, POINTER(c_size_t), POINTER(c_size_t)],

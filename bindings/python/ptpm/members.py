@@ -24,9 +24,6 @@ MOST_TEXT = 128
 
 _ESCAPE = re.compile(rb"\\x(..)")
 
-# The members that are a PTPText (5.3.9).
-_TEXTS = ("userDescription", "physicalLayerProtocol", "productDescription", "revisionData", "interface")
-
 
 def _pairs(number: int, octets: bytes) -> List[Tuple[str, str]]:
     """The name and the value of each member that the library has in a dataField."""
@@ -56,30 +53,27 @@ def _identities(text: str) -> Tuple[Identity, ...]:
     return tuple(map(Identity.of, text.split()))
 
 
-# How the value of a member of this name is read.
-_READERS: Dict[str, Callable[[str], Member]] = {
-    "clockIdentity": Identity.of,
-    "grandmasterIdentity": Identity.of,
-    "parentPortIdentity": PortIdentity.of,
-    "portIdentity": PortIdentity.of,
-    "offsetFromMaster": Decimal,
-    "meanDelay": Decimal,
-    "meanLinkDelay": Decimal,
-    "portState": PortState.of,
-    "delayMechanism": DelayMechanism.of,
-    "timeSource": TimeSource.of,
-    # Of ids that only other clocks have.
-    "gmIdentity": Identity.of,
-    "pathSequence": _identities,
-    "timestamping": lambda text: int(text, 0) if text[0].isdigit() else text,
-    **dict.fromkeys(("physicalAddress", "addressField", "manufacturerIdentity", "profileIdentity", "lastGmPhaseChange"), _octets),
-    **dict.fromkeys(_TEXTS, _text),
+# How the value of a member is read, by what it is.
+_READERS: Dict[int, Callable[[str], Member]] = {
+    header.PTPM_IS_NUMBER: lambda text: int(text, 0),
+    header.PTPM_IS_FLAG: lambda text: text == "true",
+    header.PTPM_IS_INTERVAL: Decimal,
+    header.PTPM_IS_CLOCK: Identity.of,
+    header.PTPM_IS_PORT: PortIdentity.of,
+    header.PTPM_IS_CLOCKS: _identities,
+    header.PTPM_IS_TEXT: _text,
+    header.PTPM_IS_OCTETS: _octets,
+    header.PTPM_IS_PORT_STATE: PortState.of,
+    header.PTPM_IS_DELAY_MECHANISM: DelayMechanism.of,
+    header.PTPM_IS_TIME_SOURCE: TimeSource.of,
+    header.PTPM_IS_TIMESTAMPING: lambda text: int(text, 0) if text[0].isdigit() else text,
 }
 
 
-def _plain(text: str) -> Member:
-    """A flag, or a number in decimal or in hexadecimal."""
-    return text == "true" if text in ("true", "false") else int(text, 0)
+def _kind(number: int, octets: bytes, place: int) -> int:
+    """What the value of the member in the line of this place is."""
+    kind: int = library.ptpm_member_kind(number, octets, len(octets), place)
+    return kind
 
 
 def members(number: int, octets: bytes) -> Dict[str, Member]:
@@ -89,7 +83,9 @@ def members(number: int, octets: bytes) -> Dict[str, Member]:
     {'stepsRemoved': 1, 'offsetFromMaster': Decimal('-0.5'), 'meanDelay': Decimal('0.0000152587890625')}
     """
     pairs = _pairs(number, octets)
-    return {name: _READERS.get(name, _plain)(text) for name, text in pairs} if _has_members(pairs) else {}
+    if not _has_members(pairs):
+        return {}
+    return {name: _READERS[_kind(number, octets, place)](text) for place, (name, text) in enumerate(pairs)}
 
 
 def _is_shown(character: str) -> bool:
@@ -110,7 +106,10 @@ def _shown_text(octets: bytes) -> str:
 def lines(number: int, octets: bytes) -> List[str]:
     """A line for each member, its name and its value; or the dataField in hexadecimal."""
     pairs = _pairs(number, octets)
-    return [f"{name} {_shown_text(_text_octets(text)) if name in _TEXTS else text}" for name, text in pairs]
+    return [
+        f"{name} {_shown_text(_text_octets(text)) if _kind(number, octets, place) == header.PTPM_IS_TEXT else text}"
+        for place, (name, text) in enumerate(pairs)
+    ]
 
 
 def _names(number: int) -> List[str]:

@@ -27,6 +27,7 @@ pub type ptpm_reported = u32;
 pub type ptpm_saved = u32;
 pub type ptpm_restored = u32;
 pub type ptpm_parsed = u32;
+pub type ptpm_member_kind = u32;
 pub type ptpm_asker_restored = u32;
 pub type ptpm_asked = u32;
 pub type ptpm_asking = u32;
@@ -541,6 +542,7 @@ extern "C" {
     pub fn ptpm_identity_parse(text: *const c_char, size: usize, identity: *mut u8) -> bool;
     pub fn ptpm_port_identity_parse(text: *const c_char, size: usize, clock: *mut u8, port: *mut u16) -> bool;
     pub fn ptpm_field_text(id: u16, octets: *const u8, size: usize, text: *mut c_char, room: usize) -> usize;
+    pub fn ptpm_member_kind(id: u16, octets: *const u8, size: usize, place: usize) -> ptpm_member_kind;
     pub fn ptpm_field_parse(
         id: u16,
         words: *const c_char,

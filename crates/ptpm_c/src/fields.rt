@@ -3,6 +3,7 @@
 
 ghost use Rattle.std.specs.Prelude.{◌≡◌, ◌≢◌, ◌<◌, ◌≤◌, ℕ, [], Err, IfSome, IfNone, List, Result, Some, length, slice_get};
 ghost use Rattle.ptpm_c.specs.Fields.{IsReported};
+ghost use Rattle.ptpm_host.specs.MemberKinds.{member_kind};
 ghost use Rattle.ptpm_host.specs.Names.{no_id};
 ghost use Rattle.ptpm_host.specs.declared.refusal.ParseRefusal.{ParseRefusal};
 ghost use Rattle.ptpm_host.specs.declared.refusal.ParseRefusal.TheVariants.{NotWords};
@@ -15,7 +16,7 @@ ghost use Rattle.ptpm_members.specs.Tables.{fields_of_id};
 ghost use Rattle.ptpm_members.specs.Takes.{takes_text};
 
 use ptpm_data::row;
-use ptpm_host::{NO_ID, hand_out_lines, hand_out_takes, parse_field, parse_number};
+use ptpm_host::{NO_ID, hand_out_lines, hand_out_takes, member_kind, parse_field, parse_number};
 use ptpm_members::{Field, FieldText, Takes, fields, id_at};
 
 /// The managementId at this place of this profile's, which are in ascending order and counted from 0. 65,536, which is no id, past
@@ -81,6 +82,15 @@ pub extern "C" fn ptpm_field_parse(
             parse_number(refusal)
         }
     }
+}
+
+/// What the value is of the member in the line of this place of `ptpm_field_text`, from 0 on, as a number. 0 if there is no such
+/// member, or the octets are no dataField of the id.
+#[unsafe(no_mangle)]
+pub extern "C" fn ptpm_member_kind(id: u16, octets: &[u8], place: usize) -> u32
+    ensures { result ≡ member_kind id octets.now place }
+{
+    member_kind(id, octets, place)
 }
 
 /// Leaves in words what a SET takes for a member at the head of `text`, and answers how many octets they have. The member is the one

@@ -132,6 +132,19 @@ static void run_takes(char *words) {
     say_name(ptpm_field_takes(id, place, (char *)room, octets));
 }
 
+/* `kinds ID OCTETS`: what the value of each member of a dataField is. */
+static void run_kinds(char *words) {
+    static struct octets field;
+    uint16_t id = next_hex(&words);
+    enum ptpm_member_kind kind;
+    read_octets(&words, &field);
+    if (ptpm_member_kind(id, field.at, field.size, 0) == PTPM_NO_MEMBER) say("-");
+    for (size_t place = 0; (kind = ptpm_member_kind(id, field.at, field.size, place)) != PTPM_NO_MEMBER; place++) {
+        say("%s%d", place == 0 ? "" : " ", (int)kind);
+    }
+    say("\n");
+}
+
 /* `text ID OCTETS`: the members of a dataField. */
 static void run_text(char *words) {
     static struct octets field;
@@ -214,7 +227,7 @@ const struct command text_commands[] = {
     { "id", run_id }, { "id-of", run_id_of }, { "id-name", run_id_name }, { "answer-name", run_answer_name }, { "error-name", run_error_name },
     { "other-id", run_other_id }, { "other-id-name", run_other_id_name }, { "other-ids", run_other_ids },
     { "typed-id", run_typed_id }, { "number-named", run_number_named }, { "identity", run_identity },
-    { "port-identity", run_port_identity }, { "takes", run_takes },
+    { "port-identity", run_port_identity }, { "takes", run_takes }, { "kinds", run_kinds },
     { "ids", run_ids }, { "text", run_text }, { "parse", run_parse }, { "raw", run_raw }, { "first", run_first },
     { "first-of", run_first_of },
     { "bucket", run_bucket }, { "tokens", run_tokens }, { NULL, NULL },

@@ -376,6 +376,21 @@ pub const PTPM_OTHER_CLOCK: u32 = 108;
 pub const PTPM_OTHER_PORTS: u32 = 109;
 pub const PTPM_OTHER_SESSION: u32 = 110;
 
+// `enum ptpm_member_kind`.
+pub const PTPM_NO_MEMBER: u32 = 0;
+pub const PTPM_IS_NUMBER: u32 = 1;
+pub const PTPM_IS_FLAG: u32 = 2;
+pub const PTPM_IS_INTERVAL: u32 = 3;
+pub const PTPM_IS_CLOCK: u32 = 4;
+pub const PTPM_IS_PORT: u32 = 5;
+pub const PTPM_IS_CLOCKS: u32 = 6;
+pub const PTPM_IS_TEXT: u32 = 7;
+pub const PTPM_IS_OCTETS: u32 = 8;
+pub const PTPM_IS_PORT_STATE: u32 = 16;
+pub const PTPM_IS_DELAY_MECHANISM: u32 = 17;
+pub const PTPM_IS_TIME_SOURCE: u32 = 18;
+pub const PTPM_IS_TIMESTAMPING: u32 = 19;
+
 // `enum ptpm_parsed`.
 pub const PTPM_PARSED: u32 = 0;
 pub const PTPM_PARSE_NO_ROOM: u32 = 34;
