@@ -129,7 +129,9 @@ static void run_takes(char *words) {
     uint16_t id = next_hex(&words);
     size_t place = (size_t)next_number(&words, 0);
     clear_room();
-    say_name(ptpm_field_takes(id, place, (char *)room, octets));
+    size_t size = ptpm_field_takes(id, place, (char *)room, octets);
+    if (size == 0) clear_room();            /* without room anything may be there */
+    say_name(size);
 }
 
 /* `kinds ID OCTETS`: what the value of each member of a dataField is. */
