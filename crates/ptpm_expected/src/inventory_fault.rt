@@ -49,7 +49,7 @@ impl LineFault {
             LineFault::NoMember => "its third word is no member",
             LineFault::NotOfDomain => "a domain has 'grandmaster' and 'only' alone",
             LineFault::NotOfEach => "* has members alone",
-            LineFault::NoPort => "its third word has no port number, 1 to 65535, after 'port/'",
+            LineFault::NoPort => "its third word has no port number, 0 to 65535, after 'port/'",
             LineFault::OfPort => "the member is of a port, and 'port/N.' is not before it",
             LineFault::OfClock => "the member is not of a port, and 'port/N.' is before it",
             LineFault::NoValue => "it has no value that the member can have",

@@ -142,7 +142,7 @@ fn member_of(name: &str) -> Result<(Option<u16>, Member), LineFault> {
     match name.strip_prefix("port/") {
         Some(name) => {
             let (port, name) = name.split_once('.').ok_or(LineFault::NoPort)?;
-            let port = port_number(port)?;
+            let port = u16::from_str(port).map_err(|_| LineFault::NoPort)?;
             match port_member(name) {
                 Some(member) => Ok((Some(port), member)),
                 None if clock_member(name).is_some() => Err(LineFault::OfClock),
@@ -154,13 +154,6 @@ fn member_of(name: &str) -> Result<(Option<u16>, Member), LineFault> {
             None if port_member(name).is_some() => Err(LineFault::OfPort),
             None => Err(LineFault::NoMember),
         },
-    }
-}
-
-fn port_number(word: &str) -> Result<u16, LineFault> {
-    match u16::from_str(word) {
-        Ok(0) | Err(_) => Err(LineFault::NoPort),
-        Ok(port) => Ok(port),
     }
 }
 

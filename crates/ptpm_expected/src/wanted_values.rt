@@ -71,7 +71,20 @@ fn value_of_form(form: Form, text: &str) -> Option<Wanted> {
         Form::ClockIdentity => Some(Wanted::Value(MemberValue::Clock(clock_identity_of(text)?))),
         Form::PortIdentity => Some(Wanted::Value(MemberValue::Port(port_identity_of(text)?))),
         Form::Named(enumeration) => of_enumeration(enumeration, text),
-        _ => numbers(text),
+        _ => numbers(bounds_of(form), text),
+    }
+}
+
+/// The least number that a member of a form can have, and the greatest.
+fn bounds_of(form: Form) -> (i64, i64) {
+    match form {
+        Form::Unsigned(1) | Form::Hexadecimal(1) => (0, 0xff),
+        Form::Unsigned(2) | Form::Hexadecimal(2) => (0, 0xffff),
+        Form::Signed(1) => (i64::from(i8::MIN), i64::from(i8::MAX)),
+        Form::Signed(2) => (i64::from(i16::MIN), i64::from(i16::MAX)),
+        Form::Signed(4) => (i64::from(i32::MIN), i64::from(i32::MAX)),
+        Form::LowNibble => (0, 15),
+        _ => (i64::MIN, i64::MAX),
     }
 }
 
@@ -80,7 +93,7 @@ fn of_enumeration(enumeration: Enumeration, text: &str) -> Option<Wanted> {
     match number_of(enumeration, text) {
         Some(number) => Some(Wanted::Value(MemberValue::Named(enumeration, number))),
         None if text == "reserved" => Some(Wanted::Reserved),
-        None => numbers(text),
+        None => numbers((0, 0xff), text),
     }
 }
 
@@ -92,22 +105,27 @@ fn number_of(enumeration: Enumeration, text: &str) -> Option<u8> {
     }
 }
 
-/// `-1..1`, or a number.
-fn numbers(text: &str) -> Option<Wanted> {
+/// `-1..1`, or a number. `None` if the member can have none of these.
+fn numbers(bounds: (i64, i64), text: &str) -> Option<Wanted> {
     let (least, greatest) = match text.split_once("..") {
-        Some((least, greatest)) => (
-            i64::from_str(least.trim()).ok()?,
-            i64::from_str(greatest.trim()).ok()?,
-        ),
+        Some((least, greatest)) => (number(least.trim())?, number(greatest.trim())?),
         None => {
-            let number = i64::from_str(text).ok()?;
+            let number = number(text)?;
             (number, number)
         }
     };
-    if greatest < least {
+    if greatest < least || greatest < bounds.0 || bounds.1 < least {
         return None;
     }
     Some(Wanted::Range(least, greatest))
+}
+
+/// A number: in decimal, or in hexadecimal after `0x`.
+fn number(text: &str) -> Option<i64> {
+    match text.strip_prefix("0x") {
+        Some(digits) => i64::from_str_radix(digits, 16).ok(),
+        None => i64::from_str(text).ok(),
+    }
 }
 
 /// `class 6`, or `class 6 accuracy 0x21 variance 0x4e5d`.
