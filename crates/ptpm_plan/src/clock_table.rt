@@ -6,6 +6,7 @@ use crate::table_values::{domain_at, shaped, text_at};
 use crate::text::Text;
 use crate::wish::{ClockWishes, PortWishes, Target};
 use crate::wishes_table::{Owner, read_wishes};
+use ptpm_codec::ClockIdentity;
 use ptpm_members::clock_identity_of;
 use std::alloc::Global;
 use toml::{Table, Value};
@@ -42,8 +43,8 @@ fn read_target(alloc: Global, table: &Table, place: Place) -> Result<Target, Fil
     let description = text_at(table, "description", place)?;
     match (identity, description) {
         (Some(text), None) => match clock_identity_of(text) {
-            Some(identity) => Ok(Target::Identity(identity)),
-            None => Err(FileFault::at(
+            Some(identity) if identity != ClockIdentity::EVERY => Ok(Target::Identity(identity)),
+            _ => Err(FileFault::at(
                 place,
                 TableFault::Takes(
                     "identity",

@@ -2,14 +2,13 @@
 
 use crate::change::PlannedId;
 use ptpm_codec::PortIdentity;
-use ptpm_data::PortSetting;
 use std::fmt;
 
 /// What an operator is to know before a plan is applied. Changes are numbered from 1, in the order in which they are asked.
 #[derive(Clone, Copy)]
 pub enum Warning {
-    /// A clock with this project's agent refuses the value of this setting of a port.
-    Refused(PortIdentity, PlannedId, PortSetting),
+    /// A clock with this project's agent refuses the value of this member. The port is 0 for one of the clock.
+    Refused(PortIdentity, PlannedId),
     /// The best clock of a domain changes this often.
     BestClock(u8, usize),
     /// From a change on a port waits for less than two Announces, and may lose its master.
@@ -21,10 +20,17 @@ pub enum Warning {
 impl fmt::Display for Warning {
     fn fmt<W: fmt::Write>(&self, f: &mut fmt::Formatter<W>) -> fmt::Result {
         match self {
-            Warning::Refused(port, id, setting) => {
-                let name = id.name();
-                let range = setting.range();
-                write!(f, "{port} {name}: a clock of ptpm takes {range} alone")
+            Warning::Refused(port, id) => {
+                let (name, range) = (id.name(), Taken(*id));
+                if id.is_of_port() {
+                    write!(f, "{port} {name}: a clock of ptpm takes {range} alone")
+                } else {
+                    write!(
+                        f,
+                        "{} {name}: a clock of ptpm takes {range} alone",
+                        port.clock
+                    )
+                }
             }
             Warning::BestClock(domain, times) => {
                 write!(f, "domain {domain}: the best clock changes {times} times")
@@ -37,6 +43,24 @@ impl fmt::Display for Warning {
                 f,
                 "change {number}: no delay is measured on that link until its other end has the same mechanism"
             ),
+        }
+    }
+}
+
+/// What a clock with this project's agent takes for a member that it does not take every value of.
+#[derive(Clone, Copy)]
+struct Taken(PlannedId);
+
+impl fmt::Display for Taken {
+    fn fmt<W: fmt::Write>(&self, f: &mut fmt::Formatter<W>) -> fmt::Result {
+        match self.0 {
+            PlannedId::ClockAccuracy => f.write_str("0x17 to 0x31, or 0xfe"),
+            PlannedId::UtcProperties => f.write_str("leap61 or leap59"),
+            PlannedId::DelayMechanism => f.write_str("E2E, P2P or NO_MECHANISM"),
+            id => match id.setting() {
+                Some(setting) => write!(f, "{}", setting.range()),
+                None => Ok(()),
+            },
         }
     }
 }

@@ -2,7 +2,11 @@
 
 ghost use Rattle.std.specs.Prelude.{◌≡◌, ◌^◌, nat_lt, IfOk};
 ghost use Rattle.std.specs.List.{filter_map};
-ghost use Rattle.ptpm_plan.specs.Warnings.{below_doublings, refusal};
+ghost use Rattle.ptpm_data.specs.declared.management_id.Layout.TheVariants as layouts;
+ghost use Rattle.ptpm_data.specs.ManagementId.{set_of};
+ghost use Rattle.ptpm_data.specs.Refusals.{is_set_value};
+ghost use Rattle.ptpm_plan.specs.PlannedId.{setting_of};
+ghost use Rattle.ptpm_plan.specs.Warnings.{below_doublings, is_taken, is_taken_of_clock, refusal};
 
 use crate::best_clock::{BestClocks, best_clocks, first_octet};
 use crate::change::{Change, PlannedId};
@@ -39,15 +43,55 @@ fn refusals(alloc: Global, changes: &[Change]) -> Result<Vec<Warning>, AllocErro
 fn refusal(change: &Change) -> Option<Warning>
     ensures { result ≡ refusal change.now }
 {
-    let setting = change.id.setting()?;
-    if setting.allows(first_octet(&change.after)) {
+    if is_taken(change) {
         return None;
     }
     let port = PortIdentity {
         clock: change.clock,
         port: change.port,
     };
-    Some(Warning::Refused(port, change.id, setting))
+    Some(Warning::Refused(port, change.id))
+}
+
+fn is_taken(change: &Change) -> bool
+    ensures { result ≡ is_taken change.now (setting_of change.now.id) }
+{
+    match change.id.setting() {
+        Some(setting) => setting.allows(first_octet(&change.after)),
+        None => is_taken_of_clock(change.id, change.after.as_slice()),
+    }
+}
+
+/// Whether such a clock takes a dataField of an id of the clock.
+fn is_taken_of_clock(id: PlannedId, octets: &[u8]) -> bool
+    ensures { result ≡ is_taken_of_clock id octets.now }
+{
+    match id {
+        PlannedId::ClockAccuracy => is_clock_accuracy(octets),
+        PlannedId::UtcProperties => has_one_leap(octets),
+        _ => true,
+    }
+}
+
+#[tactic(auto, unfolding(ptpm_data::specs::Refusals::is_set_value, ptpm_data::specs::ManagementId::set_of))]
+fn is_clock_accuracy(octets: &[u8]) -> bool
+    ensures { result ≡ is_set_value (set_of layouts.ClockAccuracy) octets.now }
+{
+    match octets {
+        [octet, ..] => matches!(*octet, 0x17..=0x31 | 0xfe),
+        [] => false,
+    }
+}
+
+/// Whether at most one of leap61 and leap59 is set.
+#[tactic(auto, unfolding(ptpm_data::specs::Refusals::is_set_value, ptpm_data::specs::ManagementId::set_of))]
+fn has_one_leap(octets: &[u8]) -> bool
+    ensures { result ≡ is_set_value (set_of layouts.UtcProperties) octets.now }
+{
+    match octets {
+        [_, _, flags, ..] => !(*flags & 1 == 1 && *flags & 2 == 2),
+        _ => true,
+    }
 }
 
 /// Adds the domains whose best clock changes more than once.
