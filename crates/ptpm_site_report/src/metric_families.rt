@@ -137,7 +137,7 @@ impl OfPort {
     /// The number of a port, if it has one.
     pub(crate) fn amount(self, set: &PortDataSet) -> Option<Amount> {
         match self {
-            OfPort::State => Some(Amount::Number(set.state()?.number() as i64)),
+            OfPort::State => Some(Amount::Number(set.state as i64)),
             OfPort::LinkDelay if set.measures_link() => {
                 Some(Amount::Interval(set.mean_link_delay))
             }
