@@ -43,9 +43,10 @@ class Finding:
         return DomainIdentity(self.domain, self.sdo_id)
 
     def _value_text(self, name: str) -> str:
-        """A value as a line has it. A description is in quotes, as it is in a clock's line."""
+        """A value as a line has it. A description is in quotes, as it is in a clock's line. Some findings have it so."""
         is_description = name in _OF_MEMBER and self.values.get("member") == "userDescription"
-        return json.dumps(self.values[name]) if is_description else _text(self.values[name])
+        is_quoted = name in _TEXTS.get(self.name, ())
+        return json.dumps(self.values[name]) if is_description and not is_quoted else _text(self.values[name])
 
     def __str__(self) -> str:
         head = f"{self.domain_identity} {self.clock or _NO_CLOCK} {self.name}"

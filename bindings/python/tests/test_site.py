@@ -191,6 +191,11 @@ class Recorded(unittest.TestCase):
         self.assertIn("changed after=\"\\u001b[2J\\n\\u009b\" before=\"rack 1\" member=userDescription", str(site))
         self.assertTrue(str(site).replace("\n", "").isprintable())
 
+    def test_a_text_of_an_inventory_is_in_quotes_once(self) -> None:
+        told = {"member": "userDescription", "expected": '"rack 1"', "value": None}
+        finding = ptpm.Finding(0, None, "not_as_expected", told, "warning")
+        self.assertEqual(str(finding), '0 - not_as_expected member=userDescription expected="rack 1" value=-')
+
     def test_the_command_line(self) -> None:
         for name, status in (("a_chain", 0), ("b_two", 1)):
             words = [sys.executable, "-m", "ptpm", "site", "--lines", str(SITES / f"sites/{name}.lines")]
