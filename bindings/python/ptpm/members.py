@@ -4,7 +4,6 @@ from __future__ import annotations
 
 import ctypes
 import re
-import unicodedata
 from decimal import Decimal
 from typing import Callable, Dict, Iterable, List, Mapping, NoReturn, Sequence, Tuple, Union
 
@@ -88,13 +87,15 @@ def members(number: int, octets: bytes) -> Dict[str, Member]:
     return {name: _READERS[_kind(number, octets, place)](text) for place, (name, text) in enumerate(pairs)}
 
 
-def _is_shown(character: str) -> bool:
-    """Whether a character is no control, no filler, no unassigned one, and no backslash."""
-    return character == " " or (character != "\\" and unicodedata.category(character)[0] not in "CZ")
+# A backslash, and what controls a terminal, is not seen, or changes the direction of what follows it, as ptpm-manage has it.
+_HIDDEN = re.compile(
+    "[\\\\\0-\x1f\x7f-\x9f\xad\u034f\u061c\u115f\u1160\u17b4\u17b5\u180b-\u180f\u200b-\u200f\u2028-\u202e\u2060-\u206f\u2800"
+    "\u3164\ufe00-\ufe0f\ufeff\uffa0\ufff9-\ufffb\U000e0000-\U0010ffff]"
+)
 
 
 def _shown(text: str) -> str:
-    return "".join(c if _is_shown(c) else "".join(f"\\x{octet:02x}" for octet in c.encode()) for c in text)
+    return _HIDDEN.sub(lambda hidden: "".join(f"\\x{octet:02x}" for octet in hidden[0].encode()), text)
 
 
 def _shown_text(octets: bytes) -> str:

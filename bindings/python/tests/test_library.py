@@ -345,6 +345,12 @@ class Texts(unittest.TestCase):
         self.assertEqual(ptpm.members(ptpm.ManagementId.PRIORITY1, bytes(4)), {})
         self.assertEqual(str(ptpm.Report(ptpm.ManagementId.PRIORITY1, bytes(4))), "value 00000000")
 
+    def test_texts_are_shown_as_ptpm_manage_shows_them(self) -> None:
+        shown_as = {"\u3164\u2800": r"\xe3\x85\xa4\xe2\xa0\x80", "\xdb\xa0\ue000": "\xdb\xa0\ue000", "\\\x9b": r"\x5c\xc2\x9b"}
+        for text, shown in shown_as.items():
+            octets = ptpm.data_field(ptpm.ManagementId.USER_DESCRIPTION, text)
+            self.assertEqual(str(ptpm.Report(ptpm.ManagementId.USER_DESCRIPTION, octets)), f"userDescription {shown}")
+
     def test_members_of_ids_that_only_other_clocks_have(self) -> None:
         # A CLOCK_DESCRIPTION (15.5.3.1.2) with a text that is no UTF-8, an address of four octets and one of none.
         octets = bytes.fromhex("4000 0161 0004 0a000001 0001 0000 001b19 00 0262ff 00 00 001b19000100 00")
