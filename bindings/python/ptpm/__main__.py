@@ -12,7 +12,7 @@ from . import __version__
 from .answers import Error
 from .asking import NoAnswer
 from .identity import Identity, PortIdentity
-from .ids import Action, ManagementId, id_of
+from .ids import Action, ManagementId, id_name, id_of
 from .members import data_field, has_one_member, lines, parse, takes_no_value
 from .named_port import SESSION_PORTS, is_beyond_session
 from .nobody import ask_as_nobody, ask_in_no_session, nobody, refuse_nobody
@@ -33,7 +33,7 @@ def _number(least: int, most: int) -> Callable[[str], int]:
     """A number of the command line in its range."""
 
     def read(text: str) -> int:
-        number = int(text)
+        number = int(text) if re.fullmatch("[0-9]+", text) else -1
         if not least <= number <= most:
             raise argparse.ArgumentTypeError(f"it takes a number from {least} to {most}")
         return number
@@ -76,7 +76,7 @@ class Task:
 
     def __init__(self, words: argparse.Namespace) -> None:
         self.words = words
-        self.id = id_of(words.id)
+        self.id = self._read_id(words.id)
         self.target: Optional[Identity] = None
         self.port: int = words.port or 0
         if words.target is not None:
@@ -84,6 +84,14 @@ class Task:
         self.action = {"get": Action.GET, "set": Action.SET, "command": Action.COMMAND}.get(words.verb)
         self.data = self._data(words.value)
         self._judge()
+
+    def _read_id(self, text: str) -> int:
+        """Ids that only other clocks have are only read by their names."""
+        number = id_of(text)
+        is_number = id_name(number) == f"{number:04x}"
+        if self.words.verb in ("set", "command") and is_number and not re.fullmatch("(0[xX])?[0-9a-fA-F]{4}", text):
+            raise ValueError(f"{text}: it is only read by its name; {self.words.verb} takes {number:04x}")
+        return number
 
     def _read_target(self, text: str) -> None:
         try:

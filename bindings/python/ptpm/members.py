@@ -124,8 +124,16 @@ def _names(number: int) -> List[str]:
     return []
 
 
+_DATA_SETS = (
+    ManagementId.DEFAULT_DATA_SET, ManagementId.CURRENT_DATA_SET, ManagementId.PARENT_DATA_SET,
+    ManagementId.TIME_PROPERTIES_DATA_SET, ManagementId.PORT_DATA_SET,
+)
+
+
 def _refuse(number: int, words: Sequence[str], why: int, place: int) -> NoReturn:
     """Says what is wrong with words that are no dataField."""
+    if number in _DATA_SETS:
+        raise ValueError("the id can only be read")
     if why == header.PTPM_NO_VALUE:
         fault = "" if len(words) == 1 else f"{words[2 * place]} {words[2 * place + 1]}: "
         takes = text_by(library.ptpm_field_takes, number, place, room=header.PTPM_MOST_TAKES)

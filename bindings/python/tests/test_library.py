@@ -361,6 +361,8 @@ class Texts(unittest.TestCase):
         self.assertEqual(path, (ptpm.Identity.of("aabbccfffeddee01"), ptpm.Identity.of("0011223344556677")))
         with self.assertRaisesRegex(ValueError, "as octets"):
             ptpm.data_field(0x2013, 1)
+        with self.assertRaisesRegex(ValueError, "only be read"):
+            ptpm.data_field(ptpm.ManagementId.DEFAULT_DATA_SET, 1)
 
     def test_values_have_the_types_of_their_members(self) -> None:
         octets = bytes.fromhex("4142434445464748" "0001" "0a" "ff" "0000000000018000" "01" "03" "00" "02" "02" "12")
