@@ -664,7 +664,10 @@ fn with_request<'a>(alloc: Global, make: Command<'a>) -> Result<Command<'a>, All
         "NAME=VALUE",
         "In place of VALUE: a member of the dataField, in the order of `show --members`",
     );
-    with_either(make, member.action(ArgAction::Append), "VALUE")
+    let members = member
+        .allow_negative_numbers(true)
+        .action(ArgAction::Append);
+    with_either(make, members, "VALUE")
 }
 
 /// The command, with the options that are numbers after the others.
@@ -864,6 +867,7 @@ fn with_limits<'a>(alloc: Global, site: Command<'a>) -> Result<Command<'a>, Allo
         "S",
         "TAI is S seconds before UTC, 37 if it is not given",
     )
+    .allow_negative_numbers(true)
     .value_parser(value_parser!(i16));
     let site = with(site, tai_utc)?;
     let settle = option(
