@@ -25,21 +25,27 @@ u32 portable_ptpm_clock_start(address a0, address a1, address a2, u64 a3, addres
 void portable_ptpm_clock_stop(address a0);
 u64 portable_ptpm_error_name(u16 a0, address a1, u64 a2);
 u32 portable_ptpm_field_parse(u16 a0, address a1, u64 a2, address a3, u64 a4, address a5, address a6);
+u64 portable_ptpm_field_takes(u16 a0, u64 a1, address a2, u64 a3);
 u64 portable_ptpm_field_text(u16 a0, address a1, u64 a2, address a3, u64 a4);
 u32 portable_ptpm_id_at(u64 a0);
 u64 portable_ptpm_id_name(u16 a0, address a1, u64 a2);
 u32 portable_ptpm_id_named(address a0, u64 a1);
+u32 portable_ptpm_id_parse(address a0, u64 a1);
+u8 portable_ptpm_identity_parse(address a0, u64 a1, address a2);
 u32 portable_ptpm_image_seal_in(address a0, u64 a1, u64 a2, u64 a3, address a4);
 u32 portable_ptpm_image_unseal(address a0, u64 a1, address a2, address a3);
 void portable_ptpm_limit_range(address a0, u32 a1, u32 a2);
 u16 portable_ptpm_limits_say(address a0, u64 a1, address a2);
+u32 portable_ptpm_member_kind(u16 a0, address a1, u64 a2, u64 a3);
 u64 portable_ptpm_newest_image_in(address a0, u64 a1, u64 a2, address a3, address a4);
+u32 portable_ptpm_number_named(u32 a0, address a1, u64 a2);
 u32 portable_ptpm_other_id_at(u64 a0);
 u64 portable_ptpm_other_id_name(u16 a0, address a1, u64 a2);
 u32 portable_ptpm_other_id_named(address a0, u64 a1);
 u8 portable_ptpm_passed_on_is_first(address a0, address a1, u64 a2, u64 a3, u64 a4);
 u8 portable_ptpm_passed_on_is_first_of(u64 a0, address a1, u64 a2, address a3, u64 a4, u64 a5, u64 a6);
 void portable_ptpm_port_defaults(address a0);
+u8 portable_ptpm_port_identity_parse(address a0, u64 a1, address a2, address a3);
 void portable_ptpm_rate_start(address a0, u64 a1, u64 a2);
 u8 portable_ptpm_rate_take(address a0, u64 a1);
 u32 portable_ptpm_session_restore(address a0, address a1, address a2, u64 a3);
@@ -329,7 +335,8 @@ uint16_t ptpm_limits_say(const struct ptpm_limit *limits, size_t limit_count, co
 enum ptpm_set_here ptpm_clock_set(struct ptpm_clock *clock, uint8_t action, uint16_t id, uint16_t port, const uint8_t *octets, size_t size, struct ptpm_changed *changed, uint16_t *error) {
     fill();
     swap_ptpm_changed(changed);
-    u16 error_out = 0;
+    u16 error_out;
+    store16(ADDRESS(&error_out), *error);
     enum ptpm_set_here answer = (enum ptpm_set_here)portable_ptpm_clock_set(ADDRESS(clock), action, id, port, ADDRESS(octets), size, ADDRESS(changed), ADDRESS(&error_out));
     swap_ptpm_changed(changed);
     *error = load16(ADDRESS(&error_out));
@@ -514,7 +521,8 @@ uint64_t ptpm_session_issued(const struct ptpm_session *session) {
 enum ptpm_reported ptpm_session_report(const struct ptpm_session *session, uint8_t *octets, size_t room, size_t *size, uint16_t *error) {
     fill();
     u64 size_out = 0;
-    u16 error_out = 0;
+    u16 error_out;
+    store16(ADDRESS(&error_out), *error);
     enum ptpm_reported answer = (enum ptpm_reported)portable_ptpm_session_report(ADDRESS(session), ADDRESS(octets), room, ADDRESS(&size_out), ADDRESS(&error_out));
     *size = (size_t)load64(ADDRESS(&size_out));
     *error = load16(ADDRESS(&error_out));
@@ -568,7 +576,8 @@ enum ptpm_reported ptpm_survey_answer(const struct ptpm_survey *survey, size_t p
     fill();
     swap_ptpm_source(source);
     u64 size_out = 0;
-    u16 error_out = 0;
+    u16 error_out;
+    store16(ADDRESS(&error_out), *error);
     enum ptpm_reported answer = (enum ptpm_reported)portable_ptpm_survey_answer(ADDRESS(survey), place, ADDRESS(source), ADDRESS(octets), room, ADDRESS(&size_out), ADDRESS(&error_out));
     swap_ptpm_source(source);
     *size = (size_t)load64(ADDRESS(&size_out));
@@ -689,7 +698,8 @@ uint32_t ptpm_asker_earlier(const struct ptpm_asker *asker, uint8_t domain, uint
 enum ptpm_reported ptpm_asker_report(const struct ptpm_asker *asker, uint8_t *octets, size_t room, size_t *size, uint16_t *error) {
     fill();
     u64 size_out = 0;
-    u16 error_out = 0;
+    u16 error_out;
+    store16(ADDRESS(&error_out), *error);
     enum ptpm_reported answer = (enum ptpm_reported)portable_ptpm_asker_report(ADDRESS(asker), ADDRESS(octets), room, ADDRESS(&size_out), ADDRESS(&error_out));
     *size = (size_t)load64(ADDRESS(&size_out));
     *error = load16(ADDRESS(&error_out));
@@ -764,6 +774,11 @@ uint32_t ptpm_id_named(const char *name, size_t size) {
     return (uint32_t)portable_ptpm_id_named(ADDRESS(name), size);
 }
 
+uint32_t ptpm_id_parse(const char *text, size_t size) {
+    fill();
+    return (uint32_t)portable_ptpm_id_parse(ADDRESS(text), size);
+}
+
 uint32_t ptpm_id_at(size_t place) {
     fill();
     return (uint32_t)portable_ptpm_id_at(place);
@@ -799,9 +814,33 @@ size_t ptpm_error_name(uint16_t error, char *text, size_t room) {
     return (size_t)portable_ptpm_error_name(error, ADDRESS(text), room);
 }
 
+uint32_t ptpm_number_named(uint32_t names, const char *name, size_t size) {
+    fill();
+    return (uint32_t)portable_ptpm_number_named(names, ADDRESS(name), size);
+}
+
+bool ptpm_identity_parse(const char *text, size_t size, uint8_t identity[8]) {
+    fill();
+    return (bool)portable_ptpm_identity_parse(ADDRESS(text), size, ADDRESS(identity));
+}
+
+bool ptpm_port_identity_parse(const char *text, size_t size, uint8_t clock[8], uint16_t *port) {
+    fill();
+    u16 port_out;
+    store16(ADDRESS(&port_out), *port);
+    bool answer = (bool)portable_ptpm_port_identity_parse(ADDRESS(text), size, ADDRESS(clock), ADDRESS(&port_out));
+    *port = load16(ADDRESS(&port_out));
+    return answer;
+}
+
 size_t ptpm_field_text(uint16_t id, const uint8_t *octets, size_t size, char *text, size_t room) {
     fill();
     return (size_t)portable_ptpm_field_text(id, ADDRESS(octets), size, ADDRESS(text), room);
+}
+
+enum ptpm_member_kind ptpm_member_kind(uint16_t id, const uint8_t *octets, size_t size, size_t place) {
+    fill();
+    return (enum ptpm_member_kind)portable_ptpm_member_kind(id, ADDRESS(octets), size, place);
 }
 
 enum ptpm_parsed ptpm_field_parse(uint16_t id, const char *words, size_t size, uint8_t *octets, size_t room, size_t *count, size_t *member) {
@@ -812,4 +851,9 @@ enum ptpm_parsed ptpm_field_parse(uint16_t id, const char *words, size_t size, u
     *count = (size_t)load64(ADDRESS(&count_out));
     *member = (size_t)load64(ADDRESS(&member_out));
     return answer;
+}
+
+size_t ptpm_field_takes(uint16_t id, size_t place, char *text, size_t room) {
+    fill();
+    return (size_t)portable_ptpm_field_takes(id, place, ADDRESS(text), room);
 }

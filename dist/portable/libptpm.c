@@ -361,381 +361,416 @@ static const union { u8 octets[4]; u64 aligned; } octets_of_c167 = { { 116,114,1
 #define c168 (octets_of_c168.octets)
 static const union { u8 octets[5]; u64 aligned; } octets_of_c168 = { { 102,97,108,115,101 } };
 #define c169 (octets_of_c169.octets)
-static const union { u8 octets[12]; u64 aligned; } octets_of_c169 = { { 73,78,73,84,73,65,76,73,90,73,78,71 } };
+static const union { u8 octets[9]; u64 aligned; } octets_of_c169 = { { 1,2,3,4,5,6,7,8,9 } };
 #define c170 (octets_of_c170.octets)
-static const union { u8 octets[6]; u64 aligned; } octets_of_c170 = { { 70,65,85,76,84,89 } };
+static const union { u8 octets[5]; u64 aligned; } octets_of_c170 = { { 1,2,3,4,254 } };
 #define c171 (octets_of_c171.octets)
-static const union { u8 octets[8]; u64 aligned; } octets_of_c171 = { { 68,73,83,65,66,76,69,68 } };
+static const union { u8 octets[9]; u64 aligned; } octets_of_c171 = { { 16,32,48,57,64,80,96,144,160 } };
 #define c172 (octets_of_c172.octets)
-static const union { u8 octets[9]; u64 aligned; } octets_of_c172 = { { 76,73,83,84,69,78,73,78,71 } };
+static const union { u8 octets[12]; u64 aligned; } octets_of_c172 = { { 73,78,73,84,73,65,76,73,90,73,78,71 } };
 #define c173 (octets_of_c173.octets)
-static const union { u8 octets[10]; u64 aligned; } octets_of_c173 = { { 80,82,69,95,77,65,83,84,69,82 } };
+static const union { u8 octets[6]; u64 aligned; } octets_of_c173 = { { 70,65,85,76,84,89 } };
 #define c174 (octets_of_c174.octets)
-static const union { u8 octets[6]; u64 aligned; } octets_of_c174 = { { 77,65,83,84,69,82 } };
+static const union { u8 octets[8]; u64 aligned; } octets_of_c174 = { { 68,73,83,65,66,76,69,68 } };
 #define c175 (octets_of_c175.octets)
-static const union { u8 octets[7]; u64 aligned; } octets_of_c175 = { { 80,65,83,83,73,86,69 } };
+static const union { u8 octets[9]; u64 aligned; } octets_of_c175 = { { 76,73,83,84,69,78,73,78,71 } };
 #define c176 (octets_of_c176.octets)
-static const union { u8 octets[12]; u64 aligned; } octets_of_c176 = { { 85,78,67,65,76,73,66,82,65,84,69,68 } };
+static const union { u8 octets[10]; u64 aligned; } octets_of_c176 = { { 80,82,69,95,77,65,83,84,69,82 } };
 #define c177 (octets_of_c177.octets)
-static const union { u8 octets[5]; u64 aligned; } octets_of_c177 = { { 83,76,65,86,69 } };
+static const union { u8 octets[6]; u64 aligned; } octets_of_c177 = { { 77,65,83,84,69,82 } };
 #define c178 (octets_of_c178.octets)
-static const union { u8 octets[10]; u64 aligned; } octets_of_c178 = { { 67,79,77,77,79,78,95,80,50,80 } };
+static const union { u8 octets[7]; u64 aligned; } octets_of_c178 = { { 80,65,83,83,73,86,69 } };
 #define c179 (octets_of_c179.octets)
-static const union { u8 octets[7]; u64 aligned; } octets_of_c179 = { { 83,80,69,67,73,65,76 } };
+static const union { u8 octets[12]; u64 aligned; } octets_of_c179 = { { 85,78,67,65,76,73,66,82,65,84,69,68 } };
 #define c180 (octets_of_c180.octets)
-static const union { u8 octets[3]; u64 aligned; } octets_of_c180 = { { 69,50,69 } };
+static const union { u8 octets[5]; u64 aligned; } octets_of_c180 = { { 83,76,65,86,69 } };
 #define c181 (octets_of_c181.octets)
-static const union { u8 octets[3]; u64 aligned; } octets_of_c181 = { { 80,50,80 } };
+static const union { u8 octets[10]; u64 aligned; } octets_of_c181 = { { 67,79,77,77,79,78,95,80,50,80 } };
 #define c182 (octets_of_c182.octets)
-static const union { u8 octets[12]; u64 aligned; } octets_of_c182 = { { 78,79,95,77,69,67,72,65,78,73,83,77 } };
+static const union { u8 octets[7]; u64 aligned; } octets_of_c182 = { { 83,80,69,67,73,65,76 } };
 #define c183 (octets_of_c183.octets)
-static const union { u8 octets[12]; u64 aligned; } octets_of_c183 = { { 65,84,79,77,73,67,95,67,76,79,67,75 } };
+static const union { u8 octets[3]; u64 aligned; } octets_of_c183 = { { 69,50,69 } };
 #define c184 (octets_of_c184.octets)
-static const union { u8 octets[4]; u64 aligned; } octets_of_c184 = { { 71,78,83,83 } };
+static const union { u8 octets[3]; u64 aligned; } octets_of_c184 = { { 80,50,80 } };
 #define c185 (octets_of_c185.octets)
-static const union { u8 octets[17]; u64 aligned; } octets_of_c185 = { { 84,69,82,82,69,83,84,82,73,65,76,95,82,65,68,73,79 } };
+static const union { u8 octets[12]; u64 aligned; } octets_of_c185 = { { 78,79,95,77,69,67,72,65,78,73,83,77 } };
 #define c186 (octets_of_c186.octets)
-static const union { u8 octets[16]; u64 aligned; } octets_of_c186 = { { 83,69,82,73,65,76,95,84,73,77,69,95,67,79,68,69 } };
+static const union { u8 octets[12]; u64 aligned; } octets_of_c186 = { { 65,84,79,77,73,67,95,67,76,79,67,75 } };
 #define c187 (octets_of_c187.octets)
-static const union { u8 octets[3]; u64 aligned; } octets_of_c187 = { { 80,84,80 } };
+static const union { u8 octets[4]; u64 aligned; } octets_of_c187 = { { 71,78,83,83 } };
 #define c188 (octets_of_c188.octets)
-static const union { u8 octets[3]; u64 aligned; } octets_of_c188 = { { 78,84,80 } };
+static const union { u8 octets[17]; u64 aligned; } octets_of_c188 = { { 84,69,82,82,69,83,84,82,73,65,76,95,82,65,68,73,79 } };
 #define c189 (octets_of_c189.octets)
-static const union { u8 octets[8]; u64 aligned; } octets_of_c189 = { { 72,65,78,68,95,83,69,84 } };
+static const union { u8 octets[16]; u64 aligned; } octets_of_c189 = { { 83,69,82,73,65,76,95,84,73,77,69,95,67,79,68,69 } };
 #define c190 (octets_of_c190.octets)
-static const union { u8 octets[5]; u64 aligned; } octets_of_c190 = { { 79,84,72,69,82 } };
+static const union { u8 octets[3]; u64 aligned; } octets_of_c190 = { { 80,84,80 } };
 #define c191 (octets_of_c191.octets)
-static const union { u8 octets[19]; u64 aligned; } octets_of_c191 = { { 73,78,84,69,82,78,65,76,95,79,83,67,73,76,76,65,84,79,82 } };
+static const union { u8 octets[3]; u64 aligned; } octets_of_c191 = { { 78,84,80 } };
 #define c192 (octets_of_c192.octets)
-static const union { u8 octets[8]; u64 aligned; } octets_of_c192 = { { 83,79,70,84,87,65,82,69 } };
+static const union { u8 octets[8]; u64 aligned; } octets_of_c192 = { { 72,65,78,68,95,83,69,84 } };
 #define c193 (octets_of_c193.octets)
-static const union { u8 octets[8]; u64 aligned; } octets_of_c193 = { { 72,65,82,68,87,65,82,69 } };
+static const union { u8 octets[5]; u64 aligned; } octets_of_c193 = { { 79,84,72,69,82 } };
 #define c194 (octets_of_c194.octets)
-static const union { u8 octets[9]; u64 aligned; } octets_of_c194 = { { 76,69,71,65,67,89,95,72,87 } };
+static const union { u8 octets[19]; u64 aligned; } octets_of_c194 = { { 73,78,84,69,82,78,65,76,95,79,83,67,73,76,76,65,84,79,82 } };
 #define c195 (octets_of_c195.octets)
-static const union { u8 octets[7]; u64 aligned; } octets_of_c195 = { { 79,78,69,83,84,69,80 } };
+static const union { u8 octets[8]; u64 aligned; } octets_of_c195 = { { 83,79,70,84,87,65,82,69 } };
 #define c196 (octets_of_c196.octets)
-static const union { u8 octets[8]; u64 aligned; } octets_of_c196 = { { 80,50,80,49,83,84,69,80 } };
+static const union { u8 octets[8]; u64 aligned; } octets_of_c196 = { { 72,65,82,68,87,65,82,69 } };
 #define c197 (octets_of_c197.octets)
-static const union { u8 octets[11]; u64 aligned; } octets_of_c197 = { { 110,117,109,98,101,114,80,111,114,116,115 } };
+static const union { u8 octets[9]; u64 aligned; } octets_of_c197 = { { 76,69,71,65,67,89,95,72,87 } };
 #define c198 (octets_of_c198.octets)
-static const union { u8 octets[9]; u64 aligned; } octets_of_c198 = { { 115,108,97,118,101,79,110,108,121 } };
+static const union { u8 octets[7]; u64 aligned; } octets_of_c198 = { { 79,78,69,83,84,69,80 } };
 #define c199 (octets_of_c199.octets)
-static const union { u8 octets[12]; u64 aligned; } octets_of_c199 = { { 112,111,114,116,73,100,101,110,116,105,116,121 } };
+static const union { u8 octets[8]; u64 aligned; } octets_of_c199 = { { 80,50,80,49,83,84,69,80 } };
 #define c200 (octets_of_c200.octets)
-static const union { u8 octets[13]; u64 aligned; } octets_of_c200 = { { 118,101,114,115,105,111,110,78,117,109,98,101,114 } };
+static const union { u8 octets[11]; u64 aligned; } octets_of_c200 = { { 110,117,109,98,101,114,80,111,114,116,115 } };
 #define c201 (octets_of_c201.octets)
-static const union { u8 octets[13]; u64 aligned; } octets_of_c201 = { { 99,108,111,99,107,65,99,99,117,114,97,99,121 } };
+static const union { u8 octets[9]; u64 aligned; } octets_of_c201 = { { 115,108,97,118,101,79,110,108,121 } };
 #define c202 (octets_of_c202.octets)
-static const union { u8 octets[12]; u64 aligned; } octets_of_c202 = { { 99,108,111,99,107,81,117,97,108,105,116,121 } };
+static const union { u8 octets[12]; u64 aligned; } octets_of_c202 = { { 112,111,114,116,73,100,101,110,116,105,116,121 } };
 #define c203 (octets_of_c203.octets)
-static const union { u8 octets[23]; u64 aligned; } octets_of_c203 = { { 103,114,97,110,100,109,97,115,116,101,114,67,108,111,99,107,81,117,97,108,105,116,121 } };
+static const union { u8 octets[13]; u64 aligned; } octets_of_c203 = { { 118,101,114,115,105,111,110,78,117,109,98,101,114 } };
 #define c204 (octets_of_c204.octets)
-static const union { u8 octets[5]; u64 aligned; } octets_of_c204 = { { 115,100,111,73,100 } };
+static const union { u8 octets[13]; u64 aligned; } octets_of_c204 = { { 99,108,111,99,107,65,99,99,117,114,97,99,121 } };
 #define c205 (octets_of_c205.octets)
-static const union { u8 octets[9]; u64 aligned; } octets_of_c205 = { { 99,108,111,99,107,84,121,112,101 } };
+static const union { u8 octets[12]; u64 aligned; } octets_of_c205 = { { 99,108,111,99,107,81,117,97,108,105,116,121 } };
 #define c206 (octets_of_c206.octets)
-static const union { u8 octets[21]; u64 aligned; } octets_of_c206 = { { 112,104,121,115,105,99,97,108,76,97,121,101,114,80,114,111,116,111,99,111,108 } };
+static const union { u8 octets[23]; u64 aligned; } octets_of_c206 = { { 103,114,97,110,100,109,97,115,116,101,114,67,108,111,99,107,81,117,97,108,105,116,121 } };
 #define c207 (octets_of_c207.octets)
-static const union { u8 octets[15]; u64 aligned; } octets_of_c207 = { { 112,104,121,115,105,99,97,108,65,100,100,114,101,115,115 } };
+static const union { u8 octets[5]; u64 aligned; } octets_of_c207 = { { 115,100,111,73,100 } };
 #define c208 (octets_of_c208.octets)
-static const union { u8 octets[15]; u64 aligned; } octets_of_c208 = { { 110,101,116,119,111,114,107,80,114,111,116,111,99,111,108 } };
+static const union { u8 octets[9]; u64 aligned; } octets_of_c208 = { { 99,108,111,99,107,84,121,112,101 } };
 #define c209 (octets_of_c209.octets)
-static const union { u8 octets[12]; u64 aligned; } octets_of_c209 = { { 97,100,100,114,101,115,115,70,105,101,108,100 } };
+static const union { u8 octets[21]; u64 aligned; } octets_of_c209 = { { 112,104,121,115,105,99,97,108,76,97,121,101,114,80,114,111,116,111,99,111,108 } };
 #define c210 (octets_of_c210.octets)
-static const union { u8 octets[20]; u64 aligned; } octets_of_c210 = { { 109,97,110,117,102,97,99,116,117,114,101,114,73,100,101,110,116,105,116,121 } };
+static const union { u8 octets[15]; u64 aligned; } octets_of_c210 = { { 112,104,121,115,105,99,97,108,65,100,100,114,101,115,115 } };
 #define c211 (octets_of_c211.octets)
-static const union { u8 octets[18]; u64 aligned; } octets_of_c211 = { { 112,114,111,100,117,99,116,68,101,115,99,114,105,112,116,105,111,110 } };
+static const union { u8 octets[15]; u64 aligned; } octets_of_c211 = { { 110,101,116,119,111,114,107,80,114,111,116,111,99,111,108 } };
 #define c212 (octets_of_c212.octets)
-static const union { u8 octets[12]; u64 aligned; } octets_of_c212 = { { 114,101,118,105,115,105,111,110,68,97,116,97 } };
+static const union { u8 octets[12]; u64 aligned; } octets_of_c212 = { { 97,100,100,114,101,115,115,70,105,101,108,100 } };
 #define c213 (octets_of_c213.octets)
-static const union { u8 octets[15]; u64 aligned; } octets_of_c213 = { { 112,114,111,102,105,108,101,73,100,101,110,116,105,116,121 } };
+static const union { u8 octets[20]; u64 aligned; } octets_of_c213 = { { 109,97,110,117,102,97,99,116,117,114,101,114,73,100,101,110,116,105,116,121 } };
 #define c214 (octets_of_c214.octets)
-static const union { u8 octets[12]; u64 aligned; } octets_of_c214 = { { 115,101,99,111,110,100,115,70,105,101,108,100 } };
+static const union { u8 octets[18]; u64 aligned; } octets_of_c214 = { { 112,114,111,100,117,99,116,68,101,115,99,114,105,112,116,105,111,110 } };
 #define c215 (octets_of_c215.octets)
-static const union { u8 octets[16]; u64 aligned; } octets_of_c215 = { { 110,97,110,111,115,101,99,111,110,100,115,70,105,101,108,100 } };
+static const union { u8 octets[12]; u64 aligned; } octets_of_c215 = { { 114,101,118,105,115,105,111,110,68,97,116,97 } };
 #define c216 (octets_of_c216.octets)
-static const union { u8 octets[12]; u64 aligned; } octets_of_c216 = { { 112,97,116,104,83,101,113,117,101,110,99,101 } };
+static const union { u8 octets[15]; u64 aligned; } octets_of_c216 = { { 112,114,111,102,105,108,101,73,100,101,110,116,105,116,121 } };
 #define c217 (octets_of_c217.octets)
-static const union { u8 octets[13]; u64 aligned; } octets_of_c217 = { { 109,97,115,116,101,114,95,111,102,102,115,101,116 } };
+static const union { u8 octets[12]; u64 aligned; } octets_of_c217 = { { 115,101,99,111,110,100,115,70,105,101,108,100 } };
 #define c218 (octets_of_c218.octets)
-static const union { u8 octets[12]; u64 aligned; } octets_of_c218 = { { 105,110,103,114,101,115,115,95,116,105,109,101 } };
+static const union { u8 octets[16]; u64 aligned; } octets_of_c218 = { { 110,97,110,111,115,101,99,111,110,100,115,70,105,101,108,100 } };
 #define c219 (octets_of_c219.octets)
-static const union { u8 octets[26]; u64 aligned; } octets_of_c219 = { { 99,117,109,117,108,97,116,105,118,101,83,99,97,108,101,100,82,97,116,101,79,102,102,115,101,116 } };
+static const union { u8 octets[12]; u64 aligned; } octets_of_c219 = { { 112,97,116,104,83,101,113,117,101,110,99,101 } };
 #define c220 (octets_of_c220.octets)
-static const union { u8 octets[23]; u64 aligned; } octets_of_c220 = { { 115,99,97,108,101,100,76,97,115,116,71,109,80,104,97,115,101,67,104,97,110,103,101 } };
+static const union { u8 octets[13]; u64 aligned; } octets_of_c220 = { { 109,97,115,116,101,114,95,111,102,102,115,101,116 } };
 #define c221 (octets_of_c221.octets)
-static const union { u8 octets[19]; u64 aligned; } octets_of_c221 = { { 103,109,84,105,109,101,66,97,115,101,73,110,100,105,99,97,116,111,114 } };
+static const union { u8 octets[12]; u64 aligned; } octets_of_c221 = { { 105,110,103,114,101,115,115,95,116,105,109,101 } };
 #define c222 (octets_of_c222.octets)
-static const union { u8 octets[17]; u64 aligned; } octets_of_c222 = { { 108,97,115,116,71,109,80,104,97,115,101,67,104,97,110,103,101 } };
+static const union { u8 octets[26]; u64 aligned; } octets_of_c222 = { { 99,117,109,117,108,97,116,105,118,101,83,99,97,108,101,100,82,97,116,101,79,102,102,115,101,116 } };
 #define c223 (octets_of_c223.octets)
-static const union { u8 octets[9]; u64 aligned; } octets_of_c223 = { { 103,109,80,114,101,115,101,110,116 } };
+static const union { u8 octets[23]; u64 aligned; } octets_of_c223 = { { 115,99,97,108,101,100,76,97,115,116,71,109,80,104,97,115,101,67,104,97,110,103,101 } };
 #define c224 (octets_of_c224.octets)
-static const union { u8 octets[10]; u64 aligned; } octets_of_c224 = { { 103,109,73,100,101,110,116,105,116,121 } };
+static const union { u8 octets[19]; u64 aligned; } octets_of_c224 = { { 103,109,84,105,109,101,66,97,115,101,73,110,100,105,99,97,116,111,114 } };
 #define c225 (octets_of_c225.octets)
-static const union { u8 octets[23]; u64 aligned; } octets_of_c225 = { { 110,101,105,103,104,98,111,114,80,114,111,112,68,101,108,97,121,84,104,114,101,115,104 } };
+static const union { u8 octets[17]; u64 aligned; } octets_of_c225 = { { 108,97,115,116,71,109,80,104,97,115,101,67,104,97,110,103,101 } };
 #define c226 (octets_of_c226.octets)
-static const union { u8 octets[9]; u64 aligned; } octets_of_c226 = { { 97,115,67,97,112,97,98,108,101 } };
+static const union { u8 octets[9]; u64 aligned; } octets_of_c226 = { { 103,109,80,114,101,115,101,110,116 } };
 #define c227 (octets_of_c227.octets)
-static const union { u8 octets[12]; u64 aligned; } octets_of_c227 = { { 116,105,109,101,115,116,97,109,112,105,110,103 } };
+static const union { u8 octets[10]; u64 aligned; } octets_of_c227 = { { 103,109,73,100,101,110,116,105,116,121 } };
 #define c228 (octets_of_c228.octets)
-static const union { u8 octets[9]; u64 aligned; } octets_of_c228 = { { 105,110,116,101,114,102,97,99,101 } };
+static const union { u8 octets[23]; u64 aligned; } octets_of_c228 = { { 110,101,105,103,104,98,111,114,80,114,111,112,68,101,108,97,121,84,104,114,101,115,104 } };
 #define c229 (octets_of_c229.octets)
-static const union { u8 octets[7]; u64 aligned; } octets_of_c229 = { { 114,120,95,83,121,110,99 } };
+static const union { u8 octets[9]; u64 aligned; } octets_of_c229 = { { 97,115,67,97,112,97,98,108,101 } };
 #define c230 (octets_of_c230.octets)
-static const union { u8 octets[12]; u64 aligned; } octets_of_c230 = { { 114,120,95,68,101,108,97,121,95,82,101,113 } };
+static const union { u8 octets[12]; u64 aligned; } octets_of_c230 = { { 116,105,109,101,115,116,97,109,112,105,110,103 } };
 #define c231 (octets_of_c231.octets)
-static const union { u8 octets[13]; u64 aligned; } octets_of_c231 = { { 114,120,95,80,100,101,108,97,121,95,82,101,113 } };
+static const union { u8 octets[9]; u64 aligned; } octets_of_c231 = { { 105,110,116,101,114,102,97,99,101 } };
 #define c232 (octets_of_c232.octets)
-static const union { u8 octets[14]; u64 aligned; } octets_of_c232 = { { 114,120,95,80,100,101,108,97,121,95,82,101,115,112 } };
+static const union { u8 octets[7]; u64 aligned; } octets_of_c232 = { { 114,120,95,83,121,110,99 } };
 #define c233 (octets_of_c233.octets)
-static const union { u8 octets[12]; u64 aligned; } octets_of_c233 = { { 114,120,95,70,111,108,108,111,119,95,85,112 } };
+static const union { u8 octets[12]; u64 aligned; } octets_of_c233 = { { 114,120,95,68,101,108,97,121,95,82,101,113 } };
 #define c234 (octets_of_c234.octets)
-static const union { u8 octets[13]; u64 aligned; } octets_of_c234 = { { 114,120,95,68,101,108,97,121,95,82,101,115,112 } };
+static const union { u8 octets[13]; u64 aligned; } octets_of_c234 = { { 114,120,95,80,100,101,108,97,121,95,82,101,113 } };
 #define c235 (octets_of_c235.octets)
-static const union { u8 octets[24]; u64 aligned; } octets_of_c235 = { { 114,120,95,80,100,101,108,97,121,95,82,101,115,112,95,70,111,108,108,111,119,95,85,112 } };
+static const union { u8 octets[14]; u64 aligned; } octets_of_c235 = { { 114,120,95,80,100,101,108,97,121,95,82,101,115,112 } };
 #define c236 (octets_of_c236.octets)
-static const union { u8 octets[11]; u64 aligned; } octets_of_c236 = { { 114,120,95,65,110,110,111,117,110,99,101 } };
+static const union { u8 octets[12]; u64 aligned; } octets_of_c236 = { { 114,120,95,70,111,108,108,111,119,95,85,112 } };
 #define c237 (octets_of_c237.octets)
-static const union { u8 octets[12]; u64 aligned; } octets_of_c237 = { { 114,120,95,83,105,103,110,97,108,105,110,103 } };
+static const union { u8 octets[13]; u64 aligned; } octets_of_c237 = { { 114,120,95,68,101,108,97,121,95,82,101,115,112 } };
 #define c238 (octets_of_c238.octets)
-static const union { u8 octets[13]; u64 aligned; } octets_of_c238 = { { 114,120,95,77,97,110,97,103,101,109,101,110,116 } };
+static const union { u8 octets[24]; u64 aligned; } octets_of_c238 = { { 114,120,95,80,100,101,108,97,121,95,82,101,115,112,95,70,111,108,108,111,119,95,85,112 } };
 #define c239 (octets_of_c239.octets)
-static const union { u8 octets[7]; u64 aligned; } octets_of_c239 = { { 116,120,95,83,121,110,99 } };
+static const union { u8 octets[11]; u64 aligned; } octets_of_c239 = { { 114,120,95,65,110,110,111,117,110,99,101 } };
 #define c240 (octets_of_c240.octets)
-static const union { u8 octets[12]; u64 aligned; } octets_of_c240 = { { 116,120,95,68,101,108,97,121,95,82,101,113 } };
+static const union { u8 octets[12]; u64 aligned; } octets_of_c240 = { { 114,120,95,83,105,103,110,97,108,105,110,103 } };
 #define c241 (octets_of_c241.octets)
-static const union { u8 octets[13]; u64 aligned; } octets_of_c241 = { { 116,120,95,80,100,101,108,97,121,95,82,101,113 } };
+static const union { u8 octets[13]; u64 aligned; } octets_of_c241 = { { 114,120,95,77,97,110,97,103,101,109,101,110,116 } };
 #define c242 (octets_of_c242.octets)
-static const union { u8 octets[14]; u64 aligned; } octets_of_c242 = { { 116,120,95,80,100,101,108,97,121,95,82,101,115,112 } };
+static const union { u8 octets[7]; u64 aligned; } octets_of_c242 = { { 116,120,95,83,121,110,99 } };
 #define c243 (octets_of_c243.octets)
-static const union { u8 octets[12]; u64 aligned; } octets_of_c243 = { { 116,120,95,70,111,108,108,111,119,95,85,112 } };
+static const union { u8 octets[12]; u64 aligned; } octets_of_c243 = { { 116,120,95,68,101,108,97,121,95,82,101,113 } };
 #define c244 (octets_of_c244.octets)
-static const union { u8 octets[13]; u64 aligned; } octets_of_c244 = { { 116,120,95,68,101,108,97,121,95,82,101,115,112 } };
+static const union { u8 octets[13]; u64 aligned; } octets_of_c244 = { { 116,120,95,80,100,101,108,97,121,95,82,101,113 } };
 #define c245 (octets_of_c245.octets)
-static const union { u8 octets[24]; u64 aligned; } octets_of_c245 = { { 116,120,95,80,100,101,108,97,121,95,82,101,115,112,95,70,111,108,108,111,119,95,85,112 } };
+static const union { u8 octets[14]; u64 aligned; } octets_of_c245 = { { 116,120,95,80,100,101,108,97,121,95,82,101,115,112 } };
 #define c246 (octets_of_c246.octets)
-static const union { u8 octets[11]; u64 aligned; } octets_of_c246 = { { 116,120,95,65,110,110,111,117,110,99,101 } };
+static const union { u8 octets[12]; u64 aligned; } octets_of_c246 = { { 116,120,95,70,111,108,108,111,119,95,85,112 } };
 #define c247 (octets_of_c247.octets)
-static const union { u8 octets[12]; u64 aligned; } octets_of_c247 = { { 116,120,95,83,105,103,110,97,108,105,110,103 } };
+static const union { u8 octets[13]; u64 aligned; } octets_of_c247 = { { 116,120,95,68,101,108,97,121,95,82,101,115,112 } };
 #define c248 (octets_of_c248.octets)
-static const union { u8 octets[13]; u64 aligned; } octets_of_c248 = { { 116,120,95,77,97,110,97,103,101,109,101,110,116 } };
+static const union { u8 octets[24]; u64 aligned; } octets_of_c248 = { { 116,120,95,80,100,101,108,97,121,95,82,101,115,112,95,70,111,108,108,111,119,95,85,112 } };
 #define c249 (octets_of_c249.octets)
-static const union { u8 octets[13]; u64 aligned; } octets_of_c249 = { { 99,108,111,99,107,73,100,101,110,116,105,116,121 } };
+static const union { u8 octets[11]; u64 aligned; } octets_of_c249 = { { 116,120,95,65,110,110,111,117,110,99,101 } };
 #define c250 (octets_of_c250.octets)
-static const union { u8 octets[12]; u64 aligned; } octets_of_c250 = { { 100,111,109,97,105,110,78,117,109,98,101,114 } };
+static const union { u8 octets[12]; u64 aligned; } octets_of_c250 = { { 116,120,95,83,105,103,110,97,108,105,110,103 } };
 #define c251 (octets_of_c251.octets)
-static const union { u8 octets[15]; u64 aligned; } octets_of_c251 = { { 117,115,101,114,68,101,115,99,114,105,112,116,105,111,110 } };
+static const union { u8 octets[13]; u64 aligned; } octets_of_c251 = { { 116,120,95,77,97,110,97,103,101,109,101,110,116 } };
 #define c252 (octets_of_c252.octets)
-static const union { u8 octets[11]; u64 aligned; } octets_of_c252 = { { 116,119,111,83,116,101,112,70,108,97,103 } };
+static const union { u8 octets[13]; u64 aligned; } octets_of_c252 = { { 99,108,111,99,107,73,100,101,110,116,105,116,121 } };
 #define c253 (octets_of_c253.octets)
-static const union { u8 octets[9]; u64 aligned; } octets_of_c253 = { { 112,114,105,111,114,105,116,121,49 } };
+static const union { u8 octets[12]; u64 aligned; } octets_of_c253 = { { 100,111,109,97,105,110,78,117,109,98,101,114 } };
 #define c254 (octets_of_c254.octets)
-static const union { u8 octets[23]; u64 aligned; } octets_of_c254 = { { 99,108,111,99,107,81,117,97,108,105,116,121,46,99,108,111,99,107,67,108,97,115,115 } };
+static const union { u8 octets[15]; u64 aligned; } octets_of_c254 = { { 117,115,101,114,68,101,115,99,114,105,112,116,105,111,110 } };
 #define c255 (octets_of_c255.octets)
-static const union { u8 octets[26]; u64 aligned; } octets_of_c255 = { { 99,108,111,99,107,81,117,97,108,105,116,121,46,99,108,111,99,107,65,99,99,117,114,97,99,121 } };
+static const union { u8 octets[11]; u64 aligned; } octets_of_c255 = { { 116,119,111,83,116,101,112,70,108,97,103 } };
 #define c256 (octets_of_c256.octets)
-static const union { u8 octets[36]; u64 aligned; } octets_of_c256 = { { 99,108,111,99,107,81,117,97,108,105,116,121,46,111,102,102,115,101,116,83,99,97,108,101,100,76,111,103,86,97,114,105,97,110,99,101 } };
+static const union { u8 octets[9]; u64 aligned; } octets_of_c256 = { { 112,114,105,111,114,105,116,121,49 } };
 #define c257 (octets_of_c257.octets)
-static const union { u8 octets[9]; u64 aligned; } octets_of_c257 = { { 112,114,105,111,114,105,116,121,50 } };
+static const union { u8 octets[23]; u64 aligned; } octets_of_c257 = { { 99,108,111,99,107,81,117,97,108,105,116,121,46,99,108,111,99,107,67,108,97,115,115 } };
 #define c258 (octets_of_c258.octets)
-static const union { u8 octets[12]; u64 aligned; } octets_of_c258 = { { 115,116,101,112,115,82,101,109,111,118,101,100 } };
+static const union { u8 octets[26]; u64 aligned; } octets_of_c258 = { { 99,108,111,99,107,81,117,97,108,105,116,121,46,99,108,111,99,107,65,99,99,117,114,97,99,121 } };
 #define c259 (octets_of_c259.octets)
-static const union { u8 octets[16]; u64 aligned; } octets_of_c259 = { { 111,102,102,115,101,116,70,114,111,109,77,97,115,116,101,114 } };
+static const union { u8 octets[36]; u64 aligned; } octets_of_c259 = { { 99,108,111,99,107,81,117,97,108,105,116,121,46,111,102,102,115,101,116,83,99,97,108,101,100,76,111,103,86,97,114,105,97,110,99,101 } };
 #define c260 (octets_of_c260.octets)
-static const union { u8 octets[9]; u64 aligned; } octets_of_c260 = { { 109,101,97,110,68,101,108,97,121 } };
+static const union { u8 octets[9]; u64 aligned; } octets_of_c260 = { { 112,114,105,111,114,105,116,121,50 } };
 #define c261 (octets_of_c261.octets)
-static const union { u8 octets[18]; u64 aligned; } octets_of_c261 = { { 112,97,114,101,110,116,80,111,114,116,73,100,101,110,116,105,116,121 } };
+static const union { u8 octets[12]; u64 aligned; } octets_of_c261 = { { 115,116,101,112,115,82,101,109,111,118,101,100 } };
 #define c262 (octets_of_c262.octets)
-static const union { u8 octets[11]; u64 aligned; } octets_of_c262 = { { 112,97,114,101,110,116,83,116,97,116,115 } };
+static const union { u8 octets[16]; u64 aligned; } octets_of_c262 = { { 111,102,102,115,101,116,70,114,111,109,77,97,115,116,101,114 } };
 #define c263 (octets_of_c263.octets)
-static const union { u8 octets[37]; u64 aligned; } octets_of_c263 = { { 111,98,115,101,114,118,101,100,80,97,114,101,110,116,79,102,102,115,101,116,83,99,97,108,101,100,76,111,103,86,97,114,105,97,110,99,101 } };
+static const union { u8 octets[9]; u64 aligned; } octets_of_c263 = { { 109,101,97,110,68,101,108,97,121 } };
 #define c264 (octets_of_c264.octets)
-static const union { u8 octets[34]; u64 aligned; } octets_of_c264 = { { 111,98,115,101,114,118,101,100,80,97,114,101,110,116,67,108,111,99,107,80,104,97,115,101,67,104,97,110,103,101,82,97,116,101 } };
+static const union { u8 octets[18]; u64 aligned; } octets_of_c264 = { { 112,97,114,101,110,116,80,111,114,116,73,100,101,110,116,105,116,121 } };
 #define c265 (octets_of_c265.octets)
-static const union { u8 octets[20]; u64 aligned; } octets_of_c265 = { { 103,114,97,110,100,109,97,115,116,101,114,80,114,105,111,114,105,116,121,49 } };
+static const union { u8 octets[11]; u64 aligned; } octets_of_c265 = { { 112,97,114,101,110,116,83,116,97,116,115 } };
 #define c266 (octets_of_c266.octets)
-static const union { u8 octets[34]; u64 aligned; } octets_of_c266 = { { 103,114,97,110,100,109,97,115,116,101,114,67,108,111,99,107,81,117,97,108,105,116,121,46,99,108,111,99,107,67,108,97,115,115 } };
+static const union { u8 octets[37]; u64 aligned; } octets_of_c266 = { { 111,98,115,101,114,118,101,100,80,97,114,101,110,116,79,102,102,115,101,116,83,99,97,108,101,100,76,111,103,86,97,114,105,97,110,99,101 } };
 #define c267 (octets_of_c267.octets)
-static const union { u8 octets[37]; u64 aligned; } octets_of_c267 = { { 103,114,97,110,100,109,97,115,116,101,114,67,108,111,99,107,81,117,97,108,105,116,121,46,99,108,111,99,107,65,99,99,117,114,97,99,121 } };
+static const union { u8 octets[34]; u64 aligned; } octets_of_c267 = { { 111,98,115,101,114,118,101,100,80,97,114,101,110,116,67,108,111,99,107,80,104,97,115,101,67,104,97,110,103,101,82,97,116,101 } };
 #define c268 (octets_of_c268.octets)
-static const union { u8 octets[47]; u64 aligned; } octets_of_c268 = { { 103,114,97,110,100,109,97,115,116,101,114,67,108,111,99,107,81,117,97,108,105,116,121,46,111,102,102,115,101,116,83,99,97,108,101,100,76,111,103,86,97,114,105,97,110,99,101 } };
+static const union { u8 octets[20]; u64 aligned; } octets_of_c268 = { { 103,114,97,110,100,109,97,115,116,101,114,80,114,105,111,114,105,116,121,49 } };
 #define c269 (octets_of_c269.octets)
-static const union { u8 octets[20]; u64 aligned; } octets_of_c269 = { { 103,114,97,110,100,109,97,115,116,101,114,80,114,105,111,114,105,116,121,50 } };
+static const union { u8 octets[34]; u64 aligned; } octets_of_c269 = { { 103,114,97,110,100,109,97,115,116,101,114,67,108,111,99,107,81,117,97,108,105,116,121,46,99,108,111,99,107,67,108,97,115,115 } };
 #define c270 (octets_of_c270.octets)
-static const union { u8 octets[19]; u64 aligned; } octets_of_c270 = { { 103,114,97,110,100,109,97,115,116,101,114,73,100,101,110,116,105,116,121 } };
+static const union { u8 octets[37]; u64 aligned; } octets_of_c270 = { { 103,114,97,110,100,109,97,115,116,101,114,67,108,111,99,107,81,117,97,108,105,116,121,46,99,108,111,99,107,65,99,99,117,114,97,99,121 } };
 #define c271 (octets_of_c271.octets)
-static const union { u8 octets[16]; u64 aligned; } octets_of_c271 = { { 99,117,114,114,101,110,116,85,116,99,79,102,102,115,101,116 } };
+static const union { u8 octets[47]; u64 aligned; } octets_of_c271 = { { 103,114,97,110,100,109,97,115,116,101,114,67,108,111,99,107,81,117,97,108,105,116,121,46,111,102,102,115,101,116,83,99,97,108,101,100,76,111,103,86,97,114,105,97,110,99,101 } };
 #define c272 (octets_of_c272.octets)
-static const union { u8 octets[6]; u64 aligned; } octets_of_c272 = { { 108,101,97,112,54,49 } };
+static const union { u8 octets[20]; u64 aligned; } octets_of_c272 = { { 103,114,97,110,100,109,97,115,116,101,114,80,114,105,111,114,105,116,121,50 } };
 #define c273 (octets_of_c273.octets)
-static const union { u8 octets[6]; u64 aligned; } octets_of_c273 = { { 108,101,97,112,53,57 } };
+static const union { u8 octets[19]; u64 aligned; } octets_of_c273 = { { 103,114,97,110,100,109,97,115,116,101,114,73,100,101,110,116,105,116,121 } };
 #define c274 (octets_of_c274.octets)
-static const union { u8 octets[21]; u64 aligned; } octets_of_c274 = { { 99,117,114,114,101,110,116,85,116,99,79,102,102,115,101,116,86,97,108,105,100 } };
+static const union { u8 octets[16]; u64 aligned; } octets_of_c274 = { { 99,117,114,114,101,110,116,85,116,99,79,102,102,115,101,116 } };
 #define c275 (octets_of_c275.octets)
-static const union { u8 octets[12]; u64 aligned; } octets_of_c275 = { { 112,116,112,84,105,109,101,115,99,97,108,101 } };
+static const union { u8 octets[6]; u64 aligned; } octets_of_c275 = { { 108,101,97,112,54,49 } };
 #define c276 (octets_of_c276.octets)
-static const union { u8 octets[13]; u64 aligned; } octets_of_c276 = { { 116,105,109,101,84,114,97,99,101,97,98,108,101 } };
+static const union { u8 octets[6]; u64 aligned; } octets_of_c276 = { { 108,101,97,112,53,57 } };
 #define c277 (octets_of_c277.octets)
-static const union { u8 octets[18]; u64 aligned; } octets_of_c277 = { { 102,114,101,113,117,101,110,99,121,84,114,97,99,101,97,98,108,101 } };
+static const union { u8 octets[21]; u64 aligned; } octets_of_c277 = { { 99,117,114,114,101,110,116,85,116,99,79,102,102,115,101,116,86,97,108,105,100 } };
 #define c278 (octets_of_c278.octets)
-static const union { u8 octets[10]; u64 aligned; } octets_of_c278 = { { 116,105,109,101,83,111,117,114,99,101 } };
+static const union { u8 octets[12]; u64 aligned; } octets_of_c278 = { { 112,116,112,84,105,109,101,115,99,97,108,101 } };
 #define c279 (octets_of_c279.octets)
-static const union { u8 octets[9]; u64 aligned; } octets_of_c279 = { { 112,111,114,116,83,116,97,116,101 } };
+static const union { u8 octets[13]; u64 aligned; } octets_of_c279 = { { 116,105,109,101,84,114,97,99,101,97,98,108,101 } };
 #define c280 (octets_of_c280.octets)
-static const union { u8 octets[22]; u64 aligned; } octets_of_c280 = { { 108,111,103,77,105,110,68,101,108,97,121,82,101,113,73,110,116,101,114,118,97,108 } };
+static const union { u8 octets[18]; u64 aligned; } octets_of_c280 = { { 102,114,101,113,117,101,110,99,121,84,114,97,99,101,97,98,108,101 } };
 #define c281 (octets_of_c281.octets)
-static const union { u8 octets[13]; u64 aligned; } octets_of_c281 = { { 109,101,97,110,76,105,110,107,68,101,108,97,121 } };
+static const union { u8 octets[10]; u64 aligned; } octets_of_c281 = { { 116,105,109,101,83,111,117,114,99,101 } };
 #define c282 (octets_of_c282.octets)
-static const union { u8 octets[60]; u64 aligned; } octets_of_c282 = { { 9,0,0,0,1,2,10,0,0,0,14,0,11,0,0,0,14,1,12,0,0,0,14,2,13,0,0,0,14,3,14,0,0,0,14,4,15,0,0,0,14,5,16,0,0,0,14,6,0,2,0,0,14,7,17,0,0,0,14,8 } };
+static const union { u8 octets[9]; u64 aligned; } octets_of_c282 = { { 112,111,114,116,83,116,97,116,101 } };
 #define c283 (octets_of_c283.octets)
-static const union { u8 octets[12]; u64 aligned; } octets_of_c283 = { { 18,0,0,0,0,6,19,0,0,6,0,4 } };
+static const union { u8 octets[22]; u64 aligned; } octets_of_c283 = { { 108,111,103,77,105,110,68,101,108,97,121,82,101,113,73,110,116,101,114,118,97,108 } };
 #define c284 (octets_of_c284.octets)
-static const union { u8 octets[12]; u64 aligned; } octets_of_c284 = { { 0,27,0,0,3,16,0,28,0,0,3,32 } };
+static const union { u8 octets[13]; u64 aligned; } octets_of_c284 = { { 109,101,97,110,76,105,110,107,68,101,108,97,121 } };
 #define c285 (octets_of_c285.octets)
-static const union { u8 octets[12]; u64 aligned; } octets_of_c285 = { { 0,26,0,0,3,8,0,29,0,1,9,2 } };
+static const union { u8 octets[26]; u64 aligned; } octets_of_c285 = { { 32,111,114,32,97,32,110,117,109,98,101,114,32,102,114,111,109,32,48,32,116,111,32,50,53,53 } };
 #define c286 (octets_of_c286.octets)
-static const union { u8 octets[6]; u64 aligned; } octets_of_c286 = { { 20,0,0,0,13,0 } };
+static const union { u8 octets[2]; u64 aligned; } octets_of_c286 = { { 48,120 } };
 #define c287 (octets_of_c287.octets)
-static const union { u8 octets[48]; u64 aligned; } octets_of_c287 = { { 21,0,0,0,2,8,22,0,0,8,2,8,23,0,0,16,2,4,24,0,0,20,2,4,25,0,0,24,0,2,26,0,0,26,12,12,27,0,0,41,3,1,28,0,0,42,7,0 } };
+static const union { u8 octets[2]; u64 aligned; } octets_of_c287 = { { 44,32 } };
 #define c288 (octets_of_c288.octets)
-static const union { u8 octets[66]; u64 aligned; } octets_of_c288 = { { 0,5,0,0,0,1,0,6,0,1,1,1,0,7,0,2,1,2,0,22,0,4,2,2,0,23,0,6,3,1,0,24,0,6,3,2,0,25,0,6,3,4,0,26,0,6,3,8,0,27,0,6,3,16,0,28,0,6,3,32,0,29,0,7,9,2 } };
+static const union { u8 octets[25]; u64 aligned; } octets_of_c288 = { { 97,32,110,117,109,98,101,114,32,102,114,111,109,32,45,49,50,56,32,116,111,32,49,50,55 } };
 #define c289 (octets_of_c289.octets)
-static const union { u8 octets[12]; u64 aligned; } octets_of_c289 = { { 29,0,0,0,0,4,30,0,0,4,2,4 } };
+static const union { u8 octets[29]; u64 aligned; } octets_of_c289 = { { 97,32,110,117,109,98,101,114,32,102,114,111,109,32,45,51,50,55,54,56,32,116,111,32,51,50,55,54,55 } };
 #define c290 (octets_of_c290.octets)
-static const union { u8 octets[24]; u64 aligned; } octets_of_c290 = { { 3,0,0,0,8,0,0,30,0,10,9,0,31,0,0,11,9,3,32,0,0,12,10,0 } };
+static const union { u8 octets[13]; u64 aligned; } octets_of_c290 = { { 116,114,117,101,32,111,114,32,102,97,108,115,101 } };
 #define c291 (octets_of_c291.octets)
-static const union { u8 octets[126]; u64 aligned; } octets_of_c291 = { { 3,0,0,0,8,0,33,0,0,10,11,8,34,0,0,18,11,8,35,0,0,26,11,8,36,0,0,34,11,8,37,0,0,74,11,8,38,0,0,82,11,8,39,0,0,90,11,8,40,0,0,98,11,8,41,0,0,106,11,8,42,0,0,114,11,8,43,0,0,138,11,8,44,0,0,146,11,8,45,0,0,154,11,8,46,0,0,162,11,8,47,0,0,202,11,8,48,0,0,210,11,8,49,0,0,218,11,8,50,0,0,226,11,8,51,0,0,234,11,8,52,0,0,242,11,8 } };
+static const union { u8 octets[55]; u64 aligned; } octets_of_c291 = { { 97,32,110,117,109,98,101,114,32,102,114,111,109,32,48,32,116,111,32,49,53,44,32,111,114,32,48,120,32,97,110,100,32,116,119,111,32,104,101,120,97,100,101,99,105,109,97,108,32,100,105,103,105,116,115 } };
 #define c292 (octets_of_c292.octets)
-static const union { u8 octets[6]; u64 aligned; } octets_of_c292 = { { 118,97,108,117,101,32 } };
+static const union { u8 octets[37]; u64 aligned; } octets_of_c292 = { { 97,32,116,101,120,116,32,111,102,32,97,116,32,109,111,115,116,32,49,50,56,32,111,99,116,101,116,115,32,105,110,32,85,84,70,45,56 } };
 #define c293 (octets_of_c293.octets)
-static const union { u8 octets[2]; u64 aligned; } octets_of_c293 = { { 48,120 } };
+static const union { u8 octets[56]; u64 aligned; } octets_of_c293 = { { 97,32,110,117,109,98,101,114,32,102,114,111,109,32,48,32,116,111,32,50,53,53,44,32,111,114,32,48,120,32,97,110,100,32,116,119,111,32,104,101,120,97,100,101,99,105,109,97,108,32,100,105,103,105,116,115 } };
 #define c294 (octets_of_c294.octets)
-static const union { u8 octets[200]; u64 aligned; } octets_of_c294 = { { 48,48,48,49,48,50,48,51,48,52,48,53,48,54,48,55,48,56,48,57,49,48,49,49,49,50,49,51,49,52,49,53,49,54,49,55,49,56,49,57,50,48,50,49,50,50,50,51,50,52,50,53,50,54,50,55,50,56,50,57,51,48,51,49,51,50,51,51,51,52,51,53,51,54,51,55,51,56,51,57,52,48,52,49,52,50,52,51,52,52,52,53,52,54,52,55,52,56,52,57,53,48,53,49,53,50,53,51,53,52,53,53,53,54,53,55,53,56,53,57,54,48,54,49,54,50,54,51,54,52,54,53,54,54,54,55,54,56,54,57,55,48,55,49,55,50,55,51,55,52,55,53,55,54,55,55,55,56,55,57,56,48,56,49,56,50,56,51,56,52,56,53,56,54,56,55,56,56,56,57,57,48,57,49,57,50,57,51,57,52,57,53,57,54,57,55,57,56,57,57 } };
+static const union { u8 octets[8]; u64 aligned; } octets_of_c294 = { { 110,111,32,118,97,108,117,101 } };
 #define c295 (octets_of_c295.octets)
-static const union { u8 octets[6]; u64 aligned; } octets_of_c295 = { { 99,108,97,115,115,32 } };
+static const union { u8 octets[60]; u64 aligned; } octets_of_c295 = { { 9,0,0,0,1,2,10,0,0,0,14,0,11,0,0,0,14,1,12,0,0,0,14,2,13,0,0,0,14,3,14,0,0,0,14,4,15,0,0,0,14,5,16,0,0,0,14,6,0,2,0,0,14,7,17,0,0,0,14,8 } };
 #define c296 (octets_of_c296.octets)
-static const union { u8 octets[12]; u64 aligned; } octets_of_c296 = { { 32,97,99,99,117,114,97,99,121,32,48,120 } };
+static const union { u8 octets[12]; u64 aligned; } octets_of_c296 = { { 18,0,0,0,0,6,19,0,0,6,0,4 } };
 #define c297 (octets_of_c297.octets)
-static const union { u8 octets[12]; u64 aligned; } octets_of_c297 = { { 32,118,97,114,105,97,110,99,101,32,48,120 } };
+static const union { u8 octets[12]; u64 aligned; } octets_of_c297 = { { 0,27,0,0,3,16,0,28,0,0,3,32 } };
 #define c298 (octets_of_c298.octets)
-static const union { u8 octets[2]; u64 aligned; } octets_of_c298 = { { 92,120 } };
+static const union { u8 octets[12]; u64 aligned; } octets_of_c298 = { { 0,26,0,0,3,8,0,29,0,1,9,2 } };
 #define c299 (octets_of_c299.octets)
-static const union { u8 octets[42]; u64 aligned; } octets_of_c299 = { { 0,0,2,0,0,32,1,32,2,32,3,32,4,32,5,32,6,32,7,32,8,32,9,32,10,32,11,32,12,32,13,32,14,32,16,32,17,32,0,96,1,96 } };
+static const union { u8 octets[6]; u64 aligned; } octets_of_c299 = { { 20,0,0,0,13,0 } };
 #define c300 (octets_of_c300.octets)
-static const union { u8 octets[4]; u64 aligned; } octets_of_c300 = { { 112,116,112,115 } };
+static const union { u8 octets[48]; u64 aligned; } octets_of_c300 = { { 21,0,0,0,2,8,22,0,0,8,2,8,23,0,0,16,2,4,24,0,0,20,2,4,25,0,0,24,0,2,26,0,0,26,12,12,27,0,0,41,3,1,28,0,0,42,7,0 } };
 #define c301 (octets_of_c301.octets)
-static const union { u8 octets[4]; u64 aligned; } octets_of_c301 = { { 112,116,112,109 } };
+static const union { u8 octets[66]; u64 aligned; } octets_of_c301 = { { 0,5,0,0,0,1,0,6,0,1,1,1,0,7,0,2,1,2,0,22,0,4,2,2,0,23,0,6,3,1,0,24,0,6,3,2,0,25,0,6,3,4,0,26,0,6,3,8,0,27,0,6,3,16,0,28,0,6,3,32,0,29,0,7,9,2 } };
 #define c302 (octets_of_c302.octets)
-static const union { u8 octets[10]; u64 aligned; } octets_of_c302 = { { 0,1,2,3,4,5,6,7,8,9 } };
+static const union { u8 octets[12]; u64 aligned; } octets_of_c302 = { { 29,0,0,0,0,4,30,0,0,4,2,4 } };
 #define c303 (octets_of_c303.octets)
-static const union { u8 octets[17]; u64 aligned; } octets_of_c303 = { { 67,76,79,67,75,95,68,69,83,67,82,73,80,84,73,79,78 } };
+static const union { u8 octets[24]; u64 aligned; } octets_of_c303 = { { 3,0,0,0,8,0,0,30,0,10,9,0,31,0,0,11,9,3,32,0,0,12,10,0 } };
 #define c304 (octets_of_c304.octets)
-static const union { u8 octets[4]; u64 aligned; } octets_of_c304 = { { 84,73,77,69 } };
+static const union { u8 octets[126]; u64 aligned; } octets_of_c304 = { { 3,0,0,0,8,0,33,0,0,10,11,8,34,0,0,18,11,8,35,0,0,26,11,8,36,0,0,34,11,8,37,0,0,74,11,8,38,0,0,82,11,8,39,0,0,90,11,8,40,0,0,98,11,8,41,0,0,106,11,8,42,0,0,114,11,8,43,0,0,138,11,8,44,0,0,146,11,8,45,0,0,154,11,8,46,0,0,162,11,8,47,0,0,202,11,8,48,0,0,210,11,8,49,0,0,218,11,8,50,0,0,226,11,8,51,0,0,234,11,8,52,0,0,242,11,8 } };
 #define c305 (octets_of_c305.octets)
-static const union { u8 octets[23]; u64 aligned; } octets_of_c305 = { { 84,82,65,67,69,65,66,73,76,73,84,89,95,80,82,79,80,69,82,84,73,69,83 } };
+static const union { u8 octets[6]; u64 aligned; } octets_of_c305 = { { 118,97,108,117,101,32 } };
 #define c306 (octets_of_c306.octets)
-static const union { u8 octets[20]; u64 aligned; } octets_of_c306 = { { 84,73,77,69,83,67,65,76,69,95,80,82,79,80,69,82,84,73,69,83 } };
+static const union { u8 octets[200]; u64 aligned; } octets_of_c306 = { { 48,48,48,49,48,50,48,51,48,52,48,53,48,54,48,55,48,56,48,57,49,48,49,49,49,50,49,51,49,52,49,53,49,54,49,55,49,56,49,57,50,48,50,49,50,50,50,51,50,52,50,53,50,54,50,55,50,56,50,57,51,48,51,49,51,50,51,51,51,52,51,53,51,54,51,55,51,56,51,57,52,48,52,49,52,50,52,51,52,52,52,53,52,54,52,55,52,56,52,57,53,48,53,49,53,50,53,51,53,52,53,53,53,54,53,55,53,56,53,57,54,48,54,49,54,50,54,51,54,52,54,53,54,54,54,55,54,56,54,57,55,48,55,49,55,50,55,51,55,52,55,53,55,54,55,55,55,56,55,57,56,48,56,49,56,50,56,51,56,52,56,53,56,54,56,55,56,56,56,57,57,48,57,49,57,50,57,51,57,52,57,53,57,54,57,55,57,56,57,57 } };
 #define c307 (octets_of_c307.octets)
-static const union { u8 octets[15]; u64 aligned; } octets_of_c307 = { { 80,65,84,72,95,84,82,65,67,69,95,76,73,83,84 } };
+static const union { u8 octets[6]; u64 aligned; } octets_of_c307 = { { 99,108,97,115,115,32 } };
 #define c308 (octets_of_c308.octets)
-static const union { u8 octets[14]; u64 aligned; } octets_of_c308 = { { 84,73,77,69,95,83,84,65,84,85,83,95,78,80 } };
+static const union { u8 octets[12]; u64 aligned; } octets_of_c308 = { { 32,97,99,99,117,114,97,99,121,32,48,120 } };
 #define c309 (octets_of_c309.octets)
-static const union { u8 octets[23]; u64 aligned; } octets_of_c309 = { { 71,82,65,78,68,77,65,83,84,69,82,95,83,69,84,84,73,78,71,83,95,78,80 } };
+static const union { u8 octets[12]; u64 aligned; } octets_of_c309 = { { 32,118,97,114,105,97,110,99,101,32,48,120 } };
 #define c310 (octets_of_c310.octets)
-static const union { u8 octets[16]; u64 aligned; } octets_of_c310 = { { 80,79,82,84,95,68,65,84,65,95,83,69,84,95,78,80 } };
+static const union { u8 octets[2]; u64 aligned; } octets_of_c310 = { { 92,120 } };
 #define c311 (octets_of_c311.octets)
-static const union { u8 octets[18]; u64 aligned; } octets_of_c311 = { { 80,79,82,84,95,80,82,79,80,69,82,84,73,69,83,95,78,80 } };
+static const union { u8 octets[42]; u64 aligned; } octets_of_c311 = { { 0,0,2,0,0,32,1,32,2,32,3,32,4,32,5,32,6,32,7,32,8,32,9,32,10,32,11,32,12,32,13,32,14,32,16,32,17,32,0,96,1,96 } };
 #define c312 (octets_of_c312.octets)
-static const union { u8 octets[13]; u64 aligned; } octets_of_c312 = { { 80,79,82,84,95,83,84,65,84,83,95,78,80 } };
+static const union { u8 octets[4]; u64 aligned; } octets_of_c312 = { { 112,116,112,115 } };
 #define c313 (octets_of_c313.octets)
-static const union { u8 octets[168]; u64 aligned; } octets_of_c313 = { { 16,0,0,0,0,0,0,0,216,0,0,0,0,0,0,0,16,0,0,0,0,0,0,0,88,0,0,0,0,0,0,0,16,0,0,0,0,0,0,0,12,0,0,0,0,0,0,0,196,5,0,0,0,0,0,0,12,0,0,0,0,0,0,0,16,0,0,0,0,0,0,0,26,0,0,0,0,0,0,0,16,0,0,0,0,0,0,0,16,0,0,0,0,0,0,0,10,0,0,0,0,0,0,0,8,0,3,0,0,0,0,0,24,0,0,0,0,0,0,0,16,0,0,0,0,0,0,0,36,0,0,0,0,0,0,0,24,0,0,0,0,0,0,0,150,0,0,0,0,0,0,0,144,5,0,0,0,0,0,0,36,0,0,0,0,0,0,0 } };
+static const union { u8 octets[4]; u64 aligned; } octets_of_c313 = { { 112,116,112,109 } };
 #define c314 (octets_of_c314.octets)
-static const union { u8 octets[40]; u64 aligned; } octets_of_c314 = { { 19,0,0,0,0,0,0,0,22,0,0,0,0,0,0,0,15,0,0,0,0,0,0,0,14,0,0,0,0,0,0,0,23,0,0,0,0,0,0,0 } };
-#if IS_LITTLE_ENDIAN
-static const struct form_of_c315 { slot slot0; slot slot8; slot slot16; slot slot24; slot slot32; } octets_of_c315;
-#define c315 ((const u8 *)&octets_of_c315)
-#else
-static union form_of_c315 { u8 octets[40]; u64 aligned; } octets_of_c315;
+static const union { u8 octets[10]; u64 aligned; } octets_of_c314 = { { 0,1,2,3,4,5,6,7,8,9 } };
 #define c315 (octets_of_c315.octets)
-#endif
+static const union { u8 octets[17]; u64 aligned; } octets_of_c315 = { { 67,76,79,67,75,95,68,69,83,67,82,73,80,84,73,79,78 } };
 #define c316 (octets_of_c316.octets)
-static const union { u8 octets[20]; u64 aligned; } octets_of_c316 = { { 0,0,0,0,1,0,0,0,2,0,0,0,3,0,0,0,3,0,0,0 } };
+static const union { u8 octets[4]; u64 aligned; } octets_of_c316 = { { 84,73,77,69 } };
 #define c317 (octets_of_c317.octets)
-static const union { u8 octets[12]; u64 aligned; } octets_of_c317 = { { 51,0,0,0,52,0,0,0,35,0,0,0 } };
+static const union { u8 octets[23]; u64 aligned; } octets_of_c317 = { { 84,82,65,67,69,65,66,73,76,73,84,89,95,80,82,79,80,69,82,84,73,69,83 } };
 #define c318 (octets_of_c318.octets)
-static const union { u8 octets[72]; u64 aligned; } octets_of_c318 = { { 13,0,0,0,0,0,0,0,0,0,0,0,0,0,0,0,0,0,0,0,0,0,0,0,16,0,0,0,0,0,0,0,10,0,0,0,0,0,0,0,12,0,0,0,0,0,0,0,11,0,0,0,0,0,0,0,11,0,0,0,0,0,0,0,13,0,0,0,0,0,0,0 } };
-#if IS_LITTLE_ENDIAN
-static const struct form_of_c319 { slot slot0; u8 octets8[16]; slot slot24; slot slot32; slot slot40; slot slot48; slot slot56; slot slot64; } octets_of_c319;
-#define c319 ((const u8 *)&octets_of_c319)
-#else
-static union form_of_c319 { u8 octets[72]; u64 aligned; } octets_of_c319;
+static const union { u8 octets[20]; u64 aligned; } octets_of_c318 = { { 84,73,77,69,83,67,65,76,69,95,80,82,79,80,69,82,84,73,69,83 } };
 #define c319 (octets_of_c319.octets)
-#endif
-#if IS_LITTLE_ENDIAN
-static const struct form_of_c320 { slot slot0; slot slot8; slot slot16; slot slot24; slot slot32; } octets_of_c320;
-#define c320 ((const u8 *)&octets_of_c320)
-#else
-static union form_of_c320 { u8 octets[40]; u64 aligned; } octets_of_c320;
+static const union { u8 octets[15]; u64 aligned; } octets_of_c319 = { { 80,65,84,72,95,84,82,65,67,69,95,76,73,83,84 } };
 #define c320 (octets_of_c320.octets)
-#endif
+static const union { u8 octets[14]; u64 aligned; } octets_of_c320 = { { 84,73,77,69,95,83,84,65,84,85,83,95,78,80 } };
 #define c321 (octets_of_c321.octets)
-static const union { u8 octets[72]; u64 aligned; } octets_of_c321 = { { 2,0,0,0,0,0,0,0,2,0,0,0,0,0,0,0,2,0,0,0,0,0,0,0,1,0,0,0,0,0,0,0,8,0,0,0,0,0,0,0,11,0,0,0,0,0,0,0,2,0,0,0,0,0,0,0,4,0,0,0,0,0,0,0,21,0,0,0,0,0,0,0 } };
-#if IS_LITTLE_ENDIAN
-static const struct form_of_c322 { slot slot0; slot slot8; slot slot16; slot slot24; slot slot32; slot slot40; slot slot48; slot slot56; slot slot64; } octets_of_c322;
-#define c322 ((const u8 *)&octets_of_c322)
-#else
-static union form_of_c322 { u8 octets[72]; u64 aligned; } octets_of_c322;
+static const union { u8 octets[23]; u64 aligned; } octets_of_c321 = { { 71,82,65,78,68,77,65,83,84,69,82,95,83,69,84,84,73,78,71,83,95,78,80 } };
 #define c322 (octets_of_c322.octets)
-#endif
-#if IS_LITTLE_ENDIAN
-static const struct form_of_c323 { slot slot0; slot slot8; slot slot16; slot slot24; slot slot32; slot slot40; slot slot48; slot slot56; slot slot64; } octets_of_c323;
-#define c323 ((const u8 *)&octets_of_c323)
-#else
-static union form_of_c323 { u8 octets[72]; u64 aligned; } octets_of_c323;
+static const union { u8 octets[16]; u64 aligned; } octets_of_c322 = { { 80,79,82,84,95,68,65,84,65,95,83,69,84,95,78,80 } };
 #define c323 (octets_of_c323.octets)
-#endif
+static const union { u8 octets[18]; u64 aligned; } octets_of_c323 = { { 80,79,82,84,95,80,82,79,80,69,82,84,73,69,83,95,78,80 } };
 #define c324 (octets_of_c324.octets)
-static const union { u8 octets[72]; u64 aligned; } octets_of_c324 = { { 12,0,0,0,0,0,0,0,6,0,0,0,0,0,0,0,8,0,0,0,0,0,0,0,9,0,0,0,0,0,0,0,10,0,0,0,0,0,0,0,6,0,0,0,0,0,0,0,7,0,0,0,0,0,0,0,12,0,0,0,0,0,0,0,5,0,0,0,0,0,0,0 } };
-#if IS_LITTLE_ENDIAN
-static const struct form_of_c325 { slot slot0; u8 octets8[16]; slot slot24; slot slot32; slot slot40; slot slot48; } octets_of_c325;
-#define c325 ((const u8 *)&octets_of_c325)
-#else
-static union form_of_c325 { u8 octets[56]; u64 aligned; } octets_of_c325;
+static const union { u8 octets[13]; u64 aligned; } octets_of_c324 = { { 80,79,82,84,95,83,84,65,84,83,95,78,80 } };
 #define c325 (octets_of_c325.octets)
-#endif
+static const union { u8 octets[168]; u64 aligned; } octets_of_c325 = { { 16,0,0,0,0,0,0,0,216,0,0,0,0,0,0,0,16,0,0,0,0,0,0,0,88,0,0,0,0,0,0,0,16,0,0,0,0,0,0,0,12,0,0,0,0,0,0,0,196,5,0,0,0,0,0,0,12,0,0,0,0,0,0,0,16,0,0,0,0,0,0,0,26,0,0,0,0,0,0,0,16,0,0,0,0,0,0,0,16,0,0,0,0,0,0,0,10,0,0,0,0,0,0,0,8,0,3,0,0,0,0,0,24,0,0,0,0,0,0,0,16,0,0,0,0,0,0,0,36,0,0,0,0,0,0,0,24,0,0,0,0,0,0,0,150,0,0,0,0,0,0,0,144,5,0,0,0,0,0,0,36,0,0,0,0,0,0,0 } };
+#if IS_LITTLE_ENDIAN
+static const struct form_of_c326 { slot slot0; slot slot8; slot slot16; slot slot24; slot slot32; slot slot40; slot slot48; slot slot56; slot slot64; } octets_of_c326;
+#define c326 ((const u8 *)&octets_of_c326)
+#else
+static union form_of_c326 { u8 octets[72]; u64 aligned; } octets_of_c326;
 #define c326 (octets_of_c326.octets)
-static const union { u8 octets[56]; u64 aligned; } octets_of_c326 = { { 12,0,0,0,0,0,0,0,0,0,0,0,0,0,0,0,0,0,0,0,0,0,0,0,3,0,0,0,0,0,0,0,3,0,0,0,0,0,0,0,10,0,0,0,0,0,0,0,7,0,0,0,0,0,0,0 } };
-#if IS_LITTLE_ENDIAN
-static const struct form_of_c327 { slot slot0; slot slot8; slot slot16; slot slot24; slot slot32; } octets_of_c327;
-#define c327 ((const u8 *)&octets_of_c327)
-#else
-static union form_of_c327 { u8 octets[40]; u64 aligned; } octets_of_c327;
+#endif
 #define c327 (octets_of_c327.octets)
-#endif
+static const union { u8 octets[72]; u64 aligned; } octets_of_c327 = { { 12,0,0,0,0,0,0,0,6,0,0,0,0,0,0,0,8,0,0,0,0,0,0,0,9,0,0,0,0,0,0,0,10,0,0,0,0,0,0,0,6,0,0,0,0,0,0,0,7,0,0,0,0,0,0,0,12,0,0,0,0,0,0,0,5,0,0,0,0,0,0,0 } };
 #define c328 (octets_of_c328.octets)
-static const union { u8 octets[40]; u64 aligned; } octets_of_c328 = { { 8,0,0,0,0,0,0,0,8,0,0,0,0,0,0,0,9,0,0,0,0,0,0,0,7,0,0,0,0,0,0,0,8,0,0,0,0,0,0,0 } };
-#define c329 (octets_of_c329.octets)
-static const union { u8 octets[80]; u64 aligned; } octets_of_c329 = { { 17,0,0,0,0,0,0,0,4,0,0,0,0,0,0,0,23,0,0,0,0,0,0,0,20,0,0,0,0,0,0,0,15,0,0,0,0,0,0,0,14,0,0,0,0,0,0,0,23,0,0,0,0,0,0,0,16,0,0,0,0,0,0,0,18,0,0,0,0,0,0,0,13,0,0,0,0,0,0,0 } };
+static const union { u8 octets[56]; u64 aligned; } octets_of_c328 = { { 1,0,0,0,0,0,0,0,0,0,0,0,0,0,0,0,0,0,0,0,0,0,0,0,1,0,0,0,0,0,0,0,1,0,0,0,0,0,0,0,1,0,0,0,0,0,0,0,1,0,0,0,0,0,0,0 } };
 #if IS_LITTLE_ENDIAN
-static const struct form_of_c330 { slot slot0; slot slot8; slot slot16; slot slot24; slot slot32; slot slot40; slot slot48; slot slot56; slot slot64; slot slot72; } octets_of_c330;
-#define c330 ((const u8 *)&octets_of_c330)
+static const struct form_of_c329 { slot slot0; u8 octets8[16]; slot slot24; slot slot32; slot slot40; slot slot48; } octets_of_c329;
+#define c329 ((const u8 *)&octets_of_c329)
 #else
-static union form_of_c330 { u8 octets[80]; u64 aligned; } octets_of_c330;
-#define c330 (octets_of_c330.octets)
+static union form_of_c329 { u8 octets[56]; u64 aligned; } octets_of_c329;
+#define c329 (octets_of_c329.octets)
 #endif
+#define c330 (octets_of_c330.octets)
+static const union { u8 octets[56]; u64 aligned; } octets_of_c330 = { { 12,0,0,0,0,0,0,0,0,0,0,0,0,0,0,0,0,0,0,0,0,0,0,0,3,0,0,0,0,0,0,0,3,0,0,0,0,0,0,0,10,0,0,0,0,0,0,0,7,0,0,0,0,0,0,0 } };
+#if IS_LITTLE_ENDIAN
+static const struct form_of_c331 { slot slot0; slot slot8; slot slot16; slot slot24; slot slot32; } octets_of_c331;
+#define c331 ((const u8 *)&octets_of_c331)
+#else
+static union form_of_c331 { u8 octets[40]; u64 aligned; } octets_of_c331;
 #define c331 (octets_of_c331.octets)
-static const union { u8 octets[40]; u64 aligned; } octets_of_c331 = { { 1,0,0,0,15,32,0,0,18,32,0,0,19,32,0,0,21,32,0,0,0,192,0,0,1,192,0,0,2,192,0,0,4,192,0,0,5,192,0,0 } };
+#endif
 #define c332 (octets_of_c332.octets)
-static const union { u8 octets[24]; u64 aligned; } octets_of_c332 = { { 104,0,0,0,105,0,0,0,106,0,0,0,107,0,0,0,110,0,0,0,35,0,0,0 } };
+static const union { u8 octets[40]; u64 aligned; } octets_of_c332 = { { 8,0,0,0,0,0,0,0,8,0,0,0,0,0,0,0,9,0,0,0,0,0,0,0,7,0,0,0,0,0,0,0,8,0,0,0,0,0,0,0 } };
 #define c333 (octets_of_c333.octets)
-static const union { u8 octets[9]; u64 aligned; } octets_of_c333 = { { 6,0,0,0,0,0,3,4,5 } };
+static const union { u8 octets[40]; u64 aligned; } octets_of_c333 = { { 19,0,0,0,0,0,0,0,22,0,0,0,0,0,0,0,15,0,0,0,0,0,0,0,14,0,0,0,0,0,0,0,23,0,0,0,0,0,0,0 } };
+#if IS_LITTLE_ENDIAN
+static const struct form_of_c334 { slot slot0; slot slot8; slot slot16; slot slot24; slot slot32; } octets_of_c334;
+#define c334 ((const u8 *)&octets_of_c334)
+#else
+static union form_of_c334 { u8 octets[40]; u64 aligned; } octets_of_c334;
 #define c334 (octets_of_c334.octets)
-static const union { u8 octets[14]; u64 aligned; } octets_of_c334 = { { 1,0,2,0,3,0,4,0,5,0,6,0,254,255 } };
+#endif
+#if IS_LITTLE_ENDIAN
+static const struct form_of_c335 { slot slot0; slot slot8; slot slot16; slot slot24; slot slot32; slot slot40; slot slot48; slot slot56; slot slot64; } octets_of_c335;
+#define c335 ((const u8 *)&octets_of_c335)
+#else
+static union form_of_c335 { u8 octets[72]; u64 aligned; } octets_of_c335;
 #define c335 (octets_of_c335.octets)
-static const union { u8 octets[12]; u64 aligned; } octets_of_c335 = { { 33,0,0,0,40,0,0,0,41,0,0,0 } };
+#endif
 #define c336 (octets_of_c336.octets)
-static const union { u8 octets[24]; u64 aligned; } octets_of_c336 = { { 38,0,0,0,39,0,0,0,40,0,0,0,41,0,0,0,42,0,0,0,35,0,0,0 } };
+static const union { u8 octets[72]; u64 aligned; } octets_of_c336 = { { 2,0,0,0,0,0,0,0,2,0,0,0,0,0,0,0,2,0,0,0,0,0,0,0,1,0,0,0,0,0,0,0,8,0,0,0,0,0,0,0,11,0,0,0,0,0,0,0,2,0,0,0,0,0,0,0,4,0,0,0,0,0,0,0,21,0,0,0,0,0,0,0 } };
+#define c337 (octets_of_c337.octets)
+static const union { u8 octets[20]; u64 aligned; } octets_of_c337 = { { 0,0,0,0,1,0,0,0,2,0,0,0,3,0,0,0,3,0,0,0 } };
+#define c338 (octets_of_c338.octets)
+static const union { u8 octets[12]; u64 aligned; } octets_of_c338 = { { 51,0,0,0,52,0,0,0,35,0,0,0 } };
+#define c339 (octets_of_c339.octets)
+static const union { u8 octets[72]; u64 aligned; } octets_of_c339 = { { 13,0,0,0,0,0,0,0,0,0,0,0,0,0,0,0,0,0,0,0,0,0,0,0,16,0,0,0,0,0,0,0,10,0,0,0,0,0,0,0,12,0,0,0,0,0,0,0,11,0,0,0,0,0,0,0,11,0,0,0,0,0,0,0,13,0,0,0,0,0,0,0 } };
+#if IS_LITTLE_ENDIAN
+static const struct form_of_c340 { slot slot0; u8 octets8[16]; slot slot24; slot slot32; slot slot40; slot slot48; slot slot56; slot slot64; } octets_of_c340;
+#define c340 ((const u8 *)&octets_of_c340)
+#else
+static union form_of_c340 { u8 octets[72]; u64 aligned; } octets_of_c340;
+#define c340 (octets_of_c340.octets)
+#endif
+#if IS_LITTLE_ENDIAN
+static const struct form_of_c341 { slot slot0; slot slot8; slot slot16; slot slot24; slot slot32; } octets_of_c341;
+#define c341 ((const u8 *)&octets_of_c341)
+#else
+static union form_of_c341 { u8 octets[40]; u64 aligned; } octets_of_c341;
+#define c341 (octets_of_c341.octets)
+#endif
+#define c342 (octets_of_c342.octets)
+static const union { u8 octets[24]; u64 aligned; } octets_of_c342 = { { 9,0,0,0,0,0,0,0,5,0,0,0,0,0,0,0,9,0,0,0,0,0,0,0 } };
+#if IS_LITTLE_ENDIAN
+static const struct form_of_c343 { slot slot0; slot slot8; slot slot16; } octets_of_c343;
+#define c343 ((const u8 *)&octets_of_c343)
+#else
+static union form_of_c343 { u8 octets[24]; u64 aligned; } octets_of_c343;
+#define c343 (octets_of_c343.octets)
+#endif
+#define c344 (octets_of_c344.octets)
+static const union { u8 octets[80]; u64 aligned; } octets_of_c344 = { { 17,0,0,0,0,0,0,0,4,0,0,0,0,0,0,0,23,0,0,0,0,0,0,0,20,0,0,0,0,0,0,0,15,0,0,0,0,0,0,0,14,0,0,0,0,0,0,0,23,0,0,0,0,0,0,0,16,0,0,0,0,0,0,0,18,0,0,0,0,0,0,0,13,0,0,0,0,0,0,0 } };
+#if IS_LITTLE_ENDIAN
+static const struct form_of_c345 { slot slot0; slot slot8; slot slot16; slot slot24; slot slot32; slot slot40; slot slot48; slot slot56; slot slot64; slot slot72; } octets_of_c345;
+#define c345 ((const u8 *)&octets_of_c345)
+#else
+static union form_of_c345 { u8 octets[80]; u64 aligned; } octets_of_c345;
+#define c345 (octets_of_c345.octets)
+#endif
+#define c346 (octets_of_c346.octets)
+static const union { u8 octets[40]; u64 aligned; } octets_of_c346 = { { 1,0,0,0,15,32,0,0,18,32,0,0,19,32,0,0,21,32,0,0,0,192,0,0,1,192,0,0,2,192,0,0,4,192,0,0,5,192,0,0 } };
+#define c347 (octets_of_c347.octets)
+static const union { u8 octets[24]; u64 aligned; } octets_of_c347 = { { 104,0,0,0,105,0,0,0,106,0,0,0,107,0,0,0,110,0,0,0,35,0,0,0 } };
+#define c348 (octets_of_c348.octets)
+static const union { u8 octets[9]; u64 aligned; } octets_of_c348 = { { 6,0,0,0,0,0,3,4,5 } };
+#define c349 (octets_of_c349.octets)
+static const union { u8 octets[14]; u64 aligned; } octets_of_c349 = { { 1,0,2,0,3,0,4,0,5,0,6,0,254,255 } };
+#define c350 (octets_of_c350.octets)
+static const union { u8 octets[12]; u64 aligned; } octets_of_c350 = { { 33,0,0,0,40,0,0,0,41,0,0,0 } };
+#define c351 (octets_of_c351.octets)
+static const union { u8 octets[24]; u64 aligned; } octets_of_c351 = { { 38,0,0,0,39,0,0,0,40,0,0,0,41,0,0,0,42,0,0,0,35,0,0,0 } };
 #if IS_LITTLE_ENDIAN
 static const struct form_of_c113 octets_of_c113 = { SLOT(c113 + 8), { 112,116,112,109,0,0,0,0 } };
 #else
@@ -747,44 +782,49 @@ static const struct form_of_c140 octets_of_c140 = { SLOT(c140 + 8), { 0 } };
 static union form_of_c140 octets_of_c140 = { { 0 } };
 #endif
 #if IS_LITTLE_ENDIAN
-static const struct form_of_c315 octets_of_c315 = { SLOT(c131 + 0), SLOT(c133 + 0), SLOT(c135 + 0), SLOT(c137 + 0), SLOT(c139 + 0) };
+static const struct form_of_c326 octets_of_c326 = { SLOT(c172 + 0), SLOT(c173 + 0), SLOT(c174 + 0), SLOT(c175 + 0), SLOT(c176 + 0), SLOT(c177 + 0), SLOT(c178 + 0), SLOT(c179 + 0), SLOT(c180 + 0) };
 #else
-static union form_of_c315 octets_of_c315 = { { 0 } };
+static union form_of_c326 octets_of_c326 = { { 0 } };
 #endif
 #if IS_LITTLE_ENDIAN
-static const struct form_of_c319 octets_of_c319 = { SLOT(c148 + 0), { 0 }, SLOT(c142 + 0), SLOT(c143 + 0), SLOT(c144 + 0), SLOT(c145 + 0), SLOT(c146 + 0), SLOT(c147 + 0) };
+static const struct form_of_c329 octets_of_c329 = { SLOT(c185 + 0), { 0 }, SLOT(c183 + 0), SLOT(c184 + 0), SLOT(c181 + 0), SLOT(c182 + 0) };
 #else
-static union form_of_c319 octets_of_c319 = { { 0 } };
+static union form_of_c329 octets_of_c329 = { { 0 } };
 #endif
 #if IS_LITTLE_ENDIAN
-static const struct form_of_c320 octets_of_c320 = { SLOT(c159 + 0), SLOT(c160 + 0), SLOT(c161 + 0), SLOT(c162 + 0), SLOT(c163 + 0) };
+static const struct form_of_c331 octets_of_c331 = { SLOT(c195 + 0), SLOT(c196 + 0), SLOT(c197 + 0), SLOT(c198 + 0), SLOT(c199 + 0) };
 #else
-static union form_of_c320 octets_of_c320 = { { 0 } };
+static union form_of_c331 octets_of_c331 = { { 0 } };
 #endif
 #if IS_LITTLE_ENDIAN
-static const struct form_of_c322 octets_of_c322 = { SLOT(c283 + 0), SLOT(c284 + 0), SLOT(c285 + 0), SLOT(c286 + 0), SLOT(c287 + 0), SLOT(c288 + 0), SLOT(c289 + 0), SLOT(c290 + 0), SLOT(c291 + 0) };
+static const struct form_of_c334 octets_of_c334 = { SLOT(c131 + 0), SLOT(c133 + 0), SLOT(c135 + 0), SLOT(c137 + 0), SLOT(c139 + 0) };
 #else
-static union form_of_c322 octets_of_c322 = { { 0 } };
+static union form_of_c334 octets_of_c334 = { { 0 } };
 #endif
 #if IS_LITTLE_ENDIAN
-static const struct form_of_c323 octets_of_c323 = { SLOT(c169 + 0), SLOT(c170 + 0), SLOT(c171 + 0), SLOT(c172 + 0), SLOT(c173 + 0), SLOT(c174 + 0), SLOT(c175 + 0), SLOT(c176 + 0), SLOT(c177 + 0) };
+static const struct form_of_c335 octets_of_c335 = { SLOT(c296 + 0), SLOT(c297 + 0), SLOT(c298 + 0), SLOT(c299 + 0), SLOT(c300 + 0), SLOT(c301 + 0), SLOT(c302 + 0), SLOT(c303 + 0), SLOT(c304 + 0) };
 #else
-static union form_of_c323 octets_of_c323 = { { 0 } };
+static union form_of_c335 octets_of_c335 = { { 0 } };
 #endif
 #if IS_LITTLE_ENDIAN
-static const struct form_of_c325 octets_of_c325 = { SLOT(c182 + 0), { 0 }, SLOT(c180 + 0), SLOT(c181 + 0), SLOT(c178 + 0), SLOT(c179 + 0) };
+static const struct form_of_c340 octets_of_c340 = { SLOT(c148 + 0), { 0 }, SLOT(c142 + 0), SLOT(c143 + 0), SLOT(c144 + 0), SLOT(c145 + 0), SLOT(c146 + 0), SLOT(c147 + 0) };
 #else
-static union form_of_c325 octets_of_c325 = { { 0 } };
+static union form_of_c340 octets_of_c340 = { { 0 } };
 #endif
 #if IS_LITTLE_ENDIAN
-static const struct form_of_c327 octets_of_c327 = { SLOT(c192 + 0), SLOT(c193 + 0), SLOT(c194 + 0), SLOT(c195 + 0), SLOT(c196 + 0) };
+static const struct form_of_c341 octets_of_c341 = { SLOT(c159 + 0), SLOT(c160 + 0), SLOT(c161 + 0), SLOT(c162 + 0), SLOT(c163 + 0) };
 #else
-static union form_of_c327 octets_of_c327 = { { 0 } };
+static union form_of_c341 octets_of_c341 = { { 0 } };
 #endif
 #if IS_LITTLE_ENDIAN
-static const struct form_of_c330 octets_of_c330 = { SLOT(c303 + 0), SLOT(c304 + 0), SLOT(c305 + 0), SLOT(c306 + 0), SLOT(c307 + 0), SLOT(c308 + 0), SLOT(c309 + 0), SLOT(c310 + 0), SLOT(c311 + 0), SLOT(c312 + 0) };
+static const struct form_of_c343 octets_of_c343 = { SLOT(c169 + 0), SLOT(c170 + 0), SLOT(c171 + 0) };
 #else
-static union form_of_c330 octets_of_c330 = { { 0 } };
+static union form_of_c343 octets_of_c343 = { { 0 } };
+#endif
+#if IS_LITTLE_ENDIAN
+static const struct form_of_c345 octets_of_c345 = { SLOT(c315 + 0), SLOT(c316 + 0), SLOT(c317 + 0), SLOT(c318 + 0), SLOT(c319 + 0), SLOT(c320 + 0), SLOT(c321 + 0), SLOT(c322 + 0), SLOT(c323 + 0), SLOT(c324 + 0) };
+#else
+static union form_of_c345 octets_of_c345 = { { 0 } };
 #endif
 
 #if !IS_LITTLE_ENDIAN
@@ -792,61 +832,64 @@ void portable_fill(void);
 void portable_fill(void) {
     store_address(ADDRESS(c113) + 0u, ADDRESS(c113) + 8u);
     store_address(ADDRESS(c140) + 0u, ADDRESS(c140) + 8u);
-    store_address(ADDRESS(c315) + 0u, ADDRESS(c131) + 0u);
-    store_address(ADDRESS(c315) + 8u, ADDRESS(c133) + 0u);
-    store_address(ADDRESS(c315) + 16u, ADDRESS(c135) + 0u);
-    store_address(ADDRESS(c315) + 24u, ADDRESS(c137) + 0u);
-    store_address(ADDRESS(c315) + 32u, ADDRESS(c139) + 0u);
-    store_address(ADDRESS(c319) + 0u, ADDRESS(c148) + 0u);
-    store_address(ADDRESS(c319) + 24u, ADDRESS(c142) + 0u);
-    store_address(ADDRESS(c319) + 32u, ADDRESS(c143) + 0u);
-    store_address(ADDRESS(c319) + 40u, ADDRESS(c144) + 0u);
-    store_address(ADDRESS(c319) + 48u, ADDRESS(c145) + 0u);
-    store_address(ADDRESS(c319) + 56u, ADDRESS(c146) + 0u);
-    store_address(ADDRESS(c319) + 64u, ADDRESS(c147) + 0u);
-    store_address(ADDRESS(c320) + 0u, ADDRESS(c159) + 0u);
-    store_address(ADDRESS(c320) + 8u, ADDRESS(c160) + 0u);
-    store_address(ADDRESS(c320) + 16u, ADDRESS(c161) + 0u);
-    store_address(ADDRESS(c320) + 24u, ADDRESS(c162) + 0u);
-    store_address(ADDRESS(c320) + 32u, ADDRESS(c163) + 0u);
-    store_address(ADDRESS(c322) + 0u, ADDRESS(c283) + 0u);
-    store_address(ADDRESS(c322) + 8u, ADDRESS(c284) + 0u);
-    store_address(ADDRESS(c322) + 16u, ADDRESS(c285) + 0u);
-    store_address(ADDRESS(c322) + 24u, ADDRESS(c286) + 0u);
-    store_address(ADDRESS(c322) + 32u, ADDRESS(c287) + 0u);
-    store_address(ADDRESS(c322) + 40u, ADDRESS(c288) + 0u);
-    store_address(ADDRESS(c322) + 48u, ADDRESS(c289) + 0u);
-    store_address(ADDRESS(c322) + 56u, ADDRESS(c290) + 0u);
-    store_address(ADDRESS(c322) + 64u, ADDRESS(c291) + 0u);
-    store_address(ADDRESS(c323) + 0u, ADDRESS(c169) + 0u);
-    store_address(ADDRESS(c323) + 8u, ADDRESS(c170) + 0u);
-    store_address(ADDRESS(c323) + 16u, ADDRESS(c171) + 0u);
-    store_address(ADDRESS(c323) + 24u, ADDRESS(c172) + 0u);
-    store_address(ADDRESS(c323) + 32u, ADDRESS(c173) + 0u);
-    store_address(ADDRESS(c323) + 40u, ADDRESS(c174) + 0u);
-    store_address(ADDRESS(c323) + 48u, ADDRESS(c175) + 0u);
-    store_address(ADDRESS(c323) + 56u, ADDRESS(c176) + 0u);
-    store_address(ADDRESS(c323) + 64u, ADDRESS(c177) + 0u);
-    store_address(ADDRESS(c325) + 0u, ADDRESS(c182) + 0u);
-    store_address(ADDRESS(c325) + 24u, ADDRESS(c180) + 0u);
-    store_address(ADDRESS(c325) + 32u, ADDRESS(c181) + 0u);
-    store_address(ADDRESS(c325) + 40u, ADDRESS(c178) + 0u);
-    store_address(ADDRESS(c325) + 48u, ADDRESS(c179) + 0u);
-    store_address(ADDRESS(c327) + 0u, ADDRESS(c192) + 0u);
-    store_address(ADDRESS(c327) + 8u, ADDRESS(c193) + 0u);
-    store_address(ADDRESS(c327) + 16u, ADDRESS(c194) + 0u);
-    store_address(ADDRESS(c327) + 24u, ADDRESS(c195) + 0u);
-    store_address(ADDRESS(c327) + 32u, ADDRESS(c196) + 0u);
-    store_address(ADDRESS(c330) + 0u, ADDRESS(c303) + 0u);
-    store_address(ADDRESS(c330) + 8u, ADDRESS(c304) + 0u);
-    store_address(ADDRESS(c330) + 16u, ADDRESS(c305) + 0u);
-    store_address(ADDRESS(c330) + 24u, ADDRESS(c306) + 0u);
-    store_address(ADDRESS(c330) + 32u, ADDRESS(c307) + 0u);
-    store_address(ADDRESS(c330) + 40u, ADDRESS(c308) + 0u);
-    store_address(ADDRESS(c330) + 48u, ADDRESS(c309) + 0u);
-    store_address(ADDRESS(c330) + 56u, ADDRESS(c310) + 0u);
-    store_address(ADDRESS(c330) + 64u, ADDRESS(c311) + 0u);
-    store_address(ADDRESS(c330) + 72u, ADDRESS(c312) + 0u);
+    store_address(ADDRESS(c326) + 0u, ADDRESS(c172) + 0u);
+    store_address(ADDRESS(c326) + 8u, ADDRESS(c173) + 0u);
+    store_address(ADDRESS(c326) + 16u, ADDRESS(c174) + 0u);
+    store_address(ADDRESS(c326) + 24u, ADDRESS(c175) + 0u);
+    store_address(ADDRESS(c326) + 32u, ADDRESS(c176) + 0u);
+    store_address(ADDRESS(c326) + 40u, ADDRESS(c177) + 0u);
+    store_address(ADDRESS(c326) + 48u, ADDRESS(c178) + 0u);
+    store_address(ADDRESS(c326) + 56u, ADDRESS(c179) + 0u);
+    store_address(ADDRESS(c326) + 64u, ADDRESS(c180) + 0u);
+    store_address(ADDRESS(c329) + 0u, ADDRESS(c185) + 0u);
+    store_address(ADDRESS(c329) + 24u, ADDRESS(c183) + 0u);
+    store_address(ADDRESS(c329) + 32u, ADDRESS(c184) + 0u);
+    store_address(ADDRESS(c329) + 40u, ADDRESS(c181) + 0u);
+    store_address(ADDRESS(c329) + 48u, ADDRESS(c182) + 0u);
+    store_address(ADDRESS(c331) + 0u, ADDRESS(c195) + 0u);
+    store_address(ADDRESS(c331) + 8u, ADDRESS(c196) + 0u);
+    store_address(ADDRESS(c331) + 16u, ADDRESS(c197) + 0u);
+    store_address(ADDRESS(c331) + 24u, ADDRESS(c198) + 0u);
+    store_address(ADDRESS(c331) + 32u, ADDRESS(c199) + 0u);
+    store_address(ADDRESS(c334) + 0u, ADDRESS(c131) + 0u);
+    store_address(ADDRESS(c334) + 8u, ADDRESS(c133) + 0u);
+    store_address(ADDRESS(c334) + 16u, ADDRESS(c135) + 0u);
+    store_address(ADDRESS(c334) + 24u, ADDRESS(c137) + 0u);
+    store_address(ADDRESS(c334) + 32u, ADDRESS(c139) + 0u);
+    store_address(ADDRESS(c335) + 0u, ADDRESS(c296) + 0u);
+    store_address(ADDRESS(c335) + 8u, ADDRESS(c297) + 0u);
+    store_address(ADDRESS(c335) + 16u, ADDRESS(c298) + 0u);
+    store_address(ADDRESS(c335) + 24u, ADDRESS(c299) + 0u);
+    store_address(ADDRESS(c335) + 32u, ADDRESS(c300) + 0u);
+    store_address(ADDRESS(c335) + 40u, ADDRESS(c301) + 0u);
+    store_address(ADDRESS(c335) + 48u, ADDRESS(c302) + 0u);
+    store_address(ADDRESS(c335) + 56u, ADDRESS(c303) + 0u);
+    store_address(ADDRESS(c335) + 64u, ADDRESS(c304) + 0u);
+    store_address(ADDRESS(c340) + 0u, ADDRESS(c148) + 0u);
+    store_address(ADDRESS(c340) + 24u, ADDRESS(c142) + 0u);
+    store_address(ADDRESS(c340) + 32u, ADDRESS(c143) + 0u);
+    store_address(ADDRESS(c340) + 40u, ADDRESS(c144) + 0u);
+    store_address(ADDRESS(c340) + 48u, ADDRESS(c145) + 0u);
+    store_address(ADDRESS(c340) + 56u, ADDRESS(c146) + 0u);
+    store_address(ADDRESS(c340) + 64u, ADDRESS(c147) + 0u);
+    store_address(ADDRESS(c341) + 0u, ADDRESS(c159) + 0u);
+    store_address(ADDRESS(c341) + 8u, ADDRESS(c160) + 0u);
+    store_address(ADDRESS(c341) + 16u, ADDRESS(c161) + 0u);
+    store_address(ADDRESS(c341) + 24u, ADDRESS(c162) + 0u);
+    store_address(ADDRESS(c341) + 32u, ADDRESS(c163) + 0u);
+    store_address(ADDRESS(c343) + 0u, ADDRESS(c169) + 0u);
+    store_address(ADDRESS(c343) + 8u, ADDRESS(c170) + 0u);
+    store_address(ADDRESS(c343) + 16u, ADDRESS(c171) + 0u);
+    store_address(ADDRESS(c345) + 0u, ADDRESS(c315) + 0u);
+    store_address(ADDRESS(c345) + 8u, ADDRESS(c316) + 0u);
+    store_address(ADDRESS(c345) + 16u, ADDRESS(c317) + 0u);
+    store_address(ADDRESS(c345) + 24u, ADDRESS(c318) + 0u);
+    store_address(ADDRESS(c345) + 32u, ADDRESS(c319) + 0u);
+    store_address(ADDRESS(c345) + 40u, ADDRESS(c320) + 0u);
+    store_address(ADDRESS(c345) + 48u, ADDRESS(c321) + 0u);
+    store_address(ADDRESS(c345) + 56u, ADDRESS(c322) + 0u);
+    store_address(ADDRESS(c345) + 64u, ADDRESS(c323) + 0u);
+    store_address(ADDRESS(c345) + 72u, ADDRESS(c324) + 0u);
 }
 #endif
 
@@ -892,66 +935,75 @@ static u64 f38(u8 a0, u8 a1);
 static void f39(address a0, address a1, address a2, u64 a3, address a4);
 static struct s4 f40(u16 a0, address a1, u64 a2);
 static struct s2 f41(address a0, u64 a1);
-static struct s2 f42(address a0, u64 a1);
-static struct s5 f43(address a0);
-static struct s5 f44(u8 a0, u8 a1);
-static u64 f45(u16 a0, address a1);
-static struct s5 f46(address a0, u64 a1);
-static void f47(u64 a0, address a1);
-static u32 f48(address a0, u64 a1, address a2, u64 a3);
-static void f49(address a0, address a1, u64 a2);
-static u8 f50(address a0, u64 a1, address a2);
-static u8 f51(u64 a0, address a1, u64 a2, address a3, u64 a4, u64 a5);
-static u32 f52(address a0, address a1);
-static void f53(address a0, address a1, address a2, u64 a3);
-static struct s2 f54(address a0, address a1, u16 a2, address a3);
-static void f55(address a0, address a1, u8 a2, address a3);
-static u8 f56(address a0, address a1, u64 a2);
-static void f57(address a0, u8 a1, u8 a2, address a3);
-static void f58(address a0, u8 a1, address a2);
-static void f59(address a0, address a1, address a2, u8 a3, u8 a4, address a5);
-static u8 f60(address a0);
-static u8 f61(address a0, address a1);
-static void f62(address a0, address a1);
-static void f63(address a0, u64 a1);
-static struct s2 f64(address a0, address a1);
-static struct s2 f65(address a0, u8 a1, u16 a2, u8 a3, u16 a4, address a5, u64 a6);
-static void f66(address a0, address a1, address a2, u64 a3);
-static struct s2 f67(address a0, address a1, address a2);
-static void f68(address a0, address a1, address a2, u64 a3);
-static void f69(address a0, address a1, address a2, u64 a3, u16 a4, u8 a5);
-static u32 f70(address a0, u16 a1, address a2, u64 a3, address a4, u64 a5, address a6);
-static u32 f71(address a0, u16 a1, address a2, u64 a3, address a4, u64 a5, address a6);
-static u32 f72(address a0, u16 a1, address a2, u64 a3, u8 a4, address a5, u64 a6, address a7);
-static void f73(address a0, address a1, u16 a2, address a3, u64 a4, address a5, u64 a6);
-static u8 f74(address a0, address a1);
-static u8 f75(address a0, address a1);
-static void f76(address a0, u16 a1, address a2, u8 a3, address a4);
-static void f77(address a0, address a1, u8 a2, address a3);
-static void f78(address a0, u16 a1, u16 a2, u16 a3, address a4);
-static void f79(address a0, u8 a1, address a2);
-static void f80(address a0, address a1, address a2, u8 a3, u8 a4, address a5);
-static void f81(address a0, address a1, u64 a2);
-static void f82(address a0, address a1, u64 a2);
-static void f83(address a0, address a1, address a2);
-static void f84(address a0, u64 a1, address a2, address a3, u16 a4, address a5);
-static void f85(address a0, u8 a1, u16 a2, address a3, address a4, address a5);
-static void f86(address a0, u16 a1, address a2, address a3);
-static void f87(address a0, address a1, address a2);
-static u32 f88(address a0, u16 a1, address a2, u64 a3, u8 a4, address a5, u64 a6, address a7, address a8);
-static void f89(address a0, address a1, address a2);
-static u32 f90(address a0, address a1, address a2, u64 a3, address a4);
-static void f91(address a0, address a1, address a2, address a3, u64 a4);
-static void f92(address a0, address a1, address a2, address a3);
-static void f93(address a0, address a1, u8 a2);
-static void f94(address a0, address a1, address a2);
-static void f95(address a0, u8 a1, address a2);
-static void f96(address a0, address a1, address a2, u8 a3, address a4);
-static void f97(address a0, address a1, address a2, u64 a3);
-static void f98(address a0, address a1, u8 a2, u16 a3, u16 a4, address a5, u64 a6);
-static u8 f99(address a0);
-static u8 f100(address a0);
-static u8 f101(address a0, u64 a1);
+static void f42(address a0, u8 a1, u8 a2);
+static struct s2 f43(address a0, u64 a1);
+static struct s5 f44(address a0);
+static struct s5 f45(u8 a0, u8 a1);
+static u64 f46(u16 a0, address a1);
+static void f47(u8 a0, u8 a1, address a2);
+static struct s5 f48(u16 a0, address a1, u64 a2);
+static struct s5 f49(address a0, u64 a1);
+static void f50(address a0, u8 a1, u8 a2, address a3, u64 a4);
+static void f51(u64 a0, address a1);
+static struct s4 f52(address a0, u64 a1);
+static struct s4 f53(address a0, u64 a1);
+static void f54(address a0, address a1, u64 a2);
+static u32 f55(address a0, u64 a1, address a2, u64 a3);
+static void f56(address a0, address a1, u64 a2);
+static u8 f57(address a0, u64 a1, address a2);
+static u8 f58(u64 a0, address a1, u64 a2, address a3, u64 a4, u64 a5);
+static void f59(address a0, u32 a1, address a2, u64 a3);
+static u64 f60(address a0, u64 a1, u64 a2);
+static u32 f61(address a0, address a1);
+static void f62(address a0, address a1, address a2, u64 a3);
+static struct s2 f63(address a0, address a1, u16 a2, address a3);
+static void f64(address a0, address a1, u8 a2, address a3);
+static u8 f65(address a0, address a1, u64 a2);
+static void f66(address a0, u8 a1, u8 a2, address a3);
+static void f67(address a0, u8 a1, address a2);
+static void f68(address a0, address a1, address a2, u8 a3, u8 a4, address a5);
+static u8 f69(address a0);
+static u8 f70(address a0, address a1);
+static void f71(address a0, address a1);
+static void f72(address a0, u64 a1);
+static struct s2 f73(address a0, address a1);
+static struct s2 f74(address a0, u8 a1, u16 a2, u8 a3, u16 a4, address a5, u64 a6);
+static void f75(address a0, address a1, address a2, u64 a3);
+static struct s2 f76(address a0, address a1, address a2);
+static void f77(address a0, address a1, address a2, u64 a3);
+static void f78(address a0, address a1, address a2, u64 a3, u16 a4, u8 a5);
+static u32 f79(address a0, u16 a1, address a2, u64 a3, address a4, u64 a5, address a6);
+static u32 f80(address a0, u16 a1, address a2, u64 a3, address a4, u64 a5, address a6);
+static u32 f81(address a0, u16 a1, address a2, u64 a3, u8 a4, address a5, u64 a6, address a7);
+static void f82(address a0, address a1, u16 a2, address a3, u64 a4, address a5, u64 a6);
+static u8 f83(address a0, address a1);
+static u8 f84(address a0, address a1);
+static void f85(address a0, u16 a1, address a2, u8 a3, address a4);
+static void f86(address a0, address a1, u8 a2, address a3);
+static void f87(address a0, u16 a1, u16 a2, u16 a3, address a4);
+static void f88(address a0, u8 a1, address a2);
+static void f89(address a0, address a1, address a2, u8 a3, u8 a4, address a5);
+static void f90(address a0, address a1, u64 a2);
+static void f91(address a0, address a1, u64 a2);
+static void f92(address a0, address a1, address a2);
+static void f93(address a0, u64 a1, address a2, address a3, u16 a4, address a5);
+static void f94(address a0, u8 a1, u16 a2, address a3, address a4, address a5);
+static void f95(address a0, u16 a1, address a2, address a3);
+static void f96(address a0, address a1, address a2);
+static u32 f97(address a0, u16 a1, address a2, u64 a3, u8 a4, address a5, u64 a6, address a7, address a8);
+static void f98(address a0, address a1, address a2);
+static u32 f99(address a0, address a1, address a2, u64 a3, address a4);
+static void f100(address a0, address a1, address a2, address a3, u64 a4);
+static void f101(address a0, address a1, address a2, address a3);
+static void f102(address a0, address a1, u8 a2);
+static void f103(address a0, address a1, address a2);
+static void f104(address a0, u8 a1, address a2);
+static void f105(address a0, address a1, address a2, u8 a3, address a4);
+static void f106(address a0, address a1, address a2, u64 a3);
+static void f107(address a0, address a1, u8 a2, u16 a3, u16 a4, address a5, u64 a6);
+static u8 f108(address a0);
+static u8 f109(address a0);
+static u8 f110(address a0, u64 a1);
 u64 portable_ptpm_answer_name(u32 a0, address a1, u64 a2);
 u32 portable_ptpm_asker_earlier(address a0, u8 a1, address a2);
 u32 portable_ptpm_asker_image(address a0, address a1, u64 a2, address a3);
@@ -969,21 +1021,27 @@ u32 portable_ptpm_clock_start(address a0, address a1, address a2, u64 a3, addres
 void portable_ptpm_clock_stop(address a0);
 u64 portable_ptpm_error_name(u16 a0, address a1, u64 a2);
 u32 portable_ptpm_field_parse(u16 a0, address a1, u64 a2, address a3, u64 a4, address a5, address a6);
+u64 portable_ptpm_field_takes(u16 a0, u64 a1, address a2, u64 a3);
 u64 portable_ptpm_field_text(u16 a0, address a1, u64 a2, address a3, u64 a4);
 u32 portable_ptpm_id_at(u64 a0);
 u64 portable_ptpm_id_name(u16 a0, address a1, u64 a2);
 u32 portable_ptpm_id_named(address a0, u64 a1);
+u32 portable_ptpm_id_parse(address a0, u64 a1);
+u8 portable_ptpm_identity_parse(address a0, u64 a1, address a2);
 u32 portable_ptpm_image_seal_in(address a0, u64 a1, u64 a2, u64 a3, address a4);
 u32 portable_ptpm_image_unseal(address a0, u64 a1, address a2, address a3);
 void portable_ptpm_limit_range(address a0, u32 a1, u32 a2);
 u16 portable_ptpm_limits_say(address a0, u64 a1, address a2);
+u32 portable_ptpm_member_kind(u16 a0, address a1, u64 a2, u64 a3);
 u64 portable_ptpm_newest_image_in(address a0, u64 a1, u64 a2, address a3, address a4);
+u32 portable_ptpm_number_named(u32 a0, address a1, u64 a2);
 u32 portable_ptpm_other_id_at(u64 a0);
 u64 portable_ptpm_other_id_name(u16 a0, address a1, u64 a2);
 u32 portable_ptpm_other_id_named(address a0, u64 a1);
 u8 portable_ptpm_passed_on_is_first(address a0, address a1, u64 a2, u64 a3, u64 a4);
 u8 portable_ptpm_passed_on_is_first_of(u64 a0, address a1, u64 a2, address a3, u64 a4, u64 a5, u64 a6);
 void portable_ptpm_port_defaults(address a0);
+u8 portable_ptpm_port_identity_parse(address a0, u64 a1, address a2, address a3);
 void portable_ptpm_rate_start(address a0, u64 a1, u64 a2);
 u8 portable_ptpm_rate_take(address a0, u64 a1);
 u32 portable_ptpm_session_restore(address a0, address a1, address a2, u64 a3);
@@ -10123,7 +10181,7 @@ L13:;
     UNREACHABLE;
 L14:;
     v6 = (u64)a1;
-    v7 = ADDRESS(c320) + v6 * 8u;
+    v7 = ADDRESS(c341) + v6 * 8u;
     v8 = load_address(v7);
     v2 = 6u; v3 = v8; goto L15;
 L15:;
@@ -10174,28 +10232,28 @@ L22:;
 }
 
 static void f39(address a0, address a1, address a2, u64 a3, address a4) {
-    u64 v5, v7, v10, v11, v13, v14, v15, v20, v21, v22, v79, v82, v88, v89, v90, v91;
-    u64 v93, v95, v98, v99, v102, v301, v316, v317, v324, v325;
+    u64 v5, v7, v10, v11, v13, v14, v16, v20, v21, v22, v79, v82, v88, v89, v90, v91;
+    u64 v93, v95, v98, v99, v102, v302, v316, v317, v324, v325;
     address v6, v28, v29, v30, v31, v33, v35, v37, v39, v41, v44, v49, v52, v53, v80, v81;
-    address v87, v92, v96, v97, v104, v143, v150, v157, v164, v177, v184, v191, v198, v205, v212, v219;
-    address v226, v233, v246, v253, v260, v267, v274, v281, v288, v290, v312, v313, v314, v315, v319, v321;
+    address v87, v92, v96, v97, v104, v143, v150, v158, v165, v178, v185, v192, v199, v206, v213, v220;
+    address v227, v234, v247, v254, v261, v268, v275, v282, v289, v291, v312, v313, v314, v315, v319, v321;
     address v327, v328, v329, v330;
-    u8 v8, v9, v12, v16, v18, v19, v23, v24, v25, v26, v27, v32, v34, v36, v38, v40;
+    u8 v8, v9, v12, v15, v18, v19, v23, v24, v25, v26, v27, v32, v34, v36, v38, v40;
     u8 v42, v43, v45, v46, v47, v48, v50, v51, v54, v55, v56, v57, v58, v59, v60, v61;
     u8 v62, v63, v64, v65, v66, v67, v68, v69, v70, v71, v72, v73, v74, v75, v76, v77;
     u8 v78, v83, v84, v85, v86, v94, v100, v101, v103, v105, v106, v108, v109, v111, v113, v114;
     u8 v117, v119, v121, v122, v123, v124, v125, v127, v128, v129, v130, v132, v133, v134, v135, v136;
     u8 v137, v138, v139, v140, v141, v142, v144, v145, v146, v147, v148, v149, v151, v152, v153, v154;
-    u8 v155, v156, v158, v159, v160, v161, v162, v163, v165, v166, v167, v168, v169, v170, v171, v172;
-    u8 v173, v174, v175, v176, v178, v179, v180, v181, v182, v183, v185, v186, v187, v188, v189, v190;
-    u8 v192, v193, v194, v195, v196, v197, v199, v200, v201, v202, v203, v204, v206, v207, v208, v209;
-    u8 v210, v211, v213, v214, v215, v216, v217, v218, v220, v221, v222, v223, v224, v225, v227, v228;
-    u8 v229, v230, v231, v232, v234, v235, v236, v237, v238, v239, v240, v241, v242, v243, v244, v245;
-    u8 v247, v248, v249, v250, v251, v252, v254, v255, v256, v257, v258, v259, v261, v262, v263, v264;
-    u8 v265, v266, v268, v269, v270, v271, v272, v273, v275, v276, v277, v278, v279, v280, v282, v283;
-    u8 v284, v285, v286, v287, v289, v291, v292, v293, v294, v295, v296, v297, v298, v299, v300, v302;
+    u8 v155, v156, v159, v160, v161, v162, v163, v164, v166, v167, v168, v169, v170, v171, v172, v173;
+    u8 v174, v175, v176, v177, v179, v180, v181, v182, v183, v184, v186, v187, v188, v189, v190, v191;
+    u8 v193, v194, v195, v196, v197, v198, v200, v201, v202, v203, v204, v205, v207, v208, v209, v210;
+    u8 v211, v212, v214, v215, v216, v217, v218, v219, v221, v222, v223, v224, v225, v226, v228, v229;
+    u8 v230, v231, v232, v233, v235, v236, v237, v238, v239, v240, v241, v242, v243, v244, v245, v246;
+    u8 v248, v249, v250, v251, v252, v253, v255, v256, v257, v258, v259, v260, v262, v263, v264, v265;
+    u8 v266, v267, v269, v270, v271, v272, v273, v274, v276, v277, v278, v279, v280, v281, v283, v284;
+    u8 v285, v286, v287, v288, v290, v292, v293, v294, v295, v296, v297, v298, v299, v300, v301, v303;
     u8 v305, v306, v307, v309, v310, v311, v318, v320, v322, v323, v326;
-    struct s2 v17, v120, v126, v131, v303, v304, v308;
+    struct s2 v17, v120, v126, v131, v157, v304, v308;
     struct s4 v107, v112;
     u16 v110, v115, v116, v118;
     u64 block0[3];
@@ -10425,7 +10483,7 @@ L32:;
     v130 = (u8)((u32)v129 & (u32)1u);
     v18 = 0u; v19 = v130; v20 = 1u; goto L66;
 L33:;
-    v131 = f42(a2, a3);
+    v131 = f43(a2, a3);
     v132 = v131.m0;
     v133 = v132 == 1u;
     v134 = v131.m1;
@@ -10440,9 +10498,9 @@ L34:;
 L35:;
     switch (a3) {
     case 3u: goto L36;
-    case 10u: goto L41;
-    case 7u: goto L51;
-    case 12u: v15 = 0u; goto L58;
+    case 10u: goto L42;
+    case 7u: goto L52;
+    case 12u: v16 = 0u; goto L59;
     default: goto L61;
     }
 L36:;
@@ -10453,7 +10511,7 @@ L36:;
     v142 = v140 ? v141 : v138;
     switch (v142) {
     case 101u: goto L37;
-    case 112u: goto L39;
+    case 112u: goto L40;
     default: goto L61;
     }
 L37:;
@@ -10474,223 +10532,223 @@ L38:;
     v154 = (u8)((u32)v151 + (u32)32u);
     v155 = v153 ? v154 : v151;
     v156 = v155 == 101u;
-    if (v156) { v16 = 1u; goto L60; }
+    if (v156) { v15 = 1u; goto L39; }
     else { goto L61; }
 L39:;
-    v157 = a2 + 1u * 1u;
-    v158 = load8(v157);
-    v159 = (u8)((u32)v158 + (u32)191u);
-    v160 = v159 < 26u;
-    v161 = (u8)((u32)v158 + (u32)32u);
-    v162 = v160 ? v161 : v158;
-    v163 = v162 == 50u;
-    if (v163) { goto L40; }
-    else { goto L61; }
+    v157 = (struct s2){ 1u, 0u };
+    v157.m1 = v15;
+    v17 = v157; goto L62;
 L40:;
-    v164 = a2 + 2u * 1u;
-    v165 = load8(v164);
-    v166 = (u8)((u32)v165 + (u32)191u);
-    v167 = v166 < 26u;
-    v168 = (u8)((u32)v165 + (u32)32u);
-    v169 = v167 ? v168 : v165;
-    v170 = v169 == 112u;
-    if (v170) { v16 = 2u; goto L60; }
+    v158 = a2 + 1u * 1u;
+    v159 = load8(v158);
+    v160 = (u8)((u32)v159 + (u32)191u);
+    v161 = v160 < 26u;
+    v162 = (u8)((u32)v159 + (u32)32u);
+    v163 = v161 ? v162 : v159;
+    v164 = v163 == 50u;
+    if (v164) { goto L41; }
     else { goto L61; }
 L41:;
-    v171 = load8(a2);
-    v172 = (u8)((u32)v171 + (u32)191u);
-    v173 = (u8)((u32)v171 + (u32)32u);
-    v174 = v172 < 26u;
-    v175 = v174 ? v173 : v171;
-    v176 = v175 == 99u;
-    if (v176) { goto L42; }
+    v165 = a2 + 2u * 1u;
+    v166 = load8(v165);
+    v167 = (u8)((u32)v166 + (u32)191u);
+    v168 = v167 < 26u;
+    v169 = (u8)((u32)v166 + (u32)32u);
+    v170 = v168 ? v169 : v166;
+    v171 = v170 == 112u;
+    if (v171) { v15 = 2u; goto L39; }
     else { goto L61; }
 L42:;
-    v177 = a2 + 1u * 1u;
-    v178 = load8(v177);
-    v179 = (u8)((u32)v178 + (u32)191u);
-    v180 = v179 < 26u;
-    v181 = (u8)((u32)v178 + (u32)32u);
-    v182 = v180 ? v181 : v178;
-    v183 = v182 == 111u;
-    if (v183) { goto L43; }
+    v172 = load8(a2);
+    v173 = (u8)((u32)v172 + (u32)191u);
+    v174 = (u8)((u32)v172 + (u32)32u);
+    v175 = v173 < 26u;
+    v176 = v175 ? v174 : v172;
+    v177 = v176 == 99u;
+    if (v177) { goto L43; }
     else { goto L61; }
 L43:;
-    v184 = a2 + 2u * 1u;
-    v185 = load8(v184);
-    v186 = (u8)((u32)v185 + (u32)191u);
-    v187 = v186 < 26u;
-    v188 = (u8)((u32)v185 + (u32)32u);
-    v189 = v187 ? v188 : v185;
-    v190 = v189 == 109u;
-    if (v190) { goto L44; }
+    v178 = a2 + 1u * 1u;
+    v179 = load8(v178);
+    v180 = (u8)((u32)v179 + (u32)191u);
+    v181 = v180 < 26u;
+    v182 = (u8)((u32)v179 + (u32)32u);
+    v183 = v181 ? v182 : v179;
+    v184 = v183 == 111u;
+    if (v184) { goto L44; }
     else { goto L61; }
 L44:;
-    v191 = a2 + 3u * 1u;
-    v192 = load8(v191);
-    v193 = (u8)((u32)v192 + (u32)191u);
-    v194 = v193 < 26u;
-    v195 = (u8)((u32)v192 + (u32)32u);
-    v196 = v194 ? v195 : v192;
-    v197 = v196 == 109u;
-    if (v197) { goto L45; }
+    v185 = a2 + 2u * 1u;
+    v186 = load8(v185);
+    v187 = (u8)((u32)v186 + (u32)191u);
+    v188 = v187 < 26u;
+    v189 = (u8)((u32)v186 + (u32)32u);
+    v190 = v188 ? v189 : v186;
+    v191 = v190 == 109u;
+    if (v191) { goto L45; }
     else { goto L61; }
 L45:;
-    v198 = a2 + 4u * 1u;
-    v199 = load8(v198);
-    v200 = (u8)((u32)v199 + (u32)191u);
-    v201 = v200 < 26u;
-    v202 = (u8)((u32)v199 + (u32)32u);
-    v203 = v201 ? v202 : v199;
-    v204 = v203 == 111u;
-    if (v204) { goto L46; }
+    v192 = a2 + 3u * 1u;
+    v193 = load8(v192);
+    v194 = (u8)((u32)v193 + (u32)191u);
+    v195 = v194 < 26u;
+    v196 = (u8)((u32)v193 + (u32)32u);
+    v197 = v195 ? v196 : v193;
+    v198 = v197 == 109u;
+    if (v198) { goto L46; }
     else { goto L61; }
 L46:;
-    v205 = a2 + 5u * 1u;
-    v206 = load8(v205);
-    v207 = (u8)((u32)v206 + (u32)191u);
-    v208 = v207 < 26u;
-    v209 = (u8)((u32)v206 + (u32)32u);
-    v210 = v208 ? v209 : v206;
-    v211 = v210 == 110u;
-    if (v211) { goto L47; }
+    v199 = a2 + 4u * 1u;
+    v200 = load8(v199);
+    v201 = (u8)((u32)v200 + (u32)191u);
+    v202 = v201 < 26u;
+    v203 = (u8)((u32)v200 + (u32)32u);
+    v204 = v202 ? v203 : v200;
+    v205 = v204 == 111u;
+    if (v205) { goto L47; }
     else { goto L61; }
 L47:;
-    v212 = a2 + 6u * 1u;
-    v213 = load8(v212);
-    v214 = (u8)((u32)v213 + (u32)191u);
-    v215 = v214 < 26u;
-    v216 = (u8)((u32)v213 + (u32)32u);
-    v217 = v215 ? v216 : v213;
-    v218 = v217 == 95u;
-    if (v218) { goto L48; }
+    v206 = a2 + 5u * 1u;
+    v207 = load8(v206);
+    v208 = (u8)((u32)v207 + (u32)191u);
+    v209 = v208 < 26u;
+    v210 = (u8)((u32)v207 + (u32)32u);
+    v211 = v209 ? v210 : v207;
+    v212 = v211 == 110u;
+    if (v212) { goto L48; }
     else { goto L61; }
 L48:;
-    v219 = a2 + 7u * 1u;
-    v220 = load8(v219);
-    v221 = (u8)((u32)v220 + (u32)191u);
-    v222 = v221 < 26u;
-    v223 = (u8)((u32)v220 + (u32)32u);
-    v224 = v222 ? v223 : v220;
-    v225 = v224 == 112u;
-    if (v225) { goto L49; }
+    v213 = a2 + 6u * 1u;
+    v214 = load8(v213);
+    v215 = (u8)((u32)v214 + (u32)191u);
+    v216 = v215 < 26u;
+    v217 = (u8)((u32)v214 + (u32)32u);
+    v218 = v216 ? v217 : v214;
+    v219 = v218 == 95u;
+    if (v219) { goto L49; }
     else { goto L61; }
 L49:;
-    v226 = a2 + 8u * 1u;
-    v227 = load8(v226);
-    v228 = (u8)((u32)v227 + (u32)191u);
-    v229 = v228 < 26u;
-    v230 = (u8)((u32)v227 + (u32)32u);
-    v231 = v229 ? v230 : v227;
-    v232 = v231 == 50u;
-    if (v232) { goto L50; }
+    v220 = a2 + 7u * 1u;
+    v221 = load8(v220);
+    v222 = (u8)((u32)v221 + (u32)191u);
+    v223 = v222 < 26u;
+    v224 = (u8)((u32)v221 + (u32)32u);
+    v225 = v223 ? v224 : v221;
+    v226 = v225 == 112u;
+    if (v226) { goto L50; }
     else { goto L61; }
 L50:;
-    v233 = a2 + 9u * 1u;
-    v234 = load8(v233);
-    v235 = (u8)((u32)v234 + (u32)191u);
-    v236 = v235 < 26u;
-    v237 = (u8)((u32)v234 + (u32)32u);
-    v238 = v236 ? v237 : v234;
-    v239 = v238 == 112u;
-    if (v239) { v16 = 3u; goto L60; }
+    v227 = a2 + 8u * 1u;
+    v228 = load8(v227);
+    v229 = (u8)((u32)v228 + (u32)191u);
+    v230 = v229 < 26u;
+    v231 = (u8)((u32)v228 + (u32)32u);
+    v232 = v230 ? v231 : v228;
+    v233 = v232 == 50u;
+    if (v233) { goto L51; }
     else { goto L61; }
 L51:;
-    v240 = load8(a2);
-    v241 = (u8)((u32)v240 + (u32)191u);
-    v242 = (u8)((u32)v240 + (u32)32u);
-    v243 = v241 < 26u;
-    v244 = v243 ? v242 : v240;
-    v245 = v244 == 115u;
-    if (v245) { goto L52; }
+    v234 = a2 + 9u * 1u;
+    v235 = load8(v234);
+    v236 = (u8)((u32)v235 + (u32)191u);
+    v237 = v236 < 26u;
+    v238 = (u8)((u32)v235 + (u32)32u);
+    v239 = v237 ? v238 : v235;
+    v240 = v239 == 112u;
+    if (v240) { v15 = 3u; goto L39; }
     else { goto L61; }
 L52:;
-    v246 = a2 + 1u * 1u;
-    v247 = load8(v246);
-    v248 = (u8)((u32)v247 + (u32)191u);
-    v249 = v248 < 26u;
-    v250 = (u8)((u32)v247 + (u32)32u);
-    v251 = v249 ? v250 : v247;
-    v252 = v251 == 112u;
-    if (v252) { goto L53; }
+    v241 = load8(a2);
+    v242 = (u8)((u32)v241 + (u32)191u);
+    v243 = (u8)((u32)v241 + (u32)32u);
+    v244 = v242 < 26u;
+    v245 = v244 ? v243 : v241;
+    v246 = v245 == 115u;
+    if (v246) { goto L53; }
     else { goto L61; }
 L53:;
-    v253 = a2 + 2u * 1u;
-    v254 = load8(v253);
-    v255 = (u8)((u32)v254 + (u32)191u);
-    v256 = v255 < 26u;
-    v257 = (u8)((u32)v254 + (u32)32u);
-    v258 = v256 ? v257 : v254;
-    v259 = v258 == 101u;
-    if (v259) { goto L54; }
+    v247 = a2 + 1u * 1u;
+    v248 = load8(v247);
+    v249 = (u8)((u32)v248 + (u32)191u);
+    v250 = v249 < 26u;
+    v251 = (u8)((u32)v248 + (u32)32u);
+    v252 = v250 ? v251 : v248;
+    v253 = v252 == 112u;
+    if (v253) { goto L54; }
     else { goto L61; }
 L54:;
-    v260 = a2 + 3u * 1u;
-    v261 = load8(v260);
-    v262 = (u8)((u32)v261 + (u32)191u);
-    v263 = v262 < 26u;
-    v264 = (u8)((u32)v261 + (u32)32u);
-    v265 = v263 ? v264 : v261;
-    v266 = v265 == 99u;
-    if (v266) { goto L55; }
+    v254 = a2 + 2u * 1u;
+    v255 = load8(v254);
+    v256 = (u8)((u32)v255 + (u32)191u);
+    v257 = v256 < 26u;
+    v258 = (u8)((u32)v255 + (u32)32u);
+    v259 = v257 ? v258 : v255;
+    v260 = v259 == 101u;
+    if (v260) { goto L55; }
     else { goto L61; }
 L55:;
-    v267 = a2 + 4u * 1u;
-    v268 = load8(v267);
-    v269 = (u8)((u32)v268 + (u32)191u);
-    v270 = v269 < 26u;
-    v271 = (u8)((u32)v268 + (u32)32u);
-    v272 = v270 ? v271 : v268;
-    v273 = v272 == 105u;
-    if (v273) { goto L56; }
+    v261 = a2 + 3u * 1u;
+    v262 = load8(v261);
+    v263 = (u8)((u32)v262 + (u32)191u);
+    v264 = v263 < 26u;
+    v265 = (u8)((u32)v262 + (u32)32u);
+    v266 = v264 ? v265 : v262;
+    v267 = v266 == 99u;
+    if (v267) { goto L56; }
     else { goto L61; }
 L56:;
-    v274 = a2 + 5u * 1u;
-    v275 = load8(v274);
-    v276 = (u8)((u32)v275 + (u32)191u);
-    v277 = v276 < 26u;
-    v278 = (u8)((u32)v275 + (u32)32u);
-    v279 = v277 ? v278 : v275;
-    v280 = v279 == 97u;
-    if (v280) { goto L57; }
+    v268 = a2 + 4u * 1u;
+    v269 = load8(v268);
+    v270 = (u8)((u32)v269 + (u32)191u);
+    v271 = v270 < 26u;
+    v272 = (u8)((u32)v269 + (u32)32u);
+    v273 = v271 ? v272 : v269;
+    v274 = v273 == 105u;
+    if (v274) { goto L57; }
     else { goto L61; }
 L57:;
-    v281 = a2 + 6u * 1u;
-    v282 = load8(v281);
-    v283 = (u8)((u32)v282 + (u32)191u);
-    v284 = v283 < 26u;
-    v285 = (u8)((u32)v282 + (u32)32u);
-    v286 = v284 ? v285 : v282;
-    v287 = v286 == 108u;
-    if (v287) { v16 = 4u; goto L60; }
+    v275 = a2 + 5u * 1u;
+    v276 = load8(v275);
+    v277 = (u8)((u32)v276 + (u32)191u);
+    v278 = v277 < 26u;
+    v279 = (u8)((u32)v276 + (u32)32u);
+    v280 = v278 ? v279 : v276;
+    v281 = v280 == 97u;
+    if (v281) { goto L58; }
     else { goto L61; }
 L58:;
-    v288 = a2 + v15 * 1u;
-    v289 = load8(v288);
-    v290 = ADDRESS(c182) + v15 * 1u;
-    v291 = load8(v290);
-    v292 = (u8)((u32)v289 + (u32)191u);
-    v293 = v292 < 26u;
-    v294 = (u8)((u32)v289 + (u32)32u);
-    v295 = v293 ? v294 : v289;
-    v296 = (u8)((u32)v291 + (u32)191u);
-    v297 = v296 < 26u;
-    v298 = (u8)((u32)v291 + (u32)32u);
-    v299 = v297 ? v298 : v291;
-    v300 = v295 == v299;
-    if (v300) { goto L59; }
+    v282 = a2 + 6u * 1u;
+    v283 = load8(v282);
+    v284 = (u8)((u32)v283 + (u32)191u);
+    v285 = v284 < 26u;
+    v286 = (u8)((u32)v283 + (u32)32u);
+    v287 = v285 ? v286 : v283;
+    v288 = v287 == 108u;
+    if (v288) { v15 = 4u; goto L39; }
     else { goto L61; }
 L59:;
-    v301 = (u64)((u64)v15 + (u64)1u);
-    v302 = v301 == 12u;
-    if (v302) { v16 = 254u; goto L60; }
-    else { v15 = v301; goto L58; }
+    v289 = a2 + v16 * 1u;
+    v290 = load8(v289);
+    v291 = ADDRESS(c185) + v16 * 1u;
+    v292 = load8(v291);
+    v293 = (u8)((u32)v290 + (u32)191u);
+    v294 = v293 < 26u;
+    v295 = (u8)((u32)v290 + (u32)32u);
+    v296 = v294 ? v295 : v290;
+    v297 = (u8)((u32)v292 + (u32)191u);
+    v298 = v297 < 26u;
+    v299 = (u8)((u32)v292 + (u32)32u);
+    v300 = v298 ? v299 : v292;
+    v301 = v296 == v300;
+    if (v301) { goto L60; }
+    else { goto L61; }
 L60:;
-    v303 = (struct s2){ 1u, 0u };
-    v303.m1 = v16;
-    v17 = v303; goto L62;
+    v302 = (u64)((u64)v16 + (u64)1u);
+    v303 = v302 == 12u;
+    if (v303) { v15 = 254u; goto L39; }
+    else { v16 = v302; goto L59; }
 L61:;
-    v304 = f42(a2, a3);
+    v304 = f43(a2, a3);
     v17 = v304; goto L62;
 L62:;
     v305 = v17.m0;
@@ -10701,7 +10759,7 @@ L63:;
     v307 = v17.m1;
     v18 = 0u; v19 = v307; v20 = 1u; goto L66;
 L64:;
-    v308 = f42(a2, a3);
+    v308 = f43(a2, a3);
     v309 = v308.m0;
     v310 = v309 == 1u;
     if (v310) { goto L65; }
@@ -11030,7 +11088,102 @@ L14:;
     return v70;
 }
 
-static struct s2 f42(address a0, u64 a1) {
+static void f42(address a0, u8 a1, u8 a2) {
+    u64 v3, v5, v9, v12, v14, v18, v20, v21, v24, v26, v27, v30, v32;
+    address v4, v10, v11, v13, v19, v22, v23, v25, v28, v29, v31, v33, v34;
+    u8 v6, v7, v8, v15, v16, v17;
+    switch (a1) {
+    case 0u: goto L1;
+    case 1u: goto L3;
+    case 2u: goto L4;
+    case 3u: goto L14;
+    default: goto L18;
+    }
+L1:;
+    v6 = (u8)((u32)a2 + (u32)255u);
+    v7 = v6 < 9u;
+    if (v7) { goto L2; }
+    else { v3 = 0u; v4 = 0u; v5 = 0u; goto L17; }
+L2:;
+    v8 = (u8)((u32)a2 + (u32)255u);
+    v9 = (u64)v8;
+    v10 = ADDRESS(c326) + v9 * 8u;
+    v11 = load_address(v10);
+    v12 = (u64)v8;
+    v13 = ADDRESS(c327) + v12 * 8u;
+    v14 = load64(v13);
+    v3 = 1u; v4 = v11; v5 = v14; goto L17;
+L3:;
+    v15 = (u8)((u32)a2 + (u32)2u);
+    v16 = v15 < 7u;
+    if (v16) { goto L15; }
+    else { v3 = 0u; v4 = 0u; v5 = 0u; goto L17; }
+L4:;
+    switch (a2) {
+    case 16u: v3 = 1u; v4 = ADDRESS(c186); v5 = 12u; goto L17;
+    case 32u: goto L5;
+    case 48u: goto L6;
+    case 57u: goto L7;
+    case 64u: goto L8;
+    case 80u: goto L9;
+    case 96u: goto L10;
+    case 144u: goto L11;
+    case 160u: goto L12;
+    default: goto L13;
+    }
+L5:;
+    v3 = 1u; v4 = ADDRESS(c187); v5 = 4u; goto L17;
+L6:;
+    v3 = 1u; v4 = ADDRESS(c188); v5 = 17u; goto L17;
+L7:;
+    v3 = 1u; v4 = ADDRESS(c189); v5 = 16u; goto L17;
+L8:;
+    v3 = 1u; v4 = ADDRESS(c190); v5 = 3u; goto L17;
+L9:;
+    v3 = 1u; v4 = ADDRESS(c191); v5 = 3u; goto L17;
+L10:;
+    v3 = 1u; v4 = ADDRESS(c192); v5 = 8u; goto L17;
+L11:;
+    v3 = 1u; v4 = ADDRESS(c193); v5 = 5u; goto L17;
+L12:;
+    v3 = 1u; v4 = ADDRESS(c194); v5 = 19u; goto L17;
+L13:;
+    v3 = 0u; v4 = 0u; v5 = 0u; goto L17;
+L14:;
+    v17 = a2 < 5u;
+    if (v17) { goto L16; }
+    else { v3 = 0u; v4 = 0u; v5 = 0u; goto L17; }
+L15:;
+    v18 = (u64)v15;
+    v19 = ADDRESS(c328) + v18 * 8u;
+    v20 = load64(v19);
+    v21 = (u64)v15;
+    v22 = ADDRESS(c329) + v21 * 8u;
+    v23 = load_address(v22);
+    v24 = (u64)v15;
+    v25 = ADDRESS(c330) + v24 * 8u;
+    v26 = load64(v25);
+    v3 = v20; v4 = v23; v5 = v26; goto L17;
+L16:;
+    v27 = (u64)a2;
+    v28 = ADDRESS(c331) + v27 * 8u;
+    v29 = load_address(v28);
+    v30 = (u64)a2;
+    v31 = ADDRESS(c332) + v30 * 8u;
+    v32 = load64(v31);
+    v3 = 1u; v4 = v29; v5 = v32; goto L17;
+L17:;
+    store64(a0, v3);
+    v33 = a0 + 8u * 1u;
+    store_address(v33, v4);
+    v34 = a0 + 16u * 1u;
+    store64(v34, v5);
+    return;
+L18:;
+    UNREACHABLE;
+}
+
+static struct s2 f43(address a0, u64 a1) {
     u8 v2, v3, v4, v7, v8, v9, v10, v11, v12, v13, v15, v16, v18, v20, v21, v22;
     u8 v23, v24, v25, v26, v27, v28, v29, v30, v31, v32, v33, v34, v35, v36, v37, v38;
     u8 v39, v40, v41, v42, v43, v44, v45, v47, v48, v49, v50, v51, v53, v56, v60, v61;
@@ -11158,7 +11311,7 @@ L20:;
     return v67;
 }
 
-static struct s5 f43(address a0) {
+static struct s5 f44(address a0) {
     u64 v1, v10;
     address v2, v4, v6, v9;
     u8 v3, v5, v7;
@@ -11166,7 +11319,7 @@ static struct s5 f43(address a0) {
     v3 = load8(a0);
     switch (v3) {
     case 0u: goto L1;
-    case 1u: v1 = 11u; v2 = ADDRESS(c197); goto L53;
+    case 1u: v1 = 11u; v2 = ADDRESS(c200); goto L53;
     case 2u: goto L2;
     case 3u: goto L3;
     case 4u: goto L4;
@@ -11225,112 +11378,112 @@ L1:;
     v5 = load8(v4);
     v6 = a0 + 1u * 1u;
     v7 = load8(v6);
-    v8 = f44(v7, v5);
+    v8 = f45(v7, v5);
     v9 = v8.m0;
     v10 = v8.m1;
     v1 = v10; v2 = v9; goto L53;
 L2:;
-    v1 = 9u; v2 = ADDRESS(c198); goto L53;
+    v1 = 9u; v2 = ADDRESS(c201); goto L53;
 L3:;
-    v1 = 12u; v2 = ADDRESS(c199); goto L53;
-L4:;
-    v1 = 13u; v2 = ADDRESS(c200); goto L53;
-L5:;
-    v1 = 13u; v2 = ADDRESS(c201); goto L53;
-L6:;
     v1 = 12u; v2 = ADDRESS(c202); goto L53;
+L4:;
+    v1 = 13u; v2 = ADDRESS(c203); goto L53;
+L5:;
+    v1 = 13u; v2 = ADDRESS(c204); goto L53;
+L6:;
+    v1 = 12u; v2 = ADDRESS(c205); goto L53;
 L7:;
-    v1 = 23u; v2 = ADDRESS(c203); goto L53;
+    v1 = 23u; v2 = ADDRESS(c206); goto L53;
 L8:;
-    v1 = 5u; v2 = ADDRESS(c204); goto L53;
+    v1 = 5u; v2 = ADDRESS(c207); goto L53;
 L9:;
-    v1 = 9u; v2 = ADDRESS(c205); goto L53;
+    v1 = 9u; v2 = ADDRESS(c208); goto L53;
 L10:;
-    v1 = 21u; v2 = ADDRESS(c206); goto L53;
+    v1 = 21u; v2 = ADDRESS(c209); goto L53;
 L11:;
-    v1 = 15u; v2 = ADDRESS(c207); goto L53;
+    v1 = 15u; v2 = ADDRESS(c210); goto L53;
 L12:;
-    v1 = 15u; v2 = ADDRESS(c208); goto L53;
+    v1 = 15u; v2 = ADDRESS(c211); goto L53;
 L13:;
-    v1 = 12u; v2 = ADDRESS(c209); goto L53;
-L14:;
-    v1 = 20u; v2 = ADDRESS(c210); goto L53;
-L15:;
-    v1 = 18u; v2 = ADDRESS(c211); goto L53;
-L16:;
     v1 = 12u; v2 = ADDRESS(c212); goto L53;
+L14:;
+    v1 = 20u; v2 = ADDRESS(c213); goto L53;
+L15:;
+    v1 = 18u; v2 = ADDRESS(c214); goto L53;
+L16:;
+    v1 = 12u; v2 = ADDRESS(c215); goto L53;
 L17:;
-    v1 = 15u; v2 = ADDRESS(c213); goto L53;
+    v1 = 15u; v2 = ADDRESS(c216); goto L53;
 L18:;
-    v1 = 12u; v2 = ADDRESS(c214); goto L53;
+    v1 = 12u; v2 = ADDRESS(c217); goto L53;
 L19:;
-    v1 = 16u; v2 = ADDRESS(c215); goto L53;
+    v1 = 16u; v2 = ADDRESS(c218); goto L53;
 L20:;
-    v1 = 12u; v2 = ADDRESS(c216); goto L53;
+    v1 = 12u; v2 = ADDRESS(c219); goto L53;
 L21:;
-    v1 = 13u; v2 = ADDRESS(c217); goto L53;
+    v1 = 13u; v2 = ADDRESS(c220); goto L53;
 L22:;
-    v1 = 12u; v2 = ADDRESS(c218); goto L53;
+    v1 = 12u; v2 = ADDRESS(c221); goto L53;
 L23:;
-    v1 = 26u; v2 = ADDRESS(c219); goto L53;
+    v1 = 26u; v2 = ADDRESS(c222); goto L53;
 L24:;
-    v1 = 23u; v2 = ADDRESS(c220); goto L53;
+    v1 = 23u; v2 = ADDRESS(c223); goto L53;
 L25:;
-    v1 = 19u; v2 = ADDRESS(c221); goto L53;
+    v1 = 19u; v2 = ADDRESS(c224); goto L53;
 L26:;
-    v1 = 17u; v2 = ADDRESS(c222); goto L53;
+    v1 = 17u; v2 = ADDRESS(c225); goto L53;
 L27:;
-    v1 = 9u; v2 = ADDRESS(c223); goto L53;
-L28:;
-    v1 = 10u; v2 = ADDRESS(c224); goto L53;
-L29:;
-    v1 = 23u; v2 = ADDRESS(c225); goto L53;
-L30:;
     v1 = 9u; v2 = ADDRESS(c226); goto L53;
+L28:;
+    v1 = 10u; v2 = ADDRESS(c227); goto L53;
+L29:;
+    v1 = 23u; v2 = ADDRESS(c228); goto L53;
+L30:;
+    v1 = 9u; v2 = ADDRESS(c229); goto L53;
 L31:;
-    v1 = 12u; v2 = ADDRESS(c227); goto L53;
-L32:;
-    v1 = 9u; v2 = ADDRESS(c228); goto L53;
-L33:;
-    v1 = 7u; v2 = ADDRESS(c229); goto L53;
-L34:;
     v1 = 12u; v2 = ADDRESS(c230); goto L53;
-L35:;
-    v1 = 13u; v2 = ADDRESS(c231); goto L53;
-L36:;
-    v1 = 14u; v2 = ADDRESS(c232); goto L53;
-L37:;
+L32:;
+    v1 = 9u; v2 = ADDRESS(c231); goto L53;
+L33:;
+    v1 = 7u; v2 = ADDRESS(c232); goto L53;
+L34:;
     v1 = 12u; v2 = ADDRESS(c233); goto L53;
-L38:;
+L35:;
     v1 = 13u; v2 = ADDRESS(c234); goto L53;
+L36:;
+    v1 = 14u; v2 = ADDRESS(c235); goto L53;
+L37:;
+    v1 = 12u; v2 = ADDRESS(c236); goto L53;
+L38:;
+    v1 = 13u; v2 = ADDRESS(c237); goto L53;
 L39:;
-    v1 = 24u; v2 = ADDRESS(c235); goto L53;
+    v1 = 24u; v2 = ADDRESS(c238); goto L53;
 L40:;
-    v1 = 11u; v2 = ADDRESS(c236); goto L53;
+    v1 = 11u; v2 = ADDRESS(c239); goto L53;
 L41:;
-    v1 = 12u; v2 = ADDRESS(c237); goto L53;
-L42:;
-    v1 = 13u; v2 = ADDRESS(c238); goto L53;
-L43:;
-    v1 = 7u; v2 = ADDRESS(c239); goto L53;
-L44:;
     v1 = 12u; v2 = ADDRESS(c240); goto L53;
-L45:;
+L42:;
     v1 = 13u; v2 = ADDRESS(c241); goto L53;
-L46:;
-    v1 = 14u; v2 = ADDRESS(c242); goto L53;
-L47:;
+L43:;
+    v1 = 7u; v2 = ADDRESS(c242); goto L53;
+L44:;
     v1 = 12u; v2 = ADDRESS(c243); goto L53;
-L48:;
+L45:;
     v1 = 13u; v2 = ADDRESS(c244); goto L53;
+L46:;
+    v1 = 14u; v2 = ADDRESS(c245); goto L53;
+L47:;
+    v1 = 12u; v2 = ADDRESS(c246); goto L53;
+L48:;
+    v1 = 13u; v2 = ADDRESS(c247); goto L53;
 L49:;
-    v1 = 24u; v2 = ADDRESS(c245); goto L53;
+    v1 = 24u; v2 = ADDRESS(c248); goto L53;
 L50:;
-    v1 = 11u; v2 = ADDRESS(c246); goto L53;
+    v1 = 11u; v2 = ADDRESS(c249); goto L53;
 L51:;
-    v1 = 12u; v2 = ADDRESS(c247); goto L53;
+    v1 = 12u; v2 = ADDRESS(c250); goto L53;
 L52:;
-    v1 = 13u; v2 = ADDRESS(c248); goto L53;
+    v1 = 13u; v2 = ADDRESS(c251); goto L53;
 L53:;
     v11 = (struct s5){ 0 };
     v11.m0 = v2;
@@ -11341,12 +11494,12 @@ L54:;
     UNREACHABLE;
 }
 
-static struct s5 f44(u8 a0, u8 a1) {
+static struct s5 f45(u8 a0, u8 a1) {
     u64 v2, v4, v6, v7;
     address v3, v5, v8, v9;
     struct s5 v10, v11;
     switch (a0) {
-    case 0u: v2 = 13u; v3 = ADDRESS(c249); goto L34;
+    case 0u: v2 = 13u; v3 = ADDRESS(c252); goto L34;
     case 1u: goto L1;
     case 2u: goto L2;
     case 3u: goto L3;
@@ -11383,75 +11536,75 @@ static struct s5 f44(u8 a0, u8 a1) {
     default: goto L35;
     }
 L1:;
-    v2 = 12u; v3 = ADDRESS(c250); goto L34;
+    v2 = 12u; v3 = ADDRESS(c253); goto L34;
 L2:;
-    v2 = 15u; v3 = ADDRESS(c251); goto L34;
+    v2 = 15u; v3 = ADDRESS(c254); goto L34;
 L3:;
-    v2 = 11u; v3 = ADDRESS(c252); goto L34;
+    v2 = 11u; v3 = ADDRESS(c255); goto L34;
 L4:;
-    v2 = 9u; v3 = ADDRESS(c253); goto L34;
+    v2 = 9u; v3 = ADDRESS(c256); goto L34;
 L5:;
-    v2 = 23u; v3 = ADDRESS(c254); goto L34;
+    v2 = 23u; v3 = ADDRESS(c257); goto L34;
 L6:;
-    v2 = 26u; v3 = ADDRESS(c255); goto L34;
+    v2 = 26u; v3 = ADDRESS(c258); goto L34;
 L7:;
-    v2 = 36u; v3 = ADDRESS(c256); goto L34;
+    v2 = 36u; v3 = ADDRESS(c259); goto L34;
 L8:;
-    v2 = 9u; v3 = ADDRESS(c257); goto L34;
-L9:;
-    v2 = 12u; v3 = ADDRESS(c258); goto L34;
-L10:;
-    v2 = 16u; v3 = ADDRESS(c259); goto L34;
-L11:;
     v2 = 9u; v3 = ADDRESS(c260); goto L34;
+L9:;
+    v2 = 12u; v3 = ADDRESS(c261); goto L34;
+L10:;
+    v2 = 16u; v3 = ADDRESS(c262); goto L34;
+L11:;
+    v2 = 9u; v3 = ADDRESS(c263); goto L34;
 L12:;
-    v2 = 18u; v3 = ADDRESS(c261); goto L34;
+    v2 = 18u; v3 = ADDRESS(c264); goto L34;
 L13:;
-    v2 = 11u; v3 = ADDRESS(c262); goto L34;
+    v2 = 11u; v3 = ADDRESS(c265); goto L34;
 L14:;
-    v2 = 37u; v3 = ADDRESS(c263); goto L34;
+    v2 = 37u; v3 = ADDRESS(c266); goto L34;
 L15:;
-    v2 = 34u; v3 = ADDRESS(c264); goto L34;
+    v2 = 34u; v3 = ADDRESS(c267); goto L34;
 L16:;
-    v2 = 20u; v3 = ADDRESS(c265); goto L34;
+    v2 = 20u; v3 = ADDRESS(c268); goto L34;
 L17:;
-    v2 = 34u; v3 = ADDRESS(c266); goto L34;
+    v2 = 34u; v3 = ADDRESS(c269); goto L34;
 L18:;
-    v2 = 37u; v3 = ADDRESS(c267); goto L34;
+    v2 = 37u; v3 = ADDRESS(c270); goto L34;
 L19:;
-    v2 = 47u; v3 = ADDRESS(c268); goto L34;
+    v2 = 47u; v3 = ADDRESS(c271); goto L34;
 L20:;
-    v2 = 20u; v3 = ADDRESS(c269); goto L34;
+    v2 = 20u; v3 = ADDRESS(c272); goto L34;
 L21:;
-    v2 = 19u; v3 = ADDRESS(c270); goto L34;
+    v2 = 19u; v3 = ADDRESS(c273); goto L34;
 L22:;
-    v2 = 16u; v3 = ADDRESS(c271); goto L34;
+    v2 = 16u; v3 = ADDRESS(c274); goto L34;
 L23:;
-    v2 = 6u; v3 = ADDRESS(c272); goto L34;
+    v2 = 6u; v3 = ADDRESS(c275); goto L34;
 L24:;
-    v2 = 6u; v3 = ADDRESS(c273); goto L34;
+    v2 = 6u; v3 = ADDRESS(c276); goto L34;
 L25:;
-    v2 = 21u; v3 = ADDRESS(c274); goto L34;
+    v2 = 21u; v3 = ADDRESS(c277); goto L34;
 L26:;
-    v2 = 12u; v3 = ADDRESS(c275); goto L34;
+    v2 = 12u; v3 = ADDRESS(c278); goto L34;
 L27:;
-    v2 = 13u; v3 = ADDRESS(c276); goto L34;
+    v2 = 13u; v3 = ADDRESS(c279); goto L34;
 L28:;
-    v2 = 18u; v3 = ADDRESS(c277); goto L34;
+    v2 = 18u; v3 = ADDRESS(c280); goto L34;
 L29:;
-    v2 = 10u; v3 = ADDRESS(c278); goto L34;
+    v2 = 10u; v3 = ADDRESS(c281); goto L34;
 L30:;
-    v2 = 9u; v3 = ADDRESS(c279); goto L34;
+    v2 = 9u; v3 = ADDRESS(c282); goto L34;
 L31:;
-    v2 = 22u; v3 = ADDRESS(c280); goto L34;
+    v2 = 22u; v3 = ADDRESS(c283); goto L34;
 L32:;
-    v2 = 13u; v3 = ADDRESS(c281); goto L34;
+    v2 = 13u; v3 = ADDRESS(c284); goto L34;
 L33:;
     v4 = (u64)a1;
-    v5 = ADDRESS(c314) + v4 * 8u;
+    v5 = ADDRESS(c333) + v4 * 8u;
     v6 = load64(v5);
     v7 = (u64)a1;
-    v8 = ADDRESS(c315) + v7 * 8u;
+    v8 = ADDRESS(c334) + v7 * 8u;
     v9 = load_address(v8);
     v2 = v6; v3 = v9; goto L34;
 L34:;
@@ -11464,7 +11617,7 @@ L35:;
     UNREACHABLE;
 }
 
-static u64 f45(u16 a0, address a1) {
+static u64 f46(u16 a0, address a1) {
     u64 v2, v4, v12, v22;
     address v3, v6, v8, v13, v16, v19;
     u8 v5, v7, v9, v10, v11, v14, v15, v17, v18, v20, v21, v23;
@@ -11575,7 +11728,378 @@ L27:;
     UNREACHABLE;
 }
 
-static struct s5 f46(address a0, u64 a1) {
+static void f47(u8 a0, u8 a1, address a2) {
+    u64 v3, v4, v5, v6, v7, v14, v19, v21, v23, v27, v29, v30, v31, v36, v42, v44;
+    u64 v46, v50, v52, v53, v56, v64, v66, v74;
+    address v8, v11, v12, v13, v15, v18, v20, v26, v28, v33, v34, v38, v41, v43, v49, v51;
+    address v55, v63, v65, v73, v75;
+    u8 v9, v10, v16, v17, v22, v24, v25, v32, v35, v37, v39, v40, v45, v47, v48, v54;
+    u8 v57, v58, v59, v60, v61, v62, v67, v68, v69, v70, v71, v72;
+    u64 block0[3];
+    v8 = ADDRESS(block0);
+    memory_set(v8, 0u, 24u);
+    f42(v8, a0, a1);
+    v9 = load8(v8);
+    v10 = v9 == 1u;
+    if (v10) { goto L1; }
+    else { goto L7; }
+L1:;
+    v11 = v8 + 8u * 1u;
+    v12 = load_address(v11);
+    v13 = v8 + 16u * 1u;
+    v14 = load64(v13);
+    v15 = a2 + 16u * 1u;
+    v16 = load8(v15);
+    v17 = v16 == 1u;
+    if (v17) { goto L2; }
+    else { goto L18; }
+L2:;
+    v18 = a2 + 24u * 1u;
+    v19 = load64(v18);
+    v20 = a2 + 8u * 1u;
+    v21 = load64(v20);
+    v22 = v21 < v19;
+    v23 = (u64)((u64)v21 - (u64)v19);
+    v24 = v23 < v14;
+    v25 = v22 ? 1u : v24;
+    if (v25) { v4 = 0u; v5 = 0u; goto L6; }
+    else { goto L3; }
+L3:;
+    v26 = load_address(a2);
+    v27 = (u64)((u64)v19 + (u64)v14);
+    v28 = v26 + v19 * 1u;
+    v29 = (u64)v28;
+    v30 = (u64)v12;
+    v31 = (u64)((u64)v29 - (u64)v30);
+    v32 = v31 < v14;
+    if (v32) { v3 = 0u; goto L5; }
+    else { goto L4; }
+L4:;
+    memory_move(v28, v12, v14);
+    v4 = v27; v5 = 1u; goto L6;
+L5:;
+    v33 = v28 + v3 * 1u;
+    v34 = v12 + v3 * 1u;
+    v35 = load8(v34);
+    store8(v33, v35);
+    v36 = (u64)((u64)v3 + (u64)1u);
+    v37 = v36 == v14;
+    if (v37) { v4 = v27; v5 = 1u; goto L6; }
+    else { v3 = v36; goto L5; }
+L6:;
+    store64(v15, v5);
+    store64(v18, v4);
+    goto L18;
+L7:;
+    v38 = a2 + 16u * 1u;
+    v39 = load8(v38);
+    v40 = v39 == 1u;
+    if (v40) { goto L8; }
+    else { goto L18; }
+L8:;
+    v41 = a2 + 24u * 1u;
+    v42 = load64(v41);
+    v43 = a2 + 8u * 1u;
+    v44 = load64(v43);
+    v45 = v44 < v42;
+    v46 = (u64)((u64)v44 - (u64)v42);
+    v47 = v46 < 2u;
+    v48 = v45 ? 1u : v47;
+    if (v48) { goto L17; }
+    else { goto L9; }
+L9:;
+    v49 = load_address(a2);
+    v50 = (u64)((u64)v42 + (u64)2u);
+    v51 = v49 + v42 * 1u;
+    v52 = (u64)v51;
+    v53 = (u64)((u64)v52 - (u64)ADDRESS(c286));
+    v54 = v53 < 2u;
+    if (v54) { goto L10; }
+    else { goto L11; }
+L10:;
+    store8(v51, 48u);
+    v55 = v51 + 1u * 1u;
+    store8(v55, 120u);
+    goto L12;
+L11:;
+    store16(v51, 30768u);
+    goto L12;
+L12:;
+    v56 = load64(v43);
+    v57 = v56 > v50;
+    if (v57) { goto L13; }
+    else { goto L16; }
+L13:;
+    v58 = a1 < 160u;
+    v59 = (u8)((u32)a1 >> (4u & 7u));
+    v60 = (u8)((u32)v59 | (u32)48u);
+    v61 = (u8)((u32)v59 + (u32)87u);
+    v62 = v58 ? v60 : v61;
+    v63 = load_address(a2);
+    v64 = (u64)((u64)v42 + (u64)3u);
+    v65 = v63 + v50 * 1u;
+    store8(v65, v62);
+    v66 = load64(v43);
+    v67 = v66 > v64;
+    if (v67) { goto L14; }
+    else { v6 = 0u; v7 = 0u; goto L15; }
+L14:;
+    v68 = (u8)((u32)a1 & (u32)15u);
+    v69 = v68 < 10u;
+    v70 = (u8)((u32)v68 | (u32)48u);
+    v71 = (u8)((u32)v68 + (u32)87u);
+    v72 = v69 ? v70 : v71;
+    v73 = load_address(a2);
+    v74 = (u64)((u64)v42 + (u64)4u);
+    v75 = v73 + v64 * 1u;
+    store8(v75, v72);
+    v6 = v74; v7 = 1u; goto L15;
+L15:;
+    store64(v38, v7);
+    store64(v41, v6);
+    goto L18;
+L16:;
+    memory_set(v38, 0u, 16u);
+    goto L18;
+L17:;
+    memory_set(v38, 0u, 16u);
+    goto L18;
+L18:;
+    return;
+}
+
+static struct s5 f48(u16 a0, address a1, u64 a2) {
+    u8 v3, v4, v9, v11, v12, v17, v22, v25, v27, v30, v31, v32, v33, v36, v38, v40;
+    u8 v45, v48, v49, v51, v52;
+    u64 v5, v6, v8, v10, v13, v14, v15, v16, v19, v21, v24, v26, v28, v29, v35, v37;
+    u64 v41, v42, v43, v44, v47, v50, v54, v58, v59;
+    address v7, v18, v23, v34, v39, v46, v53, v55, v56, v57, v60, v61;
+    struct s5 v20, v62, v63;
+    switch (a0) {
+    case 0u: v3 = 0u; v4 = 0u; goto L21;
+    case 2u: goto L1;
+    case 8192u: goto L2;
+    case 8193u: goto L3;
+    case 8194u: goto L4;
+    case 8195u: goto L5;
+    case 8196u: goto L6;
+    case 8197u: goto L7;
+    case 8198u: goto L8;
+    case 8199u: goto L9;
+    case 8200u: goto L10;
+    case 8201u: goto L11;
+    case 8202u: goto L12;
+    case 8203u: goto L13;
+    case 8204u: goto L14;
+    case 8205u: goto L15;
+    case 8206u: goto L16;
+    case 8208u: goto L17;
+    case 8209u: goto L18;
+    case 24576u: goto L19;
+    case 24577u: goto L20;
+    case 1u: goto L43;
+    case 8207u: goto L38;
+    case 8210u: goto L39;
+    case 8211u: goto L40;
+    case 8213u: goto L50;
+    case 49152u: v5 = 4u; v6 = 50u; goto L49;
+    case 49153u: goto L41;
+    case 49154u: goto L42;
+    case 49156u: goto L45;
+    case 49157u: goto L48;
+    default: v7 = ADDRESS(c112); v8 = 0u; goto L53;
+    }
+L1:;
+    v9 = a2 == 0u;
+    if (v9) { v7 = ADDRESS(c112); v8 = 0u; goto L53; }
+    else { goto L22; }
+L2:;
+    v3 = 2u; v4 = 0u; goto L21;
+L3:;
+    v3 = 3u; v4 = 0u; goto L21;
+L4:;
+    v3 = 4u; v4 = 0u; goto L21;
+L5:;
+    v3 = 5u; v4 = 0u; goto L21;
+L6:;
+    v3 = 6u; v4 = 0u; goto L21;
+L7:;
+    v3 = 7u; v4 = 0u; goto L21;
+L8:;
+    v3 = 8u; v4 = 0u; goto L21;
+L9:;
+    v3 = 9u; v4 = 0u; goto L21;
+L10:;
+    v3 = 10u; v4 = 0u; goto L21;
+L11:;
+    v3 = 11u; v4 = 0u; goto L21;
+L12:;
+    v3 = 11u; v4 = 1u; goto L21;
+L13:;
+    v3 = 11u; v4 = 2u; goto L21;
+L14:;
+    v3 = 12u; v4 = 0u; goto L21;
+L15:;
+    v3 = 13u; v4 = 0u; goto L21;
+L16:;
+    v3 = 14u; v4 = 0u; goto L21;
+L17:;
+    v3 = 15u; v4 = 0u; goto L21;
+L18:;
+    v3 = 16u; v4 = 0u; goto L21;
+L19:;
+    v3 = 11u; v4 = 3u; goto L21;
+L20:;
+    v3 = 11u; v4 = 4u; goto L21;
+L21:;
+    v10 = f38(v3, v4);
+    v11 = a2 == v10;
+    if (v11) { goto L23; }
+    else { v7 = ADDRESS(c112); v8 = 0u; goto L53; }
+L22:;
+    v12 = load8(a1);
+    v13 = (u64)v12;
+    v14 = (u64)((u64)v13 + (u64)1u);
+    v15 = (u64)((u64)v14 & (u64)1u);
+    v16 = (u64)((u64)v15 + (u64)v14);
+    v17 = a2 == v16;
+    v18 = v17 ? ADDRESS(c149) : ADDRESS(c112);
+    v19 = (u64)v17;
+    v7 = v18; v8 = v19; goto L53;
+L23:;
+    switch (v3) {
+    case 1u: v7 = ADDRESS(c149); v8 = 1u; goto L53;
+    case 2u: goto L24;
+    case 3u: goto L25;
+    case 4u: goto L26;
+    case 5u: goto L27;
+    case 6u: goto L28;
+    case 7u: goto L29;
+    case 8u: goto L30;
+    case 9u: goto L31;
+    case 10u: goto L32;
+    case 11u: goto L52;
+    case 12u: goto L33;
+    case 15u: goto L34;
+    case 16u: goto L35;
+    case 0u: goto L36;
+    case 13u: goto L36;
+    case 14u: goto L36;
+    default: goto L37;
+    }
+L24:;
+    v7 = ADDRESS(c150); v8 = 10u; goto L53;
+L25:;
+    v7 = ADDRESS(c151); v8 = 3u; goto L53;
+L26:;
+    v7 = ADDRESS(c152); v8 = 10u; goto L53;
+L27:;
+    v7 = ADDRESS(c153); v8 = 8u; goto L53;
+L28:;
+    v7 = ADDRESS(c154); v8 = 10u; goto L53;
+L29:;
+    v7 = ADDRESS(c155); v8 = 1u; goto L53;
+L30:;
+    v7 = ADDRESS(c156); v8 = 1u; goto L53;
+L31:;
+    v7 = ADDRESS(c157); v8 = 1u; goto L53;
+L32:;
+    v7 = ADDRESS(c158); v8 = 1u; goto L53;
+L33:;
+    v7 = ADDRESS(c164); v8 = 1u; goto L53;
+L34:;
+    v7 = ADDRESS(c165); v8 = 1u; goto L53;
+L35:;
+    v7 = ADDRESS(c166); v8 = 4u; goto L53;
+L36:;
+    v7 = ADDRESS(c112); v8 = 0u; goto L53;
+L37:;
+    UNREACHABLE;
+L38:;
+    v5 = 0u; v6 = 10u; goto L49;
+L39:;
+    v5 = 1u; v6 = 2u; goto L49;
+L40:;
+    v5 = 2u; v6 = 2u; goto L49;
+L41:;
+    v5 = 5u; v6 = 8u; goto L49;
+L42:;
+    v5 = 6u; v6 = 8u; goto L49;
+L43:;
+    v20 = f49(a1, a2);
+    v21 = v20.m1;
+    v22 = v21 == 0u;
+    if (v22) { v7 = ADDRESS(c112); v8 = 0u; goto L53; }
+    else { goto L44; }
+L44:;
+    v23 = v20.m0;
+    v24 = (u64)((u64)v21 + (u64)UINT64_C(18446744073709551615));
+    v25 = load8(v23);
+    v26 = (u64)v25;
+    v27 = v24 >= v26;
+    v28 = v24 > v26 ? (u64)((u64)v24 - (u64)v26) : 0u;
+    v29 = (u64)((u64)v28 & (u64)UINT64_C(18446744073709551614));
+    v30 = v29 == 6u;
+    v31 = (u8)(((u32)v27 & (u32)v30) & UINT64_C(1));
+    v32 = a2 > 1u;
+    v33 = (u8)(((u32)v32 & (u32)v31) & UINT64_C(1));
+    v34 = v33 ? ADDRESS(c295) : ADDRESS(c112);
+    v35 = v33 ? 10u : 0u;
+    v7 = v34; v8 = v35; goto L53;
+L45:;
+    v36 = a2 > 11u;
+    if (v36) { goto L46; }
+    else { v7 = ADDRESS(c112); v8 = 0u; goto L53; }
+L46:;
+    v37 = (u64)((u64)a2 + (u64)UINT64_C(18446744073709551604));
+    v38 = v37 == 0u;
+    if (v38) { v7 = ADDRESS(c112); v8 = 0u; goto L53; }
+    else { goto L47; }
+L47:;
+    v39 = a1 + 12u * 1u;
+    v40 = load8(v39);
+    v41 = (u64)v40;
+    v42 = (u64)((u64)v41 + (u64)1u);
+    v43 = (u64)((u64)v42 & (u64)1u);
+    v44 = (u64)((u64)v43 + (u64)v42);
+    v45 = v37 == v44;
+    v46 = v45 ? ADDRESS(c303) : ADDRESS(c112);
+    v47 = v45 ? 4u : 0u;
+    v7 = v46; v8 = v47; goto L53;
+L48:;
+    v5 = 8u; v6 = 266u; goto L49;
+L49:;
+    v48 = a2 == v6;
+    if (v48) { goto L51; }
+    else { v7 = ADDRESS(c112); v8 = 0u; goto L53; }
+L50:;
+    v49 = a2 > 7u;
+    v50 = (u64)((u64)a2 & (u64)7u);
+    v51 = v50 == 0u;
+    v52 = (u8)(((u32)v49 & (u32)v51) & UINT64_C(1));
+    v53 = v52 ? ADDRESS(c299) : ADDRESS(c112);
+    v54 = (u64)v52;
+    v7 = v53; v8 = v54; goto L53;
+L51:;
+    v55 = ADDRESS(c335) + v5 * 8u;
+    v56 = load_address(v55);
+    v57 = ADDRESS(c336) + v5 * 8u;
+    v58 = load64(v57);
+    v7 = v56; v8 = v58; goto L53;
+L52:;
+    v59 = (u64)v4;
+    v60 = ADDRESS(c341) + v59 * 8u;
+    v61 = load_address(v60);
+    v7 = v61; v8 = 1u; goto L53;
+L53:;
+    v62 = (struct s5){ 0 };
+    v62.m0 = v7;
+    v63 = v62;
+    v63.m1 = v8;
+    return v63;
+}
+
+static struct s5 f49(address a0, u64 a1) {
     u64 v2, v3, v5, v7, v11, v13, v16, v20, v21, v23, v24, v26, v29, v31, v34, v36;
     u64 v40, v41, v43, v44, v47, v50, v52, v58, v60, v63, v66, v68, v71, v73;
     address v4, v6, v9, v10, v15, v18, v25, v28, v30, v33, v35, v38, v45, v46, v49, v51;
@@ -11683,7 +12207,638 @@ L10:;
     return v75;
 }
 
-static void f47(u64 a0, address a1) {
+static void f50(address a0, u8 a1, u8 a2, address a3, u64 a4) {
+    u64 v5, v7, v8, v10, v11, v13, v14, v16, v17, v18, v20, v22, v24, v25, v26, v28;
+    u64 v30, v33, v35, v36, v40, v42, v43, v44, v45, v49, v50, v52, v53, v54, v55, v56;
+    u64 v58, v59, v60, v62, v63, v64, v75, v76, v78, v79, v80, v81, v82, v85, v87, v88;
+    u64 v89, v94, v95, v96, v97, v98, v100, v101, v103, v108, v109, v111, v112, v113, v114, v115;
+    u64 v117, v118, v119, v120, v121, v123, v124, v125, v126, v128, v129, v130, v134, v140, v142, v145;
+    u64 v149, v151, v154, v158, v159, v161, v162, v167, v169, v172, v176, v177, v179, v180, v182, v185;
+    u64 v187, v190, v194, v196, v199, v203, v204, v206, v207, v209, v212, v214, v217, v219, v223, v224;
+    u64 v226, v227, v231, v233, v236, v240, v241, v243, v244, v246, v249, v251, v254, v256, v260, v261;
+    u64 v263, v264, v267, v270, v272, v275, v277, v283, v285, v288, v292, v293, v295, v296, v298, v301;
+    u64 v303, v306, v308, v312, v313, v315, v316, v319, v322, v324, v330, v332, v335, v337, v343, v346;
+    u64 v348, v351, v353, v354, v358, v359, v361, v362, v364, v365, v366, v367, v369, v375, v376, v378;
+    u64 v379, v382, v385, v386, v387, v388, v389, v390, v392, v395, v397, v398, v399, v401, v402, v403;
+    u64 v404, v405, v407, v408, v410, v411, v412, v413, v414, v415, v416, v417, v418, v419, v420, v421;
+    u64 v422, v423, v424, v425, v426, v427, v428;
+    address v6, v9, v12, v15, v19, v21, v23, v27, v29, v32, v46, v47, v48, v51, v90, v92;
+    address v106, v132, v133, v138, v139, v144, v147, v148, v153, v156, v163, v165, v166, v171, v174, v181;
+    address v184, v186, v189, v192, v193, v198, v201, v208, v211, v213, v216, v218, v221, v229, v230, v235;
+    address v238, v245, v248, v250, v253, v255, v258, v265, v266, v269, v271, v274, v276, v281, v282, v287;
+    address v290, v297, v300, v302, v305, v307, v310, v317, v318, v321, v323, v326, v327, v329, v334, v336;
+    address v342, v345, v350, v352, v356, v363, v372, v373, v380, v381, v384, v391, v394, v406, v429, v430;
+    address v431;
+    struct s5 v31, v135, v136, v278, v279, v338, v339, v340, v341;
+    u8 v34, v37, v38, v39, v41, v57, v61, v65, v66, v67, v68, v69, v70, v71, v72, v73;
+    u8 v74, v77, v83, v84, v86, v91, v93, v99, v102, v104, v105, v107, v110, v116, v122, v127;
+    u8 v131, v137, v141, v143, v146, v150, v152, v155, v157, v160, v164, v168, v170, v173, v175, v178;
+    u8 v183, v188, v191, v195, v197, v200, v202, v205, v210, v215, v220, v222, v225, v228, v232, v234;
+    u8 v237, v239, v242, v247, v252, v257, v259, v262, v268, v273, v280, v284, v286, v289, v291, v294;
+    u8 v299, v304, v309, v311, v314, v320, v325, v328, v331, v333, v344, v347, v349, v355, v357, v360;
+    u8 v368, v370, v371, v374, v377, v383, v393, v396, v400, v409;
+    u64 block0[1];
+    u64 block1[1];
+    u64 block2[1];
+    v46 = ADDRESS(block0);
+    v47 = ADDRESS(block1);
+    v48 = ADDRESS(block2);
+    switch (a1) {
+    case 0u: goto L64;
+    case 1u: goto L64;
+    case 2u: goto L1;
+    case 3u: goto L2;
+    case 4u: goto L3;
+    case 5u: goto L4;
+    case 6u: goto L5;
+    case 7u: goto L6;
+    case 8u: goto L7;
+    case 9u: goto L8;
+    case 10u: goto L9;
+    case 11u: goto L12;
+    case 12u: goto L13;
+    case 13u: goto L14;
+    case 14u: goto L15;
+    default: goto L66;
+    }
+L1:;
+    v49 = (u64)a2;
+    store64(v48, 0u);
+    v50 = (u64)((u64)8u - (u64)v49);
+    v51 = v48 + v50 * 1u;
+    memory_cpy(v51, a3, v49);
+    v52 = load64(v48);
+    v53 = swap64(v52);
+    v54 = (u64)((u64)v49 << (3u & 63u));
+    v55 = (u64)((u64)v54 + (u64)UINT64_C(18446744073709551615));
+    v56 = (u64)((u64)v53 >> (v55 & 63u));
+    v57 = v56 == 0u;
+    v58 = (u64)((u64)UINT64_C(18446744073709551614) << (v55 & 63u));
+    v59 = v57 ? 0u : v58;
+    v60 = (u64)((u64)v59 + (u64)v53);
+    v61 = (u8)(v53);
+    v62 = (u64)((u64)v60 >> (8u & 63u));
+    v63 = (u64)((u64)v60 >> (16u & 63u));
+    v64 = (u64)((u64)v60 & (u64)UINT64_C(18446744069414584320));
+    v37 = 1u; v38 = 0u; v39 = 0u; v40 = 0u; v41 = v61; v42 = v62; v43 = v63; v44 = v64; v45 = 0u; goto L65;
+L2:;
+    v65 = load8(a3);
+    v66 = (u8)((u32)v65 & (u32)a2);
+    v67 = v66 != 0u;
+    v68 = (u8)v67;
+    v37 = 2u; v38 = v68; v39 = 0u; v40 = 0u; v41 = 0u; v42 = 0u; v43 = 0u; v44 = 0u; v45 = 0u; goto L65;
+L3:;
+    v69 = load8(a3);
+    v70 = (u8)((u32)v69 & (u32)3u);
+    v71 = v70 != 0u;
+    v72 = (u8)v71;
+    v37 = 2u; v38 = v72; v39 = 0u; v40 = 0u; v41 = 0u; v42 = 0u; v43 = 0u; v44 = 0u; v45 = 0u; goto L65;
+L4:;
+    v73 = load8(a3);
+    v74 = (u8)((u32)v73 & (u32)15u);
+    v37 = 0u; v38 = 0u; v39 = 0u; v40 = 0u; v41 = v74; v42 = 0u; v43 = 0u; v44 = 0u; v45 = 0u; goto L65;
+L5:;
+    v75 = load64(a3);
+    v76 = swap64(v75);
+    v77 = (u8)(v76);
+    v78 = (u64)((u64)v76 >> (8u & 63u));
+    v79 = (u64)((u64)v76 >> (16u & 63u));
+    v80 = (u64)((u64)v76 & (u64)UINT64_C(18446744069414584320));
+    v37 = 3u; v38 = 0u; v39 = 0u; v40 = 0u; v41 = v77; v42 = v78; v43 = v79; v44 = v80; v45 = 0u; goto L65;
+L6:;
+    v81 = load64(a3);
+    v82 = (u64)((u64)v81 >> (56u & 63u));
+    v83 = (u8)(v82);
+    v84 = (u8)(v81);
+    v85 = (u64)((u64)v81 >> (8u & 63u));
+    v86 = (u8)(v85);
+    v87 = (u64)((u64)v81 >> (16u & 63u));
+    v88 = (u64)((v87) & UINT64_C(1099511627775));
+    v37 = 4u; v38 = v84; v39 = v86; v40 = v88; v41 = v83; v42 = 0u; v43 = 0u; v44 = 0u; v45 = 0u; goto L65;
+L7:;
+    v89 = load64(a3);
+    v90 = a3 + 8u * 1u;
+    v91 = load8(v90);
+    v92 = a3 + 9u * 1u;
+    v93 = load8(v92);
+    v94 = (u64)v91;
+    v95 = (u64)((u64)v94 << (8u & 63u));
+    v96 = (u64)v93;
+    v97 = (u64)((u64)v95 | (u64)v96);
+    v98 = (u64)((u64)v89 >> (48u & 63u));
+    v99 = (u8)(v89);
+    v100 = (u64)((u64)v89 >> (8u & 63u));
+    v101 = (u64)((v100) & UINT64_C(1099511627775));
+    v102 = (u8)(v98);
+    v103 = (u64)((u64)v89 >> (56u & 63u));
+    v37 = 5u; v38 = 0u; v39 = v99; v40 = v101; v41 = v102; v42 = v103; v43 = v97; v44 = 0u; v45 = 0u; goto L65;
+L8:;
+    v104 = load8(a3);
+    v37 = 6u; v38 = a2; v39 = v104; v40 = 0u; v41 = 0u; v42 = 0u; v43 = 0u; v44 = 0u; v45 = 0u; goto L65;
+L9:;
+    v105 = a4 == 0u;
+    if (v105) { v5 = 0u; v6 = a3; goto L11; }
+    else { goto L10; }
+L10:;
+    v106 = a3 + 1u * 1u;
+    v107 = load8(a3);
+    v108 = (u64)v107;
+    v5 = v108; v6 = v106; goto L11;
+L11:;
+    v109 = (u64)v6;
+    v110 = (u8)(v109);
+    v111 = (u64)((u64)v109 >> (8u & 63u));
+    v112 = (u64)((u64)v109 >> (16u & 63u));
+    v113 = (u64)((u64)v109 & (u64)UINT64_C(18446744069414584320));
+    v37 = 8u; v38 = 0u; v39 = 0u; v40 = 0u; v41 = v110; v42 = v111; v43 = v112; v44 = v113; v45 = v5; goto L65;
+L12:;
+    v114 = (u64)a2;
+    store64(v47, 0u);
+    memory_cpy(v47, a3, v114);
+    v115 = load64(v47);
+    v116 = (u8)(v115);
+    v117 = (u64)((u64)v115 >> (8u & 63u));
+    v118 = (u64)((u64)v115 >> (16u & 63u));
+    v119 = (u64)((u64)v115 & (u64)UINT64_C(18446744069414584320));
+    v37 = 0u; v38 = 0u; v39 = 0u; v40 = 0u; v41 = v116; v42 = v117; v43 = v118; v44 = v119; v45 = 0u; goto L65;
+L13:;
+    v120 = (u64)a2;
+    v121 = (u64)a3;
+    v122 = (u8)(v121);
+    v123 = (u64)((u64)v121 >> (8u & 63u));
+    v124 = (u64)((u64)v121 >> (16u & 63u));
+    v125 = (u64)((u64)v121 & (u64)UINT64_C(18446744069414584320));
+    v37 = 9u; v38 = 0u; v39 = 0u; v40 = 0u; v41 = v122; v42 = v123; v43 = v124; v44 = v125; v45 = v120; goto L65;
+L14:;
+    v126 = (u64)a3;
+    v127 = (u8)(v126);
+    v128 = (u64)((u64)v126 >> (8u & 63u));
+    v129 = (u64)((u64)v126 >> (16u & 63u));
+    v130 = (u64)((u64)v126 & (u64)UINT64_C(18446744069414584320));
+    v37 = 10u; v38 = 0u; v39 = 0u; v40 = 0u; v41 = v127; v42 = v128; v43 = v129; v44 = v130; v45 = a4; goto L65;
+L15:;
+    switch (a2) {
+    case 0u: goto L16;
+    case 1u: goto L17;
+    case 2u: goto L19;
+    case 3u: goto L23;
+    case 4u: goto L28;
+    case 5u: goto L34;
+    case 6u: goto L41;
+    case 7u: goto L50;
+    case 8u: goto L51;
+    default: goto L53;
+    }
+L16:;
+    v131 = a4 < 2u;
+    v132 = a3 + 2u * 1u;
+    v133 = v131 ? ADDRESS(c112) : v132;
+    v134 = a4 > 2u ? (u64)((u64)a4 - (u64)2u) : 0u;
+    v135 = (struct s5){ 0 };
+    v135.m0 = v133;
+    v136 = v135;
+    v136.m1 = v134;
+    v31 = v136; goto L60;
+L17:;
+    v137 = a4 < 3u;
+    if (v137) { v34 = 9u; v35 = ADDRESS(c112); v36 = 0u; goto L63; }
+    else { goto L18; }
+L18:;
+    v138 = a3 + 2u * 1u;
+    v139 = a3 + 3u * 1u;
+    v140 = (u64)((u64)a4 + (u64)UINT64_C(18446744073709551613));
+    v141 = load8(v138);
+    v142 = (u64)v141;
+    v143 = v140 < v142;
+    v144 = v139 + v142 * 1u;
+    v145 = v140 > v142 ? (u64)((u64)v140 - (u64)v142) : 0u;
+    if (v143) { v34 = 9u; v35 = ADDRESS(c112); v36 = 0u; goto L63; }
+    else { v23 = v144; v24 = v145; goto L54; }
+L19:;
+    v146 = a4 < 3u;
+    if (v146) { v25 = 0u; v26 = 0u; v27 = ADDRESS(c112); goto L56; }
+    else { goto L20; }
+L20:;
+    v147 = a3 + 2u * 1u;
+    v148 = a3 + 3u * 1u;
+    v149 = (u64)((u64)a4 + (u64)UINT64_C(18446744073709551613));
+    v150 = load8(v147);
+    v151 = (u64)v150;
+    v152 = v149 < v151;
+    v153 = v148 + v151 * 1u;
+    v154 = v149 > v151 ? (u64)((u64)v149 - (u64)v151) : 0u;
+    if (v152) { v25 = 0u; v26 = 0u; v27 = ADDRESS(c112); goto L56; }
+    else { goto L21; }
+L21:;
+    v155 = v154 < 2u;
+    if (v155) { v25 = 0u; v26 = v154; v27 = ADDRESS(c112); goto L56; }
+    else { goto L22; }
+L22:;
+    v156 = v153 + 1u * 1u;
+    v157 = load8(v153);
+    v158 = (u64)v157;
+    v159 = (u64)((u64)v158 << (8u & 63u));
+    v160 = load8(v156);
+    v161 = (u64)v160;
+    v162 = (u64)((u64)v159 | (u64)v161);
+    v163 = v153 + 2u * 1u;
+    v25 = v162; v26 = v154; v27 = v163; goto L56;
+L23:;
+    v164 = a4 < 3u;
+    if (v164) { v7 = 0u; v8 = 0u; v9 = ADDRESS(c112); goto L27; }
+    else { goto L24; }
+L24:;
+    v165 = a3 + 2u * 1u;
+    v166 = a3 + 3u * 1u;
+    v167 = (u64)((u64)a4 + (u64)UINT64_C(18446744073709551613));
+    v168 = load8(v165);
+    v169 = (u64)v168;
+    v170 = v167 < v169;
+    v171 = v166 + v169 * 1u;
+    v172 = v167 > v169 ? (u64)((u64)v167 - (u64)v169) : 0u;
+    if (v170) { v7 = 0u; v8 = 0u; v9 = ADDRESS(c112); goto L27; }
+    else { goto L25; }
+L25:;
+    v173 = v172 < 2u;
+    if (v173) { v7 = 0u; v8 = v172; v9 = ADDRESS(c112); goto L27; }
+    else { goto L26; }
+L26:;
+    v174 = v171 + 1u * 1u;
+    v175 = load8(v171);
+    v176 = (u64)v175;
+    v177 = (u64)((u64)v176 << (8u & 63u));
+    v178 = load8(v174);
+    v179 = (u64)v178;
+    v180 = (u64)((u64)v177 | (u64)v179);
+    v181 = v171 + 2u * 1u;
+    v7 = v180; v8 = v172; v9 = v181; goto L27;
+L27:;
+    v182 = v8 > 2u ? (u64)((u64)v8 - (u64)2u) : 0u;
+    v183 = v182 < v7;
+    v184 = v9 + v7 * 1u;
+    v185 = v182 > v7 ? (u64)((u64)v182 - (u64)v7) : 0u;
+    v186 = v183 ? ADDRESS(c112) : v184;
+    v187 = v183 ? 0u : v185;
+    v188 = v187 < 2u;
+    v189 = v186 + 2u * 1u;
+    v190 = (u64)((u64)v187 + (u64)UINT64_C(18446744073709551614));
+    if (v188) { v34 = 9u; v35 = ADDRESS(c112); v36 = 0u; goto L63; }
+    else { v23 = v189; v24 = v190; goto L54; }
+L28:;
+    v191 = a4 < 3u;
+    if (v191) { v10 = 0u; v11 = 0u; v12 = ADDRESS(c112); goto L32; }
+    else { goto L29; }
+L29:;
+    v192 = a3 + 2u * 1u;
+    v193 = a3 + 3u * 1u;
+    v194 = (u64)((u64)a4 + (u64)UINT64_C(18446744073709551613));
+    v195 = load8(v192);
+    v196 = (u64)v195;
+    v197 = v194 < v196;
+    v198 = v193 + v196 * 1u;
+    v199 = v194 > v196 ? (u64)((u64)v194 - (u64)v196) : 0u;
+    if (v197) { v10 = 0u; v11 = 0u; v12 = ADDRESS(c112); goto L32; }
+    else { goto L30; }
+L30:;
+    v200 = v199 < 2u;
+    if (v200) { v10 = 0u; v11 = v199; v12 = ADDRESS(c112); goto L32; }
+    else { goto L31; }
+L31:;
+    v201 = v198 + 1u * 1u;
+    v202 = load8(v198);
+    v203 = (u64)v202;
+    v204 = (u64)((u64)v203 << (8u & 63u));
+    v205 = load8(v201);
+    v206 = (u64)v205;
+    v207 = (u64)((u64)v204 | (u64)v206);
+    v208 = v198 + 2u * 1u;
+    v10 = v207; v11 = v199; v12 = v208; goto L32;
+L32:;
+    v209 = v11 > 2u ? (u64)((u64)v11 - (u64)2u) : 0u;
+    v210 = v209 < v10;
+    v211 = v12 + v10 * 1u;
+    v212 = v209 > v10 ? (u64)((u64)v209 - (u64)v10) : 0u;
+    v213 = v210 ? ADDRESS(c112) : v211;
+    v214 = v210 ? 0u : v212;
+    v215 = v214 < 2u;
+    v216 = v213 + 2u * 1u;
+    v217 = v214 > 2u ? (u64)((u64)v214 - (u64)2u) : 0u;
+    v218 = v215 ? ADDRESS(c112) : v216;
+    v219 = v215 ? 0u : v217;
+    v220 = v219 < 2u;
+    if (v220) { v28 = 0u; goto L58; }
+    else { goto L33; }
+L33:;
+    v221 = v218 + 1u * 1u;
+    v222 = load8(v218);
+    v223 = (u64)v222;
+    v224 = (u64)((u64)v223 << (8u & 63u));
+    v225 = load8(v221);
+    v226 = (u64)v225;
+    v227 = (u64)((u64)v224 | (u64)v226);
+    v28 = v227; goto L58;
+L34:;
+    v228 = a4 < 3u;
+    if (v228) { v13 = 0u; v14 = 0u; v15 = ADDRESS(c112); goto L38; }
+    else { goto L35; }
+L35:;
+    v229 = a3 + 2u * 1u;
+    v230 = a3 + 3u * 1u;
+    v231 = (u64)((u64)a4 + (u64)UINT64_C(18446744073709551613));
+    v232 = load8(v229);
+    v233 = (u64)v232;
+    v234 = v231 < v233;
+    v235 = v230 + v233 * 1u;
+    v236 = v231 > v233 ? (u64)((u64)v231 - (u64)v233) : 0u;
+    if (v234) { v13 = 0u; v14 = 0u; v15 = ADDRESS(c112); goto L38; }
+    else { goto L36; }
+L36:;
+    v237 = v236 < 2u;
+    if (v237) { v13 = 0u; v14 = v236; v15 = ADDRESS(c112); goto L38; }
+    else { goto L37; }
+L37:;
+    v238 = v235 + 1u * 1u;
+    v239 = load8(v235);
+    v240 = (u64)v239;
+    v241 = (u64)((u64)v240 << (8u & 63u));
+    v242 = load8(v238);
+    v243 = (u64)v242;
+    v244 = (u64)((u64)v241 | (u64)v243);
+    v245 = v235 + 2u * 1u;
+    v13 = v244; v14 = v236; v15 = v245; goto L38;
+L38:;
+    v246 = v14 > 2u ? (u64)((u64)v14 - (u64)2u) : 0u;
+    v247 = v246 < v13;
+    v248 = v15 + v13 * 1u;
+    v249 = v246 > v13 ? (u64)((u64)v246 - (u64)v13) : 0u;
+    v250 = v247 ? ADDRESS(c112) : v248;
+    v251 = v247 ? 0u : v249;
+    v252 = v251 < 2u;
+    v253 = v250 + 2u * 1u;
+    v254 = v251 > 2u ? (u64)((u64)v251 - (u64)2u) : 0u;
+    v255 = v252 ? ADDRESS(c112) : v253;
+    v256 = v252 ? 0u : v254;
+    v257 = v256 < 2u;
+    if (v257) { v16 = 0u; goto L40; }
+    else { goto L39; }
+L39:;
+    v258 = v255 + 1u * 1u;
+    v259 = load8(v255);
+    v260 = (u64)v259;
+    v261 = (u64)((u64)v260 << (8u & 63u));
+    v262 = load8(v258);
+    v263 = (u64)v262;
+    v264 = (u64)((u64)v261 | (u64)v263);
+    v16 = v264; goto L40;
+L40:;
+    v265 = v255 + 2u * 1u;
+    v266 = v257 ? ADDRESS(c112) : v265;
+    v267 = v256 > 2u ? (u64)((u64)v256 - (u64)2u) : 0u;
+    v268 = v267 < v16;
+    v269 = v266 + v16 * 1u;
+    v270 = v267 > v16 ? (u64)((u64)v267 - (u64)v16) : 0u;
+    v271 = v268 ? ADDRESS(c112) : v269;
+    v272 = v268 ? 0u : v270;
+    v273 = v272 < 4u;
+    v274 = v271 + 4u * 1u;
+    v275 = v272 > 4u ? (u64)((u64)v272 - (u64)4u) : 0u;
+    v276 = v273 ? ADDRESS(c112) : v274;
+    v277 = v273 ? 0u : v275;
+    v278 = (struct s5){ 0 };
+    v278.m0 = v276;
+    v279 = v278;
+    v279.m1 = v277;
+    v31 = v279; goto L60;
+L41:;
+    v280 = a4 < 3u;
+    if (v280) { v17 = 0u; v18 = 0u; v19 = ADDRESS(c112); goto L45; }
+    else { goto L42; }
+L42:;
+    v281 = a3 + 2u * 1u;
+    v282 = a3 + 3u * 1u;
+    v283 = (u64)((u64)a4 + (u64)UINT64_C(18446744073709551613));
+    v284 = load8(v281);
+    v285 = (u64)v284;
+    v286 = v283 < v285;
+    v287 = v282 + v285 * 1u;
+    v288 = v283 > v285 ? (u64)((u64)v283 - (u64)v285) : 0u;
+    if (v286) { v17 = 0u; v18 = 0u; v19 = ADDRESS(c112); goto L45; }
+    else { goto L43; }
+L43:;
+    v289 = v288 < 2u;
+    if (v289) { v17 = 0u; v18 = v288; v19 = ADDRESS(c112); goto L45; }
+    else { goto L44; }
+L44:;
+    v290 = v287 + 1u * 1u;
+    v291 = load8(v287);
+    v292 = (u64)v291;
+    v293 = (u64)((u64)v292 << (8u & 63u));
+    v294 = load8(v290);
+    v295 = (u64)v294;
+    v296 = (u64)((u64)v293 | (u64)v295);
+    v297 = v287 + 2u * 1u;
+    v17 = v296; v18 = v288; v19 = v297; goto L45;
+L45:;
+    v298 = v18 > 2u ? (u64)((u64)v18 - (u64)2u) : 0u;
+    v299 = v298 < v17;
+    v300 = v19 + v17 * 1u;
+    v301 = v298 > v17 ? (u64)((u64)v298 - (u64)v17) : 0u;
+    v302 = v299 ? ADDRESS(c112) : v300;
+    v303 = v299 ? 0u : v301;
+    v304 = v303 < 2u;
+    v305 = v302 + 2u * 1u;
+    v306 = v303 > 2u ? (u64)((u64)v303 - (u64)2u) : 0u;
+    v307 = v304 ? ADDRESS(c112) : v305;
+    v308 = v304 ? 0u : v306;
+    v309 = v308 < 2u;
+    if (v309) { v20 = 0u; goto L47; }
+    else { goto L46; }
+L46:;
+    v310 = v307 + 1u * 1u;
+    v311 = load8(v307);
+    v312 = (u64)v311;
+    v313 = (u64)((u64)v312 << (8u & 63u));
+    v314 = load8(v310);
+    v315 = (u64)v314;
+    v316 = (u64)((u64)v313 | (u64)v315);
+    v20 = v316; goto L47;
+L47:;
+    v317 = v307 + 2u * 1u;
+    v318 = v309 ? ADDRESS(c112) : v317;
+    v319 = v308 > 2u ? (u64)((u64)v308 - (u64)2u) : 0u;
+    v320 = v319 < v20;
+    v321 = v318 + v20 * 1u;
+    v322 = v319 > v20 ? (u64)((u64)v319 - (u64)v20) : 0u;
+    v323 = v320 ? ADDRESS(c112) : v321;
+    v324 = v320 ? 0u : v322;
+    v325 = v324 < 4u;
+    v326 = v323 + 4u * 1u;
+    v327 = v325 ? ADDRESS(c112) : v326;
+    v328 = v324 < 5u;
+    if (v328) { v21 = v327; v22 = 0u; goto L49; }
+    else { goto L48; }
+L48:;
+    v329 = v323 + 5u * 1u;
+    v330 = (u64)((u64)v324 + (u64)UINT64_C(18446744073709551611));
+    v331 = load8(v326);
+    v332 = (u64)v331;
+    v333 = v330 < v332;
+    v334 = v329 + v332 * 1u;
+    v335 = v330 > v332 ? (u64)((u64)v330 - (u64)v332) : 0u;
+    v336 = v333 ? ADDRESS(c112) : v334;
+    v337 = v333 ? 0u : v335;
+    v21 = v336; v22 = v337; goto L49;
+L49:;
+    v338 = (struct s5){ 0 };
+    v338.m0 = v21;
+    v339 = v338;
+    v339.m1 = v22;
+    v31 = v339; goto L60;
+L50:;
+    v340 = f49(a3, a4);
+    v31 = v340; goto L60;
+L51:;
+    v341 = f49(a3, a4);
+    v342 = v341.m0;
+    v343 = v341.m1;
+    v344 = v343 == 0u;
+    if (v344) { v29 = v342; v30 = 0u; goto L59; }
+    else { goto L52; }
+L52:;
+    v345 = v342 + 1u * 1u;
+    v346 = (u64)((u64)v343 + (u64)UINT64_C(18446744073709551615));
+    v347 = load8(v342);
+    v348 = (u64)v347;
+    v349 = v346 < v348;
+    v350 = v345 + v348 * 1u;
+    v351 = v346 > v348 ? (u64)((u64)v346 - (u64)v348) : 0u;
+    v352 = v349 ? ADDRESS(c112) : v350;
+    v353 = v351 < 6u ? v351 : 6u;
+    v354 = v349 ? 0u : v353;
+    v29 = v352; v30 = v354; goto L59;
+L53:;
+    UNREACHABLE;
+L54:;
+    v355 = v24 < 2u;
+    if (v355) { v34 = 9u; v35 = ADDRESS(c112); v36 = 0u; goto L63; }
+    else { goto L55; }
+L55:;
+    v356 = v23 + 1u * 1u;
+    v357 = load8(v23);
+    v358 = (u64)v357;
+    v359 = (u64)((u64)v358 << (8u & 63u));
+    v360 = load8(v356);
+    v361 = (u64)v360;
+    v362 = (u64)((u64)v359 | (u64)v361);
+    v363 = v23 + 2u * 1u;
+    v364 = (u64)((u64)v24 + (u64)UINT64_C(18446744073709551614));
+    v365 = v364 < v362 ? v364 : v362;
+    v366 = (u64)v363;
+    v34 = 9u; v35 = v366; v36 = v365; goto L63;
+L56:;
+    v367 = v26 > 2u ? (u64)((u64)v26 - (u64)2u) : 0u;
+    v368 = v367 < v25;
+    v369 = v367 > v25 ? (u64)((u64)v367 - (u64)v25) : 0u;
+    v370 = v369 < 2u;
+    v371 = (u8)(((u32)v368 | (u32)v370) & UINT64_C(1));
+    if (v371) { v34 = 0u; v35 = 0u; v36 = 0u; goto L63; }
+    else { goto L57; }
+L57:;
+    v372 = v27 + v25 * 1u;
+    v373 = v372 + 1u * 1u;
+    v374 = load8(v372);
+    v375 = (u64)v374;
+    v376 = (u64)((u64)v375 << (8u & 63u));
+    v377 = load8(v373);
+    v378 = (u64)v377;
+    v379 = (u64)((u64)v376 | (u64)v378);
+    v34 = 0u; v35 = v379; v36 = 0u; goto L63;
+L58:;
+    v380 = v218 + 2u * 1u;
+    v381 = v220 ? ADDRESS(c112) : v380;
+    v382 = v219 > 2u ? (u64)((u64)v219 - (u64)2u) : 0u;
+    v383 = v382 < v28;
+    v384 = v381 + v28 * 1u;
+    v385 = v382 > v28 ? (u64)((u64)v382 - (u64)v28) : 0u;
+    v386 = v385 < 3u ? v385 : 3u;
+    v387 = v383 ? 0u : v386;
+    v388 = (u64)v384;
+    v389 = v383 ? ADDRESS(c112) : v388;
+    v34 = 9u; v35 = v389; v36 = v387; goto L63;
+L59:;
+    v390 = (u64)v29;
+    v34 = 9u; v35 = v390; v36 = v30; goto L63;
+L60:;
+    v391 = v31.m0;
+    v392 = v31.m1;
+    v393 = v392 == 0u;
+    if (v393) { v32 = v391; v33 = 0u; goto L62; }
+    else { goto L61; }
+L61:;
+    v394 = v391 + 1u * 1u;
+    v395 = (u64)((u64)v392 + (u64)UINT64_C(18446744073709551615));
+    v396 = load8(v391);
+    v397 = (u64)v396;
+    v398 = v395 < v397 ? v395 : v397;
+    v32 = v394; v33 = v398; goto L62;
+L62:;
+    v399 = (u64)v32;
+    v34 = 8u; v35 = v399; v36 = v33; goto L63;
+L63:;
+    v400 = (u8)(v35);
+    v401 = (u64)((u64)v35 >> (8u & 63u));
+    v402 = (u64)((u64)v35 >> (16u & 63u));
+    v403 = (u64)((u64)v35 & (u64)UINT64_C(18446744069414584320));
+    v37 = v34; v38 = 0u; v39 = 0u; v40 = 0u; v41 = v400; v42 = v401; v43 = v402; v44 = v403; v45 = v36; goto L65;
+L64:;
+    v404 = (u64)a2;
+    store64(v46, 0u);
+    v405 = (u64)((u64)8u - (u64)v404);
+    v406 = v46 + v405 * 1u;
+    memory_cpy(v406, a3, v404);
+    v407 = load64(v46);
+    v408 = swap64(v407);
+    v409 = (u8)(v408);
+    v410 = (u64)((u64)v408 >> (8u & 63u));
+    v411 = (u64)((u64)v408 >> (16u & 63u));
+    v412 = (u64)((u64)v408 & (u64)UINT64_C(18446744069414584320));
+    v37 = 0u; v38 = 0u; v39 = 0u; v40 = 0u; v41 = v409; v42 = v410; v43 = v411; v44 = v412; v45 = 0u; goto L65;
+L65:;
+    v413 = (u64)v40;
+    v414 = (u64)(((u64)v413 << (8u & 63u)) & UINT64_C(281474976710655));
+    v415 = (u64)v39;
+    v416 = (u64)(((u64)v414 | (u64)v415) & UINT64_C(281474976710655));
+    v417 = (u64)v416;
+    v418 = (u64)(((u64)v417 << (8u & 63u)) & UINT64_C(72057594037927935));
+    v419 = (u64)v38;
+    v420 = (u64)(((u64)v418 | (u64)v419) & UINT64_C(72057594037927935));
+    v421 = (u64)((u64)v42 << (8u & 63u));
+    v422 = (u64)((u64)v421 & (u64)65280u);
+    v423 = (u64)v41;
+    v424 = (u64)((u64)v43 << (16u & 63u));
+    v425 = (u64)((u64)v424 & (u64)UINT64_C(4294901760));
+    v426 = (u64)((u64)v422 | (u64)v423);
+    v427 = (u64)((u64)v426 | (u64)v44);
+    v428 = (u64)((u64)v427 | (u64)v425);
+    store8(a0, v37);
+    v429 = a0 + 1u * 1u;
+    store8(v429 + 0u, (u8)((u64)v420 >> 0));
+    store8(v429 + 1u, (u8)((u64)v420 >> 8));
+    store8(v429 + 2u, (u8)((u64)v420 >> 16));
+    store8(v429 + 3u, (u8)((u64)v420 >> 24));
+    store8(v429 + 4u, (u8)((u64)v420 >> 32));
+    store8(v429 + 5u, (u8)((u64)v420 >> 40));
+    store8(v429 + 6u, (u8)((u64)v420 >> 48));
+    v430 = a0 + 8u * 1u;
+    store64(v430, v428);
+    v431 = a0 + 16u * 1u;
+    store64(v431, v45);
+    return;
+L66:;
+    UNREACHABLE;
+}
+
+static void f51(u64 a0, address a1) {
     u64 v2, v3, v4, v5, v6, v7, v8, v11, v12, v13, v14, v20, v28, v30, v42, v44;
     u64 v45, v57, v68, v70, v72, v80, v85, v87, v89, v93;
     address v9, v21, v23, v25, v26, v27, v31, v33, v35, v36, v43, v46, v48, v50, v51, v58;
@@ -11708,7 +12863,7 @@ L1:;
     v18 = (u16)((u32)v15 - (u32)v17);
     v19 = (u16)((u32)v18 << (1u & 15u));
     v20 = (u64)v19;
-    v21 = ADDRESS(c294) + v20 * 1u;
+    v21 = ADDRESS(c306) + v20 * 1u;
     v22 = load8(v21);
     v23 = v21 + 1u * 1u;
     v24 = load8(v23);
@@ -11720,7 +12875,7 @@ L1:;
     v28 = (u64)((u64)v3 + (u64)UINT64_C(18446744073709551612));
     v29 = (u16)((u32)v16 << (1u & 15u));
     v30 = (u64)v29;
-    v31 = ADDRESS(c294) + v30 * 1u;
+    v31 = ADDRESS(c306) + v30 * 1u;
     v32 = load8(v31);
     v33 = v31 + 1u * 1u;
     v34 = load8(v33);
@@ -11749,7 +12904,7 @@ L4:;
 L5:;
     v44 = (u64)((u64)v4 + (u64)UINT64_C(18446744073709551614));
     v45 = (u64)((u64)v5 << (1u & 63u));
-    v46 = ADDRESS(c294) + v45 * 1u;
+    v46 = ADDRESS(c306) + v45 * 1u;
     v47 = load8(v46);
     v48 = v46 + 1u * 1u;
     v49 = load8(v48);
@@ -11765,7 +12920,7 @@ L6:;
     v55 = (u16)((u32)v52 - (u32)v54);
     v56 = (u16)((u32)v55 << (1u & 15u));
     v57 = (u64)v56;
-    v58 = ADDRESS(c294) + v57 * 1u;
+    v58 = ADDRESS(c306) + v57 * 1u;
     v59 = load8(v58);
     v60 = v58 + 1u * 1u;
     v61 = load8(v60);
@@ -11788,7 +12943,7 @@ L8:;
     v70 = (u64)((u64)v4 + (u64)UINT64_C(18446744073709551612));
     v71 = (u16)((u32)v53 << (1u & 15u));
     v72 = (u64)v71;
-    v73 = ADDRESS(c294) + v72 * 1u;
+    v73 = ADDRESS(c306) + v72 * 1u;
     v74 = load8(v73);
     v75 = v73 + 1u * 1u;
     v76 = load8(v75);
@@ -11830,7 +12985,433 @@ L13:;
     return;
 }
 
-static u32 f48(address a0, u64 a1, address a2, u64 a3) {
+static struct s4 f52(address a0, u64 a1) {
+    u64 v2, v4, v5, v8, v12, v27;
+    address v3, v9, v14, v16;
+    u8 v6, v11, v13, v15, v17, v18, v19, v20, v21, v22, v23, v24, v25, v26, v28;
+    u16 v7, v10;
+    struct s4 v29, v30;
+    v2 = 0u; goto L1;
+L1:;
+    v8 = (u64)((u64)v2 << (1u & 63u));
+    v9 = ADDRESS(c311) + v8 * 1u;
+    v10 = load16(v9);
+    switch (v10) {
+    case 0u: v3 = ADDRESS(c114); v4 = 19u; goto L22;
+    case 2u: goto L2;
+    case 8192u: goto L3;
+    case 8193u: goto L4;
+    case 8194u: goto L5;
+    case 8195u: goto L6;
+    case 8196u: goto L7;
+    case 8197u: goto L8;
+    case 8198u: goto L9;
+    case 8199u: goto L10;
+    case 8200u: goto L11;
+    case 8201u: goto L12;
+    case 8202u: goto L13;
+    case 8203u: goto L14;
+    case 8204u: goto L15;
+    case 8205u: goto L16;
+    case 8206u: goto L17;
+    case 8208u: goto L18;
+    case 8209u: goto L19;
+    case 24576u: goto L20;
+    case 24577u: goto L21;
+    default: goto L25;
+    }
+L2:;
+    v3 = ADDRESS(c115); v4 = 16u; goto L22;
+L3:;
+    v3 = ADDRESS(c116); v4 = 16u; goto L22;
+L4:;
+    v3 = ADDRESS(c117); v4 = 16u; goto L22;
+L5:;
+    v3 = ADDRESS(c118); v4 = 15u; goto L22;
+L6:;
+    v3 = ADDRESS(c119); v4 = 24u; goto L22;
+L7:;
+    v3 = ADDRESS(c120); v4 = 13u; goto L22;
+L8:;
+    v3 = ADDRESS(c121); v4 = 9u; goto L22;
+L9:;
+    v3 = ADDRESS(c122); v4 = 9u; goto L22;
+L10:;
+    v3 = ADDRESS(c123); v4 = 6u; goto L22;
+L11:;
+    v3 = ADDRESS(c124); v4 = 10u; goto L22;
+L12:;
+    v3 = ADDRESS(c130); v4 = 21u; goto L22;
+L13:;
+    v3 = ADDRESS(c132); v4 = 24u; goto L22;
+L14:;
+    v3 = ADDRESS(c134); v4 = 17u; goto L22;
+L15:;
+    v3 = ADDRESS(c125); v4 = 14u; goto L22;
+L16:;
+    v3 = ADDRESS(c126); v4 = 11u; goto L22;
+L17:;
+    v3 = ADDRESS(c127); v4 = 12u; goto L22;
+L18:;
+    v3 = ADDRESS(c128); v4 = 14u; goto L22;
+L19:;
+    v3 = ADDRESS(c129); v4 = 14u; goto L22;
+L20:;
+    v3 = ADDRESS(c136); v4 = 15u; goto L22;
+L21:;
+    v3 = ADDRESS(c138); v4 = 27u; goto L22;
+L22:;
+    v11 = v4 == a1;
+    if (v11) { v5 = 0u; goto L24; }
+    else { goto L25; }
+L23:;
+    v12 = (u64)((u64)v5 + (u64)1u);
+    v13 = v12 == a1;
+    if (v13) { v6 = 1u; v7 = v10; goto L26; }
+    else { v5 = v12; goto L24; }
+L24:;
+    v14 = v3 + v5 * 1u;
+    v15 = load8(v14);
+    v16 = a0 + v5 * 1u;
+    v17 = load8(v16);
+    v18 = (u8)((u32)v15 + (u32)191u);
+    v19 = v18 < 26u;
+    v20 = (u8)((u32)v15 + (u32)32u);
+    v21 = v19 ? v20 : v15;
+    v22 = (u8)((u32)v17 + (u32)191u);
+    v23 = v22 < 26u;
+    v24 = (u8)((u32)v17 + (u32)32u);
+    v25 = v23 ? v24 : v17;
+    v26 = v21 == v25;
+    if (v26) { goto L23; }
+    else { goto L25; }
+L25:;
+    v27 = (u64)((u64)v2 + (u64)1u);
+    v28 = v27 == 21u;
+    if (v28) { v6 = 0u; v7 = 0u; goto L26; }
+    else { v2 = v27; goto L1; }
+L26:;
+    v29 = (struct s4){ 0 };
+    v29.m0 = v6;
+    v30 = v29;
+    v30.m1 = v7;
+    return v30;
+}
+
+static struct s4 f53(address a0, u64 a1) {
+    u8 v2, v3, v4, v5, v7, v8, v9, v11, v12, v13, v14, v15, v16, v17, v18, v19;
+    u8 v20, v21, v22, v23, v24, v25, v26, v27, v29, v31, v32, v33, v34, v35, v36, v37;
+    u8 v38, v39, v40, v41, v42, v43, v44, v45, v46, v47;
+    u16 v6, v48, v49, v50, v51;
+    address v10, v28, v30;
+    struct s4 v52, v53;
+    v8 = a1 == 4u;
+    if (v8) { goto L1; }
+    else { v6 = 0u; v7 = 0u; goto L22; }
+L1:;
+    v9 = load8(a0);
+    v10 = a0 + 1u * 1u;
+    v11 = load8(v10);
+    v12 = v9 < 48u;
+    if (v12) { v6 = 0u; v7 = 0u; goto L22; }
+    else { goto L2; }
+L2:;
+    v13 = v9 < 58u;
+    if (v13) { v2 = 208u; goto L6; }
+    else { goto L3; }
+L3:;
+    v14 = v9 < 65u;
+    if (v14) { v6 = 0u; v7 = 0u; goto L22; }
+    else { goto L4; }
+L4:;
+    v15 = v9 < 71u;
+    if (v15) { v2 = 201u; goto L6; }
+    else { goto L5; }
+L5:;
+    v16 = (u8)((u32)v9 + (u32)159u);
+    v17 = v16 < 6u;
+    if (v17) { v2 = 169u; goto L6; }
+    else { v6 = 0u; v7 = 0u; goto L22; }
+L6:;
+    v18 = (u8)((u32)v2 + (u32)v9);
+    v19 = v11 < 48u;
+    if (v19) { v6 = 0u; v7 = 0u; goto L22; }
+    else { goto L7; }
+L7:;
+    v20 = v11 < 58u;
+    if (v20) { v3 = 208u; goto L11; }
+    else { goto L8; }
+L8:;
+    v21 = v11 < 65u;
+    if (v21) { v6 = 0u; v7 = 0u; goto L22; }
+    else { goto L9; }
+L9:;
+    v22 = v11 < 71u;
+    if (v22) { v3 = 201u; goto L11; }
+    else { goto L10; }
+L10:;
+    v23 = (u8)((u32)v11 + (u32)159u);
+    v24 = v23 < 6u;
+    if (v24) { v3 = 169u; goto L11; }
+    else { v6 = 0u; v7 = 0u; goto L22; }
+L11:;
+    v25 = (u8)((u32)v18 << (4u & 7u));
+    v26 = (u8)((u32)v25 + (u32)v11);
+    v27 = (u8)((u32)v26 + (u32)v3);
+    v28 = a0 + 2u * 1u;
+    v29 = load8(v28);
+    v30 = a0 + 3u * 1u;
+    v31 = load8(v30);
+    v32 = v29 < 48u;
+    if (v32) { v6 = 0u; v7 = 0u; goto L22; }
+    else { goto L12; }
+L12:;
+    v33 = v29 < 58u;
+    if (v33) { v4 = 208u; goto L16; }
+    else { goto L13; }
+L13:;
+    v34 = v29 < 65u;
+    if (v34) { v6 = 0u; v7 = 0u; goto L22; }
+    else { goto L14; }
+L14:;
+    v35 = v29 < 71u;
+    if (v35) { v4 = 201u; goto L16; }
+    else { goto L15; }
+L15:;
+    v36 = (u8)((u32)v29 + (u32)159u);
+    v37 = v36 < 6u;
+    if (v37) { v4 = 169u; goto L16; }
+    else { v6 = 0u; v7 = 0u; goto L22; }
+L16:;
+    v38 = (u8)((u32)v4 + (u32)v29);
+    v39 = v31 < 48u;
+    if (v39) { v6 = 0u; v7 = 0u; goto L22; }
+    else { goto L17; }
+L17:;
+    v40 = v31 < 58u;
+    if (v40) { v5 = 208u; goto L21; }
+    else { goto L18; }
+L18:;
+    v41 = v31 < 65u;
+    if (v41) { v6 = 0u; v7 = 0u; goto L22; }
+    else { goto L19; }
+L19:;
+    v42 = v31 < 71u;
+    if (v42) { v5 = 201u; goto L21; }
+    else { goto L20; }
+L20:;
+    v43 = (u8)((u32)v31 + (u32)159u);
+    v44 = v43 < 6u;
+    if (v44) { v5 = 169u; goto L21; }
+    else { v6 = 0u; v7 = 0u; goto L22; }
+L21:;
+    v45 = (u8)((u32)v38 << (4u & 7u));
+    v46 = (u8)((u32)v45 + (u32)v31);
+    v47 = (u8)((u32)v46 + (u32)v5);
+    v48 = (u16)v27;
+    v49 = (u16)((u32)v48 << (8u & 15u));
+    v50 = (u16)v47;
+    v51 = (u16)((u32)v49 | (u32)v50);
+    v6 = v51; v7 = 1u; goto L22;
+L22:;
+    v52 = (struct s4){ 0 };
+    v52.m0 = v7;
+    v53 = v52;
+    v53.m1 = v6;
+    return v53;
+}
+
+static void f54(address a0, address a1, u64 a2) {
+    u8 v3, v6, v7, v8, v11, v12, v13, v18, v20, v21, v23, v24, v26, v29, v31, v32;
+    u8 v33, v34, v35, v36, v37, v38, v39, v40, v41, v42, v43, v44, v45, v46, v47, v50;
+    u8 v60, v62, v63, v64, v65, v66, v67, v68, v69, v70, v71, v72, v73, v74, v75, v76;
+    u8 v77, v78, v81;
+    u64 v4, v5, v9, v10, v14, v27, v49, v51, v58, v80, v82;
+    address v15, v16, v17, v19, v22, v25, v28, v30, v48, v52, v53, v54, v56, v57, v59, v61;
+    address v79;
+    u32 v55;
+    u64 block0[1];
+    u64 block1[1];
+    u64 block2[3];
+    v15 = ADDRESS(block0);
+    v16 = ADDRESS(block1);
+    v17 = ADDRESS(block2);
+    v18 = a2 == 18u;
+    if (v18) { goto L1; }
+    else { goto L6; }
+L1:;
+    v19 = a1 + 6u * 1u;
+    v20 = load8(v19);
+    v21 = v20 == 46u;
+    if (v21) { goto L3; }
+    else { goto L2; }
+L2:;
+    v8 = 0u; v9 = 0u; goto L20;
+L3:;
+    v22 = a1 + 11u * 1u;
+    v23 = load8(v22);
+    v24 = v23 == 46u;
+    if (v24) { goto L21; }
+    else { goto L4; }
+L4:;
+    v8 = 0u; v9 = 0u; goto L20;
+L5:;
+    store8(a0, v3);
+    v25 = a0 + 1u * 1u;
+    store64(v25, v4);
+    return;
+L6:;
+    v26 = a2 == 16u;
+    if (v26) { goto L7; }
+    else { v8 = 0u; v9 = 0u; goto L20; }
+L7:;
+    store64(v16, 0u);
+    v5 = 0u; goto L8;
+L8:;
+    v27 = (u64)((u64)v5 << (1u & 63u));
+    v28 = a1 + v27 * 1u;
+    v29 = load8(v28);
+    v30 = v28 + 1u * 1u;
+    v31 = load8(v30);
+    v32 = v29 < 48u;
+    if (v32) { v8 = 0u; v9 = 0u; goto L20; }
+    else { goto L9; }
+L9:;
+    v33 = v29 < 58u;
+    if (v33) { v6 = 208u; goto L13; }
+    else { goto L10; }
+L10:;
+    v34 = v29 < 65u;
+    if (v34) { v8 = 0u; v9 = 0u; goto L20; }
+    else { goto L11; }
+L11:;
+    v35 = v29 < 71u;
+    if (v35) { v6 = 201u; goto L13; }
+    else { goto L12; }
+L12:;
+    v36 = (u8)((u32)v29 + (u32)159u);
+    v37 = v36 < 6u;
+    if (v37) { v6 = 169u; goto L13; }
+    else { v8 = 0u; v9 = 0u; goto L20; }
+L13:;
+    v38 = (u8)((u32)v6 + (u32)v29);
+    v39 = v31 < 48u;
+    if (v39) { v8 = 0u; v9 = 0u; goto L20; }
+    else { goto L14; }
+L14:;
+    v40 = v31 < 58u;
+    if (v40) { v7 = 208u; goto L18; }
+    else { goto L15; }
+L15:;
+    v41 = v31 < 65u;
+    if (v41) { v8 = 0u; v9 = 0u; goto L20; }
+    else { goto L16; }
+L16:;
+    v42 = v31 < 71u;
+    if (v42) { v7 = 201u; goto L18; }
+    else { goto L17; }
+L17:;
+    v43 = (u8)((u32)v31 + (u32)159u);
+    v44 = v43 < 6u;
+    if (v44) { v7 = 169u; goto L18; }
+    else { v8 = 0u; v9 = 0u; goto L20; }
+L18:;
+    v45 = (u8)((u32)v38 << (4u & 7u));
+    v46 = (u8)((u32)v45 + (u32)v31);
+    v47 = (u8)((u32)v46 + (u32)v7);
+    v48 = v16 + v5 * 1u;
+    store8(v48, v47);
+    v49 = (u64)((u64)v5 + (u64)1u);
+    v50 = v49 == 8u;
+    if (v50) { goto L19; }
+    else { v5 = v49; goto L8; }
+L19:;
+    v51 = load64(v16);
+    v8 = 1u; v9 = v51; goto L20;
+L20:;
+    v3 = v8; v4 = v9; goto L5;
+L21:;
+    memory_set(v17, 0u, 24u);
+    v52 = v17 + 16u * 1u;
+    memory_cpy(v17, a1, 6u);
+    store64(v52, 6u);
+    v53 = a1 + 7u * 1u;
+    v54 = v17 + 6u * 1u;
+    v55 = load32(v53);
+    store32(v54, v55);
+    store64(v52, 10u);
+    v56 = a1 + 12u * 1u;
+    v57 = v17 + 10u * 1u;
+    memory_cpy(v57, v56, 6u);
+    store64(v52, 16u);
+    store64(v15, 0u);
+    v10 = 0u; goto L22;
+L22:;
+    v58 = (u64)((u64)v10 << (1u & 63u));
+    v59 = v17 + v58 * 1u;
+    v60 = load8(v59);
+    v61 = v59 + 1u * 1u;
+    v62 = load8(v61);
+    v63 = v60 < 48u;
+    if (v63) { v13 = 0u; v14 = 0u; goto L34; }
+    else { goto L23; }
+L23:;
+    v64 = v60 < 58u;
+    if (v64) { v11 = 208u; goto L27; }
+    else { goto L24; }
+L24:;
+    v65 = v60 < 65u;
+    if (v65) { v13 = 0u; v14 = 0u; goto L34; }
+    else { goto L25; }
+L25:;
+    v66 = v60 < 71u;
+    if (v66) { v11 = 201u; goto L27; }
+    else { goto L26; }
+L26:;
+    v67 = (u8)((u32)v60 + (u32)159u);
+    v68 = v67 < 6u;
+    if (v68) { v11 = 169u; goto L27; }
+    else { v13 = 0u; v14 = 0u; goto L34; }
+L27:;
+    v69 = (u8)((u32)v11 + (u32)v60);
+    v70 = v62 < 48u;
+    if (v70) { v13 = 0u; v14 = 0u; goto L34; }
+    else { goto L28; }
+L28:;
+    v71 = v62 < 58u;
+    if (v71) { v12 = 208u; goto L32; }
+    else { goto L29; }
+L29:;
+    v72 = v62 < 65u;
+    if (v72) { v13 = 0u; v14 = 0u; goto L34; }
+    else { goto L30; }
+L30:;
+    v73 = v62 < 71u;
+    if (v73) { v12 = 201u; goto L32; }
+    else { goto L31; }
+L31:;
+    v74 = (u8)((u32)v62 + (u32)159u);
+    v75 = v74 < 6u;
+    if (v75) { v12 = 169u; goto L32; }
+    else { v13 = 0u; v14 = 0u; goto L34; }
+L32:;
+    v76 = (u8)((u32)v69 << (4u & 7u));
+    v77 = (u8)((u32)v76 + (u32)v62);
+    v78 = (u8)((u32)v77 + (u32)v12);
+    v79 = v15 + v10 * 1u;
+    store8(v79, v78);
+    v80 = (u64)((u64)v10 + (u64)1u);
+    v81 = v80 == 8u;
+    if (v81) { goto L33; }
+    else { v10 = v80; goto L22; }
+L33:;
+    v82 = load64(v15);
+    v13 = 1u; v14 = v82; goto L34;
+L34:;
+    v3 = v13; v4 = v14; goto L5;
+}
+
+static u32 f55(address a0, u64 a1, address a2, u64 a3) {
     u32 v4, v6, v7, v9, v13, v14, v15, v17, v18, v19, v20, v22, v23, v24, v25, v27;
     u32 v28, v29, v30, v32, v33, v34, v35, v37, v38, v39, v40, v42, v43, v44, v45, v47;
     u32 v48, v49, v50, v52, v53, v54, v60, v61, v62, v64, v65, v66, v67, v69, v70, v71;
@@ -11950,7 +13531,7 @@ L4:;
     return v104;
 }
 
-static void f49(address a0, address a1, u64 a2) {
+static void f56(address a0, address a1, u64 a2) {
     u32 v3, v31, v32, v33, v34, v35, v36, v37, v38, v39, v40, v41, v77, v78, v79, v81;
     u32 v82, v83, v84, v86, v87, v88, v89, v91, v92, v93, v94, v96, v97, v98, v99, v101;
     u32 v102, v103, v104, v106, v107, v108, v109, v111, v112, v113, v114, v116, v117, v118, v121, v122;
@@ -11985,7 +13566,7 @@ L1:;
     if (v19) { goto L4; }
     else { goto L2; }
 L2:;
-    v20 = f4(a1, 4u, ADDRESS(c301), 4u);
+    v20 = f4(a1, 4u, ADDRESS(c313), 4u);
     if (v20) { goto L5; }
     else { goto L4; }
 L3:;
@@ -12055,7 +13636,7 @@ L8:;
     if (v64) { goto L13; }
     else { goto L9; }
 L9:;
-    v65 = f4(v50, 4u, ADDRESS(c300), 4u);
+    v65 = f4(v50, 4u, ADDRESS(c312), 4u);
     if (v65) { goto L10; }
     else { goto L13; }
 L10:;
@@ -12191,7 +13772,7 @@ L14:;
     goto L3;
 }
 
-static u8 f50(address a0, u64 a1, address a2) {
+static u8 f57(address a0, u64 a1, address a2) {
     address v3, v7, v8, v10, v14, v21, v24, v27, v30, v33, v36, v39, v42, v45, v48, v51;
     address v54, v57, v60, v63, v66, v69, v72, v75, v78, v81, v84, v87, v90, v93, v96, v99;
     address v102, v105, v108, v111, v114;
@@ -12430,7 +14011,7 @@ L38:;
     return v5;
 }
 
-static u8 f51(u64 a0, address a1, u64 a2, address a3, u64 a4, u64 a5) {
+static u8 f58(u64 a0, address a1, u64 a2, address a3, u64 a4, u64 a5) {
     u64 v6, v8, v12, v13, v16, v17, v18, v19, v20, v21, v22, v24, v25, v26, v27, v28;
     u64 v31, v32, v35, v36, v37, v40, v41, v42, v43, v44, v45, v46, v47, v48, v49, v50;
     u64 v51, v52, v54, v55, v56, v58, v59, v61, v69, v72, v84, v86, v88, v90, v91, v92;
@@ -12576,7 +14157,887 @@ L13:;
     v7 = 1u; goto L10;
 }
 
-static u32 f52(address a0, address a1) {
+static void f59(address a0, u32 a1, address a2, u64 a3) {
+    u64 v4, v5, v6, v7, v8, v9, v10, v12, v14, v15, v27, v44, v45, v46, v47, v48;
+    u64 v49, v50, v51, v52, v53, v54, v55, v56, v57, v58, v59, v60, v61, v62, v63, v64;
+    u64 v65, v66, v67, v68, v69, v70, v71, v72, v74, v75, v76, v94, v95, v96, v97, v98;
+    u64 v99, v100, v101, v102, v103, v104, v105, v106, v107, v108, v109, v110, v111, v112, v113, v114;
+    u64 v115, v116, v117, v118, v119, v136, v137, v138, v139, v140, v141, v142, v143, v144, v145, v146;
+    u64 v147, v148, v149, v150, v151, v152, v153, v154, v155, v156, v157, v158, v159, v160, v161, v178;
+    u64 v179, v180, v181, v182, v183, v184, v185, v186, v187, v188, v189, v190, v191, v192, v193, v194;
+    u64 v195, v196, v197, v198, v199, v200, v201, v202, v203, v220, v221, v222, v223, v224, v225, v226;
+    u64 v227, v228, v229, v230, v231, v232, v233, v234, v235, v236, v237, v238, v239, v240, v241, v242;
+    u64 v243, v244, v245, v246, v247, v248, v249, v251, v252, v253, v255, v273, v274, v275, v276, v277;
+    u64 v278, v279, v280, v281, v282, v283, v284, v285, v286, v287, v288, v289, v290, v291, v292, v293;
+    u64 v294, v295, v296, v297, v298, v299, v301, v302, v303, v304, v305, v306, v308, v325, v326, v327;
+    u64 v328, v329, v330, v331, v332, v333, v334, v335, v336, v337, v338, v339, v340, v341, v342, v343;
+    u64 v344, v345, v346, v347, v348, v349, v350, v351, v353, v354, v355, v356, v358, v360, v366, v376;
+    u64 v378, v379, v381, v382;
+    u16 v11, v13, v385;
+    address v16, v17, v19, v20, v21, v24, v30, v32, v34, v36, v38, v40, v42, v78, v80, v82;
+    address v84, v86, v88, v90, v92, v120, v122, v124, v126, v128, v130, v132, v134, v162, v164, v166;
+    address v168, v170, v172, v174, v176, v204, v206, v208, v210, v212, v214, v216, v218, v257, v259, v261;
+    address v263, v265, v267, v269, v271, v309, v311, v313, v315, v317, v319, v321, v323, v359, v363, v364;
+    address v365, v370;
+    u8 v18, v22, v23, v25, v26, v28, v29, v31, v33, v35, v37, v39, v41, v43, v73, v77;
+    u8 v79, v81, v83, v85, v87, v89, v91, v93, v121, v123, v125, v127, v129, v131, v133, v135;
+    u8 v163, v165, v167, v169, v171, v173, v175, v177, v205, v207, v209, v211, v213, v215, v217, v219;
+    u8 v250, v254, v256, v258, v260, v262, v264, v266, v268, v270, v272, v300, v307, v310, v312, v314;
+    u8 v316, v318, v320, v322, v324, v352, v357, v361, v362, v367, v368, v369, v371, v372, v373, v374;
+    u8 v375, v377, v380, v383, v384;
+    u64 block0[3];
+    u64 block1[2];
+    v16 = ADDRESS(block0);
+    v17 = ADDRESS(block1);
+    memory_set(v17, 0u, 9u);
+    v18 = (u8)(a1);
+    store_address(v16, a2);
+    v19 = v16 + 8u * 1u;
+    store64(v19, a3);
+    v20 = v16 + 16u * 1u;
+    store8(v20, v18);
+    v21 = v16 + 17u * 1u;
+    memory_set(v21, 0u, 7u);
+    v22 = a3 < 8u;
+    if (v22) { goto L1; }
+    else { goto L4; }
+L1:;
+    v23 = a3 == 0u;
+    if (v23) { v10 = 0u; goto L18; }
+    else { v4 = 0u; goto L2; }
+L2:;
+    v24 = a2 + v4 * 1u;
+    v25 = load8(v24);
+    v26 = v25 == v18;
+    if (v26) { v10 = v4; goto L18; }
+    else { goto L3; }
+L3:;
+    v27 = (u64)((u64)v4 + (u64)1u);
+    v28 = v27 == a3;
+    if (v28) { goto L17; }
+    else { v4 = v27; goto L2; }
+L4:;
+    v29 = load8(a2);
+    v30 = a2 + 1u * 1u;
+    v31 = load8(v30);
+    v32 = a2 + 2u * 1u;
+    v33 = load8(v32);
+    v34 = a2 + 3u * 1u;
+    v35 = load8(v34);
+    v36 = a2 + 4u * 1u;
+    v37 = load8(v36);
+    v38 = a2 + 5u * 1u;
+    v39 = load8(v38);
+    v40 = a2 + 6u * 1u;
+    v41 = load8(v40);
+    v42 = a2 + 7u * 1u;
+    v43 = load8(v42);
+    v44 = (u64)v43;
+    v45 = (u64)((u64)v44 << (56u & 63u));
+    v46 = (u64)v41;
+    v47 = (u64)((u64)v46 << (48u & 63u));
+    v48 = (u64)v39;
+    v49 = (u64)((u64)v48 << (40u & 63u));
+    v50 = (u64)v37;
+    v51 = (u64)((u64)v50 << (32u & 63u));
+    v52 = (u64)v35;
+    v53 = (u64)((u64)v52 << (24u & 63u));
+    v54 = (u64)v33;
+    v55 = (u64)((u64)v54 << (16u & 63u));
+    v56 = (u64)v31;
+    v57 = (u64)((u64)v56 << (8u & 63u));
+    v58 = (u64)v29;
+    v59 = (u64)((u64)v57 | (u64)v58);
+    v60 = (u64)((u64)v59 | (u64)v55);
+    v61 = (u64)((u64)v60 | (u64)v53);
+    v62 = (u64)((u64)v61 | (u64)v51);
+    v63 = (u64)((u64)v62 | (u64)v49);
+    v64 = (u64)((u64)v63 | (u64)v47);
+    v65 = (u64)((u64)v64 | (u64)v45);
+    v66 = (u64)a1;
+    v67 = (u64)((u64)v66 * (u64)UINT64_C(72340172838076673));
+    v68 = (u64)((u64)v65 ^ (u64)v67);
+    v69 = (u64)((u64)v68 & (u64)UINT64_C(9187201950435737471));
+    v70 = (u64)((u64)v69 + (u64)UINT64_C(9187201950435737471));
+    v71 = (u64)((u64)v70 | (u64)v68);
+    v72 = (u64)((u64)v71 & (u64)UINT64_C(9259542123273814144));
+    v73 = v72 == UINT64_C(9259542123273814144);
+    if (v73) { goto L6; }
+    else { goto L5; }
+L5:;
+    v74 = (u64)((u64)v72 ^ (u64)UINT64_C(9259542123273814144));
+    v75 = (u64)cttz(v74, 64u);
+    v76 = (u64)((u64)v75 >> (3u & 63u));
+    v10 = v76; goto L18;
+L6:;
+    v77 = a3 > 39u;
+    if (v77) { v5 = 8u; goto L7; }
+    else { v6 = 8u; goto L9; }
+L7:;
+    v78 = a2 + v5 * 1u;
+    v79 = load8(v78);
+    v80 = v78 + 1u * 1u;
+    v81 = load8(v80);
+    v82 = v78 + 2u * 1u;
+    v83 = load8(v82);
+    v84 = v78 + 3u * 1u;
+    v85 = load8(v84);
+    v86 = v78 + 4u * 1u;
+    v87 = load8(v86);
+    v88 = v78 + 5u * 1u;
+    v89 = load8(v88);
+    v90 = v78 + 6u * 1u;
+    v91 = load8(v90);
+    v92 = v78 + 7u * 1u;
+    v93 = load8(v92);
+    v94 = (u64)v93;
+    v95 = (u64)((u64)v94 << (56u & 63u));
+    v96 = (u64)v91;
+    v97 = (u64)((u64)v96 << (48u & 63u));
+    v98 = (u64)v89;
+    v99 = (u64)((u64)v98 << (40u & 63u));
+    v100 = (u64)v87;
+    v101 = (u64)((u64)v100 << (32u & 63u));
+    v102 = (u64)v85;
+    v103 = (u64)((u64)v102 << (24u & 63u));
+    v104 = (u64)v83;
+    v105 = (u64)((u64)v104 << (16u & 63u));
+    v106 = (u64)v81;
+    v107 = (u64)((u64)v106 << (8u & 63u));
+    v108 = (u64)v79;
+    v109 = (u64)((u64)v107 | (u64)v108);
+    v110 = (u64)((u64)v109 | (u64)v105);
+    v111 = (u64)((u64)v110 | (u64)v103);
+    v112 = (u64)((u64)v111 | (u64)v101);
+    v113 = (u64)((u64)v112 | (u64)v99);
+    v114 = (u64)((u64)v113 | (u64)v97);
+    v115 = (u64)((u64)v114 | (u64)v95);
+    v116 = (u64)((u64)v115 ^ (u64)v67);
+    v117 = (u64)((u64)v116 & (u64)UINT64_C(9187201950435737471));
+    v118 = (u64)((u64)v117 + (u64)UINT64_C(9187201950435737471));
+    v119 = (u64)((u64)v118 | (u64)v116);
+    v120 = v78 + 8u * 1u;
+    v121 = load8(v120);
+    v122 = v78 + 9u * 1u;
+    v123 = load8(v122);
+    v124 = v78 + 10u * 1u;
+    v125 = load8(v124);
+    v126 = v78 + 11u * 1u;
+    v127 = load8(v126);
+    v128 = v78 + 12u * 1u;
+    v129 = load8(v128);
+    v130 = v78 + 13u * 1u;
+    v131 = load8(v130);
+    v132 = v78 + 14u * 1u;
+    v133 = load8(v132);
+    v134 = v78 + 15u * 1u;
+    v135 = load8(v134);
+    v136 = (u64)v135;
+    v137 = (u64)((u64)v136 << (56u & 63u));
+    v138 = (u64)v133;
+    v139 = (u64)((u64)v138 << (48u & 63u));
+    v140 = (u64)v131;
+    v141 = (u64)((u64)v140 << (40u & 63u));
+    v142 = (u64)v129;
+    v143 = (u64)((u64)v142 << (32u & 63u));
+    v144 = (u64)v127;
+    v145 = (u64)((u64)v144 << (24u & 63u));
+    v146 = (u64)v125;
+    v147 = (u64)((u64)v146 << (16u & 63u));
+    v148 = (u64)v123;
+    v149 = (u64)((u64)v148 << (8u & 63u));
+    v150 = (u64)v121;
+    v151 = (u64)((u64)v149 | (u64)v150);
+    v152 = (u64)((u64)v151 | (u64)v147);
+    v153 = (u64)((u64)v152 | (u64)v145);
+    v154 = (u64)((u64)v153 | (u64)v143);
+    v155 = (u64)((u64)v154 | (u64)v141);
+    v156 = (u64)((u64)v155 | (u64)v139);
+    v157 = (u64)((u64)v156 | (u64)v137);
+    v158 = (u64)((u64)v157 ^ (u64)v67);
+    v159 = (u64)((u64)v158 & (u64)UINT64_C(9187201950435737471));
+    v160 = (u64)((u64)v159 + (u64)UINT64_C(9187201950435737471));
+    v161 = (u64)((u64)v160 | (u64)v158);
+    v162 = v78 + 16u * 1u;
+    v163 = load8(v162);
+    v164 = v78 + 17u * 1u;
+    v165 = load8(v164);
+    v166 = v78 + 18u * 1u;
+    v167 = load8(v166);
+    v168 = v78 + 19u * 1u;
+    v169 = load8(v168);
+    v170 = v78 + 20u * 1u;
+    v171 = load8(v170);
+    v172 = v78 + 21u * 1u;
+    v173 = load8(v172);
+    v174 = v78 + 22u * 1u;
+    v175 = load8(v174);
+    v176 = v78 + 23u * 1u;
+    v177 = load8(v176);
+    v178 = (u64)v177;
+    v179 = (u64)((u64)v178 << (56u & 63u));
+    v180 = (u64)v175;
+    v181 = (u64)((u64)v180 << (48u & 63u));
+    v182 = (u64)v173;
+    v183 = (u64)((u64)v182 << (40u & 63u));
+    v184 = (u64)v171;
+    v185 = (u64)((u64)v184 << (32u & 63u));
+    v186 = (u64)v169;
+    v187 = (u64)((u64)v186 << (24u & 63u));
+    v188 = (u64)v167;
+    v189 = (u64)((u64)v188 << (16u & 63u));
+    v190 = (u64)v165;
+    v191 = (u64)((u64)v190 << (8u & 63u));
+    v192 = (u64)v163;
+    v193 = (u64)((u64)v191 | (u64)v192);
+    v194 = (u64)((u64)v193 | (u64)v189);
+    v195 = (u64)((u64)v194 | (u64)v187);
+    v196 = (u64)((u64)v195 | (u64)v185);
+    v197 = (u64)((u64)v196 | (u64)v183);
+    v198 = (u64)((u64)v197 | (u64)v181);
+    v199 = (u64)((u64)v198 | (u64)v179);
+    v200 = (u64)((u64)v199 ^ (u64)v67);
+    v201 = (u64)((u64)v200 & (u64)UINT64_C(9187201950435737471));
+    v202 = (u64)((u64)v201 + (u64)UINT64_C(9187201950435737471));
+    v203 = (u64)((u64)v202 | (u64)v200);
+    v204 = v78 + 24u * 1u;
+    v205 = load8(v204);
+    v206 = v78 + 25u * 1u;
+    v207 = load8(v206);
+    v208 = v78 + 26u * 1u;
+    v209 = load8(v208);
+    v210 = v78 + 27u * 1u;
+    v211 = load8(v210);
+    v212 = v78 + 28u * 1u;
+    v213 = load8(v212);
+    v214 = v78 + 29u * 1u;
+    v215 = load8(v214);
+    v216 = v78 + 30u * 1u;
+    v217 = load8(v216);
+    v218 = v78 + 31u * 1u;
+    v219 = load8(v218);
+    v220 = (u64)v219;
+    v221 = (u64)((u64)v220 << (56u & 63u));
+    v222 = (u64)v217;
+    v223 = (u64)((u64)v222 << (48u & 63u));
+    v224 = (u64)v215;
+    v225 = (u64)((u64)v224 << (40u & 63u));
+    v226 = (u64)v213;
+    v227 = (u64)((u64)v226 << (32u & 63u));
+    v228 = (u64)v211;
+    v229 = (u64)((u64)v228 << (24u & 63u));
+    v230 = (u64)v209;
+    v231 = (u64)((u64)v230 << (16u & 63u));
+    v232 = (u64)v207;
+    v233 = (u64)((u64)v232 << (8u & 63u));
+    v234 = (u64)v205;
+    v235 = (u64)((u64)v233 | (u64)v234);
+    v236 = (u64)((u64)v235 | (u64)v231);
+    v237 = (u64)((u64)v236 | (u64)v229);
+    v238 = (u64)((u64)v237 | (u64)v227);
+    v239 = (u64)((u64)v238 | (u64)v225);
+    v240 = (u64)((u64)v239 | (u64)v223);
+    v241 = (u64)((u64)v240 | (u64)v221);
+    v242 = (u64)((u64)v241 ^ (u64)v67);
+    v243 = (u64)((u64)v242 & (u64)UINT64_C(9187201950435737471));
+    v244 = (u64)((u64)v243 + (u64)UINT64_C(9187201950435737471));
+    v245 = (u64)((u64)v244 | (u64)v242);
+    v246 = (u64)((u64)v119 & (u64)UINT64_C(9259542123273814144));
+    v247 = (u64)((u64)v246 & (u64)v161);
+    v248 = (u64)((u64)v247 & (u64)v203);
+    v249 = (u64)((u64)v248 & (u64)v245);
+    v250 = v249 == UINT64_C(9259542123273814144);
+    if (v250) { goto L8; }
+    else { v6 = v5; goto L9; }
+L8:;
+    v251 = (u64)((u64)v5 + (u64)32u);
+    v252 = f60(v16, v251, a3);
+    v253 = (u64)((u64)a3 - (u64)v252);
+    v254 = v253 > 31u;
+    if (v254) { v5 = v252; goto L7; }
+    else { v6 = v252; goto L9; }
+L9:;
+    v7 = v6; goto L10;
+L10:;
+    v255 = (u64)((u64)a3 - (u64)v7);
+    v256 = v255 > 8u;
+    if (v256) { goto L11; }
+    else { goto L15; }
+L11:;
+    v257 = a2 + v7 * 1u;
+    v258 = load8(v257);
+    v259 = v257 + 1u * 1u;
+    v260 = load8(v259);
+    v261 = v257 + 2u * 1u;
+    v262 = load8(v261);
+    v263 = v257 + 3u * 1u;
+    v264 = load8(v263);
+    v265 = v257 + 4u * 1u;
+    v266 = load8(v265);
+    v267 = v257 + 5u * 1u;
+    v268 = load8(v267);
+    v269 = v257 + 6u * 1u;
+    v270 = load8(v269);
+    v271 = v257 + 7u * 1u;
+    v272 = load8(v271);
+    v273 = (u64)v272;
+    v274 = (u64)((u64)v273 << (56u & 63u));
+    v275 = (u64)v270;
+    v276 = (u64)((u64)v275 << (48u & 63u));
+    v277 = (u64)v268;
+    v278 = (u64)((u64)v277 << (40u & 63u));
+    v279 = (u64)v266;
+    v280 = (u64)((u64)v279 << (32u & 63u));
+    v281 = (u64)v264;
+    v282 = (u64)((u64)v281 << (24u & 63u));
+    v283 = (u64)v262;
+    v284 = (u64)((u64)v283 << (16u & 63u));
+    v285 = (u64)v260;
+    v286 = (u64)((u64)v285 << (8u & 63u));
+    v287 = (u64)v258;
+    v288 = (u64)((u64)v286 | (u64)v287);
+    v289 = (u64)((u64)v288 | (u64)v284);
+    v290 = (u64)((u64)v289 | (u64)v282);
+    v291 = (u64)((u64)v290 | (u64)v280);
+    v292 = (u64)((u64)v291 | (u64)v278);
+    v293 = (u64)((u64)v292 | (u64)v276);
+    v294 = (u64)((u64)v293 | (u64)v274);
+    v295 = (u64)((u64)v294 ^ (u64)v67);
+    v296 = (u64)((u64)v295 & (u64)UINT64_C(9187201950435737471));
+    v297 = (u64)((u64)v296 + (u64)UINT64_C(9187201950435737471));
+    v298 = (u64)((u64)v297 | (u64)v295);
+    v299 = (u64)((u64)v298 & (u64)UINT64_C(9259542123273814144));
+    v300 = v299 == UINT64_C(9259542123273814144);
+    if (v300) { goto L12; }
+    else { goto L13; }
+L12:;
+    v301 = (u64)((u64)v7 + (u64)8u);
+    v8 = v301; v9 = v301; goto L14;
+L13:;
+    v302 = (u64)((u64)v299 ^ (u64)UINT64_C(9259542123273814144));
+    v303 = (u64)cttz(v302, 64u);
+    v304 = (u64)((u64)v303 >> (3u & 63u));
+    v305 = (u64)((u64)v304 + (u64)v7);
+    v306 = (u64)((u64)v7 + (u64)8u);
+    v8 = v306; v9 = v305; goto L14;
+L14:;
+    v307 = v9 < v8;
+    if (v307) { v10 = v9; goto L18; }
+    else { v7 = v8; goto L10; }
+L15:;
+    v308 = (u64)((u64)a3 + (u64)UINT64_C(18446744073709551608));
+    v309 = a2 + v308 * 1u;
+    v310 = load8(v309);
+    v311 = v309 + 1u * 1u;
+    v312 = load8(v311);
+    v313 = v309 + 2u * 1u;
+    v314 = load8(v313);
+    v315 = v309 + 3u * 1u;
+    v316 = load8(v315);
+    v317 = v309 + 4u * 1u;
+    v318 = load8(v317);
+    v319 = v309 + 5u * 1u;
+    v320 = load8(v319);
+    v321 = v309 + 6u * 1u;
+    v322 = load8(v321);
+    v323 = v309 + 7u * 1u;
+    v324 = load8(v323);
+    v325 = (u64)v324;
+    v326 = (u64)((u64)v325 << (56u & 63u));
+    v327 = (u64)v322;
+    v328 = (u64)((u64)v327 << (48u & 63u));
+    v329 = (u64)v320;
+    v330 = (u64)((u64)v329 << (40u & 63u));
+    v331 = (u64)v318;
+    v332 = (u64)((u64)v331 << (32u & 63u));
+    v333 = (u64)v316;
+    v334 = (u64)((u64)v333 << (24u & 63u));
+    v335 = (u64)v314;
+    v336 = (u64)((u64)v335 << (16u & 63u));
+    v337 = (u64)v312;
+    v338 = (u64)((u64)v337 << (8u & 63u));
+    v339 = (u64)v310;
+    v340 = (u64)((u64)v338 | (u64)v339);
+    v341 = (u64)((u64)v340 | (u64)v336);
+    v342 = (u64)((u64)v341 | (u64)v334);
+    v343 = (u64)((u64)v342 | (u64)v332);
+    v344 = (u64)((u64)v343 | (u64)v330);
+    v345 = (u64)((u64)v344 | (u64)v328);
+    v346 = (u64)((u64)v345 | (u64)v326);
+    v347 = (u64)((u64)v346 ^ (u64)v67);
+    v348 = (u64)((u64)v347 & (u64)UINT64_C(9187201950435737471));
+    v349 = (u64)((u64)v348 + (u64)UINT64_C(9187201950435737471));
+    v350 = (u64)((u64)v349 | (u64)v347);
+    v351 = (u64)((u64)v350 & (u64)UINT64_C(9259542123273814144));
+    v352 = v351 == UINT64_C(9259542123273814144);
+    if (v352) { goto L17; }
+    else { goto L16; }
+L16:;
+    v353 = (u64)((u64)v351 ^ (u64)UINT64_C(9259542123273814144));
+    v354 = (u64)cttz(v353, 64u);
+    v355 = (u64)((u64)v354 >> (3u & 63u));
+    v356 = (u64)((u64)v355 + (u64)v308);
+    v10 = v356; goto L18;
+L17:;
+    v11 = 0u; v12 = 0u; v13 = 0u; goto L20;
+L18:;
+    v357 = v10 < a3;
+    if (v357) { goto L19; }
+    else { v11 = 0u; v12 = 0u; v13 = 0u; goto L20; }
+L19:;
+    v358 = (u64)((u64)v10 + (u64)1u);
+    v359 = a2 + v358 * 1u;
+    v360 = (u64)((u64)a3 - (u64)v358);
+    f54(v17, a2, v10);
+    v361 = load8(v17);
+    v362 = v361 == 1u;
+    if (v362) { goto L21; }
+    else { v11 = 0u; v12 = 0u; v13 = 0u; goto L20; }
+L20:;
+    store16(a0, v11);
+    v363 = a0 + 2u * 1u;
+    store64(v363, v12);
+    v364 = a0 + 10u * 1u;
+    store16(v364, v13);
+    return;
+L21:;
+    v365 = v17 + 1u * 1u;
+    v366 = load64(v365);
+    v367 = a3 == v358;
+    if (v367) { v11 = 0u; v12 = 0u; v13 = 0u; goto L20; }
+    else { goto L22; }
+L22:;
+    v368 = load8(v359);
+    v369 = v368 == 43u;
+    if (v369) { v11 = 0u; v12 = 0u; v13 = 0u; goto L20; }
+    else { v14 = 0u; v15 = 0u; goto L23; }
+L23:;
+    v370 = v359 + v15 * 1u;
+    v371 = load8(v370);
+    v372 = (u8)((u32)v371 + (u32)208u);
+    v373 = v372 < 10u;
+    v374 = v14 < UINT64_C(1844674407370955162);
+    v375 = (u8)(((u32)v374 & (u32)v373) & UINT64_C(1));
+    if (v375) { goto L24; }
+    else { v11 = 0u; v12 = 0u; v13 = 0u; goto L20; }
+L24:;
+    v376 = (u64)((u64)v14 * (u64)10u);
+    v377 = (u8)((u32)v371 & (u32)15u);
+    v378 = (u64)v377;
+    v379 = (u64)((u64)v378 ^ (u64)UINT64_C(18446744073709551615));
+    v380 = v376 > v379;
+    if (v380) { v11 = 0u; v12 = 0u; v13 = 0u; goto L20; }
+    else { goto L25; }
+L25:;
+    v381 = (u64)((u64)v376 + (u64)v378);
+    v382 = (u64)((u64)v15 + (u64)1u);
+    v383 = v382 == v360;
+    if (v383) { goto L26; }
+    else { v14 = v381; v15 = v382; goto L23; }
+L26:;
+    v384 = v381 < UINT64_C(65536);
+    if (v384) { goto L27; }
+    else { v11 = 0u; v12 = 0u; v13 = 0u; goto L20; }
+L27:;
+    v385 = (u16)(v381);
+    v11 = 1u; v12 = v366; v13 = v385; goto L20;
+}
+
+static u64 f60(address a0, u64 a1, u64 a2) {
+    u64 v3, v4, v5, v10, v11, v28, v29, v30, v31, v32, v33, v34, v35, v36, v37, v38;
+    u64 v39, v40, v41, v42, v43, v44, v45, v46, v47, v48, v49, v50, v51, v52, v53, v70;
+    u64 v71, v72, v73, v74, v75, v76, v77, v78, v79, v80, v81, v82, v83, v84, v85, v86;
+    u64 v87, v88, v89, v90, v91, v92, v93, v94, v95, v112, v113, v114, v115, v116, v117, v118;
+    u64 v119, v120, v121, v122, v123, v124, v125, v126, v127, v128, v129, v130, v131, v132, v133, v134;
+    u64 v135, v136, v137, v154, v155, v156, v157, v158, v159, v160, v161, v162, v163, v164, v165, v166;
+    u64 v167, v168, v169, v170, v171, v172, v173, v174, v175, v176, v177, v178, v179, v196, v197, v198;
+    u64 v199, v200, v201, v202, v203, v204, v205, v206, v207, v208, v209, v210, v211, v212, v213, v214;
+    u64 v215, v216, v217, v218, v219, v220, v221, v238, v239, v240, v241, v242, v243, v244, v245, v246;
+    u64 v247, v248, v249, v250, v251, v252, v253, v254, v255, v256, v257, v258, v259, v260, v261, v262;
+    u64 v263, v280, v281, v282, v283, v284, v285, v286, v287, v288, v289, v290, v291, v292, v293, v294;
+    u64 v295, v296, v297, v298, v299, v300, v301, v302, v303, v304, v305, v322, v323, v324, v325, v326;
+    u64 v327, v328, v329, v330, v331, v332, v333, v334, v335, v336, v337, v338, v339, v340, v341, v342;
+    u64 v343, v344, v345, v346, v347, v348, v349, v350, v351, v352, v353, v354, v355, v357, v358;
+    u8 v6, v9, v13, v15, v17, v19, v21, v23, v25, v27, v55, v57, v59, v61, v63, v65;
+    u8 v67, v69, v97, v99, v101, v103, v105, v107, v109, v111, v139, v141, v143, v145, v147, v149;
+    u8 v151, v153, v181, v183, v185, v187, v189, v191, v193, v195, v223, v225, v227, v229, v231, v233;
+    u8 v235, v237, v265, v267, v269, v271, v273, v275, v277, v279, v307, v309, v311, v313, v315, v317;
+    u8 v319, v321, v356, v359;
+    address v7, v8, v12, v14, v16, v18, v20, v22, v24, v26, v54, v56, v58, v60, v62, v64;
+    address v66, v68, v96, v98, v100, v102, v104, v106, v108, v110, v138, v140, v142, v144, v146, v148;
+    address v150, v152, v180, v182, v184, v186, v188, v190, v192, v194, v222, v224, v226, v228, v230, v232;
+    address v234, v236, v264, v266, v268, v270, v272, v274, v276, v278, v306, v308, v310, v312, v314, v316;
+    address v318, v320;
+    v5 = (u64)((u64)a2 - (u64)a1);
+    v6 = v5 > 63u;
+    if (v6) { goto L1; }
+    else { v4 = a1; goto L4; }
+L1:;
+    v7 = load_address(a0);
+    v8 = a0 + 16u * 1u;
+    v9 = load8(v8);
+    v10 = (u64)v9;
+    v11 = (u64)((u64)v10 * (u64)UINT64_C(72340172838076673));
+    v3 = a1; goto L2;
+L2:;
+    v12 = v7 + v3 * 1u;
+    v13 = load8(v12);
+    v14 = v12 + 1u * 1u;
+    v15 = load8(v14);
+    v16 = v12 + 2u * 1u;
+    v17 = load8(v16);
+    v18 = v12 + 3u * 1u;
+    v19 = load8(v18);
+    v20 = v12 + 4u * 1u;
+    v21 = load8(v20);
+    v22 = v12 + 5u * 1u;
+    v23 = load8(v22);
+    v24 = v12 + 6u * 1u;
+    v25 = load8(v24);
+    v26 = v12 + 7u * 1u;
+    v27 = load8(v26);
+    v28 = (u64)v27;
+    v29 = (u64)((u64)v28 << (56u & 63u));
+    v30 = (u64)v25;
+    v31 = (u64)((u64)v30 << (48u & 63u));
+    v32 = (u64)v23;
+    v33 = (u64)((u64)v32 << (40u & 63u));
+    v34 = (u64)v21;
+    v35 = (u64)((u64)v34 << (32u & 63u));
+    v36 = (u64)v19;
+    v37 = (u64)((u64)v36 << (24u & 63u));
+    v38 = (u64)v17;
+    v39 = (u64)((u64)v38 << (16u & 63u));
+    v40 = (u64)v15;
+    v41 = (u64)((u64)v40 << (8u & 63u));
+    v42 = (u64)v13;
+    v43 = (u64)((u64)v41 | (u64)v42);
+    v44 = (u64)((u64)v43 | (u64)v39);
+    v45 = (u64)((u64)v44 | (u64)v37);
+    v46 = (u64)((u64)v45 | (u64)v35);
+    v47 = (u64)((u64)v46 | (u64)v33);
+    v48 = (u64)((u64)v47 | (u64)v31);
+    v49 = (u64)((u64)v48 | (u64)v29);
+    v50 = (u64)((u64)v49 ^ (u64)v11);
+    v51 = (u64)((u64)v50 & (u64)UINT64_C(9187201950435737471));
+    v52 = (u64)((u64)v51 + (u64)UINT64_C(9187201950435737471));
+    v53 = (u64)((u64)v52 | (u64)v50);
+    v54 = v12 + 16u * 1u;
+    v55 = load8(v54);
+    v56 = v12 + 17u * 1u;
+    v57 = load8(v56);
+    v58 = v12 + 18u * 1u;
+    v59 = load8(v58);
+    v60 = v12 + 19u * 1u;
+    v61 = load8(v60);
+    v62 = v12 + 20u * 1u;
+    v63 = load8(v62);
+    v64 = v12 + 21u * 1u;
+    v65 = load8(v64);
+    v66 = v12 + 22u * 1u;
+    v67 = load8(v66);
+    v68 = v12 + 23u * 1u;
+    v69 = load8(v68);
+    v70 = (u64)v69;
+    v71 = (u64)((u64)v70 << (56u & 63u));
+    v72 = (u64)v67;
+    v73 = (u64)((u64)v72 << (48u & 63u));
+    v74 = (u64)v65;
+    v75 = (u64)((u64)v74 << (40u & 63u));
+    v76 = (u64)v63;
+    v77 = (u64)((u64)v76 << (32u & 63u));
+    v78 = (u64)v61;
+    v79 = (u64)((u64)v78 << (24u & 63u));
+    v80 = (u64)v59;
+    v81 = (u64)((u64)v80 << (16u & 63u));
+    v82 = (u64)v57;
+    v83 = (u64)((u64)v82 << (8u & 63u));
+    v84 = (u64)v55;
+    v85 = (u64)((u64)v83 | (u64)v84);
+    v86 = (u64)((u64)v85 | (u64)v81);
+    v87 = (u64)((u64)v86 | (u64)v79);
+    v88 = (u64)((u64)v87 | (u64)v77);
+    v89 = (u64)((u64)v88 | (u64)v75);
+    v90 = (u64)((u64)v89 | (u64)v73);
+    v91 = (u64)((u64)v90 | (u64)v71);
+    v92 = (u64)((u64)v91 ^ (u64)v11);
+    v93 = (u64)((u64)v92 & (u64)UINT64_C(9187201950435737471));
+    v94 = (u64)((u64)v93 + (u64)UINT64_C(9187201950435737471));
+    v95 = (u64)((u64)v94 | (u64)v92);
+    v96 = v12 + 32u * 1u;
+    v97 = load8(v96);
+    v98 = v12 + 33u * 1u;
+    v99 = load8(v98);
+    v100 = v12 + 34u * 1u;
+    v101 = load8(v100);
+    v102 = v12 + 35u * 1u;
+    v103 = load8(v102);
+    v104 = v12 + 36u * 1u;
+    v105 = load8(v104);
+    v106 = v12 + 37u * 1u;
+    v107 = load8(v106);
+    v108 = v12 + 38u * 1u;
+    v109 = load8(v108);
+    v110 = v12 + 39u * 1u;
+    v111 = load8(v110);
+    v112 = (u64)v111;
+    v113 = (u64)((u64)v112 << (56u & 63u));
+    v114 = (u64)v109;
+    v115 = (u64)((u64)v114 << (48u & 63u));
+    v116 = (u64)v107;
+    v117 = (u64)((u64)v116 << (40u & 63u));
+    v118 = (u64)v105;
+    v119 = (u64)((u64)v118 << (32u & 63u));
+    v120 = (u64)v103;
+    v121 = (u64)((u64)v120 << (24u & 63u));
+    v122 = (u64)v101;
+    v123 = (u64)((u64)v122 << (16u & 63u));
+    v124 = (u64)v99;
+    v125 = (u64)((u64)v124 << (8u & 63u));
+    v126 = (u64)v97;
+    v127 = (u64)((u64)v125 | (u64)v126);
+    v128 = (u64)((u64)v127 | (u64)v123);
+    v129 = (u64)((u64)v128 | (u64)v121);
+    v130 = (u64)((u64)v129 | (u64)v119);
+    v131 = (u64)((u64)v130 | (u64)v117);
+    v132 = (u64)((u64)v131 | (u64)v115);
+    v133 = (u64)((u64)v132 | (u64)v113);
+    v134 = (u64)((u64)v133 ^ (u64)v11);
+    v135 = (u64)((u64)v134 & (u64)UINT64_C(9187201950435737471));
+    v136 = (u64)((u64)v135 + (u64)UINT64_C(9187201950435737471));
+    v137 = (u64)((u64)v136 | (u64)v134);
+    v138 = v12 + 48u * 1u;
+    v139 = load8(v138);
+    v140 = v12 + 49u * 1u;
+    v141 = load8(v140);
+    v142 = v12 + 50u * 1u;
+    v143 = load8(v142);
+    v144 = v12 + 51u * 1u;
+    v145 = load8(v144);
+    v146 = v12 + 52u * 1u;
+    v147 = load8(v146);
+    v148 = v12 + 53u * 1u;
+    v149 = load8(v148);
+    v150 = v12 + 54u * 1u;
+    v151 = load8(v150);
+    v152 = v12 + 55u * 1u;
+    v153 = load8(v152);
+    v154 = (u64)v153;
+    v155 = (u64)((u64)v154 << (56u & 63u));
+    v156 = (u64)v151;
+    v157 = (u64)((u64)v156 << (48u & 63u));
+    v158 = (u64)v149;
+    v159 = (u64)((u64)v158 << (40u & 63u));
+    v160 = (u64)v147;
+    v161 = (u64)((u64)v160 << (32u & 63u));
+    v162 = (u64)v145;
+    v163 = (u64)((u64)v162 << (24u & 63u));
+    v164 = (u64)v143;
+    v165 = (u64)((u64)v164 << (16u & 63u));
+    v166 = (u64)v141;
+    v167 = (u64)((u64)v166 << (8u & 63u));
+    v168 = (u64)v139;
+    v169 = (u64)((u64)v167 | (u64)v168);
+    v170 = (u64)((u64)v169 | (u64)v165);
+    v171 = (u64)((u64)v170 | (u64)v163);
+    v172 = (u64)((u64)v171 | (u64)v161);
+    v173 = (u64)((u64)v172 | (u64)v159);
+    v174 = (u64)((u64)v173 | (u64)v157);
+    v175 = (u64)((u64)v174 | (u64)v155);
+    v176 = (u64)((u64)v175 ^ (u64)v11);
+    v177 = (u64)((u64)v176 & (u64)UINT64_C(9187201950435737471));
+    v178 = (u64)((u64)v177 + (u64)UINT64_C(9187201950435737471));
+    v179 = (u64)((u64)v178 | (u64)v176);
+    v180 = v12 + 8u * 1u;
+    v181 = load8(v180);
+    v182 = v12 + 9u * 1u;
+    v183 = load8(v182);
+    v184 = v12 + 10u * 1u;
+    v185 = load8(v184);
+    v186 = v12 + 11u * 1u;
+    v187 = load8(v186);
+    v188 = v12 + 12u * 1u;
+    v189 = load8(v188);
+    v190 = v12 + 13u * 1u;
+    v191 = load8(v190);
+    v192 = v12 + 14u * 1u;
+    v193 = load8(v192);
+    v194 = v12 + 15u * 1u;
+    v195 = load8(v194);
+    v196 = (u64)v195;
+    v197 = (u64)((u64)v196 << (56u & 63u));
+    v198 = (u64)v193;
+    v199 = (u64)((u64)v198 << (48u & 63u));
+    v200 = (u64)v191;
+    v201 = (u64)((u64)v200 << (40u & 63u));
+    v202 = (u64)v189;
+    v203 = (u64)((u64)v202 << (32u & 63u));
+    v204 = (u64)v187;
+    v205 = (u64)((u64)v204 << (24u & 63u));
+    v206 = (u64)v185;
+    v207 = (u64)((u64)v206 << (16u & 63u));
+    v208 = (u64)v183;
+    v209 = (u64)((u64)v208 << (8u & 63u));
+    v210 = (u64)v181;
+    v211 = (u64)((u64)v209 | (u64)v210);
+    v212 = (u64)((u64)v211 | (u64)v207);
+    v213 = (u64)((u64)v212 | (u64)v205);
+    v214 = (u64)((u64)v213 | (u64)v203);
+    v215 = (u64)((u64)v214 | (u64)v201);
+    v216 = (u64)((u64)v215 | (u64)v199);
+    v217 = (u64)((u64)v216 | (u64)v197);
+    v218 = (u64)((u64)v217 ^ (u64)v11);
+    v219 = (u64)((u64)v218 & (u64)UINT64_C(9187201950435737471));
+    v220 = (u64)((u64)v219 + (u64)UINT64_C(9187201950435737471));
+    v221 = (u64)((u64)v220 | (u64)v218);
+    v222 = v12 + 24u * 1u;
+    v223 = load8(v222);
+    v224 = v12 + 25u * 1u;
+    v225 = load8(v224);
+    v226 = v12 + 26u * 1u;
+    v227 = load8(v226);
+    v228 = v12 + 27u * 1u;
+    v229 = load8(v228);
+    v230 = v12 + 28u * 1u;
+    v231 = load8(v230);
+    v232 = v12 + 29u * 1u;
+    v233 = load8(v232);
+    v234 = v12 + 30u * 1u;
+    v235 = load8(v234);
+    v236 = v12 + 31u * 1u;
+    v237 = load8(v236);
+    v238 = (u64)v237;
+    v239 = (u64)((u64)v238 << (56u & 63u));
+    v240 = (u64)v235;
+    v241 = (u64)((u64)v240 << (48u & 63u));
+    v242 = (u64)v233;
+    v243 = (u64)((u64)v242 << (40u & 63u));
+    v244 = (u64)v231;
+    v245 = (u64)((u64)v244 << (32u & 63u));
+    v246 = (u64)v229;
+    v247 = (u64)((u64)v246 << (24u & 63u));
+    v248 = (u64)v227;
+    v249 = (u64)((u64)v248 << (16u & 63u));
+    v250 = (u64)v225;
+    v251 = (u64)((u64)v250 << (8u & 63u));
+    v252 = (u64)v223;
+    v253 = (u64)((u64)v251 | (u64)v252);
+    v254 = (u64)((u64)v253 | (u64)v249);
+    v255 = (u64)((u64)v254 | (u64)v247);
+    v256 = (u64)((u64)v255 | (u64)v245);
+    v257 = (u64)((u64)v256 | (u64)v243);
+    v258 = (u64)((u64)v257 | (u64)v241);
+    v259 = (u64)((u64)v258 | (u64)v239);
+    v260 = (u64)((u64)v259 ^ (u64)v11);
+    v261 = (u64)((u64)v260 & (u64)UINT64_C(9187201950435737471));
+    v262 = (u64)((u64)v261 + (u64)UINT64_C(9187201950435737471));
+    v263 = (u64)((u64)v262 | (u64)v260);
+    v264 = v12 + 40u * 1u;
+    v265 = load8(v264);
+    v266 = v12 + 41u * 1u;
+    v267 = load8(v266);
+    v268 = v12 + 42u * 1u;
+    v269 = load8(v268);
+    v270 = v12 + 43u * 1u;
+    v271 = load8(v270);
+    v272 = v12 + 44u * 1u;
+    v273 = load8(v272);
+    v274 = v12 + 45u * 1u;
+    v275 = load8(v274);
+    v276 = v12 + 46u * 1u;
+    v277 = load8(v276);
+    v278 = v12 + 47u * 1u;
+    v279 = load8(v278);
+    v280 = (u64)v279;
+    v281 = (u64)((u64)v280 << (56u & 63u));
+    v282 = (u64)v277;
+    v283 = (u64)((u64)v282 << (48u & 63u));
+    v284 = (u64)v275;
+    v285 = (u64)((u64)v284 << (40u & 63u));
+    v286 = (u64)v273;
+    v287 = (u64)((u64)v286 << (32u & 63u));
+    v288 = (u64)v271;
+    v289 = (u64)((u64)v288 << (24u & 63u));
+    v290 = (u64)v269;
+    v291 = (u64)((u64)v290 << (16u & 63u));
+    v292 = (u64)v267;
+    v293 = (u64)((u64)v292 << (8u & 63u));
+    v294 = (u64)v265;
+    v295 = (u64)((u64)v293 | (u64)v294);
+    v296 = (u64)((u64)v295 | (u64)v291);
+    v297 = (u64)((u64)v296 | (u64)v289);
+    v298 = (u64)((u64)v297 | (u64)v287);
+    v299 = (u64)((u64)v298 | (u64)v285);
+    v300 = (u64)((u64)v299 | (u64)v283);
+    v301 = (u64)((u64)v300 | (u64)v281);
+    v302 = (u64)((u64)v301 ^ (u64)v11);
+    v303 = (u64)((u64)v302 & (u64)UINT64_C(9187201950435737471));
+    v304 = (u64)((u64)v303 + (u64)UINT64_C(9187201950435737471));
+    v305 = (u64)((u64)v304 | (u64)v302);
+    v306 = v12 + 56u * 1u;
+    v307 = load8(v306);
+    v308 = v12 + 57u * 1u;
+    v309 = load8(v308);
+    v310 = v12 + 58u * 1u;
+    v311 = load8(v310);
+    v312 = v12 + 59u * 1u;
+    v313 = load8(v312);
+    v314 = v12 + 60u * 1u;
+    v315 = load8(v314);
+    v316 = v12 + 61u * 1u;
+    v317 = load8(v316);
+    v318 = v12 + 62u * 1u;
+    v319 = load8(v318);
+    v320 = v12 + 63u * 1u;
+    v321 = load8(v320);
+    v322 = (u64)v321;
+    v323 = (u64)((u64)v322 << (56u & 63u));
+    v324 = (u64)v319;
+    v325 = (u64)((u64)v324 << (48u & 63u));
+    v326 = (u64)v317;
+    v327 = (u64)((u64)v326 << (40u & 63u));
+    v328 = (u64)v315;
+    v329 = (u64)((u64)v328 << (32u & 63u));
+    v330 = (u64)v313;
+    v331 = (u64)((u64)v330 << (24u & 63u));
+    v332 = (u64)v311;
+    v333 = (u64)((u64)v332 << (16u & 63u));
+    v334 = (u64)v309;
+    v335 = (u64)((u64)v334 << (8u & 63u));
+    v336 = (u64)v307;
+    v337 = (u64)((u64)v335 | (u64)v336);
+    v338 = (u64)((u64)v337 | (u64)v333);
+    v339 = (u64)((u64)v338 | (u64)v331);
+    v340 = (u64)((u64)v339 | (u64)v329);
+    v341 = (u64)((u64)v340 | (u64)v327);
+    v342 = (u64)((u64)v341 | (u64)v325);
+    v343 = (u64)((u64)v342 | (u64)v323);
+    v344 = (u64)((u64)v343 ^ (u64)v11);
+    v345 = (u64)((u64)v344 & (u64)UINT64_C(9187201950435737471));
+    v346 = (u64)((u64)v345 + (u64)UINT64_C(9187201950435737471));
+    v347 = (u64)((u64)v346 | (u64)v344);
+    v348 = (u64)((u64)v53 & (u64)UINT64_C(9259542123273814144));
+    v349 = (u64)((u64)v348 & (u64)v95);
+    v350 = (u64)((u64)v349 & (u64)v137);
+    v351 = (u64)((u64)v350 & (u64)v179);
+    v352 = (u64)((u64)v351 & (u64)v221);
+    v353 = (u64)((u64)v352 & (u64)v263);
+    v354 = (u64)((u64)v353 & (u64)v305);
+    v355 = (u64)((u64)v354 & (u64)v347);
+    v356 = v355 == UINT64_C(9259542123273814144);
+    if (v356) { goto L3; }
+    else { v4 = v3; goto L4; }
+L3:;
+    v357 = (u64)((u64)v3 + (u64)64u);
+    v358 = (u64)((u64)a2 - (u64)v357);
+    v359 = v358 > 63u;
+    if (v359) { v3 = v357; goto L2; }
+    else { v4 = v357; goto L4; }
+L4:;
+    return v4;
+}
+
+static u32 f61(address a0, address a1) {
     u32 v2;
     u64 v3, v4, v11, v13, v17, v19, v23, v25, v29, v31, v33, v35, v37, v39, v42, v46;
     u64 v50, v56, v62, v83, v87, v93;
@@ -12790,7 +15251,7 @@ L28:;
     v2 = 35u; goto L2;
 }
 
-static void f53(address a0, address a1, address a2, u64 a3) {
+static void f62(address a0, address a1, address a2, u64 a3) {
     address v4, v5, v6, v7, v8, v9, v12, v13, v14, v16, v18, v23, v25, v27, v29, v31;
     address v33, v43, v44, v45, v46, v47, v48, v51, v53, v57, v61, v63, v66, v71, v75, v77;
     address v83, v84, v86, v98, v99, v100, v101, v102, v103, v104, v105, v106, v107, v108, v109, v110;
@@ -12933,7 +15394,7 @@ L7:;
     v89 = (u16)((u32)v88 << (8u & 15u));
     v90 = (u16)v87;
     v91 = (u16)((u32)v89 | (u32)v90);
-    v92 = f54(v53, v8, v91, v7);
+    v92 = f63(v53, v8, v91, v7);
     v93 = v92.m0;
     v94 = v93 == 1u;
     if (v94) { goto L9; }
@@ -12988,7 +15449,7 @@ L9:;
     store8(v116, 1u);
     v117 = v4 + 1137u * 1u;
     memory_set(v117, 0u, 159u);
-    f55(v5, v7, v95, v4);
+    f64(v5, v7, v95, v4);
     v118 = load8(v102);
     v119 = v4 + 1288u * 1u;
     v120 = load64(v119);
@@ -13057,7 +15518,7 @@ L13:;
     goto L10;
 }
 
-static struct s2 f54(address a0, address a1, u16 a2, address a3) {
+static struct s2 f63(address a0, address a1, u16 a2, address a3) {
     address v4, v10, v13, v14, v15, v17, v19, v22, v27, v30, v32, v34, v36, v43, v47, v50;
     address v53, v54, v55, v62, v63, v68, v69, v74, v75, v81, v82, v90;
     u64 v5, v6, v11, v18, v23, v24, v37, v56, v86;
@@ -13220,7 +15681,7 @@ L22:;
     return v93;
 }
 
-static void f55(address a0, address a1, u8 a2, address a3) {
+static void f64(address a0, address a1, u8 a2, address a3) {
     address v4, v25, v26, v27, v28, v29, v31, v32, v33, v34, v35, v36, v37, v38, v48, v49;
     address v50, v76, v77, v78, v80, v81, v84, v85, v86, v87, v91, v92, v95, v96, v97, v99;
     address v101, v102, v105, v106, v107, v108, v110, v111, v114, v115, v116, v117;
@@ -13485,7 +15946,7 @@ L48:;
     store8(v77, v17);
     v78 = v25 + 3u * 1u;
     store8(v78, v18);
-    v79 = f56(v25, v49, v51);
+    v79 = f65(v25, v49, v51);
     if (v79) { goto L51; }
     else { v19 = 3u; goto L49; }
 L49:;
@@ -13494,7 +15955,7 @@ L49:;
 L50:;
     goto L51;
 L51:;
-    f57(a0, v12, v13, a1);
+    f66(a0, v12, v13, a1);
     if (v8) { goto L53; }
     else { v23 = 0u; v24 = 0u; goto L62; }
 L52:;
@@ -13580,10 +16041,10 @@ L60:;
     store64(v102, v109);
     goto L63;
 L61:;
-    f58(a0, v12, a3);
+    f67(a0, v12, a3);
     goto L63;
 L62:;
-    f59(a0, v27, a1, v24, v23, a3);
+    f68(a0, v27, a1, v24, v23, a3);
     goto L63;
 L63:;
     return;
@@ -13605,7 +16066,7 @@ L64:;
     goto L63;
 }
 
-static u8 f56(address a0, address a1, u64 a2) {
+static u8 f65(address a0, address a1, u64 a2) {
     address v3, v6, v8, v10, v12, v15, v29;
     u64 v4, v17;
     u8 v5, v7, v9, v11, v13, v14, v16, v18, v19, v20, v21, v25, v27, v28, v30, v31;
@@ -13706,7 +16167,7 @@ L14:;
     UNREACHABLE;
 }
 
-static void f57(address a0, u8 a1, u8 a2, address a3) {
+static void f66(address a0, u8 a1, u8 a2, address a3) {
     u64 v4, v6, v7, v8, v9, v10, v17, v21, v23, v24, v25, v27, v29, v32, v33, v35;
     u64 v36, v37, v42, v45, v50, v51, v57, v58, v64, v65, v92, v95, v96, v100, v102, v103;
     u64 v106, v112, v115, v119, v121, v122, v129, v132, v134, v136, v137;
@@ -14025,7 +16486,7 @@ L44:;
     UNREACHABLE;
 }
 
-static void f58(address a0, u8 a1, address a2) {
+static void f67(address a0, u8 a1, address a2) {
     address v3, v4, v5, v6, v7, v9, v12, v13, v14, v15, v16, v19, v20, v22, v25, v26;
     address v27, v28, v31, v32;
     u8 v8, v11, v24;
@@ -14104,7 +16565,7 @@ L7:;
     return;
 }
 
-static void f59(address a0, address a1, address a2, u8 a3, u8 a4, address a5) {
+static void f68(address a0, address a1, address a2, u8 a3, u8 a4, address a5) {
     u16 v6, v7, v17, v21, v22, v39, v51, v64, v65, v70, v71, v72, v73, v82, v100, v117;
     u16 v127;
     u64 v8, v20, v31, v32, v35, v36, v44, v47, v48, v55, v58, v59, v61, v63, v75, v76;
@@ -14370,7 +16831,7 @@ L22:;
     return;
 }
 
-static u8 f60(address a0) {
+static u8 f69(address a0) {
     u8 v1, v2, v3;
     address v4;
     u16 v5;
@@ -14411,7 +16872,7 @@ L3:;
     return v1;
 }
 
-static u8 f61(address a0, address a1) {
+static u8 f70(address a0, address a1) {
     address v2, v5, v6, v7, v8, v10, v12, v17, v20, v22, v24, v30, v31, v33, v39, v41;
     address v46, v48, v50, v52, v59, v60, v61, v62, v63, v64;
     u64 v3, v9, v18, v21, v44, v45, v51, v53;
@@ -14497,14 +16958,14 @@ L3:;
     store_address(v63, v2);
     v64 = v6 + 16u * 1u;
     store64(v64, v3);
-    v65 = f54(v17, v5, v38, v6);
+    v65 = f63(v17, v5, v38, v6);
     v66 = v65.m0;
     v4 = v66; goto L4;
 L4:;
     return v4;
 }
 
-static void f62(address a0, address a1) {
+static void f71(address a0, address a1) {
     u64 v2, v3, v4, v9, v11, v12, v13, v14, v15, v16, v17, v19, v21, v23, v40, v41;
     u64 v42, v66, v78, v79, v80, v104, v130, v134, v144, v145, v146, v151;
     address v5, v8, v18, v22, v30, v31, v34, v38, v39, v45, v46, v48, v49, v51, v52, v54;
@@ -14542,7 +17003,7 @@ L3:;
     if (v20) { v3 = v17; goto L5; }
     else { goto L4; }
 L4:;
-    f63(a1, v17);
+    f72(a1, v17);
     v21 = load64(v18);
     v3 = v21; goto L5;
 L5:;
@@ -14743,7 +17204,7 @@ L17:;
     return;
 }
 
-static void f63(address a0, u64 a1) {
+static void f72(address a0, u64 a1) {
     u64 v2, v3, v5, v8, v9, v10, v13, v14, v19;
     address v4, v7, v12, v16, v17;
     u8 v6, v11, v15, v18, v20;
@@ -14790,7 +17251,7 @@ L7:;
     return;
 }
 
-static struct s2 f64(address a0, address a1) {
+static struct s2 f73(address a0, address a1) {
     address v2, v6, v7, v11, v13, v15, v16, v17, v26, v31, v32, v38, v40, v41, v42, v43;
     address v44, v46, v47, v48, v49, v53, v55;
     u64 v3, v8, v18, v23, v25, v27, v28, v29, v34, v36, v37, v45;
@@ -14899,7 +17360,7 @@ L11:;
     return v57;
 }
 
-static struct s2 f65(address a0, u8 a1, u16 a2, u8 a3, u16 a4, address a5, u64 a6) {
+static struct s2 f74(address a0, u8 a1, u16 a2, u8 a3, u16 a4, address a5, u64 a6) {
     u16 v7, v15, v17;
     u8 v8, v9, v12, v13, v16, v18, v19, v21, v22, v23, v24, v32, v33;
     address v10, v11, v14, v25, v26, v27, v28, v29, v30;
@@ -14987,7 +17448,7 @@ L9:;
     store_address(v29, a5);
     v30 = v10 + 16u * 1u;
     store64(v30, a6);
-    v31 = f64(a0, v10);
+    v31 = f73(a0, v10);
     v32 = v31.m0;
     v33 = v31.m1;
     v8 = v33; v9 = v32; goto L10;
@@ -14999,7 +17460,7 @@ L10:;
     return v35;
 }
 
-static void f66(address a0, address a1, address a2, u64 a3) {
+static void f75(address a0, address a1, address a2, u64 a3) {
     u64 v4, v5, v11, v25, v32, v43, v83, v84, v90, v91;
     u8 v6, v7, v8, v9, v10, v16, v17, v19, v20, v23, v36, v37, v60, v61, v63, v64;
     u8 v66, v67, v69, v70, v75, v76, v78, v79, v80, v87, v88, v95, v96, v101, v105, v106;
@@ -15084,7 +17545,7 @@ L2:;
     store_address(v58, v41);
     v59 = v12 + 48u * 1u;
     store64(v59, v43);
-    f62(v12, a2);
+    f71(v12, a2);
     v60 = load8(v18);
     v61 = (u8)((u32)v60 + (u32)255u);
     store8(v18, v61);
@@ -15212,7 +17673,7 @@ L17:;
     return;
 }
 
-static struct s2 f67(address a0, address a1, address a2) {
+static struct s2 f76(address a0, address a1, address a2) {
     u8 v3, v4, v5, v6, v7, v8, v10, v17, v20, v22, v23, v27, v35, v36, v39, v40;
     u8 v41, v43, v44, v48, v56, v57, v59, v60, v68, v69;
     struct s2 v9, v34, v37, v55, v58, v67, v70, v71;
@@ -15275,7 +17736,7 @@ L4:;
     store_address(v32, a2);
     v33 = v13 + 16u * 1u;
     store64(v33, 26u);
-    v34 = f64(a0, v13);
+    v34 = f73(a0, v13);
     v35 = v34.m0;
     v36 = v34.m1;
     v3 = v36; v4 = v35; goto L5;
@@ -15319,7 +17780,7 @@ L10:;
     store_address(v53, a2);
     v54 = v12 + 16u * 1u;
     store64(v54, 20u);
-    v55 = f64(a0, v12);
+    v55 = f73(a0, v12);
     v56 = v55.m0;
     v57 = v55.m1;
     v5 = v57; v6 = v56; goto L11;
@@ -15346,7 +17807,7 @@ L13:;
     store_address(v65, a2);
     v66 = v11 + 16u * 1u;
     store64(v66, 20u);
-    v67 = f64(a0, v11);
+    v67 = f73(a0, v11);
     v68 = v67.m0;
     v69 = v67.m1;
     v7 = v69; v8 = v68; goto L14;
@@ -15360,7 +17821,7 @@ L15:;
     return v71;
 }
 
-static void f68(address a0, address a1, address a2, u64 a3) {
+static void f77(address a0, address a1, address a2, u64 a3) {
     u8 v4, v12, v15, v16, v22, v24, v25, v26, v28, v29, v30, v32, v34, v35, v37, v39;
     u8 v46, v50, v54, v56, v63, v65, v66, v69, v70, v71, v74, v76, v78, v90, v92, v96;
     u8 v98, v103, v104, v105, v108, v110, v126, v130, v133, v134, v137, v138, v142, v147, v150, v152;
@@ -15707,7 +18168,7 @@ L34:;
     goto L18;
 }
 
-static void f69(address a0, address a1, address a2, u64 a3, u16 a4, u8 a5) {
+static void f78(address a0, address a1, address a2, u64 a3, u16 a4, u8 a5) {
     address v6, v7, v8, v9, v12, v13, v15, v17, v19, v21, v23, v24, v25, v26, v27, v28;
     address v29, v30, v35, v36, v37, v38, v40, v41, v42, v47, v49, v54, v55, v56, v57, v58;
     address v60, v61, v62, v63, v64, v65, v66, v68, v70, v72, v74, v76, v79, v81, v82, v83;
@@ -15758,7 +18219,7 @@ L1:;
     v29 = v7 + 25u * 1u;
     memory_set(v29, 0u, 71u);
     v30 = a1 + 48u * 1u;
-    v31 = f67(v7, v12, v30);
+    v31 = f76(v7, v12, v30);
     v32 = v31.m0;
     v33 = v31.m1;
     v34 = v32 == 0u;
@@ -15830,7 +18291,7 @@ L9:;
     store8(v65, 0u);
     v66 = a1 + 353u * 1u;
     store8(v66, 0u);
-    f66(v8, a1, a2, a3);
+    f75(v8, a1, a2, a3);
     v67 = load8(v8);
     v68 = v8 + 1u * 1u;
     v69 = load8(v68);
@@ -15872,7 +18333,7 @@ L9:;
     goto L2;
 }
 
-static u32 f70(address a0, u16 a1, address a2, u64 a3, address a4, u64 a5, address a6) {
+static u32 f79(address a0, u16 a1, address a2, u64 a3, address a4, u64 a5, address a6) {
     u16 v7, v33, v60, v61, v62, v63, v70, v71, v72, v84, v87, v88, v89, v95, v96, v97;
     u16 v98, v114, v115, v116, v117, v118, v139, v160, v161;
     u64 v8, v10, v25, v28, v32, v55, v65, v74, v80, v102, v103, v109, v111, v113, v132, v137;
@@ -15972,7 +18433,7 @@ L8:;
     if (v52) { goto L11; }
     else { goto L9; }
 L9:;
-    v53 = f74(v27, v16);
+    v53 = f83(v27, v16);
     if (v53) { goto L10; }
     else { goto L27; }
 L10:;
@@ -16003,7 +18464,7 @@ L11:;
     if (v75) { goto L29; }
     else { goto L12; }
 L12:;
-    v76 = f75(v27, v16);
+    v76 = f84(v27, v16);
     if (v76) { goto L13; }
     else { goto L30; }
 L13:;
@@ -16080,7 +18541,7 @@ L17:;
     store_address(v123, v112);
     v124 = v15 + 16u * 1u;
     store64(v124, v113);
-    v125 = f54(v73, v14, v98, v15);
+    v125 = f63(v73, v14, v98, v15);
     v126 = v125.m0;
     switch (v126) {
     case 0u: goto L36;
@@ -16130,10 +18591,10 @@ L24:;
 L25:;
     return v11;
 L26:;
-    v145 = f71(a0, a1, a2, a3, a4, a5, a6);
+    v145 = f80(a0, a1, a2, a3, a4, a5, a6);
     v11 = v145; goto L25;
 L27:;
-    f85(v27, 1u, a1, a2, v40, v18);
+    f94(v27, 1u, a1, a2, v40, v18);
     v146 = load64(v37);
     store64(a6, v146);
     v12 = 1u; goto L39;
@@ -16145,23 +18606,23 @@ L28:;
     v150 = (u32)((u32)v149 + (u32)16u);
     v12 = v150; goto L39;
 L29:;
-    f85(v27, 2u, a1, a2, v40, v18);
+    f94(v27, 2u, a1, a2, v40, v18);
     v151 = load64(v37);
     store64(a6, v151);
     v12 = 2u; goto L39;
 L30:;
-    f85(v27, 3u, a1, a2, v40, v18);
+    f94(v27, 3u, a1, a2, v40, v18);
     v152 = load64(v37);
     store64(a6, v152);
     v12 = 3u; goto L39;
 L31:;
-    f85(v27, 4u, a1, a2, v40, v18);
+    f94(v27, 4u, a1, a2, v40, v18);
     v153 = load64(v37);
     store64(a6, v153);
     v12 = 4u; goto L39;
 L32:;
     v154 = v125.m1;
-    f76(v27, a1, v40, v154, v18);
+    f85(v27, a1, v40, v154, v18);
     v155 = load64(v37);
     store64(a6, v155);
     v12 = 5u; goto L39;
@@ -16185,22 +18646,22 @@ L33:;
     v167 = v9 + 1440u * 1u;
     v168 = load64(v167);
     v169 = v9 + 1448u * 1u;
-    f84(v166, v168, v169, v13, a1, v18);
+    f93(v166, v168, v169, v13, a1, v18);
     v170 = load64(v37);
     store64(a6, v170);
     v12 = 6u; goto L39;
 L34:;
-    f85(v27, 7u, a1, a2, v40, v18);
+    f94(v27, 7u, a1, a2, v40, v18);
     v171 = load64(v37);
     store64(a6, v171);
     v12 = 7u; goto L39;
 L35:;
-    f85(v27, 8u, a1, a2, v40, v18);
+    f94(v27, 8u, a1, a2, v40, v18);
     v172 = load64(v37);
     store64(a6, v172);
     v12 = 8u; goto L39;
 L36:;
-    f85(v27, 9u, a1, a2, v40, v18);
+    f94(v27, 9u, a1, a2, v40, v18);
     v173 = load64(v37);
     store64(a6, v173);
     v12 = 9u; goto L39;
@@ -16218,7 +18679,7 @@ L39:;
     v11 = v12; goto L25;
 }
 
-static u32 f71(address a0, u16 a1, address a2, u64 a3, address a4, u64 a5, address a6) {
+static u32 f80(address a0, u16 a1, address a2, u64 a3, address a4, u64 a5, address a6) {
     u32 v7, v19;
     address v8, v9, v13, v16, v17;
     u8 v10, v11, v12, v15;
@@ -16250,7 +18711,7 @@ L2:;
     memory_set(v17, 0u, 7u);
     v7 = 32u; goto L4;
 L3:;
-    v19 = f72(v16, a1, a2, a3, 0u, a4, a5, a6);
+    v19 = f81(v16, a1, a2, a3, 0u, a4, a5, a6);
     store64(v8, 4u);
     store_address(v13, v16);
     store_address(a0, v8);
@@ -16261,7 +18722,7 @@ L4:;
     return v7;
 }
 
-static u32 f72(address a0, u16 a1, address a2, u64 a3, u8 a4, address a5, u64 a6, address a7) {
+static u32 f81(address a0, u16 a1, address a2, u64 a3, u8 a4, address a5, u64 a6, address a7) {
     u64 v8, v9, v10, v11, v19, v20, v21, v22, v24, v30, v31, v34, v35, v36, v40, v51;
     u64 v60, v90, v91, v93;
     u32 v12, v94, v95;
@@ -16338,7 +18799,7 @@ L8:;
     if (v46) { goto L9; }
     else { goto L25; }
 L9:;
-    f73(v13, v16, a1, a2, a3, a5, a6);
+    f82(v13, v16, a1, a2, a3, a5, a6);
     v47 = load8(v13);
     v48 = v13 + 1u * 1u;
     v49 = load8(v48);
@@ -16458,7 +18919,7 @@ L28:;
     return v12;
 }
 
-static void f73(address a0, address a1, u16 a2, address a3, u64 a4, address a5, u64 a6) {
+static void f82(address a0, address a1, u16 a2, address a3, u64 a4, address a5, u64 a6) {
     u16 v7, v47, v48, v49, v50, v57, v58, v59, v69, v70, v71, v72, v78, v82, v88, v89;
     u16 v90, v91, v107, v108, v109, v110, v134, v149, v160;
     u64 v8, v10, v11, v13, v42, v52, v61, v64, v77, v95, v96, v102, v104, v106, v127, v132;
@@ -16515,7 +18976,7 @@ L2:;
     if (v39) { goto L5; }
     else { goto L3; }
 L3:;
-    v40 = f74(a1, v20);
+    v40 = f83(a1, v20);
     if (v40) { goto L4; }
     else { v15 = 1u; goto L35; }
 L4:;
@@ -16637,7 +19098,7 @@ L13:;
     store_address(v115, v105);
     v116 = v19 + 16u * 1u;
     store64(v116, v106);
-    v117 = f54(v60, v18, v91, v19);
+    v117 = f63(v60, v18, v91, v19);
     v118 = v117.m0;
     switch (v118) {
     case 0u: v15 = 9u; goto L35;
@@ -16659,7 +19120,7 @@ L17:;
     v16 = v120; v17 = 0u; goto L36;
 L18:;
     v121 = v117.m1;
-    f76(a1, a2, v27, v121, v22);
+    f85(a1, a2, v27, v121, v22);
     v16 = 0u; v17 = 5u; goto L36;
 L19:;
     v122 = v28 + 44u * 1u;
@@ -16743,7 +19204,7 @@ L30:;
     memory_move(v162, v12, 80u);
     goto L32;
 L31:;
-    f81(v162, v12, v155);
+    f90(v162, v12, v155);
     goto L32;
 L32:;
     v163 = v159 + 8u * 1u;
@@ -16768,7 +19229,7 @@ L34:;
     if (v170) { v16 = 0u; v17 = 6u; goto L36; }
     else { v11 = v169; v12 = v156; v13 = v153; v14 = v152; goto L27; }
 L35:;
-    f85(a1, v15, a2, a3, v27, v22);
+    f94(a1, v15, a2, a3, v27, v22);
     v16 = 0u; v17 = v15; goto L36;
 L36:;
     v171 = load64(v24);
@@ -16780,7 +19241,7 @@ L36:;
     return;
 }
 
-static u8 f74(address a0, address a1) {
+static u8 f83(address a0, address a1) {
     address v2, v6, v7, v8, v9, v11, v13, v18, v21, v23, v25, v34, v38, v41, v42, v44;
     address v50, v55, v57, v59, v61, v67, v68, v69, v70, v71, v72;
     u64 v3, v10, v19, v22, v35, v53, v54, v60, v62;
@@ -16901,7 +19362,7 @@ L9:;
     store_address(v71, v2);
     v72 = v7 + 16u * 1u;
     store64(v72, v3);
-    v73 = f54(v18, v6, v49, v7);
+    v73 = f63(v18, v6, v49, v7);
     v74 = v73.m0;
     v75 = v74 == 2u;
     v4 = v75; goto L10;
@@ -16911,7 +19372,7 @@ L11:;
     return v5;
 }
 
-static u8 f75(address a0, address a1) {
+static u8 f84(address a0, address a1) {
     u8 v2, v7, v9, v16, v17, v18, v22;
     address v3, v4, v6, v8, v14, v19;
     u64 v5, v15, v20;
@@ -16952,7 +19413,7 @@ L4:;
     return v2;
 }
 
-static void f76(address a0, u16 a1, address a2, u8 a3, address a4) {
+static void f85(address a0, u16 a1, address a2, u8 a3, address a4) {
     address v5, v7, v11, v12, v13, v14, v15, v17, v19, v21, v27, v29, v35, v37, v39, v41;
     address v46, v48, v50, v52, v54, v56, v66, v67, v68, v69, v70, v71, v72, v73, v74, v75;
     address v76, v81, v82, v83, v84, v86, v88, v90, v91, v92, v100, v101, v107, v109, v111, v112;
@@ -17098,7 +19559,7 @@ L2:;
     v108 = swap16(v65);
     v109 = v13 + 52u * 1u;
     store16(v109, v108);
-    f77(a0, v12, a3, v13);
+    f86(a0, v12, a3, v13);
     v110 = load8(v74);
     v111 = a0 + 448u * 1u;
     v112 = load_address(v111);
@@ -17218,10 +19679,10 @@ L17:;
     memory_move(v150, v158, 80u);
     goto L23;
 L18:;
-    f81(v150, v158, v157);
+    f90(v150, v158, v157);
     goto L23;
 L19:;
-    f82(v150, v158, v157);
+    f91(v150, v158, v157);
     goto L23;
 L20:;
     v167 = v127 + 2088u * 1u;
@@ -17234,13 +19695,13 @@ L21:;
     store64(v167, 0u);
     goto L22;
 L22:;
-    f83(a4, v149, v150);
+    f92(a4, v149, v150);
     goto L23;
 L23:;
     return;
 }
 
-static void f77(address a0, address a1, u8 a2, address a3) {
+static void f86(address a0, address a1, u8 a2, address a3) {
     address v4, v27, v28, v29, v30, v31, v33, v34, v35, v36, v37, v38, v39, v40, v50, v51;
     address v52, v78, v79, v80, v82, v83, v85, v86, v90, v92, v93, v96, v97, v98, v103, v104;
     address v106, v107, v108, v109, v112, v113, v114, v119, v120, v124, v126, v127, v130, v132, v133, v135;
@@ -17509,7 +19970,7 @@ L48:;
     store8(v79, v17);
     v80 = v27 + 3u * 1u;
     store8(v80, v18);
-    v81 = f56(v27, v51, v53);
+    v81 = f65(v27, v51, v53);
     if (v81) { goto L51; }
     else { v19 = 3u; goto L49; }
 L49:;
@@ -17518,7 +19979,7 @@ L49:;
 L50:;
     goto L51;
 L51:;
-    f57(a0, v12, v13, a1);
+    f66(a0, v12, v13, a1);
     if (v8) { goto L53; }
     else { v25 = 0u; v26 = 0u; goto L68; }
 L52:;
@@ -17542,7 +20003,7 @@ L52:;
     v97 = v96 + 2u * 1u;
     store16(v97, 60u);
     v98 = v96 + 4u * 1u;
-    f78(a3, v84, v89, v91, v98);
+    f87(a3, v84, v89, v91, v98);
     v99 = load64(v93);
     v100 = (u64)((u64)v99 + (u64)1u);
     store64(v93, v100);
@@ -17679,10 +20140,10 @@ L66:;
     store64(v138, v160);
     goto L69;
 L67:;
-    f79(a0, v12, a3);
+    f88(a0, v12, a3);
     goto L69;
 L68:;
-    f80(a0, v29, a1, v26, v25, a3);
+    f89(a0, v29, a1, v26, v25, a3);
     goto L69;
 L69:;
     return;
@@ -17704,14 +20165,14 @@ L70:;
     v173 = v172 + 2u * 1u;
     store16(v173, 60u);
     v174 = v172 + 4u * 1u;
-    f78(a3, v163, 2u, v167, v174);
+    f87(a3, v163, 2u, v167, v174);
     v175 = load64(v169);
     v176 = (u64)((u64)v175 + (u64)1u);
     store64(v169, v176);
     goto L69;
 }
 
-static void f78(address a0, u16 a1, u16 a2, u16 a3, address a4) {
+static void f87(address a0, u16 a1, u16 a2, u16 a3, address a4) {
     u64 v5, v7, v8, v9, v14, v16, v17;
     address v6, v11, v12, v19, v20, v21, v23, v25, v26, v28;
     u8 v10, v13, v15, v18;
@@ -17768,7 +20229,7 @@ L6:;
     return;
 }
 
-static void f79(address a0, u8 a1, address a2) {
+static void f88(address a0, u8 a1, address a2) {
     u64 v3, v4, v5, v6, v11, v19, v20, v27, v28, v29, v34, v36, v37, v38, v43, v52;
     u64 v53, v55, v63, v64, v71, v72, v73, v78, v80, v81, v82, v87, v96, v97;
     address v7, v9, v10, v12, v13, v15, v16, v17, v18, v21, v24, v25, v26, v31, v32, v40;
@@ -17934,7 +20395,7 @@ L15:;
     return;
 }
 
-static void f80(address a0, address a1, address a2, u8 a3, u8 a4, address a5) {
+static void f89(address a0, address a1, address a2, u8 a3, u8 a4, address a5) {
     u16 v6, v7, v17, v21, v22, v40, v42, v43, v51, v56, v74, v75, v88, v89, v94, v95;
     u16 v96, v97, v102, v126, v127, v132, v150, v151, v166, v184, v186, v187, v192, v210, v211;
     u64 v8, v9, v10, v11, v13, v14, v20, v31, v34, v35, v36, v46, v47, v52, v53, v60;
@@ -17981,7 +20442,7 @@ L3:;
     v34 = (u64)v7;
     v35 = (u64)v22;
     v36 = (u64)a4;
-    v37 = ADDRESS(c334) + v36 * 2u;
+    v37 = ADDRESS(c349) + v36 * 2u;
     v8 = v34; goto L4;
 L4:;
     v38 = load8(v24);
@@ -18004,7 +20465,7 @@ L5:;
     store16(v49, 60u);
     v50 = v48 + 4u * 1u;
     v51 = (u16)(v8);
-    f78(a5, v51, v42, v43, v50);
+    f87(a5, v51, v42, v43, v50);
     v52 = load64(v45);
     v53 = (u64)((u64)v52 + (u64)1u);
     store64(v45, v53);
@@ -18328,7 +20789,7 @@ L37:;
     return;
 }
 
-static void f81(address a0, address a1, u64 a2) {
+static void f90(address a0, address a1, u64 a2) {
     u64 v3, v4, v5, v6, v11;
     u8 v7, v10, v12;
     address v8, v9;
@@ -18354,7 +20815,7 @@ L3:;
     return;
 }
 
-static void f82(address a0, address a1, u64 a2) {
+static void f91(address a0, address a1, u64 a2) {
     u64 v3, v4, v5, v7, v10, v12, v14, v15, v16, v21, v24, v25, v28, v29, v30, v35;
     u64 v37;
     address v6, v9, v11, v18, v19, v27, v32, v33;
@@ -18433,7 +20894,7 @@ L12:;
     return;
 }
 
-static void f83(address a0, address a1, address a2) {
+static void f92(address a0, address a1, address a2) {
     u64 v3, v4, v5, v6, v7, v8, v10, v15, v19, v22, v24, v25, v26, v29, v30, v31;
     u64 v36, v38, v41, v42, v43, v48, v50, v53, v54, v55, v60, v62, v65, v66, v67, v72;
     u64 v74, v75;
@@ -18585,7 +21046,7 @@ L21:;
     return;
 }
 
-static void f84(address a0, u64 a1, address a2, address a3, u16 a4, address a5) {
+static void f93(address a0, u64 a1, address a2, address a3, u16 a4, address a5) {
     u64 v6, v8, v15, v17, v19, v22, v40, v41;
     address v7, v9, v11, v12, v13, v14, v16, v20, v21, v23, v25, v26, v28, v34, v36, v38;
     address v39;
@@ -18631,7 +21092,7 @@ L5:;
     memory_move(v26, v7, 80u);
     goto L7;
 L6:;
-    f81(v26, v7, v19);
+    f90(v26, v7, v19);
     goto L7;
 L7:;
     v27 = load8(a3);
@@ -18667,7 +21128,7 @@ L10:;
     return;
 }
 
-static void f85(address a0, u8 a1, u16 a2, address a3, address a4, address a5) {
+static void f94(address a0, u8 a1, u16 a2, address a3, address a4, address a5) {
     address v6, v8, v9, v10, v12, v13, v18, v22, v24, v27, v30, v36, v40, v42, v45, v47;
     address v50, v53, v55, v57, v59, v61, v63, v73, v74, v75, v76, v77, v78, v79, v81, v83;
     address v85, v91, v93, v99, v101, v103, v104, v105, v110, v111, v112, v114, v116, v118, v119, v120;
@@ -18750,7 +21211,7 @@ L6:;
 L7:;
     UNREACHABLE;
 L8:;
-    f86(a0, a2, a3, a5);
+    f95(a0, a2, a3, a5);
     goto L9;
 L9:;
     v44 = a1 == 9u;
@@ -18872,13 +21333,13 @@ L12:;
     v129 = swap16(v72);
     v130 = v9 + 52u * 1u;
     store16(v130, v129);
-    f87(a0, v8, v9);
+    f96(a0, v8, v9);
     goto L13;
 L13:;
     return;
 }
 
-static void f86(address a0, u16 a1, address a2, address a3) {
+static void f95(address a0, u16 a1, address a2, address a3) {
     u64 v4, v5, v7, v15, v16, v17, v19, v20, v22, v26, v27, v35, v39, v40, v45, v50;
     u64 v51, v52;
     address v6, v11, v12, v13, v14, v23, v25, v28, v37, v38, v42, v43, v47;
@@ -18980,7 +21441,7 @@ L11:;
     return;
 }
 
-static void f87(address a0, address a1, address a2) {
+static void f96(address a0, address a1, address a2) {
     address v3, v15, v16, v17, v20, v22, v23, v24, v25, v26, v27, v28, v29, v30, v31, v33;
     address v34, v36, v38, v39, v42, v43, v44, v49, v50, v52, v53, v54, v56, v57, v60, v61;
     address v62, v65, v67, v68, v70, v71, v72, v73, v76, v77, v78, v79, v84, v85, v90, v92;
@@ -19104,7 +21565,7 @@ L22:;
     v43 = v42 + 2u * 1u;
     store16(v43, 60u);
     v44 = v42 + 4u * 1u;
-    f78(a2, v32, v35, v37, v44);
+    f87(a2, v32, v35, v37, v44);
     v45 = load64(v39);
     v46 = (u64)((u64)v45 + (u64)1u);
     store64(v39, v46);
@@ -19143,7 +21604,7 @@ L28:;
     v61 = v60 + 2u * 1u;
     store16(v61, 60u);
     v62 = v60 + 4u * 1u;
-    f78(a2, v51, 6u, v55, v62);
+    f87(a2, v51, 6u, v55, v62);
     v63 = load64(v57);
     v64 = (u64)((u64)v63 + (u64)1u);
     store64(v57, v64);
@@ -19231,14 +21692,14 @@ L38:;
     store64(v73, v95);
     goto L23;
 L39:;
-    f79(a0, v8, a2);
+    f88(a0, v8, a2);
     goto L23;
 L40:;
-    f80(a0, v16, a1, v14, v13, a2);
+    f89(a0, v16, a1, v14, v13, a2);
     goto L23;
 }
 
-static u32 f88(address a0, u16 a1, address a2, u64 a3, u8 a4, address a5, u64 a6, address a7, address a8) {
+static u32 f97(address a0, u16 a1, address a2, u64 a3, u8 a4, address a5, u64 a6, address a7, address a8) {
     u64 v9, v22, v25, v33;
     u32 v10, v11, v28, v31;
     address v12, v13, v14, v15, v16, v17, v21, v24, v26, v27, v30, v32, v34;
@@ -19283,14 +21744,14 @@ L3:;
     v27 = load_address(v24);
     f31(v14, v27);
     memory_cpy(v13, v14, 440u);
-    v28 = f72(v24, a1, a2, a3, a4, a5, a6, a7);
+    v28 = f81(v24, a1, a2, a3, a4, a5, a6, a7);
     memory_set(v12, 0u, 12u);
     v29 = v28 == 5u;
     if (v29) { goto L4; }
     else { v9 = 0u; v10 = 0u; goto L5; }
 L4:;
     v30 = load_address(v24);
-    f89(v12, v30, v13);
+    f98(v12, v30, v13);
     v31 = load32(v12);
     v32 = v12 + 4u * 1u;
     v33 = load64(v32);
@@ -19309,7 +21770,7 @@ L6:;
     return v11;
 }
 
-static void f89(address a0, address a1, address a2) {
+static void f98(address a0, address a1, address a2) {
     u64 v3, v5, v7, v8, v12, v13, v15, v16, v18, v19, v20, v22, v23, v24, v25, v27;
     u64 v28, v29, v30, v31, v33, v34, v35, v36, v37, v38, v40, v41, v42, v43, v44, v45;
     u64 v46, v48, v49, v50, v51, v52, v53, v54, v55, v56, v57, v58, v59, v60, v61, v62;
@@ -20308,7 +22769,7 @@ L48:;
     return;
 }
 
-static u32 f90(address a0, address a1, address a2, u64 a3, address a4) {
+static u32 f99(address a0, address a1, address a2, u64 a3, address a4) {
     u32 v5, v8, v70, v71;
     u8 v6, v7, v12, v13, v14, v17, v22, v24, v26, v28, v30, v32, v34, v36, v38, v40;
     u8 v42, v44, v47, v48, v49, v50, v51, v52, v53, v54, v55, v56, v57, v58, v59, v60;
@@ -20347,7 +22808,7 @@ L2:;
 L3:;
     memory_set(v9, 0u, 24u);
     v21 = load_address(v18);
-    f91(v9, v21, a1, a2, a3);
+    f100(v9, v21, a1, a2, a3);
     v22 = load8(v9);
     v23 = v9 + 1u * 1u;
     v24 = load8(v23);
@@ -20557,7 +23018,7 @@ L52:;
     v5 = v8; goto L4;
 }
 
-static void f91(address a0, address a1, address a2, address a3, u64 a4) {
+static void f100(address a0, address a1, address a2, address a3, u64 a4) {
     u64 v5, v6, v7, v9, v18, v21, v24, v26, v42, v43, v51, v65, v67, v68, v69, v74;
     u64 v75, v95, v99, v129, v133, v146, v147, v149, v150, v281, v283, v284, v286, v288, v295, v311;
     u64 v321, v323, v327, v347, v352, v361, v366, v367, v368, v369, v370, v371, v372, v373, v374, v375;
@@ -21010,7 +23471,7 @@ L20:;
     else { goto L21; }
 L21:;
     v325 = a1 + 192u * 1u;
-    f92(v33, v40, a1, v325);
+    f101(v33, v40, a1, v325);
     v326 = v33 + 20u * 1u;
     v327 = load64(v326);
     v328 = v33 + 34u * 1u;
@@ -21077,7 +23538,7 @@ L30:;
     if (v362) { goto L31; }
     else { v24 = v361; goto L28; }
 L31:;
-    f92(v34, v40, a1, v325);
+    f101(v34, v40, a1, v325);
     memory_cpy(v325, v34, 36u);
     v363 = v160 ? v80 : v285;
     v364 = v157 ? v84 : v287;
@@ -21199,7 +23660,7 @@ L37:;
     goto L1;
 }
 
-static void f92(address a0, address a1, address a2, address a3) {
+static void f101(address a0, address a1, address a2, address a3) {
     u64 v4, v6, v7, v8, v18, v20, v24, v26, v28, v30, v49, v50, v51, v52, v53, v54;
     u64 v55, v56, v57, v58, v59, v60, v64, v66, v67, v69, v71, v90, v91, v92, v93, v94;
     u64 v95, v96, v97, v98, v99, v100, v101, v103, v107, v109;
@@ -21367,7 +23828,7 @@ L6:;
     return;
 }
 
-static void f93(address a0, address a1, u8 a2) {
+static void f102(address a0, address a1, u8 a2) {
     address v3, v4, v5, v6, v10, v12, v13, v14, v15, v16, v17, v18, v19, v20, v21, v22;
     address v23, v24, v25, v26, v27, v28, v29, v30, v31, v32;
     u8 v7, v8, v9;
@@ -21426,7 +23887,7 @@ static void f93(address a0, address a1, u8 a2) {
     v31 = v3 + 1137u * 1u;
     memory_set(v31, 0u, 159u);
     store8(v6, a2);
-    f94(a0, v5, v3);
+    f103(a0, v5, v3);
     memory_cpy(v4, v3, 1296u);
     v32 = a1 + 10u * 1u;
     v33 = load16(v32);
@@ -21434,7 +23895,7 @@ static void f93(address a0, address a1, u8 a2) {
     return;
 }
 
-static void f94(address a0, address a1, address a2) {
+static void f103(address a0, address a1, address a2) {
     address v3, v10, v11, v12, v15, v17, v18, v19, v20, v21, v22, v23, v24, v28, v30, v31;
     address v34, v35, v36, v37, v39, v41, v42, v45, v46, v47, v48, v50, v52, v53, v56, v57;
     address v58, v59;
@@ -21623,15 +24084,15 @@ L28:;
     store64(v53, v60);
     goto L23;
 L29:;
-    f95(a0, v8, a2);
+    f104(a0, v8, a2);
     goto L23;
 L30:;
     v61 = (u8)v27;
-    f96(a0, v11, a1, v61, a2);
+    f105(a0, v11, a1, v61, a2);
     goto L23;
 }
 
-static void f95(address a0, u8 a1, address a2) {
+static void f104(address a0, u8 a1, address a2) {
     address v3, v5, v7, v8, v11, v12, v13, v14, v16, v18, v19, v22, v23, v24, v25;
     u8 v4, v6, v17;
     u64 v9, v10, v15, v20, v21, v26;
@@ -21682,7 +24143,7 @@ L3:;
     return;
 }
 
-static void f96(address a0, address a1, address a2, u8 a3, address a4) {
+static void f105(address a0, address a1, address a2, u8 a3, address a4) {
     u16 v5, v6, v9, v13, v14, v26;
     u64 v7, v12, v19, v20, v22, v23, v31, v32;
     address v8, v11, v16, v17, v18, v24, v25, v27, v28, v29, v30;
@@ -21736,7 +24197,7 @@ L5:;
     return;
 }
 
-static void f97(address a0, address a1, address a2, u64 a3) {
+static void f106(address a0, address a1, address a2, u64 a3) {
     u8 v4, v25, v28, v32, v33;
     address v5, v6, v7, v8, v9, v10, v11, v12, v13, v14, v15, v16, v17, v18, v19, v20;
     address v21, v22, v23, v24, v26, v29, v30, v31, v34, v35, v36, v37, v38, v39, v40, v41;
@@ -21879,7 +24340,7 @@ L3:;
     return;
 }
 
-static void f98(address a0, address a1, u8 a2, u16 a3, u16 a4, address a5, u64 a6) {
+static void f107(address a0, address a1, u8 a2, u16 a3, u16 a4, address a5, u64 a6) {
     u8 v7, v8, v15, v16, v20, v24, v25, v30, v31, v32, v40, v41, v62, v63, v66, v67;
     u8 v68, v69;
     address v9, v10, v11, v12, v13, v14, v17, v21, v22, v23, v26, v27, v28, v33, v34, v35;
@@ -22013,7 +24474,7 @@ L8:;
     store8(v60, 1u);
     v61 = v9 + 1137u * 1u;
     memory_set(v61, 0u, 159u);
-    f55(a1, v10, 7u, v9);
+    f64(a1, v10, 7u, v9);
     v62 = load8(v46);
     v63 = load8(v47);
     v64 = v9 + 1288u * 1u;
@@ -22025,7 +24486,7 @@ L8:;
     if (v68) { v7 = 3u; v8 = v63; goto L10; }
     else { goto L9; }
 L9:;
-    f89(v14, a1, v11);
+    f98(v14, a1, v11);
     v70 = v13 + 1u * 1u;
     memory_cpy(v70, v14, 12u);
     v7 = 0u; v8 = 0u; goto L10;
@@ -22041,7 +24502,7 @@ L10:;
     goto L2;
 }
 
-static u8 f99(address a0) {
+static u8 f108(address a0) {
     u64 v1, v6, v11, v13, v15, v16, v18, v20, v24, v25, v27, v29, v32, v34, v38, v40;
     u64 v41, v43, v45, v49, v50, v52, v54, v57, v59;
     struct pair v2, v3, v26, v30, v31, v51, v55, v56;
@@ -22054,7 +24515,7 @@ static u8 f99(address a0) {
     else { v1 = v6; goto L3; }
 L1:;
     v8 = a0 + 48u * 1u;
-    v9 = f100(v8);
+    v9 = f109(v8);
     v10 = (u8)((v9) & UINT64_C(1));
     if (v10) { v4 = 1u; goto L17; }
     else { goto L2; }
@@ -22158,7 +24619,7 @@ L17:;
     return v4;
 }
 
-static u8 f100(address a0) {
+static u8 f109(address a0) {
     u64 v1, v2, v3, v5, v7, v8, v9, v10, v12, v13, v14, v15, v19, v22, v23, v24;
     u64 v25, v32, v34, v35, v36, v39, v40, v47, v118, v119, v121, v124, v127, v128, v131, v133;
     u64 v134, v135, v136, v138, v139, v141, v142, v144, v150, v151, v153, v155, v158, v160, v162, v163;
@@ -22483,7 +24944,7 @@ L30:;
     if (v190) { goto L31; }
     else { v9 = v7; v10 = 0u; goto L33; }
 L31:;
-    v191 = f101(a0, v3);
+    v191 = f110(a0, v3);
     if (v191) { goto L32; }
     else { goto L36; }
 L32:;
@@ -22674,7 +25135,7 @@ L44:;
     return v16;
 }
 
-static u8 f101(address a0, u64 a1) {
+static u8 f110(address a0, u64 a1) {
     u8 v2, v7, v12, v16, v17, v23, v28;
     struct pair v3, v21, v25, v26;
     address v4, v8, v18, v30;
@@ -23142,7 +25603,7 @@ L6:;
     store8(a2, v3);
     v20 = load8(v13);
     v21 = (u64)v20;
-    v22 = ADDRESS(c316) + v21 * 4u;
+    v22 = ADDRESS(c337) + v21 * 4u;
     v23 = load32(v22);
     v4 = v23; goto L7;
 L7:;
@@ -23740,7 +26201,7 @@ L34:;
     portable_rattle_dealloc(v156);
     v32 = 35u; goto L36;
 L35:;
-    v215 = ADDRESS(c332) + v31 * 4u;
+    v215 = ADDRESS(c347) + v31 * 4u;
     v216 = load32(v215);
     v32 = v216; goto L36;
 L36:;
@@ -24459,7 +26920,7 @@ L8:;
     v8 = 35u; goto L10;
 L9:;
     v43 = (u64)v26;
-    v44 = ADDRESS(c317) + v43 * 4u;
+    v44 = ADDRESS(c338) + v43 * 4u;
     v45 = load32(v44);
     v8 = v45; goto L10;
 L10:;
@@ -25073,7 +27534,7 @@ L68:;
     UNREACHABLE;
 L69:;
     v297 = (u64)v254;
-    v298 = ADDRESS(c317) + v297 * 4u;
+    v298 = ADDRESS(c338) + v297 * 4u;
     v299 = load32(v298);
     v16 = v299; goto L73;
 L70:;
@@ -25126,10 +27587,10 @@ u64 portable_ptpm_error_name(u16 a0, address a1, u64 a2) {
     else { v4 = 0u; goto L5; }
 L1:;
     v13 = (u64)v8;
-    v14 = ADDRESS(c318) + v13 * 8u;
+    v14 = ADDRESS(c339) + v13 * 8u;
     v15 = load64(v14);
     v16 = (u64)v8;
-    v17 = ADDRESS(c319) + v16 * 8u;
+    v17 = ADDRESS(c340) + v16 * 8u;
     v18 = load_address(v17);
     v19 = a2 < v15;
     if (v19) { v4 = 0u; goto L5; }
@@ -25589,7 +28050,7 @@ L45:;
     UNREACHABLE;
 L46:;
     v235 = (u64)v53;
-    v236 = ADDRESS(c320) + v235 * 8u;
+    v236 = ADDRESS(c341) + v235 * 8u;
     v237 = load_address(v236);
     v54 = v237; goto L47;
 L47:;
@@ -25643,7 +28104,7 @@ L52:;
     store8(v241, v263);
     v264 = load8(v244);
     store8(v243, v264);
-    v265 = f43(v75);
+    v265 = f44(v75);
     v266 = v265.m0;
     v267 = v265.m1;
     v268 = v257 == v267;
@@ -25738,7 +28199,7 @@ L69:;
     store8(v304, v67);
     v305 = v72 + 2u * 1u;
     store8(v305, v68);
-    v306 = f45(a0, v72);
+    v306 = f46(a0, v72);
     v69 = 0u; v70 = v306; v71 = 116u; goto L71;
 L70:;
     store8(v73, v66);
@@ -25746,7 +28207,7 @@ L70:;
     store8(v307, v67);
     v308 = v73 + 2u * 1u;
     store8(v308, v68);
-    v309 = f45(a0, v73);
+    v309 = f46(a0, v73);
     v69 = 0u; v70 = v309; v71 = 117u; goto L71;
 L71:;
     store64(a5, v69);
@@ -25754,125 +28215,27 @@ L71:;
     return v71;
 }
 
-u64 portable_ptpm_field_text(u16 a0, address a1, u64 a2, address a3, u64 a4) {
-    u8 v5, v6, v12, v13, v16, v17, v20, v21, v26, v27, v29, v30, v35, v36, v39, v40;
-    u8 v41, v42, v43, v44, v48, v49, v50, v51, v81, v84, v85, v86, v88, v109, v110, v114;
-    u8 v115, v116, v117, v121, v122, v123, v124, v141, v147, v150, v154, v155, v158, v159, v163, v164;
-    u8 v167, v168, v169, v170, v173, v174, v176, v186, v189, v195, v197, v200, v203, v205, v208, v209;
-    u8 v210, v211, v212, v214, v216, v221, v222, v223, v225, v226, v231, v236, v251, v252, v253, v256;
-    u8 v262, v263, v264, v267, v269, v275, v277, v278, v279, v280, v281, v286, v288, v276, v290, v291;
-    u8 v292, v293, v273, v295, v297, v298, v300, v306, v308, v310, v312, v314, v316, v320, v323, v326;
-    u8 v330, v333, v335, v336, v343, v346, v348, v350, v354, v356, v359, v361, v362, v368, v370, v371;
-    u8 v373, v374, v375, v376, v377, v378, v379, v382, v387, v388, v389, v390, v391, v392, v396, v398;
-    u8 v407, v411, v415, v416, v417, v418, v419, v420, v421, v422, v423, v424, v427, v433, v434, v436;
-    u8 v441, v443, v449, v452, v454, v455, v457, v460, v466, v472, v477, v481, v487, v491, v493, v496;
-    u8 v500, v502, v505, v507, v510, v514, v518, v520, v523, v525, v528, v533, v538, v541, v545, v547;
-    u8 v550, v552, v555, v560, v565, v570, v572, v575, v578, v582, v584, v587, v589, v592, v597, v602;
-    u8 v607, v609, v612, v618, v623, v630, v634, v636, v639, v641, v644, v649, v654, v659, v661, v664;
-    u8 v670, v675, v678, v681, v683, v694, v697, v699, v705, v707, v710, v718, v720, v721, v724, v727;
-    u8 v733, v743, v746, v750, v759, v775, v781, v793, v795, v803, v805, v808, v809, v810, v811, v812;
-    u8 v818, v820, v830, v832, v836, v837, v838, v845, v847, v850, v855, v858, v860, v861, v865, v868;
-    u8 v871, v873, v874, v881, v884, v886, v888, v889, v890, v893, v898, v899, v902, v912, v913, v914;
-    u8 v915, v917, v918, v919, v920, v921, v922, v923, v926, v931, v932, v933, v934, v935, v936, v940;
-    u8 v942, v944, v945, v946, v947, v948, v949, v952, v957, v958, v959, v960, v961, v962, v966, v968;
-    u8 v970, v972, v973, v976, v981, v982, v983, v990, v991, v992, v993, v994, v995, v1008, v1011, v1013;
-    u8 v1014, v1021, v1024, v1026, v1027, v1030, v1032, v1033, v1039, v1042, v1043, v1044, v1045, v1046, v1047, v1052;
-    u8 v1053, v1054, v1055, v1056, v1057, v1061, v1064, v1066, v1067, v1073, v1080, v1081, v1084, v1086, v1087, v1093;
-    u8 v1106, v1107, v1108, v1109, v1110, v1111, v1116, v1117, v1118, v1119, v1120, v1121, v1126, v1128, v1129, v1135;
-    u8 v1149, v1150, v1151, v1152, v1153, v1154, v1155, v1160, v1161, v1162, v1163, v1164, v1165, v1169, v1171, v1172;
-    u8 v1173, v1174, v1175, v1176, v1181, v1182, v1183, v1184, v1185, v1186, v1191, v1193, v1194, v1195, v1196, v1197;
-    u8 v1198, v1201, v1205, v1208, v1210, v1211, v1217, v1220, v1221, v1222, v1223, v1224, v1225, v1230, v1231, v1232;
-    u8 v1233, v1234, v1235, v1239, v1241, v1243, v1244, v1247, v1252, v1253, v1254, v1255, v1256, v1257, v1258, v1261;
-    u8 v1266, v1267, v1268, v1269, v1270, v1271, v1275, v1277, v1278, v1281, v1282, v1283, v1284, v1285, v1286, v1287;
-    u8 v1290, v1295, v1296, v1297, v1298, v1299, v1300, v1304, v1306, v1309, v1310, v1313, v1317, v1318, v1319, v1322;
-    u8 v1326, v1327, v1329, v1331;
-    u64 v7, v8, v9, v11, v14, v15, v18, v19, v22, v23, v24, v25, v28, v31, v32, v33;
-    u64 v34, v37, v38, v45, v46, v47, v52, v54, v55, v57, v58, v60, v61, v63, v64, v65;
-    u64 v67, v69, v71, v72, v73, v75, v77, v80, v82, v83, v87, v89, v90, v91, v92, v93;
-    u64 v94, v95, v96, v97, v98, v99, v100, v101, v102, v103, v104, v105, v106, v107, v111, v112;
-    u64 v113, v118, v119, v120, v125, v126, v127, v129, v130, v131, v132, v133, v134, v135, v136, v137;
-    u64 v138, v139, v140, v142, v143, v144, v145, v146, v148, v149, v151, v152, v153, v156, v160, v161;
-    u64 v162, v165, v166, v171, v172, v175, v177, v187, v190, v196, v199, v202, v204, v206, v207, v213;
-    u64 v217, v218, v219, v220, v224, v228, v232, v233, v234, v235, v237, v254, v255, v266, v268, v271;
-    u64 v274, v283, v285, v287, v294, v296, v299, v302, v304, v317, v319, v321, v322, v324, v325, v329;
-    u64 v331, v332, v334, v338, v340, v341, v342, v347, v349, v352, v355, v357, v358, v360, v364, v366;
-    u64 v367, v380, v381, v384, v386, v394, v397, v399, v400, v402, v403, v404, v405, v406, v408, v409;
-    u64 v410, v412, v413, v414, v425, v426, v428, v429, v430, v431, v432, v435, v437, v438, v439, v444;
-    u64 v445, v446, v447, v448, v450, v451, v453, v458, v459, v461, v462, v463, v464, v465, v467, v468;
-    u64 v469, v470, v471, v473, v474, v475, v476, v478, v479, v480, v484, v490, v492, v495, v499, v501;
-    u64 v504, v508, v509, v511, v512, v517, v519, v522, v526, v527, v529, v530, v532, v535, v537, v540;
-    u64 v544, v546, v549, v553, v554, v556, v557, v559, v562, v564, v567, v569, v573, v574, v576, v577;
-    u64 v581, v583, v586, v590, v591, v593, v594, v596, v599, v601, v604, v606, v610, v611, v613, v614;
-    u64 v617, v620, v622, v625, v627, v633, v635, v638, v642, v643, v645, v646, v648, v651, v653, v656;
-    u64 v658, v662, v663, v665, v666, v669, v672, v674, v680, v682, v685, v687, v693, v696, v698, v701;
-    u64 v703, v704, v708, v709, v711, v712, v714, v715, v716, v717, v719, v725, v726, v728, v729, v732;
-    u64 v735, v736, v737, v738, v739, v740, v742, v745, v747, v748, v749, v751, v752, v753, v754, v755;
-    u64 v757, v758, v760, v761, v762, v763, v764, v765, v766, v767, v768, v769, v770, v771, v772, v773;
-    u64 v774, v776, v778, v780, v782, v783, v784, v785, v791, v799, v801, v813, v815, v816, v828, v839;
-    u64 v841, v843, v851, v854, v856, v857, v859, v863, v866, v869, v870, v872, v876, v878, v879, v880;
-    u64 v885, v887, v891, v892, v895, v897, v900, v901, v904, v910, v924, v925, v928, v930, v938, v941;
-    u64 v950, v951, v954, v956, v964, v967, v971, v974, v975, v978, v980, v984, v987, v989, v996, v999;
-    u64 v1001, v1002, v1005, v1007, v1009, v1010, v1012, v1016, v1018, v1019, v1020, v1025, v1028, v1029, v1031, v1035;
-    u64 v1037, v1038, v1041, v1049, v1051, v1059, v1062, v1063, v1065, v1069, v1071, v1072, v1079, v1082, v1083, v1085;
-    u64 v1089, v1091, v1092, v1105, v1113, v1115, v1123, v1125, v1127, v1131, v1133, v1134, v1147, v1148, v1157, v1159;
-    u64 v1167, v1170, v1178, v1180, v1188, v1199, v1200, v1203, v1206, v1207, v1209, v1213, v1215, v1216, v1219, v1227;
-    u64 v1229, v1237, v1240, v1245, v1246, v1249, v1259, v1260, v1263, v1265, v1273, v1276, v1288, v1289, v1292, v1294;
-    u64 v1302, v1305, v1308, v1311, v1312, v1315, v1320, v1321, v1324, v1328, v1330, v1332;
-    address v10, v53, v56, v59, v62, v66, v68, v70, v74, v76, v79, v128, v157, v178, v179, v180;
-    address v181, v182, v183, v184, v185, v188, v191, v192, v193, v194, v201, v215, v227, v229, v230, v238;
-    address v239, v240, v241, v242, v243, v244, v245, v246, v247, v248, v249, v250, v257, v258, v259, v260;
-    address v261, v265, v270, v272, v282, v284, v289, v301, v303, v305, v307, v309, v311, v313, v315, v318;
-    address v328, v337, v339, v344, v345, v351, v353, v363, v365, v369, v372, v383, v385, v393, v395, v401;
-    address v440, v442, v456, v482, v483, v488, v489, v494, v497, v498, v503, v506, v513, v515, v516, v521;
-    address v524, v531, v534, v536, v539, v542, v543, v548, v551, v558, v561, v563, v566, v568, v571, v579;
-    address v580, v585, v588, v595, v598, v600, v603, v605, v608, v615, v616, v619, v621, v624, v626, v631;
-    address v632, v637, v640, v647, v650, v652, v655, v657, v660, v667, v668, v671, v673, v676, v677, v679;
-    address v684, v686, v692, v695, v700, v702, v706, v713, v722, v723, v730, v731, v734, v741, v744, v756;
-    address v792, v794, v796, v797, v798, v802, v804, v806, v807, v814, v817, v819, v821, v822, v829, v831;
-    address v833, v834, v835, v840, v844, v846, v848, v849, v852, v853, v862, v864, v867, v875, v877, v882;
-    address v883, v894, v896, v903, v905, v916, v927, v929, v937, v939, v953, v955, v963, v965, v969, v977;
-    address v979, v985, v986, v988, v997, v998, v1000, v1003, v1004, v1006, v1015, v1017, v1022, v1023, v1034, v1036;
-    address v1040, v1048, v1050, v1058, v1060, v1068, v1070, v1074, v1075, v1076, v1077, v1078, v1088, v1090, v1094, v1095;
-    address v1096, v1097, v1098, v1099, v1100, v1101, v1102, v1103, v1104, v1112, v1114, v1122, v1124, v1130, v1132, v1136;
-    address v1137, v1138, v1139, v1140, v1141, v1142, v1143, v1144, v1145, v1146, v1156, v1158, v1166, v1168, v1177, v1179;
-    address v1187, v1189, v1190, v1192, v1202, v1204, v1212, v1214, v1218, v1226, v1228, v1236, v1238, v1242, v1248, v1250;
-    address v1251, v1262, v1264, v1272, v1274, v1279, v1280, v1291, v1293, v1301, v1303, v1307, v1314, v1316, v1323, v1325;
-    struct s5 v78, v198, v327, v485, v486, v628, v629, v688, v689, v690, v691;
-    u32 v108, v906, v907, v908, v909, v911, v943;
-    u16 v777, v779, v786, v787, v788, v789, v790, v800, v823, v824, v825, v826, v827, v842;
-    u64 block0[5];
-    u64 block1[1];
-    u64 block2[2];
-    u64 block3[1];
-    u64 block4[1];
-    u64 block5[1];
-    u64 block6[1];
-    u64 block7[4];
-    v178 = ADDRESS(block0);
-    v179 = ADDRESS(block1);
-    v180 = ADDRESS(block2);
-    v181 = ADDRESS(block3);
-    v182 = ADDRESS(block4);
-    v183 = ADDRESS(block5);
-    v184 = ADDRESS(block6);
-    v185 = ADDRESS(block7);
-    v186 = a1 == 0u;
-    v187 = v186 ? 4096u : 0u;
-    v188 = a1 + v187 * 1u;
-    v189 = a3 == 0u;
-    v190 = v189 ? 4096u : 0u;
-    v191 = a3 + v190 * 1u;
-    store_address(v185, v191);
-    v192 = v185 + 8u * 1u;
-    store64(v192, a4);
-    v193 = v185 + 16u * 1u;
-    store64(v193, 1u);
-    v194 = v185 + 24u * 1u;
-    store64(v194, 0u);
+u64 portable_ptpm_field_takes(u16 a0, u64 a1, address a2, u64 a3) {
+    u64 v4, v6, v7, v8, v9, v10, v11, v12, v13, v14, v16, v17, v18, v21, v24, v38;
+    u64 v39, v41, v45, v47, v48, v53, v54, v56, v60, v62, v63, v68, v69, v71, v75, v77;
+    u64 v78, v83, v84, v86, v90, v92, v93, v98, v99, v101, v105, v107, v108, v136, v137, v138;
+    u64 v143;
+    address v5, v15, v19, v22, v25, v26, v28, v30, v31, v32, v44, v46, v50, v59, v61, v65;
+    address v74, v76, v80, v89, v91, v95, v104, v106, v110, v111, v112, v113, v114, v115, v116, v117;
+    address v118, v119, v120, v121, v122, v123, v124, v125, v126, v127, v128, v129, v130, v131, v132, v133;
+    address v134, v140, v141;
+    u8 v20, v23, v27, v29, v33, v34, v35, v36, v37, v40, v42, v43, v49, v51, v52, v55;
+    u8 v57, v58, v64, v66, v67, v70, v72, v73, v79, v81, v82, v85, v87, v88, v94, v96;
+    u8 v97, v100, v102, v103, v109, v135, v139, v142, v144;
+    u64 block0[4];
+    v19 = ADDRESS(block0);
+    v20 = a2 == 0u;
+    v21 = v20 ? 4096u : 0u;
+    v22 = a2 + v21 * 1u;
     switch (a0) {
-    case 0u: v5 = 0u; v6 = 0u; goto L21;
+    case 24577u: goto L14;
     case 2u: goto L1;
-    case 8192u: goto L2;
+    case 8192u: v4 = 10u; v5 = ADDRESS(c150); goto L18;
     case 8193u: goto L3;
     case 8194u: goto L4;
     case 8195u: goto L5;
@@ -25881,2276 +28244,1780 @@ u64 portable_ptpm_field_text(u16 a0, address a1, u64 a2, address a3, u64 a4) {
     case 8198u: goto L8;
     case 8199u: goto L9;
     case 8200u: goto L10;
-    case 8201u: goto L11;
-    case 8202u: goto L12;
-    case 8203u: goto L13;
-    case 8204u: goto L14;
-    case 8205u: goto L15;
-    case 8206u: goto L16;
-    case 8208u: goto L17;
-    case 8209u: goto L18;
-    case 24576u: goto L19;
-    case 24577u: goto L20;
-    case 1u: goto L41;
-    case 8207u: goto L36;
-    case 8210u: goto L37;
-    case 8211u: goto L38;
-    case 8213u: goto L48;
-    case 49152u: v7 = 4u; v8 = 50u; goto L47;
-    case 49153u: goto L39;
-    case 49154u: goto L40;
-    case 49156u: goto L43;
-    case 49157u: goto L46;
-    default: goto L53;
+    case 8201u: goto L2;
+    case 8202u: goto L11;
+    case 8203u: goto L12;
+    case 8204u: goto L15;
+    case 24576u: goto L13;
+    case 8209u: goto L17;
+    case 8208u: goto L16;
+    default: v18 = 0u; goto L63;
     }
 L1:;
-    v195 = a2 == 0u;
-    if (v195) { goto L54; }
-    else { goto L50; }
+    v4 = 1u; v5 = ADDRESS(c149); goto L18;
 L2:;
-    v5 = 2u; v6 = 0u; goto L21;
+    v4 = 1u; v5 = ADDRESS(c159); goto L18;
 L3:;
-    v5 = 3u; v6 = 0u; goto L21;
+    v4 = 3u; v5 = ADDRESS(c151); goto L18;
 L4:;
-    v5 = 4u; v6 = 0u; goto L21;
+    v4 = 10u; v5 = ADDRESS(c152); goto L18;
 L5:;
-    v5 = 5u; v6 = 0u; goto L21;
+    v4 = 8u; v5 = ADDRESS(c153); goto L18;
 L6:;
-    v5 = 6u; v6 = 0u; goto L21;
+    v4 = 10u; v5 = ADDRESS(c154); goto L18;
 L7:;
-    v5 = 7u; v6 = 0u; goto L21;
+    v4 = 1u; v5 = ADDRESS(c155); goto L18;
 L8:;
-    v5 = 8u; v6 = 0u; goto L21;
+    v4 = 1u; v5 = ADDRESS(c156); goto L18;
 L9:;
-    v5 = 9u; v6 = 0u; goto L21;
+    v4 = 1u; v5 = ADDRESS(c157); goto L18;
 L10:;
-    v5 = 10u; v6 = 0u; goto L21;
+    v4 = 1u; v5 = ADDRESS(c158); goto L18;
 L11:;
-    v5 = 11u; v6 = 0u; goto L21;
+    v4 = 1u; v5 = ADDRESS(c160); goto L18;
 L12:;
-    v5 = 11u; v6 = 1u; goto L21;
+    v4 = 1u; v5 = ADDRESS(c161); goto L18;
 L13:;
-    v5 = 11u; v6 = 2u; goto L21;
+    v4 = 1u; v5 = ADDRESS(c162); goto L18;
 L14:;
-    v5 = 12u; v6 = 0u; goto L21;
+    v4 = 1u; v5 = ADDRESS(c163); goto L18;
 L15:;
-    v5 = 13u; v6 = 0u; goto L21;
+    v4 = 1u; v5 = ADDRESS(c164); goto L18;
 L16:;
-    v5 = 14u; v6 = 0u; goto L21;
+    v4 = 1u; v5 = ADDRESS(c165); goto L18;
 L17:;
-    v5 = 15u; v6 = 0u; goto L21;
+    v4 = 4u; v5 = ADDRESS(c166); goto L18;
 L18:;
-    v5 = 16u; v6 = 0u; goto L21;
+    v23 = a1 < v4;
+    if (v23) { goto L19; }
+    else { v18 = 0u; goto L63; }
 L19:;
-    v5 = 11u; v6 = 3u; goto L21;
+    v24 = (u64)((u64)a1 * (u64)6u);
+    v25 = v5 + v24 * 1u;
+    v26 = v25 + 4u * 1u;
+    v27 = load8(v26);
+    v28 = v25 + 5u * 1u;
+    v29 = load8(v28);
+    store_address(v19, v22);
+    v30 = v19 + 8u * 1u;
+    store64(v30, a3);
+    v31 = v19 + 16u * 1u;
+    store64(v31, 1u);
+    v32 = v19 + 24u * 1u;
+    store64(v32, 0u);
+    v33 = v27 == 9u;
+    v34 = v29 == 1u;
+    v35 = v33 ? v34 : 0u;
+    if (v35) { goto L20; }
+    else { goto L49; }
 L20:;
-    v5 = 11u; v6 = 4u; goto L21;
+    f47(1u, 1u, v19);
+    v36 = load8(v31);
+    v37 = v36 == 1u;
+    if (v37) { goto L21; }
+    else { goto L26; }
 L21:;
-    v196 = f38(v5, v6);
-    v197 = a2 == v196;
-    if (v197) { goto L22; }
-    else { goto L53; }
+    v38 = load64(v32);
+    v39 = load64(v30);
+    v40 = v39 < v38;
+    v41 = (u64)((u64)v39 - (u64)v38);
+    v42 = v41 < 2u;
+    v43 = v40 ? 1u : v42;
+    if (v43) { v6 = 0u; v7 = 0u; goto L25; }
+    else { goto L22; }
 L22:;
-    switch (v5) {
-    case 1u: v9 = 1u; v10 = ADDRESS(c149); goto L52;
-    case 2u: goto L23;
-    case 3u: goto L24;
-    case 4u: goto L25;
-    case 5u: goto L26;
-    case 6u: goto L27;
-    case 7u: goto L28;
-    case 8u: goto L29;
-    case 9u: goto L30;
-    case 10u: goto L31;
-    case 11u: goto L51;
-    case 12u: goto L32;
-    case 15u: goto L33;
-    case 16u: goto L34;
-    case 0u: goto L53;
-    case 13u: goto L53;
-    case 14u: goto L53;
-    default: goto L35;
-    }
+    v44 = load_address(v19);
+    v45 = (u64)((u64)v38 + (u64)2u);
+    v46 = v44 + v38 * 1u;
+    v47 = (u64)v46;
+    v48 = (u64)((u64)v47 - (u64)ADDRESS(c287));
+    v49 = v48 < 2u;
+    if (v49) { goto L23; }
+    else { goto L24; }
 L23:;
-    v9 = 10u; v10 = ADDRESS(c150); goto L52;
+    store8(v46, 44u);
+    v50 = v46 + 1u * 1u;
+    store8(v50, 32u);
+    v6 = v45; v7 = 1u; goto L25;
 L24:;
-    v9 = 3u; v10 = ADDRESS(c151); goto L52;
+    store16(v46, 8236u);
+    v6 = v45; v7 = 1u; goto L25;
 L25:;
-    v9 = 10u; v10 = ADDRESS(c152); goto L52;
+    store64(v31, v7);
+    store64(v32, v6);
+    goto L26;
 L26:;
-    v9 = 8u; v10 = ADDRESS(c153); goto L52;
+    f47(1u, 2u, v19);
+    v51 = load8(v31);
+    v52 = v51 == 1u;
+    if (v52) { goto L27; }
+    else { goto L32; }
 L27:;
-    v9 = 10u; v10 = ADDRESS(c154); goto L52;
+    v53 = load64(v32);
+    v54 = load64(v30);
+    v55 = v54 < v53;
+    v56 = (u64)((u64)v54 - (u64)v53);
+    v57 = v56 < 2u;
+    v58 = v55 ? 1u : v57;
+    if (v58) { v8 = 0u; v9 = 0u; goto L31; }
+    else { goto L28; }
 L28:;
-    v9 = 1u; v10 = ADDRESS(c155); goto L52;
+    v59 = load_address(v19);
+    v60 = (u64)((u64)v53 + (u64)2u);
+    v61 = v59 + v53 * 1u;
+    v62 = (u64)v61;
+    v63 = (u64)((u64)v62 - (u64)ADDRESS(c287));
+    v64 = v63 < 2u;
+    if (v64) { goto L30; }
+    else { goto L29; }
 L29:;
-    v9 = 1u; v10 = ADDRESS(c156); goto L52;
+    store16(v61, 8236u);
+    v8 = v60; v9 = 1u; goto L31;
 L30:;
-    v9 = 1u; v10 = ADDRESS(c157); goto L52;
+    store8(v61, 44u);
+    v65 = v61 + 1u * 1u;
+    store8(v65, 32u);
+    v8 = v60; v9 = 1u; goto L31;
 L31:;
-    v9 = 1u; v10 = ADDRESS(c158); goto L52;
+    store64(v31, v9);
+    store64(v32, v8);
+    goto L32;
 L32:;
-    v9 = 1u; v10 = ADDRESS(c164); goto L52;
+    f47(1u, 3u, v19);
+    v66 = load8(v31);
+    v67 = v66 == 1u;
+    if (v67) { goto L33; }
+    else { goto L38; }
 L33:;
-    v9 = 1u; v10 = ADDRESS(c165); goto L52;
+    v68 = load64(v32);
+    v69 = load64(v30);
+    v70 = v69 < v68;
+    v71 = (u64)((u64)v69 - (u64)v68);
+    v72 = v71 < 2u;
+    v73 = v70 ? 1u : v72;
+    if (v73) { v10 = 0u; v11 = 0u; goto L37; }
+    else { goto L34; }
 L34:;
-    v9 = 4u; v10 = ADDRESS(c166); goto L52;
+    v74 = load_address(v19);
+    v75 = (u64)((u64)v68 + (u64)2u);
+    v76 = v74 + v68 * 1u;
+    v77 = (u64)v76;
+    v78 = (u64)((u64)v77 - (u64)ADDRESS(c287));
+    v79 = v78 < 2u;
+    if (v79) { goto L36; }
+    else { goto L35; }
 L35:;
-    UNREACHABLE;
+    store16(v76, 8236u);
+    v10 = v75; v11 = 1u; goto L37;
 L36:;
-    v7 = 0u; v8 = 10u; goto L47;
+    store8(v76, 44u);
+    v80 = v76 + 1u * 1u;
+    store8(v80, 32u);
+    v10 = v75; v11 = 1u; goto L37;
 L37:;
-    v7 = 1u; v8 = 2u; goto L47;
+    store64(v31, v11);
+    store64(v32, v10);
+    goto L38;
 L38:;
-    v7 = 2u; v8 = 2u; goto L47;
+    f47(1u, 4u, v19);
+    v81 = load8(v31);
+    v82 = v81 == 1u;
+    if (v82) { goto L39; }
+    else { goto L44; }
 L39:;
-    v7 = 5u; v8 = 8u; goto L47;
+    v83 = load64(v32);
+    v84 = load64(v30);
+    v85 = v84 < v83;
+    v86 = (u64)((u64)v84 - (u64)v83);
+    v87 = v86 < 2u;
+    v88 = v85 ? 1u : v87;
+    if (v88) { v12 = 0u; v13 = 0u; goto L43; }
+    else { goto L40; }
 L40:;
-    v7 = 6u; v8 = 8u; goto L47;
+    v89 = load_address(v19);
+    v90 = (u64)((u64)v83 + (u64)2u);
+    v91 = v89 + v83 * 1u;
+    v92 = (u64)v91;
+    v93 = (u64)((u64)v92 - (u64)ADDRESS(c287));
+    v94 = v93 < 2u;
+    if (v94) { goto L42; }
+    else { goto L41; }
 L41:;
-    v198 = f46(v188, a2);
-    v199 = v198.m1;
-    v200 = v199 == 0u;
-    if (v200) { goto L53; }
-    else { goto L42; }
+    store16(v91, 8236u);
+    v12 = v90; v13 = 1u; goto L43;
 L42:;
-    v201 = v198.m0;
-    v202 = (u64)((u64)v199 + (u64)UINT64_C(18446744073709551615));
-    v203 = load8(v201);
-    v204 = (u64)v203;
-    v205 = v202 >= v204;
-    v206 = v202 > v204 ? (u64)((u64)v202 - (u64)v204) : 0u;
-    v207 = (u64)((u64)v206 & (u64)UINT64_C(18446744073709551614));
-    v208 = v207 == 6u;
-    v209 = (u8)(((u32)v205 & (u32)v208) & UINT64_C(1));
-    v210 = a2 > 1u;
-    v211 = (u8)(((u32)v210 & (u32)v209) & UINT64_C(1));
-    if (v211) { v9 = 10u; v10 = ADDRESS(c282); goto L52; }
-    else { goto L53; }
+    store8(v91, 44u);
+    v95 = v91 + 1u * 1u;
+    store8(v95, 32u);
+    v12 = v90; v13 = 1u; goto L43;
 L43:;
-    v212 = a2 > 11u;
-    if (v212) { goto L44; }
-    else { goto L53; }
+    store64(v31, v13);
+    store64(v32, v12);
+    goto L44;
 L44:;
-    v213 = (u64)((u64)a2 + (u64)UINT64_C(18446744073709551604));
-    v214 = v213 == 0u;
-    if (v214) { goto L55; }
-    else { goto L45; }
+    f47(1u, 254u, v19);
+    v96 = load8(v31);
+    v97 = v96 == 1u;
+    if (v97) { goto L45; }
+    else { v17 = 0u; goto L62; }
 L45:;
-    v215 = v188 + 12u * 1u;
-    v216 = load8(v215);
-    v217 = (u64)v216;
-    v218 = (u64)((u64)v217 + (u64)1u);
-    v219 = (u64)((u64)v218 & (u64)1u);
-    v220 = (u64)((u64)v219 + (u64)v218);
-    v221 = v213 == v220;
-    if (v221) { v9 = 4u; v10 = ADDRESS(c290); goto L52; }
-    else { goto L53; }
+    v98 = load64(v32);
+    v99 = load64(v30);
+    v100 = v99 < v98;
+    v101 = (u64)((u64)v99 - (u64)v98);
+    v102 = v101 < 26u;
+    v103 = v100 ? 1u : v102;
+    if (v103) { v17 = 0u; goto L62; }
+    else { goto L46; }
 L46:;
-    v7 = 8u; v8 = 266u; goto L47;
+    v104 = load_address(v19);
+    v105 = (u64)((u64)v98 + (u64)26u);
+    v106 = v104 + v98 * 1u;
+    v107 = (u64)v106;
+    v108 = (u64)((u64)v107 - (u64)ADDRESS(c285));
+    v109 = v108 < 26u;
+    if (v109) { goto L47; }
+    else { goto L48; }
 L47:;
-    v222 = a2 == v8;
-    if (v222) { goto L49; }
-    else { goto L53; }
+    store8(v106, 32u);
+    v110 = v106 + 1u * 1u;
+    store8(v110, 111u);
+    v111 = v106 + 2u * 1u;
+    store8(v111, 114u);
+    v112 = v106 + 3u * 1u;
+    store8(v112, 32u);
+    v113 = v106 + 4u * 1u;
+    store8(v113, 97u);
+    v114 = v106 + 5u * 1u;
+    store8(v114, 32u);
+    v115 = v106 + 6u * 1u;
+    store8(v115, 110u);
+    v116 = v106 + 7u * 1u;
+    store8(v116, 117u);
+    v117 = v106 + 8u * 1u;
+    store8(v117, 109u);
+    v118 = v106 + 9u * 1u;
+    store8(v118, 98u);
+    v119 = v106 + 10u * 1u;
+    store8(v119, 101u);
+    v120 = v106 + 11u * 1u;
+    store8(v120, 114u);
+    v121 = v106 + 12u * 1u;
+    store8(v121, 32u);
+    v122 = v106 + 13u * 1u;
+    store8(v122, 102u);
+    v123 = v106 + 14u * 1u;
+    store8(v123, 114u);
+    v124 = v106 + 15u * 1u;
+    store8(v124, 111u);
+    v125 = v106 + 16u * 1u;
+    store8(v125, 109u);
+    v126 = v106 + 17u * 1u;
+    store8(v126, 32u);
+    v127 = v106 + 18u * 1u;
+    store8(v127, 48u);
+    v128 = v106 + 19u * 1u;
+    store8(v128, 32u);
+    v129 = v106 + 20u * 1u;
+    store8(v129, 116u);
+    v130 = v106 + 21u * 1u;
+    store8(v130, 111u);
+    v131 = v106 + 22u * 1u;
+    store8(v131, 32u);
+    v132 = v106 + 23u * 1u;
+    store8(v132, 50u);
+    v133 = v106 + 24u * 1u;
+    store8(v133, 53u);
+    v134 = v106 + 25u * 1u;
+    store8(v134, 53u);
+    v17 = v105; goto L62;
 L48:;
-    v223 = a2 > 7u;
-    v224 = (u64)((u64)a2 & (u64)7u);
-    v225 = v224 == 0u;
-    v226 = (u8)(((u32)v223 & (u32)v225) & UINT64_C(1));
-    if (v226) { v9 = 1u; v10 = ADDRESS(c286); goto L52; }
-    else { goto L53; }
+    memory_cpy(v106, ADDRESS(c285), 26u);
+    v17 = v105; goto L62;
 L49:;
-    v227 = ADDRESS(c321) + v7 * 8u;
-    v228 = load64(v227);
-    v229 = ADDRESS(c322) + v7 * 8u;
-    v230 = load_address(v229);
-    v9 = v228; v10 = v230; goto L52;
+    switch (v27) {
+    case 0u: goto L50;
+    case 1u: goto L51;
+    case 2u: goto L52;
+    case 3u: v14 = 13u; v15 = ADDRESS(c290); goto L58;
+    case 4u: v14 = 13u; v15 = ADDRESS(c290); goto L58;
+    case 5u: goto L54;
+    case 10u: goto L55;
+    case 6u: goto L56;
+    case 7u: goto L56;
+    case 8u: goto L56;
+    case 9u: goto L56;
+    case 11u: goto L56;
+    case 12u: goto L56;
+    case 13u: goto L56;
+    case 14u: goto L56;
+    default: goto L57;
+    }
 L50:;
-    v231 = load8(v188);
-    v232 = (u64)v231;
-    v233 = (u64)((u64)v232 + (u64)1u);
-    v234 = (u64)((u64)v233 & (u64)1u);
-    v235 = (u64)((u64)v234 + (u64)v233);
-    v236 = a2 == v235;
-    if (v236) { v9 = 1u; v10 = ADDRESS(c149); goto L52; }
-    else { goto L53; }
+    if (v34) { v14 = 56u; v15 = ADDRESS(c293); goto L58; }
+    else { goto L56; }
 L51:;
-    v237 = (u64)v6;
-    v238 = ADDRESS(c320) + v237 * 8u;
-    v239 = load_address(v238);
-    v9 = 1u; v10 = v239; goto L52;
+    if (v34) { v14 = 56u; v15 = ADDRESS(c293); goto L58; }
+    else { goto L56; }
 L52:;
-    v240 = v184 + 1u * 1u;
-    v241 = v184 + 2u * 1u;
-    v242 = v180 + 1u * 1u;
-    v243 = v180 + 2u * 1u;
-    v244 = v180 + 4u * 1u;
-    v245 = v180 + 6u * 1u;
-    v246 = v179 + 1u * 1u;
-    v247 = v179 + 2u * 1u;
-    v248 = v179 + 3u * 1u;
-    v249 = v179 + 5u * 1u;
-    v250 = v179 + 7u * 1u;
-    v26 = 1u; v27 = 1u; v28 = 0u; goto L77;
+    switch (v29) {
+    case 1u: v14 = 25u; v15 = ADDRESS(c288); goto L58;
+    case 2u: goto L53;
+    default: goto L56;
+    }
 L53:;
-    v251 = a4 < 6u;
-    if (v251) { goto L61; }
-    else { goto L57; }
+    v14 = 29u; v15 = ADDRESS(c289); goto L58;
 L54:;
-    v252 = a4 < 6u;
-    if (v252) { goto L342; }
-    else { goto L57; }
+    v14 = 55u; v15 = ADDRESS(c291); goto L58;
 L55:;
-    v253 = a4 < 6u;
-    if (v253) { v11 = 0u; v12 = 0u; v13 = 0u; goto L56; }
-    else { goto L57; }
+    v14 = 37u; v15 = ADDRESS(c292); goto L58;
 L56:;
-    v15 = v11; v16 = v12; v17 = v13; v18 = 0u; goto L69;
+    v14 = 8u; v15 = ADDRESS(c294); goto L58;
 L57:;
-    v254 = (u64)v191;
-    v255 = (u64)((u64)v254 - (u64)ADDRESS(c292));
-    v256 = v255 < 6u;
-    if (v256) { goto L58; }
-    else { goto L59; }
+    UNREACHABLE;
 L58:;
-    store8(v191, 118u);
-    v257 = v191 + 1u * 1u;
-    store8(v257, 97u);
-    v258 = v191 + 2u * 1u;
-    store8(v258, 108u);
-    v259 = v191 + 3u * 1u;
-    store8(v259, 117u);
-    v260 = v191 + 4u * 1u;
-    store8(v260, 101u);
-    v261 = v191 + 5u * 1u;
-    store8(v261, 32u);
-    goto L60;
+    v135 = a3 < v14;
+    if (v135) { v17 = 0u; goto L62; }
+    else { goto L59; }
 L59:;
-    memory_cpy(v191, ADDRESS(c292), 6u);
-    goto L60;
+    v136 = (u64)v22;
+    v137 = (u64)v15;
+    v138 = (u64)((u64)v136 - (u64)v137);
+    v139 = v138 < v14;
+    if (v139) { v16 = 0u; goto L61; }
+    else { goto L60; }
 L60:;
-    v262 = a2 == 0u;
-    if (v262) { goto L62; }
-    else { v11 = 6u; v12 = 1u; v13 = 1u; goto L56; }
+    memory_move(v22, v15, v14);
+    v17 = v14; goto L62;
 L61:;
-    v263 = a2 == 0u;
-    if (v263) { goto L342; }
-    else { v11 = 0u; v12 = 0u; v13 = 0u; goto L56; }
+    v140 = v22 + v16 * 1u;
+    v141 = v15 + v16 * 1u;
+    v142 = load8(v141);
+    store8(v140, v142);
+    v143 = (u64)((u64)v16 + (u64)1u);
+    v144 = v143 == v14;
+    if (v144) { v17 = v14; goto L62; }
+    else { v16 = v143; goto L61; }
 L62:;
-    v264 = a4 == 6u;
-    if (v264) { goto L342; }
+    v18 = v17; goto L63;
+L63:;
+    return v18;
+}
+
+u64 portable_ptpm_field_text(u16 a0, address a1, u64 a2, address a3, u64 a4) {
+    u64 v5, v7, v8, v11, v12, v15, v16, v17, v18, v30, v42, v43, v44, v45, v57, v58;
+    u64 v83, v84, v85, v108, v109, v110, v111, v112, v113, v114, v115, v116, v117, v118, v119, v120;
+    u64 v121, v122, v126, v127, v128, v133, v134, v135, v140, v141, v142, v143, v144, v145, v146, v147;
+    u64 v148, v150, v151, v152, v153, v154, v156, v157, v159, v160, v161, v164, v168, v169, v170, v173;
+    u64 v174, v188, v189, v201, v203, v211, v214, v221, v242, v243, v254, v256, v259, v262, v271, v273;
+    u64 v275, v282, v284, v287, v290, v292, v305, v307, v309, v310, v312, v313, v317, v319, v320, v322;
+    u64 v326, v328, v329, v330, v335, v337, v340, v346, v347, v349, v353, v355, v356, v360, v370, v371;
+    u64 v374, v376, v384, v387, v395, v396, v397, v399, v400, v401, v402, v408, v416, v418, v430, v432;
+    u64 v433, v445, v456, v458, v460, v468, v471, v473, v474, v476, v480, v483, v486, v487, v489, v493;
+    u64 v495, v496, v497, v502, v504, v508, v509, v512, v514, v517, v518, v521, v527, v542, v543, v546;
+    u64 v548, v556, v559, v562, v569, v570, v573, v575, v583, v586, v590, v593, v594, v597, v599, v601;
+    u64 v602, v604, v608, v610, v611, v618, v621, v622, v624, v628, v630, v631, v644, v652, v654, v662;
+    u64 v664, v666, v670, v672, v673, v686, v696, v698, v706, v709, v717, v719, v727, v738, v739, v742;
+    u64 v745, v746, v748, v752, v754, v755, v758, v766, v768, v776, v779, v784, v785, v788, v798, v799;
+    u64 v802, v804, v812, v815, v827, v828, v831, v833, v841, v844, v847, v850, v851, v854, v859, v860;
+    u64 v863, v867, v869, v871;
+    u8 v6, v9, v10, v13, v14, v19, v20, v21, v22, v23, v24, v25, v26, v27, v28, v29;
+    u8 v31, v32, v33, v34, v35, v36, v37, v38, v39, v40, v41, v46, v47, v48, v49, v50;
+    u8 v51, v52, v53, v54, v55, v56, v59, v60, v61, v62, v63, v64, v65, v66, v67, v68;
+    u8 v69, v70, v71, v72, v73, v74, v75, v76, v77, v78, v79, v80, v81, v82, v86, v87;
+    u8 v88, v89, v90, v91, v92, v93, v94, v95, v96, v97, v98, v99, v100, v101, v102, v103;
+    u8 v104, v105, v106, v107, v124, v125, v129, v130, v131, v132, v136, v137, v138, v139, v149, v155;
+    u8 v158, v162, v163, v166, v167, v171, v172, v175, v176, v177, v178, v179, v180, v181, v182, v183;
+    u8 v184, v185, v186, v187, v190, v191, v192, v193, v194, v195, v196, v197, v198, v199, v200, v202;
+    u8 v210, v213, v222, v241, v244, v250, v251, v252, v255, v257, v263, v265, v266, v267, v268, v269;
+    u8 v274, v276, v264, v278, v279, v280, v281, v261, v283, v285, v286, v288, v294, v296, v298, v300;
+    u8 v302, v304, v308, v311, v314, v318, v321, v323, v324, v331, v334, v336, v338, v342, v343, v344;
+    u8 v345, v348, v350, v351, v357, v359, v361, v363, v364, v365, v366, v367, v368, v369, v372, v377;
+    u8 v378, v379, v380, v381, v382, v386, v388, v389, v390, v391, v392, v398, v410, v412, v420, v422;
+    u8 v425, v426, v427, v428, v429, v435, v437, v447, v449, v453, v454, v455, v462, v464, v467, v472;
+    u8 v475, v477, v478, v482, v485, v488, v490, v491, v498, v501, v503, v505, v506, v507, v510, v515;
+    u8 v516, v519, v529, v530, v531, v532, v533, v535, v536, v537, v538, v539, v540, v541, v544, v549;
+    u8 v550, v551, v552, v553, v554, v558, v560, v563, v564, v565, v566, v567, v568, v571, v576, v577;
+    u8 v578, v579, v580, v581, v585, v587, v589, v591, v592, v595, v600, v603, v605, v606, v612, v619;
+    u8 v620, v623, v625, v626, v632, v645, v646, v647, v648, v649, v650, v655, v656, v657, v658, v659;
+    u8 v660, v665, v667, v668, v674, v688, v689, v690, v691, v692, v693, v694, v699, v700, v701, v702;
+    u8 v703, v704, v708, v710, v711, v712, v713, v714, v715, v720, v721, v722, v723, v724, v725, v730;
+    u8 v732, v733, v734, v735, v736, v737, v740, v744, v747, v749, v750, v756, v759, v760, v761, v762;
+    u8 v763, v764, v769, v770, v771, v772, v773, v774, v778, v780, v782, v783, v786, v791, v792, v793;
+    u8 v794, v795, v796, v797, v800, v805, v806, v807, v808, v809, v810, v814, v816, v817, v820, v821;
+    u8 v822, v823, v824, v825, v826, v829, v834, v835, v836, v837, v838, v839, v843, v845, v848, v849;
+    u8 v852, v856, v857, v858, v861, v865, v866, v868, v870;
+    u32 v123, v523, v524, v525, v526, v528, v561;
+    address v165, v204, v205, v206, v207, v208, v209, v212, v215, v216, v217, v218, v220, v223, v224, v225;
+    address v226, v227, v228, v229, v230, v231, v232, v233, v234, v235, v236, v237, v238, v239, v240, v245;
+    address v246, v247, v248, v249, v253, v258, v260, v270, v272, v277, v289, v291, v293, v295, v297, v299;
+    address v301, v303, v306, v316, v325, v327, v332, v333, v339, v341, v352, v354, v358, v362, v373, v375;
+    address v383, v385, v409, v411, v413, v414, v415, v419, v421, v423, v424, v431, v434, v436, v438, v439;
+    address v446, v448, v450, v451, v452, v457, v461, v463, v465, v466, v469, v470, v479, v481, v484, v492;
+    address v494, v499, v500, v511, v513, v520, v522, v534, v545, v547, v555, v557, v572, v574, v582, v584;
+    address v588, v596, v598, v607, v609, v613, v614, v615, v616, v617, v627, v629, v633, v634, v635, v636;
+    address v637, v638, v639, v640, v641, v642, v643, v651, v653, v661, v663, v669, v671, v675, v676, v677;
+    address v678, v679, v680, v681, v682, v683, v684, v685, v695, v697, v705, v707, v716, v718, v726, v728;
+    address v729, v731, v741, v743, v751, v753, v757, v765, v767, v775, v777, v781, v787, v789, v790, v801;
+    address v803, v811, v813, v818, v819, v830, v832, v840, v842, v846, v853, v855, v862, v864;
+    struct s5 v219, v315;
+    u16 v393, v394, v403, v404, v405, v406, v407, v417, v440, v441, v442, v443, v444, v459, v687;
+    u64 block0[5];
+    u64 block1[1];
+    u64 block2[2];
+    u64 block3[3];
+    u64 block4[1];
+    u64 block5[4];
+    v204 = ADDRESS(block0);
+    v205 = ADDRESS(block1);
+    v206 = ADDRESS(block2);
+    v207 = ADDRESS(block3);
+    v208 = ADDRESS(block4);
+    v209 = ADDRESS(block5);
+    v210 = a1 == 0u;
+    v211 = v210 ? 4096u : 0u;
+    v212 = a1 + v211 * 1u;
+    v213 = a3 == 0u;
+    v214 = v213 ? 4096u : 0u;
+    v215 = a3 + v214 * 1u;
+    store_address(v209, v215);
+    v216 = v209 + 8u * 1u;
+    store64(v216, a4);
+    v217 = v209 + 16u * 1u;
+    store64(v217, 1u);
+    v218 = v209 + 24u * 1u;
+    store64(v218, 0u);
+    v219 = f48(a0, v212, a2);
+    v220 = v219.m0;
+    v221 = v219.m1;
+    v222 = v221 == 0u;
+    if (v222) { goto L2; }
+    else { goto L1; }
+L1:;
+    v223 = v208 + 1u * 1u;
+    v224 = v208 + 2u * 1u;
+    v225 = v207 + 1u * 1u;
+    v226 = v207 + 2u * 1u;
+    v227 = v207 + 3u * 1u;
+    v228 = v207 + 4u * 1u;
+    v229 = v207 + 6u * 1u;
+    v230 = v207 + 8u * 1u;
+    v231 = v207 + 16u * 1u;
+    v232 = v206 + 1u * 1u;
+    v233 = v206 + 2u * 1u;
+    v234 = v206 + 4u * 1u;
+    v235 = v206 + 6u * 1u;
+    v236 = v205 + 1u * 1u;
+    v237 = v205 + 2u * 1u;
+    v238 = v205 + 3u * 1u;
+    v239 = v205 + 5u * 1u;
+    v240 = v205 + 7u * 1u;
+    v19 = 1u; v20 = 1u; v21 = 1u; v22 = 1u; v23 = 1u; v24 = 1u; v25 = 1u; v26 = 1u; v27 = 1u; v28 = 1u; v29 = 1u; v30 = 0u; goto L24;
+L2:;
+    v241 = a4 > 5u;
+    if (v241) { goto L3; }
+    else { goto L8; }
+L3:;
+    v242 = (u64)v215;
+    v243 = (u64)((u64)v242 - (u64)ADDRESS(c305));
+    v244 = v243 < 6u;
+    if (v244) { goto L4; }
+    else { goto L5; }
+L4:;
+    store8(v215, 118u);
+    v245 = v215 + 1u * 1u;
+    store8(v245, 97u);
+    v246 = v215 + 2u * 1u;
+    store8(v246, 108u);
+    v247 = v215 + 3u * 1u;
+    store8(v247, 117u);
+    v248 = v215 + 4u * 1u;
+    store8(v248, 101u);
+    v249 = v215 + 5u * 1u;
+    store8(v249, 32u);
+    goto L6;
+L5:;
+    memory_cpy(v215, ADDRESS(c305), 6u);
+    goto L6;
+L6:;
+    v250 = a2 == 0u;
+    if (v250) { goto L9; }
+    else { v5 = 6u; v6 = 1u; goto L7; }
+L7:;
+    v12 = v5; v13 = v6; v14 = v241; v15 = 0u; goto L17;
+L8:;
+    v251 = a2 == 0u;
+    if (v251) { goto L192; }
+    else { v5 = 0u; v6 = 0u; goto L7; }
+L9:;
+    v252 = a4 == 6u;
+    if (v252) { goto L192; }
+    else { goto L10; }
+L10:;
+    v253 = v215 + 6u * 1u;
+    store8(v253, 45u);
+    v17 = a4; v18 = 7u; goto L22;
+L11:;
+    v254 = (u64)((u64)v7 + (u64)1u);
+    v255 = v254 == a2;
+    if (v255) { goto L20; }
+    else { v7 = v254; goto L11; }
+L12:;
+    v256 = load64(v216);
+    v257 = v256 > v12;
+    if (v257) { goto L13; }
+    else { goto L19; }
+L13:;
+    v258 = load_address(v209);
+    v259 = (u64)((u64)v12 + (u64)1u);
+    v260 = v258 + v12 * 1u;
+    store8(v260, v261);
+    v262 = load64(v216);
+    v263 = v262 > v259;
+    if (v263) { goto L14; }
+    else { goto L15; }
+L14:;
+    v265 = (u8)((u32)v264 & (u32)15u);
+    v266 = v265 < 10u;
+    v267 = (u8)((u32)v265 | (u32)48u);
+    v268 = (u8)((u32)v265 + (u32)87u);
+    v269 = v266 ? v267 : v268;
+    v270 = load_address(v209);
+    v271 = (u64)((u64)v12 + (u64)2u);
+    v272 = v270 + v259 * 1u;
+    store8(v272, v269);
+    v273 = (u64)((u64)v15 + (u64)1u);
+    v274 = v273 == a2;
+    if (v274) { v16 = v271; goto L21; }
+    else { v8 = v271; v9 = 1u; v10 = 1u; v11 = v273; goto L16; }
+L15:;
+    v275 = (u64)((u64)v15 + (u64)1u);
+    v276 = v275 == a2;
+    if (v276) { v201 = 0u; v202 = 0u; goto L193; }
+    else { v8 = 0u; v9 = 0u; v10 = 0u; v11 = v275; goto L16; }
+L16:;
+    v12 = v8; v13 = v9; v14 = v10; v15 = v11; goto L17;
+L17:;
+    v277 = v212 + v15 * 1u;
+    v264 = load8(v277);
+    v278 = (u8)((u32)v264 >> (4u & 7u));
+    v279 = v264 < 160u;
+    v280 = (u8)((u32)v278 | (u32)48u);
+    v281 = (u8)((u32)v278 + (u32)87u);
+    v261 = v279 ? v280 : v281;
+    if (v14) { goto L12; }
+    else { goto L18; }
+L18:;
+    v282 = (u64)((u64)v15 + (u64)1u);
+    v283 = v282 == a2;
+    if (v283) { goto L20; }
+    else { v7 = v282; goto L11; }
+L19:;
+    v284 = (u64)((u64)v15 + (u64)1u);
+    v285 = v284 == a2;
+    if (v285) { v201 = 0u; v202 = 0u; goto L193; }
+    else { v8 = 0u; v9 = 0u; v10 = 0u; v11 = v284; goto L16; }
+L20:;
+    v286 = v13 == 0u;
+    if (v286) { v201 = v12; v202 = v13; goto L193; }
+    else { v16 = v12; goto L21; }
+L21:;
+    v287 = load64(v216);
+    v17 = v287; v18 = v16; goto L22;
+L22:;
+    v288 = v17 > v18;
+    if (v288) { goto L23; }
+    else { goto L192; }
+L23:;
+    v289 = load_address(v209);
+    v290 = (u64)((u64)v18 + (u64)1u);
+    v291 = v289 + v18 * 1u;
+    store8(v291, 10u);
+    v203 = v290; goto L194;
+L24:;
+    v292 = (u64)((u64)v30 * (u64)6u);
+    v293 = v220 + v292 * 1u;
+    v294 = load8(v293);
+    v295 = v293 + 1u * 1u;
+    v296 = load8(v295);
+    v297 = v293 + 2u * 1u;
+    v298 = load8(v297);
+    v299 = v293 + 3u * 1u;
+    v300 = load8(v299);
+    v301 = v293 + 4u * 1u;
+    v302 = load8(v301);
+    v303 = v293 + 5u * 1u;
+    v304 = load8(v303);
+    v305 = (u64)v300;
+    v306 = v212 + v305 * 1u;
+    v307 = (u64)((u64)a2 - (u64)v305);
+    v308 = v29 == 1u;
+    if (v308) { goto L25; }
+    else { v31 = v19; v32 = v20; v33 = v21; v34 = v22; v35 = v23; v36 = v24; v37 = v25; v38 = v26; v39 = v27; v40 = v28; v41 = v29; goto L26; }
+L25:;
+    v309 = load64(v218);
+    v310 = load64(v216);
+    v311 = v310 >= v309;
+    v312 = v311 ? v309 : 0u;
+    v313 = (u64)v311;
+    store64(v217, v313);
+    store64(v218, v312);
+    v314 = (u8)v311;
+    v31 = v314; v32 = v314; v33 = v314; v34 = v314; v35 = v314; v36 = v314; v37 = v314; v38 = v314; v39 = v314; v40 = v314; v41 = v314; goto L26;
+L26:;
+    store8(v208, v294);
+    store8(v223, v296);
+    store8(v224, v298);
+    v315 = f44(v208);
+    v316 = v315.m0;
+    v317 = v315.m1;
+    v318 = v41 == 1u;
+    if (v318) { goto L27; }
+    else { v46 = v31; v47 = v32; v48 = v33; v49 = v34; v50 = v35; v51 = v36; v52 = v37; v53 = v38; v54 = v39; v55 = v40; v56 = v41; goto L35; }
+L27:;
+    v319 = load64(v218);
+    v320 = load64(v216);
+    v321 = v320 < v319;
+    v322 = (u64)((u64)v320 - (u64)v319);
+    v323 = v322 < v317;
+    v324 = v321 ? 1u : v323;
+    if (v324) { goto L36; }
+    else { goto L28; }
+L28:;
+    v325 = load_address(v209);
+    v326 = (u64)((u64)v319 + (u64)v317);
+    v327 = v325 + v319 * 1u;
+    v328 = (u64)v327;
+    v329 = (u64)v316;
+    v330 = (u64)((u64)v328 - (u64)v329);
+    v331 = v330 < v317;
+    if (v331) { v42 = 0u; goto L30; }
+    else { goto L29; }
+L29:;
+    memory_move(v327, v316, v317);
+    v43 = v320; goto L32;
+L30:;
+    v332 = v327 + v42 * 1u;
+    v333 = v316 + v42 * 1u;
+    v334 = load8(v333);
+    store8(v332, v334);
+    v335 = (u64)((u64)v42 + (u64)1u);
+    v336 = v335 == v317;
+    if (v336) { goto L31; }
+    else { v42 = v335; goto L30; }
+L31:;
+    v337 = load64(v216);
+    v43 = v337; goto L32;
+L32:;
+    v338 = v43 > v326;
+    if (v338) { goto L33; }
+    else { v44 = 0u; v45 = 0u; goto L34; }
+L33:;
+    v339 = load_address(v209);
+    v340 = (u64)((u64)v326 + (u64)1u);
+    v341 = v339 + v326 * 1u;
+    store8(v341, 32u);
+    v44 = v340; v45 = 1u; goto L34;
+L34:;
+    store64(v217, v45);
+    store64(v218, v44);
+    v342 = (u8)(v45);
+    v46 = v342; v47 = v342; v48 = v342; v49 = v342; v50 = v342; v51 = v342; v52 = v342; v53 = v342; v54 = v342; v55 = v342; v56 = v342; goto L35;
+L35:;
+    memory_set(v207, 0u, 24u);
+    v343 = v302 == 1u;
+    if (v343) { goto L37; }
+    else { v99 = v46; v100 = v47; v101 = v48; v102 = v49; v103 = v50; v104 = v51; v105 = v52; v106 = v53; v107 = v54; goto L51; }
+L36:;
+    memory_set(v217, 0u, 16u);
+    memory_set(v207, 0u, 24u);
+    v344 = v302 == 1u;
+    if (v344) { v59 = 0u; v60 = 0u; v61 = 0u; v62 = 0u; v63 = 0u; v64 = 0u; v65 = 0u; v66 = 0u; v67 = 0u; v68 = 0u; v69 = 0u; goto L43; }
+    else { v99 = 0u; v100 = 0u; v101 = 0u; v102 = 0u; v103 = 0u; v104 = 0u; v105 = 0u; v106 = 0u; v107 = 0u; goto L51; }
+L37:;
+    v345 = v56 == 1u;
+    if (v345) { goto L38; }
+    else { v59 = v46; v60 = v47; v61 = v48; v62 = v49; v63 = v50; v64 = v51; v65 = v52; v66 = v53; v67 = v54; v68 = v55; v69 = v56; goto L43; }
+L38:;
+    v346 = load64(v218);
+    v347 = load64(v216);
+    v348 = v347 < v346;
+    v349 = (u64)((u64)v347 - (u64)v346);
+    v350 = v349 < 2u;
+    v351 = v348 ? 1u : v350;
+    if (v351) { v57 = 0u; v58 = 0u; goto L42; }
+    else { goto L39; }
+L39:;
+    v352 = load_address(v209);
+    v353 = (u64)((u64)v346 + (u64)2u);
+    v354 = v352 + v346 * 1u;
+    v355 = (u64)v354;
+    v356 = (u64)((u64)v355 - (u64)ADDRESS(c286));
+    v357 = v356 < 2u;
+    if (v357) { goto L40; }
+    else { goto L41; }
+L40:;
+    store8(v354, 48u);
+    v358 = v354 + 1u * 1u;
+    store8(v358, 120u);
+    v57 = v353; v58 = 1u; goto L42;
+L41:;
+    store16(v354, 30768u);
+    v57 = v353; v58 = 1u; goto L42;
+L42:;
+    store64(v217, v58);
+    store64(v218, v57);
+    v359 = (u8)(v58);
+    v59 = v359; v60 = v359; v61 = v359; v62 = v359; v63 = v359; v64 = v359; v65 = v359; v66 = v359; v67 = v359; v68 = v359; v69 = v359; goto L43;
+L43:;
+    v360 = (u64)v304;
+    v361 = v304 == 0u;
+    if (v361) { v176 = v59; v177 = v60; v178 = v61; v179 = v62; v180 = v63; v181 = v64; v182 = v65; v183 = v66; v184 = v67; v185 = v68; v186 = v69; v187 = v69; goto L186; }
+    else { v70 = v59; v71 = v60; v72 = v61; v73 = v62; v74 = v63; v75 = v64; v76 = v65; v77 = v66; v78 = v67; v79 = v68; v80 = v69; v81 = v69; v82 = v69; v83 = 0u; goto L44; }
+L44:;
+    v362 = v306 + v83 * 1u;
+    v363 = load8(v362);
+    v364 = (u8)((u32)v363 >> (4u & 7u));
+    v365 = v363 < 160u;
+    v366 = (u8)((u32)v364 | (u32)48u);
+    v367 = (u8)((u32)v364 + (u32)87u);
+    v368 = v365 ? v366 : v367;
+    v369 = v82 == 1u;
+    if (v369) { goto L45; }
+    else { v86 = v70; v87 = v71; v88 = v72; v89 = v73; v90 = v74; v91 = v75; v92 = v76; v93 = v77; v94 = v78; v95 = v79; v96 = v80; v97 = v81; v98 = v82; goto L50; }
+L45:;
+    v370 = load64(v218);
+    v371 = load64(v216);
+    v372 = v371 > v370;
+    if (v372) { goto L46; }
+    else { goto L49; }
+L46:;
+    v373 = load_address(v209);
+    v374 = (u64)((u64)v370 + (u64)1u);
+    v375 = v373 + v370 * 1u;
+    store8(v375, v368);
+    v376 = load64(v216);
+    v377 = v376 > v374;
+    if (v377) { goto L47; }
+    else { v84 = 0u; v85 = 0u; goto L48; }
+L47:;
+    v378 = (u8)((u32)v363 & (u32)15u);
+    v379 = v378 < 10u;
+    v380 = (u8)((u32)v378 | (u32)48u);
+    v381 = (u8)((u32)v378 + (u32)87u);
+    v382 = v379 ? v380 : v381;
+    v383 = load_address(v209);
+    v384 = (u64)((u64)v370 + (u64)2u);
+    v385 = v383 + v374 * 1u;
+    store8(v385, v382);
+    v84 = v384; v85 = 1u; goto L48;
+L48:;
+    store64(v217, v85);
+    store64(v218, v84);
+    v386 = (u8)(v85);
+    v86 = v386; v87 = v386; v88 = v386; v89 = v386; v90 = v386; v91 = v386; v92 = v386; v93 = v386; v94 = v386; v95 = v386; v96 = v386; v97 = v386; v98 = v386; goto L50;
+L49:;
+    memory_set(v217, 0u, 16u);
+    v86 = 0u; v87 = 0u; v88 = 0u; v89 = 0u; v90 = 0u; v91 = 0u; v92 = 0u; v93 = 0u; v94 = 0u; v95 = 0u; v96 = 0u; v97 = 0u; v98 = 0u; goto L50;
+L50:;
+    v387 = (u64)((u64)v83 + (u64)1u);
+    v388 = v387 == v360;
+    if (v388) { v176 = v86; v177 = v87; v178 = v88; v179 = v89; v180 = v90; v181 = v91; v182 = v92; v183 = v93; v184 = v94; v185 = v95; v186 = v96; v187 = v97; goto L186; }
+    else { v70 = v86; v71 = v87; v72 = v88; v73 = v89; v74 = v90; v75 = v91; v76 = v92; v77 = v93; v78 = v94; v79 = v95; v80 = v96; v81 = v97; v82 = v98; v83 = v387; goto L44; }
+L51:;
+    f50(v207, v302, v304, v306, v307);
+    v389 = load8(v207);
+    v390 = load8(v225);
+    v391 = load8(v226);
+    v392 = load8(v227);
+    v393 = load16(v228);
+    v394 = load16(v229);
+    v395 = load64(v230);
+    v396 = load64(v231);
+    store64(v205, 0u);
+    memory_set(v206, 0u, 10u);
+    switch (v389) {
+    case 0u: goto L52;
+    case 1u: goto L53;
+    case 2u: goto L69;
+    case 3u: goto L75;
+    case 4u: goto L85;
+    case 5u: goto L93;
+    case 6u: goto L107;
+    case 7u: goto L108;
+    case 8u: goto L138;
+    case 9u: goto L156;
+    case 10u: goto L168;
+    default: goto L184;
+    }
+L52:;
+    f51(v395, v209);
+    goto L185;
+L53:;
+    memory_set(v204, 0u, 40u);
+    v397 = (i64)v395 < 0 ? (u64)(0u - (u64)v395) : v395;
+    v398 = v397 > 9999u;
+    if (v398) { v108 = v397; v109 = 40u; goto L54; }
+    else { v110 = 40u; v111 = v397; goto L55; }
+L54:;
+    v399 = v108;
+    v400 = (u64)((u64)v399 / (u64)10000u);
+    v401 = (u64)((u64)v400 * (u64)10000u);
+    v402 = (u64)((u64)v399 - (u64)v401);
+    v403 = (u16)(v402);
+    v404 = (u16)((u32)v403 / (u32)100u);
+    v405 = (u16)((u32)v404 * (u32)100u);
+    v406 = (u16)((u32)v403 - (u32)v405);
+    v407 = (u16)((u32)v406 << (1u & 15u));
+    v408 = (u64)v407;
+    v409 = ADDRESS(c306) + v408 * 1u;
+    v410 = load8(v409);
+    v411 = v409 + 1u * 1u;
+    v412 = load8(v411);
+    v413 = v204 + v109 * 1u;
+    v414 = v413 + UINT64_C(18446744073709551614) * 1u;
+    store8(v414, v410);
+    v415 = v413 + UINT64_C(18446744073709551615) * 1u;
+    store8(v415, v412);
+    v416 = (u64)((u64)v109 + (u64)UINT64_C(18446744073709551612));
+    v417 = (u16)((u32)v404 << (1u & 15u));
+    v418 = (u64)v417;
+    v419 = ADDRESS(c306) + v418 * 1u;
+    v420 = load8(v419);
+    v421 = v419 + 1u * 1u;
+    v422 = load8(v421);
+    v423 = v204 + v416 * 1u;
+    store8(v423, v420);
+    v424 = v423 + 1u * 1u;
+    store8(v424, v422);
+    v425 = v108 > UINT64_C(99999999);
+    if (v425) { v108 = v400; v109 = v416; goto L54; }
+    else { v110 = v416; v111 = v400; goto L55; }
+L55:;
+    v426 = v111 < 100u;
+    if (v426) { goto L56; }
+    else { goto L59; }
+L56:;
+    v427 = v111 < 10u;
+    if (v427) { goto L57; }
+    else { goto L58; }
+L57:;
+    v428 = (u8)(v111);
+    v429 = (u8)((u32)v428 | (u32)48u);
+    v430 = (u64)((u64)v110 + (u64)UINT64_C(18446744073709551615));
+    v431 = v204 + v430 * 1u;
+    store8(v431, v429);
+    v112 = v430; goto L62;
+L58:;
+    v432 = (u64)((u64)v110 + (u64)UINT64_C(18446744073709551614));
+    v433 = (u64)((u64)v111 << (1u & 63u));
+    v434 = ADDRESS(c306) + v433 * 1u;
+    v435 = load8(v434);
+    v436 = v434 + 1u * 1u;
+    v437 = load8(v436);
+    v438 = v204 + v432 * 1u;
+    store8(v438, v435);
+    v439 = v438 + 1u * 1u;
+    store8(v439, v437);
+    v112 = v432; goto L62;
+L59:;
+    v440 = (u16)(v111);
+    v441 = (u16)((u32)v440 / (u32)100u);
+    v442 = (u16)((u32)v441 * (u32)100u);
+    v443 = (u16)((u32)v440 - (u32)v442);
+    v444 = (u16)((u32)v443 << (1u & 15u));
+    v445 = (u64)v444;
+    v446 = ADDRESS(c306) + v445 * 1u;
+    v447 = load8(v446);
+    v448 = v446 + 1u * 1u;
+    v449 = load8(v448);
+    v450 = v204 + v110 * 1u;
+    v451 = v450 + UINT64_C(18446744073709551614) * 1u;
+    store8(v451, v447);
+    v452 = v450 + UINT64_C(18446744073709551615) * 1u;
+    store8(v452, v449);
+    v453 = v111 < 1000u;
+    if (v453) { goto L60; }
+    else { goto L61; }
+L60:;
+    v454 = (u8)(v441);
+    v455 = (u8)((u32)v454 | (u32)48u);
+    v456 = (u64)((u64)v110 + (u64)UINT64_C(18446744073709551613));
+    v457 = v204 + v456 * 1u;
+    store8(v457, v455);
+    v112 = v456; goto L62;
+L61:;
+    v458 = (u64)((u64)v110 + (u64)UINT64_C(18446744073709551612));
+    v459 = (u16)((u32)v441 << (1u & 15u));
+    v460 = (u64)v459;
+    v461 = ADDRESS(c306) + v460 * 1u;
+    v462 = load8(v461);
+    v463 = v461 + 1u * 1u;
+    v464 = load8(v463);
+    v465 = v204 + v458 * 1u;
+    store8(v465, v462);
+    v466 = v465 + 1u * 1u;
+    store8(v466, v464);
+    v112 = v458; goto L62;
+L62:;
+    v467 = (i64)v395 > (i64)UINT64_C(18446744073709551615);
+    if (v467) { v113 = v112; goto L64; }
     else { goto L63; }
 L63:;
-    v265 = v191 + 6u * 1u;
-    store8(v265, 45u);
-    v24 = a4; v25 = 7u; goto L75;
+    v468 = (u64)((u64)v112 + (u64)UINT64_C(18446744073709551615));
+    v469 = v204 + v468 * 1u;
+    store8(v469, 45u);
+    v113 = v468; goto L64;
 L64:;
-    v266 = (u64)((u64)v14 + (u64)1u);
-    v267 = v266 == a2;
-    if (v267) { goto L73; }
-    else { v14 = v266; goto L64; }
-L65:;
-    v268 = load64(v192);
-    v269 = v268 > v15;
-    if (v269) { goto L66; }
-    else { goto L71; }
-L66:;
-    v270 = load_address(v185);
-    v271 = (u64)((u64)v15 + (u64)1u);
-    v272 = v270 + v15 * 1u;
-    store8(v272, v273);
-    v274 = load64(v192);
-    v275 = v274 > v271;
-    if (v275) { goto L67; }
+    v470 = v204 + v113 * 1u;
+    v471 = (u64)((u64)40u - (u64)v113);
+    v472 = v99 == 1u;
+    if (v472) { goto L65; }
     else { goto L68; }
+L65:;
+    v473 = load64(v218);
+    v474 = load64(v216);
+    v475 = v474 < v473;
+    v476 = (u64)((u64)v474 - (u64)v473);
+    v477 = v476 < v471;
+    v478 = v475 ? 1u : v477;
+    if (v478) { v114 = 0u; v115 = 0u; goto L67; }
+    else { goto L66; }
+L66:;
+    v479 = load_address(v209);
+    v480 = (u64)((u64)v473 + (u64)v471);
+    v481 = v479 + v473 * 1u;
+    memory_cpy(v481, v470, v471);
+    v114 = v480; v115 = 1u; goto L67;
 L67:;
-    v277 = (u8)((u32)v276 & (u32)15u);
-    v278 = v277 < 10u;
-    v279 = (u8)((u32)v277 | (u32)48u);
-    v280 = (u8)((u32)v277 + (u32)87u);
-    v281 = v278 ? v279 : v280;
-    v282 = load_address(v185);
-    v283 = (u64)((u64)v15 + (u64)2u);
-    v284 = v282 + v271 * 1u;
-    store8(v284, v281);
-    v285 = (u64)((u64)v18 + (u64)1u);
-    v286 = v285 == a2;
-    if (v286) { v23 = v283; goto L74; }
-    else { v19 = v283; v20 = 1u; v21 = 1u; v22 = v285; goto L72; }
+    store64(v217, v115);
+    store64(v218, v114);
+    goto L68;
 L68:;
-    v287 = (u64)((u64)v18 + (u64)1u);
-    v288 = v287 == a2;
-    if (v288) { v175 = 0u; v176 = 0u; goto L343; }
-    else { v19 = 0u; v20 = 0u; v21 = 0u; v22 = v287; goto L72; }
+    goto L185;
 L69:;
-    v289 = v188 + v18 * 1u;
-    v276 = load8(v289);
-    v290 = (u8)((u32)v276 >> (4u & 7u));
-    v291 = v276 < 160u;
-    v292 = (u8)((u32)v290 | (u32)48u);
-    v293 = (u8)((u32)v290 + (u32)87u);
-    v273 = v291 ? v292 : v293;
-    if (v17) { goto L65; }
-    else { goto L70; }
+    v482 = (u8)((v390) & UINT64_C(1));
+    v483 = v482 ? 4u : 5u;
+    v484 = v482 ? ADDRESS(c167) : ADDRESS(c168);
+    v485 = v100 == 1u;
+    if (v485) { goto L70; }
+    else { goto L185; }
 L70:;
-    v294 = (u64)((u64)v18 + (u64)1u);
-    v295 = v294 == a2;
-    if (v295) { goto L73; }
-    else { v14 = v294; goto L64; }
+    v486 = load64(v218);
+    v487 = load64(v216);
+    v488 = v487 < v486;
+    v489 = (u64)((u64)v487 - (u64)v486);
+    v490 = v489 < v483;
+    v491 = v488 ? 1u : v490;
+    if (v491) { v117 = 0u; v118 = 0u; goto L74; }
+    else { goto L71; }
 L71:;
-    v296 = (u64)((u64)v18 + (u64)1u);
-    v297 = v296 == a2;
-    if (v297) { v175 = 0u; v176 = 0u; goto L343; }
-    else { v19 = 0u; v20 = 0u; v21 = 0u; v22 = v296; goto L72; }
+    v492 = load_address(v209);
+    v493 = (u64)((u64)v486 + (u64)v483);
+    v494 = v492 + v486 * 1u;
+    v495 = (u64)v494;
+    v496 = (u64)v484;
+    v497 = (u64)((u64)v495 - (u64)v496);
+    v498 = v497 < v483;
+    if (v498) { v116 = 0u; goto L73; }
+    else { goto L72; }
 L72:;
-    v15 = v19; v16 = v20; v17 = v21; v18 = v22; goto L69;
+    memory_cpy(v494, v484, v483);
+    v117 = v493; v118 = 1u; goto L74;
 L73:;
-    v298 = v16 == 0u;
-    if (v298) { v175 = v15; v176 = v16; goto L343; }
-    else { v23 = v15; goto L74; }
+    v499 = v494 + v116 * 1u;
+    v500 = v484 + v116 * 1u;
+    v501 = load8(v500);
+    store8(v499, v501);
+    v502 = (u64)((u64)v116 + (u64)1u);
+    v503 = v502 == v483;
+    if (v503) { v117 = v493; v118 = 1u; goto L74; }
+    else { v116 = v502; goto L73; }
 L74:;
-    v299 = load64(v192);
-    v24 = v299; v25 = v23; goto L75;
+    store64(v217, v118);
+    store64(v218, v117);
+    goto L185;
 L75:;
-    v300 = v24 > v25;
-    if (v300) { goto L76; }
-    else { goto L342; }
+    v504 = (i64)v395 < 0 ? (u64)(0u - (u64)v395) : v395;
+    v505 = (i64)v395 < (i64)0u;
+    v506 = v101 == 1u;
+    v507 = v505 ? v506 : 0u;
+    if (v507) { goto L76; }
+    else { goto L79; }
 L76:;
-    v301 = load_address(v185);
-    v302 = (u64)((u64)v25 + (u64)1u);
-    v303 = v301 + v25 * 1u;
-    store8(v303, 10u);
-    v177 = v302; goto L344;
+    v508 = load64(v218);
+    v509 = load64(v216);
+    v510 = v509 > v508;
+    if (v510) { goto L77; }
+    else { v119 = 0u; v120 = 0u; goto L78; }
 L77:;
-    v304 = (u64)((u64)v28 * (u64)6u);
-    v305 = v10 + v304 * 1u;
-    v306 = load8(v305);
-    v307 = v305 + 1u * 1u;
-    v308 = load8(v307);
-    v309 = v305 + 2u * 1u;
-    v310 = load8(v309);
-    v311 = v305 + 3u * 1u;
-    v312 = load8(v311);
-    v313 = v305 + 4u * 1u;
-    v314 = load8(v313);
-    v315 = v305 + 5u * 1u;
-    v316 = load8(v315);
-    v317 = (u64)v312;
-    v318 = v188 + v317 * 1u;
-    v319 = (u64)((u64)a2 - (u64)v317);
-    v320 = v27 == 1u;
-    if (v320) { goto L78; }
-    else { v29 = v26; v30 = v27; goto L79; }
+    v511 = load_address(v209);
+    v512 = (u64)((u64)v508 + (u64)1u);
+    v513 = v511 + v508 * 1u;
+    store8(v513, 45u);
+    v119 = v512; v120 = 1u; goto L78;
 L78:;
-    v321 = load64(v194);
-    v322 = load64(v192);
-    v323 = v322 >= v321;
-    v324 = v323 ? v321 : 0u;
-    v325 = (u64)v323;
-    store64(v193, v325);
-    store64(v194, v324);
-    v326 = (u8)v323;
-    v29 = v326; v30 = v326; goto L79;
+    store64(v217, v120);
+    store64(v218, v119);
+    goto L79;
 L79:;
-    store8(v184, v306);
-    store8(v240, v308);
-    store8(v241, v310);
-    v327 = f43(v184);
-    v328 = v327.m0;
-    v329 = v327.m1;
-    v330 = v30 == 1u;
-    if (v330) { goto L80; }
-    else { v35 = v29; v36 = v30; goto L89; }
+    v514 = (u64)((u64)v504 >> (16u & 63u));
+    f51(v514, v209);
+    v515 = load8(v217);
+    v516 = v515 == 1u;
+    if (v516) { goto L80; }
+    else { goto L83; }
 L80:;
-    v331 = load64(v194);
-    v332 = load64(v192);
-    v333 = v332 < v331;
-    v334 = (u64)((u64)v332 - (u64)v331);
-    v335 = v334 < v329;
-    v336 = v333 ? 1u : v335;
-    if (v336) { goto L84; }
-    else { goto L81; }
+    v517 = load64(v218);
+    v518 = load64(v216);
+    v519 = v518 > v517;
+    if (v519) { goto L81; }
+    else { v121 = 0u; v122 = 0u; goto L82; }
 L81:;
-    v337 = load_address(v185);
-    v338 = (u64)((u64)v331 + (u64)v329);
-    v339 = v337 + v331 * 1u;
-    v340 = (u64)v339;
-    v341 = (u64)v328;
-    v342 = (u64)((u64)v340 - (u64)v341);
-    v343 = v342 < v329;
-    if (v343) { v31 = 0u; goto L83; }
-    else { goto L82; }
+    v520 = load_address(v209);
+    v521 = (u64)((u64)v517 + (u64)1u);
+    v522 = v520 + v517 * 1u;
+    store8(v522, 46u);
+    v121 = v521; v122 = 1u; goto L82;
 L82:;
-    memory_move(v339, v328, v329);
-    v32 = v332; goto L86;
+    store64(v217, v122);
+    store64(v218, v121);
+    goto L83;
 L83:;
-    v344 = v339 + v31 * 1u;
-    v345 = v328 + v31 * 1u;
-    v346 = load8(v345);
-    store8(v344, v346);
-    v347 = (u64)((u64)v31 + (u64)1u);
-    v348 = v347 == v329;
-    if (v348) { goto L85; }
-    else { v31 = v347; goto L83; }
+    v523 = (u32)(v504);
+    v524 = (u32)((u32)v523 & (u32)65535u);
+    v123 = v524; v124 = 16u; goto L84;
 L84:;
-    memory_set(v193, 0u, 16u);
-    v35 = 0u; v36 = 0u; goto L89;
+    v525 = (u32)((u32)v123 * (u32)10u);
+    v526 = (u32)((u32)v525 >> (16u & 31u));
+    v527 = (u64)v526;
+    f51(v527, v209);
+    v528 = (u32)((u32)v525 & (u32)65534u);
+    v529 = v528 == 0u;
+    v530 = (u8)((u32)v124 + (u32)255u);
+    v531 = v530 == 0u;
+    v532 = v529 ? 1u : v531;
+    if (v532) { goto L185; }
+    else { v123 = v528; v124 = v530; goto L84; }
 L85:;
-    v349 = load64(v192);
-    v32 = v349; goto L86;
+    store8(v205, v390);
+    store8(v236, v391);
+    store8(v237, v392);
+    store16(v238, v393);
+    store16(v239, v394);
+    v533 = (u8)(v395);
+    store8(v240, v533);
+    v125 = v102; v126 = 0u; goto L86;
 L86:;
-    v350 = v32 > v338;
-    if (v350) { goto L87; }
-    else { v33 = 0u; v34 = 0u; goto L88; }
+    v534 = v205 + v126 * 1u;
+    v535 = load8(v534);
+    v536 = (u8)((u32)v535 >> (4u & 7u));
+    v537 = v535 < 160u;
+    v538 = (u8)((u32)v536 | (u32)48u);
+    v539 = (u8)((u32)v536 + (u32)87u);
+    v540 = v537 ? v538 : v539;
+    v541 = v125 == 1u;
+    if (v541) { goto L87; }
+    else { v129 = v125; goto L92; }
 L87:;
-    v351 = load_address(v185);
-    v352 = (u64)((u64)v338 + (u64)1u);
-    v353 = v351 + v338 * 1u;
-    store8(v353, 32u);
-    v33 = v352; v34 = 1u; goto L88;
+    v542 = load64(v218);
+    v543 = load64(v216);
+    v544 = v543 > v542;
+    if (v544) { goto L88; }
+    else { goto L91; }
 L88:;
-    store64(v193, v34);
-    store64(v194, v33);
-    v354 = (u8)(v34);
-    v35 = v354; v36 = v354; goto L89;
+    v545 = load_address(v209);
+    v546 = (u64)((u64)v542 + (u64)1u);
+    v547 = v545 + v542 * 1u;
+    store8(v547, v540);
+    v548 = load64(v216);
+    v549 = v548 > v546;
+    if (v549) { goto L89; }
+    else { v127 = 0u; v128 = 0u; goto L90; }
 L89:;
-    switch (v314) {
-    case 1u: goto L90;
-    case 0u: goto L167;
-    case 14u: goto L118;
-    case 2u: goto L104;
-    case 3u: goto L105;
-    case 4u: goto L106;
-    case 5u: goto L107;
-    case 6u: goto L108;
-    case 7u: goto L109;
-    case 8u: goto L110;
-    case 9u: goto L111;
-    case 10u: goto L112;
-    case 11u: goto L115;
-    case 12u: goto L116;
-    case 13u: goto L117;
-    default: goto L168;
-    }
+    v550 = (u8)((u32)v535 & (u32)15u);
+    v551 = v550 < 10u;
+    v552 = (u8)((u32)v550 | (u32)48u);
+    v553 = (u8)((u32)v550 + (u32)87u);
+    v554 = v551 ? v552 : v553;
+    v555 = load_address(v209);
+    v556 = (u64)((u64)v542 + (u64)2u);
+    v557 = v555 + v546 * 1u;
+    store8(v557, v554);
+    v127 = v556; v128 = 1u; goto L90;
 L90:;
-    v355 = (u64)v316;
-    v356 = v36 == 1u;
-    if (v356) { goto L91; }
-    else { v39 = v35; v40 = v36; goto L96; }
+    store64(v217, v128);
+    store64(v218, v127);
+    v558 = (u8)(v128);
+    v129 = v558; goto L92;
 L91:;
-    v357 = load64(v194);
-    v358 = load64(v192);
-    v359 = v358 < v357;
-    v360 = (u64)((u64)v358 - (u64)v357);
-    v361 = v360 < 2u;
-    v362 = v359 ? 1u : v361;
-    if (v362) { v37 = 0u; v38 = 0u; goto L95; }
-    else { goto L92; }
+    memory_set(v217, 0u, 16u);
+    v129 = 0u; goto L92;
 L92:;
-    v363 = load_address(v185);
-    v364 = (u64)((u64)v357 + (u64)2u);
-    v365 = v363 + v357 * 1u;
-    v366 = (u64)v365;
-    v367 = (u64)((u64)v366 - (u64)ADDRESS(c293));
-    v368 = v367 < 2u;
-    if (v368) { goto L93; }
-    else { goto L94; }
+    v559 = (u64)((u64)v126 + (u64)1u);
+    v560 = v559 == 8u;
+    if (v560) { goto L185; }
+    else { v125 = v129; v126 = v559; goto L86; }
 L93:;
-    store8(v365, 48u);
-    v369 = v365 + 1u * 1u;
-    store8(v369, 120u);
-    v37 = v364; v38 = 1u; goto L95;
+    store8(v232, v392);
+    store16(v233, v393);
+    store16(v234, v394);
+    v561 = (u32)(v395);
+    store32(v235, v561);
+    v562 = (u64)((u64)v395 >> (16u & 63u));
+    v130 = v391; v131 = v103; v132 = v103; v133 = 0u; goto L94;
 L94:;
-    store16(v365, 30768u);
-    v37 = v364; v38 = 1u; goto L95;
+    v563 = (u8)((u32)v130 >> (4u & 7u));
+    v564 = v130 < 160u;
+    v565 = (u8)((u32)v563 | (u32)48u);
+    v566 = (u8)((u32)v563 + (u32)87u);
+    v567 = v564 ? v565 : v566;
+    v568 = v132 == 1u;
+    if (v568) { goto L95; }
+    else { v136 = v131; v137 = v132; goto L99; }
 L95:;
-    store64(v193, v38);
-    store64(v194, v37);
-    v370 = (u8)(v38);
-    v39 = v370; v40 = v370; goto L96;
+    v569 = load64(v218);
+    v570 = load64(v216);
+    v571 = v570 > v569;
+    if (v571) { goto L96; }
+    else { goto L101; }
 L96:;
-    v371 = v316 == 0u;
-    if (v371) { v168 = v39; v169 = v40; v170 = v40; goto L336; }
-    else { v41 = v39; v42 = v40; v43 = v40; v44 = v40; v45 = 0u; goto L97; }
+    v572 = load_address(v209);
+    v573 = (u64)((u64)v569 + (u64)1u);
+    v574 = v572 + v569 * 1u;
+    store8(v574, v567);
+    v575 = load64(v216);
+    v576 = v575 > v573;
+    if (v576) { goto L97; }
+    else { v134 = 0u; v135 = 0u; goto L98; }
 L97:;
-    v372 = v318 + v45 * 1u;
-    v373 = load8(v372);
-    v374 = (u8)((u32)v373 >> (4u & 7u));
-    v375 = v373 < 160u;
-    v376 = (u8)((u32)v374 | (u32)48u);
-    v377 = (u8)((u32)v374 + (u32)87u);
-    v378 = v375 ? v376 : v377;
-    v379 = v44 == 1u;
-    if (v379) { goto L98; }
-    else { v48 = v41; v49 = v42; v50 = v43; v51 = v44; goto L103; }
+    v577 = (u8)((u32)v130 & (u32)15u);
+    v578 = v577 < 10u;
+    v579 = (u8)((u32)v577 | (u32)48u);
+    v580 = (u8)((u32)v577 + (u32)87u);
+    v581 = v578 ? v579 : v580;
+    v582 = load_address(v209);
+    v583 = (u64)((u64)v569 + (u64)2u);
+    v584 = v582 + v573 * 1u;
+    store8(v584, v581);
+    v134 = v583; v135 = 1u; goto L98;
 L98:;
-    v380 = load64(v194);
-    v381 = load64(v192);
-    v382 = v381 > v380;
-    if (v382) { goto L99; }
-    else { goto L102; }
+    store64(v217, v135);
+    store64(v218, v134);
+    v585 = (u8)(v135);
+    v136 = v585; v137 = v585; goto L99;
 L99:;
-    v383 = load_address(v185);
-    v384 = (u64)((u64)v380 + (u64)1u);
-    v385 = v383 + v380 * 1u;
-    store8(v385, v378);
-    v386 = load64(v192);
-    v387 = v386 > v384;
-    if (v387) { goto L100; }
-    else { v46 = 0u; v47 = 0u; goto L101; }
+    v586 = (u64)((u64)v133 + (u64)1u);
+    v587 = v586 == 8u;
+    if (v587) { goto L102; }
+    else { v138 = v136; v139 = v137; v140 = v586; goto L100; }
 L100:;
-    v388 = (u8)((u32)v373 & (u32)15u);
-    v389 = v388 < 10u;
-    v390 = (u8)((u32)v388 | (u32)48u);
-    v391 = (u8)((u32)v388 + (u32)87u);
-    v392 = v389 ? v390 : v391;
-    v393 = load_address(v185);
-    v394 = (u64)((u64)v380 + (u64)2u);
-    v395 = v393 + v384 * 1u;
-    store8(v395, v392);
-    v46 = v394; v47 = 1u; goto L101;
+    v588 = v206 + v140 * 1u;
+    v589 = load8(v588);
+    v130 = v589; v131 = v138; v132 = v139; v133 = v140; goto L94;
 L101:;
-    store64(v193, v47);
-    store64(v194, v46);
-    v396 = (u8)(v47);
-    v48 = v396; v49 = v396; v50 = v396; v51 = v396; goto L103;
+    memory_set(v217, 0u, 16u);
+    v590 = (u64)((u64)v133 + (u64)1u);
+    v591 = v590 == 8u;
+    if (v591) { goto L106; }
+    else { v138 = 0u; v139 = 0u; v140 = v590; goto L100; }
 L102:;
-    memory_set(v193, 0u, 16u);
-    v48 = 0u; v49 = 0u; v50 = 0u; v51 = 0u; goto L103;
+    v592 = v136 == 1u;
+    if (v592) { goto L103; }
+    else { goto L106; }
 L103:;
-    v397 = (u64)((u64)v45 + (u64)1u);
-    v398 = v397 == v355;
-    if (v398) { v168 = v48; v169 = v49; v170 = v50; goto L336; }
-    else { v41 = v48; v42 = v49; v43 = v50; v44 = v51; v45 = v397; goto L97; }
+    v593 = load64(v218);
+    v594 = load64(v216);
+    v595 = v594 > v593;
+    if (v595) { goto L104; }
+    else { v141 = 0u; v142 = 0u; goto L105; }
 L104:;
-    v399 = (u64)v316;
-    store64(v183, 0u);
-    v400 = (u64)((u64)8u - (u64)v399);
-    v401 = v183 + v400 * 1u;
-    memory_cpy(v401, v318, v399);
-    v402 = load64(v183);
-    v403 = swap64(v402);
-    v404 = (u64)((u64)v399 << (3u & 63u));
-    v405 = (u64)((u64)v404 + (u64)UINT64_C(18446744073709551615));
-    v406 = (u64)((u64)v403 >> (v405 & 63u));
-    v407 = v406 == 0u;
-    v408 = (u64)((u64)UINT64_C(18446744073709551614) << (v405 & 63u));
-    v409 = v407 ? 0u : v408;
-    v410 = (u64)((u64)v409 + (u64)v403);
-    v411 = (u8)(v403);
-    v412 = (u64)((u64)v410 >> (8u & 63u));
-    v413 = (u64)((u64)v410 >> (16u & 63u));
-    v414 = (u64)((u64)v410 & (u64)UINT64_C(18446744069414584320));
-    v84 = 1u; v85 = 0u; v86 = 0u; v87 = 0u; v88 = v411; v89 = v412; v90 = v413; v91 = v414; v92 = 0u; goto L169;
+    v596 = load_address(v209);
+    v597 = (u64)((u64)v593 + (u64)1u);
+    v598 = v596 + v593 * 1u;
+    store8(v598, 47u);
+    v141 = v597; v142 = 1u; goto L105;
 L105:;
-    v415 = load8(v318);
-    v416 = (u8)((u32)v415 & (u32)v316);
-    v417 = v416 != 0u;
-    v418 = (u8)v417;
-    v84 = 2u; v85 = v418; v86 = 0u; v87 = 0u; v88 = 0u; v89 = 0u; v90 = 0u; v91 = 0u; v92 = 0u; goto L169;
+    store64(v217, v142);
+    store64(v218, v141);
+    goto L106;
 L106:;
-    v419 = load8(v318);
-    v420 = (u8)((u32)v419 & (u32)3u);
-    v421 = v420 != 0u;
-    v422 = (u8)v421;
-    v84 = 2u; v85 = v422; v86 = 0u; v87 = 0u; v88 = 0u; v89 = 0u; v90 = 0u; v91 = 0u; v92 = 0u; goto L169;
+    v599 = (u64)((u64)v562 & (u64)65535u);
+    f51(v599, v209);
+    goto L185;
 L107:;
-    v423 = load8(v318);
-    v424 = (u8)((u32)v423 & (u32)15u);
-    v84 = 0u; v85 = 0u; v86 = 0u; v87 = 0u; v88 = v424; v89 = 0u; v90 = 0u; v91 = 0u; v92 = 0u; goto L169;
+    f47(v390, v391, v209);
+    goto L185;
 L108:;
-    v425 = load64(v318);
-    v426 = swap64(v425);
-    v427 = (u8)(v426);
-    v428 = (u64)((u64)v426 >> (8u & 63u));
-    v429 = (u64)((u64)v426 >> (16u & 63u));
-    v430 = (u64)((u64)v426 & (u64)UINT64_C(18446744069414584320));
-    v84 = 3u; v85 = 0u; v86 = 0u; v87 = 0u; v88 = v427; v89 = v428; v90 = v429; v91 = v430; v92 = 0u; goto L169;
+    v600 = v104 == 1u;
+    if (v600) { goto L109; }
+    else { goto L114; }
 L109:;
-    v431 = load64(v318);
-    v432 = (u64)((u64)v431 >> (56u & 63u));
-    v433 = (u8)(v432);
-    v434 = (u8)(v431);
-    v435 = (u64)((u64)v431 >> (8u & 63u));
-    v436 = (u8)(v435);
-    v437 = (u64)((u64)v431 >> (16u & 63u));
-    v438 = (u64)((v437) & UINT64_C(1099511627775));
-    v84 = 4u; v85 = v434; v86 = v436; v87 = v438; v88 = v433; v89 = 0u; v90 = 0u; v91 = 0u; v92 = 0u; goto L169;
+    v601 = load64(v218);
+    v602 = load64(v216);
+    v603 = v602 < v601;
+    v604 = (u64)((u64)v602 - (u64)v601);
+    v605 = v604 < 6u;
+    v606 = v603 ? 1u : v605;
+    if (v606) { v143 = 0u; v144 = 0u; goto L113; }
+    else { goto L110; }
 L110:;
-    v439 = load64(v318);
-    v440 = v318 + 8u * 1u;
-    v441 = load8(v440);
-    v442 = v318 + 9u * 1u;
-    v443 = load8(v442);
-    v444 = (u64)v441;
-    v445 = (u64)((u64)v444 << (8u & 63u));
-    v446 = (u64)v443;
-    v447 = (u64)((u64)v445 | (u64)v446);
-    v448 = (u64)((u64)v439 >> (48u & 63u));
-    v449 = (u8)(v439);
-    v450 = (u64)((u64)v439 >> (8u & 63u));
-    v451 = (u64)((v450) & UINT64_C(1099511627775));
-    v452 = (u8)(v448);
-    v453 = (u64)((u64)v439 >> (56u & 63u));
-    v84 = 5u; v85 = 0u; v86 = v449; v87 = v451; v88 = v452; v89 = v453; v90 = v447; v91 = 0u; v92 = 0u; goto L169;
+    v607 = load_address(v209);
+    v608 = (u64)((u64)v601 + (u64)6u);
+    v609 = v607 + v601 * 1u;
+    v610 = (u64)v609;
+    v611 = (u64)((u64)v610 - (u64)ADDRESS(c307));
+    v612 = v611 < 6u;
+    if (v612) { goto L111; }
+    else { goto L112; }
 L111:;
-    v454 = load8(v318);
-    v84 = 6u; v85 = v316; v86 = v454; v87 = 0u; v88 = 0u; v89 = 0u; v90 = 0u; v91 = 0u; v92 = 0u; goto L169;
+    store8(v609, 99u);
+    v613 = v609 + 1u * 1u;
+    store8(v613, 108u);
+    v614 = v609 + 2u * 1u;
+    store8(v614, 97u);
+    v615 = v609 + 3u * 1u;
+    store8(v615, 115u);
+    v616 = v609 + 4u * 1u;
+    store8(v616, 115u);
+    v617 = v609 + 5u * 1u;
+    store8(v617, 32u);
+    v143 = v608; v144 = 1u; goto L113;
 L112:;
-    v455 = v319 == 0u;
-    if (v455) { v52 = 0u; v53 = v318; goto L114; }
-    else { goto L113; }
+    memory_cpy(v609, ADDRESS(c307), 6u);
+    v143 = v608; v144 = 1u; goto L113;
 L113:;
-    v456 = v318 + 1u * 1u;
-    v457 = load8(v318);
-    v458 = (u64)v457;
-    v52 = v458; v53 = v456; goto L114;
+    store64(v217, v144);
+    store64(v218, v143);
+    goto L114;
 L114:;
-    v459 = (u64)v53;
-    v460 = (u8)(v459);
-    v461 = (u64)((u64)v459 >> (8u & 63u));
-    v462 = (u64)((u64)v459 >> (16u & 63u));
-    v463 = (u64)((u64)v459 & (u64)UINT64_C(18446744069414584320));
-    v84 = 8u; v85 = 0u; v86 = 0u; v87 = 0u; v88 = v460; v89 = v461; v90 = v462; v91 = v463; v92 = v52; goto L169;
+    v618 = (u64)v391;
+    f51(v618, v209);
+    v619 = load8(v217);
+    v620 = v619 == 1u;
+    if (v620) { goto L115; }
+    else { goto L185; }
 L115:;
-    v464 = (u64)v316;
-    store64(v182, 0u);
-    memory_cpy(v182, v318, v464);
-    v465 = load64(v182);
-    v466 = (u8)(v465);
-    v467 = (u64)((u64)v465 >> (8u & 63u));
-    v468 = (u64)((u64)v465 >> (16u & 63u));
-    v469 = (u64)((u64)v465 & (u64)UINT64_C(18446744069414584320));
-    v84 = 0u; v85 = 0u; v86 = 0u; v87 = 0u; v88 = v466; v89 = v467; v90 = v468; v91 = v469; v92 = 0u; goto L169;
+    v621 = load64(v218);
+    v622 = load64(v216);
+    v623 = v622 < v621;
+    v624 = (u64)((u64)v622 - (u64)v621);
+    v625 = v624 < 12u;
+    v626 = v623 ? 1u : v625;
+    if (v626) { goto L135; }
+    else { goto L116; }
 L116:;
-    v470 = (u64)v316;
-    v471 = (u64)v318;
-    v472 = (u8)(v471);
-    v473 = (u64)((u64)v471 >> (8u & 63u));
-    v474 = (u64)((u64)v471 >> (16u & 63u));
-    v475 = (u64)((u64)v471 & (u64)UINT64_C(18446744069414584320));
-    v84 = 9u; v85 = 0u; v86 = 0u; v87 = 0u; v88 = v472; v89 = v473; v90 = v474; v91 = v475; v92 = v470; goto L169;
+    v627 = load_address(v209);
+    v628 = (u64)((u64)v621 + (u64)12u);
+    v629 = v627 + v621 * 1u;
+    v630 = (u64)v629;
+    v631 = (u64)((u64)v630 - (u64)ADDRESS(c308));
+    v632 = v631 < 12u;
+    if (v632) { goto L117; }
+    else { goto L118; }
 L117:;
-    v476 = (u64)v318;
-    v477 = (u8)(v476);
-    v478 = (u64)((u64)v476 >> (8u & 63u));
-    v479 = (u64)((u64)v476 >> (16u & 63u));
-    v480 = (u64)((u64)v476 & (u64)UINT64_C(18446744069414584320));
-    v84 = 10u; v85 = 0u; v86 = 0u; v87 = 0u; v88 = v477; v89 = v478; v90 = v479; v91 = v480; v92 = v319; goto L169;
+    store8(v629, 32u);
+    v633 = v629 + 1u * 1u;
+    store8(v633, 97u);
+    v634 = v629 + 2u * 1u;
+    store8(v634, 99u);
+    v635 = v629 + 3u * 1u;
+    store8(v635, 99u);
+    v636 = v629 + 4u * 1u;
+    store8(v636, 117u);
+    v637 = v629 + 5u * 1u;
+    store8(v637, 114u);
+    v638 = v629 + 6u * 1u;
+    store8(v638, 97u);
+    v639 = v629 + 7u * 1u;
+    store8(v639, 99u);
+    v640 = v629 + 8u * 1u;
+    store8(v640, 121u);
+    v641 = v629 + 9u * 1u;
+    store8(v641, 32u);
+    v642 = v629 + 10u * 1u;
+    store8(v642, 48u);
+    v643 = v629 + 11u * 1u;
+    store8(v643, 120u);
+    v644 = load64(v216);
+    v145 = v644; goto L119;
 L118:;
-    switch (v316) {
-    case 0u: goto L119;
-    case 1u: goto L120;
-    case 2u: goto L122;
-    case 3u: goto L126;
-    case 4u: goto L131;
-    case 5u: goto L137;
-    case 6u: goto L144;
-    case 7u: goto L153;
-    case 8u: goto L154;
-    default: goto L156;
-    }
+    memory_cpy(v629, ADDRESS(c308), 12u);
+    v145 = v622; goto L119;
 L119:;
-    v481 = v319 < 2u;
-    v482 = v318 + 2u * 1u;
-    v483 = v481 ? ADDRESS(c112) : v482;
-    v484 = v319 > 2u ? (u64)((u64)v319 - (u64)2u) : 0u;
-    v485 = (struct s5){ 0 };
-    v485.m0 = v483;
-    v486 = v485;
-    v486.m1 = v484;
-    v78 = v486; goto L163;
-L120:;
-    v487 = v319 < 3u;
-    if (v487) { v81 = 9u; v82 = ADDRESS(c112); v83 = 0u; goto L166; }
+    v645 = v145 > v628;
+    if (v645) { goto L120; }
     else { goto L121; }
+L120:;
+    v646 = v392 < 160u;
+    v647 = (u8)((u32)v392 >> (4u & 7u));
+    v648 = (u8)((u32)v647 | (u32)48u);
+    v649 = (u8)((u32)v647 + (u32)87u);
+    v650 = v646 ? v648 : v649;
+    v651 = load_address(v209);
+    v652 = (u64)((u64)v621 + (u64)13u);
+    v653 = v651 + v628 * 1u;
+    store8(v653, v650);
+    v654 = load64(v216);
+    v655 = v654 > v652;
+    if (v655) { goto L123; }
+    else { goto L122; }
 L121:;
-    v488 = v318 + 2u * 1u;
-    v489 = v318 + 3u * 1u;
-    v490 = (u64)((u64)v319 + (u64)UINT64_C(18446744073709551613));
-    v491 = load8(v488);
-    v492 = (u64)v491;
-    v493 = v490 < v492;
-    v494 = v489 + v492 * 1u;
-    v495 = v490 > v492 ? (u64)((u64)v490 - (u64)v492) : 0u;
-    if (v493) { v81 = 9u; v82 = ADDRESS(c112); v83 = 0u; goto L166; }
-    else { v70 = v494; v71 = v495; goto L157; }
+    memory_set(v217, 0u, 16u);
+    goto L185;
 L122:;
-    v496 = v319 < 3u;
-    if (v496) { v72 = 0u; v73 = 0u; v74 = ADDRESS(c112); goto L159; }
-    else { goto L123; }
+    memory_set(v217, 0u, 16u);
+    goto L185;
 L123:;
-    v497 = v318 + 2u * 1u;
-    v498 = v318 + 3u * 1u;
-    v499 = (u64)((u64)v319 + (u64)UINT64_C(18446744073709551613));
-    v500 = load8(v497);
-    v501 = (u64)v500;
-    v502 = v499 < v501;
-    v503 = v498 + v501 * 1u;
-    v504 = v499 > v501 ? (u64)((u64)v499 - (u64)v501) : 0u;
-    if (v502) { v72 = 0u; v73 = 0u; v74 = ADDRESS(c112); goto L159; }
-    else { goto L124; }
-L124:;
-    v505 = v504 < 2u;
-    if (v505) { v72 = 0u; v73 = v504; v74 = ADDRESS(c112); goto L159; }
-    else { goto L125; }
-L125:;
-    v506 = v503 + 1u * 1u;
-    v507 = load8(v503);
-    v508 = (u64)v507;
-    v509 = (u64)((u64)v508 << (8u & 63u));
-    v510 = load8(v506);
-    v511 = (u64)v510;
-    v512 = (u64)((u64)v509 | (u64)v511);
-    v513 = v503 + 2u * 1u;
-    v72 = v512; v73 = v504; v74 = v513; goto L159;
-L126:;
-    v514 = v319 < 3u;
-    if (v514) { v54 = 0u; v55 = 0u; v56 = ADDRESS(c112); goto L130; }
-    else { goto L127; }
-L127:;
-    v515 = v318 + 2u * 1u;
-    v516 = v318 + 3u * 1u;
-    v517 = (u64)((u64)v319 + (u64)UINT64_C(18446744073709551613));
-    v518 = load8(v515);
-    v519 = (u64)v518;
-    v520 = v517 < v519;
-    v521 = v516 + v519 * 1u;
-    v522 = v517 > v519 ? (u64)((u64)v517 - (u64)v519) : 0u;
-    if (v520) { v54 = 0u; v55 = 0u; v56 = ADDRESS(c112); goto L130; }
-    else { goto L128; }
-L128:;
-    v523 = v522 < 2u;
-    if (v523) { v54 = 0u; v55 = v522; v56 = ADDRESS(c112); goto L130; }
-    else { goto L129; }
-L129:;
-    v524 = v521 + 1u * 1u;
-    v525 = load8(v521);
-    v526 = (u64)v525;
-    v527 = (u64)((u64)v526 << (8u & 63u));
-    v528 = load8(v524);
-    v529 = (u64)v528;
-    v530 = (u64)((u64)v527 | (u64)v529);
-    v531 = v521 + 2u * 1u;
-    v54 = v530; v55 = v522; v56 = v531; goto L130;
-L130:;
-    v532 = v55 > 2u ? (u64)((u64)v55 - (u64)2u) : 0u;
-    v533 = v532 < v54;
-    v534 = v56 + v54 * 1u;
-    v535 = v532 > v54 ? (u64)((u64)v532 - (u64)v54) : 0u;
-    v536 = v533 ? ADDRESS(c112) : v534;
-    v537 = v533 ? 0u : v535;
-    v538 = v537 < 2u;
-    v539 = v536 + 2u * 1u;
-    v540 = (u64)((u64)v537 + (u64)UINT64_C(18446744073709551614));
-    if (v538) { v81 = 9u; v82 = ADDRESS(c112); v83 = 0u; goto L166; }
-    else { v70 = v539; v71 = v540; goto L157; }
-L131:;
-    v541 = v319 < 3u;
-    if (v541) { v57 = 0u; v58 = 0u; v59 = ADDRESS(c112); goto L135; }
-    else { goto L132; }
-L132:;
-    v542 = v318 + 2u * 1u;
-    v543 = v318 + 3u * 1u;
-    v544 = (u64)((u64)v319 + (u64)UINT64_C(18446744073709551613));
-    v545 = load8(v542);
-    v546 = (u64)v545;
-    v547 = v544 < v546;
-    v548 = v543 + v546 * 1u;
-    v549 = v544 > v546 ? (u64)((u64)v544 - (u64)v546) : 0u;
-    if (v547) { v57 = 0u; v58 = 0u; v59 = ADDRESS(c112); goto L135; }
-    else { goto L133; }
-L133:;
-    v550 = v549 < 2u;
-    if (v550) { v57 = 0u; v58 = v549; v59 = ADDRESS(c112); goto L135; }
-    else { goto L134; }
-L134:;
-    v551 = v548 + 1u * 1u;
-    v552 = load8(v548);
-    v553 = (u64)v552;
-    v554 = (u64)((u64)v553 << (8u & 63u));
-    v555 = load8(v551);
-    v556 = (u64)v555;
-    v557 = (u64)((u64)v554 | (u64)v556);
-    v558 = v548 + 2u * 1u;
-    v57 = v557; v58 = v549; v59 = v558; goto L135;
-L135:;
-    v559 = v58 > 2u ? (u64)((u64)v58 - (u64)2u) : 0u;
-    v560 = v559 < v57;
-    v561 = v59 + v57 * 1u;
-    v562 = v559 > v57 ? (u64)((u64)v559 - (u64)v57) : 0u;
-    v563 = v560 ? ADDRESS(c112) : v561;
-    v564 = v560 ? 0u : v562;
-    v565 = v564 < 2u;
-    v566 = v563 + 2u * 1u;
-    v567 = v564 > 2u ? (u64)((u64)v564 - (u64)2u) : 0u;
-    v568 = v565 ? ADDRESS(c112) : v566;
-    v569 = v565 ? 0u : v567;
-    v570 = v569 < 2u;
-    if (v570) { v75 = 0u; goto L161; }
+    v656 = (u8)((u32)v392 & (u32)15u);
+    v657 = v656 < 10u;
+    v658 = (u8)((u32)v656 | (u32)48u);
+    v659 = (u8)((u32)v656 + (u32)87u);
+    v660 = v657 ? v658 : v659;
+    v661 = load_address(v209);
+    v662 = (u64)((u64)v621 + (u64)14u);
+    v663 = v661 + v652 * 1u;
+    store8(v663, v660);
+    v664 = load64(v216);
+    v665 = v664 >= v662;
+    v666 = (u64)((u64)v664 - (u64)v662);
+    v667 = v666 > 11u;
+    v668 = v665 ? v667 : 0u;
+    if (v668) { goto L124; }
     else { goto L136; }
+L124:;
+    v669 = load_address(v209);
+    v670 = (u64)((u64)v621 + (u64)26u);
+    v671 = v669 + v662 * 1u;
+    v672 = (u64)v671;
+    v673 = (u64)((u64)v672 - (u64)ADDRESS(c309));
+    v674 = v673 < 12u;
+    if (v674) { goto L125; }
+    else { goto L126; }
+L125:;
+    store8(v671, 32u);
+    v675 = v671 + 1u * 1u;
+    store8(v675, 118u);
+    v676 = v671 + 2u * 1u;
+    store8(v676, 97u);
+    v677 = v671 + 3u * 1u;
+    store8(v677, 114u);
+    v678 = v671 + 4u * 1u;
+    store8(v678, 105u);
+    v679 = v671 + 5u * 1u;
+    store8(v679, 97u);
+    v680 = v671 + 6u * 1u;
+    store8(v680, 110u);
+    v681 = v671 + 7u * 1u;
+    store8(v681, 99u);
+    v682 = v671 + 8u * 1u;
+    store8(v682, 101u);
+    v683 = v671 + 9u * 1u;
+    store8(v683, 32u);
+    v684 = v671 + 10u * 1u;
+    store8(v684, 48u);
+    v685 = v671 + 11u * 1u;
+    store8(v685, 120u);
+    v686 = load64(v216);
+    v146 = v686; goto L127;
+L126:;
+    memory_cpy(v671, ADDRESS(c309), 12u);
+    v146 = v664; goto L127;
+L127:;
+    v687 = (u16)((u32)v393 >> (8u & 15u));
+    v688 = (u8)(v687);
+    v689 = v146 > v670;
+    if (v689) { goto L128; }
+    else { goto L130; }
+L128:;
+    v690 = v688 < 160u;
+    v691 = (u8)((u32)v688 >> (4u & 7u));
+    v692 = (u8)((u32)v691 | (u32)48u);
+    v693 = (u8)((u32)v691 + (u32)87u);
+    v694 = v690 ? v692 : v693;
+    v695 = load_address(v209);
+    v696 = (u64)((u64)v621 + (u64)27u);
+    v697 = v695 + v670 * 1u;
+    store8(v697, v694);
+    v698 = load64(v216);
+    v699 = v698 > v696;
+    if (v699) { goto L129; }
+    else { goto L137; }
+L129:;
+    v700 = (u8)((u32)v688 & (u32)15u);
+    v701 = v700 < 10u;
+    v702 = (u8)((u32)v700 | (u32)48u);
+    v703 = (u8)((u32)v700 + (u32)87u);
+    v704 = v701 ? v702 : v703;
+    v705 = load_address(v209);
+    v706 = (u64)((u64)v621 + (u64)28u);
+    v707 = v705 + v696 * 1u;
+    store8(v707, v704);
+    v708 = (u8)(v393);
+    v709 = load64(v216);
+    v710 = v709 > v706;
+    if (v710) { goto L131; }
+    else { goto L134; }
+L130:;
+    memory_set(v217, 0u, 16u);
+    goto L185;
+L131:;
+    v711 = v708 < 160u;
+    v712 = (u8)((u32)v708 >> (4u & 7u));
+    v713 = (u8)((u32)v712 | (u32)48u);
+    v714 = (u8)((u32)v712 + (u32)87u);
+    v715 = v711 ? v713 : v714;
+    v716 = load_address(v209);
+    v717 = (u64)((u64)v621 + (u64)29u);
+    v718 = v716 + v706 * 1u;
+    store8(v718, v715);
+    v719 = load64(v216);
+    v720 = v719 > v717;
+    if (v720) { goto L132; }
+    else { v147 = 0u; v148 = 0u; goto L133; }
+L132:;
+    v721 = (u8)((u32)v708 & (u32)15u);
+    v722 = v721 < 10u;
+    v723 = (u8)((u32)v721 | (u32)48u);
+    v724 = (u8)((u32)v721 + (u32)87u);
+    v725 = v722 ? v723 : v724;
+    v726 = load_address(v209);
+    v727 = (u64)((u64)v621 + (u64)30u);
+    v728 = v726 + v717 * 1u;
+    store8(v728, v725);
+    v147 = v727; v148 = 1u; goto L133;
+L133:;
+    store64(v217, v148);
+    store64(v218, v147);
+    goto L185;
+L134:;
+    memory_set(v217, 0u, 16u);
+    goto L185;
+L135:;
+    memory_set(v217, 0u, 16u);
+    goto L185;
 L136:;
-    v571 = v568 + 1u * 1u;
-    v572 = load8(v568);
-    v573 = (u64)v572;
-    v574 = (u64)((u64)v573 << (8u & 63u));
-    v575 = load8(v571);
-    v576 = (u64)v575;
-    v577 = (u64)((u64)v574 | (u64)v576);
-    v75 = v577; goto L161;
+    memory_set(v217, 0u, 16u);
+    goto L185;
 L137:;
-    v578 = v319 < 3u;
-    if (v578) { v60 = 0u; v61 = 0u; v62 = ADDRESS(c112); goto L141; }
-    else { goto L138; }
+    memory_set(v217, 0u, 16u);
+    goto L185;
 L138:;
-    v579 = v318 + 2u * 1u;
-    v580 = v318 + 3u * 1u;
-    v581 = (u64)((u64)v319 + (u64)UINT64_C(18446744073709551613));
-    v582 = load8(v579);
-    v583 = (u64)v582;
-    v584 = v581 < v583;
-    v585 = v580 + v583 * 1u;
-    v586 = v581 > v583 ? (u64)((u64)v581 - (u64)v583) : 0u;
-    if (v584) { v60 = 0u; v61 = 0u; v62 = ADDRESS(c112); goto L141; }
-    else { goto L139; }
+    v729 = (address)v395;
+    v730 = v396 == 0u;
+    if (v730) { goto L185; }
+    else { v149 = v105; v150 = 0u; goto L139; }
 L139:;
-    v587 = v586 < 2u;
-    if (v587) { v60 = 0u; v61 = v586; v62 = ADDRESS(c112); goto L141; }
+    v731 = v729 + v150 * 1u;
+    v732 = load8(v731);
+    v733 = (u8)((u32)v732 + (u32)129u);
+    v734 = v733 < 161u;
+    v735 = v732 == 92u;
+    v736 = (u8)(((u32)v735 | (u32)v734) & UINT64_C(1));
+    v737 = v149 == 1u;
+    if (v736) { goto L144; }
     else { goto L140; }
 L140:;
-    v588 = v585 + 1u * 1u;
-    v589 = load8(v585);
-    v590 = (u64)v589;
-    v591 = (u64)((u64)v590 << (8u & 63u));
-    v592 = load8(v588);
-    v593 = (u64)v592;
-    v594 = (u64)((u64)v591 | (u64)v593);
-    v595 = v585 + 2u * 1u;
-    v60 = v594; v61 = v586; v62 = v595; goto L141;
+    if (v737) { goto L141; }
+    else { v155 = v149; goto L155; }
 L141:;
-    v596 = v61 > 2u ? (u64)((u64)v61 - (u64)2u) : 0u;
-    v597 = v596 < v60;
-    v598 = v62 + v60 * 1u;
-    v599 = v596 > v60 ? (u64)((u64)v596 - (u64)v60) : 0u;
-    v600 = v597 ? ADDRESS(c112) : v598;
-    v601 = v597 ? 0u : v599;
-    v602 = v601 < 2u;
-    v603 = v600 + 2u * 1u;
-    v604 = v601 > 2u ? (u64)((u64)v601 - (u64)2u) : 0u;
-    v605 = v602 ? ADDRESS(c112) : v603;
-    v606 = v602 ? 0u : v604;
-    v607 = v606 < 2u;
-    if (v607) { v63 = 0u; goto L143; }
-    else { goto L142; }
+    v738 = load64(v218);
+    v739 = load64(v216);
+    v740 = v739 > v738;
+    if (v740) { goto L142; }
+    else { v151 = 0u; v152 = 0u; goto L143; }
 L142:;
-    v608 = v605 + 1u * 1u;
-    v609 = load8(v605);
-    v610 = (u64)v609;
-    v611 = (u64)((u64)v610 << (8u & 63u));
-    v612 = load8(v608);
-    v613 = (u64)v612;
-    v614 = (u64)((u64)v611 | (u64)v613);
-    v63 = v614; goto L143;
+    v741 = load_address(v209);
+    v742 = (u64)((u64)v738 + (u64)1u);
+    v743 = v741 + v738 * 1u;
+    store8(v743, v732);
+    v151 = v742; v152 = 1u; goto L143;
 L143:;
-    v615 = v605 + 2u * 1u;
-    v616 = v607 ? ADDRESS(c112) : v615;
-    v617 = v606 > 2u ? (u64)((u64)v606 - (u64)2u) : 0u;
-    v618 = v617 < v63;
-    v619 = v616 + v63 * 1u;
-    v620 = v617 > v63 ? (u64)((u64)v617 - (u64)v63) : 0u;
-    v621 = v618 ? ADDRESS(c112) : v619;
-    v622 = v618 ? 0u : v620;
-    v623 = v622 < 4u;
-    v624 = v621 + 4u * 1u;
-    v625 = v622 > 4u ? (u64)((u64)v622 - (u64)4u) : 0u;
-    v626 = v623 ? ADDRESS(c112) : v624;
-    v627 = v623 ? 0u : v625;
-    v628 = (struct s5){ 0 };
-    v628.m0 = v626;
-    v629 = v628;
-    v629.m1 = v627;
-    v78 = v629; goto L163;
+    store64(v217, v152);
+    store64(v218, v151);
+    v744 = (u8)(v152);
+    v155 = v744; goto L155;
 L144:;
-    v630 = v319 < 3u;
-    if (v630) { v64 = 0u; v65 = 0u; v66 = ADDRESS(c112); goto L148; }
-    else { goto L145; }
+    if (v737) { goto L145; }
+    else { v155 = v149; goto L155; }
 L145:;
-    v631 = v318 + 2u * 1u;
-    v632 = v318 + 3u * 1u;
-    v633 = (u64)((u64)v319 + (u64)UINT64_C(18446744073709551613));
-    v634 = load8(v631);
-    v635 = (u64)v634;
-    v636 = v633 < v635;
-    v637 = v632 + v635 * 1u;
-    v638 = v633 > v635 ? (u64)((u64)v633 - (u64)v635) : 0u;
-    if (v636) { v64 = 0u; v65 = 0u; v66 = ADDRESS(c112); goto L148; }
+    v745 = load64(v218);
+    v746 = load64(v216);
+    v747 = v746 < v745;
+    v748 = (u64)((u64)v746 - (u64)v745);
+    v749 = v748 < 2u;
+    v750 = v747 ? 1u : v749;
+    if (v750) { goto L154; }
     else { goto L146; }
 L146:;
-    v639 = v638 < 2u;
-    if (v639) { v64 = 0u; v65 = v638; v66 = ADDRESS(c112); goto L148; }
-    else { goto L147; }
+    v751 = load_address(v209);
+    v752 = (u64)((u64)v745 + (u64)2u);
+    v753 = v751 + v745 * 1u;
+    v754 = (u64)v753;
+    v755 = (u64)((u64)v754 - (u64)ADDRESS(c310));
+    v756 = v755 < 2u;
+    if (v756) { goto L147; }
+    else { goto L148; }
 L147:;
-    v640 = v637 + 1u * 1u;
-    v641 = load8(v637);
-    v642 = (u64)v641;
-    v643 = (u64)((u64)v642 << (8u & 63u));
-    v644 = load8(v640);
-    v645 = (u64)v644;
-    v646 = (u64)((u64)v643 | (u64)v645);
-    v647 = v637 + 2u * 1u;
-    v64 = v646; v65 = v638; v66 = v647; goto L148;
+    store8(v753, 92u);
+    v757 = v753 + 1u * 1u;
+    store8(v757, 120u);
+    goto L149;
 L148:;
-    v648 = v65 > 2u ? (u64)((u64)v65 - (u64)2u) : 0u;
-    v649 = v648 < v64;
-    v650 = v66 + v64 * 1u;
-    v651 = v648 > v64 ? (u64)((u64)v648 - (u64)v64) : 0u;
-    v652 = v649 ? ADDRESS(c112) : v650;
-    v653 = v649 ? 0u : v651;
-    v654 = v653 < 2u;
-    v655 = v652 + 2u * 1u;
-    v656 = v653 > 2u ? (u64)((u64)v653 - (u64)2u) : 0u;
-    v657 = v654 ? ADDRESS(c112) : v655;
-    v658 = v654 ? 0u : v656;
-    v659 = v658 < 2u;
-    if (v659) { v67 = 0u; goto L150; }
-    else { goto L149; }
+    store16(v753, 30812u);
+    goto L149;
 L149:;
-    v660 = v657 + 1u * 1u;
-    v661 = load8(v657);
-    v662 = (u64)v661;
-    v663 = (u64)((u64)v662 << (8u & 63u));
-    v664 = load8(v660);
-    v665 = (u64)v664;
-    v666 = (u64)((u64)v663 | (u64)v665);
-    v67 = v666; goto L150;
+    v758 = load64(v216);
+    v759 = v758 > v752;
+    if (v759) { goto L150; }
+    else { goto L153; }
 L150:;
-    v667 = v657 + 2u * 1u;
-    v668 = v659 ? ADDRESS(c112) : v667;
-    v669 = v658 > 2u ? (u64)((u64)v658 - (u64)2u) : 0u;
-    v670 = v669 < v67;
-    v671 = v668 + v67 * 1u;
-    v672 = v669 > v67 ? (u64)((u64)v669 - (u64)v67) : 0u;
-    v673 = v670 ? ADDRESS(c112) : v671;
-    v674 = v670 ? 0u : v672;
-    v675 = v674 < 4u;
-    v676 = v673 + 4u * 1u;
-    v677 = v675 ? ADDRESS(c112) : v676;
-    v678 = v674 < 5u;
-    if (v678) { v68 = v677; v69 = 0u; goto L152; }
-    else { goto L151; }
+    v760 = v732 < 160u;
+    v761 = (u8)((u32)v732 >> (4u & 7u));
+    v762 = (u8)((u32)v761 | (u32)48u);
+    v763 = (u8)((u32)v761 + (u32)87u);
+    v764 = v760 ? v762 : v763;
+    v765 = load_address(v209);
+    v766 = (u64)((u64)v745 + (u64)3u);
+    v767 = v765 + v752 * 1u;
+    store8(v767, v764);
+    v768 = load64(v216);
+    v769 = v768 > v766;
+    if (v769) { goto L151; }
+    else { v153 = 0u; v154 = 0u; goto L152; }
 L151:;
-    v679 = v673 + 5u * 1u;
-    v680 = (u64)((u64)v674 + (u64)UINT64_C(18446744073709551611));
-    v681 = load8(v676);
-    v682 = (u64)v681;
-    v683 = v680 < v682;
-    v684 = v679 + v682 * 1u;
-    v685 = v680 > v682 ? (u64)((u64)v680 - (u64)v682) : 0u;
-    v686 = v683 ? ADDRESS(c112) : v684;
-    v687 = v683 ? 0u : v685;
-    v68 = v686; v69 = v687; goto L152;
+    v770 = (u8)((u32)v732 & (u32)15u);
+    v771 = v770 < 10u;
+    v772 = (u8)((u32)v770 | (u32)48u);
+    v773 = (u8)((u32)v770 + (u32)87u);
+    v774 = v771 ? v772 : v773;
+    v775 = load_address(v209);
+    v776 = (u64)((u64)v745 + (u64)4u);
+    v777 = v775 + v766 * 1u;
+    store8(v777, v774);
+    v153 = v776; v154 = 1u; goto L152;
 L152:;
-    v688 = (struct s5){ 0 };
-    v688.m0 = v68;
-    v689 = v688;
-    v689.m1 = v69;
-    v78 = v689; goto L163;
+    store64(v217, v154);
+    store64(v218, v153);
+    v778 = (u8)(v154);
+    v155 = v778; goto L155;
 L153:;
-    v690 = f46(v318, v319);
-    v78 = v690; goto L163;
+    memory_set(v217, 0u, 16u);
+    v155 = 0u; goto L155;
 L154:;
-    v691 = f46(v318, v319);
-    v692 = v691.m0;
-    v693 = v691.m1;
-    v694 = v693 == 0u;
-    if (v694) { v76 = v692; v77 = 0u; goto L162; }
-    else { goto L155; }
+    memory_set(v217, 0u, 16u);
+    v155 = 0u; goto L155;
 L155:;
-    v695 = v692 + 1u * 1u;
-    v696 = (u64)((u64)v693 + (u64)UINT64_C(18446744073709551615));
-    v697 = load8(v692);
-    v698 = (u64)v697;
-    v699 = v696 < v698;
-    v700 = v695 + v698 * 1u;
-    v701 = v696 > v698 ? (u64)((u64)v696 - (u64)v698) : 0u;
-    v702 = v699 ? ADDRESS(c112) : v700;
-    v703 = v701 < 6u ? v701 : 6u;
-    v704 = v699 ? 0u : v703;
-    v76 = v702; v77 = v704; goto L162;
+    v779 = (u64)((u64)v150 + (u64)1u);
+    v780 = v779 == v396;
+    if (v780) { goto L185; }
+    else { v149 = v155; v150 = v779; goto L139; }
 L156:;
-    UNREACHABLE;
+    v781 = (address)v395;
+    v782 = v396 == 0u;
+    if (v782) { goto L157; }
+    else { v158 = v106; v159 = 0u; goto L161; }
 L157:;
-    v705 = v71 < 2u;
-    if (v705) { v81 = 9u; v82 = ADDRESS(c112); v83 = 0u; goto L166; }
-    else { goto L158; }
+    v783 = v106 == 1u;
+    if (v783) { goto L158; }
+    else { goto L185; }
 L158:;
-    v706 = v70 + 1u * 1u;
-    v707 = load8(v70);
-    v708 = (u64)v707;
-    v709 = (u64)((u64)v708 << (8u & 63u));
-    v710 = load8(v706);
-    v711 = (u64)v710;
-    v712 = (u64)((u64)v709 | (u64)v711);
-    v713 = v70 + 2u * 1u;
-    v714 = (u64)((u64)v71 + (u64)UINT64_C(18446744073709551614));
-    v715 = v714 < v712 ? v714 : v712;
-    v716 = (u64)v713;
-    v81 = 9u; v82 = v716; v83 = v715; goto L166;
+    v784 = load64(v218);
+    v785 = load64(v216);
+    v786 = v785 > v784;
+    if (v786) { goto L159; }
+    else { v156 = 0u; v157 = 0u; goto L160; }
 L159:;
-    v717 = v73 > 2u ? (u64)((u64)v73 - (u64)2u) : 0u;
-    v718 = v717 < v72;
-    v719 = v717 > v72 ? (u64)((u64)v717 - (u64)v72) : 0u;
-    v720 = v719 < 2u;
-    v721 = (u8)(((u32)v718 | (u32)v720) & UINT64_C(1));
-    if (v721) { v81 = 0u; v82 = 0u; v83 = 0u; goto L166; }
-    else { goto L160; }
+    v787 = load_address(v209);
+    v788 = (u64)((u64)v784 + (u64)1u);
+    v789 = v787 + v784 * 1u;
+    store8(v789, 45u);
+    v156 = v788; v157 = 1u; goto L160;
 L160:;
-    v722 = v74 + v72 * 1u;
-    v723 = v722 + 1u * 1u;
-    v724 = load8(v722);
-    v725 = (u64)v724;
-    v726 = (u64)((u64)v725 << (8u & 63u));
-    v727 = load8(v723);
-    v728 = (u64)v727;
-    v729 = (u64)((u64)v726 | (u64)v728);
-    v81 = 0u; v82 = v729; v83 = 0u; goto L166;
+    store64(v217, v157);
+    store64(v218, v156);
+    goto L185;
 L161:;
-    v730 = v568 + 2u * 1u;
-    v731 = v570 ? ADDRESS(c112) : v730;
-    v732 = v569 > 2u ? (u64)((u64)v569 - (u64)2u) : 0u;
-    v733 = v732 < v75;
-    v734 = v731 + v75 * 1u;
-    v735 = v732 > v75 ? (u64)((u64)v732 - (u64)v75) : 0u;
-    v736 = v735 < 3u ? v735 : 3u;
-    v737 = v733 ? 0u : v736;
-    v738 = (u64)v734;
-    v739 = v733 ? ADDRESS(c112) : v738;
-    v81 = 9u; v82 = v739; v83 = v737; goto L166;
+    v790 = v781 + v159 * 1u;
+    v791 = load8(v790);
+    v792 = (u8)((u32)v791 >> (4u & 7u));
+    v793 = v791 < 160u;
+    v794 = (u8)((u32)v792 | (u32)48u);
+    v795 = (u8)((u32)v792 + (u32)87u);
+    v796 = v793 ? v794 : v795;
+    v797 = v158 == 1u;
+    if (v797) { goto L162; }
+    else { v162 = v158; goto L167; }
 L162:;
-    v740 = (u64)v76;
-    v81 = 9u; v82 = v740; v83 = v77; goto L166;
+    v798 = load64(v218);
+    v799 = load64(v216);
+    v800 = v799 > v798;
+    if (v800) { goto L163; }
+    else { goto L166; }
 L163:;
-    v741 = v78.m0;
-    v742 = v78.m1;
-    v743 = v742 == 0u;
-    if (v743) { v79 = v741; v80 = 0u; goto L165; }
-    else { goto L164; }
+    v801 = load_address(v209);
+    v802 = (u64)((u64)v798 + (u64)1u);
+    v803 = v801 + v798 * 1u;
+    store8(v803, v796);
+    v804 = load64(v216);
+    v805 = v804 > v802;
+    if (v805) { goto L164; }
+    else { v160 = 0u; v161 = 0u; goto L165; }
 L164:;
-    v744 = v741 + 1u * 1u;
-    v745 = (u64)((u64)v742 + (u64)UINT64_C(18446744073709551615));
-    v746 = load8(v741);
-    v747 = (u64)v746;
-    v748 = v745 < v747 ? v745 : v747;
-    v79 = v744; v80 = v748; goto L165;
+    v806 = (u8)((u32)v791 & (u32)15u);
+    v807 = v806 < 10u;
+    v808 = (u8)((u32)v806 | (u32)48u);
+    v809 = (u8)((u32)v806 + (u32)87u);
+    v810 = v807 ? v808 : v809;
+    v811 = load_address(v209);
+    v812 = (u64)((u64)v798 + (u64)2u);
+    v813 = v811 + v802 * 1u;
+    store8(v813, v810);
+    v160 = v812; v161 = 1u; goto L165;
 L165:;
-    v749 = (u64)v79;
-    v81 = 8u; v82 = v749; v83 = v80; goto L166;
+    store64(v217, v161);
+    store64(v218, v160);
+    v814 = (u8)(v161);
+    v162 = v814; goto L167;
 L166:;
-    v750 = (u8)(v82);
-    v751 = (u64)((u64)v82 >> (8u & 63u));
-    v752 = (u64)((u64)v82 >> (16u & 63u));
-    v753 = (u64)((u64)v82 & (u64)UINT64_C(18446744069414584320));
-    v84 = v81; v85 = 0u; v86 = 0u; v87 = 0u; v88 = v750; v89 = v751; v90 = v752; v91 = v753; v92 = v83; goto L169;
+    memory_set(v217, 0u, 16u);
+    v162 = 0u; goto L167;
 L167:;
-    v754 = (u64)v316;
-    store64(v181, 0u);
-    v755 = (u64)((u64)8u - (u64)v754);
-    v756 = v181 + v755 * 1u;
-    memory_cpy(v756, v318, v754);
-    v757 = load64(v181);
-    v758 = swap64(v757);
-    v759 = (u8)(v758);
-    v760 = (u64)((u64)v758 >> (8u & 63u));
-    v761 = (u64)((u64)v758 >> (16u & 63u));
-    v762 = (u64)((u64)v758 & (u64)UINT64_C(18446744069414584320));
-    v84 = 0u; v85 = 0u; v86 = 0u; v87 = 0u; v88 = v759; v89 = v760; v90 = v761; v91 = v762; v92 = 0u; goto L169;
+    v815 = (u64)((u64)v159 + (u64)1u);
+    v816 = v815 == v396;
+    if (v816) { goto L185; }
+    else { v158 = v162; v159 = v815; goto L161; }
 L168:;
-    UNREACHABLE;
+    v817 = v396 < 8u;
+    if (v817) { goto L185; }
+    else { goto L169; }
 L169:;
-    v763 = (u64)v87;
-    v764 = (u64)(((u64)v763 << (8u & 63u)) & UINT64_C(281474976710655));
-    v765 = (u64)v764;
-    v766 = (u64)((u64)v89 << (8u & 63u));
-    v767 = (u64)((u64)v766 & (u64)65280u);
-    v768 = (u64)v88;
-    v769 = (u64)((u64)v90 << (16u & 63u));
-    v770 = (u64)((u64)v769 & (u64)UINT64_C(4294901760));
-    v771 = (u64)((u64)v767 | (u64)v768);
-    v772 = (u64)((u64)v771 | (u64)v770);
-    v773 = (u64)((u64)v772 | (u64)v91);
-    v774 = (u64)(((u64)v765 >> (8u & 63u)) & UINT64_C(72057594037927935));
-    v775 = (u8)(v774);
-    v776 = (u64)(((u64)v765 >> (16u & 63u)) & UINT64_C(72057594037927935));
-    v777 = (u16)(v776);
-    v778 = (u64)(((u64)v765 >> (32u & 63u)) & UINT64_C(72057594037927935));
-    v779 = (u16)(v778);
-    store64(v179, 0u);
-    memory_set(v180, 0u, 10u);
-    switch (v84) {
-    case 0u: goto L170;
-    case 1u: goto L171;
-    case 2u: goto L187;
-    case 3u: goto L193;
-    case 4u: goto L203;
-    case 5u: goto L211;
-    case 6u: goto L225;
-    case 7u: goto L259;
-    case 8u: goto L289;
-    case 9u: goto L307;
-    case 10u: goto L319;
-    default: goto L35;
-    }
+    v818 = (address)v395;
+    v163 = v107; v164 = v396; v165 = v818; goto L170;
 L170:;
-    f47(v773, v185);
-    goto L335;
+    v166 = v163; v167 = v163; v168 = 0u; goto L171;
 L171:;
-    memory_set(v178, 0u, 40u);
-    v780 = (i64)v773 < 0 ? (u64)(0u - (u64)v773) : v773;
-    v781 = v780 > 9999u;
-    if (v781) { v93 = v780; v94 = 40u; goto L172; }
-    else { v95 = 40u; v96 = v780; goto L173; }
-L172:;
-    v782 = v93;
-    v783 = (u64)((u64)v782 / (u64)10000u);
-    v784 = (u64)((u64)v783 * (u64)10000u);
-    v785 = (u64)((u64)v782 - (u64)v784);
-    v786 = (u16)(v785);
-    v787 = (u16)((u32)v786 / (u32)100u);
-    v788 = (u16)((u32)v787 * (u32)100u);
-    v789 = (u16)((u32)v786 - (u32)v788);
-    v790 = (u16)((u32)v789 << (1u & 15u));
-    v791 = (u64)v790;
-    v792 = ADDRESS(c294) + v791 * 1u;
-    v793 = load8(v792);
-    v794 = v792 + 1u * 1u;
-    v795 = load8(v794);
-    v796 = v178 + v94 * 1u;
-    v797 = v796 + UINT64_C(18446744073709551614) * 1u;
-    store8(v797, v793);
-    v798 = v796 + UINT64_C(18446744073709551615) * 1u;
-    store8(v798, v795);
-    v799 = (u64)((u64)v94 + (u64)UINT64_C(18446744073709551612));
-    v800 = (u16)((u32)v787 << (1u & 15u));
-    v801 = (u64)v800;
-    v802 = ADDRESS(c294) + v801 * 1u;
-    v803 = load8(v802);
-    v804 = v802 + 1u * 1u;
-    v805 = load8(v804);
-    v806 = v178 + v799 * 1u;
-    store8(v806, v803);
-    v807 = v806 + 1u * 1u;
-    store8(v807, v805);
-    v808 = v93 > UINT64_C(99999999);
-    if (v808) { v93 = v783; v94 = v799; goto L172; }
-    else { v95 = v799; v96 = v783; goto L173; }
-L173:;
-    v809 = v96 < 100u;
-    if (v809) { goto L174; }
-    else { goto L177; }
-L174:;
-    v810 = v96 < 10u;
-    if (v810) { goto L175; }
-    else { goto L176; }
-L175:;
-    v811 = (u8)(v96);
-    v812 = (u8)((u32)v811 | (u32)48u);
-    v813 = (u64)((u64)v95 + (u64)UINT64_C(18446744073709551615));
-    v814 = v178 + v813 * 1u;
-    store8(v814, v812);
-    v97 = v813; goto L180;
-L176:;
-    v815 = (u64)((u64)v95 + (u64)UINT64_C(18446744073709551614));
-    v816 = (u64)((u64)v96 << (1u & 63u));
-    v817 = ADDRESS(c294) + v816 * 1u;
-    v818 = load8(v817);
-    v819 = v817 + 1u * 1u;
+    v819 = v165 + v168 * 1u;
     v820 = load8(v819);
-    v821 = v178 + v815 * 1u;
-    store8(v821, v818);
-    v822 = v821 + 1u * 1u;
-    store8(v822, v820);
-    v97 = v815; goto L180;
+    v821 = (u8)((u32)v820 >> (4u & 7u));
+    v822 = v820 < 160u;
+    v823 = (u8)((u32)v821 | (u32)48u);
+    v824 = (u8)((u32)v821 + (u32)87u);
+    v825 = v822 ? v823 : v824;
+    v826 = v167 == 1u;
+    if (v826) { goto L172; }
+    else { v171 = v166; v172 = v167; goto L177; }
+L172:;
+    v827 = load64(v218);
+    v828 = load64(v216);
+    v829 = v828 > v827;
+    if (v829) { goto L173; }
+    else { goto L176; }
+L173:;
+    v830 = load_address(v209);
+    v831 = (u64)((u64)v827 + (u64)1u);
+    v832 = v830 + v827 * 1u;
+    store8(v832, v825);
+    v833 = load64(v216);
+    v834 = v833 > v831;
+    if (v834) { goto L174; }
+    else { v169 = 0u; v170 = 0u; goto L175; }
+L174:;
+    v835 = (u8)((u32)v820 & (u32)15u);
+    v836 = v835 < 10u;
+    v837 = (u8)((u32)v835 | (u32)48u);
+    v838 = (u8)((u32)v835 + (u32)87u);
+    v839 = v836 ? v837 : v838;
+    v840 = load_address(v209);
+    v841 = (u64)((u64)v827 + (u64)2u);
+    v842 = v840 + v831 * 1u;
+    store8(v842, v839);
+    v169 = v841; v170 = 1u; goto L175;
+L175:;
+    store64(v217, v170);
+    store64(v218, v169);
+    v843 = (u8)(v170);
+    v171 = v843; v172 = v843; goto L177;
+L176:;
+    memory_set(v217, 0u, 16u);
+    v171 = 0u; v172 = 0u; goto L177;
 L177:;
-    v823 = (u16)(v96);
-    v824 = (u16)((u32)v823 / (u32)100u);
-    v825 = (u16)((u32)v824 * (u32)100u);
-    v826 = (u16)((u32)v823 - (u32)v825);
-    v827 = (u16)((u32)v826 << (1u & 15u));
-    v828 = (u64)v827;
-    v829 = ADDRESS(c294) + v828 * 1u;
-    v830 = load8(v829);
-    v831 = v829 + 1u * 1u;
-    v832 = load8(v831);
-    v833 = v178 + v95 * 1u;
-    v834 = v833 + UINT64_C(18446744073709551614) * 1u;
-    store8(v834, v830);
-    v835 = v833 + UINT64_C(18446744073709551615) * 1u;
-    store8(v835, v832);
-    v836 = v96 < 1000u;
-    if (v836) { goto L178; }
-    else { goto L179; }
+    v844 = (u64)((u64)v168 + (u64)1u);
+    v845 = v844 == 8u;
+    if (v845) { goto L178; }
+    else { v166 = v171; v167 = v172; v168 = v844; goto L171; }
 L178:;
-    v837 = (u8)(v824);
-    v838 = (u8)((u32)v837 | (u32)48u);
-    v839 = (u64)((u64)v95 + (u64)UINT64_C(18446744073709551613));
-    v840 = v178 + v839 * 1u;
-    store8(v840, v838);
-    v97 = v839; goto L180;
+    v846 = v165 + 8u * 1u;
+    v847 = (u64)((u64)v164 + (u64)UINT64_C(18446744073709551608));
+    v848 = v847 > 7u;
+    if (v848) { goto L179; }
+    else { goto L185; }
 L179:;
-    v841 = (u64)((u64)v95 + (u64)UINT64_C(18446744073709551612));
-    v842 = (u16)((u32)v824 << (1u & 15u));
-    v843 = (u64)v842;
-    v844 = ADDRESS(c294) + v843 * 1u;
-    v845 = load8(v844);
-    v846 = v844 + 1u * 1u;
-    v847 = load8(v846);
-    v848 = v178 + v841 * 1u;
-    store8(v848, v845);
-    v849 = v848 + 1u * 1u;
-    store8(v849, v847);
-    v97 = v841; goto L180;
+    v849 = v171 == 1u;
+    if (v849) { goto L180; }
+    else { v175 = v171; goto L183; }
 L180:;
-    v850 = (i64)v91 > (i64)UINT64_C(18446744073709551615);
-    if (v850) { v98 = v97; goto L182; }
-    else { goto L181; }
+    v850 = load64(v218);
+    v851 = load64(v216);
+    v852 = v851 > v850;
+    if (v852) { goto L181; }
+    else { v173 = 0u; v174 = 0u; goto L182; }
 L181:;
-    v851 = (u64)((u64)v97 + (u64)UINT64_C(18446744073709551615));
-    v852 = v178 + v851 * 1u;
-    store8(v852, 45u);
-    v98 = v851; goto L182;
+    v853 = load_address(v209);
+    v854 = (u64)((u64)v850 + (u64)1u);
+    v855 = v853 + v850 * 1u;
+    store8(v855, 32u);
+    v173 = v854; v174 = 1u; goto L182;
 L182:;
-    v853 = v178 + v98 * 1u;
-    v854 = (u64)((u64)40u - (u64)v98);
-    v855 = v36 == 1u;
-    if (v855) { goto L183; }
-    else { goto L186; }
+    store64(v217, v174);
+    store64(v218, v173);
+    v856 = (u8)(v174);
+    v175 = v856; goto L183;
 L183:;
-    v856 = load64(v194);
-    v857 = load64(v192);
-    v858 = v857 < v856;
-    v859 = (u64)((u64)v857 - (u64)v856);
-    v860 = v859 < v854;
-    v861 = v858 ? 1u : v860;
-    if (v861) { v99 = 0u; v100 = 0u; goto L185; }
-    else { goto L184; }
+    v163 = v175; v164 = v847; v165 = v846; goto L170;
 L184:;
-    v862 = load_address(v185);
-    v863 = (u64)((u64)v856 + (u64)v854);
-    v864 = v862 + v856 * 1u;
-    memory_cpy(v864, v853, v854);
-    v99 = v863; v100 = 1u; goto L185;
-L185:;
-    store64(v193, v100);
-    store64(v194, v99);
-    goto L186;
-L186:;
-    goto L335;
-L187:;
-    v865 = (u8)((v85) & UINT64_C(1));
-    v866 = v865 ? 4u : 5u;
-    v867 = v865 ? ADDRESS(c167) : ADDRESS(c168);
-    v868 = v36 == 1u;
-    if (v868) { goto L188; }
-    else { goto L335; }
-L188:;
-    v869 = load64(v194);
-    v870 = load64(v192);
-    v871 = v870 < v869;
-    v872 = (u64)((u64)v870 - (u64)v869);
-    v873 = v872 < v866;
-    v874 = v871 ? 1u : v873;
-    if (v874) { v102 = 0u; v103 = 0u; goto L192; }
-    else { goto L189; }
-L189:;
-    v875 = load_address(v185);
-    v876 = (u64)((u64)v869 + (u64)v866);
-    v877 = v875 + v869 * 1u;
-    v878 = (u64)v877;
-    v879 = (u64)v867;
-    v880 = (u64)((u64)v878 - (u64)v879);
-    v881 = v880 < v866;
-    if (v881) { v101 = 0u; goto L191; }
-    else { goto L190; }
-L190:;
-    memory_cpy(v877, v867, v866);
-    v102 = v876; v103 = 1u; goto L192;
-L191:;
-    v882 = v877 + v101 * 1u;
-    v883 = v867 + v101 * 1u;
-    v884 = load8(v883);
-    store8(v882, v884);
-    v885 = (u64)((u64)v101 + (u64)1u);
-    v886 = v885 == v866;
-    if (v886) { v102 = v876; v103 = 1u; goto L192; }
-    else { v101 = v885; goto L191; }
-L192:;
-    store64(v193, v103);
-    store64(v194, v102);
-    goto L335;
-L193:;
-    v887 = (i64)v773 < 0 ? (u64)(0u - (u64)v773) : v773;
-    v888 = (i64)v91 < (i64)0u;
-    v889 = v36 == 1u;
-    v890 = v888 ? v889 : 0u;
-    if (v890) { goto L194; }
-    else { goto L197; }
-L194:;
-    v891 = load64(v194);
-    v892 = load64(v192);
-    v893 = v892 > v891;
-    if (v893) { goto L195; }
-    else { v104 = 0u; v105 = 0u; goto L196; }
-L195:;
-    v894 = load_address(v185);
-    v895 = (u64)((u64)v891 + (u64)1u);
-    v896 = v894 + v891 * 1u;
-    store8(v896, 45u);
-    v104 = v895; v105 = 1u; goto L196;
-L196:;
-    store64(v193, v105);
-    store64(v194, v104);
-    goto L197;
-L197:;
-    v897 = (u64)((u64)v887 >> (16u & 63u));
-    f47(v897, v185);
-    v898 = load8(v193);
-    v899 = v898 == 1u;
-    if (v899) { goto L198; }
-    else { goto L201; }
-L198:;
-    v900 = load64(v194);
-    v901 = load64(v192);
-    v902 = v901 > v900;
-    if (v902) { goto L199; }
-    else { v106 = 0u; v107 = 0u; goto L200; }
-L199:;
-    v903 = load_address(v185);
-    v904 = (u64)((u64)v900 + (u64)1u);
-    v905 = v903 + v900 * 1u;
-    store8(v905, 46u);
-    v106 = v904; v107 = 1u; goto L200;
-L200:;
-    store64(v193, v107);
-    store64(v194, v106);
-    goto L201;
-L201:;
-    v906 = (u32)(v887);
-    v907 = (u32)((u32)v906 & (u32)65535u);
-    v108 = v907; v109 = 16u; goto L202;
-L202:;
-    v908 = (u32)((u32)v108 * (u32)10u);
-    v909 = (u32)((u32)v908 >> (16u & 31u));
-    v910 = (u64)v909;
-    f47(v910, v185);
-    v911 = (u32)((u32)v908 & (u32)65534u);
-    v912 = v911 == 0u;
-    v913 = (u8)((u32)v109 + (u32)255u);
-    v914 = v913 == 0u;
-    v915 = v912 ? 1u : v914;
-    if (v915) { goto L335; }
-    else { v108 = v911; v109 = v913; goto L202; }
-L203:;
-    store8(v179, v85);
-    store8(v246, v86);
-    store8(v247, v775);
-    store16(v248, v777);
-    store16(v249, v779);
-    store8(v250, v88);
-    v110 = v36; v111 = 0u; goto L204;
-L204:;
-    v916 = v179 + v111 * 1u;
-    v917 = load8(v916);
-    v918 = (u8)((u32)v917 >> (4u & 7u));
-    v919 = v917 < 160u;
-    v920 = (u8)((u32)v918 | (u32)48u);
-    v921 = (u8)((u32)v918 + (u32)87u);
-    v922 = v919 ? v920 : v921;
-    v923 = v110 == 1u;
-    if (v923) { goto L205; }
-    else { v114 = v110; goto L210; }
-L205:;
-    v924 = load64(v194);
-    v925 = load64(v192);
-    v926 = v925 > v924;
-    if (v926) { goto L206; }
-    else { goto L209; }
-L206:;
-    v927 = load_address(v185);
-    v928 = (u64)((u64)v924 + (u64)1u);
-    v929 = v927 + v924 * 1u;
-    store8(v929, v922);
-    v930 = load64(v192);
-    v931 = v930 > v928;
-    if (v931) { goto L207; }
-    else { v112 = 0u; v113 = 0u; goto L208; }
-L207:;
-    v932 = (u8)((u32)v917 & (u32)15u);
-    v933 = v932 < 10u;
-    v934 = (u8)((u32)v932 | (u32)48u);
-    v935 = (u8)((u32)v932 + (u32)87u);
-    v936 = v933 ? v934 : v935;
-    v937 = load_address(v185);
-    v938 = (u64)((u64)v924 + (u64)2u);
-    v939 = v937 + v928 * 1u;
-    store8(v939, v936);
-    v112 = v938; v113 = 1u; goto L208;
-L208:;
-    store64(v193, v113);
-    store64(v194, v112);
-    v940 = (u8)(v113);
-    v114 = v940; goto L210;
-L209:;
-    memory_set(v193, 0u, 16u);
-    v114 = 0u; goto L210;
-L210:;
-    v941 = (u64)((u64)v111 + (u64)1u);
-    v942 = v941 == 8u;
-    if (v942) { goto L335; }
-    else { v110 = v114; v111 = v941; goto L204; }
-L211:;
-    store8(v242, v775);
-    store16(v243, v777);
-    store16(v244, v779);
-    v943 = (u32)(v772);
-    store32(v245, v943);
-    v115 = v86; v116 = v36; v117 = v36; v118 = 0u; goto L212;
-L212:;
-    v944 = (u8)((u32)v115 >> (4u & 7u));
-    v945 = v115 < 160u;
-    v946 = (u8)((u32)v944 | (u32)48u);
-    v947 = (u8)((u32)v944 + (u32)87u);
-    v948 = v945 ? v946 : v947;
-    v949 = v117 == 1u;
-    if (v949) { goto L213; }
-    else { v121 = v116; v122 = v117; goto L217; }
-L213:;
-    v950 = load64(v194);
-    v951 = load64(v192);
-    v952 = v951 > v950;
-    if (v952) { goto L214; }
-    else { goto L219; }
-L214:;
-    v953 = load_address(v185);
-    v954 = (u64)((u64)v950 + (u64)1u);
-    v955 = v953 + v950 * 1u;
-    store8(v955, v948);
-    v956 = load64(v192);
-    v957 = v956 > v954;
-    if (v957) { goto L215; }
-    else { v119 = 0u; v120 = 0u; goto L216; }
-L215:;
-    v958 = (u8)((u32)v115 & (u32)15u);
-    v959 = v958 < 10u;
-    v960 = (u8)((u32)v958 | (u32)48u);
-    v961 = (u8)((u32)v958 + (u32)87u);
-    v962 = v959 ? v960 : v961;
-    v963 = load_address(v185);
-    v964 = (u64)((u64)v950 + (u64)2u);
-    v965 = v963 + v954 * 1u;
-    store8(v965, v962);
-    v119 = v964; v120 = 1u; goto L216;
-L216:;
-    store64(v193, v120);
-    store64(v194, v119);
-    v966 = (u8)(v120);
-    v121 = v966; v122 = v966; goto L217;
-L217:;
-    v967 = (u64)((u64)v118 + (u64)1u);
-    v968 = v967 == 8u;
-    if (v968) { goto L220; }
-    else { v123 = v121; v124 = v122; v125 = v967; goto L218; }
-L218:;
-    v969 = v180 + v125 * 1u;
-    v970 = load8(v969);
-    v115 = v970; v116 = v123; v117 = v124; v118 = v125; goto L212;
-L219:;
-    memory_set(v193, 0u, 16u);
-    v971 = (u64)((u64)v118 + (u64)1u);
-    v972 = v971 == 8u;
-    if (v972) { goto L224; }
-    else { v123 = 0u; v124 = 0u; v125 = v971; goto L218; }
-L220:;
-    v973 = v121 == 1u;
-    if (v973) { goto L221; }
-    else { goto L224; }
-L221:;
-    v974 = load64(v194);
-    v975 = load64(v192);
-    v976 = v975 > v974;
-    if (v976) { goto L222; }
-    else { v126 = 0u; v127 = 0u; goto L223; }
-L222:;
-    v977 = load_address(v185);
-    v978 = (u64)((u64)v974 + (u64)1u);
-    v979 = v977 + v974 * 1u;
-    store8(v979, 47u);
-    v126 = v978; v127 = 1u; goto L223;
-L223:;
-    store64(v193, v127);
-    store64(v194, v126);
-    goto L224;
-L224:;
-    v980 = (u64)((u64)v90 & (u64)65535u);
-    f47(v980, v185);
-    goto L335;
-L225:;
-    switch (v85) {
-    case 0u: goto L226;
-    case 1u: goto L228;
-    case 2u: goto L229;
-    case 3u: goto L238;
-    default: goto L239;
-    }
-L226:;
-    v981 = (u8)((u32)v86 + (u32)255u);
-    v982 = v981 < 9u;
-    if (v982) { goto L227; }
-    else { goto L248; }
-L227:;
-    v983 = (u8)((u32)v86 + (u32)255u);
-    v984 = (u64)v983;
-    v985 = ADDRESS(c323) + v984 * 8u;
-    v986 = load_address(v985);
-    v987 = (u64)v983;
-    v988 = ADDRESS(c324) + v987 * 8u;
-    v989 = load64(v988);
-    v128 = v986; v129 = v989; goto L242;
-L228:;
-    v990 = (u8)((u32)v86 + (u32)2u);
-    v991 = v990 < 7u;
-    v992 = (u8)((u32)121u >> (v990 & 7u));
-    v993 = (u8)((v992) & UINT64_C(1));
-    v994 = v991 ? v993 : 0u;
-    if (v994) { goto L240; }
-    else { goto L248; }
-L229:;
-    switch (v86) {
-    case 16u: v128 = ADDRESS(c183); v129 = 12u; goto L242;
-    case 32u: goto L230;
-    case 48u: goto L231;
-    case 57u: goto L232;
-    case 64u: goto L233;
-    case 80u: goto L234;
-    case 96u: goto L235;
-    case 144u: goto L236;
-    case 160u: goto L237;
-    default: goto L248;
-    }
-L230:;
-    v128 = ADDRESS(c184); v129 = 4u; goto L242;
-L231:;
-    v128 = ADDRESS(c185); v129 = 17u; goto L242;
-L232:;
-    v128 = ADDRESS(c186); v129 = 16u; goto L242;
-L233:;
-    v128 = ADDRESS(c187); v129 = 3u; goto L242;
-L234:;
-    v128 = ADDRESS(c188); v129 = 3u; goto L242;
-L235:;
-    v128 = ADDRESS(c189); v129 = 8u; goto L242;
-L236:;
-    v128 = ADDRESS(c190); v129 = 5u; goto L242;
-L237:;
-    v128 = ADDRESS(c191); v129 = 19u; goto L242;
-L238:;
-    v995 = v86 < 5u;
-    if (v995) { goto L241; }
-    else { goto L248; }
-L239:;
     UNREACHABLE;
-L240:;
-    v996 = (u64)v990;
-    v997 = ADDRESS(c325) + v996 * 8u;
-    v998 = load_address(v997);
-    v999 = (u64)v990;
-    v1000 = ADDRESS(c326) + v999 * 8u;
-    v1001 = load64(v1000);
-    v128 = v998; v129 = v1001; goto L242;
-L241:;
-    v1002 = (u64)v86;
-    v1003 = ADDRESS(c327) + v1002 * 8u;
-    v1004 = load_address(v1003);
-    v1005 = (u64)v86;
-    v1006 = ADDRESS(c328) + v1005 * 8u;
-    v1007 = load64(v1006);
-    v128 = v1004; v129 = v1007; goto L242;
-L242:;
-    v1008 = v36 == 1u;
-    if (v1008) { goto L243; }
-    else { goto L335; }
-L243:;
-    v1009 = load64(v194);
-    v1010 = load64(v192);
-    v1011 = v1010 < v1009;
-    v1012 = (u64)((u64)v1010 - (u64)v1009);
-    v1013 = v1012 < v129;
-    v1014 = v1011 ? 1u : v1013;
-    if (v1014) { v131 = 0u; v132 = 0u; goto L247; }
-    else { goto L244; }
-L244:;
-    v1015 = load_address(v185);
-    v1016 = (u64)((u64)v1009 + (u64)v129);
-    v1017 = v1015 + v1009 * 1u;
-    v1018 = (u64)v1017;
-    v1019 = (u64)v128;
-    v1020 = (u64)((u64)v1018 - (u64)v1019);
-    v1021 = v1020 < v129;
-    if (v1021) { v130 = 0u; goto L246; }
-    else { goto L245; }
-L245:;
-    memory_move(v1017, v128, v129);
-    v131 = v1016; v132 = 1u; goto L247;
-L246:;
-    v1022 = v1017 + v130 * 1u;
-    v1023 = v128 + v130 * 1u;
-    v1024 = load8(v1023);
-    store8(v1022, v1024);
-    v1025 = (u64)((u64)v130 + (u64)1u);
-    v1026 = v1025 == v129;
-    if (v1026) { v131 = v1016; v132 = 1u; goto L247; }
-    else { v130 = v1025; goto L246; }
-L247:;
-    store64(v193, v132);
-    store64(v194, v131);
-    goto L335;
-L248:;
-    v1027 = v36 == 1u;
-    if (v1027) { goto L249; }
-    else { goto L335; }
-L249:;
-    v1028 = load64(v194);
-    v1029 = load64(v192);
-    v1030 = v1029 < v1028;
-    v1031 = (u64)((u64)v1029 - (u64)v1028);
-    v1032 = v1031 < 2u;
-    v1033 = v1030 ? 1u : v1032;
-    if (v1033) { goto L258; }
-    else { goto L250; }
-L250:;
-    v1034 = load_address(v185);
-    v1035 = (u64)((u64)v1028 + (u64)2u);
-    v1036 = v1034 + v1028 * 1u;
-    v1037 = (u64)v1036;
-    v1038 = (u64)((u64)v1037 - (u64)ADDRESS(c293));
-    v1039 = v1038 < 2u;
-    if (v1039) { goto L251; }
-    else { goto L252; }
-L251:;
-    store8(v1036, 48u);
-    v1040 = v1036 + 1u * 1u;
-    store8(v1040, 120u);
-    goto L253;
-L252:;
-    store16(v1036, 30768u);
-    goto L253;
-L253:;
-    v1041 = load64(v192);
-    v1042 = v1041 > v1035;
-    if (v1042) { goto L254; }
-    else { goto L257; }
-L254:;
-    v1043 = v86 < 160u;
-    v1044 = (u8)((u32)v86 >> (4u & 7u));
-    v1045 = (u8)((u32)v1044 | (u32)48u);
-    v1046 = (u8)((u32)v1044 + (u32)87u);
-    v1047 = v1043 ? v1045 : v1046;
-    v1048 = load_address(v185);
-    v1049 = (u64)((u64)v1028 + (u64)3u);
-    v1050 = v1048 + v1035 * 1u;
-    store8(v1050, v1047);
-    v1051 = load64(v192);
-    v1052 = v1051 > v1049;
-    if (v1052) { goto L255; }
-    else { v133 = 0u; v134 = 0u; goto L256; }
-L255:;
-    v1053 = (u8)((u32)v86 & (u32)15u);
-    v1054 = v1053 < 10u;
-    v1055 = (u8)((u32)v1053 | (u32)48u);
-    v1056 = (u8)((u32)v1053 + (u32)87u);
-    v1057 = v1054 ? v1055 : v1056;
-    v1058 = load_address(v185);
-    v1059 = (u64)((u64)v1028 + (u64)4u);
-    v1060 = v1058 + v1049 * 1u;
-    store8(v1060, v1057);
-    v133 = v1059; v134 = 1u; goto L256;
-L256:;
-    store64(v193, v134);
-    store64(v194, v133);
-    goto L335;
-L257:;
-    memory_set(v193, 0u, 16u);
-    goto L335;
-L258:;
-    memory_set(v193, 0u, 16u);
-    goto L335;
-L259:;
-    v1061 = v36 == 1u;
-    if (v1061) { goto L260; }
-    else { goto L265; }
-L260:;
-    v1062 = load64(v194);
-    v1063 = load64(v192);
-    v1064 = v1063 < v1062;
-    v1065 = (u64)((u64)v1063 - (u64)v1062);
-    v1066 = v1065 < 6u;
-    v1067 = v1064 ? 1u : v1066;
-    if (v1067) { v135 = 0u; v136 = 0u; goto L264; }
-    else { goto L261; }
-L261:;
-    v1068 = load_address(v185);
-    v1069 = (u64)((u64)v1062 + (u64)6u);
-    v1070 = v1068 + v1062 * 1u;
-    v1071 = (u64)v1070;
-    v1072 = (u64)((u64)v1071 - (u64)ADDRESS(c295));
-    v1073 = v1072 < 6u;
-    if (v1073) { goto L262; }
-    else { goto L263; }
-L262:;
-    store8(v1070, 99u);
-    v1074 = v1070 + 1u * 1u;
-    store8(v1074, 108u);
-    v1075 = v1070 + 2u * 1u;
-    store8(v1075, 97u);
-    v1076 = v1070 + 3u * 1u;
-    store8(v1076, 115u);
-    v1077 = v1070 + 4u * 1u;
-    store8(v1077, 115u);
-    v1078 = v1070 + 5u * 1u;
-    store8(v1078, 32u);
-    v135 = v1069; v136 = 1u; goto L264;
-L263:;
-    memory_cpy(v1070, ADDRESS(c295), 6u);
-    v135 = v1069; v136 = 1u; goto L264;
-L264:;
-    store64(v193, v136);
-    store64(v194, v135);
-    goto L265;
-L265:;
-    v1079 = (u64)v86;
-    f47(v1079, v185);
-    v1080 = load8(v193);
-    v1081 = v1080 == 1u;
-    if (v1081) { goto L266; }
-    else { goto L335; }
-L266:;
-    v1082 = load64(v194);
-    v1083 = load64(v192);
-    v1084 = v1083 < v1082;
-    v1085 = (u64)((u64)v1083 - (u64)v1082);
-    v1086 = v1085 < 12u;
-    v1087 = v1084 ? 1u : v1086;
-    if (v1087) { goto L286; }
-    else { goto L267; }
-L267:;
-    v1088 = load_address(v185);
-    v1089 = (u64)((u64)v1082 + (u64)12u);
-    v1090 = v1088 + v1082 * 1u;
-    v1091 = (u64)v1090;
-    v1092 = (u64)((u64)v1091 - (u64)ADDRESS(c296));
-    v1093 = v1092 < 12u;
-    if (v1093) { goto L268; }
-    else { goto L269; }
-L268:;
-    store8(v1090, 32u);
-    v1094 = v1090 + 1u * 1u;
-    store8(v1094, 97u);
-    v1095 = v1090 + 2u * 1u;
-    store8(v1095, 99u);
-    v1096 = v1090 + 3u * 1u;
-    store8(v1096, 99u);
-    v1097 = v1090 + 4u * 1u;
-    store8(v1097, 117u);
-    v1098 = v1090 + 5u * 1u;
-    store8(v1098, 114u);
-    v1099 = v1090 + 6u * 1u;
-    store8(v1099, 97u);
-    v1100 = v1090 + 7u * 1u;
-    store8(v1100, 99u);
-    v1101 = v1090 + 8u * 1u;
-    store8(v1101, 121u);
-    v1102 = v1090 + 9u * 1u;
-    store8(v1102, 32u);
-    v1103 = v1090 + 10u * 1u;
-    store8(v1103, 48u);
-    v1104 = v1090 + 11u * 1u;
-    store8(v1104, 120u);
-    v1105 = load64(v192);
-    v137 = v1105; goto L270;
-L269:;
-    memory_cpy(v1090, ADDRESS(c296), 12u);
-    v137 = v1083; goto L270;
-L270:;
-    v1106 = v137 > v1089;
-    if (v1106) { goto L271; }
-    else { goto L272; }
-L271:;
-    v1107 = v775 < 160u;
-    v1108 = (u8)((u32)v775 >> (4u & 7u));
-    v1109 = (u8)((u32)v1108 | (u32)48u);
-    v1110 = (u8)((u32)v1108 + (u32)87u);
-    v1111 = v1107 ? v1109 : v1110;
-    v1112 = load_address(v185);
-    v1113 = (u64)((u64)v1082 + (u64)13u);
-    v1114 = v1112 + v1089 * 1u;
-    store8(v1114, v1111);
-    v1115 = load64(v192);
-    v1116 = v1115 > v1113;
-    if (v1116) { goto L274; }
-    else { goto L273; }
-L272:;
-    memory_set(v193, 0u, 16u);
-    goto L335;
-L273:;
-    memory_set(v193, 0u, 16u);
-    goto L335;
-L274:;
-    v1117 = (u8)((u32)v775 & (u32)15u);
-    v1118 = v1117 < 10u;
-    v1119 = (u8)((u32)v1117 | (u32)48u);
-    v1120 = (u8)((u32)v1117 + (u32)87u);
-    v1121 = v1118 ? v1119 : v1120;
-    v1122 = load_address(v185);
-    v1123 = (u64)((u64)v1082 + (u64)14u);
-    v1124 = v1122 + v1113 * 1u;
-    store8(v1124, v1121);
-    v1125 = load64(v192);
-    v1126 = v1125 >= v1123;
-    v1127 = (u64)((u64)v1125 - (u64)v1123);
-    v1128 = v1127 > 11u;
-    v1129 = v1126 ? v1128 : 0u;
-    if (v1129) { goto L275; }
-    else { goto L287; }
-L275:;
-    v1130 = load_address(v185);
-    v1131 = (u64)((u64)v1082 + (u64)26u);
-    v1132 = v1130 + v1123 * 1u;
-    v1133 = (u64)v1132;
-    v1134 = (u64)((u64)v1133 - (u64)ADDRESS(c297));
-    v1135 = v1134 < 12u;
-    if (v1135) { goto L276; }
-    else { goto L277; }
-L276:;
-    store8(v1132, 32u);
-    v1136 = v1132 + 1u * 1u;
-    store8(v1136, 118u);
-    v1137 = v1132 + 2u * 1u;
-    store8(v1137, 97u);
-    v1138 = v1132 + 3u * 1u;
-    store8(v1138, 114u);
-    v1139 = v1132 + 4u * 1u;
-    store8(v1139, 105u);
-    v1140 = v1132 + 5u * 1u;
-    store8(v1140, 97u);
-    v1141 = v1132 + 6u * 1u;
-    store8(v1141, 110u);
-    v1142 = v1132 + 7u * 1u;
-    store8(v1142, 99u);
-    v1143 = v1132 + 8u * 1u;
-    store8(v1143, 101u);
-    v1144 = v1132 + 9u * 1u;
-    store8(v1144, 32u);
-    v1145 = v1132 + 10u * 1u;
-    store8(v1145, 48u);
-    v1146 = v1132 + 11u * 1u;
-    store8(v1146, 120u);
-    v1147 = load64(v192);
-    v138 = v1147; goto L278;
-L277:;
-    memory_cpy(v1132, ADDRESS(c297), 12u);
-    v138 = v1125; goto L278;
-L278:;
-    v1148 = (u64)(((u64)v765 >> (24u & 63u)) & UINT64_C(72057594037927935));
-    v1149 = (u8)(v1148);
-    v1150 = v138 > v1131;
-    if (v1150) { goto L279; }
-    else { goto L281; }
-L279:;
-    v1151 = v1149 < 160u;
-    v1152 = (u8)((u32)v1149 >> (4u & 7u));
-    v1153 = (u8)((u32)v1152 | (u32)48u);
-    v1154 = (u8)((u32)v1152 + (u32)87u);
-    v1155 = v1151 ? v1153 : v1154;
-    v1156 = load_address(v185);
-    v1157 = (u64)((u64)v1082 + (u64)27u);
-    v1158 = v1156 + v1131 * 1u;
-    store8(v1158, v1155);
-    v1159 = load64(v192);
-    v1160 = v1159 > v1157;
-    if (v1160) { goto L280; }
-    else { goto L288; }
-L280:;
-    v1161 = (u8)((u32)v1149 & (u32)15u);
-    v1162 = v1161 < 10u;
-    v1163 = (u8)((u32)v1161 | (u32)48u);
-    v1164 = (u8)((u32)v1161 + (u32)87u);
-    v1165 = v1162 ? v1163 : v1164;
-    v1166 = load_address(v185);
-    v1167 = (u64)((u64)v1082 + (u64)28u);
-    v1168 = v1166 + v1157 * 1u;
-    store8(v1168, v1165);
-    v1169 = (u8)(v776);
-    v1170 = load64(v192);
-    v1171 = v1170 > v1167;
-    if (v1171) { goto L282; }
-    else { goto L285; }
-L281:;
-    memory_set(v193, 0u, 16u);
-    goto L335;
-L282:;
-    v1172 = v1169 < 160u;
-    v1173 = (u8)((u32)v1169 >> (4u & 7u));
-    v1174 = (u8)((u32)v1173 | (u32)48u);
-    v1175 = (u8)((u32)v1173 + (u32)87u);
-    v1176 = v1172 ? v1174 : v1175;
-    v1177 = load_address(v185);
-    v1178 = (u64)((u64)v1082 + (u64)29u);
-    v1179 = v1177 + v1167 * 1u;
-    store8(v1179, v1176);
-    v1180 = load64(v192);
-    v1181 = v1180 > v1178;
-    if (v1181) { goto L283; }
-    else { v139 = 0u; v140 = 0u; goto L284; }
-L283:;
-    v1182 = (u8)((u32)v1169 & (u32)15u);
-    v1183 = v1182 < 10u;
-    v1184 = (u8)((u32)v1182 | (u32)48u);
-    v1185 = (u8)((u32)v1182 + (u32)87u);
-    v1186 = v1183 ? v1184 : v1185;
-    v1187 = load_address(v185);
-    v1188 = (u64)((u64)v1082 + (u64)30u);
-    v1189 = v1187 + v1178 * 1u;
-    store8(v1189, v1186);
-    v139 = v1188; v140 = 1u; goto L284;
-L284:;
-    store64(v193, v140);
-    store64(v194, v139);
-    goto L335;
-L285:;
-    memory_set(v193, 0u, 16u);
-    goto L335;
-L286:;
-    memory_set(v193, 0u, 16u);
-    goto L335;
-L287:;
-    memory_set(v193, 0u, 16u);
-    goto L335;
-L288:;
-    memory_set(v193, 0u, 16u);
-    goto L335;
-L289:;
-    v1190 = (address)v773;
-    v1191 = v92 == 0u;
-    if (v1191) { goto L335; }
-    else { v141 = v36; v142 = 0u; goto L290; }
-L290:;
-    v1192 = v1190 + v142 * 1u;
-    v1193 = load8(v1192);
-    v1194 = (u8)((u32)v1193 + (u32)129u);
-    v1195 = v1194 < 161u;
-    v1196 = v1193 == 92u;
-    v1197 = (u8)(((u32)v1196 | (u32)v1195) & UINT64_C(1));
-    v1198 = v141 == 1u;
-    if (v1197) { goto L295; }
-    else { goto L291; }
-L291:;
-    if (v1198) { goto L292; }
-    else { v147 = v141; goto L306; }
-L292:;
-    v1199 = load64(v194);
-    v1200 = load64(v192);
-    v1201 = v1200 > v1199;
-    if (v1201) { goto L293; }
-    else { v143 = 0u; v144 = 0u; goto L294; }
-L293:;
-    v1202 = load_address(v185);
-    v1203 = (u64)((u64)v1199 + (u64)1u);
-    v1204 = v1202 + v1199 * 1u;
-    store8(v1204, v1193);
-    v143 = v1203; v144 = 1u; goto L294;
-L294:;
-    store64(v193, v144);
-    store64(v194, v143);
-    v1205 = (u8)(v144);
-    v147 = v1205; goto L306;
-L295:;
-    if (v1198) { goto L296; }
-    else { v147 = v141; goto L306; }
-L296:;
-    v1206 = load64(v194);
-    v1207 = load64(v192);
-    v1208 = v1207 < v1206;
-    v1209 = (u64)((u64)v1207 - (u64)v1206);
-    v1210 = v1209 < 2u;
-    v1211 = v1208 ? 1u : v1210;
-    if (v1211) { goto L305; }
-    else { goto L297; }
-L297:;
-    v1212 = load_address(v185);
-    v1213 = (u64)((u64)v1206 + (u64)2u);
-    v1214 = v1212 + v1206 * 1u;
-    v1215 = (u64)v1214;
-    v1216 = (u64)((u64)v1215 - (u64)ADDRESS(c298));
-    v1217 = v1216 < 2u;
-    if (v1217) { goto L298; }
-    else { goto L299; }
-L298:;
-    store8(v1214, 92u);
-    v1218 = v1214 + 1u * 1u;
-    store8(v1218, 120u);
-    goto L300;
-L299:;
-    store16(v1214, 30812u);
-    goto L300;
-L300:;
-    v1219 = load64(v192);
-    v1220 = v1219 > v1213;
-    if (v1220) { goto L301; }
-    else { goto L304; }
-L301:;
-    v1221 = v1193 < 160u;
-    v1222 = (u8)((u32)v1193 >> (4u & 7u));
-    v1223 = (u8)((u32)v1222 | (u32)48u);
-    v1224 = (u8)((u32)v1222 + (u32)87u);
-    v1225 = v1221 ? v1223 : v1224;
-    v1226 = load_address(v185);
-    v1227 = (u64)((u64)v1206 + (u64)3u);
-    v1228 = v1226 + v1213 * 1u;
-    store8(v1228, v1225);
-    v1229 = load64(v192);
-    v1230 = v1229 > v1227;
-    if (v1230) { goto L302; }
-    else { v145 = 0u; v146 = 0u; goto L303; }
-L302:;
-    v1231 = (u8)((u32)v1193 & (u32)15u);
-    v1232 = v1231 < 10u;
-    v1233 = (u8)((u32)v1231 | (u32)48u);
-    v1234 = (u8)((u32)v1231 + (u32)87u);
-    v1235 = v1232 ? v1233 : v1234;
-    v1236 = load_address(v185);
-    v1237 = (u64)((u64)v1206 + (u64)4u);
-    v1238 = v1236 + v1227 * 1u;
-    store8(v1238, v1235);
-    v145 = v1237; v146 = 1u; goto L303;
-L303:;
-    store64(v193, v146);
-    store64(v194, v145);
-    v1239 = (u8)(v146);
-    v147 = v1239; goto L306;
-L304:;
-    memory_set(v193, 0u, 16u);
-    v147 = 0u; goto L306;
-L305:;
-    memory_set(v193, 0u, 16u);
-    v147 = 0u; goto L306;
-L306:;
-    v1240 = (u64)((u64)v142 + (u64)1u);
-    v1241 = v1240 == v92;
-    if (v1241) { goto L335; }
-    else { v141 = v147; v142 = v1240; goto L290; }
-L307:;
-    v1242 = (address)v773;
-    v1243 = v92 == 0u;
-    if (v1243) { goto L308; }
-    else { v150 = v36; v151 = 0u; goto L312; }
-L308:;
-    v1244 = v36 == 1u;
-    if (v1244) { goto L309; }
-    else { goto L335; }
-L309:;
-    v1245 = load64(v194);
-    v1246 = load64(v192);
-    v1247 = v1246 > v1245;
-    if (v1247) { goto L310; }
-    else { v148 = 0u; v149 = 0u; goto L311; }
-L310:;
-    v1248 = load_address(v185);
-    v1249 = (u64)((u64)v1245 + (u64)1u);
-    v1250 = v1248 + v1245 * 1u;
-    store8(v1250, 45u);
-    v148 = v1249; v149 = 1u; goto L311;
-L311:;
-    store64(v193, v149);
-    store64(v194, v148);
-    goto L335;
-L312:;
-    v1251 = v1242 + v151 * 1u;
-    v1252 = load8(v1251);
-    v1253 = (u8)((u32)v1252 >> (4u & 7u));
-    v1254 = v1252 < 160u;
-    v1255 = (u8)((u32)v1253 | (u32)48u);
-    v1256 = (u8)((u32)v1253 + (u32)87u);
-    v1257 = v1254 ? v1255 : v1256;
-    v1258 = v150 == 1u;
-    if (v1258) { goto L313; }
-    else { v154 = v150; goto L318; }
-L313:;
-    v1259 = load64(v194);
-    v1260 = load64(v192);
-    v1261 = v1260 > v1259;
-    if (v1261) { goto L314; }
-    else { goto L317; }
-L314:;
-    v1262 = load_address(v185);
-    v1263 = (u64)((u64)v1259 + (u64)1u);
-    v1264 = v1262 + v1259 * 1u;
-    store8(v1264, v1257);
-    v1265 = load64(v192);
-    v1266 = v1265 > v1263;
-    if (v1266) { goto L315; }
-    else { v152 = 0u; v153 = 0u; goto L316; }
-L315:;
-    v1267 = (u8)((u32)v1252 & (u32)15u);
-    v1268 = v1267 < 10u;
-    v1269 = (u8)((u32)v1267 | (u32)48u);
-    v1270 = (u8)((u32)v1267 + (u32)87u);
-    v1271 = v1268 ? v1269 : v1270;
-    v1272 = load_address(v185);
-    v1273 = (u64)((u64)v1259 + (u64)2u);
-    v1274 = v1272 + v1263 * 1u;
-    store8(v1274, v1271);
-    v152 = v1273; v153 = 1u; goto L316;
-L316:;
-    store64(v193, v153);
-    store64(v194, v152);
-    v1275 = (u8)(v153);
-    v154 = v1275; goto L318;
-L317:;
-    memory_set(v193, 0u, 16u);
-    v154 = 0u; goto L318;
-L318:;
-    v1276 = (u64)((u64)v151 + (u64)1u);
-    v1277 = v1276 == v92;
-    if (v1277) { goto L335; }
-    else { v150 = v154; v151 = v1276; goto L312; }
-L319:;
-    v1278 = v92 < 8u;
-    if (v1278) { goto L335; }
-    else { goto L320; }
-L320:;
-    v1279 = (address)v773;
-    v155 = v36; v156 = v92; v157 = v1279; goto L321;
-L321:;
-    v158 = v155; v159 = v155; v160 = 0u; goto L322;
-L322:;
-    v1280 = v157 + v160 * 1u;
-    v1281 = load8(v1280);
-    v1282 = (u8)((u32)v1281 >> (4u & 7u));
-    v1283 = v1281 < 160u;
-    v1284 = (u8)((u32)v1282 | (u32)48u);
-    v1285 = (u8)((u32)v1282 + (u32)87u);
-    v1286 = v1283 ? v1284 : v1285;
-    v1287 = v159 == 1u;
-    if (v1287) { goto L323; }
-    else { v163 = v158; v164 = v159; goto L328; }
-L323:;
-    v1288 = load64(v194);
-    v1289 = load64(v192);
-    v1290 = v1289 > v1288;
-    if (v1290) { goto L324; }
-    else { goto L327; }
-L324:;
-    v1291 = load_address(v185);
-    v1292 = (u64)((u64)v1288 + (u64)1u);
-    v1293 = v1291 + v1288 * 1u;
-    store8(v1293, v1286);
-    v1294 = load64(v192);
-    v1295 = v1294 > v1292;
-    if (v1295) { goto L325; }
-    else { v161 = 0u; v162 = 0u; goto L326; }
-L325:;
-    v1296 = (u8)((u32)v1281 & (u32)15u);
-    v1297 = v1296 < 10u;
-    v1298 = (u8)((u32)v1296 | (u32)48u);
-    v1299 = (u8)((u32)v1296 + (u32)87u);
-    v1300 = v1297 ? v1298 : v1299;
-    v1301 = load_address(v185);
-    v1302 = (u64)((u64)v1288 + (u64)2u);
-    v1303 = v1301 + v1292 * 1u;
-    store8(v1303, v1300);
-    v161 = v1302; v162 = 1u; goto L326;
-L326:;
-    store64(v193, v162);
-    store64(v194, v161);
-    v1304 = (u8)(v162);
-    v163 = v1304; v164 = v1304; goto L328;
-L327:;
-    memory_set(v193, 0u, 16u);
-    v163 = 0u; v164 = 0u; goto L328;
-L328:;
-    v1305 = (u64)((u64)v160 + (u64)1u);
-    v1306 = v1305 == 8u;
-    if (v1306) { goto L329; }
-    else { v158 = v163; v159 = v164; v160 = v1305; goto L322; }
-L329:;
-    v1307 = v157 + 8u * 1u;
-    v1308 = (u64)((u64)v156 + (u64)UINT64_C(18446744073709551608));
-    v1309 = v1308 > 7u;
-    if (v1309) { goto L330; }
-    else { goto L335; }
-L330:;
-    v1310 = v163 == 1u;
-    if (v1310) { goto L331; }
-    else { v167 = v163; goto L334; }
-L331:;
-    v1311 = load64(v194);
-    v1312 = load64(v192);
-    v1313 = v1312 > v1311;
-    if (v1313) { goto L332; }
-    else { v165 = 0u; v166 = 0u; goto L333; }
-L332:;
-    v1314 = load_address(v185);
-    v1315 = (u64)((u64)v1311 + (u64)1u);
-    v1316 = v1314 + v1311 * 1u;
-    store8(v1316, 32u);
-    v165 = v1315; v166 = 1u; goto L333;
-L333:;
-    store64(v193, v166);
-    store64(v194, v165);
-    v1317 = (u8)(v166);
-    v167 = v1317; goto L334;
-L334:;
-    v155 = v167; v156 = v1308; v157 = v1307; goto L321;
-L335:;
-    v1318 = load8(v193);
-    v168 = v1318; v169 = v1318; v170 = v1318; goto L336;
-L336:;
-    v1319 = v170 == 1u;
-    if (v1319) { goto L337; }
-    else { v173 = v168; v174 = v169; goto L340; }
-L337:;
-    v1320 = load64(v194);
-    v1321 = load64(v192);
-    v1322 = v1321 > v1320;
-    if (v1322) { goto L338; }
-    else { v171 = 0u; v172 = 0u; goto L339; }
-L338:;
-    v1323 = load_address(v185);
-    v1324 = (u64)((u64)v1320 + (u64)1u);
-    v1325 = v1323 + v1320 * 1u;
-    store8(v1325, 10u);
-    v171 = v1324; v172 = 1u; goto L339;
-L339:;
-    store64(v193, v172);
-    store64(v194, v171);
-    v1326 = (u8)(v172);
-    v173 = v1326; v174 = v1326; goto L340;
-L340:;
-    v1327 = v173;
-    v1328 = (u64)((u64)v28 + (u64)1u);
-    v1329 = v1328 == v9;
-    if (v1329) { goto L341; }
-    else { v26 = v1327; v27 = v174; v28 = v1328; goto L77; }
-L341:;
-    v1330 = load64(v194);
-    v175 = v1330; v176 = v1327; goto L343;
-L342:;
-    v177 = 0u; goto L344;
-L343:;
-    v1331 = v176 == 1u;
-    v1332 = v1331 ? v175 : 0u;
-    v177 = v1332; goto L344;
-L344:;
-    return v177;
+L185:;
+    v857 = load8(v217);
+    v176 = v857; v177 = v857; v178 = v857; v179 = v857; v180 = v857; v181 = v857; v182 = v857; v183 = v857; v184 = v857; v185 = v857; v186 = v857; v187 = v857; goto L186;
+L186:;
+    v858 = v187 == 1u;
+    if (v858) { goto L187; }
+    else { v190 = v176; v191 = v177; v192 = v178; v193 = v179; v194 = v180; v195 = v181; v196 = v182; v197 = v183; v198 = v184; v199 = v185; v200 = v186; goto L190; }
+L187:;
+    v859 = load64(v218);
+    v860 = load64(v216);
+    v861 = v860 > v859;
+    if (v861) { goto L188; }
+    else { v188 = 0u; v189 = 0u; goto L189; }
+L188:;
+    v862 = load_address(v209);
+    v863 = (u64)((u64)v859 + (u64)1u);
+    v864 = v862 + v859 * 1u;
+    store8(v864, 10u);
+    v188 = v863; v189 = 1u; goto L189;
+L189:;
+    store64(v217, v189);
+    store64(v218, v188);
+    v865 = (u8)(v189);
+    v190 = v865; v191 = v865; v192 = v865; v193 = v865; v194 = v865; v195 = v865; v196 = v865; v197 = v865; v198 = v865; v199 = v865; v200 = v865; goto L190;
+L190:;
+    v866 = v199;
+    v867 = (u64)((u64)v30 + (u64)1u);
+    v868 = v867 == v221;
+    if (v868) { goto L191; }
+    else { v19 = v190; v20 = v191; v21 = v192; v22 = v193; v23 = v194; v24 = v195; v25 = v196; v26 = v197; v27 = v198; v28 = v866; v29 = v200; v30 = v867; goto L24; }
+L191:;
+    v869 = load64(v218);
+    v201 = v869; v202 = v866; goto L193;
+L192:;
+    v203 = 0u; goto L194;
+L193:;
+    v870 = v202 == 1u;
+    v871 = v870 ? v201 : 0u;
+    v203 = v871; goto L194;
+L194:;
+    return v203;
 }
 
 u32 portable_ptpm_id_at(u64 a0) {
@@ -28164,7 +30031,7 @@ u32 portable_ptpm_id_at(u64 a0) {
     else { v1 = UINT32_C(65536); goto L2; }
 L1:;
     v3 = (u64)((u64)a0 << (1u & 63u));
-    v4 = ADDRESS(c299) + v3 * 1u;
+    v4 = ADDRESS(c311) + v3 * 1u;
     v5 = load16(v4);
     v6 = (u32)v5;
     v1 = v6; goto L2;
@@ -28271,118 +30138,116 @@ L25:;
 }
 
 u32 portable_ptpm_id_named(address a0, u64 a1) {
-    u64 v2, v4, v5, v8, v10, v14, v29;
-    address v3, v9, v11, v16, v18;
-    u32 v6, v31;
-    u8 v7, v13, v15, v17, v19, v20, v21, v22, v23, v24, v25, v26, v27, v28, v30;
-    u16 v12;
-    v7 = a0 == 0u;
-    v8 = v7 ? 4096u : 0u;
-    v9 = a0 + v8 * 1u;
-    v2 = 0u; goto L1;
+    u8 v2, v6, v7;
+    u64 v3;
+    address v4;
+    struct s4 v5;
+    u16 v8;
+    u32 v9, v10;
+    v2 = a0 == 0u;
+    v3 = v2 ? 4096u : 0u;
+    v4 = a0 + v3 * 1u;
+    v5 = f52(v4, a1);
+    v6 = v5.m0;
+    v7 = v6 == 1u;
+    v8 = v5.m1;
+    v9 = (u32)v8;
+    v10 = v7 ? v9 : UINT32_C(65536);
+    return v10;
+}
+
+u32 portable_ptpm_id_parse(address a0, u64 a1) {
+    struct s4 v2, v13, v14, v17, v23, v24;
+    u8 v3, v6, v7, v8, v10, v15, v18, v20, v21, v25, v26;
+    u64 v4, v12;
+    address v5, v9, v11;
+    u16 v16, v19, v22, v27;
+    u32 v28, v29;
+    v3 = a0 == 0u;
+    v4 = v3 ? 4096u : 0u;
+    v5 = a0 + v4 * 1u;
+    v6 = a1 < 2u;
+    if (v6) { goto L4; }
+    else { goto L1; }
 L1:;
-    v10 = (u64)((u64)v2 << (1u & 63u));
-    v11 = ADDRESS(c299) + v10 * 1u;
-    v12 = load16(v11);
-    switch (v12) {
-    case 0u: v3 = ADDRESS(c114); v4 = 19u; goto L22;
-    case 2u: goto L2;
-    case 8192u: goto L3;
-    case 8193u: goto L4;
-    case 8194u: goto L5;
-    case 8195u: goto L6;
-    case 8196u: goto L7;
-    case 8197u: goto L8;
-    case 8198u: goto L9;
-    case 8199u: goto L10;
-    case 8200u: goto L11;
-    case 8201u: goto L12;
-    case 8202u: goto L13;
-    case 8203u: goto L14;
-    case 8204u: goto L15;
-    case 8205u: goto L16;
-    case 8206u: goto L17;
-    case 8208u: goto L18;
-    case 8209u: goto L19;
-    case 24576u: goto L20;
-    case 24577u: goto L21;
-    default: goto L25;
-    }
+    v7 = load8(v5);
+    v8 = v7 == 48u;
+    if (v8) { goto L2; }
+    else { goto L4; }
 L2:;
-    v3 = ADDRESS(c115); v4 = 16u; goto L22;
+    v9 = v5 + 1u * 1u;
+    v10 = load8(v9);
+    switch (v10) {
+    case 88u: goto L3;
+    case 120u: goto L3;
+    default: goto L4;
+    }
 L3:;
-    v3 = ADDRESS(c116); v4 = 16u; goto L22;
+    v11 = v5 + 2u * 1u;
+    v12 = (u64)((u64)a1 + (u64)UINT64_C(18446744073709551614));
+    v13 = f53(v11, v12);
+    v2 = v13; goto L5;
 L4:;
-    v3 = ADDRESS(c117); v4 = 16u; goto L22;
+    v14 = f52(v5, a1);
+    v15 = v14.m0;
+    v16 = v14.m1;
+    v17 = f53(v5, a1);
+    v18 = v17.m0;
+    v19 = v17.m1;
+    v20 = (u8)((v15) & UINT64_C(1));
+    v21 = v20 ? 1u : v18;
+    v22 = v20 ? v16 : v19;
+    v23 = (struct s4){ 0 };
+    v23.m0 = v21;
+    v24 = v23;
+    v24.m1 = v22;
+    v2 = v24; goto L5;
 L5:;
-    v3 = ADDRESS(c118); v4 = 15u; goto L22;
-L6:;
-    v3 = ADDRESS(c119); v4 = 24u; goto L22;
-L7:;
-    v3 = ADDRESS(c120); v4 = 13u; goto L22;
-L8:;
-    v3 = ADDRESS(c121); v4 = 9u; goto L22;
-L9:;
-    v3 = ADDRESS(c122); v4 = 9u; goto L22;
-L10:;
-    v3 = ADDRESS(c123); v4 = 6u; goto L22;
-L11:;
-    v3 = ADDRESS(c124); v4 = 10u; goto L22;
-L12:;
-    v3 = ADDRESS(c130); v4 = 21u; goto L22;
-L13:;
-    v3 = ADDRESS(c132); v4 = 24u; goto L22;
-L14:;
-    v3 = ADDRESS(c134); v4 = 17u; goto L22;
-L15:;
-    v3 = ADDRESS(c125); v4 = 14u; goto L22;
-L16:;
-    v3 = ADDRESS(c126); v4 = 11u; goto L22;
-L17:;
-    v3 = ADDRESS(c127); v4 = 12u; goto L22;
-L18:;
-    v3 = ADDRESS(c128); v4 = 14u; goto L22;
-L19:;
-    v3 = ADDRESS(c129); v4 = 14u; goto L22;
-L20:;
-    v3 = ADDRESS(c136); v4 = 15u; goto L22;
-L21:;
-    v3 = ADDRESS(c138); v4 = 27u; goto L22;
-L22:;
-    v13 = v4 == a1;
-    if (v13) { v5 = 0u; goto L24; }
-    else { goto L25; }
-L23:;
-    v14 = (u64)((u64)v5 + (u64)1u);
-    v15 = v14 == a1;
-    if (v15) { goto L26; }
-    else { v5 = v14; goto L24; }
-L24:;
-    v16 = v3 + v5 * 1u;
-    v17 = load8(v16);
-    v18 = v9 + v5 * 1u;
-    v19 = load8(v18);
-    v20 = (u8)((u32)v17 + (u32)191u);
-    v21 = v20 < 26u;
-    v22 = (u8)((u32)v17 + (u32)32u);
-    v23 = v21 ? v22 : v17;
-    v24 = (u8)((u32)v19 + (u32)191u);
-    v25 = v24 < 26u;
-    v26 = (u8)((u32)v19 + (u32)32u);
-    v27 = v25 ? v26 : v19;
-    v28 = v23 == v27;
-    if (v28) { goto L23; }
-    else { goto L25; }
-L25:;
-    v29 = (u64)((u64)v2 + (u64)1u);
-    v30 = v29 == 21u;
-    if (v30) { v6 = UINT32_C(65536); goto L27; }
-    else { v2 = v29; goto L1; }
-L26:;
-    v31 = (u32)v12;
-    v6 = v31; goto L27;
-L27:;
-    return v6;
+    v25 = v2.m0;
+    v26 = v25 == 1u;
+    v27 = v2.m1;
+    v28 = (u32)v27;
+    v29 = v26 ? v28 : UINT32_C(65536);
+    return v29;
+}
+
+u8 portable_ptpm_identity_parse(address a0, u64 a1, address a2) {
+    u8 v3, v6, v9, v10, v15, v16;
+    address v4, v5, v8, v11, v12, v13, v17;
+    u64 v7, v14, v18;
+    u64 block0[3];
+    u64 block1[2];
+    v4 = ADDRESS(block0);
+    v5 = ADDRESS(block1);
+    v6 = a0 == 0u;
+    v7 = v6 ? 4096u : 0u;
+    v8 = a0 + v7 * 1u;
+    memory_set(v5, 0u, 9u);
+    memory_set(v4, 0u, 24u);
+    f16(v4, v8, a1);
+    v9 = load8(v4);
+    v10 = v9 == 0u;
+    if (v10) { goto L2; }
+    else { goto L1; }
+L1:;
+    v3 = 0u; goto L4;
+L2:;
+    v11 = v4 + 8u * 1u;
+    v12 = load_address(v11);
+    v13 = v4 + 16u * 1u;
+    v14 = load64(v13);
+    f54(v5, v12, v14);
+    v15 = load8(v5);
+    v16 = v15 == 1u;
+    if (v16) { goto L3; }
+    else { v3 = 0u; goto L4; }
+L3:;
+    v17 = v5 + 1u * 1u;
+    v18 = load64(v17);
+    store64(a2, v18);
+    v3 = 1u; goto L4;
+L4:;
+    return v3;
 }
 
 u32 portable_ptpm_image_seal_in(address a0, u64 a1, u64 a2, u64 a3, address a4) {
@@ -28410,7 +30275,7 @@ L1:;
     v18 = v7 + 4u * 1u;
     store64(v18, v17);
     store64(v16, 12u);
-    v19 = f48(v14, a2, v7, 12u);
+    v19 = f55(v14, a2, v7, 12u);
     v20 = swap32(v19);
     v21 = v7 + 12u * 1u;
     store32(v21, v20);
@@ -28436,7 +30301,7 @@ u32 portable_ptpm_image_unseal(address a0, u64 a1, address a2, address a3) {
     memory_set(v5, 0u, 24u);
     store64(a2, 0u);
     store64(a3, 0u);
-    f49(v5, v8, a1);
+    f56(v5, v8, a1);
     v9 = load8(v5);
     v10 = v9 == 0u;
     if (v10) { goto L1; }
@@ -28523,11 +30388,11 @@ u16 portable_ptpm_limits_say(address a0, u64 a1, address a2) {
     default: goto L11;
     }
 L1:;
-    v11 = f50(v8, a1, a2);
+    v11 = f57(v8, a1, a2);
     if (v11) { v5 = 6u; goto L12; }
     else { goto L11; }
 L2:;
-    v12 = f50(v8, a1, a2);
+    v12 = f57(v8, a1, a2);
     if (v12) { v5 = 5u; goto L12; }
     else { goto L3; }
 L3:;
@@ -28590,6 +30455,80 @@ L12:;
     return v5;
 }
 
+u32 portable_ptpm_member_kind(u16 a0, address a1, u64 a2, u64 a3) {
+    u32 v4, v27, v28;
+    address v5, v8, v12, v14, v15, v17, v19, v22, v25;
+    u8 v6, v11, v16, v18, v20, v24, v26;
+    u64 v7, v10, v13, v21, v23;
+    struct s5 v9;
+    u64 block0[3];
+    v5 = ADDRESS(block0);
+    v6 = a1 == 0u;
+    v7 = v6 ? 4096u : 0u;
+    v8 = a1 + v7 * 1u;
+    memory_set(v5, 0u, 24u);
+    v9 = f48(a0, v8, a2);
+    v10 = v9.m1;
+    v11 = a3 < v10;
+    if (v11) { goto L1; }
+    else { v4 = 0u; goto L12; }
+L1:;
+    v12 = v9.m0;
+    v13 = (u64)((u64)a3 * (u64)6u);
+    v14 = v12 + v13 * 1u;
+    v15 = v14 + 4u * 1u;
+    v16 = load8(v15);
+    v17 = v14 + 5u * 1u;
+    v18 = load8(v17);
+    v19 = v14 + 3u * 1u;
+    v20 = load8(v19);
+    v21 = (u64)v20;
+    v22 = v8 + v21 * 1u;
+    v23 = (u64)((u64)a2 - (u64)v21);
+    f50(v5, v16, v18, v22, v23);
+    v24 = load8(v5);
+    switch (v24) {
+    case 0u: v4 = 1u; goto L12;
+    case 1u: v4 = 1u; goto L12;
+    case 2u: goto L2;
+    case 3u: goto L3;
+    case 4u: goto L4;
+    case 5u: goto L5;
+    case 10u: goto L6;
+    case 8u: goto L7;
+    case 9u: goto L8;
+    case 6u: goto L9;
+    case 7u: goto L10;
+    default: goto L11;
+    }
+L2:;
+    v4 = 2u; goto L12;
+L3:;
+    v4 = 3u; goto L12;
+L4:;
+    v4 = 4u; goto L12;
+L5:;
+    v4 = 5u; goto L12;
+L6:;
+    v4 = 6u; goto L12;
+L7:;
+    v4 = 7u; goto L12;
+L8:;
+    v4 = 8u; goto L12;
+L9:;
+    v25 = v5 + 1u * 1u;
+    v26 = load8(v25);
+    v27 = (u32)v26;
+    v28 = (u32)((u32)v27 + (u32)16u);
+    v4 = v28; goto L12;
+L10:;
+    v4 = 0u; goto L12;
+L11:;
+    UNREACHABLE;
+L12:;
+    return v4;
+}
+
 u64 portable_ptpm_newest_image_in(address a0, u64 a1, u64 a2, address a3, address a4) {
     u64 v5, v6, v7, v8, v11, v12, v13, v14, v15, v16, v19, v22, v26, v30, v31, v35;
     u8 v9, v10, v18, v21, v23, v28, v29, v32, v33, v34, v36, v37;
@@ -28615,7 +30554,7 @@ L3:;
     memory_set(v17, 0u, 24u);
     v26 = (u64)((u64)v5 * (u64)a2);
     v27 = v20 + v26 * 1u;
-    f49(v17, v27, a2);
+    f56(v17, v27, a2);
     v28 = load8(v17);
     v29 = v28 == 0u;
     if (v29) { goto L5; }
@@ -28649,6 +30588,101 @@ L10:;
     return v16;
 }
 
+u32 portable_ptpm_number_named(u32 a0, address a1, u64 a2) {
+    u64 v3, v4, v11, v19, v20, v22, v23, v33, v36, v51;
+    u32 v5, v8, v53;
+    address v6, v7, v12, v16, v17, v18, v21, v24, v25, v26, v27, v29, v34, v38, v40;
+    u8 v9, v10, v13, v14, v15, v28, v30, v31, v32, v35, v37, v39, v41, v42, v43, v44;
+    u8 v45, v46, v47, v48, v49, v50, v52;
+    u64 block0[3];
+    u64 block1[3];
+    v6 = ADDRESS(block0);
+    v7 = ADDRESS(block1);
+    v8 = (u32)((u32)a0 + (u32)UINT32_C(4294967295));
+    v9 = v8 < 3u;
+    if (v9) { goto L1; }
+    else { v5 = UINT32_C(65536); goto L12; }
+L1:;
+    v10 = a1 == 0u;
+    v11 = v10 ? 4096u : 0u;
+    v12 = a1 + v11 * 1u;
+    v13 = (u8)(v8);
+    memory_set(v7, 0u, 24u);
+    f16(v7, v12, a2);
+    v14 = load8(v7);
+    v15 = v14 == 0u;
+    if (v15) { goto L2; }
+    else { goto L9; }
+L2:;
+    v16 = v7 + 8u * 1u;
+    v17 = load_address(v16);
+    v18 = v7 + 16u * 1u;
+    v19 = load64(v18);
+    memory_set(v6, 0u, 24u);
+    v20 = (u64)v8;
+    v21 = ADDRESS(c342) + v20 * 8u;
+    v22 = load64(v21);
+    v23 = (u64)v8;
+    v24 = ADDRESS(c343) + v23 * 8u;
+    v25 = load_address(v24);
+    v26 = v6 + 16u * 1u;
+    v27 = v6 + 8u * 1u;
+    v28 = v19 == 0u;
+    v3 = 0u; goto L3;
+L3:;
+    v29 = v25 + v3 * 1u;
+    v30 = load8(v29);
+    f42(v6, v13, v30);
+    v31 = load8(v6);
+    v32 = v31 == 1u;
+    if (v32) { goto L4; }
+    else { goto L8; }
+L4:;
+    v33 = load64(v26);
+    v34 = load_address(v27);
+    v35 = v19 == v33;
+    if (v35) { goto L5; }
+    else { goto L8; }
+L5:;
+    if (v28) { goto L11; }
+    else { v4 = 0u; goto L7; }
+L6:;
+    v36 = (u64)((u64)v4 + (u64)1u);
+    v37 = v36 == v19;
+    if (v37) { goto L11; }
+    else { v4 = v36; goto L7; }
+L7:;
+    v38 = v17 + v4 * 1u;
+    v39 = load8(v38);
+    v40 = v34 + v4 * 1u;
+    v41 = load8(v40);
+    v42 = (u8)((u32)v39 + (u32)191u);
+    v43 = v42 < 26u;
+    v44 = (u8)((u32)v39 + (u32)32u);
+    v45 = v43 ? v44 : v39;
+    v46 = (u8)((u32)v41 + (u32)191u);
+    v47 = v46 < 26u;
+    v48 = (u8)((u32)v41 + (u32)32u);
+    v49 = v47 ? v48 : v41;
+    v50 = v45 == v49;
+    if (v50) { goto L6; }
+    else { goto L8; }
+L8:;
+    v51 = (u64)((u64)v3 + (u64)1u);
+    v52 = v51 == v22;
+    if (v52) { goto L10; }
+    else { v3 = v51; goto L3; }
+L9:;
+    v5 = UINT32_C(65536); goto L12;
+L10:;
+    v5 = UINT32_C(65536); goto L12;
+L11:;
+    v53 = (u32)v30;
+    v5 = v53; goto L12;
+L12:;
+    return v5;
+}
+
 u32 portable_ptpm_other_id_at(u64 a0) {
     u32 v1, v7;
     u8 v2, v4;
@@ -28658,10 +30692,10 @@ u32 portable_ptpm_other_id_at(u64 a0) {
     if (v2) { goto L1; }
     else { v1 = UINT32_C(65536); goto L2; }
 L1:;
-    v3 = ADDRESS(c302) + a0 * 1u;
+    v3 = ADDRESS(c314) + a0 * 1u;
     v4 = load8(v3);
     v5 = (u64)v4;
-    v6 = ADDRESS(c331) + v5 * 4u;
+    v6 = ADDRESS(c346) + v5 * 4u;
     v7 = load32(v6);
     v1 = v7; goto L2;
 L2:;
@@ -28676,7 +30710,7 @@ u64 portable_ptpm_other_id_name(u16 a0, address a1, u64 a2) {
     v8 = v7 ? 4096u : 0u;
     v9 = a1 + v8 * 1u;
     switch (a0) {
-    case 1u: v3 = ADDRESS(c303); v4 = 17u; goto L10;
+    case 1u: v3 = ADDRESS(c315); v4 = 17u; goto L10;
     case 8207u: goto L9;
     case 8210u: goto L1;
     case 8211u: goto L2;
@@ -28689,23 +30723,23 @@ u64 portable_ptpm_other_id_name(u16 a0, address a1, u64 a2) {
     default: v6 = 0u; goto L14;
     }
 L1:;
-    v3 = ADDRESS(c305); v4 = 23u; goto L10;
+    v3 = ADDRESS(c317); v4 = 23u; goto L10;
 L2:;
-    v3 = ADDRESS(c306); v4 = 20u; goto L10;
+    v3 = ADDRESS(c318); v4 = 20u; goto L10;
 L3:;
-    v3 = ADDRESS(c307); v4 = 15u; goto L10;
+    v3 = ADDRESS(c319); v4 = 15u; goto L10;
 L4:;
-    v3 = ADDRESS(c308); v4 = 14u; goto L10;
+    v3 = ADDRESS(c320); v4 = 14u; goto L10;
 L5:;
-    v3 = ADDRESS(c309); v4 = 23u; goto L10;
+    v3 = ADDRESS(c321); v4 = 23u; goto L10;
 L6:;
-    v3 = ADDRESS(c310); v4 = 16u; goto L10;
+    v3 = ADDRESS(c322); v4 = 16u; goto L10;
 L7:;
-    v3 = ADDRESS(c311); v4 = 18u; goto L10;
+    v3 = ADDRESS(c323); v4 = 18u; goto L10;
 L8:;
-    v3 = ADDRESS(c312); v4 = 13u; goto L10;
+    v3 = ADDRESS(c324); v4 = 13u; goto L10;
 L9:;
-    v3 = ADDRESS(c304); v4 = 4u; goto L10;
+    v3 = ADDRESS(c316); v4 = 4u; goto L10;
 L10:;
     v10 = a2 < v4;
     if (v10) { v6 = 0u; goto L14; }
@@ -28757,13 +30791,13 @@ L1:;
     v14 = load64(v13);
     v2 = 0u; goto L2;
 L2:;
-    v15 = ADDRESS(c302) + v2 * 1u;
+    v15 = ADDRESS(c314) + v2 * 1u;
     v16 = load8(v15);
     v17 = (u64)v16;
-    v18 = ADDRESS(c329) + v17 * 8u;
+    v18 = ADDRESS(c344) + v17 * 8u;
     v19 = load64(v18);
     v20 = (u64)v16;
-    v21 = ADDRESS(c330) + v20 * 8u;
+    v21 = ADDRESS(c345) + v20 * 8u;
     v22 = load_address(v21);
     v23 = v14 == v19;
     if (v23) { v3 = 0u; goto L4; }
@@ -28796,7 +30830,7 @@ L5:;
     else { v2 = v39; goto L2; }
 L6:;
     v41 = (u64)v16;
-    v42 = ADDRESS(c331) + v41 * 4u;
+    v42 = ADDRESS(c346) + v41 * 4u;
     v43 = load32(v42);
     v4 = v43; goto L7;
 L7:;
@@ -28887,7 +30921,7 @@ L1:;
     store8(v67, v18);
     v68 = v7 + 25u * 1u;
     memory_set(v68, 0u, 7u);
-    v69 = f51(v11, v14, 4096u, v7, a3, a4);
+    v69 = f58(v11, v14, 4096u, v7, a3, a4);
     v5 = v69; goto L2;
 L2:;
     return v5;
@@ -28984,7 +31018,7 @@ L2:;
     store8(v72, v23);
     v73 = v9 + 25u * 1u;
     memory_set(v73, 0u, 7u);
-    v74 = f51(a0, v12, a2, v9, a5, a6);
+    v74 = f58(a0, v12, a2, v9, a5, a6);
     v7 = v74; goto L3;
 L3:;
     return v7;
@@ -29010,6 +31044,65 @@ void portable_ptpm_port_defaults(address a0) {
     v8 = a0 + 15u * 1u;
     store8(v8, 0u);
     return;
+}
+
+u8 portable_ptpm_port_identity_parse(address a0, u64 a1, address a2, address a3) {
+    u16 v4, v25, v29;
+    u64 v5, v11, v18, v24, v28;
+    u8 v6, v10, v13, v14, v19, v20, v26, v30;
+    address v7, v8, v9, v12, v15, v16, v17, v21, v22, v23, v27;
+    u64 block0[2];
+    u64 block1[2];
+    u64 block2[3];
+    v7 = ADDRESS(block0);
+    v8 = ADDRESS(block1);
+    v9 = ADDRESS(block2);
+    v10 = a0 == 0u;
+    v11 = v10 ? 4096u : 0u;
+    v12 = a0 + v11 * 1u;
+    memory_set(v9, 0u, 24u);
+    f16(v9, v12, a1);
+    v13 = load8(v9);
+    v14 = v13 == 0u;
+    if (v14) { goto L2; }
+    else { goto L1; }
+L1:;
+    v6 = 0u; goto L6;
+L2:;
+    v15 = v9 + 8u * 1u;
+    v16 = load_address(v15);
+    v17 = v9 + 16u * 1u;
+    v18 = load64(v17);
+    memory_set(v7, 0u, 12u);
+    memory_set(v8, 0u, 12u);
+    f59(v7, 47u, v16, v18);
+    v19 = load8(v7);
+    v20 = v19 == 1u;
+    v21 = v8 + 10u * 1u;
+    if (v20) { goto L3; }
+    else { goto L4; }
+L3:;
+    v22 = v7 + 2u * 1u;
+    v23 = v8 + 2u * 1u;
+    memory_cpy(v23, v22, 10u);
+    v24 = load64(v23);
+    v25 = load16(v21);
+    v4 = v25; v5 = v24; goto L5;
+L4:;
+    f59(v8, 45u, v16, v18);
+    v26 = load8(v8);
+    v27 = v8 + 2u * 1u;
+    v28 = load64(v27);
+    v29 = load16(v21);
+    v30 = v26 == 1u;
+    if (v30) { v4 = v29; v5 = v28; goto L5; }
+    else { v6 = 0u; goto L6; }
+L5:;
+    store64(a2, v5);
+    store16(a3, v4);
+    v6 = 1u; goto L6;
+L6:;
+    return v6;
 }
 
 void portable_ptpm_rate_start(address a0, u64 a1, u64 a2) {
@@ -29120,7 +31213,7 @@ L2:;
     v44 = v5 + 1u * 1u;
     v45 = load8(v44);
     v46 = (u64)v45;
-    v47 = ADDRESS(c332) + v46 * 4u;
+    v47 = ADDRESS(c347) + v46 * 4u;
     v48 = load32(v47);
     v4 = v48; goto L10;
 L3:;
@@ -29320,7 +31413,7 @@ L1:;
 L2:;
     v12 = (u64)((u64)v2 << (3u & 63u));
     v13 = v9 + v12 * 1u;
-    v14 = ADDRESS(c313) + v12 * 1u;
+    v14 = ADDRESS(c325) + v12 * 1u;
     v15 = load64(v13);
     v16 = load64(v14);
     v17 = v15 == v16;
@@ -29330,7 +31423,7 @@ L3:;
     v18 = (u64)((u64)v2 | (u64)1u);
     v19 = (u64)((u64)v18 << (3u & 63u));
     v20 = v9 + v19 * 1u;
-    v21 = ADDRESS(c313) + v19 * 1u;
+    v21 = ADDRESS(c325) + v19 * 1u;
     v22 = load64(v20);
     v23 = load64(v21);
     v24 = v22 == v23;
@@ -29340,7 +31433,7 @@ L4:;
     v25 = (u64)((u64)v2 | (u64)2u);
     v26 = (u64)((u64)v25 << (3u & 63u));
     v27 = v9 + v26 * 1u;
-    v28 = ADDRESS(c313) + v26 * 1u;
+    v28 = ADDRESS(c325) + v26 * 1u;
     v29 = load64(v27);
     v30 = load64(v28);
     v31 = v29 == v30;
@@ -29350,7 +31443,7 @@ L5:;
     v32 = (u64)((u64)v2 | (u64)3u);
     v33 = (u64)((u64)v32 << (3u & 63u));
     v34 = v9 + v33 * 1u;
-    v35 = ADDRESS(c313) + v33 * 1u;
+    v35 = ADDRESS(c325) + v33 * 1u;
     v36 = load64(v34);
     v37 = load64(v35);
     v38 = v36 == v37;
@@ -29380,7 +31473,7 @@ L10:;
 L11:;
     v47 = (u64)((u64)v4 << (3u & 63u));
     v48 = v9 + v47 * 1u;
-    v49 = ADDRESS(c313) + v47 * 1u;
+    v49 = ADDRESS(c325) + v47 * 1u;
     v50 = load64(v48);
     v51 = load64(v49);
     v52 = v50 == v51;
@@ -29390,7 +31483,7 @@ L12:;
     v53 = (u64)((u64)v4 | (u64)1u);
     v54 = (u64)((u64)v53 << (3u & 63u));
     v55 = v9 + v54 * 1u;
-    v56 = ADDRESS(c313) + v54 * 1u;
+    v56 = ADDRESS(c325) + v54 * 1u;
     v57 = load64(v55);
     v58 = load64(v56);
     v59 = v57 == v58;
@@ -29400,7 +31493,7 @@ L13:;
     v60 = (u64)((u64)v4 | (u64)2u);
     v61 = (u64)((u64)v60 << (3u & 63u));
     v62 = v9 + v61 * 1u;
-    v63 = ADDRESS(c313) + v61 * 1u;
+    v63 = ADDRESS(c325) + v61 * 1u;
     v64 = load64(v62);
     v65 = load64(v63);
     v66 = v64 == v65;
@@ -29410,7 +31503,7 @@ L14:;
     v67 = (u64)((u64)v4 | (u64)3u);
     v68 = (u64)((u64)v67 << (3u & 63u));
     v69 = v9 + v68 * 1u;
-    v70 = ADDRESS(c313) + v68 * 1u;
+    v70 = ADDRESS(c325) + v68 * 1u;
     v71 = load64(v69);
     v72 = load64(v70);
     v73 = v71 == v72;
@@ -29754,7 +31847,7 @@ L1:;
     memory_set(v35, 0u, 24u);
     v36 = v4 + 136u * 1u;
     store64(v36, UINT64_C(2611923443488327891));
-    v37 = f52(a0, v4);
+    v37 = f61(a0, v4);
     v2 = v37; goto L2;
 L2:;
     return v2;
@@ -29839,7 +31932,7 @@ L4:;
     memory_set(v40, 0u, 24u);
     v41 = v5 + 136u * 1u;
     store64(v41, UINT64_C(2611923443488327891));
-    v42 = f52(a0, v5);
+    v42 = f61(a0, v5);
     v3 = v42; goto L5;
 L5:;
     return v3;
@@ -29908,7 +32001,7 @@ L5:;
     if (v33) { goto L24; }
     else { goto L6; }
 L6:;
-    f53(v13, v28, v16, a3);
+    f62(v13, v28, v16, a3);
     v34 = load8(v13);
     v35 = v34 == 1u;
     if (v35) { goto L7; }
@@ -29991,7 +32084,7 @@ L10:;
     store_address(v91, v77);
     v92 = v9 + 16u * 1u;
     store64(v92, v78);
-    v93 = f60(v9);
+    v93 = f69(v9);
     if (v93) { goto L11; }
     else { goto L17; }
 L11:;
@@ -30042,7 +32135,7 @@ L16:;
 L17:;
     goto L19;
 L18:;
-    v118 = f61(v28, v10);
+    v118 = f70(v28, v10);
     v119 = v118 < 2u;
     if (v119) { goto L22; }
     else { goto L19; }
@@ -30540,7 +32633,7 @@ L3:;
     store_address(v43, ADDRESS(c112));
     v44 = v5 + 48u * 1u;
     store64(v44, 0u);
-    f62(v5, v6);
+    f71(v5, v6);
     v45 = v6 + 1472u * 1u;
     v46 = load64(v45);
     memory_cpy(v9, v6, v46);
@@ -30735,7 +32828,7 @@ L15:;
     portable_rattle_dealloc(v116);
     v12 = (struct s2){ 0 }; goto L18;
 L16:;
-    v126 = f65(v58, v78, a4, 0u, 0u, v64, a7);
+    v126 = f74(v58, v78, a4, 0u, 0u, v64, a7);
     v127 = v58 + 48u * 1u;
     v128 = load8(v127);
     v129 = v58 + 80u * 1u;
@@ -30869,7 +32962,7 @@ L31:;
     store8(v187, 0u);
     v188 = v73 + 353u * 1u;
     store8(v188, 0u);
-    f66(v53, v73, v76, a1);
+    f75(v53, v73, v76, a1);
     v189 = load8(v53);
     v190 = v53 + 1u * 1u;
     v191 = load8(v190);
@@ -30967,7 +33060,7 @@ L40:;
     else { goto L44; }
 L41:;
     v249 = v73 + 48u * 1u;
-    v250 = f67(v52, v55, v249);
+    v250 = f76(v52, v55, v249);
     v251 = v250.m0;
     v252 = v251 == 0u;
     if (v252) { goto L44; }
@@ -31026,7 +33119,7 @@ L49:;
 L50:;
     v279 = v73 + 80u * 1u;
     v280 = v73 + 48u * 1u;
-    v281 = f67(v279, v55, v280);
+    v281 = f76(v279, v55, v280);
     v282 = v281.m0;
     v26 = v282; goto L51;
 L51:;
@@ -31195,7 +33288,7 @@ L76:;
 L77:;
     v346 = v12.m1;
     v347 = (u64)v346;
-    v348 = ADDRESS(c336) + v347 * 4u;
+    v348 = ADDRESS(c351) + v347 * 4u;
     v349 = load32(v348);
     v47 = v349; goto L78;
 L78:;
@@ -31257,7 +33350,7 @@ L3:;
     else { goto L16; }
 L4:;
     v28 = v23 + 80u * 1u;
-    f68(v10, v28, v14, a2);
+    f77(v10, v28, v14, a2);
     v29 = load8(v10);
     v30 = v10 + 24u * 1u;
     v31 = load8(v30);
@@ -31329,7 +33422,7 @@ L11:;
     goto L18;
 L12:;
     v69 = v23 + 240u * 1u;
-    f68(v11, v69, v14, a2);
+    f77(v11, v69, v14, a2);
     v70 = load8(v11);
     v71 = v11 + 24u * 1u;
     v72 = load8(v71);
@@ -31652,7 +33745,7 @@ L11:;
     store_address(v56, v37);
     v57 = v11 + 16u * 1u;
     store64(v57, v39);
-    v58 = f64(v28, v11);
+    v58 = f73(v28, v11);
     v59 = v58.m0;
     v60 = v58.m1;
     v2 = v60; v3 = v59; goto L12;
@@ -31663,7 +33756,7 @@ L12:;
     v62.m1 = v2;
     v4 = v62; goto L14;
 L13:;
-    v63 = f65(v28, v29, v31, 0u, 0u, v37, v39);
+    v63 = f74(v28, v29, v31, 0u, 0u, v37, v39);
     v4 = v63; goto L14;
 L14:;
     v64 = v4.m0;
@@ -31707,7 +33800,7 @@ L20:;
 L21:;
     v78 = v4.m1;
     v79 = (u64)v78;
-    v80 = ADDRESS(c336) + v79 * 4u;
+    v80 = ADDRESS(c351) + v79 * 4u;
     v81 = load32(v80);
     v8 = 5u; v9 = v81; goto L22;
 L22:;
@@ -31789,7 +33882,7 @@ L6:;
     store8(v51, 0u);
     v52 = v38 + 353u * 1u;
     store8(v52, 0u);
-    f66(v22, v38, v40, a1);
+    f75(v22, v38, v40, a1);
     v53 = load8(v22);
     v54 = v22 + 1u * 1u;
     v55 = load8(v54);
@@ -32042,7 +34135,7 @@ L15:;
     store8(v71, 0u);
     v72 = v28 + 353u * 1u;
     store8(v72, 0u);
-    f66(v16, v28, v30, a1);
+    f75(v16, v28, v30, a1);
     v73 = load8(v16);
     v74 = v16 + 1u * 1u;
     v75 = load8(v74);
@@ -32392,7 +34485,7 @@ L6:;
     v43 = load16(v42);
     v44 = v33 + 237u * 1u;
     v45 = load8(v44);
-    f69(v23, v33, v36, a1, v43, v45);
+    f78(v23, v33, v36, a1, v43, v45);
     goto L47;
 L7:;
     memory_set(v22, 0u, 64u);
@@ -32506,7 +34599,7 @@ L15:;
     store_address(v96, v18);
     v97 = v20 + 48u * 1u;
     store64(v97, 0u);
-    f62(v20, v36);
+    f71(v20, v36);
     v98 = v33 + 32u * 1u;
     v99 = load64(v98);
     v100 = (u64)((u64)v99 + (u64)a1) < v99 ? UINT64_C(18446744073709551615) : (u64)((u64)v99 + (u64)a1);
@@ -32670,7 +34763,7 @@ L24:;
     store_address(v192, v175);
     v193 = v19 + 48u * 1u;
     store64(v193, v177);
-    f62(v19, v36);
+    f71(v19, v36);
     v194 = load8(v152);
     v195 = (u8)((u32)v194 + (u32)255u);
     store8(v152, v195);
@@ -32824,7 +34917,7 @@ L43:;
     v263 = load16(v262);
     v264 = (u16)((u32)v263 + (u32)16384u);
     v265 = (u8)((u32)v238 + (u32)255u);
-    f69(v22, v33, v36, a1, v264, v265);
+    f78(v22, v33, v36, a1, v264, v265);
     goto L44;
 L44:;
     memory_cpy(v23, v22, 64u);
@@ -32925,7 +35018,7 @@ L58:;
     v16 = 0u; goto L60;
 L59:;
     v307 = (u64)v284;
-    v308 = ADDRESS(c336) + v307 * 4u;
+    v308 = ADDRESS(c351) + v307 * 4u;
     v309 = load32(v308);
     v16 = v309; goto L60;
 L60:;
@@ -32951,7 +35044,7 @@ u32 portable_ptpm_clock_handle(address a0, u16 a1, address a2, u64 a3, address a
     v10 = a4 == 0u;
     v11 = v10 ? 4096u : 0u;
     v12 = a4 + v11 * 1u;
-    v13 = f70(a0, a1, v9, a3, v12, a5, a6);
+    v13 = f79(a0, a1, v9, a3, v12, a5, a6);
     return v13;
 }
 
@@ -33011,12 +35104,12 @@ L3:;
     store8(v22, 1u);
     v32 = a0 + 9u * 1u;
     memory_set(v32, 0u, 7u);
-    v33 = f70(a0, a1, v16, a3, v19, a5, a6);
+    v33 = f79(a0, a1, v16, a3, v19, a5, a6);
     v34 = v33 == 5u;
     if (v34) { goto L5; }
     else { v10 = v33; goto L10; }
 L4:;
-    v35 = f88(a0, a1, v16, a3, 0u, v19, a5, a6, a7);
+    v35 = f97(a0, a1, v16, a3, 0u, v19, a5, a6, a7);
     v10 = v35; goto L10;
 L5:;
     memory_set(v11, 0u, 12u);
@@ -33044,7 +35137,7 @@ L7:;
     memory_set(v32, 0u, 7u);
     v8 = 0u; v9 = 0u; goto L9;
 L8:;
-    f89(v11, v43, v12);
+    f98(v11, v43, v12);
     store64(v36, 1u);
     store_address(v40, v43);
     store_address(a0, v36);
@@ -33103,13 +35196,13 @@ L2:;
     memory_set(v23, 0u, 7u);
     goto L4;
 L3:;
-    f91(v9, v21, a1, v12, a3);
+    f100(v9, v21, a1, v12, a3);
     v24 = load8(v9);
     v25 = v24 == 0u;
     if (v25) { goto L5; }
     else { goto L14; }
 L4:;
-    v26 = f90(a0, a1, v12, a3, a4);
+    v26 = f99(a0, a1, v12, a3, a4);
     v8 = v26; goto L53;
 L5:;
     v27 = v9 + 8u * 1u;
@@ -33492,7 +35585,7 @@ L21:;
     memory_move(v109, v11, 80u);
     goto L23;
 L22:;
-    f81(v109, v11, v103);
+    f90(v109, v11, v103);
     goto L23;
 L23:;
     v110 = v106 + 8u * 1u;
@@ -33698,7 +35791,7 @@ L11:;
     if (v102) { goto L17; }
     else { goto L72; }
 L12:;
-    f73(v43, v62, a1, v49, a3, v52, a6);
+    f82(v43, v62, a1, v49, a3, v52, a6);
     v103 = load8(v43);
     v104 = v43 + 1u * 1u;
     v105 = load8(v104);
@@ -33707,21 +35800,21 @@ L12:;
     v27 = v103; v28 = v105; v29 = v107; goto L61;
 L13:;
     v108 = (u64)v92;
-    v109 = ADDRESS(c333) + v108 * 1u;
+    v109 = ADDRESS(c348) + v108 * 1u;
     v110 = load8(v109);
     memory_set(v41, 0u, 16u);
-    f53(v40, v62, v49, a3);
+    f62(v40, v62, v49, a3);
     v111 = load8(v40);
     v112 = v111 == 1u;
     if (v112) { goto L14; }
     else { goto L15; }
 L14:;
     v113 = v40 + 8u * 1u;
-    f93(v62, v113, v110);
-    f73(v41, v62, a1, v49, a3, v52, a6);
+    f102(v62, v113, v110);
+    f82(v41, v62, a1, v49, a3, v52, a6);
     v12 = 5u; v13 = 0u; goto L16;
 L15:;
-    f73(v41, v62, a1, v49, a3, v52, a6);
+    f82(v41, v62, a1, v49, a3, v52, a6);
     v114 = load8(v41);
     v115 = v41 + 1u * 1u;
     v116 = load8(v115);
@@ -33786,7 +35879,7 @@ L18:;
     store_address(v158, v144);
     v159 = v36 + 16u * 1u;
     store64(v159, v145);
-    v160 = f60(v36);
+    v160 = f69(v36);
     if (v160) { goto L19; }
     else { goto L25; }
 L19:;
@@ -33837,7 +35930,7 @@ L24:;
 L25:;
     goto L48;
 L26:;
-    v185 = f61(v62, v37);
+    v185 = f70(v62, v37);
     v186 = v185 == 0u;
     if (v186) { goto L27; }
     else { goto L48; }
@@ -34117,7 +36210,7 @@ L49:;
     store_address(v346, v332);
     v347 = v32 + 16u * 1u;
     store64(v347, v333);
-    v348 = f60(v32);
+    v348 = f69(v32);
     if (v348) { goto L50; }
     else { goto L56; }
 L50:;
@@ -34168,7 +36261,7 @@ L55:;
 L56:;
     goto L59;
 L57:;
-    v373 = f61(v62, v33);
+    v373 = f70(v62, v33);
     v374 = v373 == 1u;
     if (v374) { goto L58; }
     else { goto L59; }
@@ -34210,13 +36303,13 @@ L58:;
     store_address(v399, v332);
     v400 = v35 + 32u * 1u;
     store64(v400, v333);
-    f97(v62, v35, v120, v119);
-    f73(v39, v62, a1, v49, a3, v52, a6);
+    f106(v62, v35, v120, v119);
+    f82(v39, v62, a1, v49, a3, v52, a6);
     v401 = v39 + 8u * 1u;
     v402 = load64(v401);
     v24 = 5u; v25 = 0u; v26 = v402; goto L60;
 L59:;
-    f73(v39, v62, a1, v49, a3, v52, a6);
+    f82(v39, v62, a1, v49, a3, v52, a6);
     v403 = load8(v39);
     v404 = v39 + 1u * 1u;
     v405 = load8(v404);
@@ -34227,7 +36320,7 @@ L60:;
     v27 = v24; v28 = v25; v29 = v26; goto L61;
 L61:;
     store64(a7, v29);
-    f89(v46, v62, v44);
+    f98(v46, v62, v44);
     memory_cpy(a8, v46, 12u);
     switch (v27) {
     case 0u: goto L62;
@@ -34298,7 +36391,7 @@ L77:;
     if (v418) { goto L78; }
     else { v31 = 32u; goto L82; }
 L78:;
-    v419 = f88(a0, a1, v49, a3, 1u, v52, a6, a7, a8);
+    v419 = f97(a0, a1, v49, a3, 1u, v52, a6, a7, a8);
     v31 = v419; goto L82;
 L79:;
     memory_set(a0, 0u, 16u);
@@ -34466,7 +36559,7 @@ L2:;
     store8(v21, 1u);
     goto L4;
 L3:;
-    f98(v15, v28, a1, a2, a3, v18, a5);
+    f107(v15, v28, a1, a2, a3, v18, a5);
     v30 = load8(v15);
     v31 = v30 == 0u;
     if (v31) { goto L16; }
@@ -34496,7 +36589,7 @@ L6:;
 L7:;
     memory_set(v13, 0u, 16u);
     v41 = load_address(v39);
-    f98(v13, v41, a1, a2, a3, v18, a5);
+    f107(v13, v41, a1, a2, a3, v18, a5);
     v42 = load8(v13);
     v43 = v42 == 0u;
     if (v43) { goto L8; }
@@ -34532,14 +36625,14 @@ L11:;
     else { goto L13; }
 L12:;
     v58 = (u64)v54;
-    v59 = ADDRESS(c334) + v58 * 2u;
+    v59 = ADDRESS(c349) + v58 * 2u;
     v60 = load16(v59);
     store16(a7, v60);
     v8 = 4u; v9 = 26u; goto L14;
 L13:;
     store16(a7, 0u);
     v61 = (u64)v56;
-    v62 = ADDRESS(c335) + v61 * 4u;
+    v62 = ADDRESS(c350) + v61 * 4u;
     v63 = load32(v62);
     v8 = 4u; v9 = v63; goto L14;
 L14:;
@@ -34566,14 +36659,14 @@ L18:;
     v69 = v15 + 2u * 1u;
     v70 = load8(v69);
     v71 = (u64)v70;
-    v72 = ADDRESS(c334) + v71 * 2u;
+    v72 = ADDRESS(c349) + v71 * 2u;
     v73 = load16(v72);
     store16(a7, v73);
     v11 = 26u; goto L20;
 L19:;
     store16(a7, 0u);
     v74 = (u64)v67;
-    v75 = ADDRESS(c335) + v74 * 4u;
+    v75 = ADDRESS(c350) + v74 * 4u;
     v76 = load32(v75);
     v11 = v76; goto L20;
 L20:;
@@ -34620,7 +36713,7 @@ L2:;
 L3:;
     v22 = a1 < 4u;
     v23 = v22 ? a1 : 2u;
-    v24 = f65(v20, v23, a2, 1u, a3, v11, a5);
+    v24 = f74(v20, v23, a2, 1u, a3, v11, a5);
     v25 = v24.m0;
     v26 = v25 == 0u;
     if (v26) { goto L4; }
@@ -34657,7 +36750,7 @@ L6:;
 L7:;
     v44 = v24.m1;
     v45 = (u64)v44;
-    v46 = ADDRESS(c336) + v45 * 4u;
+    v46 = ADDRESS(c351) + v45 * 4u;
     v47 = load32(v46);
     v6 = 2u; v7 = v47; goto L8;
 L8:;
@@ -34747,7 +36840,7 @@ L8:;
     store_address(v44, v15);
     v45 = v12 + 16u * 1u;
     store64(v45, a5);
-    v46 = f64(v24, v12);
+    v46 = f73(v24, v12);
     v47 = v46.m0;
     v48 = v46.m1;
     v49 = v47 == 0u;
@@ -34789,7 +36882,7 @@ L12:;
     else { goto L13; }
 L13:;
     v69 = (u64)v8;
-    v70 = ADDRESS(c336) + v69 * 4u;
+    v70 = ADDRESS(c351) + v69 * 4u;
     v71 = load32(v70);
     v9 = 2u; v10 = v71; goto L14;
 L14:;
@@ -34909,7 +37002,7 @@ L2:;
     v3 = v19; v4 = 37u; goto L18;
 L3:;
     memory_set(v6, 0u, 56u);
-    f68(v6, v18, v9, a2);
+    f77(v6, v18, v9, a2);
     v20 = load8(v6);
     v21 = v6 + 16u * 1u;
     v22 = load64(v21);
@@ -35315,7 +37408,7 @@ L8:;
     store_address(v73, v56);
     v74 = v7 + 48u * 1u;
     store64(v74, v58);
-    f62(v7, v29);
+    f71(v7, v29);
     v75 = load8(v33);
     v76 = (u8)((u32)v75 + (u32)255u);
     store8(v33, v76);
@@ -36196,7 +38289,7 @@ L41:;
     if (v573) { goto L42; }
     else { v16 = v450; v17 = v449; goto L44; }
 L42:;
-    v574 = f99(v106);
+    v574 = f108(v106);
     v575 = v574 == 0u;
     if (v575) { goto L43; }
     else { goto L50; }
