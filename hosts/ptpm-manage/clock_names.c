@@ -25,6 +25,13 @@ static size_t place_of(const uint8_t identity[8]) {
     return place;
 }
 
+/* Whether a name is UTF-8. The library takes no other word, for a userDescription either. */
+static bool is_utf8(const char *name) {
+    uint8_t octets[PTPM_MOST_READ];
+    size_t size, member;
+    return ptpm_field_parse(PTPM_ID_USER_DESCRIPTION, name, strlen(name) + 1, octets, sizeof octets, &size, &member) != PTPM_NOT_WORDS;
+}
+
 /* Takes a line without its end: of a clock that is named twice the later name counts. */
 static void take_line(const char *path, size_t number, const char *line) {
     static const char blanks[] = " \t";
@@ -35,6 +42,7 @@ static void take_line(const char *path, size_t number, const char *line) {
     bool is_named = line[size] != '\0' && ptpm_identity_parse(line, size, identity);
     if (!is_named) refuse("--names %s: line %zu has no clockIdentity with a name after it", path, number);
     if (*name == '\0' || strlen(name) > MOST_NAME) refuse("--names %s: line %zu: a name has 1 to %d octets", path, number, MOST_NAME);
+    if (!is_utf8(name)) refuse("--names %s: line %zu: the name is no UTF-8", path, number);
     size_t place = place_of(identity);
     if (place == MOST_NAMES) refuse("--names %s: it has more than %d clocks", path, MOST_NAMES);
     write_identity(text, identity);
