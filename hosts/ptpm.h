@@ -18,9 +18,9 @@
      its size. No call is made from a signal handler, or in a forked child of a process with threads.
    - A call has the stack that it needs. As the library is built for x86-64 and aarch64, most calls take 500 octets. A start of a
      clock takes 5,300, its restore 3,700, and that of an asker 4,600. The message of a survey takes 1,700.
-     ptpm_clock_handle_said takes 5,800, ptpm_clock_ask 3,800 and ptpm_clock_set 3,300. ptpm_clock_handle_changed takes 3,000,
-     ptpm_field_parse 2,200, and ptpm_clock_handle and ptpm_clock_observe 1,200 each. The images, the restore of a session,
-     ptpm_asker_ask and ptpm_asker_wake take 1,000 each.
+     The call ptpm_clock_handle_said takes 5,800, ptpm_clock_ask 3,800, and ptpm_clock_set 3,300. The call
+     ptpm_clock_handle_changed takes 3,000, and ptpm_field_parse 2,200. The calls ptpm_clock_handle and ptpm_clock_observe
+     take 1,200 each. The images, the restore of a session, ptpm_asker_ask and ptpm_asker_wake take 1,000 each.
      As C it takes more (docs/embedding.md, "On any other processor"). Beyond that a call takes the stack of the host's malloc,
      realloc, free, memcpy, memmove and memset. No call calls itself.
 
