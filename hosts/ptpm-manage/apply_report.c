@@ -3,7 +3,6 @@
 #include "field_text.h"
 #include "names.h"
 #include "notices.h"
-#include "text.h"
 #include "words.h"
 #include <string.h>
 
@@ -19,12 +18,6 @@ void write_member_name(FILE *to, const struct step *step) {
     else fprintf(to, " %04x", step->id);
 }
 
-/* A text comes from a network, and is printed as the locale has it. */
-static void write_one(FILE *to, const struct member *member, const uint8_t *octets) {
-    if (is_named(member, "userDescription")) print_text(to, octets + 1, octets[0]);
-    else fputs(member->value, to);
-}
-
 static bool has_one_member(uint16_t id, const struct value *value) {
     static struct field_lines lines;
     struct member member;
@@ -37,12 +30,11 @@ void write_value(FILE *to, uint16_t id, const uint8_t *octets, size_t size) {
     struct member member;
     start_lines(&lines, id, octets, size);
     for (bool is_first = true; next_member(&lines, &member); is_first = false) {
-        fprintf(to, "%s%s ", is_first ? "" : ", ", member.name);
-        write_one(to, &member, octets);
+        fprintf(to, "%s%s %s", is_first ? "" : ", ", member.name, member.value);
     }
 }
 
-/* Each member that it changes, `37 -> 38`, with its name if there are more. */
+/* Each member that it changes, `37 -> 38`, with its name if there are more. A text is as the plan has it, in ASCII. */
 static void write_change(FILE *to, const struct step *step) {
     static struct field_lines before, after;
     struct member was, is;
@@ -53,9 +45,7 @@ static void write_change(FILE *to, const struct step *step) {
         if (!is_one && strcmp(was.value, is.value) == 0) continue;
         fputs(is_first ? " " : ", ", to);
         if (!is_one) fprintf(to, "%s ", is.name);
-        write_one(to, &was, step->before.octets);
-        fputs(" -> ", to);
-        write_one(to, &is, step->after.octets);
+        fprintf(to, "%s -> %s", was.value, is.value);
         is_first = false;
     }
 }
