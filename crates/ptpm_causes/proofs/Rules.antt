@@ -16,7 +16,7 @@ use Rattle.ptpm_site.specs.declared.tai_and_utc.OffByUtc.{OffByUtc}
 use Rattle.ptpm_site.specs.declared.tai_and_utc.OffByUtc.TheVariants as shows
 use Rattle.ptpm_site.specs.Following.{beside, followed, is_own_grandmaster}
 use Rattle.ptpm_site.specs.Grandmasters.{in_domain}
-use Rattle.ptpm_site.specs.SiteAnswers.{SiteAnswers}
+use Rattle.ptpm_site.specs.SiteAnswers.{SiteAnswers, parent_of}
 use Rattle.ptpm_causes.specs.declared.cause.Cause.{Cause}
 use Rattle.ptpm_causes.specs.declared.kind.Kind.TheVariants as kinds
 use Rattle.ptpm_causes.specs.Found.{Knowledge}
@@ -101,7 +101,7 @@ module _ (known : Knowledge) (s : Source) (p : Cause → Bool) where
       → ((g : Source) → is_own_grandmaster site s ≡ false → firsts (at kinds.Changed g ∷ [])) → holds p (change_cause site known s m) ≡ true
   of_change site m h k l n =
       or_holds p (first_of known (at kinds.IdentityTwice s ∷ [])) _ h
-      (then_holds p _ (site.parent s) (λ q. or_holds p _ _ (of_moved m (beside s q.grandmaster) (k (beside s q.grandmaster)))
+      (then_holds p _ (parent_of site s) (λ q. or_holds p _ _ (of_moved m (beside s q.grandmaster) (k (beside s q.grandmaster)))
       (of_given m (beside s q.grandmaster) (is_own_grandmaster site s) l (n (beside s q.grandmaster)))))
 
 -- ---- each cause is there
@@ -117,7 +117,7 @@ there_masterless site known s _ = refl
 
 there_offset : (site : SiteAnswers) (known : Knowledge) (s : Source) (how : OffByUtc) → holds known.among (offset_cause site known s how) ≡ true
 there_offset site known s (shows.Offset offset) =
-    then_holds known.among (λ p. first_of known (at kinds.OffByUtc (beside s p.grandmaster) ∷ [])) (site.parent s)
+    then_holds known.among (λ p. first_of known (at kinds.OffByUtc (beside s p.grandmaster) ∷ [])) (parent_of site s)
     (λ q. there known (at kinds.OffByUtc (beside s q.grandmaster) ∷ []))
 there_offset site known s _ = refl
 

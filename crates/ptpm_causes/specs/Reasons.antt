@@ -17,7 +17,7 @@ use Rattle.ptpm_site.specs.declared.tai_and_utc.OffByUtc.{OffByUtc}
 use Rattle.ptpm_site.specs.declared.tai_and_utc.OffByUtc.TheVariants as shows
 use Rattle.ptpm_site.specs.Following.{beside, followed, is_own_grandmaster}
 use Rattle.ptpm_site.specs.Grandmasters.{in_domain}
-use Rattle.ptpm_site.specs.SiteAnswers.{SiteAnswers}
+use Rattle.ptpm_site.specs.SiteAnswers.{SiteAnswers, parent_of}
 use Rattle.ptpm_causes.specs.declared.cause.Cause.{Cause}
 use Rattle.ptpm_causes.specs.declared.kind.Kind.{Kind}
 use Rattle.ptpm_causes.specs.declared.kind.Kind.TheVariants as kinds
@@ -114,14 +114,14 @@ abbrev pub change_cause : SiteAnswers → Knowledge → Source → Member → Op
 change_cause site known s m = option_or (first_of known (at kinds.IdentityTwice s ∷ []))
     (option_and_then (λ p. option_or
     (moved_cause known s m (beside s p.grandmaster))
-    (given_cause known s m (beside s p.grandmaster) (is_own_grandmaster site s))) (site.parent s))
+    (given_cause known s m (beside s p.grandmaster) (is_own_grandmaster site s))) (parent_of site s))
 
 -- ---- the rest
 
 -- of a clock that takes TAI and UTC for each other: its grandmaster is one that gives the wrong time to all
 abbrev pub offset_cause : SiteAnswers → Knowledge → Source → OffByUtc → Option Cause
 offset_cause site known s (shows.Offset offset) =
-    option_and_then (λ p. first_of known (at kinds.OffByUtc (beside s p.grandmaster) ∷ [])) (site.parent s)
+    option_and_then (λ p. first_of known (at kinds.OffByUtc (beside s p.grandmaster) ∷ [])) (parent_of site s)
 offset_cause site known s _ = None
 
 -- another parent than the inventory wants, by another grandmaster of the domain

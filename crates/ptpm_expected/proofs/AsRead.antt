@@ -1,8 +1,9 @@
--- Each member of a data set that was read is what the octets at its place say.
-use Rattle.std.proofs.Common.{arith, ◌≡◌, ◌∙◌, ap, refl, sym, subst, ℕ, ◌+◌, ◌%◌, ◌^◌, ◌<◌, Bool, true, false, cond, not, List, drop, length, Some, None}
+-- Each number that was read is what the octets at the place of its member say.
+use Rattle.std.proofs.Common.{arith, ◌≡◌, ◌∙◌, ap, refl, sym, subst, ℕ, ◌+◌, ◌^◌, ◌<◌, Bool, true, false, cond, not, List, [], drop, length, Option, Some, None}
 use Rattle.std.specs.Prelude.{◌==◌, bit_and}
-use Rattle.std.specs.Int.{bit_at, cast_signed, w8, w16, w32, w64}
-use Rattle.std.specs.List.{All, AllByRecursion}
+use Rattle.std.specs.Int.{bit_at, cast_signed, w8, w16, w64}
+use Rattle.std.specs.List.{All, AllByRecursion, find}
+use Rattle.std.specs.Option.{option_map}
 use Rattle.std.proofs.lemmas.Int.{ints}
 use Rattle.std.proofs.lemmas.List.{get_or-drop}
 use Rattle.std.proofs.lemmas.List.Elements.{All-from_recursion}
@@ -12,19 +13,25 @@ use Rattle.byteorder.specs.Numbers.{big_from-lt}
 use Rattle.ptpm_codec.specs.Layout.{clock_identity_at, number_at, octet, port_identity_at}
 use Rattle.ptpm_codec.specs.declared.identity.PortIdentity.{PortIdentity}
 use Rattle.ptpm_data.specs.declared.management_id.Layout.TheVariants as layouts
-use Rattle.ptpm_data.specs.ImageReading.{i16_at, i32_at, i64_at, i8_at}
+use Rattle.ptpm_data.specs.ImageReading.{i16_at, i64_at, i8_at}
 use Rattle.ptpm_data.specs.SetLaws.{AreOctets}
+use Rattle.ptpm_members.specs.FieldText.{members_in}
+use Rattle.ptpm_members.specs.declared.forms.Field.{Field}
+use Rattle.ptpm_members.specs.declared.names.Member.{Member}
 use Rattle.ptpm_members.specs.declared.number_names.Enumeration.{Enumeration}
 use Rattle.ptpm_members.specs.declared.number_names.Enumeration.TheVariants as enumerations
-use Rattle.ptpm_members.specs.Tables.{fields_of}
-use Rattle.ptpm_members.specs.Values.{Flag, Interval, Named, Signed, Unsigned}
-use Rattle.ptpm_expected.specs.AsRead.{IsAsRead, port_answer_says}
+use Rattle.ptpm_members.specs.Tables.{fields_of, is_whole}
+use Rattle.ptpm_members.specs.Values.{Said, Flag, Interval, Named, Signed, Unsigned, said_in}
+use Rattle.ptpm_expected.specs.AsRead.{IsSaid, current_values, default_values, parent_values, port_values, time_values}
+use Rattle.ptpm_site.specs.declared.asked.Asked.{Asked}
+use Rattle.ptpm_site.specs.declared.asked.Asked.TheVariants as id
 use Rattle.ptpm_site.specs.declared.data_sets.CurrentDataSet.{CurrentDataSet}
 use Rattle.ptpm_site.specs.declared.data_sets.DefaultDataSet.{DefaultDataSet}
 use Rattle.ptpm_site.specs.declared.data_sets.ParentDataSet.{ParentDataSet}
 use Rattle.ptpm_site.specs.declared.data_sets.PortDataSet.{PortDataSet}
 use Rattle.ptpm_site.specs.declared.data_sets.TimePropertiesDataSet.{TimePropertiesDataSet}
-use Rattle.ptpm_site.specs.Members.{current_says, default_says, parent_says, time_says}
+use Rattle.ptpm_site.specs.Ids.{number_of}
+use Rattle.ptpm_site.specs.Members.{field_says, same_member}
 use Rattle.ptpm_site.specs.Octets.{current_read, default_read, flag_at, of_length, parent_read, port_read, quality_at, time_read}
 
 -- ---- octets and numbers from a place on
@@ -49,9 +56,6 @@ signed_8 n small = grind (arith, ints)
 signed_16 : (n : ℕ) → n < 256 ^ 2 → cast_signed w16 n ≡ twos_complement 2 n
 signed_16 n small = grind (arith, ints)
 
-signed_32 : (n : ℕ) → n < 256 ^ 4 → cast_signed w32 n ≡ twos_complement 4 n
-signed_32 n small = grind (arith, ints)
-
 signed_64 : (n : ℕ) → n < 256 ^ 8 → cast_signed w64 n ≡ twos_complement 8 n
 signed_64 n small = grind (arith, ints)
 
@@ -68,9 +72,6 @@ flag_pow n k = grind (arith, and_pow, bit_at-lt)
 module _ (octets : List ℕ) (small : AreOctets octets) where
   number : (place : ℕ) → Some (Unsigned (octet place octets)) ≡ Some (Unsigned (big_number 1 (drop place octets)))
   number place = ap (λ n. Some (Unsigned n)) (one_octet place octets)
-
-  low_number : (place : ℕ) → Some (Unsigned (octet place octets % 16)) ≡ Some (Unsigned (octet 0 (drop place octets) % 16))
-  low_number place = ap (λ n. Some (Unsigned (n % 16))) (here place octets)
 
   named : (e : Enumeration) (place : ℕ) → Some (Named e (octet place octets)) ≡ Some (Named e (octet 0 (drop place octets)))
   named e place = ap (λ n. Some (Named e n)) (here place octets)
@@ -91,63 +92,95 @@ module _ (octets : List ℕ) (small : AreOctets octets) where
   unfolding i16_at
   signed_2 place = ap (λ z. Some (Signed z)) (signed_16 _ (below place 2))
 
-  signed_4 : (place : ℕ) → Some (Signed (i32_at place octets)) ≡ Some (Signed (twos_complement 4 (big_number 4 (drop place octets))))
-  unfolding i32_at
-  signed_4 place = ap (λ z. Some (Signed z)) (signed_32 _ (below place 4))
-
   interval : (place : ℕ) → Some (Interval (i64_at place octets)) ≡ Some (Interval (twos_complement 8 (big_number 8 (drop place octets))))
   unfolding i64_at
   interval place = ap (λ z. Some (Interval z)) (signed_64 _ (below place 8))
 
 -- ---- each data set
 
--- what holds of the data set that the octets are holds of the one that was read
-of_read : {A : Type 0} (P : A → Type 0) (n : ℕ) (octets : List ℕ) (r d : A) → of_length n octets r ≡ Some d → P r → P d
-of_read {A} P n octets r d read holds = subst P (by_test (length octets == n) read) holds where
-  by_test : (b : Bool) → cond b (Some r) None ≡ Some d → r ≡ d
-  by_test true h = cc
-  by_test false h = cc
+-- what holds of the data set that octets of this length are holds of the one that was read
+of_read : {A : Type 0} (P : A → Type 0) (n : ℕ) (octets : List ℕ) (r d : A) → of_length n octets r ≡ Some d → ((length octets == n) ≡ true → P r) → P d
+of_read {A} P n octets r d read holds = by_test (length octets == n) refl read where
+  by_test : (b : Bool) → (length octets == n) ≡ b → cond b (Some r) None ≡ Some d → P d
+  by_test true long h = subst P (some_same h) (holds long) where
+    some_same : Some r ≡ Some d → r ≡ d
+    some_same e = cc
+  by_test false long h = cc
+
+-- the members of a dataField are those of its table
+default_fields : (octets : List ℕ) → (length octets == 20) ≡ true → members_in (number_of id.DefaultDataSet) octets ≡ fields_of layouts.DefaultDataSet
+unfolding members_in is_whole
+default_fields octets long = ap (λ b. cond b (fields_of layouts.DefaultDataSet) []) long
+
+current_fields : (octets : List ℕ) → (length octets == 18) ≡ true → members_in (number_of id.CurrentDataSet) octets ≡ fields_of layouts.CurrentDataSet
+unfolding members_in is_whole
+current_fields octets long = ap (λ b. cond b (fields_of layouts.CurrentDataSet) []) long
+
+parent_fields : (octets : List ℕ) → (length octets == 32) ≡ true → members_in (number_of id.ParentDataSet) octets ≡ fields_of layouts.ParentDataSet
+unfolding members_in is_whole
+parent_fields octets long = ap (λ b. cond b (fields_of layouts.ParentDataSet) []) long
+
+time_fields : (octets : List ℕ) → (length octets == 4) ≡ true → members_in (number_of id.TimePropertiesDataSet) octets ≡ fields_of layouts.TimePropertiesDataSet
+unfolding members_in is_whole
+time_fields octets long = ap (λ b. cond b (fields_of layouts.TimePropertiesDataSet) []) long
+
+port_fields : (octets : List ℕ) → (length octets == 26) ≡ true → members_in (number_of id.PortDataSet) octets ≡ fields_of layouts.PortDataSet
+unfolding members_in is_whole
+port_fields octets long = ap (λ b. cond b (fields_of layouts.PortDataSet) []) long
+
+-- what a table has at a member is what the answer says of it
+abbrev at_place : List Field → List ℕ → Member → Option Said
+at_place fields octets m = option_map (λ f. said_in f.2 (drop f.1 octets)) (find (λ f. same_member f.0 m) fields)
+
+module _ (asked : Asked) (octets : List ℕ) (fields : List Field) (are : members_in (number_of asked) octets ≡ fields) where
+  said : (m : Member) (v : Said) → Some v ≡ at_place fields octets m → field_says asked octets m ≡ Some v
+  said m v is = ap (λ fs. at_place fs octets m) are ∙ sym is
 
 pub default_as_read : (octets : List ℕ) (d : DefaultDataSet) → AreOctets octets → default_read octets ≡ Some d
-    → All (IsAsRead (default_says d) octets) (fields_of layouts.DefaultDataSet)
-unfolding default_read quality_at number_at clock_identity_at
+    → All (IsSaid id.DefaultDataSet octets) (default_values d)
+unfolding default_read quality_at number_at
 default_as_read octets d small read =
     let o = octets in
-    All-from_recursion (IsAsRead (default_says d) octets) (fields_of layouts.DefaultDataSet)
-    (of_read (λ e. AllByRecursion (IsAsRead (default_says e) octets) (fields_of layouts.DefaultDataSet)) 20 octets _ d read
-    (flag o small 0 0, (flag o small 0 1, (refl, (number o small 4, (number o small 5, (number o small 6, (refl, (number o small 9, (refl, (number o small 18, tt)))))))))))
+    All-from_recursion (IsSaid id.DefaultDataSet octets) (default_values d)
+    (of_read (λ e. AllByRecursion (IsSaid id.DefaultDataSet octets) (default_values e)) 20 octets _ d read (λ long.
+    let says = said id.DefaultDataSet octets _ (default_fields octets long) in
+    (says _ _ (flag o small 0 1), (says _ _ refl, (says _ _ (number o small 4), (says _ _ (number o small 5), (says _ _ (number o small 6), (says _ _ refl, (says _ _ (number o small 9), (says _ _ (number o small 18), tt))))))))))
 
 pub current_as_read : (octets : List ℕ) (d : CurrentDataSet) → AreOctets octets → current_read octets ≡ Some d
-    → All (IsAsRead (current_says d) octets) (fields_of layouts.CurrentDataSet)
+    → All (IsSaid id.CurrentDataSet octets) (current_values d)
 unfolding current_read number_at
 current_as_read octets d small read =
-    All-from_recursion (IsAsRead (current_says d) octets) (fields_of layouts.CurrentDataSet)
-    (of_read (λ e. AllByRecursion (IsAsRead (current_says e) octets) (fields_of layouts.CurrentDataSet)) 18 octets _ d read
-    (refl, (interval octets small 2, (interval octets small 10, tt))))
+    All-from_recursion (IsSaid id.CurrentDataSet octets) (current_values d)
+    (of_read (λ e. AllByRecursion (IsSaid id.CurrentDataSet octets) (current_values e)) 18 octets _ d read (λ long.
+    let says = said id.CurrentDataSet octets _ (current_fields octets long) in
+    (says _ _ refl, (says _ _ (interval octets small 2), (says _ _ (interval octets small 10), tt)))))
 
 pub parent_as_read : (octets : List ℕ) (d : ParentDataSet) → AreOctets octets → parent_read octets ≡ Some d
-    → All (IsAsRead (parent_says d) octets) (fields_of layouts.ParentDataSet)
+    → All (IsSaid id.ParentDataSet octets) (parent_values d)
 unfolding parent_read quality_at number_at clock_identity_at port_identity_at
 parent_as_read octets d small read =
     let o = octets in
-    All-from_recursion (IsAsRead (parent_says d) octets) (fields_of layouts.ParentDataSet)
-    (of_read (λ e. AllByRecursion (IsAsRead (parent_says e) octets) (fields_of layouts.ParentDataSet)) 32 octets _ d read
-    (refl, (flag o small 10 0, (refl, (signed_4 o small 14, (number o small 18, (number o small 19, (number o small 20, (refl, (number o small 23, (refl, tt)))))))))))
+    All-from_recursion (IsSaid id.ParentDataSet octets) (parent_values d)
+    (of_read (λ e. AllByRecursion (IsSaid id.ParentDataSet octets) (parent_values e)) 32 octets _ d read (λ long.
+    let says = said id.ParentDataSet octets _ (parent_fields octets long) in
+    (says _ _ refl, (says _ _ (number o small 18), (says _ _ (number o small 19), (says _ _ (number o small 20), (says _ _ refl, (says _ _ (number o small 23), (says _ _ refl, tt)))))))))
 
 pub time_as_read : (octets : List ℕ) (d : TimePropertiesDataSet) → AreOctets octets → time_read octets ≡ Some d
-    → All (IsAsRead (time_says d) octets) (fields_of layouts.TimePropertiesDataSet)
+    → All (IsSaid id.TimePropertiesDataSet octets) (time_values d)
 unfolding time_read
 time_as_read octets d small read =
     let o = octets in
-    All-from_recursion (IsAsRead (time_says d) octets) (fields_of layouts.TimePropertiesDataSet)
-    (of_read (λ e. AllByRecursion (IsAsRead (time_says e) octets) (fields_of layouts.TimePropertiesDataSet)) 4 octets _ d read
-    (signed_2 o small 0, (flag o small 2 0, (flag o small 2 1, (flag o small 2 2, (flag o small 2 3, (flag o small 2 4, (flag o small 2 5, (named o small enumerations.TimeSource 3, tt)))))))))
+    All-from_recursion (IsSaid id.TimePropertiesDataSet octets) (time_values d)
+    (of_read (λ e. AllByRecursion (IsSaid id.TimePropertiesDataSet octets) (time_values e)) 4 octets _ d read (λ long.
+    let says = said id.TimePropertiesDataSet octets _ (time_fields octets long) in
+    (says _ _ (signed_2 o small 0), (says _ _ (flag o small 2 0), (says _ _ (flag o small 2 1), (says _ _ (flag o small 2 2), (says _ _ (flag o small 2 3), (says _ _ (flag o small 2 4), (says _ _ (flag o small 2 5), (says _ _ (named o small enumerations.TimeSource 3), tt))))))))))
 
 pub port_as_read : (octets : List ℕ) (p : PortIdentity × PortDataSet) → AreOctets octets → port_read octets ≡ Some p
-    → All (IsAsRead (port_answer_says p) octets) (fields_of layouts.PortDataSet)
+    → All (IsSaid id.PortDataSet octets) (port_values p)
 unfolding port_read number_at clock_identity_at port_identity_at
 port_as_read octets p small read =
     let o = octets in
-    All-from_recursion (IsAsRead (port_answer_says p) octets) (fields_of layouts.PortDataSet)
-    (of_read (λ e. AllByRecursion (IsAsRead (port_answer_says e) octets) (fields_of layouts.PortDataSet)) 26 octets _ p read
-    (refl, (named o small enumerations.PortState 10, (signed_1 o small 11, (interval o small 12, (signed_1 o small 20, (number o small 21, (signed_1 o small 22, (named o small enumerations.DelayMechanism 23, (signed_1 o small 24, (low_number o small 25, tt)))))))))))
+    All-from_recursion (IsSaid id.PortDataSet octets) (port_values p)
+    (of_read (λ e. AllByRecursion (IsSaid id.PortDataSet octets) (port_values e)) 26 octets _ p read (λ long.
+    let says = said id.PortDataSet octets _ (port_fields octets long) in
+    (says _ _ refl, (says _ _ (named o small enumerations.PortState 10), (says _ _ (signed_1 o small 11), (says _ _ (interval o small 12), (says _ _ (signed_1 o small 20), (says _ _ (number o small 21), (says _ _ (signed_1 o small 22), (says _ _ (named o small enumerations.DelayMechanism 23), (says _ _ (signed_1 o small 24), tt)))))))))))

@@ -1,16 +1,19 @@
 -- Whether the members of a clock are as an inventory wants them.
-use Rattle.std.specs.Prelude.{◌≡◌, ℕ, ◌==◌, ◌-◌, Bool, true, false, not, is_some, List, length, slice_get, Option, Some, None, option_and_then, bytes_eq, string_bytes}
+use Rattle.std.specs.Prelude.{◌≡◌, ℕ, ◌==◌, Bool, true, false, not, is_some, List, Option, Some, None, option_and_then, bytes_eq, string_bytes}
 use Rattle.std.specs.List.{list_any}
 use Rattle.std.specs.Option.{option_map, option_map_or}
 use Rattle.ptpm_members.specs.declared.names.Member.{Member}
 use Rattle.ptpm_members.specs.NumberNames.{name_of}
 use Rattle.ptpm_members.specs.Values.{Said, Named, Quality, Text, said}
+use Rattle.ptpm_site.specs.declared.asked.Asked.{Asked}
+use Rattle.ptpm_site.specs.declared.asked.Asked.TheVariants as id
 use Rattle.ptpm_site.specs.declared.clock.Received.{Received}
 use Rattle.ptpm_site.specs.declared.expected.Unmet.{Unmet}
 use Rattle.ptpm_site.specs.declared.expected.Wanted.{Wanted}
 use Rattle.ptpm_site.specs.declared.expected.Wanted.TheVariants as wanted
 use Rattle.ptpm_site.specs.declared.source.Source.{Source}
-use Rattle.ptpm_site.specs.Members.{current_says, default_says, description_says, parent_says, port_says, same_value, time_says}
+use Rattle.ptpm_site.specs.Answers.{last_of}
+use Rattle.ptpm_site.specs.Members.{answer_says, same_value}
 use Rattle.ptpm_site.specs.SiteAnswers.{SiteAnswers}
 use Rattle.ptpm_expected.specs.declared.inventory.MemberRule.{MemberRule}
 use Rattle.ptpm_expected.specs.Numbers.{is_between}
@@ -36,8 +39,11 @@ is_met all v = list_any (λ w. meets w v) all
 -- ---- what a clock says of a member
 
 -- by the last answer, which counts
-abbrev pub last_says : {A : Type 0} → (A → Member → Option Said) → List (Received A) → Member → Option Said
-last_says says received m = option_and_then (λ last. says last.set m) (slice_get received (length received - 1))
+abbrev pub last_says : Asked → List Received → Member → Option Said
+last_says id received m = option_and_then (λ last. answer_says id last.octets.items m) (last_of received)
+
+abbrev pub id_says : SiteAnswers → Source → Asked → Member → Option Said
+id_says site s id m = last_says id (site.answers s id) m
 
 abbrev pub first_some : Option Said → Option Said → Option Said
 first_some (Some v) second = Some v
@@ -45,14 +51,14 @@ first_some None second = second
 
 abbrev pub clock_says : SiteAnswers → Source → Member → Option Said
 clock_says site s m =
-    first_some (last_says default_says (site.defaults s) m)
-    (first_some (last_says current_says (site.currents s) m)
-    (first_some (last_says parent_says (site.parents s) m)
-    (first_some (last_says time_says (site.times s) m) (last_says description_says (site.descriptions s) m))))
+    first_some (id_says site s id.DefaultDataSet m)
+    (first_some (id_says site s id.CurrentDataSet m)
+    (first_some (id_says site s id.ParentDataSet m)
+    (first_some (id_says site s id.TimePropertiesDataSet m) (id_says site s id.UserDescription m))))
 
 -- of the clock, or of a port
 abbrev pub rule_says : SiteAnswers → Source → Option ℕ → Member → Option Said
-rule_says site s (Some n) m = last_says port_says (site.port_answers s n) m
+rule_says site s (Some n) m = last_says id.PortDataSet (site.port_answers s n) m
 rule_says site s None m = clock_says site s m
 
 -- ---- a line of the inventory holds

@@ -16,7 +16,6 @@ use Rattle.ptpm_members.specs.declared.values.MemberValue.TheVariants as values
 use Rattle.ptpm_members.specs.Values.{said}
 use Rattle.ptpm_site.specs.declared.data_sets.DefaultDataSet.{DefaultDataSet}
 use Rattle.ptpm_site.specs.declared.data_sets.PortDataSet.{PortDataSet}
-use Rattle.ptpm_site.specs.declared.expected.Allowed.{Allowed}
 use Rattle.ptpm_site.specs.declared.expected.Allowed.TheVariants as allowed
 use Rattle.ptpm_site.specs.declared.expected.Outside.{Outside}
 use Rattle.ptpm_site.specs.declared.source.Source.{Source}
@@ -26,7 +25,7 @@ use Rattle.ptpm_site.specs.Following.{beside}
 use Rattle.ptpm_site.specs.Grandmasters.{leads}
 use Rattle.ptpm_site.specs.Leading.{has_source}
 use Rattle.ptpm_site.specs.PortStates.{is_following, is_giving, measures_end_to_end, measures_link}
-use Rattle.ptpm_site.specs.SiteAnswers.{SiteAnswers}
+use Rattle.ptpm_site.specs.SiteAnswers.{SiteAnswers, default_of, parent_of, port_of, time_of}
 use Rattle.ptpm_expected.specs.declared.profile.Profile.{Profile}
 use Rattle.ptpm_expected.specs.declared.ranges.Range.{Range}
 use Rattle.ptpm_expected.specs.Numbers.{is_between}
@@ -53,7 +52,7 @@ abbrev pub timescale_outside : SiteAnswers → Source → Option Outside
 timescale_outside site s = if leads site s then option_and_then (λ d. option_and_then (λ t.
     if has_source d.quality.class && not t.ptp_timescale
     then Some (record { port = None; member = members.DataSet sets.PtpTimescale; value = values.Flag false; allowed = allowed.Set }) else None)
-    (site.time s)) (site.default s) else None
+    (time_of site s)) (default_of site s) else None
 
 -- ---- of a port
 
@@ -104,4 +103,4 @@ unlike_parent n set above =
 unfoldable pub parent_outside : SiteAnswers → Source → ℕ → PortDataSet → Option Outside
 parent_outside site s n set = if is_following (state_of set.state) then option_and_then (λ p.
     if is_by_unicast site.heard (port_above s p.parent) then None
-    else option_and_then (unlike_parent n set) (site.port (beside s p.parent.clock) p.parent.port)) (site.parent s) else None
+    else option_and_then (unlike_parent n set) (port_of site (beside s p.parent.clock) p.parent.port)) (parent_of site s) else None

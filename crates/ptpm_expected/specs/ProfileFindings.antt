@@ -9,7 +9,7 @@ use Rattle.ptpm_site.specs.declared.finding.Finding.{Finding}
 use Rattle.ptpm_site.specs.declared.finding.What.TheVariants as what
 use Rattle.ptpm_site.specs.declared.source.Source.{Source}
 use Rattle.ptpm_site.specs.Findings.{found}
-use Rattle.ptpm_site.specs.SiteAnswers.{SiteAnswers}
+use Rattle.ptpm_site.specs.SiteAnswers.{SiteAnswers, default_of, port_of}
 use Rattle.ptpm_expected.specs.declared.profile.Profile.{Profile}
 use Rattle.ptpm_expected.specs.Outside.{clock_outside, is_idle, parent_outside, port_outside, timescale_outside}
 
@@ -18,7 +18,7 @@ abbrev pub each_outside : Source → List (Option Outside) → List Finding
 each_outside s members = flat_map (found what.Profile s) members
 
 abbrev pub default_found : SiteAnswers → Profile → Source → List Finding
-default_found site profile s = option_map_or (λ d. each_outside s (clock_outside profile s.domain d)) (site.default s) []
+default_found site profile s = option_map_or (λ d. each_outside s (clock_outside profile s.domain d)) (default_of site s) []
 
 unfoldable pub clock_found : SiteAnswers → Profile → Source → List Finding
 clock_found site profile s = default_found site profile s ++ found what.Profile s (timescale_outside site s)
@@ -28,7 +28,7 @@ port_set_found site profile s n set = each_outside s (port_outside profile n set
 
 -- a port that takes no part is passed over
 unfoldable pub port_found : SiteAnswers → Profile → Source → ℕ → List Finding
-port_found site profile s n = option_map_or (λ set. if is_idle (state_of set.state) then [] else port_set_found site profile s n set) (site.port s n) []
+port_found site profile s n = option_map_or (λ set. if is_idle (state_of set.state) then [] else port_set_found site profile s n set) (port_of site s n) []
 
 unfoldable pub profile_found : SiteAnswers → Profile → Source → List Finding
 profile_found site profile s = clock_found site profile s ++ flat_map (port_found site profile s) (site.ports s)

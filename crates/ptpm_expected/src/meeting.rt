@@ -1,17 +1,18 @@
 //! Whether the members of a clock are as an inventory wants them.
 
-ghost use Rattle.std.specs.Prelude.{◌≡◌, ◌-◌, length, option_and_then, slice_get};
+ghost use Rattle.std.specs.Prelude.{◌≡◌};
 ghost use Rattle.std.specs.Option.{option_map};
 ghost use Rattle.ptpm_members.specs.Values.{said};
 ghost use Rattle.ptpm_site.specs.Site.{site_answers};
-ghost use Rattle.ptpm_expected.specs.Meeting.{IsUnmet, clock_says, first_some, has_no_name, is_as_wanted, is_met, meets, rule_says};
+ghost use Rattle.ptpm_expected.specs.Meeting.{IsUnmet, clock_says, first_some, has_no_name, id_says, is_as_wanted, is_met, last_says, meets, rule_says};
 
 use crate::inventory::MemberRule;
 use crate::numbers::is_between;
 use ptpm_members::{Member, MemberValue};
+use ptpm_site::asked::Asked;
 use ptpm_site::clock::Received;
 use ptpm_site::expected::{Unmet, Wanted};
-use ptpm_site::member::DataSet;
+use ptpm_site::member::value_of;
 use ptpm_site::site::Site;
 use ptpm_site::source::Source;
 
@@ -46,11 +47,18 @@ fn is_met(wanted: &[Wanted], value: &MemberValue<'_>) -> bool
     wanted.iter().any(|one| meets(one, value))
 }
 
-/// What the last answer with a data set says of a member.
-fn last_value<T: DataSet>(received: &[Received<T>], member: Member) -> Option<MemberValue<'_>>
-    ensures { option_map said result ≡ option_and_then (λ last. T.says last.set member) (slice_get received.now (length received.now - 1)) }
+/// What the last of the answers to an id says of a member.
+fn last_value(asked: Asked, received: &[Received], member: Member) -> Option<MemberValue<'_>>
+    ensures { option_map said result ≡ last_says asked received.now member }
 {
-    received.last()?.set.value(member)
+    value_of(asked, received.last()?.octets.as_slice(), member)
+}
+
+/// What a clock says of a member of an id.
+fn id_value(site: &Site, source: Source, asked: Asked, member: Member) -> Option<MemberValue<'_>>
+    ensures { option_map said result ≡ id_says (site_answers site.now) source asked member }
+{
+    last_value(asked, site.answers(source, asked), member)
 }
 
 /// The first of two values that is there.
@@ -70,11 +78,11 @@ fn first_some<'a>(
 fn clock_value(site: &Site, source: Source, member: Member) -> Option<MemberValue<'_>>
     ensures { option_map said result ≡ clock_says (site_answers site.now) source member }
 {
-    let default = last_value(site.defaults(source), member);
-    let current = last_value(site.currents(source), member);
-    let parent = last_value(site.parents(source), member);
-    let time = last_value(site.times(source), member);
-    let description = last_value(site.descriptions(source), member);
+    let default = id_value(site, source, Asked::DefaultDataSet, member);
+    let current = id_value(site, source, Asked::CurrentDataSet, member);
+    let parent = id_value(site, source, Asked::ParentDataSet, member);
+    let time = id_value(site, source, Asked::TimePropertiesDataSet, member);
+    let description = id_value(site, source, Asked::UserDescription, member);
     let properties = first_some(time, description);
     first_some(default, first_some(current, first_some(parent, properties)))
 }
@@ -89,7 +97,7 @@ pub fn rule_value(
     ensures { option_map said result ≡ rule_says (site_answers site.now) source port member }
 {
     match port {
-        Some(port) => last_value(site.port_answers(source, port), member),
+        Some(port) => last_value(Asked::PortDataSet, site.port_answers(source, port), member),
         None => clock_value(site, source, member),
     }
 }

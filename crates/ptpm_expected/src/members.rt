@@ -1,27 +1,28 @@
 //! The members that an inventory may name.
 
 use ptpm_members::Member;
-use ptpm_site::data_sets::{
-    CurrentDataSet, DefaultDataSet, ParentDataSet, PortDataSet, TimePropertiesDataSet,
-};
-use ptpm_site::description::Description;
-use ptpm_site::member::DataSet;
+use ptpm_site::asked::{Asked, OF_CLOCK};
+use ptpm_site::member::members_of;
 
-/// The member of this name among some.
-fn named(members: &[Member], name: &str) -> Option<Member> {
-    members.iter().copied().find(|member| member.name() == name)
+/// The member of an id with this name.
+fn named(asked: Asked, name: &str) -> Option<Member> {
+    members_of(asked)
+        .iter()
+        .copied()
+        .find(|member| member.name() == name)
 }
 
 /// The member of a clock with this name.
 pub(crate) fn clock_member(name: &str) -> Option<Member> {
-    named(DefaultDataSet::members(), name)
-        .or(named(CurrentDataSet::members(), name))
-        .or(named(ParentDataSet::members(), name))
-        .or(named(TimePropertiesDataSet::members(), name))
-        .or(named(Description::members(), name))
+    for asked in &OF_CLOCK {
+        if let Some(member) = named(*asked, name) {
+            return Some(member);
+        }
+    }
+    None
 }
 
 /// The member of a port with this name.
 pub(crate) fn port_member(name: &str) -> Option<Member> {
-    named(PortDataSet::members(), name)
+    named(Asked::PortDataSet, name)
 }

@@ -5,10 +5,11 @@ use Rattle.std.specs.List.{cons_option, find, list_all}
 use Rattle.std.specs.Option.{option_eq, option_map, option_or}
 use Rattle.ptpm_members.specs.declared.names.Member.{Member}
 use Rattle.ptpm_members.specs.Values.{Said}
+use Rattle.ptpm_site.specs.declared.asked.Asked.{Asked}
 use Rattle.ptpm_site.specs.declared.changes.Contradiction.{Contradiction}
 use Rattle.ptpm_site.specs.declared.clock.Received.{Received}
 use Rattle.ptpm_site.specs.Changes.{Statement, are_held, contradiction, contradicts, first_contradicting, is_alike, is_settled, pairs_behind, pairs_of, statements}
-use Rattle.ptpm_site.specs.Members.{same_value}
+use Rattle.ptpm_site.specs.Members.{answer_says, same_value}
 use Rattle.ptpm_site.proofs.KeptStatements.{left_of, not_if_alike, right_of}
 use Rattle.ptpm_site.proofs.Pairs.{change_with, first_contradicting-next}
 use Rattle.ptpm_site.proofs.Values.{is_alike-same, same_value-equiv}
@@ -49,54 +50,54 @@ none_contradicting how m v earlier (x ∷ xs) h k =
 
 -- ---- answers that say one value, or none
 
-module _ {A : Type 0} (says : A → Member → Option Said) (m : Member) where
-  say_value : (v : Said) (h : Received A) (o : Option Said) (hs : List (Received A))
-      → says h.set m ≡ o
-      → option_eq same_value (Some v) o && list_all (λ x. option_eq same_value (Some v) (says x.set m)) hs ≡ true
-      → (list_all (λ x. option_eq same_value (Some v) (says x.set m)) hs ≡ true → list_all (say v) (statements says m hs) ≡ true)
-      → list_all (say v) (statements says m (h ∷ hs)) ≡ true
+module _ (id : Asked) (m : Member) where
+  say_value : (v : Said) (h : Received) (o : Option Said) (hs : List Received)
+      → answer_says id h.octets.items m ≡ o
+      → option_eq same_value (Some v) o && list_all (λ x. option_eq same_value (Some v) (answer_says id x.octets.items m)) hs ≡ true
+      → (list_all (λ x. option_eq same_value (Some v) (answer_says id x.octets.items m)) hs ≡ true → list_all (say v) (statements id m hs) ≡ true)
+      → list_all (say v) (statements id m (h ∷ hs)) ≡ true
   say_value v h None hs is k rest = absurd (true≢false (sym k))
   say_value v h (Some w) hs is k rest =
-      ap (λ o. list_all (say v) (cons_option (option_map (λ u. record { request = h.request; value = u }) o) (statements says m hs))) is
-      ∙ both_parts (same_value v w) (list_all (say v) (statements says m hs))
-      (left_of (same_value v w) (list_all (λ x. option_eq same_value (Some v) (says x.set m)) hs) k)
-      (rest (right_of (same_value v w) (list_all (λ x. option_eq same_value (Some v) (says x.set m)) hs) k))
+      ap (λ o. list_all (say v) (cons_option (option_map (λ u. record { request = h.request; value = u }) o) (statements id m hs))) is
+      ∙ both_parts (same_value v w) (list_all (say v) (statements id m hs))
+      (left_of (same_value v w) (list_all (λ x. option_eq same_value (Some v) (answer_says id x.octets.items m)) hs) k)
+      (rest (right_of (same_value v w) (list_all (λ x. option_eq same_value (Some v) (answer_says id x.octets.items m)) hs) k))
 
-  all_say : (v : Said) (hs : List (Received A)) → list_all (λ x. option_eq same_value (Some v) (says x.set m)) hs ≡ true → list_all (say v) (statements says m hs) ≡ true
+  all_say : (v : Said) (hs : List Received) → list_all (λ x. option_eq same_value (Some v) (answer_says id x.octets.items m)) hs ≡ true → list_all (say v) (statements id m hs) ≡ true
   all_say v [] h = refl
-  all_say v (x ∷ xs) h = say_value v x (says x.set m) xs refl h (all_say v xs)
+  all_say v (x ∷ xs) h = say_value v x (answer_says id x.octets.items m) xs refl h (all_say v xs)
 
-  say_none : (h : Received A) (o : Option Said) (hs : List (Received A))
-      → says h.set m ≡ o
-      → option_eq same_value None o && list_all (λ x. option_eq same_value None (says x.set m)) hs ≡ true
-      → (list_all (λ x. option_eq same_value None (says x.set m)) hs ≡ true → statements says m hs ≡ [])
-      → statements says m (h ∷ hs) ≡ []
+  say_none : (h : Received) (o : Option Said) (hs : List Received)
+      → answer_says id h.octets.items m ≡ o
+      → option_eq same_value None o && list_all (λ x. option_eq same_value None (answer_says id x.octets.items m)) hs ≡ true
+      → (list_all (λ x. option_eq same_value None (answer_says id x.octets.items m)) hs ≡ true → statements id m hs ≡ [])
+      → statements id m (h ∷ hs) ≡ []
   say_none h None hs is k rest =
-      ap (λ o. cons_option (option_map (λ u. record { request = h.request; value = u }) o) (statements says m hs)) is ∙ rest k
+      ap (λ o. cons_option (option_map (λ u. record { request = h.request; value = u }) o) (statements id m hs)) is ∙ rest k
   say_none h (Some w) hs is k rest = absurd (true≢false (sym k))
 
-  none_say : (hs : List (Received A)) → list_all (λ x. option_eq same_value None (says x.set m)) hs ≡ true → statements says m hs ≡ []
+  none_say : (hs : List Received) → list_all (λ x. option_eq same_value None (answer_says id x.octets.items m)) hs ≡ true → statements id m hs ≡ []
   none_say [] h = refl
-  none_say (x ∷ xs) h = say_none x (says x.set m) xs refl h (none_say xs)
+  none_say (x ∷ xs) h = say_none x (answer_says id x.octets.items m) xs refl h (none_say xs)
 
   -- with the first
-  agree : (how : Contradiction) (first : Received A) (o : Option Said) (others : List (Received A))
-      → says first.set m ≡ o
-      → list_all (λ h. option_eq same_value o (says h.set m)) others ≡ true
-      → first_contradicting how m (pairs_of (statements says m (first ∷ others))) ≡ None
+  agree : (how : Contradiction) (first : Received) (o : Option Said) (others : List Received)
+      → answer_says id first.octets.items m ≡ o
+      → list_all (λ h. option_eq same_value o (answer_says id h.octets.items m)) others ≡ true
+      → first_contradicting how m (pairs_of (statements id m (first ∷ others))) ≡ None
   agree how first None others is all =
-      ap (λ l. first_contradicting how m (pairs_of l)) (ap (λ o. cons_option (option_map (λ u. record { request = first.request; value = u }) o) (statements says m others)) is ∙ none_say others all)
+      ap (λ l. first_contradicting how m (pairs_of l)) (ap (λ o. cons_option (option_map (λ u. record { request = first.request; value = u }) o) (statements id m others)) is ∙ none_say others all)
   agree how first (Some v) others is all =
-      ap (λ o. first_contradicting how m (pairs_of (cons_option (option_map (λ u. record { request = first.request; value = u }) o) (statements says m others)))) is
-      ∙ none_contradicting how m v [] (record { request = first.request; value = v } ∷ statements says m others) refl
-      (both_parts (same_value v v) (list_all (say v) (statements says m others)) (same_value-equiv.refl v) (all_say v others all))
+      ap (λ o. first_contradicting how m (pairs_of (cons_option (option_map (λ u. record { request = first.request; value = u }) o) (statements id m others)))) is
+      ∙ none_contradicting how m v [] (record { request = first.request; value = v } ∷ statements id m others) refl
+      (both_parts (same_value v v) (list_all (say v) (statements id m others)) (same_value-equiv.refl v) (all_say v others all))
 
-  pub agreed : (how : Contradiction) (first : Received A) (others : List (Received A))
-      → list_all (λ h. option_eq same_value (says first.set m) (says h.set m)) others ≡ true
-      → contradiction how says m (first ∷ others) ≡ None
+  pub agreed : (how : Contradiction) (first : Received) (others : List Received)
+      → list_all (λ h. option_eq same_value (answer_says id first.octets.items m) (answer_says id h.octets.items m)) others ≡ true
+      → contradiction how id m (first ∷ others) ≡ None
   unfolding contradiction
-  agreed how first others all = agree how first (says first.set m) others refl all
+  agreed how first others all = agree how first (answer_says id first.octets.items m) others refl all
 
-  pub no_answers : (how : Contradiction) → contradiction how says m [] ≡ None
+  pub no_answers : (how : Contradiction) → contradiction how id m [] ≡ None
   unfolding contradiction
   no_answers how = refl

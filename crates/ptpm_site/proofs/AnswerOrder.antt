@@ -1,12 +1,14 @@
 -- Two independent answers say the same in either order.
 use Rattle.std.proofs.Common.{◌≡◌, ℕ, ◌==◌, ◌&&◌, ◌||◌, ◌⊎◌, Bool, true, false, cond, List, [], ◌∷◌, ◌++◌, Option, Some, None, inl, inr, ⊎_elim, refl, ap, sym, ◌∙◌}
-use Rattle.std.proofs.lemmas.Bool.{cases_Bool, eqb-true, eqb-false, true≢false}
+use Rattle.std.proofs.lemmas.Bool.{cases_Bool, eqb-true, eqb-false}
 use Rattle.std.proofs.lemmas.Cmp.{nat_cmp_total}
 use Rattle.std.proofs.lemmas.Grind.{fold-append}
 use Rattle.std.proofs.lemmas.List.Elements.{filter-append, filter_map-append}
 use Rattle.std.proofs.lemmas.List.Folds.{list_any-append}
 use Rattle.std.proofs.lemmas.Map.Lookups.{CmpEqualImpliesEq, exact_unsigned}
 use Rattle.std.proofs.lemmas.Map.Views.{tells_apart}
+use Rattle.std.specs.Prelude.{Vec}
+use Rattle.std.specs.declared.alloc.Global.{Global}
 use Rattle.std.specs.BTreeSet.{insert_key}
 use Rattle.std.specs.Cmp.{IsTotalOrder}
 use Rattle.std.specs.List.{cons_option, filter_map, fold, list_any}
@@ -21,7 +23,8 @@ use Rattle.ptpm_site.specs.declared.source.Source.{Source}
 use Rattle.ptpm_site.specs.declared.answer_content.AnswerContent.{AnswerContent}
 use Rattle.ptpm_site.specs.declared.answer_content.AnswerContent.TheVariants as contents
 use Rattle.ptpm_site.specs.AnswerOrder.{AreIndependent, is_same_data}
-use Rattle.ptpm_site.specs.Answers.{all_received, answers_of, clocks_of, current_in, default_in, description_in, is_refused, is_seen, parent_in, place, place_clock, place_number, port_in, port_number, ports_of, received_in, refuses, same_source, source_cmp, time_in}
+use Rattle.ptpm_site.specs.Answers.{all_received, answer_of_port, answer_to, answers_of, clocks_of, is_refused, is_seen, place, place_clock, place_number, port_number, ports_of, received_in, refuses, same_source, source_cmp}
+use Rattle.ptpm_site.specs.Ids.{number_of}
 use Rattle.ptpm_site.specs.SiteAnswers.{AreAlikeByClock}
 use Rattle.ptpm_site.proofs.Sources.{exact_sources, sources_total, tied_sources}
 
@@ -159,13 +162,13 @@ module _ {K : Type 0} (cmp : K → K → Ordering) (total : IsTotalOrder cmp) (e
 
 -- ---- what is received of one data set
 
-received_here : {A : Type 0} → (says : AnswerContent → Option A) (a b : Answer) (others : List Answer) (p q : Bool)
+received_here : (says : AnswerContent → Option (Vec ℕ Global)) (a b : Answer) (others : List Answer) (p q : Bool)
     → (p ≡ true → q ≡ true → (says a.content ≡ None) ⊎ (says b.content ≡ None))
     → filter_map (received_in says) (cond p (a ∷ cond q (b ∷ others) others) (cond q (b ∷ others) others))
     ≡ filter_map (received_in says) (cond q (b ∷ cond p (a ∷ others) others) (cond p (a ∷ others) others))
-received_here {A = A} says a b others true true h =
+received_here says a b others true true h =
     let rest = filter_map (received_in says) others in
-    let nothing = λ (x : Answer) (e : says x.content ≡ None). ap (option_map {U = Received A} (λ set. record { request = x.request; at = x.at; set = set })) e in
+    let nothing = λ (x : Answer) (e : says x.content ≡ None). ap (option_map {U = Received} (λ octets. record { request = x.request; at = x.at; octets = octets })) e in
     ⊎_elim (λ e. ap (λ o. cons_option o (cons_option (received_in says b) rest)) (nothing a e) ∙ sym (ap (λ o. cons_option (received_in says b) (cons_option o rest)) (nothing a e)))
     (λ e. ap (λ o. cons_option (received_in says a) (cons_option o rest)) (nothing b e) ∙ sym (ap (λ o. cons_option o (cons_option (received_in says a) rest)) (nothing b e)))
     (h refl refl)
@@ -182,7 +185,7 @@ differ_in_data a b s apart p q =
     let one : same_source a.source b.source ≡ true = ap (λ x. same_source a.source x) (one_source b.source s q) ∙ p in
     ap (λ t. t && is_same_data a.content b.content) (sym one) ∙ apart
 
-all_received_swapped : {A : Type 0} → (says : AnswerContent → Option A) → ((t u : AnswerContent) → is_same_data t u ≡ false → (says t ≡ None) ⊎ (says u ≡ None))
+all_received_swapped : (says : AnswerContent → Option (Vec ℕ Global)) → ((t u : AnswerContent) → is_same_data t u ≡ false → (says t ≡ None) ⊎ (says u ≡ None))
     → (s : Source) (xs ys : List Answer) (a b : Answer) → AreIndependent a b → all_received says s (xs ++ a ∷ b ∷ ys) ≡ all_received says s (xs ++ b ∷ a ∷ ys)
 all_received_swapped says two s xs ys a b apart =
     let split = λ (l : List Answer). ap (filter_map (received_in says)) (filter-append (λ x. same_source x.source s) xs l) ∙ filter_map-append (received_in says) (answers_of s xs) (answers_of s l) in
@@ -190,32 +193,17 @@ all_received_swapped says two s xs ys a b apart =
     ∙ ap (λ l. all_received says s xs ++ l) (received_here says a b (answers_of s ys) (same_source a.source s) (same_source b.source s) (λ p q. two a.content b.content (differ_in_data a b s apart p q)))
     ∙ sym (split (b ∷ a ∷ ys))
 
-default_apart : (t u : AnswerContent) → is_same_data t u ≡ false → (default_in t ≡ None) ⊎ (default_in u ≡ None)
-default_apart (contents.Default x) (contents.Default y) h = absurd (true≢false h)
-default_apart (contents.Default x) _ h = inr refl
-default_apart _ u h = inl refl
+to_id_apart : (id : Asked) (t u : AnswerContent) → is_same_data t u ≡ false → (answer_to id t ≡ None) ⊎ (answer_to id u ≡ None)
+to_id_apart id (contents.Clock a x) (contents.Clock b y) h =
+    let m = number_of a in
+    let n = number_of id in
+    let k = number_of b in
+    ⊎_elim (λ e. ⊎_elim (λ f. absurd (eqb-false m k h (eqb-true m n e ∙ sym (eqb-true k n f)))) (λ f. inr (ap (λ t. cond t (Some y) None) f)) (cases_Bool (k == n)))
+    (λ e. inl (ap (λ t. cond t (Some x) None) e)) (cases_Bool (m == n))
+to_id_apart id (contents.Clock a x) _ h = inr refl
+to_id_apart id _ u h = inl refl
 
-current_apart : (t u : AnswerContent) → is_same_data t u ≡ false → (current_in t ≡ None) ⊎ (current_in u ≡ None)
-current_apart (contents.Current x) (contents.Current y) h = absurd (true≢false h)
-current_apart (contents.Current x) _ h = inr refl
-current_apart _ u h = inl refl
-
-parent_apart : (t u : AnswerContent) → is_same_data t u ≡ false → (parent_in t ≡ None) ⊎ (parent_in u ≡ None)
-parent_apart (contents.Parent x) (contents.Parent y) h = absurd (true≢false h)
-parent_apart (contents.Parent x) _ h = inr refl
-parent_apart _ u h = inl refl
-
-time_apart : (t u : AnswerContent) → is_same_data t u ≡ false → (time_in t ≡ None) ⊎ (time_in u ≡ None)
-time_apart (contents.Time x) (contents.Time y) h = absurd (true≢false h)
-time_apart (contents.Time x) _ h = inr refl
-time_apart _ u h = inl refl
-
-description_apart : (t u : AnswerContent) → is_same_data t u ≡ false → (description_in t ≡ None) ⊎ (description_in u ≡ None)
-description_apart (contents.Description x) (contents.Description y) h = absurd (true≢false h)
-description_apart (contents.Description x) _ h = inr refl
-description_apart _ u h = inl refl
-
-port_apart : (n : ℕ) (t u : AnswerContent) → is_same_data t u ≡ false → (port_in n t ≡ None) ⊎ (port_in n u ≡ None)
+port_apart : (n : ℕ) (t u : AnswerContent) → is_same_data t u ≡ false → (answer_of_port n t ≡ None) ⊎ (answer_of_port n u ≡ None)
 port_apart n (contents.Port m x) (contents.Port k y) h =
     ⊎_elim (λ e. ⊎_elim (λ f. absurd (eqb-false m k h (eqb-true m n e ∙ sym (eqb-true k n f)))) (λ f. inr (ap (λ t. cond t (Some y) None) f)) (cases_Bool (k == n)))
     (λ e. inl (ap (λ t. cond t (Some x) None) e)) (cases_Bool (m == n))
@@ -278,12 +266,8 @@ pub alike_swapped : (xs ys : List Answer) (a b : Answer) → AreIndependent a b 
 alike_swapped xs ys a b apart = record {
   clocks = clocks_swapped xs ys a b;
   seen = λ s. seen_swapped s xs ys a b;
-  defaults = λ s. all_received_swapped default_in default_apart s xs ys a b apart;
-  currents = λ s. all_received_swapped current_in current_apart s xs ys a b apart;
-  parents = λ s. all_received_swapped parent_in parent_apart s xs ys a b apart;
-  times = λ s. all_received_swapped time_in time_apart s xs ys a b apart;
-  descriptions = λ s. all_received_swapped description_in description_apart s xs ys a b apart;
+  answers = λ s id. all_received_swapped (answer_to id) (to_id_apart id) s xs ys a b apart;
   refused = λ s id. refused_swapped s id xs ys a b;
   numbers = λ s. numbers_swapped s xs ys a b;
-  ports = λ s n. all_received_swapped (port_in n) (port_apart n) s xs ys a b apart;
+  ports = λ s n. all_received_swapped (answer_of_port n) (port_apart n) s xs ys a b apart;
 }

@@ -14,7 +14,7 @@ use Rattle.ptpm_site.specs.declared.words.Words.{Words}
 use Rattle.ptpm_site.specs.declared.answer_content.AnswerContent.{AnswerContent}
 use Rattle.ptpm_site.specs.Answers.{place_number, port_number, same_source, source_cmp}
 use Rattle.ptpm_site.specs.KeptAnswers.{AddsContent, Grows, HasNoAnswers, Places}
-use Rattle.ptpm_site.specs.Site.{answers_of_port}
+use Rattle.ptpm_site.specs.Site.{answers_of_port, answers_to_id}
 use Rattle.ptpm_site.proofs.Places.{place-known, place-new}
 use Rattle.ptpm_site.proofs.Sources.{exact_sources, tied_sources}
 
@@ -97,11 +97,7 @@ placed heard words old new source fresh silent absent updates there entries =
       clocks = ap keys_of entries ∙ place-new source_cmp old.entries source fresh absent;
       there = there;
       seen = λ s. placed_seen fresh (get source_cmp old s) (get source_cmp new s) (at s) (updates s) ∙ tie_or source s (is_some (get source_cmp old s));
-      defaults = λ s. placed_field (λ c. c.defaults.items) fresh (get source_cmp old s) (get source_cmp new s) (at s) (updates s) (gone s) silent.defaults;
-      currents = λ s. placed_field (λ c. c.currents.items) fresh (get source_cmp old s) (get source_cmp new s) (at s) (updates s) (gone s) silent.currents;
-      parents = λ s. placed_field (λ c. c.parents.items) fresh (get source_cmp old s) (get source_cmp new s) (at s) (updates s) (gone s) silent.parents;
-      times = λ s. placed_field (λ c. c.times.items) fresh (get source_cmp old s) (get source_cmp new s) (at s) (updates s) (gone s) silent.times;
-      descriptions = λ s. placed_field (λ c. c.descriptions.items) fresh (get source_cmp old s) (get source_cmp new s) (at s) (updates s) (gone s) silent.descriptions;
+      answers = λ s id. placed_field (λ c. answers_to_id c id) fresh (get source_cmp old s) (get source_cmp new s) (at s) (updates s) (gone s) (silent.answers id);
       refused = λ s. placed_field (λ c. c.refused.items) fresh (get source_cmp old s) (get source_cmp new s) (at s) (updates s) (gone s) silent.refused;
       numbers = λ s. placed_field (λ c. keys c.ports) fresh (get source_cmp old s) (get source_cmp new s) (at s) (updates s) (gone s) silent.numbers;
       ports = λ s n. placed_field (λ c. answers_of_port c n) fresh (get source_cmp old s) (get source_cmp new s) (at s) (updates s) (gone s) (silent.ports n);
@@ -120,11 +116,7 @@ known heard words old source there is_there = record {
   there = is_there;
   seen = λ s. known_or (get source_cmp old s) (is_at (source_cmp source) s) (moved (λ q. is_some (get source_cmp old q)) source s true there)
       ∙ tie_or source s (is_some (get source_cmp old s));
-  defaults = λ s. refl;
-  currents = λ s. refl;
-  parents = λ s. refl;
-  times = λ s. refl;
-  descriptions = λ s. refl;
+  answers = λ s id. refl;
   refused = λ s. refl;
   numbers = λ s. refl;
   ports = λ s n. refl;
@@ -144,16 +136,8 @@ content_added heard words old new source request at t before after was updates s
     record {
       clocks = same;
       seen = λ s. added_seen before after (get source_cmp old s) (get source_cmp new s) (at s) (updates s) (there s);
-      defaults = λ s. added_field (λ c. c.defaults.items) before after _ (get source_cmp old s) (get source_cmp new s) (at s) (updates s) (there s) grows.defaults
-          ∙ ap (λ l. option_map_or (λ c. c.defaults.items) (get source_cmp old s) [] ++ l) (tie_cond source s _ []);
-      currents = λ s. added_field (λ c. c.currents.items) before after _ (get source_cmp old s) (get source_cmp new s) (at s) (updates s) (there s) grows.currents
-          ∙ ap (λ l. option_map_or (λ c. c.currents.items) (get source_cmp old s) [] ++ l) (tie_cond source s _ []);
-      parents = λ s. added_field (λ c. c.parents.items) before after _ (get source_cmp old s) (get source_cmp new s) (at s) (updates s) (there s) grows.parents
-          ∙ ap (λ l. option_map_or (λ c. c.parents.items) (get source_cmp old s) [] ++ l) (tie_cond source s _ []);
-      times = λ s. added_field (λ c. c.times.items) before after _ (get source_cmp old s) (get source_cmp new s) (at s) (updates s) (there s) grows.times
-          ∙ ap (λ l. option_map_or (λ c. c.times.items) (get source_cmp old s) [] ++ l) (tie_cond source s _ []);
-      descriptions = λ s. added_field (λ c. c.descriptions.items) before after _ (get source_cmp old s) (get source_cmp new s) (at s) (updates s) (there s) grows.descriptions
-          ∙ ap (λ l. option_map_or (λ c. c.descriptions.items) (get source_cmp old s) [] ++ l) (tie_cond source s _ []);
+      answers = λ s id. added_field (λ c. answers_to_id c id) before after _ (get source_cmp old s) (get source_cmp new s) (at s) (updates s) (there s) (grows.answers id)
+          ∙ ap (λ l. option_map_or (λ c. answers_to_id c id) (get source_cmp old s) [] ++ l) (tie_cond source s _ []);
       refused = λ s. added_field (λ c. c.refused.items) before after _ (get source_cmp old s) (get source_cmp new s) (at s) (updates s) (there s) grows.refused
           ∙ ap (λ l. option_map_or (λ c. c.refused.items) (get source_cmp old s) [] ++ l) (tie_cond source s _ []);
       numbers = λ s. added_numbers (λ c. keys c.ports) (λ ns. place_number ns (port_number t)) before after (get source_cmp old s) (get source_cmp new s) (at s) (updates s) (there s) grows.numbers

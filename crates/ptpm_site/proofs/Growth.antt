@@ -18,7 +18,7 @@ use Rattle.ptpm_site.specs.declared.tree.TreeRow.TheVariants as row
 use Rattle.ptpm_site.specs.Following.{ArePlaced, beside, followed, is_own_grandmaster, parent_clock}
 use Rattle.ptpm_site.specs.Forest.{AreBeside}
 use Rattle.ptpm_site.specs.Growing.{Adds, IsForestOf, IsInSubtree, IsRowOf, IsWithin, WaitBelow}
-use Rattle.ptpm_site.specs.SiteAnswers.{SiteAnswers}
+use Rattle.ptpm_site.specs.SiteAnswers.{SiteAnswers, parent_of}
 use Rattle.ptpm_site.specs.Forest.{bound_before}
 use Rattle.ptpm_site.specs.Tree.{IsRoot, IsRow, domain_at, row_domain}
 use Rattle.ptpm_site.proofs.Followed.{placed_within}
@@ -96,15 +96,15 @@ own_none (Some p) s h = cond-true _ _ _ h
 
 -- a clock that is its own grandmaster follows none
 pub own_grandmaster-none : (t : SiteAnswers) (s : Source) → is_own_grandmaster t s ≡ true → followed t s ≡ None
-own_grandmaster-none t s h = own_none (t.parent s) s h
+own_grandmaster-none t s h = own_none (parent_of t s) s h
 
 unsaid_none : (o : Option ParentDataSet) (s : Source) → is_some o ≡ false → option_and_then (λ p. cond (same_clock p.grandmaster s.clock) None (Some p.parent)) o ≡ None
 unsaid_none None s h = refl
 unsaid_none (Some p) s h = absurd (false≢true (sym h))
 
 -- and so does one that did not say whom it follows
-pub without_parent-none : (t : SiteAnswers) (s : Source) → is_some (t.parent s) ≡ false → followed t s ≡ None
-without_parent-none t s h = unsaid_none (t.parent s) s h
+pub without_parent-none : (t : SiteAnswers) (s : Source) → is_some (parent_of t s) ≡ false → followed t s ≡ None
+without_parent-none t s h = unsaid_none (parent_of t s) s h
 
 -- ---- the rows of a subtree
 

@@ -7,7 +7,7 @@ use Rattle.ptpm_site.specs.declared.port_groups.PortGroup.TheVariants as groups
 use Rattle.ptpm_site.specs.declared.source.Source.{Source}
 use Rattle.ptpm_site.specs.Following.{followed}
 use Rattle.ptpm_site.specs.PortStates.{is_following, measures_link}
-use Rattle.ptpm_site.specs.SiteAnswers.{SiteAnswers, has_port_of}
+use Rattle.ptpm_site.specs.SiteAnswers.{SiteAnswers, current_of, has_port_of}
 use Rattle.ptpm_site.specs.TaiAndUtc.{is_off_by_utc}
 
 -- the amount of a TimeInterval is above this many nanoseconds; an amount equal to the limit is allowed
@@ -22,11 +22,11 @@ beyond interval limit = option_and_then (λ n. if is_above interval n then Some 
 abbrev pub large_offset : SiteAnswers → Source → Limits → Option ℤ
 large_offset site s limits = option_and_then (λ _.
     if has_port_of site s groups.Slave && not (is_off_by_utc site limits.tai_utc s)
-    then option_and_then (λ c. beyond c.offset_from_master limits.offset) (site.current s) else None) (followed site s)
+    then option_and_then (λ c. beyond c.offset_from_master limits.offset) (current_of site s) else None) (followed site s)
 
 -- meanDelay of a clock that is not its own grandmaster
 abbrev pub large_delay : SiteAnswers → Source → Option ℕ → Option ℤ
-large_delay site s limit = option_and_then (λ _. option_and_then (λ c. beyond c.mean_delay limit) (site.current s)) (followed site s)
+large_delay site s limit = option_and_then (λ _. option_and_then (λ c. beyond c.mean_delay limit) (current_of site s)) (followed site s)
 
 -- meanLinkDelay of a port in SLAVE or UNCALIBRATED with P2P or COMMON_P2P
 abbrev pub large_link_delay : PortDataSet → Option ℕ → Option ℤ

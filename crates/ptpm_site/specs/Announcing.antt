@@ -14,9 +14,10 @@ use Rattle.ptpm_site.specs.declared.clock.Received.{Received}
 use Rattle.ptpm_site.specs.declared.data_sets.PortDataSet.{PortDataSet}
 use Rattle.ptpm_site.specs.declared.source.Source.{Source}
 use Rattle.ptpm_site.specs.Announces.{announced_by_port, is_by_unicast}
+use Rattle.ptpm_site.specs.Answers.{state_said}
 use Rattle.ptpm_site.specs.Following.{beside}
 use Rattle.ptpm_site.specs.PortStates.{is_another, is_following, is_slave}
-use Rattle.ptpm_site.specs.SiteAnswers.{SiteAnswers}
+use Rattle.ptpm_site.specs.SiteAnswers.{SiteAnswers, default_of, parent_of, port_of}
 use Rattle.ptpm_site.specs.Stay.{time_between}
 use Rattle.ptpm_site.specs.StayLimits.{interval}
 
@@ -33,14 +34,14 @@ is_listening _ = false
 
 -- the one port of an ordinary clock takes time even while it listens
 abbrev pub has_one_port : SiteAnswers → Source → Bool
-has_one_port site s = option_map_or (λ d. d.number_of_ports == 1) (site.default s) false
+has_one_port site s = option_map_or (λ d. d.number_of_ports == 1) (default_of site s) false
 
 abbrev pub takes_time : SiteAnswers → Source → Option PortState → Bool
 takes_time site s state = is_following state || is_listening state && has_one_port site s
 
 -- in one of the answers a port was not in SLAVE
-abbrev pub left_slave : List (Received PortDataSet) → Bool
-left_slave received = list_any (λ h. not (is_slave (state_of h.set.state))) received
+abbrev pub left_slave : List Received → Bool
+left_slave received = list_any (λ h. not (is_slave (state_said h))) received
 
 -- the port that a clock follows
 abbrev pub port_above : Source → PortIdentity → SourcePort
@@ -62,7 +63,7 @@ seldom_above site s parent own above = if is_by_unicast site.heard (port_above s
 -- by what both say
 abbrev pub too_seldom : SiteAnswers → Source → ℕ → Option Seldom
 too_seldom site s n = option_and_then (λ p. option_and_then (λ own. option_and_then (seldom_above site s p.parent own)
-    (site.port (beside s p.parent.clock) p.parent.port)) (site.port s n)) (site.parent s)
+    (port_of site (beside s p.parent.clock) p.parent.port)) (port_of site s n)) (parent_of site s)
 
 -- it is certain if an Announce of the parent was heard, or the port was seen without a lock
 abbrev pub is_certain : SiteAnswers → Source → ℕ → PortIdentity → Bool
@@ -76,19 +77,19 @@ seldom_announced site s n = option_and_then (λ a. if is_certain site s n a.pare
 abbrev pub is_third : Request → Request → Request → Bool
 is_third request first last = is_another request last && is_another request first
 
-abbrev pub has_third : List (Received PortDataSet) → Received PortDataSet → Received PortDataSet → Bool
+abbrev pub has_third : List Received → Received → Received → Bool
 has_third received first last = list_any (λ h. is_third h.request first.request last.request) received
 
-abbrev pub first_look : List (Received PortDataSet) → Received PortDataSet → Option (Received PortDataSet)
+abbrev pub first_look : List Received → Received → Option Received
 first_look received last = find (λ h. is_another h.request last.request) received
 
-abbrev pub is_long : Received PortDataSet → Received PortDataSet → ℤ → Bool
+abbrev pub is_long : Received → Received → ℤ → Bool
 is_long first last log = option_map_or (λ time. nat_le (2 * interval log) time) (time_between last.at first.at) false
 
-abbrev pub is_served_to : List (Received PortDataSet) → Received PortDataSet → ℤ → Bool
+abbrev pub is_served_to : List Received → Received → ℤ → Bool
 is_served_to received last log = option_map_or (λ first. has_third received first last && is_long first last log) (first_look received last) false
 
-abbrev pub is_served : List (Received PortDataSet) → ℤ → Bool
+abbrev pub is_served : List Received → ℤ → Bool
 is_served received log = option_map_or (λ last. is_served_to received last log) (slice_get received (length received - 1)) false
 
 -- otherwise it is open

@@ -1,5 +1,6 @@
 -- What the answers among the lines say, whatever program reads them (IEEE 1588-2019, 15.4.1 and 15.5.3).
-use Rattle.std.specs.Prelude.{ℕ, ◌==◌, ◌&&◌, ◌-◌, Bool, false, List, [], Option, Some, None, length, slice_get, if◌then◌else◌}
+use Rattle.std.specs.Prelude.{ℕ, ◌==◌, ◌&&◌, ◌-◌, Bool, false, List, [], Option, Some, None, Vec, length, slice_get, if◌then◌else◌, option_and_then}
+use Rattle.std.specs.declared.alloc.Global.{Global}
 use Rattle.std.specs.declared.cmp.Ordering.{Ordering}
 use Rattle.std.specs.BTreeSet.{insert_key}
 use Rattle.std.specs.Cmp.Lexicographic.{slice_cmp}
@@ -7,6 +8,9 @@ use Rattle.std.specs.List.{filter, filter_map, fold, list_any}
 use Rattle.std.specs.Option.{option_map, option_to_list}
 use Rattle.std.specs.Ordering.{eq_by_cmp, nat_cmp, ordering_then}
 use Rattle.ptpm_codec.specs.Identity.{same_clock}
+use Rattle.ptpm_codec.specs.declared.identity.ClockIdentity.{ClockIdentity}
+use Rattle.ptpm_data.specs.declared.port_state.PortState.{PortState}
+use Rattle.ptpm_data.specs.PortState.{state_of}
 use Rattle.ptpm_site.specs.declared.asked.Asked.{Asked}
 use Rattle.ptpm_site.specs.declared.answer.Answer.{Answer}
 use Rattle.ptpm_site.specs.declared.answer.Request.{Request}
@@ -16,12 +20,12 @@ use Rattle.ptpm_site.specs.declared.data_sets.DefaultDataSet.{DefaultDataSet}
 use Rattle.ptpm_site.specs.declared.data_sets.ParentDataSet.{ParentDataSet}
 use Rattle.ptpm_site.specs.declared.data_sets.PortDataSet.{PortDataSet}
 use Rattle.ptpm_site.specs.declared.data_sets.TimePropertiesDataSet.{TimePropertiesDataSet}
-use Rattle.ptpm_site.specs.declared.description.Description.{Description}
 use Rattle.ptpm_site.specs.declared.source.Source.{Source}
 use Rattle.ptpm_site.specs.declared.answer_content.AnswerContent.{AnswerContent}
 use Rattle.ptpm_site.specs.declared.answer_content.AnswerContent.TheVariants as contents
 use Rattle.ptpm_site.specs.Ids.{same_id}
 use Rattle.ptpm_site.specs.Domains.{domain_cmp, same_domain}
+use Rattle.ptpm_site.specs.Octets.{current_read, default_read, parent_read, port_read, time_read}
 
 -- a key goes to its place in the order, unless it is there already
 unfoldable pub place : {K : Type 0} → (K → K → Ordering) → List K → K → List K
@@ -54,25 +58,20 @@ clocks_of answers = fold place_clock [] answers
 
 -- ---- what an answer says, and which request it came to
 
-abbrev pub default_in : AnswerContent → Option DefaultDataSet
-default_in (contents.Default set) = Some set
-default_in _ = None
+-- the octets that answer an id; those of PORT_DATA_SET are of a port
+abbrev pub answer_to : Asked → AnswerContent → Option (Vec ℕ Global)
+answer_to id (contents.Clock asked octets) = if same_id asked id then Some octets else None
+answer_to id _ = None
 
-abbrev pub current_in : AnswerContent → Option CurrentDataSet
-current_in (contents.Current set) = Some set
-current_in _ = None
+-- those that answer for the port of this number
+abbrev pub answer_of_port : ℕ → AnswerContent → Option (Vec ℕ Global)
+answer_of_port n (contents.Port m octets) = if m == n then Some octets else None
+answer_of_port n _ = None
 
-abbrev pub parent_in : AnswerContent → Option ParentDataSet
-parent_in (contents.Parent set) = Some set
-parent_in _ = None
-
-abbrev pub time_in : AnswerContent → Option TimePropertiesDataSet
-time_in (contents.Time set) = Some set
-time_in _ = None
-
-abbrev pub description_in : AnswerContent → Option Description
-description_in (contents.Description set) = Some set
-description_in _ = None
+-- the number of the port that the answer is of
+abbrev pub port_number : AnswerContent → Option ℕ
+port_number (contents.Port m octets) = Some m
+port_number _ = None
 
 -- the id that a clock refuses to answer
 abbrev pub refusal_in : AnswerContent → Option Asked
@@ -84,25 +83,15 @@ abbrev pub refuses : Asked → AnswerContent → Bool
 refuses id (contents.Refused asked) = same_id asked id
 refuses id _ = false
 
--- the data set of the port of this number
-abbrev pub port_in : ℕ → AnswerContent → Option PortDataSet
-port_in n (contents.Port m set) = if m == n then Some set else None
-port_in n _ = None
+-- of a request, when its answer came, and what that says
+abbrev pub newly_received : (AnswerContent → Option (Vec ℕ Global)) → Request → Option ℕ → AnswerContent → List Received
+newly_received says request at t = option_to_list (option_map (λ octets. record { request = request; at = at; octets = octets }) (says t))
 
--- the number of the port that the answer is of
-abbrev pub port_number : AnswerContent → Option ℕ
-port_number (contents.Port m set) = Some m
-port_number _ = None
-
-abbrev pub received_in : {A : Type 0} → (AnswerContent → Option A) → Answer → Option (Received A)
-received_in says a = option_map (λ set. record { request = a.request; at = a.at; set = set }) (says a.content)
-
--- the same of a request, when its answer came, and what that says
-abbrev pub newly_received : {A : Type 0} → (AnswerContent → Option A) → Request → Option ℕ → AnswerContent → List (Received A)
-newly_received says request at t = option_to_list (option_map (λ set. record { request = request; at = at; set = set }) (says t))
+abbrev pub received_in : (AnswerContent → Option (Vec ℕ Global)) → Answer → Option Received
+received_in says a = option_map (λ octets. record { request = a.request; at = a.at; octets = octets }) (says a.content)
 
 -- of all answers of a clock, those that say this, in the order of their lines
-abbrev pub all_received : {A : Type 0} → (AnswerContent → Option A) → Source → List Answer → List (Received A)
+abbrev pub all_received : (AnswerContent → Option (Vec ℕ Global)) → Source → List Answer → List Received
 all_received says s answers = filter_map (received_in says) (answers_of s answers)
 
 -- a clock refused an id
@@ -119,20 +108,29 @@ ports_of s answers = fold (λ ns a. place_number ns (port_number a.content)) [] 
 
 -- ---- of all answers of a clock to one id, and of those of one port, the last line counts
 
-abbrev pub counting : {A : Type 0} → List (Received A) → Option A
-counting received = option_map (λ h. h.set) (slice_get received (length received - 1))
+abbrev pub last_of : List Received → Option Received
+last_of received = slice_get received (length received - 1)
 
-abbrev pub default_of : Source → List Answer → Option DefaultDataSet
-default_of s answers = counting (all_received default_in s answers)
+-- ---- with which members of an answer the rules reckon
 
-abbrev pub current_of : Source → List Answer → Option CurrentDataSet
-current_of s answers = counting (all_received current_in s answers)
+abbrev pub default_said : Received → Option DefaultDataSet
+default_said h = default_read h.octets.items
 
-abbrev pub parent_of : Source → List Answer → Option ParentDataSet
-parent_of s answers = counting (all_received parent_in s answers)
+abbrev pub current_said : Received → Option CurrentDataSet
+current_said h = current_read h.octets.items
 
-abbrev pub time_of : Source → List Answer → Option TimePropertiesDataSet
-time_of s answers = counting (all_received time_in s answers)
+abbrev pub parent_said : Received → Option ParentDataSet
+parent_said h = parent_read h.octets.items
 
-abbrev pub port_of : Source → ℕ → List Answer → Option PortDataSet
-port_of s n answers = counting (all_received (port_in n) s answers)
+abbrev pub time_said : Received → Option TimePropertiesDataSet
+time_said h = time_read h.octets.items
+
+abbrev pub port_said : Received → Option PortDataSet
+port_said h = option_map (λ p. p.1) (port_read h.octets.items)
+
+-- portState, if its number is not reserved
+abbrev pub state_said : Received → Option PortState
+state_said h = option_and_then (λ set. state_of set.state) (port_said h)
+
+abbrev pub named_grandmaster : Received → Option ClockIdentity
+named_grandmaster h = option_map (λ set. set.grandmaster) (parent_said h)

@@ -1,6 +1,6 @@
 -- What differs between the answers of a clock: those to two requests (`changed`), and those to one
 -- (`identity_twice`).
-use Rattle.std.specs.Prelude.{ℕ, ◌==◌, if◌then◌else◌, ◌&&◌, Bool, true, false, not, List, [], ◌∷◌, ◌++◌, Option, Some, find, map}
+use Rattle.std.specs.Prelude.{ℕ, ◌==◌, if◌then◌else◌, ◌&&◌, Bool, true, false, not, List, [], ◌∷◌, ◌++◌, Option, find, map}
 use Rattle.std.specs.List.{filter_map}
 use Rattle.std.specs.Option.{option_map, option_map_or}
 use Rattle.ptpm_codec.specs.Identity.{same_identity}
@@ -11,11 +11,12 @@ use Rattle.ptpm_members.specs.declared.names.Member.{Member}
 use Rattle.ptpm_members.specs.declared.number_names.Enumeration.TheVariants as enumerations
 use Rattle.ptpm_members.specs.Values.{Said, Named, said}
 use Rattle.ptpm_site.specs.declared.answer.Request.{Request}
+use Rattle.ptpm_site.specs.declared.asked.Asked.{Asked}
 use Rattle.ptpm_site.specs.declared.changes.Change.{Change}
 use Rattle.ptpm_site.specs.declared.changes.Contradiction.{Contradiction}
 use Rattle.ptpm_site.specs.declared.changes.Contradiction.TheVariants as sort
 use Rattle.ptpm_site.specs.declared.clock.Received.{Received}
-use Rattle.ptpm_site.specs.Members.{same_value}
+use Rattle.ptpm_site.specs.Members.{answer_says, same_value}
 
 -- ---- two answers
 
@@ -73,11 +74,11 @@ abbrev pub pairs_of : {A : Type 0} → List A → List (A × A)
 pairs_of xs = pairs_behind [] xs
 
 -- what the answers say of a member, in the order of their lines
-abbrev pub statement_of : {A : Type 0} → (A → Member → Option Said) → Member → Received A → Option Statement
-statement_of says m h = option_map (λ v. record { request = h.request; value = v }) (says h.set m)
+abbrev pub statement_of : Asked → Member → Received → Option Statement
+statement_of id m h = option_map (λ v. record { request = h.request; value = v }) (answer_says id h.octets.items m)
 
-abbrev pub statements : {A : Type 0} → (A → Member → Option Said) → Member → List (Received A) → List Statement
-statements says m received = filter_map (statement_of says m) received
+abbrev pub statements : Asked → Member → List Received → List Statement
+statements id m received = filter_map (statement_of id m) received
 
 -- a member in which two answers differ: its value in the earlier one and in the later one
 pub record MemberChange : Type 0 where
@@ -92,5 +93,5 @@ member_change c = record { member = c.member; before = said c.before; after = sa
 abbrev pub first_contradicting : Contradiction → Member → List (Statement × Statement) → Option MemberChange
 first_contradicting c m pairs = option_map (λ p. record { member = m; before = p.0.value; after = p.1.value }) (find (λ p. contradicts c p.0 p.1) pairs)
 
-unfoldable pub contradiction : {A : Type 0} → Contradiction → (A → Member → Option Said) → Member → List (Received A) → Option MemberChange
-contradiction c says m received = first_contradicting c m (pairs_of (statements says m received))
+unfoldable pub contradiction : Contradiction → Asked → Member → List Received → Option MemberChange
+contradiction c id m received = first_contradicting c m (pairs_of (statements id m received))

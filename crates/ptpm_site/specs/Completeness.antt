@@ -6,16 +6,12 @@ use Rattle.ptpm_site.specs.declared.asked.Asked.{Asked}
 use Rattle.ptpm_site.specs.declared.asked.Asked.TheVariants as id
 use Rattle.ptpm_site.specs.declared.source.Source.{Source}
 use Rattle.ptpm_site.specs.Ids.{six}
-use Rattle.ptpm_site.specs.SiteAnswers.{SiteAnswers}
+use Rattle.ptpm_site.specs.SiteAnswers.{SiteAnswers, default_of}
 
 -- how many answers came to an id; for PORT_DATA_SET, how many ports answered
 abbrev pub answers_to : SiteAnswers → Source → Asked → ℕ
-answers_to site s id.DefaultDataSet = length (site.defaults s)
-answers_to site s id.CurrentDataSet = length (site.currents s)
-answers_to site s id.ParentDataSet = length (site.parents s)
-answers_to site s id.TimePropertiesDataSet = length (site.times s)
 answers_to site s id.PortDataSet = length (site.ports s)
-answers_to site s id.UserDescription = length (site.descriptions s)
+answers_to site s asked = length (site.answers s asked)
 
 -- an id was neither answered nor refused
 abbrev pub lacks : SiteAnswers → Source → Asked → Bool
@@ -27,7 +23,7 @@ lacking_ids site s = filter (lacks site s) six
 -- the last port that has to answer: numberPorts, if some port answered and PORT_DATA_SET was not refused; otherwise no
 -- port has to
 abbrev pub last_port : SiteAnswers → Source → ℕ
-last_port site s = if length (site.ports s) == 0 || site.refused s id.PortDataSet then 0 else option_map_or (λ d. d.number_of_ports) (site.default s) 0
+last_port site s = if length (site.ports s) == 0 || site.refused s id.PortDataSet then 0 else option_map_or (λ d. d.number_of_ports) (default_of site s) 0
 
 -- the numbers above one and up to another, by the first and the last of them, if there are any
 abbrev pub gap : ℕ → ℕ → List (ℕ × ℕ)

@@ -9,6 +9,7 @@ use Rattle.ptpm_members.specs.declared.names.Member.{Member}
 use Rattle.ptpm_members.specs.declared.number_names.Enumeration.TheVariants as enumerations
 use Rattle.ptpm_members.specs.Values.{Said as MemberSaid, Named}
 use Rattle.ptpm_site.specs.declared.asked.Asked.{Asked}
+use Rattle.ptpm_site.specs.declared.asked.Asked.TheVariants as id
 use Rattle.ptpm_site.specs.declared.changes.Contradiction.{Contradiction}
 use Rattle.ptpm_site.specs.declared.changes.Contradiction.TheVariants as sort
 use Rattle.ptpm_site.specs.declared.clock.Received.{Received}
@@ -37,11 +38,11 @@ use Rattle.ptpm_site.specs.GrandmasterChanges.{grandmaster_changes}
 use Rattle.ptpm_site.specs.Grandmasters.{is_one_of_two, leads, masterless_reason, unseen_grandmaster}
 use Rattle.ptpm_site.specs.Leading.{better_clock, without_source, invalid_offset, announced_leap, not_traceable, wrong_offset}
 use Rattle.ptpm_site.specs.Loops.{loop_of}
-use Rattle.ptpm_site.specs.Members.{current_members, current_says, default_members, default_says, description_members, description_says, is_moving, is_of_grandmaster, parent_members, parent_says, port_members, port_says, time_members, time_says}
+use Rattle.ptpm_site.specs.Members.{is_moving, is_of_grandmaster, members_of}
 use Rattle.ptpm_site.specs.Origins.{utc_by_host}
 use Rattle.ptpm_site.specs.Parents.{no_master_port, unseen_parent, wrong_steps}
 use Rattle.ptpm_site.specs.Reach.{out_of_reach}
-use Rattle.ptpm_site.specs.SiteAnswers.{SiteAnswers}
+use Rattle.ptpm_site.specs.SiteAnswers.{SiteAnswers, default_of, parent_of, port_of, time_of}
 use Rattle.ptpm_site.specs.Staying.{staying_state, unlocked_port}
 use Rattle.ptpm_site.specs.TaiAndUtc.{followers_off, offset_by_utc}
 use Rattle.ptpm_site.specs.TwoAddresses.{all_twins, twins_of}
@@ -66,20 +67,20 @@ two_found site s = if is_one_of_two site s then finding s what.TwoGrandmasters �
 
 -- what it says of its grandmaster, compared with what that one says
 unfoldable pub said_of_grandmaster : SiteAnswers → Source → ParentDataSet → List (Option Differs)
-said_of_grandmaster site s own = option_map_or (λ d. grandmaster_differs own d) (site.default (beside s own.grandmaster)) []
+said_of_grandmaster site s own = option_map_or (λ d. grandmaster_differs own d) (default_of site (beside s own.grandmaster)) []
 
 -- and compared with what the clock that it follows says
 unfoldable pub said_of_parent : SiteAnswers → Source → ParentDataSet → List (Option Differs)
-said_of_parent site s own = option_map_or (λ p. other_grandmaster own p ∷ []) (site.parent (beside s own.parent.clock)) []
+said_of_parent site s own = option_map_or (λ p. other_grandmaster own p ∷ []) (parent_of site (beside s own.parent.clock)) []
 
 unfoldable pub grandmaster_said : SiteAnswers → Source → List (Option Differs)
-grandmaster_said site s = option_map_or (λ own. said_of_grandmaster site s own ++ said_of_parent site s own) (site.parent s) []
+grandmaster_said site s = option_map_or (λ own. said_of_grandmaster site s own ++ said_of_parent site s own) (parent_of site s) []
 
 -- the members in which a clock that is not its own grandmaster differs from its grandmaster about UTC
 unfoldable pub utc_said : SiteAnswers → Source → List (Option Differs)
 utc_said site s = option_map_or (λ p.
     if same_clock p.grandmaster s.clock then []
-    else option_map_or (λ own. option_map_or (λ g. utc_differs own g) (site.time (beside s p.grandmaster)) []) (site.time s) []) (site.parent s) []
+    else option_map_or (λ own. option_map_or (λ g. utc_differs own g) (time_of site (beside s p.grandmaster)) []) (time_of site s) []) (parent_of site s) []
 
 -- ---- of its ports, in their order
 
@@ -90,7 +91,7 @@ unfoldable pub lock_found : SiteAnswers → Limits → Source → ℕ → List F
 lock_found site limits s n = found (what.NotLocked n) s (unlocked_port site limits s n)
 
 unfoldable pub link_delay_found : SiteAnswers → Limits → Source → ℕ → List Finding
-link_delay_found site limits s n = found (what.LinkDelay n) s (option_and_then (λ set. large_link_delay set limits.delay) (site.port s n))
+link_delay_found site limits s n = found (what.LinkDelay n) s (option_and_then (λ set. large_link_delay set limits.delay) (port_of site s n))
 
 unfoldable pub link_delays_found : SiteAnswers → Limits → Source → List Finding
 link_delays_found site limits s = if is_some (followed site s) then flat_map (link_delay_found site limits s) (site.ports s) else []
@@ -99,8 +100,8 @@ link_delays_found site limits s = if is_some (followed site s) then flat_map (li
 unfoldable pub mechanism_found : SiteAnswers → Source → ℕ → List Finding
 mechanism_found site s n = found_each (compared.Port n) s (option_map_or (λ own. option_map_or (λ set.
     option_map_or (λ parent. if takes_time site s (state_of set.state) then mechanism_differs set parent ∷ [] else [])
-    (site.port (beside s own.parent.clock) own.parent.port) [])
-    (site.port s n) []) (site.parent s) [])
+    (port_of site (beside s own.parent.clock) own.parent.port) [])
+    (port_of site s n) []) (parent_of site s) [])
 
 unfoldable pub interval_found : SiteAnswers → Source → ℕ → List Finding
 interval_found site s n = mechanism_found site s n ++ found (what.Announces n) s (seldom_announced site s n)
@@ -134,9 +135,9 @@ better_found site s default = found what.BetterClock s (option_and_then (better_
 
 unfoldable pub quality_found : SiteAnswers → Limits → Source → List Finding
 quality_found site limits s =
-    class_found s (site.default s)
-    ++ option_map_or (properties_found limits s (site.default s)) (site.time s) []
-    ++ better_found site s (site.default s)
+    class_found s (default_of site s)
+    ++ option_map_or (properties_found limits s (default_of site s)) (time_of site s) []
+    ++ better_found site s (default_of site s)
 
 unfoldable pub leader_found : SiteAnswers → Limits → Source → List Finding
 leader_found site limits s = if leads site s then quality_found site limits s else []
@@ -229,31 +230,34 @@ incomplete_reported site s = option_to_list (option_map (λ m. said s (Lacks m.0
 
 -- A member in which two answers differ, unless its value moves though nothing was changed. What a clock that is its own grandmaster
 -- says of that one is passed over.
-unfoldable pub member_reported : {A : Type 0} → Contradiction → Source → Option ℕ → Bool → (A → Member → Option MemberSaid) → List (Received A) → Member → List Said
-member_reported how s port is_own says_of received m =
-    if is_moving m || is_own && is_of_grandmaster m then [] else option_to_list (option_map (λ change. said s (Otherwise how port change)) (contradiction how says_of m received))
+unfoldable pub member_reported : Contradiction → Source → Option ℕ → Bool → Asked → List Received → Member → List Said
+member_reported how s port is_own id received m =
+    if is_moving m || is_own && is_of_grandmaster m then [] else option_to_list (option_map (λ change. said s (Otherwise how port change)) (contradiction how id m received))
 
--- each member of a data set in which two answers differ
-unfoldable pub set_reported : {A : Type 0} → Contradiction → Source → Option ℕ → Bool → List Member → (A → Member → Option MemberSaid) → List (Received A) → List Said
-set_reported how s port is_own members says_of received = flat_map (member_reported how s port is_own says_of received) members
+-- each member of an id in which two answers differ
+unfoldable pub set_reported : Contradiction → Source → Option ℕ → Bool → Asked → List Received → List Said
+set_reported how s port is_own id received = flat_map (member_reported how s port is_own id received) (members_of id)
+
+-- for a data set of the clock
+unfoldable pub clock_set_reported : Contradiction → SiteAnswers → Source → Asked → List Said
+clock_set_reported how site s id = set_reported how s None (is_own_grandmaster site s) id (site.answers s id)
 
 unfoldable pub port_set_reported : Contradiction → SiteAnswers → Source → ℕ → List Said
-port_set_reported how site s n = set_reported how s (Some n) (is_own_grandmaster site s) port_members port_says (site.port_answers s n)
+port_set_reported how site s n = set_reported how s (Some n) (is_own_grandmaster site s) id.PortDataSet (site.port_answers s n)
 
--- for the data sets of the clock
 unfoldable pub clock_sets_reported : Contradiction → SiteAnswers → Source → List Said
 clock_sets_reported how site s =
-    set_reported how s None (is_own_grandmaster site s) default_members default_says (site.defaults s)
-    ++ set_reported how s None (is_own_grandmaster site s) current_members current_says (site.currents s)
-    ++ set_reported how s None (is_own_grandmaster site s) parent_members parent_says (site.parents s)
-    ++ set_reported how s None (is_own_grandmaster site s) time_members time_says (site.times s)
+    clock_set_reported how site s id.DefaultDataSet
+    ++ clock_set_reported how site s id.CurrentDataSet
+    ++ clock_set_reported how site s id.ParentDataSet
+    ++ clock_set_reported how site s id.TimePropertiesDataSet
 
 -- and for its ports, and its description
 unfoldable pub contradictions_reported : Contradiction → SiteAnswers → Source → List Said
 contradictions_reported how site s =
     clock_sets_reported how site s
     ++ flat_map (port_set_reported how site s) (site.ports s)
-    ++ set_reported how s None (is_own_grandmaster site s) description_members description_says (site.descriptions s)
+    ++ clock_set_reported how site s id.UserDescription
 
 -- where answers to one request differ; the state of a port may do so by itself, while it changes
 abbrev pub is_of_state : Said → Bool
@@ -269,7 +273,7 @@ addresses_reported site s = option_to_list (option_map (λ t. said s (Addresses 
 
 -- two offsets to one request, in each of two looks
 unfoldable pub offsets_reported : SiteAnswers → Source → List Said
-offsets_reported site s = option_to_list (option_map (λ o. said s (says (what.TwoOffsets o))) (two_offsets (site.currents s)))
+offsets_reported site s = option_to_list (option_map (λ o. said s (says (what.TwoOffsets o))) (two_offsets (site.answers s id.CurrentDataSet)))
 
 -- the last hop of the requests reached it
 unfoldable pub reach_reported : SiteAnswers → Source → List Said

@@ -5,7 +5,7 @@ use Rattle.ptpm_codec.specs.Identity.{same_clock}
 use Rattle.ptpm_codec.specs.declared.identity.ClockIdentity.{ClockIdentity}
 use Rattle.ptpm_codec.specs.declared.identity.PortIdentity.{PortIdentity}
 use Rattle.ptpm_site.specs.declared.source.Source.{Source}
-use Rattle.ptpm_site.specs.SiteAnswers.{SiteAnswers}
+use Rattle.ptpm_site.specs.SiteAnswers.{SiteAnswers, parent_of}
 
 -- another clock of the same domain
 abbrev pub beside : Source → ClockIdentity → Source
@@ -13,11 +13,11 @@ beside s clock = record { domain = s.domain; clock = clock }
 
 -- a clock is its own grandmaster if grandmasterIdentity is its own
 abbrev pub is_own_grandmaster : SiteAnswers → Source → Bool
-is_own_grandmaster site s = option_map_or (λ p. same_clock p.grandmaster s.clock) (site.parent s) false
+is_own_grandmaster site s = option_map_or (λ p. same_clock p.grandmaster s.clock) (parent_of site s) false
 
 -- the port that a clock follows, its parentPortIdentity; a clock that is its own grandmaster follows none
 abbrev pub followed : SiteAnswers → Source → Option PortIdentity
-followed site s = option_and_then (λ p. if same_clock p.grandmaster s.clock then None else Some p.parent) (site.parent s)
+followed site s = option_and_then (λ p. if same_clock p.grandmaster s.clock then None else Some p.parent) (parent_of site s)
 
 -- a clock's parent: the clock that it follows, if that one is seen
 abbrev pub parent_clock : SiteAnswers → Source → Option Source

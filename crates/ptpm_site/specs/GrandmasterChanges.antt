@@ -1,14 +1,14 @@
 -- Clocks whose grandmaster changed from one look to the next: `grandmaster_changed`.
 use Rattle.std.specs.Prelude.{ℕ, ◌-◌, ◌==◌, ◌&&◌, ◌||◌, Bool, false, not, List, length, slice_get, reverse, Option, Some, None, if◌then◌else◌, find, option_and_then}
 use Rattle.std.specs.List.{count_by, filter_map}
-use Rattle.std.specs.Option.{option_map_or}
+use Rattle.std.specs.Option.{option_eq, option_map, option_map_or}
 use Rattle.ptpm_codec.specs.Identity.{same_clock}
+use Rattle.ptpm_site.specs.declared.asked.Asked.TheVariants as id
 use Rattle.ptpm_site.specs.declared.clock.Received.{Received}
-use Rattle.ptpm_site.specs.declared.data_sets.ParentDataSet.{ParentDataSet}
 use Rattle.ptpm_site.specs.declared.grandmaster_changes.GrandmasterChange.{GrandmasterChange}
 use Rattle.ptpm_site.specs.declared.grandmaster_changes.Handover.{Handover}
 use Rattle.ptpm_site.specs.declared.source.Source.{Source}
-use Rattle.ptpm_site.specs.Answers.{same_source}
+use Rattle.ptpm_site.specs.Answers.{named_grandmaster, same_source}
 use Rattle.ptpm_site.specs.Changes.{same_request}
 use Rattle.ptpm_site.specs.Following.{beside}
 use Rattle.ptpm_site.specs.SiteAnswers.{SiteAnswers}
@@ -17,20 +17,21 @@ use Rattle.ptpm_site.specs.Domains.{same_domain}
 -- ---- of a clock
 
 -- the latest answer that names another grandmaster
-abbrev pub named_before : List (Received ParentDataSet) → Received ParentDataSet → Option (Received ParentDataSet)
-named_before received last = find (λ h. not (same_clock h.set.grandmaster last.set.grandmaster)) (reverse received)
+abbrev pub named_before : List Received → Received → Option Received
+named_before received last = find (λ h. not (option_eq same_clock (named_grandmaster h) (named_grandmaster last))) (reverse received)
 
 -- if it came to another request, the clock went from that grandmaster to the one that it names last
-abbrev pub handover_to : Source → List (Received ParentDataSet) → Received ParentDataSet → Option Handover
+abbrev pub handover_to : Source → List Received → Received → Option Handover
 handover_to s received last = option_and_then (λ before.
     if same_request before.request last.request then None
-    else Some (record { source = s; before = before.set.grandmaster; after = last.set.grandmaster })) (named_before received last)
+    else option_and_then (λ b. option_map (λ a. record { source = s; before = b; after = a }) (named_grandmaster last)) (named_grandmaster before))
+    (named_before received last)
 
-abbrev pub last_handover : Source → List (Received ParentDataSet) → Option Handover
+abbrev pub last_handover : Source → List Received → Option Handover
 last_handover s received = option_and_then (handover_to s received) (slice_get received (length received - 1))
 
 abbrev pub handover_of : SiteAnswers → Source → Option Handover
-handover_of site s = last_handover s (site.parents s)
+handover_of site s = last_handover s (site.answers s id.ParentDataSet)
 
 -- ---- of all clocks
 

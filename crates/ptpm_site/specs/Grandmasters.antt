@@ -9,7 +9,7 @@ use Rattle.ptpm_site.specs.declared.grandmasters.Masterless.TheVariants as why
 use Rattle.ptpm_site.specs.declared.port_groups.PortGroup.TheVariants as groups
 use Rattle.ptpm_site.specs.declared.source.Source.{Source}
 use Rattle.ptpm_site.specs.Following.{beside, is_own_grandmaster}
-use Rattle.ptpm_site.specs.SiteAnswers.{SiteAnswers, has_port_of, has_ports_to}
+use Rattle.ptpm_site.specs.SiteAnswers.{SiteAnswers, default_of, has_port_of, has_ports_to, parent_of}
 use Rattle.ptpm_site.specs.declared.domain.Domain.{Domain}
 use Rattle.ptpm_site.specs.Domains.{same_domain}
 
@@ -47,8 +47,8 @@ abbrev pub masterless_reason : SiteAnswers → Source → Option Masterless
 masterless_reason site s = option_and_then (λ p. option_and_then (λ d.
     if not (has_ports_to site s d.number_of_ports) then None
     else if same_clock p.grandmaster s.clock then masterless_grandmaster site s d
-    else masterless_follower site s d p.grandmaster) (site.default s)) (site.parent s)
+    else masterless_follower site s d p.grandmaster) (default_of site s)) (parent_of site s)
 
 -- the grandmaster that it names, if that one is not seen
 abbrev pub unseen_grandmaster : SiteAnswers → Source → Option ClockIdentity
-unseen_grandmaster site s = option_and_then (λ p. if site.seen (beside s p.grandmaster) then None else Some p.grandmaster) (site.parent s)
+unseen_grandmaster site s = option_and_then (λ p. if site.seen (beside s p.grandmaster) then None else Some p.grandmaster) (parent_of site s)

@@ -1,130 +1,86 @@
 -- What the program keeps of the answers that it took: for each clock what they said, in the order of their
 -- lines.
-use Rattle.std.specs.Prelude.{◌≡◌, ℕ, ◌||◌, ◌++◌, List, [], Option, is_some, IsSome, if◌then◌else◌}
+use Rattle.std.specs.Prelude.{◌≡◌, ℕ, ◌||◌, ◌++◌, List, [], Option, Vec, is_some, IsSome, if◌then◌else◌}
+use Rattle.std.specs.declared.alloc.Global.{Global}
 use Rattle.std.specs.BTreeMap.{keys}
-use Rattle.std.specs.Option.{option_map_or}
+use Rattle.std.specs.List.{filter_map}
+use Rattle.std.specs.Option.{option_map_or, option_to_list}
 use Rattle.ptpm_site.specs.declared.answer.Answer.{Answer}
 use Rattle.ptpm_site.specs.declared.asked.Asked.{Asked}
 use Rattle.ptpm_site.specs.declared.answer.Request.{Request}
 use Rattle.ptpm_site.specs.declared.clock.Clock.{Clock}
 use Rattle.ptpm_site.specs.declared.clock.Received.{Received}
-use Rattle.ptpm_site.specs.declared.data_sets.CurrentDataSet.{CurrentDataSet}
-use Rattle.ptpm_site.specs.declared.data_sets.DefaultDataSet.{DefaultDataSet}
-use Rattle.ptpm_site.specs.declared.data_sets.ParentDataSet.{ParentDataSet}
-use Rattle.ptpm_site.specs.declared.data_sets.PortDataSet.{PortDataSet}
-use Rattle.ptpm_site.specs.declared.data_sets.TimePropertiesDataSet.{TimePropertiesDataSet}
-use Rattle.ptpm_site.specs.declared.description.Description.{Description}
 use Rattle.ptpm_site.specs.declared.site.Site.{Site}
 use Rattle.ptpm_site.specs.declared.source.Source.{Source}
 use Rattle.ptpm_site.specs.declared.answer_content.AnswerContent.{AnswerContent}
-use Rattle.ptpm_site.specs.Answers.{all_received, clocks_of, current_in, default_in, description_in, is_seen, newly_received, parent_in, place, place_clock, place_number, port_in, port_number, ports_of, refusal_in, same_source, source_cmp, time_in}
-use Rattle.ptpm_site.specs.Site.{answers_of_port, clock_at}
+use Rattle.ptpm_site.specs.Answers.{all_received, answer_of_port, answer_to, answers_of, clocks_of, is_seen, newly_received, place, place_clock, place_number, port_number, ports_of, refusal_in, same_source, source_cmp}
+use Rattle.ptpm_site.specs.Site.{answers_at, answers_of_port, answers_to_id, clock_at, numbers_at, port_answers_at}
 
--- ---- what is kept of a clock; nothing for one that is not seen
-
-abbrev pub defaults_at : Site → Source → List (Received DefaultDataSet)
-defaults_at site s = option_map_or (λ c. c.defaults.items) (clock_at site s) []
-
-abbrev pub currents_at : Site → Source → List (Received CurrentDataSet)
-currents_at site s = option_map_or (λ c. c.currents.items) (clock_at site s) []
-
-abbrev pub parents_at : Site → Source → List (Received ParentDataSet)
-parents_at site s = option_map_or (λ c. c.parents.items) (clock_at site s) []
-
-abbrev pub times_at : Site → Source → List (Received TimePropertiesDataSet)
-times_at site s = option_map_or (λ c. c.times.items) (clock_at site s) []
-
-abbrev pub descriptions_at : Site → Source → List (Received Description)
-descriptions_at site s = option_map_or (λ c. c.descriptions.items) (clock_at site s) []
-
-abbrev pub refused_at : Site → Source → List (Received Asked)
+-- the ids that a clock refused
+abbrev pub refused_at : Site → Source → List Asked
 refused_at site s = option_map_or (λ c. c.refused.items) (clock_at site s) []
 
-abbrev pub ports_at : Site → Source → ℕ → List (Received PortDataSet)
-ports_at site s n = option_map_or (λ c. answers_of_port c n) (clock_at site s) []
-
-abbrev pub numbers_at : Site → Source → List ℕ
-numbers_at site s = option_map_or (λ c. keys c.ports) (clock_at site s) []
+abbrev pub refusals_of : Source → List Answer → List Asked
+refusals_of s answers = filter_map (λ a. refusal_in a.content) (answers_of s answers)
 
 -- all that the answers said is kept, and nothing else
-pub record Keeps (site : Site) (answers : List Answer) : Type 0 where
-  pub clocks : keys site.clocks ≡ clocks_of answers
-  pub seen : (s : Source) → is_some (clock_at site s) ≡ is_seen s answers
-  pub defaults : (s : Source) → defaults_at site s ≡ all_received default_in s answers
-  pub currents : (s : Source) → currents_at site s ≡ all_received current_in s answers
-  pub parents : (s : Source) → parents_at site s ≡ all_received parent_in s answers
-  pub times : (s : Source) → times_at site s ≡ all_received time_in s answers
-  pub descriptions : (s : Source) → descriptions_at site s ≡ all_received description_in s answers
-  pub refused : (s : Source) → refused_at site s ≡ all_received refusal_in s answers
-  pub numbers : (s : Source) → numbers_at site s ≡ ports_of s answers
-  pub ports : (s : Source) (n : ℕ) → ports_at site s n ≡ all_received (port_in n) s answers
+pub record Keeps (site : Site) (all : List Answer) : Type 0 where
+  pub clocks : keys site.clocks ≡ clocks_of all
+  pub seen : (s : Source) → is_some (clock_at site s) ≡ is_seen s all
+  pub answers : (s : Source) (id : Asked) → answers_at site s id ≡ all_received (answer_to id) s all
+  pub refused : (s : Source) → refused_at site s ≡ refusals_of s all
+  pub numbers : (s : Source) → numbers_at site s ≡ ports_of s all
+  pub ports : (s : Source) (n : ℕ) → port_answers_at site s n ≡ all_received (answer_of_port n) s all
 
--- what one clock answered to a request; at another clock nothing
-abbrev pub newly_received_at : {A : Type 0} → (AnswerContent → Option A) → Source → Source → Request → Option ℕ → AnswerContent → List (Received A)
-newly_received_at says source s request at t = if same_source source s then newly_received says request at t else []
-
--- what an answer adds at a clock: what it says if it is of that clock, otherwise nothing
-abbrev pub added : {A : Type 0} → (AnswerContent → Option A) → Source → Answer → List (Received A)
-added says s a = newly_received_at says a.source s a.request a.at a.content
+-- of what one clock answered, what is of a clock: nothing at another one
+abbrev pub only_at : {A : Type 0} → Source → Source → List A → List A
+only_at source s more = if same_source source s then more else []
 
 -- a clock without answers
 pub record HasNoAnswers (c : Clock) : Type 0 where
-  pub defaults : c.defaults.items ≡ []
-  pub currents : c.currents.items ≡ []
-  pub parents : c.parents.items ≡ []
-  pub times : c.times.items ≡ []
-  pub descriptions : c.descriptions.items ≡ []
+  pub answers : (id : Asked) → answers_to_id c id ≡ []
   pub refused : c.refused.items ≡ []
   pub numbers : keys c.ports ≡ []
   pub ports : (n : ℕ) → answers_of_port c n ≡ []
 
 -- a clock said something more, which is added after all that it said before
 pub record Grows (before after : Clock) (request : Request) (at : Option ℕ) (t : AnswerContent) : Type 0 where
-  pub defaults : after.defaults.items ≡ before.defaults.items ++ newly_received default_in request at t
-  pub currents : after.currents.items ≡ before.currents.items ++ newly_received current_in request at t
-  pub parents : after.parents.items ≡ before.parents.items ++ newly_received parent_in request at t
-  pub times : after.times.items ≡ before.times.items ++ newly_received time_in request at t
-  pub descriptions : after.descriptions.items ≡ before.descriptions.items ++ newly_received description_in request at t
-  pub refused : after.refused.items ≡ before.refused.items ++ newly_received refusal_in request at t
+  pub answers : (id : Asked) → answers_to_id after id ≡ answers_to_id before id ++ newly_received (answer_to id) request at t
+  pub refused : after.refused.items ≡ before.refused.items ++ option_to_list (refusal_in t)
   pub numbers : keys after.ports ≡ place_number (keys before.ports) (port_number t)
-  pub ports : (n : ℕ) → answers_of_port after n ≡ answers_of_port before n ++ newly_received (port_in n) request at t
+  pub ports : (n : ℕ) → answers_of_port after n ≡ answers_of_port before n ++ newly_received (answer_of_port n) request at t
 
 -- a clock gets its place, and nothing else changes
 pub record Places (old new : Site) (source : Source) : Type 0 where
   pub clocks : keys new.clocks ≡ place source_cmp (keys old.clocks) source
   pub there : IsSome (clock_at new source)
   pub seen : (s : Source) → is_some (clock_at new s) ≡ (is_some (clock_at old s) || same_source source s)
-  pub defaults : (s : Source) → defaults_at new s ≡ defaults_at old s
-  pub currents : (s : Source) → currents_at new s ≡ currents_at old s
-  pub parents : (s : Source) → parents_at new s ≡ parents_at old s
-  pub times : (s : Source) → times_at new s ≡ times_at old s
-  pub descriptions : (s : Source) → descriptions_at new s ≡ descriptions_at old s
+  pub answers : (s : Source) (id : Asked) → answers_at new s id ≡ answers_at old s id
   pub refused : (s : Source) → refused_at new s ≡ refused_at old s
   pub numbers : (s : Source) → numbers_at new s ≡ numbers_at old s
-  pub ports : (s : Source) (n : ℕ) → ports_at new s n ≡ ports_at old s n
+  pub ports : (s : Source) (n : ℕ) → port_answers_at new s n ≡ port_answers_at old s n
 
 -- what is said by a clock that has its place is kept
 pub record AddsContent (old new : Site) (source : Source) (request : Request) (at : Option ℕ) (t : AnswerContent) : Type 0 where
   pub clocks : keys new.clocks ≡ keys old.clocks
   pub seen : (s : Source) → is_some (clock_at new s) ≡ is_some (clock_at old s)
-  pub defaults : (s : Source) → defaults_at new s ≡ defaults_at old s ++ newly_received_at default_in source s request at t
-  pub currents : (s : Source) → currents_at new s ≡ currents_at old s ++ newly_received_at current_in source s request at t
-  pub parents : (s : Source) → parents_at new s ≡ parents_at old s ++ newly_received_at parent_in source s request at t
-  pub times : (s : Source) → times_at new s ≡ times_at old s ++ newly_received_at time_in source s request at t
-  pub descriptions : (s : Source) → descriptions_at new s ≡ descriptions_at old s ++ newly_received_at description_in source s request at t
-  pub refused : (s : Source) → refused_at new s ≡ refused_at old s ++ newly_received_at refusal_in source s request at t
+  pub answers : (s : Source) (id : Asked) → answers_at new s id ≡ answers_at old s id ++ only_at source s (newly_received (answer_to id) request at t)
+  pub refused : (s : Source) → refused_at new s ≡ refused_at old s ++ only_at source s (option_to_list (refusal_in t))
   pub numbers : (s : Source) → numbers_at new s ≡ (if same_source source s then place_number (numbers_at old s) (port_number t) else numbers_at old s)
-  pub ports : (s : Source) (n : ℕ) → ports_at new s n ≡ ports_at old s n ++ newly_received_at (port_in n) source s request at t
+  pub ports : (s : Source) (n : ℕ) → port_answers_at new s n ≡ port_answers_at old s n ++ only_at source s (newly_received (answer_of_port n) request at t)
+
+-- what an answer adds at a clock
+abbrev pub added : (AnswerContent → Option (Vec ℕ Global)) → Source → Answer → List Received
+added says s a = only_at a.source s (newly_received says a.request a.at a.content)
+
+abbrev pub added_refusal : Source → Answer → List Asked
+added_refusal s a = only_at a.source s (option_to_list (refusal_in a.content))
 
 -- one more answer is taken
 pub record Takes (old new : Site) (a : Answer) : Type 0 where
   pub clocks : keys new.clocks ≡ place_clock (keys old.clocks) a
   pub seen : (s : Source) → is_some (clock_at new s) ≡ (is_some (clock_at old s) || same_source a.source s)
-  pub defaults : (s : Source) → defaults_at new s ≡ defaults_at old s ++ added default_in s a
-  pub currents : (s : Source) → currents_at new s ≡ currents_at old s ++ added current_in s a
-  pub parents : (s : Source) → parents_at new s ≡ parents_at old s ++ added parent_in s a
-  pub times : (s : Source) → times_at new s ≡ times_at old s ++ added time_in s a
-  pub descriptions : (s : Source) → descriptions_at new s ≡ descriptions_at old s ++ added description_in s a
-  pub refused : (s : Source) → refused_at new s ≡ refused_at old s ++ added refusal_in s a
+  pub answers : (s : Source) (id : Asked) → answers_at new s id ≡ answers_at old s id ++ added (answer_to id) s a
+  pub refused : (s : Source) → refused_at new s ≡ refused_at old s ++ added_refusal s a
   pub numbers : (s : Source) → numbers_at new s ≡ (if same_source a.source s then place_number (numbers_at old s) (port_number a.content) else numbers_at old s)
-  pub ports : (s : Source) (n : ℕ) → ports_at new s n ≡ ports_at old s n ++ added (port_in n) s a
+  pub ports : (s : Source) (n : ℕ) → port_answers_at new s n ≡ port_answers_at old s n ++ added (answer_of_port n) s a

@@ -14,7 +14,7 @@ use Rattle.ptpm_site.specs.declared.leading.Untraceable.{Untraceable}
 use Rattle.ptpm_site.specs.declared.leading.WrongOffset.{WrongOffset}
 use Rattle.ptpm_site.specs.declared.source.Source.{Source}
 use Rattle.ptpm_site.specs.Grandmasters.{in_domain, leads}
-use Rattle.ptpm_site.specs.SiteAnswers.{SiteAnswers}
+use Rattle.ptpm_site.specs.SiteAnswers.{SiteAnswers, default_of}
 
 -- ---- clockClass (IEEE 1588-2019, 7.6.2.5, table 4)
 
@@ -59,10 +59,10 @@ is_better_than class d = not d.slave_only && nat_lt d.quality.class 128 && nat_l
 
 abbrev pub stands_by : SiteAnswers → Source → ℕ → Source → Bool
 stands_by site s class other =
-    in_domain s.domain other && not (leads site other) && option_map_or (is_better_than class) (site.default other) false
+    in_domain s.domain other && not (leads site other) && option_map_or (is_better_than class) (default_of site other) false
 
 -- the first of these clocks
 abbrev pub better_clock : SiteAnswers → Source → DefaultDataSet → Option Better
 better_clock site s d = option_and_then (λ other. option_map
-    (λ o. record { class = d.quality.class; clock = other.clock; quality = o.quality; priority1 = o.priority1 }) (site.default other))
+    (λ o. record { class = d.quality.class; clock = other.clock; quality = o.quality; priority1 = o.priority1 }) (default_of site other))
     (find (stands_by site s d.quality.class) site.clocks)

@@ -1,22 +1,24 @@
 -- The members of the six data sets (IEEE 1588-2019, 8.2 and 15.5.3), and what a data set says of each.
-use Rattle.std.specs.Prelude.{◌==◌, ◌&&◌, Bool, true, false, List, [], ◌∷◌, Option, Some, None, bytes_eq, string_bytes}
+use Rattle.std.specs.Prelude.{ℕ, ◌==◌, ◌&&◌, Bool, true, false, List, [], Option, Some, None, bytes_eq, drop, find, if◌then◌else◌}
 use Rattle.std.specs.Bool.{beq}
+use Rattle.std.specs.Option.{option_map}
 use Rattle.std.specs.Ordering.{int_eq}
+use Rattle.std.specs.Str.{is_utf8}
 use Rattle.ptpm_codec.specs.Identity.{same_clock, same_identity}
 use Rattle.ptpm_data.specs.declared.members.Member.TheVariants as sets
-use Rattle.ptpm_data.specs.declared.port_setting.PortSetting.TheVariants as settings
+use Rattle.ptpm_members.specs.contracts.names.MemberPartialEq.TheImpl.{ghosts as of_member}
 use Rattle.ptpm_members.specs.declared.names.Member.{Member}
 use Rattle.ptpm_members.specs.declared.names.Member.TheVariants as member
 use Rattle.ptpm_members.specs.declared.number_names.Enumeration.{Enumeration}
 use Rattle.ptpm_members.specs.declared.number_names.Enumeration.TheVariants as enumerations
 use Rattle.ptpm_members.specs.declared.values.ClockQuality.{ClockQuality}
-use Rattle.ptpm_members.specs.Values.{Said, Clock, Clocks, Flag, Interval, Named, Octets, Port, Quality, Signed, Text, Unsigned}
-use Rattle.ptpm_site.specs.declared.data_sets.CurrentDataSet.{CurrentDataSet}
-use Rattle.ptpm_site.specs.declared.data_sets.DefaultDataSet.{DefaultDataSet}
-use Rattle.ptpm_site.specs.declared.data_sets.ParentDataSet.{ParentDataSet}
-use Rattle.ptpm_site.specs.declared.data_sets.PortDataSet.{PortDataSet}
-use Rattle.ptpm_site.specs.declared.data_sets.TimePropertiesDataSet.{TimePropertiesDataSet}
-use Rattle.ptpm_site.specs.declared.description.Description.{Description}
+use Rattle.ptpm_members.specs.Values.{Said, Clock, Clocks, Flag, Interval, Named, Octets, Port, Quality, Signed, Text, Unsigned, said_in}
+use Rattle.ptpm_members.specs.FieldText.{members_in}
+use Rattle.ptpm_site.specs.declared.asked.Asked.{Asked}
+use Rattle.ptpm_site.specs.declared.asked.Asked.TheVariants as id
+use Rattle.ptpm_site.specs.declared.member.TheConstants.{CURRENT_DATA_SET, DEFAULT_DATA_SET, PARENT_DATA_SET, PORT_DATA_SET, TIME_PROPERTIES_DATA_SET, USER_DESCRIPTION}
+use Rattle.ptpm_site.specs.Ids.{number_of}
+use Rattle.ptpm_site.specs.Octets.{default_read, parent_read}
 
 -- ---- when two values are the same
 
@@ -44,7 +46,7 @@ same_value (Octets a) (Octets b) = bytes_eq a b
 same_value (Clocks a) (Clocks b) = bytes_eq a b
 same_value _ _ = false
 
--- ---- the members of each data set, in the standard's order, and what it says of them
+-- ---- the members of each data set, in the standard's order
 
 -- the values of offsetFromMaster, meanDelay, meanLinkDelay, logMinDelayReqInterval, and of what is observed of a parent move though
 -- nothing was changed (this project's profile)
@@ -64,88 +66,33 @@ is_of_grandmaster member.GrandmasterClockQuality = true
 is_of_grandmaster (member.DataSet sets.GrandmasterPriority2) = true
 is_of_grandmaster _ = false
 
-abbrev pub default_members : List Member
-default_members =
-    member.DataSet sets.TwoStep ∷ member.SlaveOnly ∷ member.NumberPorts ∷ member.DataSet sets.Priority1 ∷ member.ClockQuality
-    ∷ member.DataSet sets.Priority2 ∷ member.DataSet sets.Identity ∷ member.DataSet sets.Domain ∷ []
+-- the tables are those of the program
+abbrev pub members_of : Asked → List Member
+members_of id.DefaultDataSet = DEFAULT_DATA_SET
+members_of id.CurrentDataSet = CURRENT_DATA_SET
+members_of id.ParentDataSet = PARENT_DATA_SET
+members_of id.TimePropertiesDataSet = TIME_PROPERTIES_DATA_SET
+members_of id.PortDataSet = PORT_DATA_SET
+members_of id.UserDescription = USER_DESCRIPTION
 
-abbrev pub default_says : DefaultDataSet → Member → Option Said
-default_says d (member.DataSet sets.TwoStep) = Some (Flag d.two_step)
-default_says d member.SlaveOnly = Some (Flag d.slave_only)
-default_says d member.NumberPorts = Some (Unsigned d.number_of_ports)
-default_says d (member.DataSet sets.Priority1) = Some (Unsigned d.priority1)
-default_says d member.ClockQuality = Some (Quality d.quality)
-default_says d (member.DataSet sets.Priority2) = Some (Unsigned d.priority2)
-default_says d (member.DataSet sets.Identity) = Some (Clock d.identity)
-default_says d (member.DataSet sets.Domain) = Some (Unsigned d.domain)
-default_says d _ = None
+-- ---- what the octets of an answer say of a member
 
-abbrev pub current_members : List Member
-current_members = member.DataSet sets.StepsRemoved ∷ member.DataSet sets.OffsetFromMaster ∷ member.DataSet sets.MeanPathDelay ∷ []
+abbrev pub same_member : Member → Member → Bool
+same_member a b = of_member.eq a b
 
-abbrev pub current_says : CurrentDataSet → Member → Option Said
-current_says d (member.DataSet sets.StepsRemoved) = Some (Unsigned d.steps_removed)
-current_says d (member.DataSet sets.OffsetFromMaster) = Some (Interval d.offset_from_master)
-current_says d (member.DataSet sets.MeanPathDelay) = Some (Interval d.mean_delay)
-current_says d _ = None
+-- by the octets at its place in the dataField of the id
+abbrev pub field_says : Asked → List ℕ → Member → Option Said
+field_says asked octets m =
+    option_map (λ f. said_in f.2 (drop f.1 octets)) (find (λ f. same_member f.0 m) (members_in (number_of asked) octets))
 
-abbrev pub parent_members : List Member
-parent_members =
-    member.DataSet sets.ParentPort ∷ member.DataSet sets.ParentStats ∷ member.DataSet sets.ObservedVariance ∷ member.DataSet sets.ObservedRate
-    ∷ member.DataSet sets.GrandmasterPriority1 ∷ member.GrandmasterClockQuality ∷ member.DataSet sets.GrandmasterPriority2
-    ∷ member.DataSet sets.Grandmaster ∷ []
+-- by a text in UTF-8
+abbrev pub text_says : List ℕ → Option Said
+text_says octets = if is_utf8 octets then Some (Text octets) else None
 
-abbrev pub parent_says : ParentDataSet → Member → Option Said
-parent_says d (member.DataSet sets.ParentPort) = Some (Port d.parent)
-parent_says d (member.DataSet sets.ParentStats) = Some (Flag d.stats)
-parent_says d (member.DataSet sets.ObservedVariance) = Some (Unsigned d.variance)
-parent_says d (member.DataSet sets.ObservedRate) = Some (Signed d.rate)
-parent_says d (member.DataSet sets.GrandmasterPriority1) = Some (Unsigned d.priority1)
-parent_says d member.GrandmasterClockQuality = Some (Quality d.quality)
-parent_says d (member.DataSet sets.GrandmasterPriority2) = Some (Unsigned d.priority2)
-parent_says d (member.DataSet sets.Grandmaster) = Some (Clock d.grandmaster)
-parent_says d _ = None
-
-abbrev pub time_members : List Member
-time_members =
-    member.DataSet sets.UtcOffset ∷ member.DataSet sets.UtcValid ∷ member.DataSet sets.Leap59 ∷ member.DataSet sets.Leap61
-    ∷ member.DataSet sets.TimeTraceable ∷ member.DataSet sets.FrequencyTraceable ∷ member.DataSet sets.PtpTimescale ∷ member.DataSet sets.TimeSource
-    ∷ []
-
-abbrev pub time_says : TimePropertiesDataSet → Member → Option Said
-time_says d (member.DataSet sets.UtcOffset) = Some (Signed d.utc_offset)
-time_says d (member.DataSet sets.UtcValid) = Some (Flag d.utc_valid)
-time_says d (member.DataSet sets.Leap59) = Some (Flag d.leap59)
-time_says d (member.DataSet sets.Leap61) = Some (Flag d.leap61)
-time_says d (member.DataSet sets.TimeTraceable) = Some (Flag d.time_traceable)
-time_says d (member.DataSet sets.FrequencyTraceable) = Some (Flag d.frequency_traceable)
-time_says d (member.DataSet sets.PtpTimescale) = Some (Flag d.ptp_timescale)
-time_says d (member.DataSet sets.TimeSource) = Some (Named enumerations.TimeSource d.time_source)
-time_says d _ = None
-
--- except its portIdentity
-abbrev pub port_members : List Member
-port_members =
-    member.DataSet sets.State ∷ member.DataSet sets.LogMinDelayReq ∷ member.DataSet sets.PeerDelay
-    ∷ member.DataSet (sets.Setting settings.LogAnnounceInterval) ∷ member.DataSet (sets.Setting settings.AnnounceReceiptTimeout)
-    ∷ member.DataSet (sets.Setting settings.LogSyncInterval) ∷ member.DataSet (sets.Setting settings.DelayMechanism)
-    ∷ member.DataSet (sets.Setting settings.LogMinPdelayReqInterval) ∷ member.VersionNumber ∷ []
-
-abbrev pub port_says : PortDataSet → Member → Option Said
-port_says d (member.DataSet sets.State) = Some (Named enumerations.PortState d.state)
-port_says d (member.DataSet sets.LogMinDelayReq) = Some (Signed d.log_min_delay_req)
-port_says d (member.DataSet sets.PeerDelay) = Some (Interval d.mean_link_delay)
-port_says d (member.DataSet (sets.Setting settings.LogAnnounceInterval)) = Some (Signed d.log_announce)
-port_says d (member.DataSet (sets.Setting settings.AnnounceReceiptTimeout)) = Some (Unsigned d.receipt_timeout)
-port_says d (member.DataSet (sets.Setting settings.LogSyncInterval)) = Some (Signed d.log_sync)
-port_says d (member.DataSet (sets.Setting settings.DelayMechanism)) = Some (Named enumerations.DelayMechanism d.delay_mechanism)
-port_says d (member.DataSet (sets.Setting settings.LogMinPdelayReqInterval)) = Some (Signed d.log_min_pdelay)
-port_says d member.VersionNumber = Some (Unsigned d.version)
-port_says d _ = None
-
-abbrev pub description_members : List Member
-description_members = member.DataSet sets.UserDescription ∷ []
-
-abbrev pub description_says : Description → Member → Option Said
-description_says d (member.DataSet sets.UserDescription) = Some (Text (string_bytes d.text))
-description_says d _ = None
+-- of the three members of a ClockQuality as one
+abbrev pub answer_says : Asked → List ℕ → Member → Option Said
+answer_says id.DefaultDataSet octets member.ClockQuality = option_map (λ d. Quality d.quality) (default_read octets)
+answer_says id.ParentDataSet octets member.GrandmasterClockQuality = option_map (λ d. Quality d.quality) (parent_read octets)
+answer_says id.UserDescription octets (member.DataSet sets.UserDescription) = text_says octets
+answer_says id.UserDescription octets m = None
+answer_says asked octets m = field_says asked octets m

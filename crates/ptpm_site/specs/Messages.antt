@@ -1,30 +1,24 @@
 -- Which messages are answers to one of the six ids, and what each says (IEEE 1588-2019, 15.4.1 and 15.5.3).
-use Rattle.std.specs.Prelude.{ℕ, ◌==◌, Bool, true, false, List, Option, Some, None, if◌then◌else◌, is_some, option_and_then}
+use Rattle.std.specs.Prelude.{ℕ, ◌==◌, Bool, true, false, not, List, length, Option, Some, None, if◌then◌else◌, is_some, option_and_then}
 use Rattle.std.specs.List.{find}
 use Rattle.std.specs.Option.{option_map}
 use Rattle.std.specs.Str.Lossy.{utf8_lossy}
-use Rattle.std.specs.String.{string_bytes}
 use Rattle.ptpm_codec.specs.Identity.{same_clock}
 use Rattle.ptpm_codec.specs.Message.{action_of, error_of, id_of, octets_of}
 use Rattle.ptpm_codec.specs.PtpText.{is_ptp_text, ptp_text}
-use Rattle.ptpm_codec.specs.declared.identity.PortIdentity.{PortIdentity}
 use Rattle.ptpm_codec.specs.declared.message.Action.{Action}
 use Rattle.ptpm_codec.specs.declared.message.Action.TheVariants as action
 use Rattle.ptpm_codec.specs.declared.message.Message.{Message}
+use Rattle.ptpm_members.specs.FieldText.{members_in}
 use Rattle.ptpm_site.specs.declared.answer.Answer.{Answer}
 use Rattle.ptpm_site.specs.declared.answer.Request.{Request}
 use Rattle.ptpm_site.specs.declared.asked.Asked.{Asked}
 use Rattle.ptpm_site.specs.declared.asked.Asked.TheVariants as id
-use Rattle.ptpm_site.specs.declared.data_sets.CurrentDataSet.{CurrentDataSet}
-use Rattle.ptpm_site.specs.declared.data_sets.DefaultDataSet.{DefaultDataSet}
-use Rattle.ptpm_site.specs.declared.data_sets.ParentDataSet.{ParentDataSet}
-use Rattle.ptpm_site.specs.declared.data_sets.PortDataSet.{PortDataSet}
-use Rattle.ptpm_site.specs.declared.data_sets.TimePropertiesDataSet.{TimePropertiesDataSet}
 use Rattle.ptpm_site.specs.declared.source.Source.{Source}
 use Rattle.ptpm_site.specs.declared.answer_content.AnswerContent.{AnswerContent}
 use Rattle.ptpm_site.specs.declared.answer_content.AnswerContent.TheVariants as contents
 use Rattle.ptpm_site.specs.Ids.{number_of, six}
-use Rattle.ptpm_site.specs.Octets.{current_read, default_read, parent_read, port_read, time_read}
+use Rattle.ptpm_site.specs.Octets.{port_read}
 use Rattle.ptpm_site.specs.Domains.{domain_of}
 
 -- userDescription is a PTPText (5.3.9); octets that are no UTF-8 are replaced
@@ -35,38 +29,35 @@ description_read octets = if is_ptp_text octets then Some (utf8_lossy (ptp_text 
 abbrev pub asked_of : ℕ → Option Asked
 asked_of n = find (λ a. number_of a == n) six
 
--- ---- what an answer says, with a list for its text
+-- ---- what an answer says, with a list for its octets
 
 pub data Content : Type 0 where
-  Default : (set : DefaultDataSet) → Content
-  Current : (set : CurrentDataSet) → Content
-  Parent : (set : ParentDataSet) → Content
-  Time : (set : TimePropertiesDataSet) → Content
-  Port : (n : ℕ) → (set : PortDataSet) → Content
-  Description : (text : List ℕ) → Content
+  OfClock : (asked : Asked) → (octets : List ℕ) → Content
+  OfPort : (n : ℕ) → (octets : List ℕ) → Content
   Refused : (asked : Asked) → Content
 
 abbrev pub content : AnswerContent → Content
-content (contents.Default set) = Default set
-content (contents.Current set) = Current set
-content (contents.Parent set) = Parent set
-content (contents.Time set) = Time set
-content (contents.Port n set) = Port n set
-content (contents.Description description) = Description (string_bytes description.text)
+content (contents.Clock asked octets) = OfClock asked octets.items
+content (contents.Port n octets) = OfPort n octets.items
 content (contents.Refused asked) = Refused asked
 
+-- the octets are a dataField of the id
+abbrev pub has_members : Asked → List ℕ → Bool
+has_members a octets = not (length (members_in (number_of a) octets) == 0)
+
+abbrev pub clock_content : Asked → List ℕ → Option Content
+clock_content a octets = if has_members a octets then Some (OfClock a octets) else None
+
 -- PORT_DATA_SET counts only for a port of the clock that sent it
-unfoldable pub port_content : Message → Option (PortIdentity × PortDataSet) → Option Content
-port_content m o = option_and_then (λ p. if same_clock p.0.clock m.source.clock then Some (Port p.0.port p.1) else None) o
+abbrev pub port_content : Message → List ℕ → Option Content
+port_content m octets =
+    option_and_then (λ p. if same_clock p.0.clock m.source.clock then Some (OfPort p.0.port octets) else None) (port_read octets)
 
 -- what the dataField of a message says of an id
 abbrev pub data_content : Asked → Message → Option Content
-data_content id.UserDescription m = option_map Description (description_read (octets_of m.body))
-data_content id.DefaultDataSet m = option_map Default (default_read (octets_of m.body))
-data_content id.CurrentDataSet m = option_map Current (current_read (octets_of m.body))
-data_content id.ParentDataSet m = option_map Parent (parent_read (octets_of m.body))
-data_content id.TimePropertiesDataSet m = option_map Time (time_read (octets_of m.body))
-data_content id.PortDataSet m = port_content m (port_read (octets_of m.body))
+data_content id.UserDescription m = option_map (OfClock id.UserDescription) (description_read (octets_of m.body))
+data_content id.PortDataSet m = port_content m (octets_of m.body)
+data_content a m = clock_content a (octets_of m.body)
 
 -- a MANAGEMENT_ERROR_STATUS refuses the id (15.5.4)
 unfoldable pub content_of : Asked → Message → Option Content

@@ -1,9 +1,9 @@
--- Which octets of a dataField each member of a data set is (IEEE 1588-2019, 15.5.3), in network order (5.2).
-use Rattle.std.specs.Prelude.{ℕ, ◌+◌, ◌%◌, ◌==◌, Bool, List, length, Option, Some, None, if◌then◌else◌}
+-- Which octets of a dataField each member is with which the rules reckon (IEEE 1588-2019, 15.5.3), in network order (5.2).
+use Rattle.std.specs.Prelude.{ℕ, ◌+◌, ◌==◌, Bool, List, length, Option, Some, None, if◌then◌else◌}
 use Rattle.std.specs.Int.{bit_at}
 use Rattle.ptpm_codec.specs.Layout.{clock_identity_at, number_at, octet, port_identity_at}
 use Rattle.ptpm_codec.specs.declared.identity.PortIdentity.{PortIdentity}
-use Rattle.ptpm_data.specs.ImageReading.{i16_at, i32_at, i64_at, i8_at}
+use Rattle.ptpm_data.specs.ImageReading.{i16_at, i64_at, i8_at}
 use Rattle.ptpm_members.specs.declared.values.ClockQuality.{ClockQuality}
 use Rattle.ptpm_site.specs.declared.data_sets.CurrentDataSet.{CurrentDataSet}
 use Rattle.ptpm_site.specs.declared.data_sets.DefaultDataSet.{DefaultDataSet}
@@ -25,13 +25,11 @@ of_length n octets set = if length octets == n then Some set else None
 
 unfoldable pub default_read : List ℕ → Option DefaultDataSet
 default_read octets = of_length 20 octets (record {
-  two_step = flag_at 0 0 octets;
   slave_only = flag_at 0 1 octets;
   number_of_ports = number_at 2 octets;
   priority1 = octet 4 octets;
   quality = quality_at 5 octets;
   priority2 = octet 9 octets;
-  identity = clock_identity_at 10 octets;
   domain = octet 18 octets;
 })
 
@@ -45,9 +43,6 @@ current_read octets = of_length 18 octets (record {
 unfoldable pub parent_read : List ℕ → Option ParentDataSet
 parent_read octets = of_length 32 octets (record {
   parent = port_identity_at 0 octets;
-  stats = flag_at 10 0 octets;
-  variance = number_at 12 octets;
-  rate = i32_at 14 octets;
   priority1 = octet 18 octets;
   quality = quality_at 19 octets;
   priority2 = octet 23 octets;
@@ -79,6 +74,5 @@ port_read octets = of_length 26 octets (
     log_sync = i8_at 22 octets;
     delay_mechanism = octet 23 octets;
     log_min_pdelay = i8_at 24 octets;
-    version = octet 25 octets % 16;
   },
 )

@@ -1,6 +1,7 @@
 -- What is open: a finding if it lasts. In the order of the findings of a clock.
 use Rattle.std.specs.Prelude.{ℕ, ◌++◌, Bool, true, false, List, [], ◌∷◌, if◌then◌else◌}
 use Rattle.std.specs.List.{flat_map}
+use Rattle.ptpm_site.specs.declared.asked.Asked.TheVariants as id
 use Rattle.ptpm_site.specs.declared.finding.Finding.{Finding}
 use Rattle.ptpm_site.specs.declared.finding.What.TheVariants as what
 use Rattle.ptpm_site.specs.declared.limits.Limits.{Limits}
@@ -57,7 +58,7 @@ unfoldable pub twins_found : SiteAnswers → Source → List Said
 twins_found site s = twice_reported site s ++ addresses_reported site s
 
 unfoldable pub open_twins : SiteAnswers → Source → List Finding
-open_twins site s = unless_found (twins_found site s) (found what.TwoOffsets s (open_offsets (site.currents s)))
+open_twins site s = unless_found (twins_found site s) (found what.TwoOffsets s (open_offsets (site.answers s id.CurrentDataSet)))
 
 unfoldable pub open_at : SiteAnswers → Limits → Source → List Finding
 open_at site limits s = open_states site limits s ++ open_locks site limits s ++ open_intervals site s ++ open_twins site s

@@ -12,7 +12,7 @@ use Rattle.ptpm_site.specs.Answers.{same_source}
 use Rattle.ptpm_site.specs.Grandmasters.{leads}
 use Rattle.ptpm_site.specs.Heard.{sender_in}
 use Rattle.ptpm_site.specs.Octets.{flag_at}
-use Rattle.ptpm_site.specs.SiteAnswers.{SiteAnswers}
+use Rattle.ptpm_site.specs.SiteAnswers.{SiteAnswers, time_of}
 use Rattle.ptpm_site.specs.Stay.{apart}
 
 -- a Timestamp (5.3.3) before the year 2514, in nanoseconds: six octets of seconds, and four of nanoseconds
@@ -56,7 +56,7 @@ abbrev pub as_here : Origin → Option Origin
 as_here o = if is_as_here o then Some o else None
 
 abbrev pub says_tai : SiteAnswers → Source → Bool
-says_tai site s = option_map_or (λ t. t.ptp_timescale) (site.time s) false
+says_tai site s = option_map_or (λ t. t.ptp_timescale) (time_of site s) false
 
 -- the last origin of a clock that leads, if it is the time of the host that asks, which has UTC
 unfoldable pub utc_by_host : SiteAnswers → Limits → Source → Option Origin

@@ -17,7 +17,7 @@ use Rattle.ptpm_site.specs.declared.source.Source.{Source}
 use Rattle.ptpm_site.specs.Answers.{same_source, source_cmp}
 use Rattle.ptpm_site.specs.Changes.{same_request}
 use Rattle.ptpm_site.specs.KeptStatements.{request_cmp}
-use Rattle.ptpm_site.specs.SiteAnswers.{SiteAnswers}
+use Rattle.ptpm_site.specs.SiteAnswers.{SiteAnswers, default_of}
 
 -- a GET, and its startingBoundaryHops
 abbrev pub allowed_in : Heard → Option Allowed
@@ -63,7 +63,7 @@ starting_hops _ = None
 
 -- A clock has two ports or more, and each of its answers to a known GET was to the last hop of it. The value is how many hops that was.
 abbrev pub is_at_the_edge : SiteAnswers → Source → Bool
-is_at_the_edge site s = option_map_or (λ d. nat_lt 1 d.number_of_ports) (site.default s) false && not (is_nearer site.heard s)
+is_at_the_edge site s = option_map_or (λ d. nat_lt 1 d.number_of_ports) (default_of site s) false && not (is_nearer site.heard s)
 
 abbrev pub out_of_reach : SiteAnswers → Source → Option ℕ
 out_of_reach site s =

@@ -8,7 +8,7 @@ use Rattle.ptpm_site.specs.declared.data_sets.PortDataSet.{PortDataSet}
 use Rattle.ptpm_site.specs.declared.limits.Limits.{Limits}
 use Rattle.ptpm_site.specs.declared.source.Source.{Source}
 use Rattle.ptpm_site.specs.Following.{beside}
-use Rattle.ptpm_site.specs.SiteAnswers.{SiteAnswers}
+use Rattle.ptpm_site.specs.SiteAnswers.{SiteAnswers, current_of, parent_of, port_of}
 
 -- 2 to a logarithm in seconds (IEEE 1588-2019, 7.7.2); 2 to the 16th, which are 18 hours, if it is more
 abbrev pub interval : ℤ → ℕ
@@ -18,11 +18,11 @@ interval log =
 -- eight Sync intervals of the port that the clock follows, in which a servo locks
 abbrev pub sync_wait : SiteAnswers → Source → ℕ
 sync_wait site s = option_map_or (λ own. option_map_or (λ set. 8 * interval set.log_sync)
-    (site.port (beside s own.parent.clock) own.parent.port) 0) (site.parent s) 0
+    (port_of site (beside s own.parent.clock) own.parent.port) 0) (parent_of site s) 0
 
 -- one Announce interval more than a port may be in PRE_MASTER for, which are as many as stepsRemoved and one more (9.2.6)
 abbrev pub qualification_wait : SiteAnswers → Source → PortDataSet → ℕ
-qualification_wait site s set = option_map_or (λ own. (own.steps_removed + 2) * interval set.log_announce) (site.current s) 0
+qualification_wait site s set = option_map_or (λ own. (own.steps_removed + 2) * interval set.log_announce) (current_of site s) 0
 
 -- twice as long as a port waits for an Announce (7.7.3.1)
 abbrev pub announce_wait : PortDataSet → ℕ
@@ -37,4 +37,4 @@ wait_in site s set _ = 0
 -- as long as the operator says, and longer if the port takes longer by its intervals
 abbrev pub wait : SiteAnswers → Limits → Source → ℕ → PortState → ℕ
 wait site limits s n state =
-    max (limits.settle * 1000000000) (option_map_or (λ set. wait_in site s set state) (site.port s n) 0)
+    max (limits.settle * 1000000000) (option_map_or (λ set. wait_in site s set state) (port_of site s n) 0)

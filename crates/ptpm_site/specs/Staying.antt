@@ -8,13 +8,13 @@ use Rattle.ptpm_site.specs.declared.source.Source.{Source}
 use Rattle.ptpm_site.specs.declared.stay.Stay.{Stay}
 use Rattle.ptpm_site.specs.declared.staying.Unlocked.{Unlocked}
 use Rattle.ptpm_site.specs.Grandmasters.{masterless_reason}
-use Rattle.ptpm_site.specs.SiteAnswers.{SiteAnswers}
+use Rattle.ptpm_site.specs.SiteAnswers.{SiteAnswers, current_of, default_of}
 use Rattle.ptpm_site.specs.Stay.{is_faulty, is_lasting, stay_of}
 use Rattle.ptpm_site.specs.StayLimits.{wait}
 
 -- a slaveOnly clock may listen for ever; and of a clock that has no master that is said
 abbrev pub may_listen : SiteAnswers → Source → Bool
-may_listen site s = option_map_or (λ d. d.slave_only) (site.default s) true || is_some (masterless_reason site s)
+may_listen site s = option_map_or (λ d. d.slave_only) (default_of site s) true || is_some (masterless_reason site s)
 
 -- a port of this clock may not stay in this state, other than UNCALIBRATED
 abbrev pub is_wrong : SiteAnswers → Source → PortState → Bool
@@ -32,7 +32,7 @@ is_unlocked state = false
 -- in UNCALIBRATED, with the clock's offsetFromMaster
 abbrev pub unlocked_stay : SiteAnswers → Source → Stay → Option Unlocked
 unlocked_stay site s stay =
-    if is_unlocked stay.state then Some (record { time = stay.time; offset = option_map (λ c. c.offset_from_master) (site.current s) }) else None
+    if is_unlocked stay.state then Some (record { time = stay.time; offset = option_map (λ c. c.offset_from_master) (current_of site s) }) else None
 
 -- FAULTY at once, and any other state if it lasts
 abbrev pub is_too_long : SiteAnswers → Limits → Source → ℕ → Stay → Bool

@@ -9,7 +9,7 @@ use Rattle.ptpm_site.specs.declared.port_groups.PortGroup.TheVariants as groups
 use Rattle.ptpm_site.specs.declared.source.Source.{Source}
 use Rattle.ptpm_site.specs.Following.{beside, followed}
 use Rattle.ptpm_site.specs.Grandmasters.{in_domain, leads}
-use Rattle.ptpm_site.specs.SiteAnswers.{SiteAnswers, has_port_of}
+use Rattle.ptpm_site.specs.SiteAnswers.{SiteAnswers, current_of, has_port_of, parent_of, time_of}
 
 -- a TimeInterval of either sign is within 10 ms of this many seconds
 abbrev pub is_about : ℤ → ℕ → Bool
@@ -25,7 +25,7 @@ is_about_utc interval utc_offset =
 
 -- by the currentUtcOffset that a clock says
 abbrev pub is_about_utc_of : SiteAnswers → ℤ → Source → Bool
-is_about_utc_of site interval s = option_map_or (λ t. is_about_utc interval t.utc_offset) (site.time s) false
+is_about_utc_of site interval s = option_map_or (λ t. is_about_utc interval t.utc_offset) (time_of site s) false
 
 -- by what is known of UTC, by what the clock says, and by what its grandmaster says
 abbrev pub takes_utc_for_tai : SiteAnswers → ℤ → Source → ClockIdentity → ℤ → Bool
@@ -36,7 +36,7 @@ takes_utc_for_tai site tai_utc s grandmaster interval =
 abbrev pub offset_by_utc : SiteAnswers → ℤ → Source → Option ℤ
 offset_by_utc site tai_utc s = option_and_then (λ _. option_and_then (λ p. option_and_then (λ c.
     if has_port_of site s groups.Slave && takes_utc_for_tai site tai_utc s p.grandmaster c.offset_from_master then Some c.offset_from_master else None)
-    (site.current s)) (site.parent s)) (followed site s)
+    (current_of site s)) (parent_of site s)) (followed site s)
 
 abbrev pub is_off_by_utc : SiteAnswers → ℤ → Source → Bool
 is_off_by_utc site tai_utc s = option_map_or (λ _. true) (offset_by_utc site tai_utc s) false
@@ -47,7 +47,7 @@ is_off_by_utc site tai_utc s = option_map_or (λ _. true) (offset_by_utc site ta
 abbrev pub has_follower : SiteAnswers → Source → Source → Bool
 has_follower site s other =
     in_domain s.domain other && not (same_clock s.clock other.clock)
-    && option_map_or (λ p. same_clock p.grandmaster s.clock) (site.parent other) false && has_port_of site other groups.Slave
+    && option_map_or (λ p. same_clock p.grandmaster s.clock) (parent_of site other) false && has_port_of site other groups.Slave
 
 abbrev pub follows_well : SiteAnswers → ℤ → Source → Source → Bool
 follows_well site tai_utc s other = has_follower site s other && not (is_off_by_utc site tai_utc other)

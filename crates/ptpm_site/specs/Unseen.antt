@@ -12,14 +12,14 @@ use Rattle.ptpm_site.specs.Evidence.{is_asked, is_host_of, is_sent, sent_in}
 use Rattle.ptpm_site.specs.Following.{beside}
 use Rattle.ptpm_site.specs.Gone.{gone_clocks}
 use Rattle.ptpm_site.specs.Grandmasters.{in_domain}
-use Rattle.ptpm_site.specs.SiteAnswers.{SiteAnswers}
+use Rattle.ptpm_site.specs.SiteAnswers.{SiteAnswers, parent_of}
 use Rattle.ptpm_site.specs.declared.domain.Domain.{Domain}
 
 -- a clock of the same domain names another as its grandmaster, or as the clock of its parent
 abbrev pub names : SiteAnswers → Source → Source → Bool
 names site other s =
     in_domain other.domain s
-    && option_map_or (λ p. same_clock p.grandmaster other.clock || same_clock p.parent.clock other.clock) (site.parent s) false
+    && option_map_or (λ p. same_clock p.grandmaster other.clock || same_clock p.parent.clock other.clock) (parent_of site s) false
 
 -- a host at whose interface a clock runs does not hear this clock there
 abbrev pub is_own_host : SiteAnswers → Source → Bool
@@ -55,7 +55,7 @@ unseen site s = if is_own_host site s then own_host site s else mute site s
 
 -- those that a clock names
 abbrev pub named_by : SiteAnswers → Source → List Source
-named_by site s = option_map_or (λ p. beside s p.grandmaster ∷ beside s p.parent.clock ∷ []) (site.parent s) []
+named_by site s = option_map_or (λ p. beside s p.grandmaster ∷ beside s p.parent.clock ∷ []) (parent_of site s) []
 
 abbrev pub senders : SiteAnswers → List Source
 senders site = map (λ x. x.source) (filter_map sent_in site.heard)

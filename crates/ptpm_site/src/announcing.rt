@@ -85,12 +85,10 @@ fn is_slave(state: Option<PortState>) -> bool
 }
 
 /// Whether a port was not in SLAVE in one of these answers.
-fn left_slave(received: &[Received<PortDataSet>]) -> bool
+fn left_slave(received: &[Received]) -> bool
     ensures { result ≡ left_slave received.now }
 {
-    received
-        .iter()
-        .any(|received| !is_slave(received.set.state()))
+    received.iter().any(|received| !is_slave(received.state()))
 }
 
 /// The port of a clock that another clock of its domain follows.
@@ -199,11 +197,7 @@ pub fn seldom_announced(
 }
 
 /// Whether there is an answer to a third request, beside the first and the last one.
-fn has_third(
-    received: &[Received<PortDataSet>],
-    first: &Received<PortDataSet>,
-    last: &Received<PortDataSet>,
-) -> bool
+fn has_third(received: &[Received], first: &Received, last: &Received) -> bool
     ensures { result ≡ has_third received.now first.now last.now }
 {
     received.iter().any(|one| is_third(&one.request, &first.request, &last.request))
@@ -216,10 +210,7 @@ fn is_third(request: &Request, first: &Request, last: &Request) -> bool
 }
 
 /// The first of these answers that came to another request of the requester of the last one.
-fn first_look<'a>(
-    received: &'a [Received<PortDataSet>],
-    last: &Received<PortDataSet>,
-) -> Option<&'a Received<PortDataSet>>
+fn first_look<'a>(received: &'a [Received], last: &Received) -> Option<&'a Received>
     ensures { option_copied result ≡ first_look received.now last.now }
 {
     received
@@ -228,7 +219,7 @@ fn first_look<'a>(
 }
 
 /// Whether the time from one answer to another is two intervals at least.
-fn is_long(first: &Received<PortDataSet>, last: &Received<PortDataSet>, log: i8) -> bool
+fn is_long(first: &Received, last: &Received, log: i8) -> bool
     ensures { result ≡ is_long first.now last.now log }
 {
     match time_between(last.at, first.at) {
@@ -237,7 +228,7 @@ fn is_long(first: &Received<PortDataSet>, last: &Received<PortDataSet>, log: i8)
     }
 }
 
-fn is_served_to(received: &[Received<PortDataSet>], last: &Received<PortDataSet>, log: i8) -> bool
+fn is_served_to(received: &[Received], last: &Received, log: i8) -> bool
     ensures { result ≡ is_served_to received.now last.now log }
 {
     match first_look(received, last) {
@@ -247,7 +238,7 @@ fn is_served_to(received: &[Received<PortDataSet>], last: &Received<PortDataSet>
 }
 
 /// Whether a port stays as it is for three looks, and two of these intervals. Then one that is in SLAVE is served by unicast.
-fn is_served(received: &[Received<PortDataSet>], log: i8) -> bool
+fn is_served(received: &[Received], log: i8) -> bool
     ensures { result ≡ is_served received.now log }
 {
     match received.last() {

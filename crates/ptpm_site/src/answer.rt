@@ -2,18 +2,17 @@
 
 ghost use Rattle.std.specs.Prelude.{◌≡◌, IfOk, IfSome};
 ghost use Rattle.std.specs.Option.{option_map};
-ghost use Rattle.ptpm_site.specs.Messages.{content, content_of, data_content, port_content, request_of, source_of};
-ghost use Rattle.ptpm_site.specs.Octets.{port_read};
+ghost use Rattle.ptpm_codec.specs.Message.{octets_of};
+ghost use Rattle.ptpm_site.specs.Messages.{clock_content, content, content_of, data_content, port_content, request_of, source_of};
 
 use crate::answer_content::AnswerContent;
 use crate::asked::Asked;
-use crate::data_sets::{
-    CurrentDataSet, DefaultDataSet, ParentDataSet, PortDataSet, TimePropertiesDataSet,
-};
-use crate::description::Description;
+use crate::data_sets::PortDataSet;
+use crate::description::description_text;
 use crate::domain::Domain;
 use crate::source::Source;
 use ptpm_codec::{Action, PortIdentity, View};
+use ptpm_members::members_in;
 use std::alloc::{AllocError, Global};
 
 /// The request that an answer came to: who asked, and with which sequenceId.
@@ -113,30 +112,47 @@ fn data_content(
 ) -> Result<Option<AnswerContent>, AllocError>
     ensures { IfOk result (λ found. option_map content found ≡ data_content asked message.now) }
 {
-    let octets = message.octets();
     match asked {
-        Asked::UserDescription => Ok(Description::read(alloc, octets)?.map(
-            AnswerContent::Description,
-        )),
-        Asked::DefaultDataSet => Ok(DefaultDataSet::read(octets).map(AnswerContent::Default)),
-        Asked::CurrentDataSet => Ok(CurrentDataSet::read(octets).map(AnswerContent::Current)),
-        Asked::ParentDataSet => Ok(ParentDataSet::read(octets).map(AnswerContent::Parent)),
-        Asked::TimePropertiesDataSet => Ok(TimePropertiesDataSet::read(octets).map(
-            AnswerContent::Time,
-        )),
-        Asked::PortDataSet => Ok(port_content(octets, message)),
+        Asked::UserDescription => match description_text(alloc, message.octets())? {
+            Some(text) => Ok(Some(AnswerContent::Clock(asked, text.into_bytes()))),
+            None => Ok(None),
+        },
+        Asked::PortDataSet => port_content(alloc, message),
+        _ => clock_content(alloc, asked, message.octets()),
     }
 }
 
-/// What PORT_DATA_SET says. `None` if it names another clock than the one that sent it.
-#[tactic(auto, unfolding(crate::specs::Messages::port_content))]
-fn port_content(octets: &[u8], message: &View<'_>) -> Option<AnswerContent>
-    ensures { option_map content result ≡ port_content message.now (port_read octets.now) }
+/// What octets say, if they are a dataField of the id.
+fn clock_content(
+    alloc: Global,
+    asked: Asked,
+    octets: &[u8],
+) -> Result<Option<AnswerContent>, AllocError>
+    ensures { IfOk result (λ found. option_map content found ≡ clock_content asked octets.now) }
 {
-    let (port, set) = PortDataSet::read(octets)?;
-    if port.clock == message.source().clock {
-        Some(AnswerContent::Port(port.port, set))
-    } else {
-        None
+    if members_in(asked.number(), octets).is_empty() {
+        return Ok(None);
     }
+    Ok(Some(AnswerContent::Clock(asked, copied(alloc, octets)?)))
+}
+
+/// What PORT_DATA_SET says. `None` if it names another clock than the one that sent it.
+fn port_content(alloc: Global, message: &View<'_>) -> Result<Option<AnswerContent>, AllocError>
+    ensures { IfOk result (λ found. option_map content found ≡ port_content message.now (octets_of message.now.body)) }
+{
+    let octets = message.octets();
+    match PortDataSet::read(octets) {
+        Some((port, _)) if port.clock == message.source().clock => {
+            Ok(Some(AnswerContent::Port(port.port, copied(alloc, octets)?)))
+        }
+        _ => Ok(None),
+    }
+}
+
+fn copied(alloc: Global, octets: &[u8]) -> Result<Vec<u8>, AllocError>
+    ensures { IfOk result (λ copy. copy.items ≡ octets.now) }
+{
+    let mut copy = Vec::with_capacity(alloc, octets.len())?;
+    copy.extend_from_slice(octets)?;
+    Ok(copy)
 }

@@ -14,6 +14,15 @@ pub enum Asked {
     PortDataSet,
 }
 
+/// Those of a clock itself, in the order in which they are printed.
+pub const OF_CLOCK: [Asked; 5] = [
+    Asked::DefaultDataSet,
+    Asked::CurrentDataSet,
+    Asked::ParentDataSet,
+    Asked::TimePropertiesDataSet,
+    Asked::UserDescription,
+];
+
 /// The six, in the order in which they are reported.
 pub fn six() -> [Asked; 6]
     ensures { result ≡ six }

@@ -7,11 +7,12 @@ ghost use Rattle.ptpm_data.specs.PortState.{state_of};
 ghost use Rattle.ptpm_members.specs.Values.{said};
 ghost use Rattle.ptpm_site.specs.Changes.{Statement, as_settled, contradiction, contradicts, is_alike, is_settled, is_settled_state, member_change, settled_state, statement_of};
 ghost use Rattle.ptpm_site.specs.KeptStatements.{KeepsFirstValues, StandsFor, kept_statements, same_statement, settled_otherwise, statement};
-ghost use Rattle.ptpm_site.specs.Members.{same_value};
+ghost use Rattle.ptpm_site.specs.Members.{answer_says, same_value};
 
 use crate::answer::Request;
+use crate::asked::Asked;
 use crate::clock::Received;
-use crate::member::DataSet;
+use crate::member::value_of;
 use ptpm_data::PortState;
 use ptpm_members::{Enumeration, Member, MemberValue};
 use std::alloc::{AllocError, Global};
@@ -89,12 +90,12 @@ struct Stated<'a> {
 }
 
 impl<'a> Stated<'a> {
-    fn of<T: DataSet>(received: &'a Received<T>, member: Member) -> Option<Stated<'a>>
-        ensures { option_map statement result ≡ statement_of T.says member received.now }
+    fn of(asked: Asked, received: &'a Received, member: Member) -> Option<Stated<'a>>
+        ensures { option_map statement result ≡ statement_of asked member received.now }
     {
         Some(Stated {
             request: received.request,
-            value: received.set.value(member)?,
+            value: value_of(asked, received.octets.as_slice(), member)?,
         })
     }
 
@@ -227,15 +228,16 @@ impl<'a> Settled<'a> {
 }
 
 /// The first change of a member: the first two answers to different requests that differ in it.
-pub fn first_change<'a, T: DataSet>(
-    received: &'a [Received<T>],
+pub fn first_change<'a>(
+    asked: Asked,
+    received: &'a [Received],
     member: Member,
 ) -> Option<Change<'a>>
-    ensures { option_map member_change result ≡ contradiction Contradiction.Changed T.says member received.now }
+    ensures { option_map member_change result ≡ contradiction Contradiction.Changed asked member received.now }
 {
     let mut kept = KeptStatements::Nothing;
     for answer in received {
-        let Some(later) = Stated::of(answer, member) else {
+        let Some(later) = Stated::of(asked, answer, member) else {
             continue;
         };
         if let Some(earlier) = kept.changed_by(&later) {
@@ -251,16 +253,17 @@ pub fn first_change<'a, T: DataSet>(
 }
 
 /// The first contradiction in a member: the first two answers to one request that differ in it.
-pub fn first_contradiction<'a, T: DataSet>(
+pub fn first_contradiction<'a>(
     alloc: Global,
-    received: &'a [Received<T>],
+    asked: Asked,
+    received: &'a [Received],
     member: Member,
 ) -> Result<Option<Change<'a>>, AllocError>
-    ensures { IfOk result (λ change. option_map member_change change ≡ contradiction Contradiction.IdentityTwice T.says member received.now) }
+    ensures { IfOk result (λ change. option_map member_change change ≡ contradiction Contradiction.IdentityTwice asked member received.now) }
 {
     let mut settled = Settled::new(alloc);
     for answer in received {
-        let Some(later) = Stated::of(answer, member) else {
+        let Some(later) = Stated::of(asked, answer, member) else {
             continue;
         };
         if let Some(before) = settled.contradicted_by(&later) {
@@ -275,25 +278,30 @@ pub fn first_contradiction<'a, T: DataSet>(
     Ok(None)
 }
 
-/// Whether any two answers differ in a member.
-pub fn is_said_otherwise<T: DataSet>(received: &[Received<T>], member: Member) -> bool
-    ensures { (how : Contradiction) → result ≡ false → contradiction how T.says member received.now ≡ None }
+/// Whether any two answers to an id differ in a member.
+pub fn is_said_otherwise(asked: Asked, received: &[Received], member: Member) -> bool
+    ensures { (how : Contradiction) → result ≡ false → contradiction how asked member received.now ≡ None }
 {
     match received.split_first() {
-        Some((first, others)) => !all_say_as(first, others, member),
+        Some((first, others)) => !all_say_as(asked, first, others, member),
         None => false,
     }
 }
 
 /// Whether all these answers say of a member what the first one says.
-fn all_say_as<T: DataSet>(first: &Received<T>, others: &[Received<T>], member: Member) -> bool
-    ensures { result ≡ list_all (λ h. option_eq same_value (T.says first.now.set member) (T.says h.set member)) others.now }
+fn all_say_as(asked: Asked, first: &Received, others: &[Received], member: Member) -> bool
+    ensures { result ≡ list_all (λ h. option_eq same_value (answer_says asked first.now.octets.items member)
+        (answer_says asked h.octets.items member)) others.now }
 {
-    others.iter().all(|other| say_alike(first, other, member))
+    others
+        .iter()
+        .all(|other| say_alike(asked, first, other, member))
 }
 
-fn say_alike<T: DataSet>(one: &Received<T>, other: &Received<T>, member: Member) -> bool
-    ensures { result ≡ option_eq same_value (T.says one.now.set member) (T.says other.now.set member) }
+fn say_alike(asked: Asked, one: &Received, other: &Received, member: Member) -> bool
+    ensures { result ≡ option_eq same_value (answer_says asked one.now.octets.items member)
+        (answer_says asked other.now.octets.items member) }
 {
-    one.set.value(member) == other.set.value(member)
+    value_of(asked, one.octets.as_slice(), member)
+        == value_of(asked, other.octets.as_slice(), member)
 }

@@ -1,13 +1,16 @@
 //! What the answers say of one clock.
 
-ghost use Rattle.std.specs.Prelude.{◌≡◌, ◌≤◌, ℕ, ◌==◌, ◌++◌, [], ◌∷◌, OnOk, IsSome, if◌then◌else◌, length, take};
+ghost use Rattle.std.specs.Prelude.{◌≡◌, ◌≤◌, ℕ, ◌==◌, ◌++◌, [], ◌∷◌, OnOk, IsSome, if◌then◌else◌, length, take, option_and_then};
 ghost use Rattle.std.specs.BTreeMap.{get, keys};
 ghost use Rattle.std.specs.List.{list_any};
+ghost use Rattle.std.specs.Option.{option_to_list};
 ghost use Rattle.std.specs.Ordering.{nat_cmp};
-ghost use Rattle.ptpm_site.specs.Answers.{counting, current_in, default_in, description_in, newly_received, parent_in, place, place_number, port_in, port_number, refusal_in, time_in};
+ghost use Rattle.ptpm_site.specs.Answers.{answer_of_port, answer_to, current_said, default_said, last_of, named_grandmaster, newly_received, parent_said, place, place_number, port_number, port_said, refusal_in, state_said, time_said};
+ghost use Rattle.ptpm_site.specs.declared.asked.Asked.{Asked};
+ghost use Rattle.ptpm_site.specs.declared.asked.Asked.TheVariants as id;
 ghost use Rattle.ptpm_site.specs.KeptAnswers.{HasNoAnswers};
 ghost use Rattle.ptpm_site.specs.PortStates.{is_port_of};
-ghost use Rattle.ptpm_site.specs.Site.{answers_for, answers_of_port, is_among, port_kept};
+ghost use Rattle.ptpm_site.specs.Site.{answers_for, answers_of_port, answers_to_id, is_among};
 
 use crate::answer::Request;
 use crate::answer_content::AnswerContent;
@@ -15,33 +18,83 @@ use crate::asked::Asked;
 use crate::data_sets::{
     CurrentDataSet, DefaultDataSet, ParentDataSet, PortDataSet, TimePropertiesDataSet,
 };
-use crate::description::Description;
 use crate::port_groups::PortGroup;
+use ptpm_codec::ClockIdentity;
+use ptpm_data::PortState;
 use std::alloc::{AllocError, Global};
 use std::collections::BTreeMap;
 
-/// A data set that an answer had, the request that the answer came to, and when it came.
+/// An answer to an id: its octets, the request that it came to, and when it came.
 #[derive(Drop)]
-pub struct Received<T> {
+pub struct Received {
     pub request: Request,
     /// When it came, in nanoseconds since 1970. `None` if that is not known.
     pub at: Option<u64>,
-    pub set: T,
+    /// The dataField; of USER_DESCRIPTION its text, in UTF-8.
+    pub octets: Vec<u8>,
 }
 
-/// What the answers of a clock say, for each data set in the order of their lines. The last one
-/// counts.
+impl Received {
+    /// What it says if it answers DEFAULT_DATA_SET.
+    pub fn default(&self) -> Option<DefaultDataSet>
+        ensures { result ≡ default_said self.now }
+    {
+        DefaultDataSet::read(self.octets.as_slice())
+    }
+
+    /// What it says if it answers CURRENT_DATA_SET.
+    pub fn current(&self) -> Option<CurrentDataSet>
+        ensures { result ≡ current_said self.now }
+    {
+        CurrentDataSet::read(self.octets.as_slice())
+    }
+
+    /// What it says if it answers PARENT_DATA_SET.
+    pub fn parent(&self) -> Option<ParentDataSet>
+        ensures { result ≡ parent_said self.now }
+    {
+        ParentDataSet::read(self.octets.as_slice())
+    }
+
+    /// What it says if it answers TIME_PROPERTIES_DATA_SET.
+    pub fn time(&self) -> Option<TimePropertiesDataSet>
+        ensures { result ≡ time_said self.now }
+    {
+        TimePropertiesDataSet::read(self.octets.as_slice())
+    }
+
+    /// What it says if it answers PORT_DATA_SET.
+    pub fn port(&self) -> Option<PortDataSet>
+        ensures { result ≡ port_said self.now }
+    {
+        let (_, set) = PortDataSet::read(self.octets.as_slice())?;
+        Some(set)
+    }
+
+    /// The state of the port of a PORT_DATA_SET. `None` if its number is reserved.
+    pub fn state(&self) -> Option<PortState>
+        ensures { result ≡ state_said self.now }
+    {
+        self.port()?.state()
+    }
+
+    /// The grandmaster that a PARENT_DATA_SET names.
+    pub fn grandmaster(&self) -> Option<ClockIdentity>
+        ensures { result ≡ named_grandmaster self.now }
+    {
+        Some(self.parent()?.grandmaster)
+    }
+}
+
+/// What a clock answered, for each id and each port in the order of the lines. The last one counts.
 #[derive(Drop)]
 pub struct Clock {
-    pub defaults: Vec<Received<DefaultDataSet>>,
-    pub currents: Vec<Received<CurrentDataSet>>,
-    pub parents: Vec<Received<ParentDataSet>>,
-    pub times: Vec<Received<TimePropertiesDataSet>>,
-    pub descriptions: Vec<Received<Description>>,
+    /// By managementId; of all but PORT_DATA_SET.
+    pub answers: BTreeMap<u16, Vec<Received>>,
     /// By portNumber.
-    pub ports: BTreeMap<u16, Vec<Received<PortDataSet>>>,
+    pub ports: BTreeMap<u16, Vec<Received>>,
     /// The ids that an error came for.
-    pub refused: Vec<Received<Asked>>,
+    pub refused: Vec<Asked>,
 }
 
 impl Clock {
@@ -50,11 +103,7 @@ impl Clock {
         ensures { HasNoAnswers result }
     {
         Clock {
-            defaults: Vec::new(alloc),
-            currents: Vec::new(alloc),
-            parents: Vec::new(alloc),
-            times: Vec::new(alloc),
-            descriptions: Vec::new(alloc),
+            answers: BTreeMap::new(alloc),
             ports: BTreeMap::new(alloc),
             refused: Vec::new(alloc),
         }
@@ -68,97 +117,95 @@ impl Clock {
         at: Option<u64>,
         content: AnswerContent,
     ) -> Result<(), AllocError>
-        ensures defaults { OnOk result (self.new.defaults.items
-            ≡ self.old.defaults.items ++ newly_received default_in request at content) }
-        ensures currents { OnOk result (self.new.currents.items
-            ≡ self.old.currents.items ++ newly_received current_in request at content) }
-        ensures parents { OnOk result (self.new.parents.items
-            ≡ self.old.parents.items ++ newly_received parent_in request at content) }
-        ensures times { OnOk result (self.new.times.items
-            ≡ self.old.times.items ++ newly_received time_in request at content) }
-        ensures descriptions { OnOk result (self.new.descriptions.items
-            ≡ self.old.descriptions.items ++ newly_received description_in request at content) }
-        ensures refused { OnOk result (self.new.refused.items
-            ≡ self.old.refused.items ++ newly_received refusal_in request at content) }
+        ensures answers { OnOk result ((id : Asked) → answers_to_id self.new id
+            ≡ answers_to_id self.old id ++ newly_received (answer_to id) request at content) }
+        ensures refused { OnOk result (self.new.refused.items ≡ self.old.refused.items ++ option_to_list (refusal_in content)) }
         ensures numbers { OnOk result (keys self.new.ports ≡ place_number (keys self.old.ports) (port_number content)) }
         ensures ports { OnOk result ((n : ℕ) → answers_of_port self.new n
-            ≡ answers_of_port self.old n ++ newly_received (port_in n) request at content) }
+            ≡ answers_of_port self.old n ++ newly_received (answer_of_port n) request at content) }
     {
         match content {
-            AnswerContent::Default(set) => self.defaults.push(Received { request, at, set })?,
-            AnswerContent::Current(set) => self.currents.push(Received { request, at, set })?,
-            AnswerContent::Parent(set) => self.parents.push(Received { request, at, set })?,
-            AnswerContent::Time(set) => self.times.push(Received { request, at, set })?,
-            AnswerContent::Description(set) => self
-                .descriptions
-                .push(Received { request, at, set })?,
-            AnswerContent::Port(number, set) => {
-                put_port(
-                    alloc,
-                    &mut self.ports,
-                    number,
-                    Received { request, at, set },
-                )?;
+            AnswerContent::Clock(asked, octets) => {
+                let received = Received {
+                    request,
+                    at,
+                    octets,
+                };
+                put_answer(alloc, &mut self.answers, asked.number(), received)
             }
-            AnswerContent::Refused(set) => self.refused.push(Received { request, at, set })?,
+            AnswerContent::Port(number, octets) => {
+                let received = Received {
+                    request,
+                    at,
+                    octets,
+                };
+                put_answer(alloc, &mut self.ports, number, received)
+            }
+            AnswerContent::Refused(asked) => {
+                self.refused.push(asked)?;
+                Ok(())
+            }
         }
-        Ok(())
+    }
+
+    /// All that was answered to an id, in the order of the lines.
+    pub fn answers_to(&self, asked: Asked) -> &[Received]
+        ensures { result.now ≡ answers_to_id self.now asked }
+    {
+        answers_for(&self.answers, asked.number())
+    }
+
+    /// All that was answered for a port, in the order of the lines.
+    pub fn port_answers(&self, number: u16) -> &[Received]
+        ensures { result.now ≡ answers_of_port self.now number }
+    {
+        answers_for(&self.ports, number)
     }
 
     /// The last DEFAULT_DATA_SET that was answered, if there is one.
     pub fn default(&self) -> Option<DefaultDataSet>
-        ensures { result ≡ counting self.now.defaults.items }
+        ensures { result ≡ option_and_then default_said (last_of (answers_to_id self.now id.DefaultDataSet)) }
     {
-        last_of(self.defaults.as_slice())
+        self.answers_to(Asked::DefaultDataSet).last()?.default()
     }
 
     /// The last CURRENT_DATA_SET that was answered, if there is one.
     pub fn current(&self) -> Option<CurrentDataSet>
-        ensures { result ≡ counting self.now.currents.items }
+        ensures { result ≡ option_and_then current_said (last_of (answers_to_id self.now id.CurrentDataSet)) }
     {
-        last_of(self.currents.as_slice())
+        self.answers_to(Asked::CurrentDataSet).last()?.current()
     }
 
     /// The last PARENT_DATA_SET that was answered, if there is one.
     pub fn parent(&self) -> Option<ParentDataSet>
-        ensures { result ≡ counting self.now.parents.items }
+        ensures { result ≡ option_and_then parent_said (last_of (answers_to_id self.now id.ParentDataSet)) }
     {
-        last_of(self.parents.as_slice())
+        self.answers_to(Asked::ParentDataSet).last()?.parent()
     }
 
     /// The last TIME_PROPERTIES_DATA_SET that was answered, if there is one.
     pub fn time(&self) -> Option<TimePropertiesDataSet>
-        ensures { result ≡ counting self.now.times.items }
+        ensures { result ≡ option_and_then time_said (last_of (answers_to_id self.now id.TimePropertiesDataSet)) }
     {
-        last_of(self.times.as_slice())
-    }
-
-    /// The last userDescription that was answered, if there is one.
-    pub fn description(&self) -> Option<&str> {
-        let received = self.descriptions.last()?;
-        Some(received.set.text.as_str())
+        self.answers_to(Asked::TimePropertiesDataSet).last()?.time()
     }
 
     /// The last PORT_DATA_SET that was answered for a port, if there is one.
     pub fn port(&self, number: u16) -> Option<PortDataSet>
-        ensures { result ≡ port_kept self.now number }
+        ensures { result ≡ option_and_then port_said (last_of (answers_of_port self.now number)) }
     {
-        last_of(self.ports.get(&number)?.as_slice())
+        self.port_answers(number).last()?.port()
     }
 
-    /// All that was answered for a port, in the order of the lines.
-    pub fn port_answers(&self, number: u16) -> &[Received<PortDataSet>]
-        ensures { result.now ≡ answers_of_port self.now number }
-    {
-        match self.ports.get(&number) {
-            Some(received) => received.as_slice(),
-            None => &[],
-        }
+    /// The last userDescription that was answered, if there is one.
+    pub fn description(&self) -> Option<&str> {
+        let last = self.answers_to(Asked::UserDescription).last()?;
+        str::from_utf8(last.octets.as_slice()).ok()
     }
 
     /// Whether a port that answered is in a state of a group.
     pub fn has_port_of(&self, group: PortGroup) -> bool
-        ensures { result ≡ list_any (λ n. is_port_of group (port_kept self.now n)) (keys self.now.ports) }
+        ensures { result ≡ list_any (λ n. is_port_of group (option_and_then port_said (last_of (answers_of_port self.now n)))) (keys self.now.ports) }
     {
         self.ports.keys().any(|number| {
             match self.port(*number) {
@@ -193,66 +240,66 @@ impl Clock {
     pub fn refuses(&self, asked: Asked) -> bool
         ensures { result ≡ is_among asked self.now.refused.items }
     {
-        self.refused.iter().any(|received| received.set.is(asked))
+        self.refused.iter().any(|refused| refused.is(asked))
     }
 }
 
-/// Adds an answer for a port, after all earlier ones.
-fn put_port(
-    alloc: Global,
-    ports: &mut BTreeMap<u16, Vec<Received<PortDataSet>>>,
-    number: u16,
-    received: Received<PortDataSet>,
-) -> Result<(), AllocError>
-    ensures numbers { OnOk result (keys ports.new ≡ place nat_cmp (keys ports.old) number) }
-    ensures answers { OnOk result ((n : ℕ) → answers_for ports.new n
-        ≡ answers_for ports.old n ++ (if number == n then received ∷ [] else [])) }
+/// The answers of a number, in the order of the lines.
+fn answers_for(answers: &BTreeMap<u16, Vec<Received>>, number: u16) -> &[Received]
+    ensures { result.now ≡ answers_for answers.now number }
 {
-    place_port(alloc, ports, number)?;
-    push_answer(ports, number, received)?;
+    match answers.get(&number) {
+        Some(received) => received.as_slice(),
+        None => &[],
+    }
+}
+
+/// Adds an answer of a number, after all earlier ones.
+fn put_answer(
+    alloc: Global,
+    answers: &mut BTreeMap<u16, Vec<Received>>,
+    number: u16,
+    received: Received,
+) -> Result<(), AllocError>
+    ensures numbers { OnOk result (keys answers.new ≡ place nat_cmp (keys answers.old) number) }
+    ensures answers { OnOk result ((n : ℕ) → answers_for answers.new n
+        ≡ answers_for answers.old n ++ (if number == n then received ∷ [] else [])) }
+{
+    place_number(alloc, answers, number)?;
+    push_answer(answers, number, received)?;
     Ok(())
 }
 
-/// Adds a port that has no answer yet, unless it is there.
-fn place_port(
+/// Adds a number that has no answer yet, unless it is there.
+fn place_number(
     alloc: Global,
-    ports: &mut BTreeMap<u16, Vec<Received<PortDataSet>>>,
+    answers: &mut BTreeMap<u16, Vec<Received>>,
     number: u16,
 ) -> Result<(), AllocError>
-    ensures numbers { OnOk result (keys ports.new ≡ place nat_cmp (keys ports.old) number) }
-    ensures answers { OnOk result ((n : ℕ) → answers_for ports.new n ≡ answers_for ports.old n) }
-    ensures there { OnOk result (IsSome (get nat_cmp ports.new number)) }
+    ensures numbers { OnOk result (keys answers.new ≡ place nat_cmp (keys answers.old) number) }
+    ensures answers { OnOk result ((n : ℕ) → answers_for answers.new n ≡ answers_for answers.old n) }
+    ensures there { OnOk result (IsSome (get nat_cmp answers.new number)) }
 {
-    if ports.contains_key(&number) {
+    if answers.contains_key(&number) {
         return Ok(());
     }
-    ports.insert(number, Vec::new(alloc))?;
+    answers.insert(number, Vec::new(alloc))?;
     Ok(())
 }
 
-/// Adds an answer for a port that is there, after all earlier ones.
+/// Adds an answer of a number that is there, after all earlier ones.
 fn push_answer(
-    ports: &mut BTreeMap<u16, Vec<Received<PortDataSet>>>,
+    answers: &mut BTreeMap<u16, Vec<Received>>,
     number: u16,
-    received: Received<PortDataSet>,
+    received: Received,
 ) -> Result<(), AllocError>
-    requires { IsSome (get nat_cmp ports.old number) }
-    ensures numbers { OnOk result (keys ports.new ≡ keys ports.old) }
-    ensures answers { OnOk result ((n : ℕ) → answers_for ports.new n
-        ≡ answers_for ports.old n ++ (if number == n then received ∷ [] else [])) }
+    requires { IsSome (get nat_cmp answers.old number) }
+    ensures numbers { OnOk result (keys answers.new ≡ keys answers.old) }
+    ensures answers { OnOk result ((n : ℕ) → answers_for answers.new n
+        ≡ answers_for answers.old n ++ (if number == n then received ∷ [] else [])) }
 {
-    if let Some(all) = ports.get_mut(&number) {
+    if let Some(all) = answers.get_mut(&number) {
         all.push(received)?;
     }
     Ok(())
-}
-
-/// The data set that counts: that of the last answer.
-pub fn last_of<T: Copy>(received: &[Received<T>]) -> Option<T>
-    ensures { result ≡ counting received.now }
-{
-    match received.last() {
-        Some(last) => Some(last.set),
-        None => None,
-    }
 }

@@ -16,12 +16,8 @@ impl Site {
         ensures { result ≡ answers_to (site_answers self.now) source asked }
     {
         match asked {
-            Asked::UserDescription => self.descriptions(source).len(),
-            Asked::DefaultDataSet => self.defaults(source).len(),
-            Asked::CurrentDataSet => self.currents(source).len(),
-            Asked::ParentDataSet => self.parents(source).len(),
-            Asked::TimePropertiesDataSet => self.times(source).len(),
             Asked::PortDataSet => self.count_ports(source),
+            _ => self.answers(source, asked).len(),
         }
     }
 

@@ -1,11 +1,11 @@
-//! The data sets of a clock as its answers have them (clauses 8.2 and 15.5.3): every member, whatever its value.
+//! What the rules reckon with of the data sets of a clock, as its answers have them (clauses 8.2 and 15.5.3).
 
 ghost use Rattle.std.specs.Prelude.{◌≡◌, ◌+◌, ◌≤◌, length};
 ghost use Rattle.ptpm_data.specs.PortState.{state_of};
 ghost use Rattle.ptpm_site.specs.Octets.{current_read, default_read, parent_read, port_read, quality_at, time_read};
 ghost use Rattle.ptpm_site.specs.PortStates.{is_following, is_leading, measures_end_to_end, measures_link};
 
-use crate::numbers::{flag_at, i8_at, i16_at, i32_at, interval_at};
+use crate::numbers::{flag_at, i8_at, i16_at, interval_at};
 use ptpm_codec::{ClockIdentity, PortIdentity, clock_identity_at, port_identity_at, u16_at};
 use ptpm_data::PortState;
 use ptpm_members::ClockQuality;
@@ -20,13 +20,11 @@ pub const COMMON_PEER_TO_PEER: u8 = 3;
 /// DEFAULT_DATA_SET.
 #[derive(Clone, Copy)]
 pub struct DefaultDataSet {
-    pub two_step: bool,
     pub slave_only: bool,
     pub number_of_ports: u16,
     pub priority1: u8,
     pub quality: ClockQuality,
     pub priority2: u8,
-    pub identity: ClockIdentity,
     pub domain: u8,
 }
 
@@ -45,11 +43,6 @@ pub struct CurrentDataSet {
 pub struct ParentDataSet {
     /// parentPortIdentity.
     pub parent: PortIdentity,
-    pub stats: bool,
-    /// observedParentOffsetScaledLogVariance.
-    pub variance: u16,
-    /// observedParentClockPhaseChangeRate.
-    pub rate: i32,
     pub priority1: u8,
     pub quality: ClockQuality,
     pub priority2: u8,
@@ -85,8 +78,6 @@ pub struct PortDataSet {
     /// The number of delayMechanism (8.2.15.4.4).
     pub delay_mechanism: u8,
     pub log_min_pdelay: i8,
-    /// versionNumber, of four bits.
-    pub version: u8,
 }
 
 /// The ClockQuality in the four octets from a place.
@@ -112,13 +103,11 @@ impl DefaultDataSet {
             return None;
         }
         Some(DefaultDataSet {
-            two_step: flag_at(octets, 0, 0),
             slave_only: flag_at(octets, 0, 1),
             number_of_ports: u16_at(octets, 2),
             priority1: octets[4],
             quality: quality_at(octets, 5),
             priority2: octets[9],
-            identity: clock_identity_at(octets, 10),
             domain: octets[18],
         })
     }
@@ -152,9 +141,6 @@ impl ParentDataSet {
         }
         Some(ParentDataSet {
             parent: port_identity_at(octets, 0),
-            stats: flag_at(octets, 10, 0),
-            variance: u16_at(octets, 12),
-            rate: i32_at(octets, 14),
             priority1: octets[18],
             quality: quality_at(octets, 19),
             priority2: octets[23],
@@ -203,7 +189,6 @@ impl PortDataSet {
             log_sync: i8_at(octets, 22),
             delay_mechanism: octets[23],
             log_min_pdelay: i8_at(octets, 24),
-            version: octets[25] % 16,
         };
         Some((port_identity_at(octets, 0), set))
     }

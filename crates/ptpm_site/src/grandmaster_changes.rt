@@ -6,8 +6,8 @@ ghost use Rattle.std.specs.Option.{option_copied};
 ghost use Rattle.ptpm_site.specs.GrandmasterChanges.{all_shown, clocks_with, grandmaster_changes, handover_of, handover_to, is_first, is_of_itself, last_handover, named_before, same_handover, shown, shown_at};
 ghost use Rattle.ptpm_site.specs.Site.{site_answers};
 
+use crate::asked::Asked;
 use crate::clock::Received;
-use crate::data_sets::ParentDataSet;
 use crate::site::Site;
 use crate::source::Source;
 use ptpm_codec::ClockIdentity;
@@ -33,24 +33,17 @@ pub struct GrandmasterChange {
 }
 
 /// The latest of these answers that names another grandmaster.
-fn named_before<'a>(
-    received: &'a [Received<ParentDataSet>],
-    last: &Received<ParentDataSet>,
-) -> Option<&'a Received<ParentDataSet>>
+fn named_before<'a>(received: &'a [Received], last: &Received) -> Option<&'a Received>
     ensures { option_copied result ≡ named_before received.now last.now }
 {
     received
         .iter()
         .rev()
-        .find(|earlier| earlier.set.grandmaster != last.set.grandmaster)
+        .find(|earlier| earlier.grandmaster() != last.grandmaster())
 }
 
 /// How a clock came to the grandmaster that it names last, by these answers.
-fn handover_to(
-    source: Source,
-    received: &[Received<ParentDataSet>],
-    last: &Received<ParentDataSet>,
-) -> Option<Handover>
+fn handover_to(source: Source, received: &[Received], last: &Received) -> Option<Handover>
     ensures { result ≡ handover_to source received.now last.now }
 {
     let before = named_before(received, last)?;
@@ -59,12 +52,12 @@ fn handover_to(
     }
     Some(Handover {
         source,
-        before: before.set.grandmaster,
-        after: last.set.grandmaster,
+        before: before.grandmaster()?,
+        after: last.grandmaster()?,
     })
 }
 
-fn last_handover(source: Source, received: &[Received<ParentDataSet>]) -> Option<Handover>
+fn last_handover(source: Source, received: &[Received]) -> Option<Handover>
     ensures { result ≡ last_handover source received.now }
 {
     handover_to(source, received, received.last()?)
@@ -74,7 +67,7 @@ fn last_handover(source: Source, received: &[Received<ParentDataSet>]) -> Option
 fn handover_of(site: &Site, source: Source) -> Option<Handover>
     ensures { result ≡ handover_of (site_answers site.now) source }
 {
-    last_handover(source, site.parents(source))
+    last_handover(source, site.answers(source, Asked::ParentDataSet))
 }
 
 /// Those of these clocks.

@@ -4,19 +4,20 @@ ghost use Rattle.std.specs.Prelude.{◌≡◌, ◌++◌, [], ◌∷◌, IfOk, On
 ghost use Rattle.std.specs.List.{flat_map, list_all};
 ghost use Rattle.std.specs.Option.{option_map};
 ghost use Rattle.ptpm_site.specs.Changes.{contradiction, member_change};
-ghost use Rattle.ptpm_site.specs.Findings.{Otherwise, addresses_reported, answers_reported, change_reported, clock_sets_reported, contradictions_reported, incomplete_reported, is_of_state, member_reported, offsets_reported, port_set_reported, reach_reported, reported, said, says, set_reported, twice_reported};
+ghost use Rattle.ptpm_site.specs.Findings.{Otherwise, addresses_reported, answers_reported, change_reported, clock_set_reported, clock_sets_reported, contradictions_reported, incomplete_reported, is_of_state, member_reported, offsets_reported, port_set_reported, reach_reported, reported, said, says, set_reported, twice_reported};
 ghost use Rattle.ptpm_site.specs.Following.{is_own_grandmaster};
 ghost use Rattle.ptpm_site.specs.GrandmasterChanges.{grandmaster_changes};
 ghost use Rattle.ptpm_site.specs.Reach.{IsReach};
 ghost use Rattle.ptpm_site.specs.Site.{site_answers};
 ghost use Rattle.ptpm_site.specs.TwoAddresses.{all_twins};
 
+use crate::asked::Asked;
 use crate::changes::{Change, Contradiction, first_change, first_contradiction, is_said_otherwise};
 use crate::clock::Received;
 use crate::completeness::missing_answers;
 use crate::finding::{Finding, What, report};
 use crate::grandmaster_changes::GrandmasterChange;
-use crate::member::{DataSet, is_moving, is_of_grandmaster};
+use crate::member::{is_moving, is_of_grandmaster, members_of};
 use crate::reach::{Reach, out_of_reach};
 use crate::site::Site;
 use crate::source::Source;
@@ -82,7 +83,7 @@ fn judge_offsets(
 ) -> Result<(), AllocError>
     ensures { OnOk result (reported findings.new.items ≡ reported findings.old.items ++ offsets_reported (site_answers site.now) source) }
 {
-    match two_offsets(site.currents(source)) {
+    match two_offsets(site.answers(source, Asked::CurrentDataSet)) {
         Some(offsets) => report(findings, source, What::TwoOffsets(offsets)),
         None => Ok(()),
     }
@@ -206,8 +207,7 @@ fn judge_contradictions<'a>(
 {
     judge_clock_sets(alloc, site, source, how, findings)?;
     judge_port_sets(alloc, site, source, ports, how, findings)?;
-    let compared = Compared::of(site, source, None, how);
-    judge_set(alloc, compared, site.descriptions(source), findings)
+    judge_clock_set(alloc, site, source, Asked::UserDescription, how, findings)
 }
 
 /// The same for the data sets of the clock, except its description.
@@ -221,11 +221,33 @@ fn judge_clock_sets<'a>(
 ) -> Result<(), AllocError>
     ensures { OnOk result (reported findings.new.items ≡ reported findings.old.items ++ clock_sets_reported how (site_answers site.now) source) }
 {
-    let compared = Compared::of(site, source, None, how);
-    judge_set(alloc, compared, site.defaults(source), findings)?;
-    judge_set(alloc, compared, site.currents(source), findings)?;
-    judge_set(alloc, compared, site.parents(source), findings)?;
-    judge_set(alloc, compared, site.times(source), findings)
+    judge_clock_set(alloc, site, source, Asked::DefaultDataSet, how, findings)?;
+    judge_clock_set(alloc, site, source, Asked::CurrentDataSet, how, findings)?;
+    judge_clock_set(alloc, site, source, Asked::ParentDataSet, how, findings)?;
+    judge_clock_set(
+        alloc,
+        site,
+        source,
+        Asked::TimePropertiesDataSet,
+        how,
+        findings,
+    )
+}
+
+/// The same for one of them.
+#[tactic(auto, unfolding(crate::specs::Findings::clock_set_reported))]
+fn judge_clock_set<'a>(
+    alloc: Global,
+    site: &'a Site,
+    source: Source,
+    asked: Asked,
+    how: Contradiction,
+    findings: &mut Vec<Finding<'a>>,
+) -> Result<(), AllocError>
+    ensures { OnOk result (reported findings.new.items ≡ reported findings.old.items ++ clock_set_reported how (site_answers site.now) source asked) }
+{
+    let compared = Compared::of(site, source, None, asked, how);
+    judge_set(alloc, compared, site.answers(source, asked), findings)
 }
 
 /// The same for the data sets of these ports.
@@ -256,7 +278,7 @@ fn judge_port_set<'a>(
 ) -> Result<(), AllocError>
     ensures { OnOk result (reported findings.new.items ≡ reported findings.old.items ++ port_set_reported how (site_answers site.now) source port) }
 {
-    let compared = Compared::of(site, source, Some(port), how);
+    let compared = Compared::of(site, source, Some(port), Asked::PortDataSet, how);
     judge_set(alloc, compared, site.port_answers(source, port), findings)
 }
 
@@ -266,21 +288,31 @@ struct Compared {
     source: Source,
     /// The port whose answers they are.
     port: Option<u16>,
+    /// The id that they answer.
+    asked: Asked,
     how: Contradiction,
     /// Whether the clock is its own grandmaster.
     is_own: bool,
 }
 
 impl Compared {
-    fn of(site: &Site, source: Source, port: Option<u16>, how: Contradiction) -> Compared
+    fn of(
+        site: &Site,
+        source: Source,
+        port: Option<u16>,
+        asked: Asked,
+        how: Contradiction,
+    ) -> Compared
         ensures source { result.source ≡ source }
         ensures port { result.port ≡ port }
+        ensures asked { result.asked ≡ asked }
         ensures how { result.how ≡ how }
         ensures own { result.is_own ≡ is_own_grandmaster (site_answers site.now) source }
     {
         Compared {
             source,
             port,
+            asked,
             how,
             is_own: site.is_own_grandmaster(source),
         }
@@ -289,16 +321,16 @@ impl Compared {
 
 /// The members of a data set in which two of these answers differ.
 #[tactic(auto, unfolding(crate::specs::Findings::set_reported))]
-fn judge_set<'a, T: DataSet>(
+fn judge_set<'a>(
     alloc: Global,
     compared: Compared,
-    received: &'a [Received<T>],
+    received: &'a [Received],
     findings: &mut Vec<Finding<'a>>,
 ) -> Result<(), AllocError>
     ensures { OnOk result (reported findings.new.items ≡ reported findings.old.items
-        ++ set_reported compared.how compared.source compared.port compared.is_own T.listed T.says received.now) }
+        ++ set_reported compared.how compared.source compared.port compared.is_own compared.asked received.now) }
 {
-    let members = T::members();
+    let members = members_of(compared.asked);
     for member in members {
         judge_member(alloc, compared, received, *member, findings)?;
     }
@@ -308,40 +340,41 @@ fn judge_set<'a, T: DataSet>(
 /// A member in which two of these answers differ. A member is passed over if its value moves though nothing was changed. Of a
 /// clock that is its own grandmaster, so is what it says of that one: it is what the clock says of itself.
 #[tactic(auto, unfolding(crate::specs::Findings::member_reported))]
-fn judge_member<'a, T: DataSet>(
+fn judge_member<'a>(
     alloc: Global,
     compared: Compared,
-    received: &'a [Received<T>],
+    received: &'a [Received],
     member: Member,
     findings: &mut Vec<Finding<'a>>,
 ) -> Result<(), AllocError>
     ensures { OnOk result (reported findings.new.items ≡ reported findings.old.items
-        ++ member_reported compared.how compared.source compared.port compared.is_own T.says received.now member) }
+        ++ member_reported compared.how compared.source compared.port compared.is_own compared.asked received.now member) }
 {
     if is_moving(member) || compared.is_own && is_of_grandmaster(member) {
         return Ok(());
     }
-    match change_of(alloc, received, member, compared.how)? {
+    match change_of(alloc, compared.asked, received, member, compared.how)? {
         Some(change) => report_change(findings, compared, change),
         None => Ok(()),
     }
 }
 
 /// The first two answers that differ in a member.
-fn change_of<'a, T: DataSet>(
+fn change_of<'a>(
     alloc: Global,
-    received: &'a [Received<T>],
+    asked: Asked,
+    received: &'a [Received],
     member: Member,
     how: Contradiction,
 ) -> Result<Option<Change<'a>>, AllocError>
-    ensures { IfOk result (λ change. option_map member_change change ≡ contradiction how T.says member received.now) }
+    ensures { IfOk result (λ change. option_map member_change change ≡ contradiction how asked member received.now) }
 {
-    if !is_said_otherwise(received, member) {
+    if !is_said_otherwise(asked, received, member) {
         return Ok(None);
     }
     match how {
-        Contradiction::Changed => Ok(first_change(received, member)),
-        Contradiction::IdentityTwice => first_contradiction(alloc, received, member),
+        Contradiction::Changed => Ok(first_change(asked, received, member)),
+        Contradiction::IdentityTwice => first_contradiction(alloc, asked, received, member),
     }
 }
 

@@ -11,6 +11,7 @@ ghost use Rattle.ptpm_site.specs.Unasked.{not_asked, senders_of};
 ghost use Rattle.ptpm_site.specs.Unseen.{open_mute};
 
 use crate::announcing::open_seldom;
+use crate::asked::Asked;
 use crate::evidence::Evidence;
 use crate::finding::{Finding, What, add_finding};
 use crate::judging_answers::{judge_addresses, judge_twice};
@@ -262,7 +263,7 @@ fn judge_open_twins(
     if has_twins(site, source, ports, known)? {
         return Ok(());
     }
-    match open_offsets(site.currents(source)) {
+    match open_offsets(site.answers(source, Asked::CurrentDataSet)) {
         Some(offsets) => add_finding(findings, source, What::TwoOffsets(offsets)),
         None => Ok(()),
     }

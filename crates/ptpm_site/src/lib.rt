@@ -52,7 +52,6 @@ pub mod port_groups;
 pub mod reach;
 mod sets;
 pub mod site;
-mod site_answers;
 pub mod source;
 pub mod stay;
 pub mod stay_limits;

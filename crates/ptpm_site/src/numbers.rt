@@ -1,7 +1,7 @@
 //! Signed numbers and flags at their places in a dataField, whose octets are in network order (clause 5.2).
 
 ghost use Rattle.std.specs.Prelude.{◌≡◌, ◌+◌, ◌<◌, ◌≤◌, length};
-ghost use Rattle.ptpm_data.specs.ImageReading.{i16_at, i32_at, i64_at, i8_at};
+ghost use Rattle.ptpm_data.specs.ImageReading.{i16_at, i64_at, i8_at};
 ghost use Rattle.ptpm_site.specs.Octets.{flag_at};
 
 use byteorder::{BigEndian, ByteOrder};
@@ -13,15 +13,6 @@ pub fn i16_at(octets: &[u8], place: usize) -> i16
     ensures { result ≡ i16_at place octets.now }
 {
     BigEndian::read_i16(&octets[place..])
-}
-
-/// The Integer32 in the four octets from a place.
-#[tactic(auto, unfolding(ptpm_data::specs::ImageReading::i32_at))]
-pub fn i32_at(octets: &[u8], place: usize) -> i32
-    requires { place + 4 ≤ length octets.now }
-    ensures { result ≡ i32_at place octets.now }
-{
-    BigEndian::read_i32(&octets[place..])
 }
 
 /// The TimeInterval in the eight octets from a place: nanoseconds times 2^16 (5.3.2).

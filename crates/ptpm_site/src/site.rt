@@ -5,10 +5,11 @@ ghost use Rattle.std.specs.List.Sorted.{IsStrictlySortedBy};
 ghost use Rattle.ptpm_site.specs.Answers.{source_cmp};
 ghost use Rattle.ptpm_site.specs.KeptAnswers.{AddsContent, Keeps, Places, Takes};
 ghost use Rattle.ptpm_site.specs.Site.{clock_at, site_answers};
-ghost use Rattle.ptpm_site.specs.SiteAnswers.{has_port_of, has_ports_to};
+ghost use Rattle.ptpm_site.specs.SiteAnswers.{current_of, default_of, has_port_of, has_ports_to, parent_of, port_of, time_of};
 
 use crate::answer::{Answer, Request};
 use crate::answer_content::AnswerContent;
+use crate::asked::Asked;
 use crate::clock::{Clock, Received};
 use crate::data_sets::{
     CurrentDataSet, DefaultDataSet, ParentDataSet, PortDataSet, TimePropertiesDataSet,
@@ -123,7 +124,7 @@ impl Site {
     }
 
     /// Whether a port of a clock that answered is in a state of a group.
-    #[tactic(auto, unfolding(crate::specs::Site::site_answers))]
+    #[tactic(auto, unfolding(crate::specs::Site::site_answers, crate::specs::SiteAnswers::port_of))]
     pub fn has_port_of(&self, source: Source, group: PortGroup) -> bool
         ensures { result ≡ has_port_of (site_answers self.now) source group }
     {
@@ -145,9 +146,36 @@ impl Site {
         true
     }
 
+    /// All that a clock answered to an id, in the order of the lines.
+    #[tactic(auto, unfolding(crate::specs::Site::site_answers))]
+    pub fn answers(&self, source: Source, asked: Asked) -> &[Received]
+        ensures { result.now ≡ (site_answers self.now).answers source asked }
+    {
+        match self.clocks.get(&source) {
+            Some(clock) => clock.answers_to(asked),
+            None => &[],
+        }
+    }
+
+    /// The last userDescription that a clock answered, if there is one.
+    pub fn description(&self, source: Source) -> Option<&str> {
+        self.clocks.get(&source)?.description()
+    }
+
+    /// Whether a clock refused an id.
+    #[tactic(auto, unfolding(crate::specs::Site::site_answers))]
+    pub fn refuses(&self, source: Source, asked: Asked) -> bool
+        ensures { result ≡ (site_answers self.now).refused source asked }
+    {
+        match self.clocks.get(&source) {
+            Some(clock) => clock.refuses(asked),
+            None => false,
+        }
+    }
+
     /// All that was answered for a port of a clock, in the order of the lines.
     #[tactic(auto, unfolding(crate::specs::Site::site_answers))]
-    pub fn port_answers(&self, source: Source, port: u16) -> &[Received<PortDataSet>]
+    pub fn port_answers(&self, source: Source, port: u16) -> &[Received]
         ensures { result.now ≡ (site_answers self.now).port_answers source port }
     {
         match self.clocks.get(&source) {
@@ -165,42 +193,48 @@ impl Site {
     }
 
     /// The last DEFAULT_DATA_SET that a clock answered, if there is one.
-    #[tactic(auto, unfolding(crate::specs::Site::site_answers))]
+    #[tactic(auto, unfolding(crate::specs::SiteAnswers::default_of))]
     pub fn default(&self, source: Source) -> Option<DefaultDataSet>
-        ensures { result ≡ (site_answers self.now).default source }
+        ensures { result ≡ default_of (site_answers self.now) source }
     {
-        self.clocks.get(&source)?.default()
+        self.answers(source, Asked::DefaultDataSet)
+            .last()?
+            .default()
     }
 
     /// The last CURRENT_DATA_SET that a clock answered, if there is one.
-    #[tactic(auto, unfolding(crate::specs::Site::site_answers))]
+    #[tactic(auto, unfolding(crate::specs::SiteAnswers::current_of))]
     pub fn current(&self, source: Source) -> Option<CurrentDataSet>
-        ensures { result ≡ (site_answers self.now).current source }
+        ensures { result ≡ current_of (site_answers self.now) source }
     {
-        self.clocks.get(&source)?.current()
+        self.answers(source, Asked::CurrentDataSet)
+            .last()?
+            .current()
     }
 
     /// The last PARENT_DATA_SET that a clock answered, if there is one.
-    #[tactic(auto, unfolding(crate::specs::Site::site_answers))]
+    #[tactic(auto, unfolding(crate::specs::SiteAnswers::parent_of))]
     pub fn parent(&self, source: Source) -> Option<ParentDataSet>
-        ensures { result ≡ (site_answers self.now).parent source }
+        ensures { result ≡ parent_of (site_answers self.now) source }
     {
-        self.clocks.get(&source)?.parent()
+        self.answers(source, Asked::ParentDataSet).last()?.parent()
     }
 
     /// The last TIME_PROPERTIES_DATA_SET that a clock answered, if there is one.
-    #[tactic(auto, unfolding(crate::specs::Site::site_answers))]
+    #[tactic(auto, unfolding(crate::specs::SiteAnswers::time_of))]
     pub fn time(&self, source: Source) -> Option<TimePropertiesDataSet>
-        ensures { result ≡ (site_answers self.now).time source }
+        ensures { result ≡ time_of (site_answers self.now) source }
     {
-        self.clocks.get(&source)?.time()
+        self.answers(source, Asked::TimePropertiesDataSet)
+            .last()?
+            .time()
     }
 
     /// The last PORT_DATA_SET that was answered for a port of a clock, if there is one.
-    #[tactic(auto, unfolding(crate::specs::Site::site_answers))]
+    #[tactic(auto, unfolding(crate::specs::SiteAnswers::port_of))]
     pub fn port(&self, source: Source, number: u16) -> Option<PortDataSet>
-        ensures { result ≡ (site_answers self.now).port source number }
+        ensures { result ≡ port_of (site_answers self.now) source number }
     {
-        self.clocks.get(&source)?.port(number)
+        self.port_answers(source, number).last()?.port()
     }
 }

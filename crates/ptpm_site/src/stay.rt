@@ -6,7 +6,6 @@ ghost use Rattle.ptpm_site.specs.Stay.{apart, is_faulty, is_lasting, since_this,
 
 use crate::answer::Request;
 use crate::clock::Received;
-use crate::data_sets::PortDataSet;
 use ptpm_data::PortState;
 
 /// The state of a port that is FAULTY or on its way to another state, and for how long it was on its way.
@@ -63,14 +62,14 @@ pub fn is_another(a: &Request, b: &Request) -> bool
 fn stay_after(
     request: &Request,
     since: Option<Option<u64>>,
-    received: &Received<PortDataSet>,
+    received: &Received,
 ) -> Option<Option<u64>>
     ensures { result ≡ stay_after request.now since received.now }
 {
     if !is_another(&received.request, request) {
         return since;
     }
-    match received.set.state() {
+    match received.state() {
         Some(state) if is_on_the_way(state) => Some(since_this(since, received.at)),
         _ => None,
     }
@@ -87,7 +86,7 @@ fn since_this(since: Option<Option<u64>>, at: Option<u64>) -> Option<u64>
 }
 
 /// When the first answer came of those on the way with which these end. It is `None` if there is none.
-fn stay_before(request: &Request, earlier: &[Received<PortDataSet>]) -> Option<Option<u64>>
+fn stay_before(request: &Request, earlier: &[Received]) -> Option<Option<u64>>
     ensures { result ≡ stay_before request.now earlier.now }
 {
     let mut since = None;
@@ -124,11 +123,7 @@ fn stay_since(state: PortState, at: Option<u64>, since: Option<Option<u64>>) -> 
 }
 
 /// The stay of a port whose last answer says this state, after these answers.
-fn stay_by(
-    last: &Received<PortDataSet>,
-    earlier: &[Received<PortDataSet>],
-    state: PortState,
-) -> Option<Stay>
+fn stay_by(last: &Received, earlier: &[Received], state: PortState) -> Option<Stay>
     ensures { result ≡ stay_by last.now earlier.now state }
 {
     if is_faulty(state) {
@@ -142,10 +137,10 @@ fn stay_by(
 }
 
 /// How a port is that answered so, if it is FAULTY or on its way.
-pub fn stay_of(received: &[Received<PortDataSet>]) -> Option<Stay>
+pub fn stay_of(received: &[Received]) -> Option<Stay>
     ensures { result ≡ stay_of received.now }
 {
     let (last, earlier) = received.split_last()?;
-    let state = last.set.state()?;
+    let state = last.state()?;
     stay_by(last, earlier, state)
 }

@@ -3,7 +3,7 @@
 ghost use Rattle.std.specs.Prelude.{◌≡◌, find, reverse};
 ghost use Rattle.std.specs.Option.{option_copied};
 ghost use Rattle.ptpm_site.specs.PortStates.{is_another};
-ghost use Rattle.ptpm_site.specs.TwoOffsets.{is_other_answer, is_other_time, last_offsets, look_before, offsets_of, open_offsets, other_answer, two_offsets, two_offsets_by};
+ghost use Rattle.ptpm_site.specs.TwoOffsets.{is_other_answer, is_other_time, last_offsets, look_before, offset_said, offsets_of, open_offsets, other_answer, two_offsets, two_offsets_by};
 
 use crate::clock::Received;
 use crate::data_sets::CurrentDataSet;
@@ -16,34 +16,33 @@ pub struct TwoOffsets {
 }
 
 /// Whether an offset or a delay differs.
-fn is_other_time(a: &CurrentDataSet, b: &CurrentDataSet) -> bool
-    ensures { result ≡ is_other_time a.now b.now }
+fn is_other_time(a: Option<CurrentDataSet>, b: Option<CurrentDataSet>) -> bool
+    ensures { result ≡ is_other_time a b }
 {
-    a.offset_from_master != b.offset_from_master || a.mean_delay != b.mean_delay
+    match (a, b) {
+        (Some(a), Some(b)) => {
+            a.offset_from_master != b.offset_from_master || a.mean_delay != b.mean_delay
+        }
+        _ => false,
+    }
 }
 
 /// Whether an answer came to the request of another, and says another offset or delay.
-fn is_other_answer(one: &Received<CurrentDataSet>, other: &Received<CurrentDataSet>) -> bool
+fn is_other_answer(one: &Received, other: &Received) -> bool
     ensures { result ≡ is_other_answer one.now other.now }
 {
-    other.request == one.request && is_other_time(&other.set, &one.set)
+    other.request == one.request && is_other_time(other.current(), one.current())
 }
 
 /// The first of these answers that came to the request of one, and says another offset or delay.
-fn other_answer<'a>(
-    received: &'a [Received<CurrentDataSet>],
-    one: &Received<CurrentDataSet>,
-) -> Option<&'a Received<CurrentDataSet>>
+fn other_answer<'a>(received: &'a [Received], one: &Received) -> Option<&'a Received>
     ensures { option_copied result ≡ other_answer received.now one.now }
 {
     received.iter().find(|other| is_other_answer(one, other))
 }
 
 /// The latest of these answers to another request of the requester of one.
-fn look_before<'a>(
-    received: &'a [Received<CurrentDataSet>],
-    one: &Received<CurrentDataSet>,
-) -> Option<&'a Received<CurrentDataSet>>
+fn look_before<'a>(received: &'a [Received], one: &Received) -> Option<&'a Received>
     ensures { option_copied result ≡ look_before received.now one.now }
 {
     received.iter().rev().find(|earlier| {
@@ -52,35 +51,38 @@ fn look_before<'a>(
 }
 
 /// Two offsets in the last look, if there were two in the look before as well.
-pub fn two_offsets(received: &[Received<CurrentDataSet>]) -> Option<TwoOffsets>
+pub fn two_offsets(received: &[Received]) -> Option<TwoOffsets>
     ensures { result ≡ two_offsets received.now }
 {
     two_offsets_by(received, received.last()?)
 }
 
-fn two_offsets_by(
-    received: &[Received<CurrentDataSet>],
-    last: &Received<CurrentDataSet>,
-) -> Option<TwoOffsets>
+fn two_offsets_by(received: &[Received], last: &Received) -> Option<TwoOffsets>
     ensures { result ≡ two_offsets_by received.now last.now }
 {
     let other = other_answer(received, last)?;
     let before = look_before(received, last)?;
     let _ = other_answer(received, before)?;
-    Some(offsets_of(other, last))
+    offsets_of(other, last)
 }
 
-fn offsets_of(other: &Received<CurrentDataSet>, last: &Received<CurrentDataSet>) -> TwoOffsets
+fn offset_said(received: &Received) -> Option<i64>
+    ensures { result ≡ offset_said received.now }
+{
+    Some(received.current()?.offset_from_master)
+}
+
+fn offsets_of(other: &Received, last: &Received) -> Option<TwoOffsets>
     ensures { result ≡ offsets_of other.now last.now }
 {
-    TwoOffsets {
-        first: other.set.offset_from_master,
-        second: last.set.offset_from_master,
-    }
+    Some(TwoOffsets {
+        first: offset_said(other)?,
+        second: offset_said(last)?,
+    })
 }
 
 /// Two offsets in the last look alone: a Sync that comes between two copies of a request does this too.
-pub fn open_offsets(received: &[Received<CurrentDataSet>]) -> Option<TwoOffsets>
+pub fn open_offsets(received: &[Received]) -> Option<TwoOffsets>
     ensures { result ≡ open_offsets received.now }
 {
     if two_offsets(received).is_some() {
@@ -90,11 +92,8 @@ pub fn open_offsets(received: &[Received<CurrentDataSet>]) -> Option<TwoOffsets>
 }
 
 /// Two offsets in the look of the last answer.
-fn last_offsets(
-    received: &[Received<CurrentDataSet>],
-    last: &Received<CurrentDataSet>,
-) -> Option<TwoOffsets>
+fn last_offsets(received: &[Received], last: &Received) -> Option<TwoOffsets>
     ensures { result ≡ last_offsets received.now last.now }
 {
-    Some(offsets_of(other_answer(received, last)?, last))
+    offsets_of(other_answer(received, last)?, last)
 }

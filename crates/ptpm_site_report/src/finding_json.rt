@@ -53,8 +53,8 @@ fn put_place(
     members.put_number("domainNumber", source.domain.number() as i64)?;
     members.put_number("sdoId", source.domain.sdo() as i64)?;
     put_clock(members, clock_of(remark.finding))?;
-    match look.picture.site.descriptions(source).last() {
-        Some(received) => members.put_text("userDescription", received.set.text.as_str()),
+    match look.picture.site.description(source) {
+        Some(text) => members.put_text("userDescription", text),
         None => Ok(()),
     }
 }

@@ -11,9 +11,10 @@ use crate::utc_text::UtcText;
 use ptpm_codec::{ClockIdentity, PortIdentity};
 use ptpm_commands::Fault;
 use ptpm_members::MemberValue;
+use ptpm_site::asked::{Asked, OF_CLOCK};
 use ptpm_site::clock::{Clock, Received};
 use ptpm_site::domain::Domain;
-use ptpm_site::member::DataSet;
+use ptpm_site::member::{members_of, value_of};
 use ptpm_site::source::Source;
 use serde_json::Value;
 use std::alloc::{AllocError, Global};
@@ -129,8 +130,9 @@ fn grandmaster_value(
     source: Source,
 ) -> Result<Value, AllocError> {
     let mut members = Members::none(alloc);
-    if let Some(time) = look.picture.site.time(source) {
-        put_set(&mut members, &time)?;
+    let asked = Asked::TimePropertiesDataSet;
+    if let Some(time) = look.picture.site.answers(source, asked).last() {
+        put_set(&mut members, asked, time)?;
     }
     if let Some(default) = look.picture.site.default(source) {
         members.put("clockQuality", MemberValue::Quality(default.quality))?;
@@ -176,23 +178,9 @@ fn clock_value(
     if let Some(name) = names.get(source.clock) {
         members.put_text("name", name)?;
     }
-    put_last(
-        alloc,
-        &mut members,
-        "DEFAULT_DATA_SET",
-        clock.defaults.last(),
-    )?;
-    put_last(
-        alloc,
-        &mut members,
-        "CURRENT_DATA_SET",
-        clock.currents.last(),
-    )?;
-    put_last(alloc, &mut members, "PARENT_DATA_SET", clock.parents.last())?;
-    let times = clock.times.last();
-    put_last(alloc, &mut members, "TIME_PROPERTIES_DATA_SET", times)?;
-    let descriptions = clock.descriptions.last();
-    put_last(alloc, &mut members, "USER_DESCRIPTION", descriptions)?;
+    for asked in &OF_CLOCK {
+        put_last(alloc, &mut members, *asked, clock)?;
+    }
     let ports = ports_value(alloc, source.clock, clock)?;
     members.put_value("PORT_DATA_SET", ports)?;
     Ok(members.object())
@@ -204,7 +192,7 @@ fn ports_value(alloc: Global, identity: ClockIdentity, clock: &Clock) -> Result<
     for (number, received) in clock.ports.iter() {
         if let Some(last) = received.last() {
             let mut members = Members::none(alloc);
-            put_set(&mut members, &last.set)?;
+            put_set(&mut members, Asked::PortDataSet, last)?;
             let port = PortIdentity {
                 clock: identity,
                 port: *number,
@@ -216,27 +204,27 @@ fn ports_value(alloc: Global, identity: ClockIdentity, clock: &Clock) -> Result<
     Ok(Value::Array(ports))
 }
 
-/// Puts the data set of the answer that counts, if there is one.
-fn put_last<T: DataSet>(
+/// Puts what the answer to an id says that counts, if there is one.
+fn put_last(
     alloc: Global,
     members: &mut Members,
-    name: &str,
-    last: Option<&Received<T>>,
+    asked: Asked,
+    clock: &Clock,
 ) -> Result<(), AllocError> {
-    match last {
+    match clock.answers_to(asked).last() {
         Some(last) => {
             let mut set = Members::none(alloc);
-            put_set(&mut set, &last.set)?;
-            members.put_value(name, set.object())
+            put_set(&mut set, asked, last)?;
+            members.put_value(asked.name(), set.object())
         }
         None => Ok(()),
     }
 }
 
-/// Puts the members of a data set.
-fn put_set<T: DataSet>(members: &mut Members, set: &T) -> Result<(), AllocError> {
-    for member in T::members() {
-        if let Some(value) = set.value(*member) {
+/// Puts the members of an answer to an id.
+fn put_set(members: &mut Members, asked: Asked, received: &Received) -> Result<(), AllocError> {
+    for member in members_of(asked) {
+        if let Some(value) = value_of(asked, received.octets.as_slice(), *member) {
             members.put(member.name(), value)?;
         }
     }

@@ -65,8 +65,7 @@ impl Look<'_, '_> {
 
     /// The userDescription of a clock, if it answered one that is not empty.
     fn description(&self, source: Source) -> Option<&str> {
-        let received = self.picture.site.descriptions(source).last()?;
-        let text = received.set.text.as_str();
+        let text = self.picture.site.description(source)?;
         if text.is_empty() { None } else { Some(text) }
     }
 

@@ -9,7 +9,7 @@ use crate::seconds::NanosecondSeconds;
 use crate::span::Span;
 use ptpm_commands::Fault;
 use ptpm_members::{Enumeration, MemberValue};
-use ptpm_site::clock::{Clock, last_of};
+use ptpm_site::clock::Clock;
 use ptpm_site::domain::Domain;
 use ptpm_site::picture::Picture;
 use ptpm_site::source::Source;
@@ -252,7 +252,7 @@ fn print_of_ports<O: Write>(picture: &Picture<'_>, family: OfPort, out: &mut O) 
     write_head(name, family.help(), out)?;
     for (source, clock) in picture.site.clocks.iter() {
         for (port, received) in clock.ports.iter() {
-            let Some(set) = last_of(received.as_slice()) else {
+            let Some(set) = received.last().and_then(|last| last.port()) else {
                 continue;
             };
             if let Some(amount) = family.amount(&set) {

@@ -1,7 +1,7 @@
 //! The ports of a clock with their states, as text.
 
 use ptpm_members::{Enumeration, MemberValue};
-use ptpm_site::clock::{Clock, last_of};
+use ptpm_site::clock::Clock;
 use std::fmt;
 
 /// The ports of a clock that answered, by number: `1 SLAVE, 2-4 MASTER`; `-` if none did.
@@ -13,7 +13,7 @@ impl fmt::Display for PortsText<'_> {
         let mut run: Option<Run> = None;
         let mut follows = false;
         for (number, received) in self.0.ports.iter() {
-            let Some(set) = last_of(received.as_slice()) else {
+            let Some(set) = received.last().and_then(|last| last.port()) else {
                 continue;
             };
             let next = Run {

@@ -7,7 +7,7 @@ use Rattle.ptpm_site.proofs.Statements.{ahead}
 use Rattle.ptpm_site.proofs.changes.first_change.Given as goal
 
 abbrev pub invariant-loop-answer : goal.invariant-loop-answer
-invariant-loop-answer g l = record {
-  unchanged : contradiction sort.Changed g.T.DataSet.says l.member l.received ≡ ahead sort.Changed g.T.DataSet.says l.member l.received l.answer-index;
-  stands : StandsFor l.kept (statements g.T.DataSet.says l.member (take l.answer-index l.received));
+invariant-loop-answer l = record {
+  unchanged : contradiction sort.Changed l.asked l.member l.received ≡ ahead sort.Changed l.asked l.member l.received l.answer-index;
+  stands : StandsFor l.kept (statements l.asked l.member (take l.answer-index l.received));
 }

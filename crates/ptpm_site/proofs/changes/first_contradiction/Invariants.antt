@@ -7,7 +7,7 @@ use Rattle.ptpm_site.proofs.Statements.{ahead}
 use Rattle.ptpm_site.proofs.changes.first_contradiction.Given as goal
 
 abbrev pub invariant-loop-answer : goal.invariant-loop-answer
-invariant-loop-answer g l = record {
-  unchanged : contradiction sort.IdentityTwice g.T.DataSet.says l.member l.received ≡ ahead sort.IdentityTwice g.T.DataSet.says l.member l.received l.answer-index;
-  keeps : KeepsFirstValues l.settled (statements g.T.DataSet.says l.member (take l.answer-index l.received));
+invariant-loop-answer l = record {
+  unchanged : contradiction sort.IdentityTwice l.asked l.member l.received ≡ ahead sort.IdentityTwice l.asked l.member l.received l.answer-index;
+  keeps : KeepsFirstValues l.settled (statements l.asked l.member (take l.answer-index l.received));
 }

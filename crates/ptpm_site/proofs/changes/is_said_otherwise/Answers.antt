@@ -3,7 +3,7 @@ use Rattle.std.proofs.Common.{◌≡◌, ◌∷◌, [], Bool, true, false, not, 
 use Rattle.std.specs.List.{list_all}
 use Rattle.std.specs.Option.{option_eq}
 use Rattle.ptpm_site.specs.Changes.{contradiction}
-use Rattle.ptpm_site.specs.Members.{same_value}
+use Rattle.ptpm_site.specs.Members.{answer_says, same_value}
 use Rattle.ptpm_site.proofs.Agreeing.{agreed, no_answers}
 use Rattle.ptpm_site.proofs.changes.is_said_otherwise.Goals as goal
 
@@ -16,13 +16,13 @@ none_there [] h = refl
 none_there (x ∷ xs) h = absurd (omega arith)
 
 pub returns-in-Some : goal.returns-in-Some
-returns-in-Some g c = λ how h.
-    let all : list_all (λ a. option_eq same_value (g.T.DataSet.says c.in-Some.first.now.set c.args.member) (g.T.DataSet.says a.set c.args.member)) c.in-Some.others.now ≡ true =
+returns-in-Some c = λ how h.
+    let all : list_all (λ a. option_eq same_value (answer_says c.args.asked c.in-Some.first.now.octets.items c.args.member) (answer_says c.args.asked a.octets.items c.args.member)) c.in-Some.others.now ≡ true =
     sym c.all_say_as.ensures ∙ not_false c.all_say_as.result h in
-    ap (contradiction how g.T.DataSet.says c.args.member) c.in-Some.ensures.cases.0
-    ∙ agreed g.T.DataSet.says c.args.member how c.in-Some.first.now c.in-Some.others.now all
+    ap (contradiction how c.args.asked c.args.member) c.in-Some.ensures.cases.0
+    ∙ agreed c.args.asked c.args.member how c.in-Some.first.now c.in-Some.others.now all
 
 pub returns-in-None : goal.returns-in-None
-returns-in-None g c = λ how h.
-    ap (contradiction how g.T.DataSet.says c.args.member) (none_there c.args.received.now c.in-None.ensures.cases)
-    ∙ no_answers g.T.DataSet.says c.args.member how
+returns-in-None c = λ how h.
+    ap (contradiction how c.args.asked c.args.member) (none_there c.args.received.now c.in-None.ensures.cases)
+    ∙ no_answers c.args.asked c.args.member how

@@ -5,25 +5,24 @@ use Rattle.std.specs.Option.{option_and_then}
 use Rattle.std.proofs.lemmas.List.{get_or_push, length_push, take_at}
 use Rattle.std.proofs.lemmas.Option.{slice_get_read}
 use Rattle.ptpm_data.specs.declared.port_state.PortState.{PortState}
-use Rattle.ptpm_data.specs.PortState.{state_of}
 use Rattle.ptpm_site.specs.declared.clock.Received.{Received}
-use Rattle.ptpm_site.specs.declared.data_sets.PortDataSet.{PortDataSet}
+use Rattle.ptpm_site.specs.Answers.{state_said}
 use Rattle.ptpm_site.specs.Stay.{stay_by, stay_of}
 use Rattle.ptpm_site.proofs.stay.stay_of.Goals as goal
 
-stay_at : (received : List (Received PortDataSet)) (last : Received PortDataSet) (earlier : List (Received PortDataSet)) (state : PortState)
+stay_at : (received : List Received) (last : Received) (earlier : List Received) (state : PortState)
     → slice_get received (length received - 1) ≡ Some last
     → take (length received - 1) received ≡ earlier
-    → state_of last.set.state ≡ Some state
+    → state_said last ≡ Some state
     → stay_of received ≡ stay_by last earlier state
 stay_at received last earlier state h k e =
-    ap (λ o. option_and_then (λ (l : Received PortDataSet). option_and_then (stay_by l (take (length received - 1) received)) (state_of l.set.state)) o) h
+    ap (λ o. option_and_then (λ (l : Received). option_and_then (stay_by l (take (length received - 1) received)) (state_said l)) o) h
     ∙ ap (λ o. option_and_then (stay_by last (take (length received - 1) received)) o) e
     ∙ ap (λ l. stay_by last l state) k
 
-stay_after_all : (received : List (Received PortDataSet)) (last : Received PortDataSet) (earlier : List (Received PortDataSet)) (state : PortState)
+stay_after_all : (received : List Received) (last : Received) (earlier : List Received) (state : PortState)
     → received ≡ earlier ++ last ∷ []
-    → state_of last.set.state ≡ Some state
+    → state_said last ≡ Some state
     → stay_of received ≡ stay_by last earlier state
 stay_after_all received last earlier state h e =
     let all = earlier ++ last ∷ [] in

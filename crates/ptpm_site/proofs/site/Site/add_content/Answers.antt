@@ -10,11 +10,7 @@ returns-in_ok-take-clause-content c =
     content_added c.args.self.now.heard c.args.self.now.words c.args.self.now.clocks (c.get_mut.follows.lender c.take.new.self) c.args.source c.args.request c.args.at c.args.content c.in-Some.clock.now c.take.new.self
     (sym c.in-Some.ensures.value) (written.3 c.requires).0 written.1
     (record {
-      defaults = grown.defaults;
-      currents = grown.currents;
-      parents = grown.parents;
-      times = grown.times;
-      descriptions = grown.descriptions;
+      answers = grown.answers;
       refused = grown.refused;
       numbers = grown.numbers;
       ports = grown.ports;
