@@ -12,12 +12,16 @@ use Rattle.byteorder.specs.Endian.{big_number, twos_complement}
 use Rattle.byteorder.specs.Numbers.{big_from-lt}
 use Rattle.ptpm_codec.specs.Layout.{clock_identity_at, number_at, octet, port_identity_at}
 use Rattle.ptpm_codec.specs.declared.identity.PortIdentity.{PortIdentity}
+use Rattle.ptpm_data.specs.ManagementId.{row_of}
 use Rattle.ptpm_data.specs.declared.management_id.Layout.TheVariants as layouts
+use Rattle.ptpm_data.specs.declared.members.Member.TheVariants as sets
+use Rattle.ptpm_data.specs.declared.port_setting.PortSetting.TheVariants as settings
 use Rattle.ptpm_data.specs.ImageReading.{i16_at, i64_at, i8_at}
 use Rattle.ptpm_data.specs.SetLaws.{AreOctets}
 use Rattle.ptpm_members.specs.FieldText.{members_in}
 use Rattle.ptpm_members.specs.declared.forms.Field.{Field}
 use Rattle.ptpm_members.specs.declared.names.Member.{Member}
+use Rattle.ptpm_members.specs.declared.names.Member.TheVariants as members
 use Rattle.ptpm_members.specs.declared.number_names.Enumeration.{Enumeration}
 use Rattle.ptpm_members.specs.declared.number_names.Enumeration.TheVariants as enumerations
 use Rattle.ptpm_members.specs.Tables.{fields_of, is_whole}
@@ -109,24 +113,28 @@ of_read {A} P n octets r d read holds = by_test (length octets == n) refl read w
 
 -- the members of a dataField are those of its table
 default_fields : (octets : List ℕ) → (length octets == 20) ≡ true → members_in (number_of id.DefaultDataSet) octets ≡ fields_of layouts.DefaultDataSet
-unfolding members_in is_whole
+unfolding members_in is_whole row_of
 default_fields octets long = ap (λ b. cond b (fields_of layouts.DefaultDataSet) []) long
 
 current_fields : (octets : List ℕ) → (length octets == 18) ≡ true → members_in (number_of id.CurrentDataSet) octets ≡ fields_of layouts.CurrentDataSet
-unfolding members_in is_whole
+unfolding members_in is_whole row_of
 current_fields octets long = ap (λ b. cond b (fields_of layouts.CurrentDataSet) []) long
 
 parent_fields : (octets : List ℕ) → (length octets == 32) ≡ true → members_in (number_of id.ParentDataSet) octets ≡ fields_of layouts.ParentDataSet
-unfolding members_in is_whole
+unfolding members_in is_whole row_of
 parent_fields octets long = ap (λ b. cond b (fields_of layouts.ParentDataSet) []) long
 
 time_fields : (octets : List ℕ) → (length octets == 4) ≡ true → members_in (number_of id.TimePropertiesDataSet) octets ≡ fields_of layouts.TimePropertiesDataSet
-unfolding members_in is_whole
+unfolding members_in is_whole row_of
 time_fields octets long = ap (λ b. cond b (fields_of layouts.TimePropertiesDataSet) []) long
 
 port_fields : (octets : List ℕ) → (length octets == 26) ≡ true → members_in (number_of id.PortDataSet) octets ≡ fields_of layouts.PortDataSet
-unfolding members_in is_whole
+unfolding members_in is_whole row_of
 port_fields octets long = ap (λ b. cond b (fields_of layouts.PortDataSet) []) long
+
+infixr 20 ◌and◌
+◌and◌ : {A B : Type 0} → A → B → A × B
+a and b = (a, b)
 
 -- what a table has at a member is what the answer says of it
 abbrev at_place : List Field → List ℕ → Member → Option Said
@@ -144,7 +152,15 @@ default_as_read octets d small read =
     All-from_recursion (IsSaid id.DefaultDataSet octets) (default_values d)
     (of_read (λ e. AllByRecursion (IsSaid id.DefaultDataSet octets) (default_values e)) 20 octets _ d read (λ long.
     let says = said id.DefaultDataSet octets _ (default_fields octets long) in
-    (says _ _ (flag o small 0 1), (says _ _ refl, (says _ _ (number o small 4), (says _ _ (number o small 5), (says _ _ (number o small 6), (says _ _ refl, (says _ _ (number o small 9), (says _ _ (number o small 18), tt))))))))))
+    says members.SlaveOnly _ (flag o small 0 1)
+    and says members.NumberPorts _ refl
+    and says (members.DataSet sets.Priority1) _ (number o small 4)
+    and says (members.DataSet sets.ClockClass) _ (number o small 5)
+    and says (members.DataSet sets.ClockAccuracy) _ (number o small 6)
+    and says (members.DataSet sets.Variance) _ refl
+    and says (members.DataSet sets.Priority2) _ (number o small 9)
+    and says (members.DataSet sets.Domain) _ (number o small 18)
+    and tt))
 
 pub current_as_read : (octets : List ℕ) (d : CurrentDataSet) → AreOctets octets → current_read octets ≡ Some d
     → All (IsSaid id.CurrentDataSet octets) (current_values d)
@@ -153,7 +169,10 @@ current_as_read octets d small read =
     All-from_recursion (IsSaid id.CurrentDataSet octets) (current_values d)
     (of_read (λ e. AllByRecursion (IsSaid id.CurrentDataSet octets) (current_values e)) 18 octets _ d read (λ long.
     let says = said id.CurrentDataSet octets _ (current_fields octets long) in
-    (says _ _ refl, (says _ _ (interval octets small 2), (says _ _ (interval octets small 10), tt)))))
+    says (members.DataSet sets.StepsRemoved) _ refl
+    and says (members.DataSet sets.OffsetFromMaster) _ (interval octets small 2)
+    and says (members.DataSet sets.MeanPathDelay) _ (interval octets small 10)
+    and tt))
 
 pub parent_as_read : (octets : List ℕ) (d : ParentDataSet) → AreOctets octets → parent_read octets ≡ Some d
     → All (IsSaid id.ParentDataSet octets) (parent_values d)
@@ -163,7 +182,14 @@ parent_as_read octets d small read =
     All-from_recursion (IsSaid id.ParentDataSet octets) (parent_values d)
     (of_read (λ e. AllByRecursion (IsSaid id.ParentDataSet octets) (parent_values e)) 32 octets _ d read (λ long.
     let says = said id.ParentDataSet octets _ (parent_fields octets long) in
-    (says _ _ refl, (says _ _ (number o small 18), (says _ _ (number o small 19), (says _ _ (number o small 20), (says _ _ refl, (says _ _ (number o small 23), (says _ _ refl, tt)))))))))
+    says (members.DataSet sets.ParentPort) _ refl
+    and says (members.DataSet sets.GrandmasterPriority1) _ (number o small 18)
+    and says (members.DataSet sets.GrandmasterClass) _ (number o small 19)
+    and says (members.DataSet sets.GrandmasterAccuracy) _ (number o small 20)
+    and says (members.DataSet sets.GrandmasterVariance) _ refl
+    and says (members.DataSet sets.GrandmasterPriority2) _ (number o small 23)
+    and says (members.DataSet sets.Grandmaster) _ refl
+    and tt))
 
 pub time_as_read : (octets : List ℕ) (d : TimePropertiesDataSet) → AreOctets octets → time_read octets ≡ Some d
     → All (IsSaid id.TimePropertiesDataSet octets) (time_values d)
@@ -173,7 +199,15 @@ time_as_read octets d small read =
     All-from_recursion (IsSaid id.TimePropertiesDataSet octets) (time_values d)
     (of_read (λ e. AllByRecursion (IsSaid id.TimePropertiesDataSet octets) (time_values e)) 4 octets _ d read (λ long.
     let says = said id.TimePropertiesDataSet octets _ (time_fields octets long) in
-    (says _ _ (signed_2 o small 0), (says _ _ (flag o small 2 0), (says _ _ (flag o small 2 1), (says _ _ (flag o small 2 2), (says _ _ (flag o small 2 3), (says _ _ (flag o small 2 4), (says _ _ (flag o small 2 5), (says _ _ (named o small enumerations.TimeSource 3), tt))))))))))
+    says (members.DataSet sets.UtcOffset) _ (signed_2 o small 0)
+    and says (members.DataSet sets.Leap61) _ (flag o small 2 0)
+    and says (members.DataSet sets.Leap59) _ (flag o small 2 1)
+    and says (members.DataSet sets.UtcValid) _ (flag o small 2 2)
+    and says (members.DataSet sets.PtpTimescale) _ (flag o small 2 3)
+    and says (members.DataSet sets.TimeTraceable) _ (flag o small 2 4)
+    and says (members.DataSet sets.FrequencyTraceable) _ (flag o small 2 5)
+    and says (members.DataSet sets.TimeSource) _ (named o small enumerations.TimeSource 3)
+    and tt))
 
 pub port_as_read : (octets : List ℕ) (p : PortIdentity × PortDataSet) → AreOctets octets → port_read octets ≡ Some p
     → All (IsSaid id.PortDataSet octets) (port_values p)
@@ -183,4 +217,13 @@ port_as_read octets p small read =
     All-from_recursion (IsSaid id.PortDataSet octets) (port_values p)
     (of_read (λ e. AllByRecursion (IsSaid id.PortDataSet octets) (port_values e)) 26 octets _ p read (λ long.
     let says = said id.PortDataSet octets _ (port_fields octets long) in
-    (says _ _ refl, (says _ _ (named o small enumerations.PortState 10), (says _ _ (signed_1 o small 11), (says _ _ (interval o small 12), (says _ _ (signed_1 o small 20), (says _ _ (number o small 21), (says _ _ (signed_1 o small 22), (says _ _ (named o small enumerations.DelayMechanism 23), (says _ _ (signed_1 o small 24), tt)))))))))))
+    says members.PortIdentity _ refl
+    and says (members.DataSet sets.State) _ (named o small enumerations.PortState 10)
+    and says (members.DataSet sets.LogMinDelayReq) _ (signed_1 o small 11)
+    and says (members.DataSet sets.PeerDelay) _ (interval o small 12)
+    and says (members.DataSet (sets.Setting settings.LogAnnounceInterval)) _ (signed_1 o small 20)
+    and says (members.DataSet (sets.Setting settings.AnnounceReceiptTimeout)) _ (number o small 21)
+    and says (members.DataSet (sets.Setting settings.LogSyncInterval)) _ (signed_1 o small 22)
+    and says (members.DataSet (sets.Setting settings.DelayMechanism)) _ (named o small enumerations.DelayMechanism 23)
+    and says (members.DataSet (sets.Setting settings.LogMinPdelayReqInterval)) _ (signed_1 o small 24)
+    and tt))

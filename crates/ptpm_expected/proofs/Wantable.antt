@@ -5,6 +5,7 @@ use Rattle.std.proofs.lemmas.Str.{IsUtf8-from_is_utf8}
 use Rattle.std.specs.List.{find, list_all}
 use Rattle.std.specs.Option.{option_map}
 use Rattle.std.specs.Str.{is_utf8}
+use Rattle.ptpm_data.specs.ManagementId.{row_of}
 use Rattle.ptpm_data.specs.declared.management_id.Layout.TheVariants as layouts
 use Rattle.ptpm_data.specs.declared.members.Member.TheVariants as sets
 use Rattle.ptpm_members.specs.FieldText.{members_in}
@@ -74,7 +75,7 @@ of_table false fields plain = refl
 -- ---- by the id
 
 fields_wantable : (asked : Asked) (octets : List ℕ) → same_id asked id.UserDescription ≡ false → list_all (λ f. is_plain f.2) (members_in (number_of asked) octets) ≡ true
-unfolding members_in is_whole
+unfolding members_in is_whole row_of
 fields_wantable id.UserDescription octets other = cc
 fields_wantable id.DefaultDataSet octets other = of_table (length octets == 20) (fields_of layouts.DefaultDataSet) refl
 fields_wantable id.CurrentDataSet octets other = of_table (length octets == 18) (fields_of layouts.CurrentDataSet) refl
