@@ -108,6 +108,7 @@ answer_wantable id.TimePropertiesDataSet octets m = at_wantable id.TimePropertie
 answer_wantable id.PortDataSet octets m = at_wantable id.PortDataSet octets m refl
 
 last_wantable : (asked : Asked) (received : List Received) (m : Member) → IfSome (last_says asked received m) IsWantable
+unfolding last_says
 last_wantable asked received m = of (last_of received) where
   of : (o : Option Received) → IfSome (option_and_then (λ last. answer_says asked last.octets.items m) o) IsWantable
   of None = tt

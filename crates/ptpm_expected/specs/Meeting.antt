@@ -39,7 +39,7 @@ is_met all v = list_any (λ w. meets w v) all
 -- ---- what a clock says of a member
 
 -- by the last answer, which counts
-abbrev pub last_says : Asked → List Received → Member → Option Said
+unfoldable pub last_says : Asked → List Received → Member → Option Said
 last_says id received m = option_and_then (λ last. answer_says id last.octets.items m) (last_of received)
 
 abbrev pub id_says : SiteAnswers → Source → Asked → Member → Option Said

@@ -48,6 +48,7 @@ fn is_met(wanted: &[Wanted], value: &MemberValue<'_>) -> bool
 }
 
 /// What the last of the answers to an id says of a member.
+#[tactic(auto, unfolding(crate::specs::Meeting::last_says))]
 fn last_value(asked: Asked, received: &[Received], member: Member) -> Option<MemberValue<'_>>
     ensures { option_map said result ≡ last_says asked received.now member }
 {
