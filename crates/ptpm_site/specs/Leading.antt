@@ -1,6 +1,7 @@
 -- What a clock that leads says of its time: `gm_holdover`, `gm_degraded`, `gm_free_running`, `not_traceable`, `utc_invalid`, `utc_offset`,
 -- `leap`; and `better_clock`.
-use Rattle.std.specs.Prelude.{ℕ, ℤ, ◌==◌, ◌&&◌, ◌||◌, Bool, false, not, nat_lt, Option, Some, None, if◌then◌else◌, option_and_then, find}
+use Rattle.std.specs.Prelude.{ℕ, ℤ, ◌==◌, ◌&&◌, ◌||◌, Bool, false, not, nat_lt, List, Option, Some, None, if◌then◌else◌, option_and_then, find}
+use Rattle.std.specs.List.{filter}
 use Rattle.std.specs.Option.{option_map, option_map_or}
 use Rattle.std.specs.Ordering.{int_eq}
 use Rattle.ptpm_site.specs.declared.data_sets.DefaultDataSet.{DefaultDataSet}
@@ -53,16 +54,22 @@ announced_leap t = if t.leap61 || t.leap59 then Some (record { leap61 = t.leap61
 
 -- ---- another clock that would be a better grandmaster
 
--- its clockClass is below 128, and below that of the clock that leads
-abbrev pub is_better_than : ℕ → DefaultDataSet → Bool
-is_better_than class d = not d.slave_only && nat_lt d.quality.class 128 && nat_lt d.quality.class class
+-- it may lead, and its clockClass is below 128
+abbrev pub may_lead : DefaultDataSet → Bool
+may_lead d = not d.slave_only && nat_lt d.quality.class 128
 
-abbrev pub stands_by : SiteAnswers → Source → ℕ → Source → Bool
-stands_by site s class other =
-    in_domain s.domain other && not (leads site other) && option_map_or (is_better_than class) (default_of site other) false
+abbrev pub stands_by : SiteAnswers → Source → Bool
+stands_by site s = option_map_or may_lead (default_of site s) false && not (leads site s)
+
+abbrev pub all_standing_by : SiteAnswers → List Source
+all_standing_by site = filter (stands_by site) site.clocks
+
+-- its clockClass is below that of the clock that leads
+abbrev pub is_better : SiteAnswers → Source → ℕ → Source → Bool
+is_better site s class other = in_domain s.domain other && option_map_or (λ d. nat_lt d.quality.class class) (default_of site other) false
 
 -- the first of these clocks
 abbrev pub better_clock : SiteAnswers → Source → DefaultDataSet → Option Better
 better_clock site s d = option_and_then (λ other. option_map
     (λ o. record { class = d.quality.class; clock = other.clock; quality = o.quality; priority1 = o.priority1 }) (default_of site other))
-    (find (stands_by site s d.quality.class) site.clocks)
+    (find (is_better site s d.quality.class) (all_standing_by site))

@@ -20,6 +20,7 @@ pub mod Grandmasters
 pub mod Growing
 pub mod Heard
 pub mod Ids
+pub mod Judging
 pub mod KeptAnswers
 pub mod KeptStatements
 pub mod Leading

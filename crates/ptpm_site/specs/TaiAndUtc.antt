@@ -1,7 +1,7 @@
 -- Clocks that take TAI and UTC for each other: `off_by_utc`. A TimeInterval is nanoseconds times 2^16 (IEEE 1588-2019, 5.3.2).
-use Rattle.std.specs.Prelude.{ℕ, ℤ, ◌+◌, ◌-◌, ◌*◌, ◌==◌, ◌&&◌, ◌||◌, Bool, true, false, not, nat_le, unsigned_abs, List, Option, Some, None, if◌then◌else◌, option_and_then}
+use Rattle.std.specs.Prelude.{ℕ, ℤ, ◌+◌, ◌-◌, ◌*◌, ◌==◌, ◌&&◌, ◌||◌, Bool, true, false, not, nat_le, unsigned_abs, List, Option, Some, None, if◌then◌else◌, option_and_then, is_some}
 use Rattle.std.specs.Int.{is_negative}
-use Rattle.std.specs.List.{count_by}
+use Rattle.std.specs.List.{count_by, filter}
 use Rattle.std.specs.Option.{option_map_or}
 use Rattle.ptpm_codec.specs.Identity.{same_clock}
 use Rattle.ptpm_codec.specs.declared.identity.ClockIdentity.{ClockIdentity}
@@ -43,21 +43,26 @@ is_off_by_utc site tai_utc s = option_map_or (λ _. true) (offset_by_utc site ta
 
 -- ---- a clock that leads, if all clocks that follow it take TAI and UTC for each other
 
--- another clock of the domain that names it, and has a port in SLAVE
-abbrev pub has_follower : SiteAnswers → Source → Source → Bool
-has_follower site s other =
-    in_domain s.domain other && not (same_clock s.clock other.clock)
-    && option_map_or (λ p. same_clock p.grandmaster s.clock) (parent_of site other) false && has_port_of site other groups.Slave
+-- a clock that follows another, and has a port in SLAVE
+abbrev pub is_follower : SiteAnswers → Source → Bool
+is_follower site s = is_some (followed site s) && has_port_of site s groups.Slave
 
-abbrev pub follows_well : SiteAnswers → ℤ → Source → Source → Bool
-follows_well site tai_utc s other = has_follower site s other && not (is_off_by_utc site tai_utc other)
+abbrev pub all_followers : SiteAnswers → List Source
+all_followers site = filter (is_follower site) site.clocks
+
+-- another clock of the domain names it as its grandmaster
+abbrev pub names : SiteAnswers → Source → Source → Bool
+names site s other = in_domain s.domain other && option_map_or (λ p. same_clock p.grandmaster s.clock) (parent_of site other) false
+
+abbrev pub names_well : SiteAnswers → ℤ → Source → Source → Bool
+names_well site tai_utc s other = names site s other && not (is_off_by_utc site tai_utc other)
 
 -- how many clocks follow, if they are two at least and none of them is right
 abbrev pub all_of : ℕ → ℕ → Option ℕ
 all_of count well = if nat_le 2 count && well == 0 then Some count else None
 
 unfoldable pub all_off : SiteAnswers → ℤ → Source → List Source → Option ℕ
-all_off site tai_utc s clocks = all_of (count_by (has_follower site s) clocks) (count_by (follows_well site tai_utc s) clocks)
+all_off site tai_utc s others = all_of (count_by (names site s) others) (count_by (names_well site tai_utc s) others)
 
 unfoldable pub followers_off : SiteAnswers → ℤ → Source → Option ℕ
-followers_off site tai_utc s = if leads site s then all_off site tai_utc s site.clocks else None
+followers_off site tai_utc s = if leads site s then all_off site tai_utc s (all_followers site) else None

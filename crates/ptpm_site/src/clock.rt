@@ -7,7 +7,6 @@ ghost use Rattle.std.specs.Option.{option_to_list};
 ghost use Rattle.std.specs.Ordering.{nat_cmp};
 ghost use Rattle.ptpm_site.specs.Answers.{answer_of_port, answer_to, current_said, default_said, last_of, named_grandmaster, newly_received, parent_said, place, place_number, port_number, port_said, refusal_in, state_said, time_said};
 ghost use Rattle.ptpm_site.specs.declared.asked.Asked.{Asked};
-ghost use Rattle.ptpm_site.specs.declared.asked.Asked.TheVariants as id;
 ghost use Rattle.ptpm_site.specs.KeptAnswers.{HasNoAnswers};
 ghost use Rattle.ptpm_site.specs.PortStates.{is_port_of};
 ghost use Rattle.ptpm_site.specs.Site.{answers_for, answers_of_port, answers_to_id, is_among};
@@ -162,36 +161,8 @@ impl Clock {
         answers_for(&self.ports, number)
     }
 
-    /// The last DEFAULT_DATA_SET that was answered, if there is one.
-    pub fn default(&self) -> Option<DefaultDataSet>
-        ensures { result ≡ option_and_then default_said (last_of (answers_to_id self.now id.DefaultDataSet)) }
-    {
-        self.answers_to(Asked::DefaultDataSet).last()?.default()
-    }
-
-    /// The last CURRENT_DATA_SET that was answered, if there is one.
-    pub fn current(&self) -> Option<CurrentDataSet>
-        ensures { result ≡ option_and_then current_said (last_of (answers_to_id self.now id.CurrentDataSet)) }
-    {
-        self.answers_to(Asked::CurrentDataSet).last()?.current()
-    }
-
-    /// The last PARENT_DATA_SET that was answered, if there is one.
-    pub fn parent(&self) -> Option<ParentDataSet>
-        ensures { result ≡ option_and_then parent_said (last_of (answers_to_id self.now id.ParentDataSet)) }
-    {
-        self.answers_to(Asked::ParentDataSet).last()?.parent()
-    }
-
-    /// The last TIME_PROPERTIES_DATA_SET that was answered, if there is one.
-    pub fn time(&self) -> Option<TimePropertiesDataSet>
-        ensures { result ≡ option_and_then time_said (last_of (answers_to_id self.now id.TimePropertiesDataSet)) }
-    {
-        self.answers_to(Asked::TimePropertiesDataSet).last()?.time()
-    }
-
     /// The last PORT_DATA_SET that was answered for a port, if there is one.
-    pub fn port(&self, number: u16) -> Option<PortDataSet>
+    fn port(&self, number: u16) -> Option<PortDataSet>
         ensures { result ≡ option_and_then port_said (last_of (answers_of_port self.now number)) }
     {
         self.port_answers(number).last()?.port()

@@ -26,13 +26,11 @@ impl Site {
 pub fn leading(alloc: Global, site: &Site, sources: &[Source]) -> Result<Vec<Source>, AllocError>
     ensures { IfOk result (λ found. found.items ≡ filter (leads (site_answers site.now)) sources.now) }
 {
-    let mut found = Vec::new(alloc);
-    for source in sources {
-        if site.leads(*source) {
-            found.push(*source)?;
-        }
-    }
-    Ok(found)
+    sources
+        .iter()
+        .copied()
+        .filter(|source| site.leads(*source))
+        .collect(alloc)
 }
 
 /// How many of these clocks a domain has.

@@ -3,14 +3,11 @@
 
 ghost use Rattle.std.specs.Prelude.{◌≡◌, ◌++◌, OnOk, IfOk, is_some, length, true};
 ghost use Rattle.std.specs.List.{flat_map};
-ghost use Rattle.std.specs.List.Sorted.{IsStrictlySortedBy};
-ghost use Rattle.ptpm_site.specs.Answers.{source_cmp};
-ghost use Rattle.ptpm_site.specs.Evidence.{IsOf};
 ghost use Rattle.ptpm_site.specs.Findings.{absent_reported, findings_of, found_above, found_at, found_here, found_of, leader_found, reported};
 ghost use Rattle.ptpm_site.specs.GrandmasterChanges.{grandmaster_changes};
 ghost use Rattle.ptpm_site.specs.Grandmasters.{leading_clocks};
+ghost use Rattle.ptpm_site.specs.Judging.{IsGiven};
 ghost use Rattle.ptpm_site.specs.Loops.{AreLeast, loop_of};
-ghost use Rattle.ptpm_site.specs.Reach.{IsReach};
 ghost use Rattle.ptpm_site.specs.Site.{site_answers};
 ghost use Rattle.ptpm_site.specs.TwoAddresses.{all_twins};
 
@@ -26,12 +23,14 @@ use crate::judging_leading::judge_leader;
 use crate::judging_loops::judge_loop;
 use crate::judging_ports::{judge_intervals, judge_locks, judge_ports};
 use crate::judging_unseen::{judge_gone, judge_unseen};
+use crate::leading::all_standing_by;
 use crate::limits::Limits;
 use crate::marks::is_marked;
 use crate::reach::Reach;
 use crate::site::Site;
 use crate::source::Source;
 use crate::subjects::subjects_of;
+use crate::tai_and_utc::all_followers;
 use crate::two_addresses::{Twins, all_twins};
 use std::alloc::{AllocError, Global};
 
@@ -53,6 +52,8 @@ pub fn findings_of<'a>(
     let changes = grandmaster_changes(alloc, site, sources.as_slice())?;
     let twins = all_twins(alloc, site.all_heard())?;
     let leading = leading(alloc, site, sources.as_slice())?;
+    let standing_by = all_standing_by(alloc, site, sources.as_slice())?;
+    let followers = all_followers(alloc, site, sources.as_slice())?;
     let given = Given {
         alloc,
         sources: sources.as_slice(),
@@ -61,6 +62,8 @@ pub fn findings_of<'a>(
         changes: changes.as_slice(),
         twins: twins.as_slice(),
         leading: leading.as_slice(),
+        standing_by: standing_by.as_slice(),
+        followers: followers.as_slice(),
         least,
         limits,
     };
@@ -85,6 +88,10 @@ struct Given<'a> {
     twins: &'a [Twins],
     /// The clocks that lead.
     leading: &'a [Source],
+    /// Those that may lead, are of a class below 128, and do not lead.
+    standing_by: &'a [Source],
+    /// Those that follow another, and have a port in SLAVE.
+    followers: &'a [Source],
     /// For each clock whether it is the least of a loop.
     least: &'a [bool],
     limits: Limits,
@@ -97,14 +104,7 @@ fn judge_all<'a>(
     given: &Given<'_>,
     findings: &mut Vec<Finding<'a>>,
 ) -> Result<(), AllocError>
-    requires leading { given.now.leading.now ≡ leading_clocks (site_answers site.now) }
-    requires sources { given.now.sources.now ≡ (site_answers site.now).clocks }
-    requires least { AreLeast (site_answers site.now) given.now.least.now }
-    requires of { IsOf (site_answers site.now).heard given.now.evidence.now }
-    requires reach { IsReach (site_answers site.now).heard given.now.reach.now }
-    requires changes { given.now.changes.now ≡ grandmaster_changes (site_answers site.now) }
-    requires twins { given.now.twins.now ≡ all_twins (site_answers site.now).heard }
-    requires ordered { IsStrictlySortedBy source_cmp given.now.sources.now }
+    requires { IsGiven (site_answers site.now) given.now }
     ensures { OnOk result (reported findings.new.items
         ≡ reported findings.old.items ++ flat_map (found_at (site_answers site.now) given.now.limits) subjects.now) }
 {
@@ -121,14 +121,7 @@ fn judge_one<'a>(
     given: &Given<'_>,
     findings: &mut Vec<Finding<'a>>,
 ) -> Result<(), AllocError>
-    requires leading { given.now.leading.now ≡ leading_clocks (site_answers site.now) }
-    requires sources { given.now.sources.now ≡ (site_answers site.now).clocks }
-    requires least { AreLeast (site_answers site.now) given.now.least.now }
-    requires of { IsOf (site_answers site.now).heard given.now.evidence.now }
-    requires reach { IsReach (site_answers site.now).heard given.now.reach.now }
-    requires changes { given.now.changes.now ≡ grandmaster_changes (site_answers site.now) }
-    requires twins { given.now.twins.now ≡ all_twins (site_answers site.now).heard }
-    requires ordered { IsStrictlySortedBy source_cmp given.now.sources.now }
+    requires { IsGiven (site_answers site.now) given.now }
     ensures { OnOk result (reported findings.new.items
         ≡ reported findings.old.items ++ found_at (site_answers site.now) given.now.limits subject) }
 {
@@ -147,9 +140,7 @@ fn judge_absent(
     given: &Given<'_>,
     findings: &mut Vec<Finding<'_>>,
 ) -> Result<(), AllocError>
-    requires sources { given.now.sources.now ≡ (site_answers site.now).clocks }
-    requires of { IsOf (site_answers site.now).heard given.now.evidence.now }
-    requires changes { given.now.changes.now ≡ grandmaster_changes (site_answers site.now) }
+    requires { IsGiven (site_answers site.now) given.now }
     ensures { OnOk result (reported findings.new.items
         ≡ reported findings.old.items ++ absent_reported (site_answers site.now) subject) }
 {
@@ -160,9 +151,7 @@ fn judge_absent(
 
 /// Whether a clock that is seen is the least of a loop.
 fn is_least(site: &Site, subject: Source, given: &Given<'_>) -> bool
-    requires sources { given.now.sources.now ≡ (site_answers site.now).clocks }
-    requires least { AreLeast (site_answers site.now) given.now.least.now }
-    requires ordered { IsStrictlySortedBy source_cmp given.now.sources.now }
+    requires { IsGiven (site_answers site.now) given.now }
     ensures { (site_answers site.now).seen subject ≡ true → result ≡ is_some (loop_of (site_answers site.now) subject) }
 {
     match place_among(given.sources, subject) {
@@ -179,13 +168,8 @@ fn judge<'a>(
     given: &Given<'_>,
     findings: &mut Vec<Finding<'a>>,
 ) -> Result<(), AllocError>
-    requires leading { given.now.leading.now ≡ leading_clocks (site_answers site.now) }
+    requires given { IsGiven (site_answers site.now) given.now }
     requires least { is_least ≡ is_some (loop_of (site_answers site.now) source) }
-    requires sources { given.now.sources.now ≡ (site_answers site.now).clocks }
-    requires of { IsOf (site_answers site.now).heard given.now.evidence.now }
-    requires reach { IsReach (site_answers site.now).heard given.now.reach.now }
-    requires changes { given.now.changes.now ≡ grandmaster_changes (site_answers site.now) }
-    requires twins { given.now.twins.now ≡ all_twins (site_answers site.now).heard }
     ensures { OnOk result (reported findings.new.items
         ≡ reported findings.old.items ++ found_of (site_answers site.now) given.now.limits source) }
 {
@@ -194,7 +178,7 @@ fn judge<'a>(
     let count = given.sources.len();
     judge_loop(given.alloc, site, source, is_least, count, findings)?;
     judge_here(site, source, ports.as_slice(), given, findings)?;
-    judge_leader(site, source, given.sources, given.limits, findings)?;
+    judge_leader(site, source, given.standing_by, given.limits, findings)?;
     judge_answers(
         given.alloc,
         site,
@@ -234,14 +218,13 @@ fn judge_here(
     findings: &mut Vec<Finding<'_>>,
 ) -> Result<(), AllocError>
     requires ports { ports.now ≡ (site_answers site.now).ports source }
-    requires sources { given.now.sources.now ≡ (site_answers site.now).clocks }
-    requires of { IsOf (site_answers site.now).heard given.now.evidence.now }
+    requires given { IsGiven (site_answers site.now) given.now }
     ensures { OnOk result (findings.new.items ≡ findings.old.items ++ found_here (site_answers site.now) given.now.limits source) }
 {
-    let (sources, limits) = (given.sources, given.limits);
+    let limits = given.limits;
     judge_ports(site, source, ports, limits, findings)?;
     judge_locks(site, source, ports, limits, findings)?;
-    judge_amounts(site, source, ports, sources, limits, findings)?;
+    judge_amounts(site, source, ports, given.followers, limits, findings)?;
     judge_utc(site, source, findings)?;
     judge_intervals(site, given.evidence, source, ports, findings)
 }

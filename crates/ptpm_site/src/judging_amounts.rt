@@ -5,6 +5,7 @@ ghost use Rattle.std.specs.List.{flat_map};
 ghost use Rattle.ptpm_site.specs.Amounts.{large_delay, large_offset};
 ghost use Rattle.ptpm_site.specs.Findings.{amounts_found, followers_found, found, found_each, link_delays_found, off_found, origin_found, utc_said};
 ghost use Rattle.ptpm_site.specs.Site.{site_answers};
+ghost use Rattle.ptpm_site.specs.TaiAndUtc.{all_followers};
 
 use crate::amounts::{large_delay, large_offset};
 use crate::comparing::{Compared, add_differences};
@@ -18,22 +19,22 @@ use crate::source::Source;
 use crate::tai_and_utc::{OffByUtc, followers_off, offset_by_utc};
 use std::alloc::AllocError;
 
-/// `off_by_utc`, `offset` and `delay`, for a clock with these ports. `sources` has all clocks.
+/// `off_by_utc`, `offset` and `delay`, for a clock with these ports. `followers` has all that follow another.
 #[tactic(auto, unfolding(crate::specs::Findings::amounts_found))]
 pub fn judge_amounts(
     site: &Site,
     source: Source,
     ports: &[u16],
-    sources: &[Source],
+    followers: &[Source],
     limits: Limits,
     findings: &mut Vec<Finding<'_>>,
 ) -> Result<(), AllocError>
     requires ports { ports.now ≡ (site_answers site.now).ports source }
-    requires sources { sources.now ≡ (site_answers site.now).clocks }
+    requires followers { followers.now ≡ all_followers (site_answers site.now) }
     ensures { OnOk result (findings.new.items ≡ findings.old.items ++ amounts_found (site_answers site.now) limits source) }
 {
     judge_off_by_utc(site, source, limits, findings)?;
-    judge_followers(site, source, sources, limits, findings)?;
+    judge_followers(site, source, followers, limits, findings)?;
     judge_origin(site, source, limits, findings)?;
     judge_offset(site, source, limits, findings)?;
     judge_delay(site, source, limits, findings)?;
@@ -74,14 +75,14 @@ fn judge_origin(
 fn judge_followers(
     site: &Site,
     source: Source,
-    sources: &[Source],
+    followers: &[Source],
     limits: Limits,
     findings: &mut Vec<Finding<'_>>,
 ) -> Result<(), AllocError>
-    requires { sources.now ≡ (site_answers site.now).clocks }
+    requires { followers.now ≡ all_followers (site_answers site.now) }
     ensures { OnOk result (findings.new.items ≡ findings.old.items ++ followers_found (site_answers site.now) limits source) }
 {
-    match followers_off(site, limits.tai_utc, source, sources) {
+    match followers_off(site, limits.tai_utc, source, followers) {
         Some(count) => add_finding(findings, source, What::OffByUtc(OffByUtc::Followers(count))),
         None => Ok(()),
     }

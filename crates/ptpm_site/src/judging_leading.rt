@@ -3,6 +3,7 @@
 ghost use Rattle.std.specs.Prelude.{◌≡◌, ◌++◌, OnOk};
 ghost use Rattle.std.specs.Option.{option_copied};
 ghost use Rattle.ptpm_site.specs.Findings.{better_found, class_found, leader_found, leap_found, offset_found, properties_found, quality_found, traceability_found, validity_found};
+ghost use Rattle.ptpm_site.specs.Leading.{all_standing_by};
 ghost use Rattle.ptpm_site.specs.Site.{site_answers};
 
 use crate::data_sets::{DefaultDataSet, TimePropertiesDataSet};
@@ -16,20 +17,20 @@ use crate::source::Source;
 use std::alloc::AllocError;
 
 /// `gm_holdover`, `gm_degraded`, `gm_free_running`, `not_traceable`, `utc_invalid`, `utc_offset`, `leap`, `better_clock`: all of a
-/// clock that leads. `sources` has all clocks.
+/// clock that leads. `others` has all clocks that stand by.
 #[tactic(auto, unfolding(crate::specs::Findings::leader_found))]
 pub fn judge_leader(
     site: &Site,
     source: Source,
-    sources: &[Source],
+    others: &[Source],
     limits: Limits,
     findings: &mut Vec<Finding<'_>>,
 ) -> Result<(), AllocError>
-    requires { sources.now ≡ (site_answers site.now).clocks }
+    requires { others.now ≡ all_standing_by (site_answers site.now) }
     ensures { OnOk result (findings.new.items ≡ findings.old.items ++ leader_found (site_answers site.now) limits source) }
 {
     if site.leads(source) {
-        judge_quality(site, source, sources, limits, findings)
+        judge_quality(site, source, others, limits, findings)
     } else {
         Ok(())
     }
@@ -39,11 +40,11 @@ pub fn judge_leader(
 fn judge_quality(
     site: &Site,
     source: Source,
-    sources: &[Source],
+    others: &[Source],
     limits: Limits,
     findings: &mut Vec<Finding<'_>>,
 ) -> Result<(), AllocError>
-    requires { sources.now ≡ (site_answers site.now).clocks }
+    requires { others.now ≡ all_standing_by (site_answers site.now) }
     ensures { OnOk result (findings.new.items ≡ findings.old.items ++ quality_found (site_answers site.now) limits source) }
 {
     let default = site.default(source);
@@ -51,7 +52,7 @@ fn judge_quality(
     if let Some(time) = site.time(source) {
         judge_properties(source, &default, &time, limits, findings)?;
     }
-    judge_better(site, source, &default, sources, findings)
+    judge_better(site, source, &default, others, findings)
 }
 
 /// `gm_holdover`, `gm_degraded` and `gm_free_running`.
@@ -154,16 +155,16 @@ fn judge_better(
     site: &Site,
     source: Source,
     default: &Option<DefaultDataSet>,
-    sources: &[Source],
+    others: &[Source],
     findings: &mut Vec<Finding<'_>>,
 ) -> Result<(), AllocError>
-    requires { sources.now ≡ (site_answers site.now).clocks }
+    requires { others.now ≡ all_standing_by (site_answers site.now) }
     ensures { OnOk result (findings.new.items ≡ findings.old.items ++ better_found (site_answers site.now) source default.now) }
 {
     let Some(default) = default else {
         return Ok(());
     };
-    match better_clock(site, source, default, sources) {
+    match better_clock(site, source, default, others) {
         Some(better) => add_finding(findings, source, What::BetterClock(better)),
         None => Ok(()),
     }

@@ -1,9 +1,9 @@
 //! What a clock that leads says of its time: its clockClass (7.6.2.5) and its TIME_PROPERTIES_DATA_SET (8.2.4). And a clock that
 //! would be a better grandmaster.
 
-ghost use Rattle.std.specs.Prelude.{◌≡◌, find};
+ghost use Rattle.std.specs.Prelude.{◌≡◌, IfOk, filter, find};
 ghost use Rattle.std.specs.Option.{option_copied};
-ghost use Rattle.ptpm_site.specs.Leading.{better_clock, degradation_of, without_source, has_source, invalid_offset, is_better_than, announced_leap, stands_by, not_traceable, wrong_offset};
+ghost use Rattle.ptpm_site.specs.Leading.{announced_leap, better_clock, all_standing_by, degradation_of, has_source, invalid_offset, is_better, may_lead, not_traceable, stands_by, without_source, wrong_offset};
 ghost use Rattle.ptpm_site.specs.Site.{site_answers};
 
 use crate::data_sets::{DefaultDataSet, TimePropertiesDataSet};
@@ -11,6 +11,7 @@ use crate::site::Site;
 use crate::source::Source;
 use ptpm_codec::ClockIdentity;
 use ptpm_members::ClockQuality;
+use std::alloc::{AllocError, Global};
 
 /// How far a clock is from a primary source of time, by its clockClass.
 #[derive(Clone, Copy)]
@@ -153,52 +154,77 @@ pub fn announced_leap(time: &TimePropertiesDataSet) -> Option<Leap>
     }
 }
 
-/// Whether a clock may lead, and is of a class below 128 and below this one.
-fn is_better_than(class: u8, default: &DefaultDataSet) -> bool
-    ensures { result ≡ is_better_than class default.now }
+/// Whether a clock may lead, and is of a class below 128.
+fn may_lead(default: &DefaultDataSet) -> bool
+    ensures { result ≡ may_lead default.now }
 {
-    !default.slave_only && default.quality.class < 128 && default.quality.class < class
+    !default.slave_only && default.quality.class < 128
 }
 
-/// Whether another clock of the domain does not lead, and is of a better class than the one that leads.
-fn stands_by(site: &Site, source: Source, class: u8, other: Source) -> bool
-    ensures { result ≡ stands_by (site_answers site.now) source class other }
+/// Whether a clock that may lead, of a class below 128, does not.
+fn stands_by(site: &Site, source: Source) -> bool
+    ensures { result ≡ stands_by (site_answers site.now) source }
 {
-    if source.domain != other.domain || site.leads(other) {
-        return false;
-    }
-    match site.default(other) {
-        Some(default) => is_better_than(class, &default),
+    match site.default(source) {
+        Some(default) => may_lead(&default) && !site.leads(source),
         None => false,
     }
 }
 
-/// The first of these clocks that does not lead, and is of a better class than the one that leads.
-fn first_that_stands_by<'a>(
+/// Those of all clocks that may lead, are of a class below 128, and do not lead.
+pub fn all_standing_by(
+    alloc: Global,
     site: &Site,
-    source: Source,
-    class: u8,
-    sources: &'a [Source],
-) -> Option<&'a Source>
-    ensures { option_copied result ≡ find (stands_by (site_answers site.now) source class) sources.now }
+    sources: &[Source],
+) -> Result<Vec<Source>, AllocError>
+    ensures { IfOk result (λ found. found.items ≡ filter (stands_by (site_answers site.now)) sources.now) }
 {
     sources
         .iter()
-        .find(|other| stands_by(site, source, class, **other))
+        .copied()
+        .filter(|source| stands_by(site, *source))
+        .collect(alloc)
 }
 
-/// A clock of a better class than the one that leads. `sources` has all clocks of the site.
+/// Whether another clock of the domain is of a better class.
+fn is_better(site: &Site, source: Source, class: u8, other: Source) -> bool
+    ensures { result ≡ is_better (site_answers site.now) source class other }
+{
+    if source.domain != other.domain {
+        return false;
+    }
+    match site.default(other) {
+        Some(default) => default.quality.class < class,
+        None => false,
+    }
+}
+
+/// The first of these clocks that is of a better class than the one that leads.
+fn first_better<'a>(
+    site: &Site,
+    source: Source,
+    class: u8,
+    others: &'a [Source],
+) -> Option<&'a Source>
+    ensures { option_copied result ≡ find (is_better (site_answers site.now) source class) others.now }
+{
+    others
+        .iter()
+        .find(|other| is_better(site, source, class, **other))
+}
+
+/// A clock of a better class than the one that leads. `others` has all clocks that stand by.
 pub fn better_clock(
     site: &Site,
     source: Source,
     default: &DefaultDataSet,
-    sources: &[Source],
+    others: &[Source],
 ) -> Option<Better>
-    requires { sources.now ≡ (site_answers site.now).clocks }
+    requires { others.now ≡ all_standing_by (site_answers site.now) }
     ensures { result ≡ better_clock (site_answers site.now) source default.now }
 {
     let class = default.quality.class;
-    let other = first_that_stands_by(site, source, class, sources)?;
+    let other = first_better(site, source, class, others)?;
     let better = site.default(*other)?;
     Some(Better {
         class,

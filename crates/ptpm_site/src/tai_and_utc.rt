@@ -1,15 +1,16 @@
 //! Clocks that take TAI and UTC for each other: they are off by as many whole seconds as TAI is before UTC.
 
-ghost use Rattle.std.specs.Prelude.{◌≡◌};
+ghost use Rattle.std.specs.Prelude.{◌≡◌, IfOk, filter};
 ghost use Rattle.std.specs.List.{count_by};
 ghost use Rattle.ptpm_site.specs.Site.{site_answers};
-ghost use Rattle.ptpm_site.specs.TaiAndUtc.{all_of, all_off, followers_off, follows_well, has_follower, is_about, is_about_utc, is_about_utc_of, is_off_by_utc, offset_by_utc, takes_utc_for_tai};
+ghost use Rattle.ptpm_site.specs.TaiAndUtc.{all_of, all_off, all_followers, followers_off, is_about, is_about_utc, is_about_utc_of, is_off_by_utc, names, names_well, offset_by_utc, is_follower, takes_utc_for_tai};
 
 use crate::origin::Origin;
 use crate::port_groups::PortGroup;
 use crate::site::Site;
 use crate::source::Source;
 use ptpm_codec::ClockIdentity;
+use std::alloc::{AllocError, Global};
 
 /// How it shows that TAI and UTC are taken for each other.
 #[derive(Clone, Copy)]
@@ -99,40 +100,58 @@ pub fn is_off_by_utc(site: &Site, tai_utc: i16, source: Source) -> bool
     offset_by_utc(site, tai_utc, source).is_some()
 }
 
-/// Whether another clock names this one as its grandmaster, and has a port in SLAVE.
-fn has_follower(site: &Site, source: Source, other: Source) -> bool
-    ensures { result ≡ has_follower (site_answers site.now) source other }
+/// Whether a clock follows another, and has a port in SLAVE.
+fn is_follower(site: &Site, source: Source) -> bool
+    ensures { result ≡ is_follower (site_answers site.now) source }
 {
-    if source.domain != other.domain || source.clock == other.clock {
+    site.followed(source).is_some() && site.has_port_of(source, PortGroup::Slave)
+}
+
+/// Those of all clocks that follow another, and have a port in SLAVE.
+pub fn all_followers(
+    alloc: Global,
+    site: &Site,
+    sources: &[Source],
+) -> Result<Vec<Source>, AllocError>
+    ensures { IfOk result (λ found. found.items ≡ filter (is_follower (site_answers site.now)) sources.now) }
+{
+    sources
+        .iter()
+        .copied()
+        .filter(|source| is_follower(site, *source))
+        .collect(alloc)
+}
+
+/// Whether another clock of the domain names this one as its grandmaster.
+fn names(site: &Site, source: Source, other: Source) -> bool
+    ensures { result ≡ names (site_answers site.now) source other }
+{
+    if source.domain != other.domain {
         return false;
     }
     match site.parent(other) {
-        Some(parent) => {
-            parent.grandmaster == source.clock && site.has_port_of(other, PortGroup::Slave)
-        }
+        Some(parent) => parent.grandmaster == source.clock,
         None => false,
     }
 }
 
-/// How many of these clocks follow a clock.
-fn count_followers(site: &Site, source: Source, sources: &[Source]) -> usize
-    ensures { result ≡ count_by (has_follower (site_answers site.now) source) sources.now }
+/// How many of these clocks name a clock.
+fn count_naming(site: &Site, source: Source, followers: &[Source]) -> usize
+    ensures { result ≡ count_by (names (site_answers site.now) source) followers.now }
 {
-    sources
+    followers
         .iter()
-        .filter(|other| has_follower(site, source, **other))
+        .filter(|other| names(site, source, **other))
         .count()
 }
 
-/// How many of these clocks follow a clock, and don't take TAI and UTC for each other.
-fn count_well(site: &Site, tai_utc: i16, source: Source, sources: &[Source]) -> usize
-    ensures { result ≡ count_by (follows_well (site_answers site.now) tai_utc source) sources.now }
+/// How many of these clocks name a clock, and don't take TAI and UTC for each other.
+fn count_well(site: &Site, tai_utc: i16, source: Source, followers: &[Source]) -> usize
+    ensures { result ≡ count_by (names_well (site_answers site.now) tai_utc source) followers.now }
 {
-    sources
+    followers
         .iter()
-        .filter(|other| {
-            has_follower(site, source, **other) && !is_off_by_utc(site, tai_utc, **other)
-        })
+        .filter(|other| names(site, source, **other) && !is_off_by_utc(site, tai_utc, **other))
         .count()
 }
 
@@ -147,23 +166,28 @@ fn all_of(count: usize, well: usize) -> Option<usize>
     }
 }
 
-/// How many of these clocks follow a clock, if they are two or more and each takes TAI and UTC for each other.
+/// How many of these clocks name a clock, if they are two or more and each takes TAI and UTC for each other.
 #[tactic(auto)]
-fn all_off(site: &Site, tai_utc: i16, source: Source, sources: &[Source]) -> Option<usize>
-    ensures { result ≡ all_off (site_answers site.now) tai_utc source sources.now }
+fn all_off(site: &Site, tai_utc: i16, source: Source, followers: &[Source]) -> Option<usize>
+    ensures { result ≡ all_off (site_answers site.now) tai_utc source followers.now }
 {
-    let count = count_followers(site, source, sources);
-    all_of(count, count_well(site, tai_utc, source, sources))
+    let count = count_naming(site, source, followers);
+    all_of(count, count_well(site, tai_utc, source, followers))
 }
 
-/// The same of a clock that leads. `sources` has all clocks of the site.
+/// The same of a clock that leads. `followers` has all clocks that follow another.
 #[tactic(auto, unfolding(crate::specs::TaiAndUtc::followers_off))]
-pub fn followers_off(site: &Site, tai_utc: i16, source: Source, sources: &[Source]) -> Option<usize>
-    requires { sources.now ≡ (site_answers site.now).clocks }
+pub fn followers_off(
+    site: &Site,
+    tai_utc: i16,
+    source: Source,
+    followers: &[Source],
+) -> Option<usize>
+    requires { followers.now ≡ all_followers (site_answers site.now) }
     ensures { result ≡ followers_off (site_answers site.now) tai_utc source }
 {
     if site.leads(source) {
-        all_off(site, tai_utc, source, sources)
+        all_off(site, tai_utc, source, followers)
     } else {
         None
     }

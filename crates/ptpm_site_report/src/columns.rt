@@ -2,8 +2,9 @@
 
 use crate::intervals::Whole;
 use ptpm_codec::ClockIdentity;
-use ptpm_site::clock::Clock;
 use ptpm_site::port_groups::PortGroup;
+use ptpm_site::site::Site;
+use ptpm_site::source::Source;
 use std::alloc::{AllocError, Global};
 use std::io::Write;
 use std::{fmt, io};
@@ -65,7 +66,8 @@ impl Columns {
     pub(crate) fn of(
         alloc: Global,
         name: Option<&str>,
-        clock: &Clock,
+        site: &Site,
+        source: Source,
     ) -> Result<Columns, AllocError> {
         let description = match name {
             Some(text) => format!(in alloc; "{text:?}")?,
@@ -74,10 +76,10 @@ impl Columns {
         let mut steps = String::from_str(alloc, "-")?;
         let mut offset = String::from_str(alloc, "-")?;
         let mut delay = String::from_str(alloc, "-")?;
-        if let Some(current) = clock.current() {
+        if let Some(current) = site.current(source) {
             steps = format!(in alloc; "{}", current.steps_removed)?;
             delay = format!(in alloc; "{} ns", Whole(current.mean_delay))?;
-            if clock.has_port_of(PortGroup::Slave) {
+            if site.has_port_of(source, PortGroup::Slave) {
                 offset = format!(in alloc; "{} ns", Whole(current.offset_from_master))?;
             }
         }

@@ -1,26 +1,27 @@
 //! What a clock that leads says of its time, in a line.
 
-use crate::trees::ClockRow;
 use ptpm_members::Enumeration;
 use ptpm_site::data_sets::TimePropertiesDataSet;
+use ptpm_site::site::Site;
+use ptpm_site::source::Source;
 use std::fmt;
 
 /// A clock that leads. What it did not say is left out.
 #[derive(Clone, Copy)]
-pub(crate) struct GrandmasterLine<'a>(pub(crate) &'a ClockRow<'a>);
+pub(crate) struct GrandmasterLine<'a>(pub(crate) &'a Site, pub(crate) Source);
 
 impl fmt::Display for GrandmasterLine<'_> {
     fn fmt<W: fmt::Write>(&self, f: &mut fmt::Formatter<W>) -> fmt::Result {
-        let row = self.0;
-        write!(f, "grandmaster {}", row.source.clock)?;
-        let default = row.clock.default();
+        let (site, source) = (self.0, self.1);
+        write!(f, "grandmaster {}", source.clock)?;
+        let default = site.default(source);
         let mut between = ":";
         if let Some(set) = default {
             let (class, accuracy) = (set.quality.class, set.quality.accuracy);
             write!(f, ": class {class}, accuracy 0x{accuracy:02x}")?;
             between = ",";
         }
-        if let Some(set) = row.clock.time() {
+        if let Some(set) = site.time(source) {
             f.write_str(between)?;
             write_time(&set, f)?;
         }

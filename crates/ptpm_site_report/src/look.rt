@@ -5,7 +5,6 @@ use crate::names::{Names, Quoted};
 use crate::phrases::clock_of;
 use crate::remarks::Remark;
 use crate::site_lines::LinesSaid;
-use ptpm_site::clock::Clock;
 use ptpm_site::finding::Finding;
 use ptpm_site::picture::Picture;
 use ptpm_site::source::Source;
@@ -33,10 +32,10 @@ pub(crate) struct Beside<'a> {
 
 impl Look<'_, '_> {
     /// What a person calls a clock: the name that an operator gave it, or else its description.
-    pub(crate) fn name_of<'c>(&'c self, source: Source, clock: &'c Clock) -> Option<&'c str> {
+    pub(crate) fn name_of(&self, source: Source) -> Option<&str> {
         match self.beside.names.get(source.clock) {
             Some(name) => Some(name),
-            None => clock.description(),
+            None => self.picture.site.description(source),
         }
     }
 

@@ -1,9 +1,10 @@
 //! The families of numbers that are said of clocks, ports and grandmasters.
 
 use crate::seconds::IntervalSeconds;
-use ptpm_site::clock::Clock;
 use ptpm_site::data_sets::{PortDataSet, TimePropertiesDataSet};
 use ptpm_site::port_groups::PortGroup;
+use ptpm_site::site::Site;
+use ptpm_site::source::Source;
 use std::io::Write;
 use std::{fmt, io};
 
@@ -79,22 +80,22 @@ impl OfClock {
     }
 
     /// The number of a clock, if it answered, and the number is not from an earlier time.
-    pub(crate) fn amount(self, clock: &Clock) -> Option<Amount> {
+    pub(crate) fn amount(self, site: &Site, source: Source) -> Option<Amount> {
         Some(match self {
-            OfClock::Offset if clock.has_port_of(PortGroup::Slave) => {
-                Amount::Interval(clock.current()?.offset_from_master)
+            OfClock::Offset if site.has_port_of(source, PortGroup::Slave) => {
+                Amount::Interval(site.current(source)?.offset_from_master)
             }
-            OfClock::Delay if clock.has_port_of(PortGroup::Slave) => {
-                Amount::Interval(clock.current()?.mean_delay)
+            OfClock::Delay if site.has_port_of(source, PortGroup::Slave) => {
+                Amount::Interval(site.current(source)?.mean_delay)
             }
             OfClock::Offset | OfClock::Delay => return None,
-            OfClock::Steps => Amount::Number(clock.current()?.steps_removed as i64),
-            OfClock::Class => Amount::Number(clock.default()?.quality.class as i64),
-            OfClock::Accuracy => Amount::Number(clock.default()?.quality.accuracy as i64),
-            OfClock::UtcOffsetValid => Amount::Number(clock.time()?.utc_valid as i64),
-            OfClock::TimeTraceable => Amount::Number(clock.time()?.time_traceable as i64),
-            OfClock::Leap => Amount::Number(leap_number(&clock.time()?)),
-            OfClock::UtcOffset => Amount::Number(clock.time()?.utc_offset as i64),
+            OfClock::Steps => Amount::Number(site.current(source)?.steps_removed as i64),
+            OfClock::Class => Amount::Number(site.default(source)?.quality.class as i64),
+            OfClock::Accuracy => Amount::Number(site.default(source)?.quality.accuracy as i64),
+            OfClock::UtcOffsetValid => Amount::Number(site.time(source)?.utc_valid as i64),
+            OfClock::TimeTraceable => Amount::Number(site.time(source)?.time_traceable as i64),
+            OfClock::Leap => Amount::Number(leap_number(&site.time(source)?)),
+            OfClock::UtcOffset => Amount::Number(site.time(source)?.utc_offset as i64),
         })
     }
 }

@@ -137,11 +137,11 @@ fn print_offset<O: Write>(
 /// The greatest amount of offsetFromMaster, a TimeInterval, of the clocks with a port in SLAVE.
 fn greatest_offset(picture: &Picture<'_>) -> Option<i64> {
     let mut greatest = None;
-    for clock in picture.site.clocks.values() {
-        if !clock.has_port_of(PortGroup::Slave) {
+    for source in picture.site.clocks.keys() {
+        if !picture.site.has_port_of(*source, PortGroup::Slave) {
             continue;
         }
-        if let Some(current) = clock.current() {
+        if let Some(current) = picture.site.current(*source) {
             let amount = current.offset_from_master.saturating_abs();
             greatest = match greatest {
                 Some(before) if amount <= before => Some(before),

@@ -9,9 +9,9 @@ use crate::seconds::NanosecondSeconds;
 use crate::span::Span;
 use ptpm_commands::Fault;
 use ptpm_members::{Enumeration, MemberValue};
-use ptpm_site::clock::Clock;
 use ptpm_site::domain::Domain;
 use ptpm_site::picture::Picture;
+use ptpm_site::site::Site;
 use ptpm_site::source::Source;
 use std::alloc::{AllocError, Global};
 use std::collections::BTreeSet;
@@ -197,23 +197,24 @@ fn print_clocks<O: Write>(look: &Look<'_, '_>, out: &mut O) -> io::Result<()> {
         "What a clock says of itself and of whom it follows.",
         out,
     )?;
-    for (source, clock) in look.picture.site.clocks.iter() {
+    let site = &look.picture.site;
+    for source in site.clocks.keys() {
         write!(out, "ptp_clock_info{{{}", OfSource(*source, Role::Clock))?;
-        if let Some(text) = clock.description() {
+        if let Some(text) = site.description(*source) {
             write!(out, ",description=\"{}\"", Label(text))?;
         }
         if let Some(name) = look.beside.names.get(source.clock) {
             write!(out, ",name=\"{}\"", Label(name))?;
         }
-        write_follows(clock, out)?;
+        write_follows(site, *source, out)?;
         writeln!(out, "}} 1")?;
     }
     Ok(())
 }
 
 /// Writes the labels that say whom a clock follows, and whether it may lead.
-fn write_follows<O: Write>(clock: &Clock, out: &mut O) -> io::Result<()> {
-    if let Some(set) = clock.parent() {
+fn write_follows<O: Write>(site: &Site, source: Source, out: &mut O) -> io::Result<()> {
+    if let Some(set) = site.parent(source) {
         let (parent, port) = (set.parent.clock, set.parent.port);
         let grandmaster = set.grandmaster;
         write!(
@@ -221,7 +222,7 @@ fn write_follows<O: Write>(clock: &Clock, out: &mut O) -> io::Result<()> {
             ",parent=\"{parent}\",parent_port=\"{port}\",grandmaster=\"{grandmaster}\""
         )?;
     }
-    match clock.default() {
+    match site.default(source) {
         Some(set) => write!(out, ",slave_only=\"{}\"", set.slave_only),
         None => Ok(()),
     }
@@ -236,11 +237,11 @@ fn print_of_clocks<O: Write>(
 ) -> io::Result<()> {
     let name = family.name();
     write_head(name, family.help(), out)?;
-    for (source, clock) in picture.site.clocks.iter() {
+    for source in picture.site.clocks.keys() {
         if matches!(role, Role::Grandmaster) && !picture.site.leads(*source) {
             continue;
         }
-        if let Some(amount) = family.amount(clock) {
+        if let Some(amount) = family.amount(&picture.site, *source) {
             writeln!(out, "{name}{{{}}} {amount}", OfSource(*source, role))?;
         }
     }
@@ -271,11 +272,11 @@ fn print_grandmasters<O: Write>(picture: &Picture<'_>, out: &mut O) -> io::Resul
         "Whom clocks follow, and where it has its time from.",
         out,
     )?;
-    for (source, clock) in picture.site.clocks.iter() {
+    for source in picture.site.clocks.keys() {
         if picture.site.leads(*source) {
             let labels = OfSource(*source, Role::Grandmaster);
             write!(out, "ptp_grandmaster_info{{{labels}")?;
-            write_time(clock, out)?;
+            write_time(&picture.site, *source, out)?;
             writeln!(out, "}} 1")?;
         }
     }
@@ -283,8 +284,8 @@ fn print_grandmasters<O: Write>(picture: &Picture<'_>, out: &mut O) -> io::Resul
 }
 
 /// Writes the labels that say what time a clock gives.
-fn write_time<O: Write>(clock: &Clock, out: &mut O) -> io::Result<()> {
-    let Some(set) = clock.time() else {
+fn write_time<O: Write>(site: &Site, source: Source, out: &mut O) -> io::Result<()> {
+    let Some(set) = site.time(source) else {
         return Ok(());
     };
     let timescale = if set.ptp_timescale { "PTP" } else { "ARB" };

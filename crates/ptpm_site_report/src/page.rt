@@ -205,7 +205,11 @@ fn print_tree<O: Write>(
     for row in tree.rows.as_slice() {
         if let Row::Clock(row) = row {
             if row.leads {
-                writeln!(out, "<p class=\"faint\">{}</p>", GrandmasterLine(row))?;
+                writeln!(
+                    out,
+                    "<p class=\"faint\">{}</p>",
+                    GrandmasterLine(&look.picture.site, row.source)
+                )?;
             }
         }
     }

@@ -43,7 +43,7 @@ fn print_tree<O: Write>(tree: &Tree<'_>, look: &Look<'_, '_>, out: &mut O) -> io
         if let Row::Clock(row) = row {
             widths.widen(indent(row), &row.columns);
             if row.leads {
-                writeln!(out, "  {}", GrandmasterLine(row))?;
+                writeln!(out, "  {}", GrandmasterLine(&look.picture.site, row.source))?;
             }
         }
     }

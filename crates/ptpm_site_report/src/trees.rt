@@ -163,7 +163,7 @@ fn clock_row<'a>(
     Ok(Some(ClockRow {
         source: *source,
         clock,
-        columns: Columns::of(alloc, look.name_of(*source, clock), clock)?,
+        columns: Columns::of(alloc, look.name_of(*source), &picture.site, *source)?,
         depth,
         is_cut: is_cut(picture, place, depth),
         leads: picture.site.leads(*source),
