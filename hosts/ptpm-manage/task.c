@@ -9,7 +9,9 @@
 #include "ptpm.h"
 #include "reading.h"
 #include "words.h"
+#include <errno.h>
 #include <getopt.h>
+#include <inttypes.h>
 #include <stdbool.h>
 #include <stdio.h>
 #include <stdlib.h>
@@ -170,9 +172,7 @@ enum { MOST_WORDS = 2 + MOST_FIELD_WORDS, MOST_FIELD = 1418, NOT_NAMED = -1 };
 /* What holds if no option says otherwise. A request to only one clock is repeated for two seconds. */
 enum { HOPS = 1, ATTEMPTS = 30, SITE_HOPS = 7, SITE_ATTEMPTS = 10, LISTENED = 4000, PLAN_DIGITS = 8 };
 
-enum { SECOND = 1000, MOST_SECONDS = 86400, MOST_TAI_UTC = 32767 };
-
-static const long long most_limit = 1000000000000000;        /* of an offset or a delay, in nanoseconds */
+enum { SECOND = 1000, MOST_SECONDS = 86400 };
 
 static const struct option options[] = {
     { "interface", required_argument, NULL, 'i' }, { "udp", required_argument, NULL, UDP }, { "ipv6", no_argument, NULL, '6' },
@@ -217,23 +217,15 @@ static long seconds(const char *option, const char *text, long least) {
     return found * SECOND;
 }
 
-/* A limit in nanoseconds, which goes to `ptpm site` as it is written. Of an offset it may be `none`: without it there is one. */
-static const char *limit(const char *option, const char *text, bool may_be_none) {
-    if (may_be_none && strcmp(text, "none") == 0) return text;
-    if (large_decimal(text, most_limit) >= 0) return text;
-    refuse("%s %s: it takes a number of nanoseconds from 0 to %lld%s", option, text, most_limit, may_be_none ? ", or none" : "");
-}
-
-/* How many seconds TAI is before UTC, which goes there too. */
-static const char *tai_utc(const char *option, const char *text) {
-    if (decimal(text, MOST_TAI_UTC) < 0) refuse("%s %s: it takes a number of seconds from 0 to %d", option, text, MOST_TAI_UTC);
-    return text;
-}
-
-/* How many seconds a port may take to lock, which goes there too. */
-static const char *settle(const char *option, const char *text) {
-    if (decimal(text, MOST_SECONDS) < 0) refuse("%s %s: it takes a number of seconds from 0 to %d", option, text, MOST_SECONDS);
-    return text;
+/* A whole number in the range that `ptpm site` takes, which gets it as it is written. A + may come before it, or a - if the range has
+   numbers below 0. */
+static const char *for_site(const char *option, const char *text, const char *what, long least, uint64_t most) {
+    const char *digits = text + (*text == '+' || (*text == '-' && least < 0));
+    bool is_number = *digits != '\0' && digits[strspn(digits, "0123456789")] == '\0';
+    errno = 0;
+    uint64_t amount = strtoull(digits, NULL, 10), limit = *text == '-' ? (uint64_t)-least : most;
+    if (is_number && errno == 0 && amount <= limit) return text;
+    refuse("%s %s: it takes %s from %ld to %" PRIu64, option, text, what, least, most);
 }
 
 /* An sdoId as it is written with 0x before it; -1 if it is none. */
@@ -264,16 +256,17 @@ static bool take_site_option(struct site_options *site, int option, const char *
         "--listen", "--sdo", "--draw", "--html", "--openmetrics", "--nagios", "--output", "--max-offset", "--max-delay", "--tai-utc",
         "--settle", "--profile", "--ignore", "--all", "--once", "--watch",
     };
+    static const char or_none[] = "none, or a number of nanoseconds";
     if (option < LISTEN || option > WATCH) return false;
     const char *name = names[option - LISTEN];
     switch ((enum site_option)option) {
     case LISTEN: site->listen = seconds(name, value, 0); break;
     case SDO: read_sdo(site, value); break;
     case WATCH: site->watch = seconds(name, value, 1); break;
-    case MAX_OFFSET: site->max_offset = limit(name, value, true); break;
-    case MAX_DELAY: site->max_delay = limit(name, value, false); break;
-    case TAI_UTC: site->tai_utc = tai_utc(name, value); break;
-    case SETTLE: site->settle = settle(name, value); break;
+    case MAX_OFFSET: site->max_offset = strcmp(value, "none") == 0 ? value : for_site(name, value, or_none, 0, UINT64_MAX); break;
+    case MAX_DELAY: site->max_delay = for_site(name, value, "a number of nanoseconds", 0, UINT64_MAX); break;
+    case TAI_UTC: site->tai_utc = for_site(name, value, "a number of seconds", INT16_MIN, INT16_MAX); break;
+    case SETTLE: site->settle = for_site(name, value, "a number of seconds", 0, UINT32_MAX); break;
     case PROFILE: site->profile = value; break;
     case IGNORE: site->ignored = value; break;
     case ALL: site->is_all = true; break;
