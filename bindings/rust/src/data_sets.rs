@@ -157,13 +157,17 @@ data_sets! {
         port_identity: PortIdentity,
         /// `None` for a number that the standard reserves.
         port_state: Option<PortState>,
+        /// The number of portState, even if it has no name.
+        port_state_number: u8,
         log_min_delay_req_interval: i8,
         mean_link_delay: TimeInterval,
         log_announce_interval: i8,
         announce_receipt_timeout: u8,
         log_sync_interval: i8,
-        /// `None` for a number that this profile lacks.
+        /// `None` for a number that the standard does not name.
         delay_mechanism: Option<DelayMechanism>,
+        /// The number of delayMechanism, even if it has no name.
+        delay_mechanism_number: u8,
         log_min_pdelay_req_interval: i8,
         version_number: u8,
     }
@@ -249,18 +253,24 @@ impl DataSet for PortDataSet {
 
     fn of(field: &[u8]) -> Option<Self> {
         let mut members = Members(field);
-        let data_set = Self {
-            port_identity: members.port_identity()?,
-            port_state: members.u8().map(PortState::of_number)?,
-            log_min_delay_req_interval: members.i8()?,
-            mean_link_delay: members.interval()?,
-            log_announce_interval: members.i8()?,
-            announce_receipt_timeout: members.u8()?,
-            log_sync_interval: members.i8()?,
-            delay_mechanism: members.u8().map(DelayMechanism::of_number)?,
-            log_min_pdelay_req_interval: members.i8()?,
-            version_number: members.u8()? & 0x0f,
-        };
-        members.whole(data_set)
+        let (port_identity, port_state_number) = (members.port_identity()?, members.u8()?);
+        let (log_min_delay_req_interval, mean_link_delay) = (members.i8()?, members.interval()?);
+        let (log_announce_interval, announce_receipt_timeout) = (members.i8()?, members.u8()?);
+        let (log_sync_interval, delay_mechanism_number) = (members.i8()?, members.u8()?);
+        let (log_min_pdelay_req_interval, version) = (members.i8()?, members.u8()?);
+        members.whole(Self {
+            port_identity,
+            port_state: PortState::of_number(port_state_number),
+            port_state_number,
+            log_min_delay_req_interval,
+            mean_link_delay,
+            log_announce_interval,
+            announce_receipt_timeout,
+            log_sync_interval,
+            delay_mechanism: DelayMechanism::of_number(delay_mechanism_number),
+            delay_mechanism_number,
+            log_min_pdelay_req_interval,
+            version_number: version & 0x0f,
+        })
     }
 }

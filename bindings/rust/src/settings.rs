@@ -42,14 +42,20 @@ impl PortState {
     }
 }
 
-/// A delayMechanism (table 21).
+/// A delayMechanism (table 21). A clock of this library has no [`CommonP2p`](Self::CommonP2p) and no [`Special`](Self::Special): a
+/// start with one is refused by [`Error::BadDelayMechanism`](crate::Error::BadDelayMechanism). Other clocks may answer them.
 #[derive(Clone, Copy, Debug, PartialEq, Eq, Hash)]
+#[non_exhaustive]
 #[repr(u8)]
 pub enum DelayMechanism {
     /// E2E: the delay request-response mechanism.
     EndToEnd = sys::PTPM_DELAY_E2E,
     /// P2P: the peer-to-peer delay mechanism.
     PeerToPeer = sys::PTPM_DELAY_P2P,
+    /// COMMON_P2P: that of the Common Mean Link Delay Service.
+    CommonP2p = 3,
+    /// SPECIAL: that of a Special Port.
+    Special = 4,
     /// NO_MECHANISM
     None = sys::PTPM_DELAY_NONE,
 }
@@ -60,6 +66,8 @@ impl DelayMechanism {
         Some(match number {
             sys::PTPM_DELAY_E2E => Self::EndToEnd,
             sys::PTPM_DELAY_P2P => Self::PeerToPeer,
+            3 => Self::CommonP2p,
+            4 => Self::Special,
             sys::PTPM_DELAY_NONE => Self::None,
             _ => return None,
         })

@@ -62,8 +62,41 @@ fn a_port_has_its_members() {
         (port.delay_mechanism, port.log_min_pdelay_req_interval, port.version_number),
         (Some(DelayMechanism::PeerToPeer), -2, 2)
     );
-    let reserved: PortDataSet = only("aabbccfffeddee01000200fd00000000000300000205fb03fe02");
-    assert_eq!((reserved.port_state, reserved.delay_mechanism), (None, None));
+}
+
+#[test]
+fn a_port_keeps_each_number() {
+    for number in 0..=u8::MAX {
+        let mut field = octets("aabbccfffeddee01000209fd00000000000300000205fb02fe02");
+        (field[10], field[23]) = (number, number);
+        let port = PortDataSet::of(&field).expect("it is a data set");
+        assert_eq!((port.port_state_number, port.delay_mechanism_number), (number, number));
+        assert_eq!(port.port_state.map(|state| state as u8), (1..=9).contains(&number).then_some(number));
+        let mechanism = match number {
+            1 => Some(DelayMechanism::EndToEnd),
+            2 => Some(DelayMechanism::PeerToPeer),
+            3 => Some(DelayMechanism::CommonP2p),
+            4 => Some(DelayMechanism::Special),
+            0xfe => Some(DelayMechanism::None),
+            _ => None,
+        };
+        assert_eq!(port.delay_mechanism, mechanism);
+        assert!(mechanism.is_none_or(|mechanism| mechanism as u8 == number));
+    }
+}
+
+#[test]
+fn a_clock_has_its_delay_mechanisms() {
+    let starts = |delay_mechanism| {
+        let port = PortSettings { delay_mechanism, ..PortSettings::new() };
+        Clock::start(&ClockSettings::new(CLOCK), &[port], &[])?.data_set(1).map(|found: PortDataSet| found.delay_mechanism)
+    };
+    for mechanism in [DelayMechanism::EndToEnd, DelayMechanism::PeerToPeer, DelayMechanism::None] {
+        assert_eq!(starts(mechanism), Ok(Some(mechanism)));
+    }
+    for mechanism in [DelayMechanism::CommonP2p, DelayMechanism::Special] {
+        assert_eq!(starts(mechanism), Err(Error::BadDelayMechanism));
+    }
 }
 
 #[test]
