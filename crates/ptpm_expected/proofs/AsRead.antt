@@ -12,13 +12,13 @@ use Rattle.byteorder.specs.Endian.{big_number, twos_complement}
 use Rattle.byteorder.specs.Numbers.{big_from-lt}
 use Rattle.ptpm_codec.specs.Layout.{clock_identity_at, number_at, octet, port_identity_at}
 use Rattle.ptpm_codec.specs.declared.identity.PortIdentity.{PortIdentity}
-use Rattle.ptpm_data.specs.ManagementId.{row_of}
-use Rattle.ptpm_data.specs.declared.management_id.Layout.TheVariants as layouts
+use Rattle.ptpm_data.specs.ManagementId.{RowValue, row_of}
 use Rattle.ptpm_data.specs.declared.members.Member.TheVariants as sets
 use Rattle.ptpm_data.specs.declared.port_setting.PortSetting.TheVariants as settings
 use Rattle.ptpm_data.specs.ImageReading.{i16_at, i64_at, i8_at}
 use Rattle.ptpm_data.specs.SetLaws.{AreOctets}
-use Rattle.ptpm_members.specs.FieldText.{members_in}
+use Rattle.ptpm_members.specs.FieldText.{members_by, members_in}
+use Rattle.ptpm_members.specs.OtherIds.{other_of}
 use Rattle.ptpm_members.specs.declared.forms.Field.{Field}
 use Rattle.ptpm_members.specs.declared.names.Member.{Member}
 use Rattle.ptpm_members.specs.declared.names.Member.TheVariants as members
@@ -111,26 +111,10 @@ of_read {A} P n octets r d read holds = by_test (length octets == n) refl read w
     some_same e = cc
   by_test false long h = cc
 
--- the members of a dataField are those of its table
-default_fields : (octets : List ℕ) → (length octets == 20) ≡ true → members_in (number_of id.DefaultDataSet) octets ≡ fields_of layouts.DefaultDataSet
-unfolding members_in is_whole row_of
-default_fields octets long = ap (λ b. cond b (fields_of layouts.DefaultDataSet) []) long
-
-current_fields : (octets : List ℕ) → (length octets == 18) ≡ true → members_in (number_of id.CurrentDataSet) octets ≡ fields_of layouts.CurrentDataSet
-unfolding members_in is_whole row_of
-current_fields octets long = ap (λ b. cond b (fields_of layouts.CurrentDataSet) []) long
-
-parent_fields : (octets : List ℕ) → (length octets == 32) ≡ true → members_in (number_of id.ParentDataSet) octets ≡ fields_of layouts.ParentDataSet
-unfolding members_in is_whole row_of
-parent_fields octets long = ap (λ b. cond b (fields_of layouts.ParentDataSet) []) long
-
-time_fields : (octets : List ℕ) → (length octets == 4) ≡ true → members_in (number_of id.TimePropertiesDataSet) octets ≡ fields_of layouts.TimePropertiesDataSet
-unfolding members_in is_whole row_of
-time_fields octets long = ap (λ b. cond b (fields_of layouts.TimePropertiesDataSet) []) long
-
-port_fields : (octets : List ℕ) → (length octets == 26) ≡ true → members_in (number_of id.PortDataSet) octets ≡ fields_of layouts.PortDataSet
-unfolding members_in is_whole row_of
-port_fields octets long = ap (λ b. cond b (fields_of layouts.PortDataSet) []) long
+-- the members of a dataField that is whole are those of its row
+of_row : (id : ℕ) (row : RowValue) (octets : List ℕ) → row_of id ≡ Some row → is_whole row.layout octets ≡ true → members_in id octets ≡ fields_of row.layout
+unfolding members_in
+of_row id row octets is whole = ap (λ r. members_by r (other_of id) octets) is ∙ ap (λ b. cond b (fields_of row.layout) []) whole
 
 infixr 20 ◌and◌
 ◌and◌ : {A B : Type 0} → A → B → A × B
@@ -146,12 +130,12 @@ module _ (asked : Asked) (octets : List ℕ) (fields : List Field) (are : member
 
 pub default_as_read : (octets : List ℕ) (d : DefaultDataSet) → AreOctets octets → default_read octets ≡ Some d
     → All (IsSaid id.DefaultDataSet octets) (default_values d)
-unfolding default_read quality_at number_at
+unfolding default_read quality_at number_at row_of is_whole
 default_as_read octets d small read =
     let o = octets in
     All-from_recursion (IsSaid id.DefaultDataSet octets) (default_values d)
     (of_read (λ e. AllByRecursion (IsSaid id.DefaultDataSet octets) (default_values e)) 20 octets _ d read (λ long.
-    let says = said id.DefaultDataSet octets _ (default_fields octets long) in
+    let says = said id.DefaultDataSet octets _ (of_row _ _ octets refl long) in
     says members.SlaveOnly _ (flag o small 0 1)
     and says members.NumberPorts _ refl
     and says (members.DataSet sets.Priority1) _ (number o small 4)
@@ -164,11 +148,11 @@ default_as_read octets d small read =
 
 pub current_as_read : (octets : List ℕ) (d : CurrentDataSet) → AreOctets octets → current_read octets ≡ Some d
     → All (IsSaid id.CurrentDataSet octets) (current_values d)
-unfolding current_read number_at
+unfolding current_read number_at row_of is_whole
 current_as_read octets d small read =
     All-from_recursion (IsSaid id.CurrentDataSet octets) (current_values d)
     (of_read (λ e. AllByRecursion (IsSaid id.CurrentDataSet octets) (current_values e)) 18 octets _ d read (λ long.
-    let says = said id.CurrentDataSet octets _ (current_fields octets long) in
+    let says = said id.CurrentDataSet octets _ (of_row _ _ octets refl long) in
     says (members.DataSet sets.StepsRemoved) _ refl
     and says (members.DataSet sets.OffsetFromMaster) _ (interval octets small 2)
     and says (members.DataSet sets.MeanPathDelay) _ (interval octets small 10)
@@ -176,12 +160,12 @@ current_as_read octets d small read =
 
 pub parent_as_read : (octets : List ℕ) (d : ParentDataSet) → AreOctets octets → parent_read octets ≡ Some d
     → All (IsSaid id.ParentDataSet octets) (parent_values d)
-unfolding parent_read quality_at number_at clock_identity_at port_identity_at
+unfolding parent_read quality_at number_at clock_identity_at port_identity_at row_of is_whole
 parent_as_read octets d small read =
     let o = octets in
     All-from_recursion (IsSaid id.ParentDataSet octets) (parent_values d)
     (of_read (λ e. AllByRecursion (IsSaid id.ParentDataSet octets) (parent_values e)) 32 octets _ d read (λ long.
-    let says = said id.ParentDataSet octets _ (parent_fields octets long) in
+    let says = said id.ParentDataSet octets _ (of_row _ _ octets refl long) in
     says (members.DataSet sets.ParentPort) _ refl
     and says (members.DataSet sets.GrandmasterPriority1) _ (number o small 18)
     and says (members.DataSet sets.GrandmasterClass) _ (number o small 19)
@@ -193,12 +177,12 @@ parent_as_read octets d small read =
 
 pub time_as_read : (octets : List ℕ) (d : TimePropertiesDataSet) → AreOctets octets → time_read octets ≡ Some d
     → All (IsSaid id.TimePropertiesDataSet octets) (time_values d)
-unfolding time_read
+unfolding time_read row_of is_whole
 time_as_read octets d small read =
     let o = octets in
     All-from_recursion (IsSaid id.TimePropertiesDataSet octets) (time_values d)
     (of_read (λ e. AllByRecursion (IsSaid id.TimePropertiesDataSet octets) (time_values e)) 4 octets _ d read (λ long.
-    let says = said id.TimePropertiesDataSet octets _ (time_fields octets long) in
+    let says = said id.TimePropertiesDataSet octets _ (of_row _ _ octets refl long) in
     says (members.DataSet sets.UtcOffset) _ (signed_2 o small 0)
     and says (members.DataSet sets.Leap61) _ (flag o small 2 0)
     and says (members.DataSet sets.Leap59) _ (flag o small 2 1)
@@ -211,12 +195,12 @@ time_as_read octets d small read =
 
 pub port_as_read : (octets : List ℕ) (p : PortIdentity × PortDataSet) → AreOctets octets → port_read octets ≡ Some p
     → All (IsSaid id.PortDataSet octets) (port_values p)
-unfolding port_read number_at clock_identity_at port_identity_at
+unfolding port_read number_at clock_identity_at port_identity_at row_of is_whole
 port_as_read octets p small read =
     let o = octets in
     All-from_recursion (IsSaid id.PortDataSet octets) (port_values p)
     (of_read (λ e. AllByRecursion (IsSaid id.PortDataSet octets) (port_values e)) 26 octets _ p read (λ long.
-    let says = said id.PortDataSet octets _ (port_fields octets long) in
+    let says = said id.PortDataSet octets _ (of_row _ _ octets refl long) in
     says members.PortIdentity _ refl
     and says (members.DataSet sets.State) _ (named o small enumerations.PortState 10)
     and says (members.DataSet sets.LogMinDelayReq) _ (signed_1 o small 11)
