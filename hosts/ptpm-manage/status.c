@@ -20,6 +20,7 @@
 #include <stdbool.h>
 #include <stdlib.h>
 #include <string.h>
+#include <sys/stat.h>
 #include <time.h>
 #include <unistd.h>
 
@@ -120,6 +121,20 @@ static struct site_options as_looked_at(const struct task *task) {
     struct site_options options = task->site;
     options.is_without_changes = !is_watching;
     return options;
+}
+
+/* Ends the program if `ptpm site` refuses its options. It takes them over no lines here, and what it prints is dropped. The inventory is
+   read at each look: of a pipe a later one would have nothing, and find nothing. */
+static void try_options(const struct task *task) {
+    struct site_options options = as_looked_at(task);
+    struct report dropped;
+    struct stat found;
+    if (options.inventory != NULL && stat(options.inventory, &found) == 0 && !S_ISREG(found.st_mode)) {
+        refuse("--expect %s: it is read at each look, so it has to be a file, and no pipe", options.inventory);
+    }
+    int status = run_site_program(&options, AS_TEXT, NULL, 0, &dropped);
+    free_report(&dropped);
+    if (status == NOT_ASKED) refuse("nothing was asked: ptpm site refuses these options");
 }
 
 /* Collects, and has it shown after the lines of an earlier look, if there is one; the status. */
@@ -352,6 +367,7 @@ int show_status(const struct task *task) {
     struct domains domains;
     find_ptpm_program();
     if (task->site.output != NULL) find_output_file(task->site.output);
+    try_options(task);
     widen_transport();
     find_domains(&domains, task);
     look_until_decided(&look, task, &domains);
