@@ -6,6 +6,7 @@ use crate::printable::Printable;
 use crate::remarks::Remark;
 use crate::seconds::whole_seconds;
 use crate::trees::Clocks;
+use ptpm_codec::PortIdentity;
 use ptpm_data::PortState;
 use ptpm_members::{Enumeration, MemberValue, state_name};
 use ptpm_site::announcing::Seldom;
@@ -14,11 +15,15 @@ use ptpm_site::completeness::Missing;
 use ptpm_site::differences::Differs;
 use ptpm_site::expected::{OtherLeaders, Outside, Unmet};
 use ptpm_site::finding::What;
+use ptpm_site::grandmaster_changes::GrandmasterChange;
 use ptpm_site::grandmasters::Masterless;
 use ptpm_site::heard::kind_name;
-use ptpm_site::leading::{Better, Untraceable};
+use ptpm_site::leading::{Better, Untraceable, WrongOffset};
 use ptpm_site::parents::{NoMaster, Steps};
+use ptpm_site::staying::Unlocked;
 use ptpm_site::tai_and_utc::OffByUtc;
+use ptpm_site::two_addresses::TwoAddresses;
+use ptpm_site::two_offsets::TwoOffsets;
 use ptpm_site::unseen::Absence;
 use std::fmt;
 
@@ -55,45 +60,31 @@ impl fmt::Display for Said<'_> {
             What::NoMaster(why) => write_masterless(why, f),
             What::GrandmasterNotSeen(clock) => write!(f, " {clock}"),
             What::ParentNotSeen(parent) => write!(f, " {parent}"),
-            What::ParentNotMaster(parent, NoMaster::NoPort) => {
-                write!(f, " {parent}, which that clock lacks")
-            }
-            What::ParentNotMaster(parent, NoMaster::InState(state)) => {
-                let state = MemberValue::Named(Enumeration::PortState, *state);
-                write!(f, " {parent}, which is in {state}")
-            }
+            What::ParentNotMaster(parent, why) => write_not_master(*parent, why, f),
             What::Steps(steps) => write_steps(steps, f),
             What::GrandmasterDiffers(differs) | What::Utc(differs) => write_differs(differs, f),
             What::Loop(clocks) => write!(f, " {}", Phrase::Clocks(clocks.as_slice())),
             What::PortState(port, stay) => write_state(*port, stay.state, stay.time, f),
-            What::NotLocked(port, unlocked) => {
-                write_state(*port, PortState::Uncalibrated, unlocked.time, f)?;
-                match unlocked.offset {
-                    Some(offset) => write!(f, ", offset {} ns", Whole(offset)),
-                    None => Ok(()),
-                }
-            }
+            What::NotLocked(port, unlocked) => write_unlocked(*port, unlocked, f),
             What::OffByUtc(how) => write_off_by_utc(how, f),
-            What::Offset(offset) => write!(f, " offsetFromMaster {} ns", Exact(*offset)),
-            What::Delay(delay) => write!(f, " meanDelay {} ns", Exact(*delay)),
+            What::Offset(offset) => write_interval("offsetFromMaster", *offset, f),
+            What::Delay(delay) => write_interval("meanDelay", *delay, f),
             What::LinkDelay(port, delay) => {
-                write!(f, " port {port} meanLinkDelay {} ns", Exact(*delay))
+                write_port(Some(*port), f)?;
+                write_interval("meanLinkDelay", *delay, f)
             }
             What::Intervals(port, differs) => {
-                write!(f, " port {port}")?;
+                write_port(Some(*port), f)?;
                 write_differs(differs, f)
             }
             What::Announces(port, seldom) => write_seldom(*port, seldom, f),
             What::Degraded(degraded) => write!(f, " {}", MemberValue::Quality(degraded.quality)),
             What::NotTraceable(untraceable) => write_untraceable(untraceable, f),
             What::UtcInvalid(offset) => write!(f, " currentUtcOffset {offset} is not valid"),
-            What::UtcOffset(offset) => {
-                let (said, is) = (offset.said, offset.is);
-                write!(f, " currentUtcOffset {said}, and TAI is {is} s before UTC")
-            }
+            What::UtcOffset(offset) => write_utc_offset(offset, f),
             What::Leap(leap) => {
-                let name = if leap.leap61 { "leap61" } else { "leap59" };
-                write!(f, " {name} at the end of this day in UTC")
+                f.write_str(if leap.leap61 { " leap61" } else { " leap59" })?;
+                f.write_str(" at the end of this day in UTC")
             }
             What::BetterClock(better) => write_better(better, f),
             What::Incomplete(missing) => write_missing(missing, f),
@@ -101,20 +92,11 @@ impl fmt::Display for Said<'_> {
                 f,
                 " the last of {hops} boundary hops: clocks behind it are not asked"
             ),
-            What::GrandmasterChanged(change) => {
-                let (before, after, clocks) = (change.before, change.after, Clocks(change.clocks));
-                write!(f, " {before}, then {after}; {clocks}")
-            }
+            What::GrandmasterChanged(change) => write_grandmaster_change(change, f),
             What::Changed(port, change) => write_change(*port, change, "then", f),
             What::IdentityTwice(port, change) => write_change(*port, change, "and", f),
-            What::TwoAddresses(two) => {
-                let (first, second) = (Printable(two.first.text), Printable(two.second.text));
-                write!(f, " answers come from {first} and {second}")
-            }
-            What::TwoOffsets(offsets) => {
-                let (first, second) = (Whole(offsets.first), Whole(offsets.second));
-                write!(f, " two offsets in one look: {first} ns and {second} ns")
-            }
+            What::TwoAddresses(two) => write_addresses(two, f),
+            What::TwoOffsets(offsets) => write_offsets(offsets, f),
         }
     }
 }
@@ -175,6 +157,20 @@ fn write_missing<W: fmt::Write>(missing: &Missing, f: &mut fmt::Formatter<W>) ->
     Ok(())
 }
 
+fn write_not_master<W: fmt::Write>(
+    parent: PortIdentity,
+    why: &NoMaster,
+    f: &mut fmt::Formatter<W>,
+) -> fmt::Result {
+    match why {
+        NoMaster::NoPort => write!(f, " {parent}, which that clock lacks"),
+        NoMaster::InState(state) => {
+            let state = MemberValue::Named(Enumeration::PortState, *state);
+            write!(f, " {parent}, which is in {state}")
+        }
+    }
+}
+
 fn write_masterless<W: fmt::Write>(why: &Masterless, f: &mut fmt::Formatter<W>) -> fmt::Result {
     match why {
         Masterless::SlaveOnly => f.write_str(" slaveOnly, and its own grandmaster"),
@@ -226,6 +222,27 @@ fn write_state<W: fmt::Write>(
     }
 }
 
+fn write_unlocked<W: fmt::Write>(
+    port: u16,
+    unlocked: &Unlocked,
+    f: &mut fmt::Formatter<W>,
+) -> fmt::Result {
+    write_state(port, PortState::Uncalibrated, unlocked.time, f)?;
+    match unlocked.offset {
+        Some(offset) => write!(f, ", offset {} ns", Whole(offset)),
+        None => Ok(()),
+    }
+}
+
+/// A TimeInterval in nanoseconds, after the name of its member.
+fn write_interval<W: fmt::Write>(
+    name: &str,
+    interval: i64,
+    f: &mut fmt::Formatter<W>,
+) -> fmt::Result {
+    write!(f, " {name} {} ns", Exact(interval))
+}
+
 fn write_off_by_utc<W: fmt::Write>(how: &OffByUtc, f: &mut fmt::Formatter<W>) -> fmt::Result {
     match how {
         OffByUtc::Offset(offset) => {
@@ -254,6 +271,32 @@ fn write_untraceable<W: fmt::Write>(
         f,
         " class {class}, timeTraceable {time}, frequencyTraceable {frequency}"
     )
+}
+
+fn write_utc_offset<W: fmt::Write>(offset: &WrongOffset, f: &mut fmt::Formatter<W>) -> fmt::Result {
+    let WrongOffset { said, is } = offset;
+    write!(f, " currentUtcOffset {said}, and TAI is {is} s before UTC")
+}
+
+fn write_grandmaster_change<W: fmt::Write>(
+    change: &GrandmasterChange,
+    f: &mut fmt::Formatter<W>,
+) -> fmt::Result {
+    let (before, after, clocks) = (change.before, change.after, Clocks(change.clocks));
+    write!(f, " {before}, then {after}; {clocks}")
+}
+
+fn write_addresses<W: fmt::Write>(
+    two: &TwoAddresses<'_>,
+    f: &mut fmt::Formatter<W>,
+) -> fmt::Result {
+    let (first, second) = (Printable(two.first.text), Printable(two.second.text));
+    write!(f, " answers come from {first} and {second}")
+}
+
+fn write_offsets<W: fmt::Write>(offsets: &TwoOffsets, f: &mut fmt::Formatter<W>) -> fmt::Result {
+    let (first, second) = (Whole(offsets.first), Whole(offsets.second));
+    write!(f, " two offsets in one look: {first} ns and {second} ns")
 }
 
 fn write_better<W: fmt::Write>(better: &Better, f: &mut fmt::Formatter<W>) -> fmt::Result {

@@ -161,11 +161,18 @@ fn drawn_at(
     source: Source,
 ) -> Result<Vec<DrawnRemark>, AllocError> {
     let mut all = Vec::new(alloc);
-    for remark in remarks_at(look.found.as_slice(), source) {
-        all.push(drawn(alloc, remark)?)?;
-    }
-    for remark in remarks_at(look.open.as_slice(), source) {
-        all.push(drawn(alloc, remark)?)?;
-    }
+    add_drawn(alloc, remarks_at(look.found.as_slice(), source), &mut all)?;
+    add_drawn(alloc, remarks_at(look.open.as_slice(), source), &mut all)?;
     Ok(all)
+}
+
+fn add_drawn(
+    alloc: Global,
+    remarks: &[Remark<'_>],
+    all: &mut Vec<DrawnRemark>,
+) -> Result<(), AllocError> {
+    for remark in remarks {
+        all.push(drawn(alloc, remark)?)?;
+    }
+    Ok(())
 }

@@ -35,7 +35,7 @@ impl Look<'_, '_> {
     pub(crate) fn name_of(&self, source: Source) -> Option<&str> {
         match self.beside.names.get(source.clock) {
             Some(name) => Some(name),
-            None => self.picture.site.description(source),
+            None => self.described(source),
         }
     }
 
@@ -62,9 +62,15 @@ impl Look<'_, '_> {
         }
     }
 
+    /// The userDescription of a clock, if it answered one.
+    fn described(&self, source: Source) -> Option<&str> {
+        let text = self.picture.site.description(source)?;
+        Some(text)
+    }
+
     /// The userDescription of a clock, if it answered one that is not empty.
     fn description(&self, source: Source) -> Option<&str> {
-        let text = self.picture.site.description(source)?;
+        let text = self.described(source)?;
         if text.is_empty() { None } else { Some(text) }
     }
 

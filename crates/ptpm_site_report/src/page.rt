@@ -254,12 +254,8 @@ fn print_clock<O: Write>(
         "<tr class=\"found\"><td colspan=\"6\" style=\"padding-left: {}rem\">",
         Shift(row.depth)
     )?;
-    for remark in found {
-        print_remark(alloc, remark, out)?;
-    }
-    for remark in open {
-        print_remark(alloc, remark, out)?;
-    }
+    print_remarks(alloc, found, out)?;
+    print_remarks(alloc, open, out)?;
     writeln!(out, "</td></tr>")?;
     Ok(())
 }
@@ -289,6 +285,17 @@ impl fmt::Display for Shift {
         let tenths = 6u64 + 15 * self.0 as u64;
         write!(f, "{}.{}", tenths / 10, tenths % 10)
     }
+}
+
+fn print_remarks<O: Write>(
+    alloc: Global,
+    remarks: &[Remark<'_>],
+    out: &mut O,
+) -> Result<(), Fault> {
+    for remark in remarks {
+        print_remark(alloc, remark, out)?;
+    }
+    Ok(())
 }
 
 fn print_remark<O: Write>(alloc: Global, remark: &Remark<'_>, out: &mut O) -> Result<(), Fault> {
