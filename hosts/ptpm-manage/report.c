@@ -99,6 +99,16 @@ static void read_followers(struct finding *finding) {
     finding->rest = (struct piece){ description, (size_t)(end - description) };
 }
 
+/* A domain is `4` or `4@0x100`. */
+static void read_own_line(struct finding *finding) {
+    struct line *line = &finding->line;
+    char *end;
+    line->number = strtoul(finding->key[DOMAIN_PART].at, &end, 10);
+    if (*end == '@') line->sdo = strtoul(end + 1, NULL, 16);
+    line->clock = finding->key[CLOCK_PART];
+    line->name = finding->key[NAME_PART];
+}
+
 static bool read_line(struct finding *finding, const char *at, const char *end) {
     const char *next = at;
     if (at == end || !isdigit((unsigned char)*at)) return false;
@@ -111,6 +121,7 @@ static bool read_line(struct finding *finding, const char *at, const char *end) 
         if (part + 1 < TEXT_PARTS && *next++ != ' ') return false;
     }
     finding->key[SDO_PART] = (struct piece){ next, 0 };
+    read_own_line(finding);
     read_followers(finding);
     return true;
 }
@@ -194,6 +205,19 @@ static bool find_member(struct piece *member, const char *at, const char *end, c
     return false;
 }
 
+/* What follows from another finding has its line. A grandmaster that is not seen has one line, however many clocks name it. */
+static void find_line(struct finding *finding, const char *at, const char *end, const struct piece *cause) {
+    struct line *line = &finding->line;
+    line->number = strtoul(finding->key[DOMAIN_PART].at, NULL, 10);
+    if (finding->key[SDO_PART].size > 0) line->sdo = strtoul(finding->key[SDO_PART].at, NULL, 10);
+    line->clock = finding->key[CLOCK_PART];
+    line->name = finding->key[NAME_PART];
+    if (finding->has_cause) {
+        find_member(&line->clock, cause->at, cause->at + cause->size, "clockIdentity");
+        find_member(&line->name, cause->at, cause->at + cause->size, "finding");
+    } else if (is_piece(&line->name, "grandmaster_not_seen")) find_member(&line->clock, at, end, "grandmasterIdentity");
+}
+
 static bool read_object(struct finding *finding, const char *at, const char *end) {
     static const char *const names[TEXT_PARTS] = { "domainNumber", "clockIdentity", "finding" };
     struct piece cause;
@@ -205,6 +229,7 @@ static bool read_object(struct finding *finding, const char *at, const char *end
         if (!find_member(&finding->key[part], at, end, names[part])) return false;
     }
     if (!find_member(&finding->key[SDO_PART], at, end, "sdoId")) finding->key[SDO_PART] = (struct piece){ end, 0 };
+    find_line(finding, at, end, &cause);
     return true;
 }
 
@@ -278,6 +303,14 @@ static int by_kind(const void *one, const void *other) {
     const struct finding *first = *(const struct finding *const *)one, *second = *(const struct finding *const *)other;
     int order = by_key(one, other);
     return order != 0 ? order : has_two_offsets(first) - has_two_offsets(second);
+}
+
+static int by_line(const void *one, const void *other) {
+    const struct line *first = &(*(const struct finding *const *)one)->line, *second = &(*(const struct finding *const *)other)->line;
+    int order = (first->number > second->number) - (first->number < second->number);
+    if (order == 0) order = (first->sdo > second->sdo) - (first->sdo < second->sdo);
+    if (order == 0) order = compare_pieces(&first->clock, &second->clock);
+    return order != 0 ? order : compare_pieces(&first->name, &second->name);
 }
 
 /* What follows from it may be another number each time. */
@@ -355,6 +388,23 @@ void leave_out_passing(struct report *report, const struct report *earlier) {
         finding->is_left_out = is_passing(finding) && !has_finding(&keys, finding);
     }
     free(keys.at);
+}
+
+bool has_doubtful_line(const struct report *report, const struct report *earlier) {
+    for (size_t i = 0; i < report->count; i++) {
+        const struct finding *finding = &report->findings[i];
+        if (finding->is_left_out && (finding->followers > 0 || earlier->followers > 0)) return true;
+    }
+    return false;
+}
+
+void keep_lines(struct report *report, const struct report *objects) {
+    struct sorted left = sort_findings(objects, by_line, false);
+    for (size_t i = 0; i < report->count; i++) {
+        struct finding *finding = &report->findings[i];
+        if (finding->is_left_out && has_finding(&left, finding)) finding->is_left_out = false;
+    }
+    free(left.at);
 }
 
 /* What `ptpm site` says of a clock that is gone has no description, since nothing that it answered counts any more. */

@@ -11,9 +11,16 @@ struct piece { const char *at; size_t size; };
 
 /* A finding: all of it; its domain, its clock and its name, which together are its key; and whether it is left out. A line of text says
    how many others follow from it: `words` come before that, and `rest` after it. In JSON one may have a cause, from which it follows. There
-   the domain's sdoId is a part of its own, which is empty in a text. */
+   the domain's sdoId is a part of its own, which is empty in a text. `line` is the line that a text has for it. */
 enum { DOMAIN_PART, CLOCK_PART, NAME_PART, TEXT_PARTS, SDO_PART = TEXT_PARTS, KEY_PARTS };
-struct finding { struct piece whole, key[KEY_PARTS], words, rest; size_t followers; bool has_cause, is_left_out; char *own; };
+struct line { unsigned long number, sdo; struct piece clock, name; };
+struct finding {
+    struct piece whole, key[KEY_PARTS], words, rest;
+    struct line line;
+    size_t followers;
+    bool has_cause, is_left_out;
+    char *own;
+};
 
 /* A report. Its findings are between `head` and `tail`. If it has no place for findings, `head` is all of it. A text has a heading between
    `head` and them: how many there are, and how many more follow from them. What a finding has `own` is no part of `text`. */
@@ -47,6 +54,12 @@ bool has_open(const struct report *report);
 
 /* Leaves out of a report each such finding whose key is not in an earlier one. */
 void leave_out_passing(struct report *report, const struct report *earlier);
+
+/* Whether a line of a text was left out, and something followed from it, or from another one in the earlier report. */
+bool has_doubtful_line(const struct report *report, const struct report *earlier);
+
+/* Keeps of the lines that were left out those of the findings that are left in JSON, of the same look. */
+void keep_lines(struct report *report, const struct report *objects);
 
 /* Adds to each finding of a clock that is gone the description that the clock had in an earlier report. */
 void describe_gone(struct report *report, const struct report *earlier);

@@ -199,6 +199,32 @@ static void expect_more_clocks(void) {
     expect_clocks(clocks_before, count);
 }
 
+/* A look, and the earlier one after whose lines it was judged, if there was one. */
+struct judged { struct look *look; const struct look *after; };
+
+/* What a look found as JSON. There each finding is an object, also one that follows from another. */
+static void read_objects(struct report *objects, const struct judged *judged, const struct task *task) {
+    const struct piece parts[2] = { lines_of(judged->after), lines_of(judged->look) };
+    const struct site_options options = as_looked_at(task);
+    run_site_program(&options, AS_JSON, parts, 2, objects);
+}
+
+/* Leaves out of a look what may be momentary and is not in the one before. In a text the line of a cause stands for what follows from it.
+   That may have another cause in each look: a clock that is not heard is not `mute`. */
+static void leave_out_momentary(const struct judged *latest, const struct judged *before, const struct task *task) {
+    struct report *report = &latest->look->report, objects, objects_before;
+    leave_out_passing(report, &before->look->report);
+    if (task->is_json || task->site.is_all || !has_doubtful_line(report, &before->look->report)) return;
+    read_objects(&objects, latest, task);
+    read_objects(&objects_before, before, task);
+    if (objects.is_json && objects_before.is_json) {
+        leave_out_passing(&objects, &objects_before);
+        keep_lines(report, &objects);
+    }
+    free_report(&objects);
+    free_report(&objects_before);
+}
+
 /* Looks at the site. If a change may be on its way through it, which the look before did not show, it looks a second time. Then of
    such findings only those are left that both looks have. */
 static void look_twice(struct look *look, const struct task *task, struct domains *domains, struct look *earlier) {
@@ -211,7 +237,7 @@ static void look_twice(struct look *look, const struct task *task, struct domain
     if (stopped) return;
     expect_more_clocks();
     look_at_site(&second, task, domains, earlier);
-    leave_out_passing(&second.report, &look->report);
+    leave_out_momentary(&(struct judged){ &second, earlier }, &(struct judged){ look, earlier }, task);
     if (second.status == FINDINGS && second.report.has_findings && findings_left(&second.report) == 0) second.status = 0;
     free_look(look);
     *look = second;
@@ -240,7 +266,7 @@ static void look_until_decided(struct look *look, const struct task *task, struc
         if (stopped) return;
         keep_clocks();
         look_at_site(&next, task, domains, look);
-        leave_out_passing(&next.report, &look->report);
+        leave_out_momentary(&(struct judged){ &next, look }, &(struct judged){ look, NULL }, task);
         leave_needed(look, 0);
         if (look->size > 0) join_lines(&next, look);
         free_look(look);
