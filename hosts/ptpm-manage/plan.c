@@ -141,10 +141,12 @@ int make_plan(struct plan *plan, const struct task *task) {
     if (status != 0) return status;
     open_transport(task);
     widen_transport();
-    status = ask_clocks(task, &what, &domains, &answers);
+    int asked = status = ask_clocks(task, &what, &domains, &answers);
     struct piece lines = { answers.text, answers.size };
     if (status == ANSWERED || status == NOT_ANSWERED) {
         status = run_plan(task, "--steps", &lines, &plan->text);
+        /* A table of every clock is of none then, and all else is said to be not reached. */
+        if (status == ANSWERED) status = asked;
         if (plan->text.text != NULL) {
             read_id(plan, "plan");
             read_steps(plan);
