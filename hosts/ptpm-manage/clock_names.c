@@ -9,9 +9,10 @@
 #include <stdio.h>
 #include <stdlib.h>
 #include <string.h>
+#include <sys/stat.h>
 
 /* As many clocks as a site shows, and what a name may have: a command line has room for them all. */
-enum { MOST_NAMES = 4096, MOST_NAME = 128, NAME_AT = IDENTITY_TEXT };
+enum { MOST_NAMES = 4096, MOST_NAME = 128, NAME_AT = IDENTITY_TEXT, MOST_OCTETS = 1 << 24 };
 
 static char *names[MOST_NAMES];
 static size_t count;
@@ -52,11 +53,20 @@ static void take_line(const char *path, size_t number, const char *line) {
     if (place == count) count++;
 }
 
+/* Opens a file or a pipe that may be read to its end. */
+static FILE *open_names(const char *path) {
+    struct stat found;
+    FILE *file = fopen(path, "re");
+    if (file == NULL || fstat(fileno(file), &found)) refuse("--names %s: %s", path, strerror(errno));
+    if (!S_ISREG(found.st_mode) && !S_ISFIFO(found.st_mode)) refuse("--names %s: it is no file", path);
+    if (found.st_size > MOST_OCTETS) refuse("--names %s: it has over %d octets", path, MOST_OCTETS);
+    return file;
+}
+
 void read_clock_names(const char *path) {
     char *line = NULL;
     size_t room = 0, number = 0;
-    FILE *file = fopen(path, "re");
-    if (file == NULL) refuse("--names %s: %s", path, strerror(errno));
+    FILE *file = open_names(path);
     for (ssize_t size; (size = getline(&line, &room, file)) >= 0;) {
         number++;
         if (strlen(line) != (size_t)size) refuse("--names %s: line %zu has an octet 0", path, number);

@@ -314,14 +314,16 @@ static void read_target(struct task *task, struct words *words, const char *text
     size_t size = strlen(text), clock_size = strnlen(text, strcspn(text, ".") == 6 ? DOTTED : PLAIN);
     uint16_t port;
     words->target_port = NOT_NAMED;
-    if (find_named_clock(text, clock) || ptpm_identity_parse(text, size, clock)) return;
+    /* An identity is no name, even if a clock has another one's as its name. */
+    if (ptpm_identity_parse(text, size, clock)) return;
     if (ptpm_port_identity_parse(text, size, clock, &port)) {
         words->target_port = port;
         return;
     }
+    if (find_named_clock(text, clock)) return;
     if (ptpm_identity_parse(text, clock_size, clock)) refuse("--target %s: %s is no port", text, text + clock_size);
-    const char *also = clock_name_count() > 0 ? "a name of --names, " : "";
-    refuse("--target %s: it takes %saabbccfffeddee01 or aabbcc.fffe.ddee01, and after it -1 for port 1", text, also);
+    const char *also = clock_name_count() > 0 ? ", or a name of --names" : "";
+    refuse("--target %s: it takes aabbccfffeddee01 or aabbcc.fffe.ddee01, and after it -1 for port 1%s", text, also);
 }
 
 static void read_port(struct words *words, const char *text) {
