@@ -7,6 +7,7 @@
 #include <stdint.h>
 #include <stdio.h>
 #include <string.h>
+#include <sys/stat.h>
 #include <unistd.h>
 
 static const char *own;
@@ -34,7 +35,12 @@ static enum kept_found read_mark(const struct kept_file *mark, char journal[PATH
     return what;
 }
 
-static bool is_own(const char *journal) { return own != NULL && strcmp(own, journal) == 0; }
+/* Whether it is the journal of this run. Its path may have been spelt otherwise, for example by XDG_STATE_HOME with a slash at its end. */
+static bool is_own(const char *journal) {
+    struct stat one, other;
+    if (own == NULL || strcmp(own, journal) == 0) return own != NULL;
+    return stat(own, &one) == 0 && stat(journal, &other) == 0 && one.st_dev == other.st_dev && one.st_ino == other.st_ino;
+}
 
 void refuse_mark(const char *session) {
     struct kept_file mark;
