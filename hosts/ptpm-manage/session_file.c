@@ -136,6 +136,13 @@ bool write_session_file(struct session_file *file, uint8_t octets[MOST_SESSION_O
 /* The path of the file that is taken if the command line names none. */
 static char usual_path[PATH_MAX];
 
+/* Whether the folder is that of an apply. No option names its file, but a variable its folder. */
+static bool is_of_apply;
+
+static const char *elsewhere(void) {
+    return is_of_apply ? "XDG_STATE_HOME names another folder" : "--numbers FILE keeps the session elsewhere";
+}
+
 /* A variable of the environment that names a folder; NULL if it is not set, or is no absolute path. */
 static const char *folder_in(const char *variable) {
     const char *folder = getenv(variable);
@@ -148,7 +155,7 @@ static size_t write_folder(void) {
     if (state != NULL) return (size_t)snprintf(usual_path, sizeof usual_path, "%s/ptpm", state);
     if (geteuid() == 0) return (size_t)snprintf(usual_path, sizeof usual_path, "/var/lib/ptpm");
     if (home != NULL) return (size_t)snprintf(usual_path, sizeof usual_path, "%s/.local/state/ptpm", home);
-    refuse("the request was not sent: neither XDG_STATE_HOME nor HOME names a folder for the session; --numbers FILE names a file");
+    refuse("the request was not sent: neither XDG_STATE_HOME nor HOME names a folder for the session; %s", elsewhere());
 }
 
 _Noreturn static void refuse_long_path(void) {
@@ -162,13 +169,15 @@ static void make_parents(void) {
         int failure = mkdir(usual_path, 0700) ? errno : 0;
         struct stat found;
         if (failure != 0 && (stat(usual_path, &found) || !S_ISDIR(found.st_mode))) {
-            refuse("the request was not sent: %s: %s; --numbers FILE keeps the session elsewhere", usual_path, strerror(failure));
+            const char *why = strerror(failure == EEXIST ? ENOTDIR : failure);
+            refuse("the request was not sent: %s: %s; %s", usual_path, why, elsewhere());
         }
         *slash = '/';
     }
 }
 
 const char *state_folder(void) {
+    is_of_apply = true;
     if (write_folder() >= sizeof usual_path) refuse_long_path();
     make_parents();
     return usual_path;
