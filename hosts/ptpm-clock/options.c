@@ -250,6 +250,17 @@ static void refuse_itself(const struct options *options) {
     }
 }
 
+/* Options that say how another one is done, which is missing. A group is only named by then. */
+static void refuse_alone(const struct options *options) {
+    bool has_socket = options->meeting.path != NULL;
+    const char *of_socket = options->limits.is_passed_on_from_host ? "-f" : options->meeting.mode != MODE_AT_FIRST ? "--unix-mode" : NULL;
+    if (!has_socket && options->owner == NULL && options->meeting.group != (gid_t)-1) of_socket = "--unix-group";
+    if (!has_socket && of_socket != NULL) refuse_command_line("%s: its Unix socket is missing: -u PATH", of_socket);
+    if (options->device_program == NULL && options->device_seconds != ASK_TIME_AT_FIRST) {
+        refuse_command_line("--ask-time: its program is missing: --ask PROGRAM");
+    }
+}
+
 static void judge(const struct options *options, bool has_two_ways) {
     if (options->interface_count > PORTS) refuse_command_line("it takes eight interfaces at most");
     if (options->interface_count == 0 && options->meeting.path == NULL) {
@@ -280,6 +291,7 @@ void read_options(struct options *options, int argc, char **argv) {
     }
     options->interfaces = argv + optind + 1;
     options->interface_count = (size_t)(argc - optind - 1);
+    refuse_alone(options);
     leave_root(options);
     if (options->privileges.user_name != NULL && options->meeting.group == (gid_t)-1) {
         options->meeting.group = options->privileges.group;
