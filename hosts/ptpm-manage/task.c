@@ -339,6 +339,12 @@ static void read_manager(struct task *task, const char *text) {
     task->has_manager = true;
 }
 
+/* Of two the earlier one would be asked by nobody. */
+static void take_domain(struct words *words, const char *text) {
+    if (words->domain != NULL) refuse("--domain %s: --domain %s is there already; several are two as 0-7, or all", text, words->domain);
+    words->domain = text;
+}
+
 static void take_interface(struct task *task, const char *name) {
     if (task->interface_count == MOST_INTERFACES) refuse("--interface %s: there are more than %d", name, MOST_INTERFACES);
     task->interfaces[task->interface_count++] = name;
@@ -371,7 +377,7 @@ static void take_option(struct task *task, struct words *words, int option, cons
     case EXPECT: task->plan.expected = value; break;
     case PROBE: task->plan.is_probed = true; break;
     case 'p': read_port(words, value); break;
-    case 'd': words->domain = value; break;
+    case 'd': take_domain(words, value); break;
     case 'b': words->hops = number("hops", value, 0, 255); break;
     case 'm': read_manager(task, value); break;
     case 'k': task->numbers = value; break;
@@ -524,6 +530,7 @@ static void judge(const struct task *task, const struct words *words) {
     bool asks_one = (!task->is_survey || task->is_of_clock) && task->plan.verb == NO_PLAN;
     if (!asks_one && words->target != NULL) refuse("%s asks every clock: it takes no --target", words->at[0]);
     if (asks_one && words->target == NULL) refuse("--target is missing: the clock that is asked; survey asks every clock");
+    if (task->is_survey && task->times > 1) refuse("--times: what every port is asked is asked once");
     if (words->is_every_port && words->target_port >= 0) refuse("--port all names every port, and --target names one");
     if (words->port >= 0 && words->target_port >= 0 && words->port != words->target_port) {
         refuse("--port %ld and --target name two ports", words->port);
