@@ -66,6 +66,10 @@ fn read_alias(
     let Some(alias) = text_at(table, "alias", place)? else {
         return Ok(None);
     };
+    if clock_identity_of(alias).is_some() {
+        let fault = TableFault::Takes("alias", "a name that is no clockIdentity");
+        return Err(FileFault::at(place, fault));
+    }
     let text = Text::copy_of(alloc, alias)?;
     if clock_of_alias(earlier, alias).is_some() {
         return Err(FileFault::at(place, TableFault::AliasTwice(text)));
