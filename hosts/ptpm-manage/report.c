@@ -398,11 +398,21 @@ bool has_doubtful_line(const struct report *report, const struct report *earlier
     return false;
 }
 
+/* Leaves of them what follows from another. */
+static void leave_effects(struct sorted *sorted) {
+    size_t count = 0;
+    for (size_t i = 0; i < sorted->count; i++) {
+        if (sorted->at[i]->has_cause) sorted->at[count++] = sorted->at[i];
+    }
+    sorted->count = count;
+}
+
 void keep_lines(struct report *report, const struct report *objects) {
     struct sorted left = sort_findings(objects, by_line, false);
+    if (report == objects) leave_effects(&left);
     for (size_t i = 0; i < report->count; i++) {
         struct finding *finding = &report->findings[i];
-        if (finding->is_left_out && has_finding(&left, finding)) finding->is_left_out = false;
+        if (finding->is_left_out && !finding->has_cause && has_finding(&left, finding)) finding->is_left_out = false;
     }
     free(left.at);
 }

@@ -58,7 +58,8 @@ void leave_out_passing(struct report *report, const struct report *earlier);
 /* Whether a line of a text was left out, and something followed from it, or from another one in the earlier report. */
 bool has_doubtful_line(const struct report *report, const struct report *earlier);
 
-/* Keeps of the lines that were left out those of the findings that are left in JSON, of the same look. */
+/* Keeps of the lines that were left out those of the findings that are left in JSON, of the same look. Of the objects of JSON it keeps those
+   from which one that is left follows. */
 void keep_lines(struct report *report, const struct report *objects);
 
 /* Adds to each finding of a clock that is gone the description that the clock had in an earlier report. */

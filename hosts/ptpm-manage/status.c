@@ -214,6 +214,7 @@ static void read_objects(struct report *objects, const struct judged *judged, co
 static void leave_out_momentary(const struct judged *latest, const struct judged *before, const struct task *task) {
     struct report *report = &latest->look->report, objects, objects_before;
     leave_out_passing(report, &before->look->report);
+    if (task->is_json) keep_lines(report, report);
     if (task->is_json || task->site.is_all || !has_doubtful_line(report, &before->look->report)) return;
     read_objects(&objects, latest, task);
     read_objects(&objects_before, before, task);
