@@ -6,6 +6,7 @@
 #include "notices.h"
 #include "program.h"
 #include "reading.h"
+#include "seen.h"
 #include "stopping.h"
 #include "transport.h"
 #include "words.h"
@@ -131,6 +132,21 @@ static void take_json(struct plan *plan, const struct task *task, const struct p
     if (strcmp(id, plan->id) != 0) refuse("nothing was sent: %s has changed meanwhile", task->plan.word);
 }
 
+static bool has_clock(struct domain domain) {
+    for (size_t i = 0; i < seen_count(); i++) {
+        if (is_same_domain(seen_clock(i)->domain, domain)) return true;
+    }
+    return false;
+}
+
+/* A table of every clock is of those that answer. If none does, the plan has nothing of it. */
+static void name_silent_domains(const struct domains *domains) {
+    struct domain domain;
+    for (size_t place = 0; next_domain(domains, &place, &domain);) {
+        if (!has_clock(domain)) complain("no clock answered in domain %u", domain.number);
+    }
+}
+
 int make_plan(struct plan *plan, const struct task *task) {
     struct collected what;
     struct domains domains;
@@ -143,6 +159,7 @@ int make_plan(struct plan *plan, const struct task *task) {
     widen_transport();
     int asked = status = ask_clocks(task, &what, &domains, &answers);
     struct piece lines = { answers.text, answers.size };
+    if (status == ANSWERED && what.count > 0) name_silent_domains(&domains);
     if (status == ANSWERED || status == NOT_ANSWERED) {
         status = run_plan(task, "--steps", &lines, &plan->text);
         /* A table of every clock is of none then, and all else is said to be not reached. */
