@@ -1,5 +1,5 @@
 # Completion of ptpm, ptpm-manage and ptpm-clock for bash. The programs themselves say what there is: options by --help, and the
-# names of the management ids by `ptpm ids`.
+# names of the management ids and of findings by `ptpm ids` and `ptpm findings`.
 
 # The options that the words given have in their help.
 _ptpm_options() {
@@ -39,12 +39,8 @@ _ptpm_offer_profiles() { _ptpm_offer default st2059-2 aes67 gptp; }
 # Offers the names of the findings, also after others with a comma.
 _ptpm_offer_findings() {
     local earlier=${COMP_WORDS[COMP_CWORD]}
-    local -a names=(
-        absent unexpected not_as_expected gone own_host mute two_grandmasters no_master grandmaster_not_seen parent_not_seen
-        parent_not_master steps grandmaster_differs loop port_state not_locked off_by_utc offset delay utc intervals gm_holdover
-        gm_degraded gm_free_running not_traceable utc_invalid utc_offset leap better_clock profile incomplete out_of_reach
-        grandmaster_changed changed identity_twice not_asked
-    )
+    local -a names
+    mapfile -t names < <(ptpm findings 2> /dev/null | cut -d ' ' -f 1)
     if [[ $earlier = *,* ]]; then earlier=${earlier%,*},; else earlier=; fi
     _ptpm_offer "${names[@]/#/$earlier}"
 }
@@ -59,7 +55,7 @@ _ptpm_last() {
 
 _ptpm() {
     local before=${COMP_WORDS[COMP_CWORD - 1]} command
-    local -a commands=(answer show ids make run check schedule draw site plan)
+    local -a commands=(answer show ids make run check schedule draw site findings plan)
     command=$(_ptpm_last "${commands[*]}")
     case $command,$before,${COMP_WORDS[COMP_CWORD]} in
     ,*) _ptpm_offer "${commands[@]}" --help --version ;;

@@ -1,5 +1,6 @@
 #define _GNU_SOURCE
 #include "report.h"
+#include "finding_table.h"
 #include "program.h"
 #include "text.h"
 #include <ctype.h>
@@ -7,42 +8,18 @@
 #include <stdlib.h>
 #include <string.h>
 
-/* Findings that a change may make for a moment. The answers of a clock are not of one time, and a change goes from clock to
-   clock. */
-static const char *const passing[] = {
-    "gone", "mute", "two_grandmasters", "no_master", "grandmaster_not_seen", "parent_not_seen", "parent_not_master", "steps",
-    "grandmaster_differs", "loop", "off_by_utc", "offset", "delay", "utc", "gm_holdover", "gm_degraded", "gm_free_running", "not_traceable", "utc_invalid",
-    "utc_offset", "better_clock", "identity_twice",
-};
-
-/* Findings that report a change, and so are there once; and those whose values are other ones each time. */
-static const char *const changes[] = { "changed", "grandmaster_changed" };
-static const char *const moving[] = { "not_locked", "port_state", "off_by_utc", "offset", "delay" };
-
-/* Findings that more than one look shows. */
-static const char *const over_time[] = { "not_locked", "port_state", "intervals", "identity_twice" };
-
-/* What is open and stays so, whatever the time. */
-static const char *const lasting[] = { "not_asked", "mute" };
-
 static const char red[] = "\033[31m", green[] = "\033[32m", plain[] = "\033[0m";
 
 static bool is_piece(const struct piece *piece, const char *text) {
     return piece->size == strlen(text) && memcmp(piece->at, text, piece->size) == 0;
 }
 
-static bool is_one_of(const struct finding *finding, const char *const *names, size_t count) {
-    for (size_t i = 0; i < count; i++) {
-        if (is_piece(&finding->key[NAME_PART], names[i])) return true;
-    }
-    return false;
+static const struct finding_row *row_of(const struct finding *finding) { return finding_row(&finding->key[NAME_PART]); }
+
+/* Of what is open only `not_asked` and `mute` stay so, whatever the time. */
+static bool is_lasting(const struct finding *open) {
+    return is_piece(&open->key[NAME_PART], "not_asked") || is_piece(&open->key[NAME_PART], "mute");
 }
-
-static bool is_change(const struct finding *finding) { return is_one_of(finding, changes, sizeof changes / sizeof *changes); }
-
-static bool is_lasting(const struct finding *finding) { return is_one_of(finding, lasting, sizeof lasting / sizeof *lasting); }
-
-static bool is_passing(const struct finding *finding) { return is_one_of(finding, passing, sizeof passing / sizeof *passing); }
 
 /* Whether it says that clocks of one identity have two offsets. These are other ones each time. */
 static bool has_two_offsets(const struct finding *finding) {
@@ -53,9 +30,7 @@ static bool has_two_offsets(const struct finding *finding) {
            || memmem(finding->whole.at, finding->whole.size, member, sizeof member - 1) != NULL;
 }
 
-static bool is_moving(const struct finding *finding) {
-    return is_one_of(finding, moving, sizeof moving / sizeof *moving) || has_two_offsets(finding);
-}
+static bool is_moving(const struct finding *finding) { return row_of(finding)->is_moving || has_two_offsets(finding); }
 
 /* Without memory for one the program ends: a report that lacks a finding would say that less is wrong. */
 static void add_finding(struct report *report, const struct finding *finding) {
@@ -366,7 +341,7 @@ bool has_open(const struct report *report) {
 
 bool is_over_time(const struct report *report) {
     for (size_t i = 0; i < report->count; i++) {
-        if (is_one_of(&report->findings[i], over_time, sizeof over_time / sizeof *over_time)) return true;
+        if (row_of(&report->findings[i])->is_over_time) return true;
     }
     return has_open(report);
 }
@@ -375,7 +350,7 @@ bool has_passing_finding(const struct report *report, const struct report *earli
     struct sorted keys = earlier == NULL ? (struct sorted){ 0 } : sort_findings(earlier, by_key, true);
     bool has_one = false;
     for (size_t i = 0; i < report->count && !has_one; i++) {
-        has_one = is_passing(&report->findings[i]) && !has_finding(&keys, &report->findings[i]);
+        has_one = row_of(&report->findings[i])->is_passing && !has_finding(&keys, &report->findings[i]);
     }
     free(keys.at);
     return has_one;
@@ -385,7 +360,7 @@ void leave_out_passing(struct report *report, const struct report *earlier) {
     struct sorted keys = sort_findings(earlier, by_key, true);
     for (size_t i = 0; i < report->count && keys.at != NULL; i++) {
         struct finding *finding = &report->findings[i];
-        finding->is_left_out = is_passing(finding) && !has_finding(&keys, finding);
+        finding->is_left_out = row_of(finding)->is_passing && !has_finding(&keys, finding);
     }
     free(keys.at);
 }
@@ -600,7 +575,7 @@ static void print_lacking(FILE *to, const char *lead, char sign, const struct re
     for (size_t i = 0; i < report->count; i++) {
         const struct finding *finding = &report->findings[i];
         const struct sorted *same = is_moving(finding) ? &kinds : &texts;
-        bool is_in_other = has_finding(same, finding) || (is_change(finding) && sign == '-');
+        bool is_in_other = has_finding(same, finding) || (row_of(finding)->is_change && sign == '-');
         if (finding->is_left_out || finding->has_cause || is_in_other) continue;
         if (report->is_json) print_event(to, lead, sign, finding);
         else print_change(to, lead, sign, finding, colour);

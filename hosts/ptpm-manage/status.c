@@ -2,6 +2,7 @@
 #include "status.h"
 #include "asking.h"
 #include "collect.h"
+#include "finding_table.h"
 #include "message_places.h"
 #include "monotonic.h"
 #include "notices.h"
@@ -395,6 +396,7 @@ int show_status(const struct task *task) {
     find_ptpm_program();
     if (task->site.output != NULL) find_output_file(task->site.output);
     try_options(task);
+    read_finding_table();
     widen_transport();
     find_domains(&domains, task);
     look_until_decided(&look, task, &domains);

@@ -9,7 +9,7 @@ import shutil
 import subprocess
 import time
 from pathlib import Path
-from typing import Iterable, List, Optional, Sequence, Tuple, Union
+from typing import FrozenSet, Iterable, List, Optional, Sequence, Tuple, Union
 
 from .domain_identity import DomainIdentity
 from .errors import PtpmError
@@ -18,14 +18,6 @@ from .site_tree import Finding, Site, read_site
 
 _FOUND, _NO_CLOCK = 1, 3
 _BEFORE_SECOND_LOOK = 2.0
-
-# Findings that may pass while a change goes from clock to clock. They count if two looks have them.
-PASSING = frozenset((
-    "gone", "mute", "two_grandmasters", "no_master", "grandmaster_not_seen", "parent_not_seen", "parent_not_master", "steps",
-    "grandmaster_differs", "loop", "off_by_utc", "offset", "delay", "utc", "gm_holdover", "gm_degraded", "gm_free_running",
-    "not_traceable", "utc_invalid", "utc_offset", "better_clock", "identity_twice",
-))
-
 
 class SiteError(PtpmError):
     """A program did not show a site: what it said, and its exit status, which is None if it did not run to its end. Status 3
@@ -87,15 +79,25 @@ def _key(finding: Finding) -> Tuple[DomainIdentity, Optional[Identity], str]:
     return finding.domain_identity, finding.clock, finding.name
 
 
+def _passing() -> FrozenSet[str]:
+    """The findings that may be there for a moment, while a change goes from clock to clock. They count if two looks have them."""
+    printed, _, _ = _run([_program("ptpm", "ptpm"), "findings"], "", (0,), None)
+    rows = (line.split(" ", 3) for line in printed.splitlines())
+    return frozenset(name for name, _, looks, _ in rows if looks != "1")
+
+
 def _looked(words: Sequence[str], limits: Sequence[str], once: bool, limit: Optional[float]) -> Site:
     """A look at the site, and if a finding may be only momentary, another: then such findings are left only if they hold twice."""
     first = _shown(*_collected(words, limit), limits)
-    before = {_key(finding) for finding in first.findings if finding.name in PASSING}
-    if once or not before:
+    if once or not first.findings:
+        return first
+    passing = _passing()
+    before = {_key(finding) for finding in first.findings if finding.name in passing}
+    if not before:
         return first
     time.sleep(_BEFORE_SECOND_LOOK)
     second = _shown(*_collected(words, limit), limits)
-    held = (finding for finding in second.findings if finding.name not in PASSING or _key(finding) in before)
+    held = (finding for finding in second.findings if finding.name not in passing or _key(finding) in before)
     return dataclasses.replace(second, findings=tuple(held))
 
 

@@ -176,7 +176,7 @@ class Recorded(unittest.TestCase):
 
     def test_what_passes_is_as_the_page_says(self) -> None:
         page = (TOP / "docs/ptpm-site.md").read_text(encoding="utf-8")
-        self.assertEqual(set(re.findall(r"^\| `(\w+)` \| \w+ \| two \|", page, re.M)), sys.modules["ptpm.site"].PASSING)
+        self.assertEqual(set(re.findall(r"^\| `(\w+)` \| \w+ \| two \|", page, re.M)), sys.modules["ptpm.site"]._passing())
 
     def test_a_description_controls_no_terminal(self) -> None:
         def answer(number: int, text: str) -> str:

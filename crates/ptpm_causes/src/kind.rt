@@ -48,50 +48,222 @@ pub enum Kind {
     NotAsked,
 }
 
-impl Kind {
-    /// The name, which scripts read.
-    pub fn name(self) -> &'static str {
+/// How bad a finding is.
+#[derive(Clone, Copy, PartialEq, Eq)]
+pub enum Severity {
+    /// Any but a critical one.
+    Warning,
+    /// Time is wrong or missing by it, or two clocks look like one.
+    Critical,
+}
+
+impl Severity {
+    /// It in a word, which scripts read.
+    pub fn word(self) -> &'static str {
         match self {
-            Kind::Gone => "gone",
-            Kind::OwnHost => "own_host",
-            Kind::Mute => "mute",
-            Kind::Absent => "absent",
-            Kind::IdentityTwice => "identity_twice",
-            Kind::TwoGrandmasters => "two_grandmasters",
-            Kind::Holdover => "gm_holdover",
-            Kind::Degraded => "gm_degraded",
-            Kind::FreeRunning => "gm_free_running",
-            Kind::Intervals => "intervals",
-            Kind::PortState => "port_state",
-            Kind::NotLocked => "not_locked",
-            Kind::GrandmasterNotSeen => "grandmaster_not_seen",
-            Kind::ParentNotSeen => "parent_not_seen",
-            Kind::NoMaster => "no_master",
-            Kind::GrandmasterChanged => "grandmaster_changed",
-            Kind::Changed => "changed",
-            Kind::Steps => "steps",
-            Kind::GrandmasterDiffers => "grandmaster_differs",
-            Kind::OffByUtc => "off_by_utc",
-            Kind::NotAsExpected => "not_as_expected",
-            Kind::Unexpected => "unexpected",
-            Kind::ParentNotMaster => "parent_not_master",
-            Kind::Loop => "loop",
-            Kind::Offset => "offset",
-            Kind::Delay => "delay",
-            Kind::Utc => "utc",
-            Kind::NotTraceable => "not_traceable",
-            Kind::UtcInvalid => "utc_invalid",
-            Kind::UtcOffset => "utc_offset",
-            Kind::Leap => "leap",
-            Kind::BetterClock => "better_clock",
-            Kind::Profile => "profile",
-            Kind::Incomplete => "incomplete",
-            Kind::OutOfReach => "out_of_reach",
-            Kind::NotAsked => "not_asked",
+            Severity::Warning => "warning",
+            Severity::Critical => "critical",
+        }
+    }
+}
+
+/// How a finding goes on from look to look.
+#[derive(Clone, Copy)]
+pub enum Course {
+    /// It has the same values as long as it is there.
+    Steady,
+    /// Its values are other ones each time.
+    Moving,
+    /// More than one look shows it.
+    OverTime,
+    MovingOverTime,
+    /// It says that something changed, and so is there once.
+    Change,
+}
+
+impl Course {
+    /// It in a word, which scripts read.
+    pub fn word(self) -> &'static str {
+        match self {
+            Course::Steady => "steady",
+            Course::Moving => "moving",
+            Course::OverTime => "over_time",
+            Course::MovingOverTime => "moving_over_time",
+            Course::Change => "change",
+        }
+    }
+}
+
+/// What programs know of a name.
+#[derive(Clone, Copy)]
+pub struct KindRow {
+    /// The name, which scripts read.
+    pub name: &'static str,
+    pub severity: Severity,
+    /// How many looks after each other must have it: two of one that may be there for a moment while a change goes through a site.
+    pub looks: u8,
+    pub course: Course,
+}
+
+fn row(name: &'static str, severity: Severity, looks: u8, course: Course) -> KindRow {
+    KindRow {
+        name,
+        severity,
+        looks,
+        course,
+    }
+}
+
+impl Kind {
+    /// All, in the order in which the findings of a clock are reported.
+    pub const ALL: [Kind; 36] = [
+        Kind::Absent,
+        Kind::Unexpected,
+        Kind::NotAsExpected,
+        Kind::Gone,
+        Kind::OwnHost,
+        Kind::Mute,
+        Kind::TwoGrandmasters,
+        Kind::NoMaster,
+        Kind::GrandmasterNotSeen,
+        Kind::ParentNotSeen,
+        Kind::ParentNotMaster,
+        Kind::Steps,
+        Kind::GrandmasterDiffers,
+        Kind::Loop,
+        Kind::PortState,
+        Kind::NotLocked,
+        Kind::OffByUtc,
+        Kind::Offset,
+        Kind::Delay,
+        Kind::Utc,
+        Kind::Intervals,
+        Kind::Holdover,
+        Kind::Degraded,
+        Kind::FreeRunning,
+        Kind::NotTraceable,
+        Kind::UtcInvalid,
+        Kind::UtcOffset,
+        Kind::Leap,
+        Kind::BetterClock,
+        Kind::Profile,
+        Kind::Incomplete,
+        Kind::OutOfReach,
+        Kind::GrandmasterChanged,
+        Kind::Changed,
+        Kind::IdentityTwice,
+        Kind::NotAsked,
+    ];
+
+    /// What programs know of it, which is said nowhere else.
+    pub fn row(self) -> KindRow {
+        use Course::{Change, Moving, MovingOverTime, OverTime, Steady};
+        use Kind::*;
+        use Severity::{Critical, Warning};
+        match self {
+            Gone => row("gone", Critical, 2, Steady),
+            OwnHost => row("own_host", Warning, 1, Steady),
+            Mute => row("mute", Warning, 2, Steady),
+            Absent => row("absent", Critical, 1, Steady),
+            IdentityTwice => row("identity_twice", Critical, 2, OverTime),
+            TwoGrandmasters => row("two_grandmasters", Critical, 2, Steady),
+            Holdover => row("gm_holdover", Warning, 2, Steady),
+            Degraded => row("gm_degraded", Critical, 2, Steady),
+            FreeRunning => row("gm_free_running", Warning, 2, Steady),
+            Intervals => row("intervals", Warning, 1, OverTime),
+            PortState => row("port_state", Critical, 1, MovingOverTime),
+            NotLocked => row("not_locked", Critical, 1, MovingOverTime),
+            GrandmasterNotSeen => row("grandmaster_not_seen", Critical, 2, Steady),
+            ParentNotSeen => row("parent_not_seen", Critical, 2, Steady),
+            NoMaster => row("no_master", Critical, 2, Steady),
+            GrandmasterChanged => row("grandmaster_changed", Warning, 1, Change),
+            Changed => row("changed", Warning, 1, Change),
+            Steps => row("steps", Warning, 2, Steady),
+            GrandmasterDiffers => row("grandmaster_differs", Warning, 2, Steady),
+            OffByUtc => row("off_by_utc", Critical, 2, Moving),
+            NotAsExpected => row("not_as_expected", Warning, 1, Steady),
+            Unexpected => row("unexpected", Warning, 1, Steady),
+            ParentNotMaster => row("parent_not_master", Critical, 2, Steady),
+            Loop => row("loop", Critical, 2, Steady),
+            Offset => row("offset", Critical, 2, Moving),
+            Delay => row("delay", Warning, 2, Moving),
+            Utc => row("utc", Warning, 2, Steady),
+            NotTraceable => row("not_traceable", Warning, 2, Steady),
+            UtcInvalid => row("utc_invalid", Warning, 2, Steady),
+            UtcOffset => row("utc_offset", Critical, 2, Steady),
+            Leap => row("leap", Warning, 1, Steady),
+            BetterClock => row("better_clock", Warning, 2, Steady),
+            Profile => row("profile", Warning, 1, Steady),
+            Incomplete => row("incomplete", Warning, 1, Steady),
+            OutOfReach => row("out_of_reach", Warning, 1, Steady),
+            NotAsked => row("not_asked", Warning, 1, Steady),
         }
     }
 
-    /// Its place among the names.
+    /// What is wrong with a clock that has it, in words.
+    pub fn meaning(self) -> &'static str {
+        use Kind::*;
+        match self {
+            Gone => "The clock answered before, and answers no more.",
+            OwnHost =>
+                "The clock is the host that asks, which does not hear itself at an interface.",
+            Mute => "The clock sends messages of time, and answers no management message.",
+            Absent => "The inventory names the clock, and it did not answer.",
+            IdentityTwice => "Two clocks have one identity.",
+            TwoGrandmasters => "Two clocks or more of the domain give time as grandmasters.",
+            Holdover => "The grandmaster has lost its source of time, and still keeps it well.",
+            Degraded => "The grandmaster has lost its source of time, and no longer keeps it well.",
+            FreeRunning => "The grandmaster has no source of time.",
+            Intervals => "A port and the one that it follows do not fit together.",
+            PortState => "A port is faulty, or stays on its way to another state.",
+            NotLocked => "A port stays in UNCALIBRATED: it does not lock to its master.",
+            GrandmasterNotSeen => "The grandmaster that the clock names did not answer.",
+            ParentNotSeen => "The clock that it follows did not answer.",
+            NoMaster => "The clock takes time from no other.",
+            GrandmasterChanged => "Clocks have another grandmaster than before.",
+            Changed => "The clock answered otherwise than before.",
+            Steps => "Its stepsRemoved does not fit that of the clock that it follows.",
+            GrandmasterDiffers => "What it says of its grandmaster is not what that one says.",
+            OffByUtc => "TAI and UTC are taken for each other: the time is wrong by whole seconds.",
+            NotAsExpected => "It is not as the inventory says.",
+            Unexpected => "The inventory does not name the clock.",
+            ParentNotMaster => "The port that it follows gives no time.",
+            Loop => "Clocks follow each other in a circle.",
+            Offset => "It is further from its master than is allowed.",
+            Delay => "The delay to its master, or to its neighbour, is longer than is allowed.",
+            Utc => "What it says of UTC is not what its grandmaster says.",
+            NotTraceable => "The grandmaster does not say that its time can be traced to a source.",
+            UtcInvalid => "The grandmaster does not know how far TAI is before UTC.",
+            UtcOffset => "The grandmaster says a wrong difference of TAI and UTC.",
+            Leap => "The grandmaster announces a leap second.",
+            BetterClock => "A clock of a better class stands by, and does not lead.",
+            Profile => "It is set to what the profile does not allow.",
+            Incomplete => "The clock did not answer all that it was asked for.",
+            OutOfReach =>
+                "The last boundary hop reached the clock: clocks behind it are not asked.",
+            NotAsked => "Clocks send in a domain in which none was asked.",
+        }
+    }
+
+    /// The name, which scripts read.
+    pub fn name(self) -> &'static str {
+        self.row().name
+    }
+
+    /// That which is written so; none if it is no finding's.
+    pub fn named(name: &str) -> Option<Kind> {
+        Kind::ALL.iter().copied().find(|kind| kind.name() == name)
+    }
+
+    /// Its place in the order of a clock's findings.
+    pub fn place(self) -> usize {
+        Kind::ALL
+            .iter()
+            .position(|kind| *kind == self)
+            .unwrap_or(Kind::ALL.len())
+    }
+
+    /// Its place among those that it may follow from.
     pub(crate) fn rank(self) -> u8
         ensures { result ≡ rank self }
     {

@@ -11,4 +11,4 @@ mod reasons;
 
 pub use cause::{Cause, named};
 pub use causes::causes_of;
-pub use kind::Kind;
+pub use kind::{Kind, KindRow, Severity};

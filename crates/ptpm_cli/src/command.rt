@@ -16,7 +16,7 @@ use ptpm_schedule::{Chances, schedule};
 use ptpm_site::limits::Limits;
 use ptpm_site_report::ignored::Ignored;
 use ptpm_site_report::names::Names;
-use ptpm_site_report::{Form, Options};
+use ptpm_site_report::{Form, Options, findings};
 use ptpm_world::{ScriptError, check_script, run_script};
 use std::alloc::{AllocError, Global};
 use std::fmt;
@@ -163,6 +163,7 @@ fn carry_out<F: Files, R: Read, O: Write, E: Write>(
         Task::Show(form, Datagrams::Lines) => done(show_lines_as(alloc, form, reader, out)),
         Task::ShowGoodLines(form) => done(show_good_lines_as(alloc, form, reader, out, err)),
         Task::Ids => done(ids(out)),
+        Task::Findings => done(findings(out)),
         Task::Make(words) => done(make(alloc, &words, out)),
         Task::MakeWithMembers(words, members) => {
             done(make_with_members(alloc, &words, members.as_slice(), out))
@@ -201,6 +202,7 @@ enum Task<'a> {
     /// `show --lines --skip`.
     ShowGoodLines(Values),
     Ids,
+    Findings,
     Make(RequestWords<'a>),
     /// `make --member`, with what each option says.
     MakeWithMembers(RequestWords<'a>, Vec<&'a str>),
@@ -335,6 +337,7 @@ fn task_without_members<'a>(name: &str, values: &ArgMatches<'a>) -> Option<Task<
         "show" if values.get_flag("skip") => Some(Task::ShowGoodLines(shown_values(values))),
         "show" => Some(Task::Show(shown_values(values), datagrams_of(values)?)),
         "ids" => Some(Task::Ids),
+        "findings" => Some(Task::Findings),
         "run" => Some(Task::Run),
         "schedule" => Some(Task::Schedule(chances(values)?)),
         "check" => Some(Task::Check),
@@ -511,6 +514,7 @@ fn command_line<'a>(alloc: Global) -> Result<Command<'a>, AllocError> {
     let ptpm = with_command(ptpm, schedule_command(alloc))?;
     let ptpm = with_command(ptpm, draw_command(alloc))?;
     let ptpm = with_command(ptpm, site_command(alloc))?;
+    let ptpm = with_command(ptpm, findings_command(alloc))?;
     with_command(ptpm, plan_command(alloc))
 }
 
@@ -567,6 +571,10 @@ fn answer_command<'a>(alloc: Global) -> Result<Command<'a>, AllocError> {
 
 fn ids_command<'a>(alloc: Global) -> Result<Command<'a>, AllocError> {
     Ok(described(alloc, "ids", "Prints the table of management ids"))
+}
+
+fn findings_command<'a>(alloc: Global) -> Result<Command<'a>, AllocError> {
+    Ok(described(alloc, "findings", "Prints the table of what site may find"))
 }
 
 fn run_command<'a>(alloc: Global) -> Result<Command<'a>, AllocError> {

@@ -73,22 +73,13 @@ fn inventory_at<F: Files, E: Write>(
         }
     };
     match read_inventory(alloc, text.as_slice()) {
-        Ok(inventory) => Ok(unless_empty(inventory, path, err)),
+        Ok(inventory) => Ok(Some(inventory)),
         Err(InventoryFault::OutOfMemory) => Err(Fault::OutOfMemory),
         Err(fault) => {
             let _ = writeln!(err, "{path}: {fault}");
             Ok(None)
         }
     }
-}
-
-/// The inventory, unless it has no line: it may have been lost, and nothing would be found by it.
-fn unless_empty<E: Write>(inventory: Inventory, path: &str, err: &mut E) -> Option<Inventory> {
-    if inventory.entries.is_empty() {
-        let _ = writeln!(err, "{path}: it has no line");
-        return None;
-    }
-    Some(inventory)
 }
 
 /// Ends without a site. A plugin says so in its line.

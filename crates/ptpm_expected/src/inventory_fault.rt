@@ -10,6 +10,8 @@ pub enum InventoryFault {
     OutOfMemory,
     /// Over 16,777,216 octets.
     TooLong,
+    /// Nothing but notes: the lines may have been lost, and nothing would be found by it.
+    NoLine,
     /// The line of this number, counted from 1.
     At(usize, LineFault),
 }
@@ -63,6 +65,7 @@ impl fmt::Display for InventoryFault {
         match self {
             InventoryFault::OutOfMemory => f.write_str("OutOfMemory"),
             InventoryFault::TooLong => f.write_str("it has over 16777216 octets"),
+            InventoryFault::NoLine => f.write_str("it has no line"),
             InventoryFault::At(line, fault) => write!(f, "line {line}: {}", fault.words()),
         }
     }

@@ -31,6 +31,9 @@ pub fn read_inventory(alloc: Global, text: &[u8]) -> Result<Inventory, Inventory
             Err(ReadFault::Bad(fault)) => return Err(InventoryFault::At(number, fault)),
         }
     }
+    if entries.is_empty() {
+        return Err(InventoryFault::NoLine);
+    }
     Ok(Inventory { entries })
 }
 

@@ -1,6 +1,5 @@
 //! A finding as a JSON object.
 
-use crate::kinds::severity_of;
 use crate::look::Look;
 use crate::members::{Members, identity_value, text_value};
 use crate::phrases::{Phrase, clock_of, clock_of_cause};
@@ -38,7 +37,7 @@ pub(crate) fn finding_value(
     members.put_value("because", cause_value(alloc, remark.cause)?)?;
     put_place(&mut members, look, remark)?;
     members.put_text("finding", remark.named.kind.name())?;
-    members.put_text("severity", severity_of(remark.named.kind))?;
+    members.put_text("severity", remark.severity().word())?;
     put_values(&mut members, &remark.finding.what)?;
     Ok(members.object())
 }

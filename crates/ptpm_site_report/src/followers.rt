@@ -1,6 +1,5 @@
 //! What follows from a finding, by name and number.
 
-use crate::kinds::{ALL, place_of};
 use crate::look::Look;
 use ptpm_causes::{Cause, Kind};
 use ptpm_site::source::Source;
@@ -19,12 +18,12 @@ pub(crate) enum Head {
 impl Head {
     /// The line of a finding, by its name and its clock.
     pub(crate) fn of(finding: Cause) -> Head {
-        Head::One(finding.source, place_of(finding.kind))
+        Head::One(finding.source, finding.kind.place())
     }
 
     /// The line of a grandmaster that is not seen.
     pub(crate) fn of_unseen(grandmaster: Source) -> Head {
-        Head::One(grandmaster, place_of(Kind::GrandmasterNotSeen))
+        Head::One(grandmaster, Kind::GrandmasterNotSeen.place())
     }
 }
 
@@ -48,7 +47,7 @@ impl Followers {
         let mut sorted = Vec::new(alloc);
         for remark in look.found.as_slice() {
             if let Some(cause) = remark.cause {
-                let (head, name) = (Head::of(cause), place_of(remark.named.kind));
+                let (head, name) = (Head::of(cause), remark.named.kind.place());
                 sorted.push(Follower { head, name })?;
             }
         }
@@ -98,7 +97,7 @@ impl fmt::Display for SoToo<'_> {
                 break;
             };
             let count = rest.partition_point(|one| one.name <= first.name);
-            let name = match ALL.get(first.name) {
+            let name = match Kind::ALL.get(first.name) {
                 Some(kind) => kind.name(),
                 None => "",
             };

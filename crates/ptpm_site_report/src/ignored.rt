@@ -2,7 +2,6 @@
 
 ghost use Rattle.std.specs.Prelude.{◌≡◌, []};
 
-use crate::kinds::kind_named;
 use ptpm_causes::{Kind, named};
 use ptpm_site::finding::Finding;
 use std::alloc::{AllocError, Global};
@@ -24,7 +23,7 @@ impl Ignored {
     /// Leaves out the findings of these names, which have commas between them: `leap,mute`. False if one is no name of a finding.
     pub fn add(&mut self, names: &str) -> Result<bool, AllocError> {
         for name in names.split(',') {
-            match kind_named(name) {
+            match Kind::named(name) {
                 Some(kind) => self.kinds.push(kind)?,
                 None => return Ok(false),
             }

@@ -5,6 +5,7 @@ use crate::names::{Names, Quoted};
 use crate::phrases::clock_of;
 use crate::remarks::Remark;
 use crate::site_lines::LinesSaid;
+use ptpm_causes::Severity;
 use ptpm_site::finding::Finding;
 use ptpm_site::picture::Picture;
 use ptpm_site::source::Source;
@@ -74,26 +75,18 @@ impl Look<'_, '_> {
         if text.is_empty() { None } else { Some(text) }
     }
 
-    /// How bad the site is by its findings. What follows from a clock that can't answer makes it no worse: the time may be right.
-    pub(crate) fn severity(&self) -> Severity {
-        let mut severity = Severity::None;
+    /// How bad the worst of the findings is. What follows from a clock that can't answer makes it no worse: the time may be right.
+    pub(crate) fn severity(&self) -> Option<Severity> {
+        let mut severity = None;
         for remark in self.found.as_slice() {
             if remark.is_of_silence() {
                 continue;
             }
             if remark.is_critical() {
-                return Severity::Critical;
+                return Some(Severity::Critical);
             }
-            severity = Severity::Warning;
+            severity = Some(Severity::Warning);
         }
         severity
     }
-}
-
-/// The worst of findings.
-#[derive(Clone, Copy)]
-pub(crate) enum Severity {
-    None,
-    Warning,
-    Critical,
 }

@@ -1,11 +1,10 @@
 //! A site as a plugin of Nagios, or of Icinga, shows it: a line, and the findings below it.
 
 use crate::finding_report::FindingReport;
-use crate::kinds::{ALL, is_critical};
-use crate::look::{Look, Severity};
+use crate::look::Look;
 use crate::seconds::{IntervalSeconds, NanosecondSeconds};
 use crate::trees::Clocks;
-use ptpm_causes::Kind;
+use ptpm_causes::{Kind, Severity};
 use ptpm_commands::Fault;
 use ptpm_site::picture::Picture;
 use ptpm_site::port_groups::PortGroup;
@@ -52,9 +51,9 @@ impl Standing {
             return Standing::Unknown;
         }
         match look.severity() {
-            Severity::None => Standing::Sound,
-            Severity::Warning => Standing::Warning,
-            Severity::Critical => Standing::Critical,
+            None => Standing::Sound,
+            Some(Severity::Warning) => Standing::Warning,
+            Some(Severity::Critical) => Standing::Critical,
         }
     }
 }
@@ -154,22 +153,22 @@ fn greatest_offset(picture: &Picture<'_>) -> Option<i64> {
 
 /// Prints how many findings of each name there are that follow from no other, critical ones first.
 fn print_counts<O: Write>(look: &Look<'_, '_>, out: &mut O) -> io::Result<()> {
-    let between = print_counts_of(look, true, "", out)?;
-    print_counts_of(look, false, between, out)?;
+    let between = print_counts_of(look, Severity::Critical, "", out)?;
+    print_counts_of(look, Severity::Warning, between, out)?;
     Ok(())
 }
 
-/// Prints them for names that are critical, or for those that are not. Answers what comes before the next.
+/// Prints them for names that are so bad. Answers what comes before the next.
 fn print_counts_of<O: Write>(
     look: &Look<'_, '_>,
-    critical: bool,
+    severity: Severity,
     between: &'static str,
     out: &mut O,
 ) -> io::Result<&'static str> {
     let mut between = between;
-    for kind in ALL {
+    for kind in Kind::ALL {
         let count = count_of(look, kind);
-        if count != 0 && is_critical(kind) == critical {
+        if count != 0 && kind.row().severity == severity {
             write!(out, "{between}{} {count}", kind.name())?;
             between = ", ";
         }

@@ -1,12 +1,12 @@
 //! A site as numbers for a monitoring system, in OpenMetrics 1.0. Programs that read the older text format of Prometheus read it too.
 
-use crate::kinds::{ALL, severity_of};
 use crate::label::Label;
 use crate::look::Look;
 use crate::metric_families::{OfClock, OfPort, write_head};
 use crate::remarks::Remark;
 use crate::seconds::NanosecondSeconds;
 use crate::span::Span;
+use ptpm_causes::Kind;
 use ptpm_commands::Fault;
 use ptpm_members::{Enumeration, MemberValue};
 use ptpm_site::domain::Domain;
@@ -148,8 +148,8 @@ fn print_counts_of_findings<O: Write>(
 /// Prints how many findings of each name there are among those of a domain, also if there is none.
 fn print_counts<O: Write>(domain: Domain, remarks: &[Remark<'_>], out: &mut O) -> io::Result<()> {
     let labels = OfDomain(domain);
-    for kind in ALL {
-        let (name, severity) = (kind.name(), severity_of(kind));
+    for kind in Kind::ALL {
+        let (name, severity) = (kind.name(), kind.row().severity.word());
         let count = remarks
             .iter()
             .filter(|remark| remark.named.kind == kind)

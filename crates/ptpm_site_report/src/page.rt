@@ -2,8 +2,7 @@
 
 use crate::finding_text::Said;
 use crate::grandmaster_line::GrandmasterLine;
-use crate::kinds::{meaning_of, severity_of};
-use crate::look::{Look, Severity};
+use crate::look::Look;
 use crate::page_style::STYLE;
 use crate::phrases::clock_of;
 use crate::ports_text::PortsText;
@@ -90,10 +89,9 @@ fn print_head<O: Write>(look: &Look<'_, '_>, out: &mut O) -> io::Result<()> {
     let counts = counts_of(look);
     let clocks = look.picture.forest.sources.len();
     let class = match look.severity() {
-        Severity::Critical => "critical",
-        Severity::Warning => "warning",
-        Severity::None if clocks == 0 => "faint",
-        Severity::None => "good",
+        Some(severity) => severity.word(),
+        None if clocks == 0 => "faint",
+        None => "good",
     };
     let (clocks, asked) = (Clocks(clocks), look.asked_text());
     writeln!(
@@ -160,7 +158,7 @@ fn print_cells<O: Write>(
     words: &str,
     out: &mut O,
 ) -> io::Result<()> {
-    let (severity, meaning) = (class_of(remark), meaning_of(remark.named.kind));
+    let (severity, meaning) = (class_of(remark), remark.named.kind.meaning());
     let domain = remark.source().domain;
     write!(
         out,
@@ -301,7 +299,7 @@ fn print_remarks<O: Write>(
 fn print_remark<O: Write>(alloc: Global, remark: &Remark<'_>, out: &mut O) -> Result<(), Fault> {
     let words = format!(in alloc; "{remark}")?;
     let (class, words) = (class_of(remark), Escaped(words.as_str()));
-    let meaning = meaning_of(remark.named.kind);
+    let meaning = remark.named.kind.meaning();
     write!(
         out,
         "<p class=\"{class}\"><span>{meaning}</span> <span class=\"faint\">{words}</span></p>"
@@ -312,7 +310,7 @@ fn print_remark<O: Write>(alloc: Global, remark: &Remark<'_>, out: &mut O) -> Re
 /// How bad it is, in a word that the style has too.
 fn class_of(remark: &Remark<'_>) -> &'static str {
     match remark.weight {
-        Weight::Wrong => severity_of(remark.named.kind),
+        Weight::Wrong => remark.severity().word(),
         Weight::Follows => "follows",
         Weight::Open => "open",
     }

@@ -1,9 +1,8 @@
 //! What is said of a site: its findings, each with that from which it follows, and what is open.
 
 use crate::finding_text::Said;
-use crate::kinds::is_critical;
 use crate::phrases::clock_of_cause;
-use ptpm_causes::{Cause, Kind, named};
+use ptpm_causes::{Cause, Kind, Severity, named};
 use ptpm_site::finding::Finding;
 use ptpm_site::picture::Picture;
 use ptpm_site::site::Site;
@@ -83,8 +82,12 @@ impl Remark<'_> {
         matches!(self.weight, Weight::Wrong)
     }
 
+    pub(crate) fn severity(&self) -> Severity {
+        self.named.kind.row().severity
+    }
+
     pub(crate) fn is_critical(&self) -> bool {
-        is_critical(self.named.kind)
+        self.severity() == Severity::Critical
     }
 
     /// Whether it follows from that a clock is there, and answers no management message.
