@@ -100,7 +100,7 @@ pub struct KindRow {
     /// The name, which scripts read.
     pub name: &'static str,
     pub severity: Severity,
-    /// How many looks after each other must have it: two of one that may be there for a moment while a change goes through a site.
+    /// How many looks after each other must have it. One that is there for a moment, while a change goes through a site, needs two.
     pub looks: u8,
     pub course: Course,
 }

@@ -4,8 +4,8 @@ use ptpm_causes::Kind;
 use ptpm_commands::Fault;
 use std::io::Write;
 
-/// Prints a line for each finding, in the order of a clock's: its name, how bad it is, how many looks must have it, how it goes on
-/// from look to look, and what it means.
+/// Prints a line for each finding, in the order of a clock's. Of its row it has the name, the severity, the looks and the course, and
+/// last what it means.
 pub fn findings<O: Write>(out: &mut O) -> Result<(), Fault> {
     for kind in Kind::ALL {
         let row = kind.row();
