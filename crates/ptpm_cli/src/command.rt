@@ -238,7 +238,7 @@ fn parse<'a>(alloc: Global, words: &'a [&'a str]) -> Result<Task<'a>, clap::Erro
         }
         Err(WithoutTask::BadLimit) => Err(ptpm.error(
             ErrorKind::InvalidValue,
-            "invalid value for '--max-offset <NS>': neither a number nor 'none'",
+            "invalid value for '--max-offset <NS>': neither a number from 0 to 18446744073709551615 nor 'none'",
         )?),
         Err(WithoutTask::BadName) => Err(ptpm.error(
             ErrorKind::InvalidValue,
