@@ -201,7 +201,7 @@ static const struct option options[] = {
 struct words {
     const char *at[MOST_WORDS + 1], *domain, *target;
     int count;
-    bool is_text, is_every_port;
+    bool is_text, is_every_port, has_names;
     long port, target_port, hops, attempts;
 };
 
@@ -373,7 +373,10 @@ static void take_option(struct task *task, struct words *words, int option, cons
     case ANY_SOURCE: task->is_any_source = true; break;
     case 'u': task->path = value; break;
     case 'T': words->target = value; break;
-    case NAMES: read_clock_names(value); break;
+    case NAMES:
+        words->has_names = true;
+        read_clock_names(value);
+        break;
     case EXPECT: task->plan.expected = value; break;
     case PROBE: task->plan.is_probed = true; break;
     case 'p': read_port(words, value); break;
@@ -499,6 +502,7 @@ static void read_value(struct task *task, const struct words *words) {
     size_t count = words->count > 2 ? (size_t)words->count - 2 : 0;
     bool is_set = !task->is_survey && task->action == PTPM_SET;
     bool is_read_only = is_set && can_only_be_read(task->id);
+    if (words->is_text && !is_set) refuse("--text: it is of set alone");
     if (is_read_only && (count != 1 || is_member(task->id, value[0]))) refuse("set %s: the id can only be read", id);
     if (count == 0 && is_set && !has_no_member(task->id)) refuse("set %s: it takes a value after it", id);
     if (count == 0) return;
@@ -530,6 +534,8 @@ static void judge(const struct task *task, const struct words *words) {
     bool asks_one = (!task->is_survey || task->is_of_clock) && task->plan.verb == NO_PLAN;
     if (!asks_one && words->target != NULL) refuse("%s asks every clock: it takes no --target", words->at[0]);
     if (asks_one && words->target == NULL) refuse("--target is missing: the clock that is asked; survey asks every clock");
+    if (words->has_names && !asks_one && !task->site.is_shown) refuse("--names: it is of status and --target alone");
+    if (task->is_survey && task->numbers != NULL) refuse("--numbers: no session is kept of what every port is asked");
     if (task->is_survey && task->times > 1) refuse("--times: what every port is asked is asked once");
     if (words->is_every_port && words->target_port >= 0) refuse("--port all names every port, and --target names one");
     if (words->port >= 0 && words->target_port >= 0 && words->port != words->target_port) {
@@ -558,7 +564,8 @@ static void read_plan(struct task *task, const struct words *words) {
     const char *verb = words->at[0];
     int most = task->plan.verb == RESUME ? 1 : 2;
     if (words->count > most) refuse("%s: there is a word too many; see ptpm-manage --help", words->at[most]);
-    if (words->count < most) refuse("%s: it takes %s", verb, task->plan.verb == ROLLBACK ? "the name of an apply" : "a file");
+    bool lacks_word = words->count < most || (most == 2 && *words->at[1] == '\0');
+    if (lacks_word) refuse("%s: it takes %s", verb, task->plan.verb == ROLLBACK ? "the name of an apply" : "a file");
     task->plan.word = words->at[1];
     if (words->domain != NULL) refuse("--domain: %s takes the domains of its file", verb);
     if (task->interface_count > 1) refuse("--interface: %s takes one", verb);
