@@ -1,3 +1,4 @@
+#define _GNU_SOURCE
 #include "domains.h"
 #include "collect.h"
 #include "heard.h"
@@ -5,6 +6,7 @@
 #include "notices.h"
 #include "transport.h"
 #include <stdio.h>
+#include <string.h>
 
 /* The standard's default, and that of SMPTE ST 2059-2. */
 enum { USUAL = 0, USUAL_IN_STUDIOS = 127 };
@@ -85,13 +87,24 @@ void find_domains(struct domains *domains, const struct task *task) {
     add_answering_domains(domains, task);
 }
 
+/* Whether the domain from this place on is the next one of the same sdoId. */
+static bool is_next_there(const struct domains *domains, size_t place) {
+    return place % DOMAINS != 0 && domains->is_in[place / DOMAINS][place % DOMAINS];
+}
+
 const char *domains_text(const struct domains *domains) {
-    static char text[32];
-    char one[DOMAIN_TEXT];
+    enum { MOST_RANGES = MOST_SDOS * DOMAINS / 2, RANGE_TEXT = sizeof ", 255-" + DOMAIN_TEXT };
+    static char text[sizeof "domain" + MOST_RANGES * RANGE_TEXT];
+    char *end = stpcpy(text, "domain");
+    const char *between = " ";
     struct domain domain;
-    size_t place = 0, count = 0;
-    for (; next_domain(domains, &place, &domain); count++) write_domain(one, domain);
-    if (count == 1) snprintf(text, sizeof text, "domain %s", one);
-    else snprintf(text, sizeof text, "%zu domains", count);
+    for (size_t place = 0; next_domain(domains, &place, &domain); between = ", ") {
+        unsigned first = domain.number;
+        while (is_next_there(domains, place)) next_domain(domains, &place, &domain);
+        end = stpcpy(end, between);
+        if (first < domain.number) end += sprintf(end, "%u-", first);
+        write_domain(end, domain);
+        end += strlen(end);
+    }
     return text;
 }

@@ -30,7 +30,7 @@ bool is_sdo_asked(const struct domains *domains, uint16_t sdo);
 /* The domains, sdoId by sdoId, each time the one from this place on; and whether there is one. The place begins with 0. */
 bool next_domain(const struct domains *domains, size_t *place, struct domain *domain);
 
-/* The domains as a text: `domain 5`, or `3 domains`. It is there until the next call. */
+/* The domains as a text, like that of `ptpm site`: `domain 5`, or `domain 0-7, 127, 4@0x100`. It is there until the next call. */
 const char *domains_text(const struct domains *domains);
 
 #endif
