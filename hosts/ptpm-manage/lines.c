@@ -1,8 +1,10 @@
 #define _GNU_SOURCE
 #include "lines.h"
+#include "text.h"
 #include "transport.h"
 #include "words.h"
 #include <stdbool.h>
+#include <string.h>
 #include <sys/timex.h>
 
 struct timespec time_now(void) {
@@ -11,10 +13,17 @@ struct timespec time_now(void) {
     return now;
 }
 
+/* The name of an interface and the path of a socket may have any octets, and a line takes only UTF-8. */
+static void write_word(FILE *to, const char *name, const char *value) {
+    fputs(name, to);
+    print_text(to, (const uint8_t *)value, strlen(value));
+    fputc(' ', to);
+}
+
 void write_line(FILE *to, const struct line *line) {
     fprintf(to, "at=%lld.%09ld ", (long long)line->at.tv_sec, line->at.tv_nsec);
-    if (*line->from != '\0') fprintf(to, "from=%s ", line->from);
-    if (line->on != NULL) fprintf(to, "on=%s ", line->on);
+    if (*line->from != '\0') write_word(to, "from=", line->from);
+    if (line->on != NULL) write_word(to, "on=", line->on);
     for (size_t i = 0; i < line->size; i++) fprintf(to, "%02x", line->message[i]);
     fputc('\n', to);
 }
