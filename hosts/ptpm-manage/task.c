@@ -333,7 +333,7 @@ static void read_port(struct words *words, const char *text) {
 
 static void read_manager(struct task *task, const char *text) {
     uint16_t *port = &task->settings.port;
-    bool is_named = ptpm_port_identity_parse(text, strlen(text), task->settings.clock, port) && *port != UINT16_MAX;
+    bool is_named = ptpm_port_identity_parse(text, strlen(text), task->settings.clock, port);
     if (!is_named) refuse("--manager %s: it takes aabbccfffeddee01/1 or aabbcc.fffe.ddee01-1", text);
     if (*port >= FIRST_OF_NOBODY) refuse("--manager %s: a port from %d on is of no manager", text, FIRST_OF_NOBODY);
     task->has_manager = true;
