@@ -240,6 +240,14 @@ static void refuse_twice(char *const *given, size_t count) {
     }
 }
 
+/* Linux takes a longer name of an interface only over netlink. */
+static void refuse_long(char *const *given, size_t count) {
+    for (size_t i = 0; i < count; i++) {
+        if (strlen(given[i]) < IFNAMSIZ) continue;
+        refuse_command_line("%s: it has over %d octets: ip link shows the short name of the interface", given[i], IFNAMSIZ - 1);
+    }
+}
+
 /* A clock drops what has its own identity as its source: it treats that as a message of its own that came back. */
 static void refuse_itself(const struct options *options) {
     char identity[IDENTITY_TEXT];
@@ -271,6 +279,7 @@ static void judge(const struct options *options, bool has_two_ways) {
         refuse_command_line("--owner %s: -u has this path", options->owner);
     }
     if (has_two_ways) refuse_command_line("-2 and -6 exclude each other");
+    refuse_long(options->interfaces, options->interface_count);
     refuse_twice(options->interfaces, options->interface_count);
     refuse_itself(options);
 }

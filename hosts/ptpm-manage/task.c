@@ -12,6 +12,7 @@
 #include <errno.h>
 #include <getopt.h>
 #include <inttypes.h>
+#include <net/if.h>
 #include <stdbool.h>
 #include <stdio.h>
 #include <stdlib.h>
@@ -345,7 +346,11 @@ static void take_domain(struct words *words, const char *text) {
     words->domain = text;
 }
 
+/* Linux takes a longer name of an interface only over netlink. */
 static void take_interface(struct task *task, const char *name) {
+    if (strlen(name) >= IFNAMSIZ) {
+        refuse("--interface %s: it has over %d octets: ip link shows the short name of the interface", name, IFNAMSIZ - 1);
+    }
     if (task->interface_count == MOST_INTERFACES) refuse("--interface %s: there are more than %d", name, MOST_INTERFACES);
     task->interfaces[task->interface_count++] = name;
 }
