@@ -1,23 +1,44 @@
+#define _GNU_SOURCE
 #include "output_file.h"
 #include "kept_file.h"
 #include "notices.h"
 #include <errno.h>
+#include <fcntl.h>
+#include <limits.h>
 #include <stdint.h>
+#include <stdio.h>
 #include <string.h>
 #include <sys/stat.h>
+#include <unistd.h>
 
 enum { READABLE_BY_ALL = 0644 };
 
 static struct kept_file file;
 static const char *path;
 
-void find_output_file(const char *at) {
-    path = at;
-    file.mode = READABLE_BY_ALL;
+/* What a symbolic link leads to; any other path stays as it is. The kernel follows it, and not realpath: it may refuse to follow one that
+   somebody else left in a folder such as /tmp. */
+static const char *end_of_link(const char *at) {
+    static char end[PATH_MAX];
+    char opened_at[32];
     struct stat found;
-    umask(022);
+    if (lstat(at, &found) || !S_ISLNK(found.st_mode)) return at;
+    int opened = open(at, O_PATH | O_CLOEXEC);
+    snprintf(opened_at, sizeof opened_at, "/proc/self/fd/%d", opened);
+    ssize_t size = opened < 0 ? -1 : readlink(opened_at, end, sizeof end - 1);
+    if (size < 0) refuse("--output %s: it is a link: %s", at, strerror(errno));
+    close(opened);
+    end[size] = '\0';
+    return end;
+}
+
+void find_output_file(const char *at) {
+    struct stat found;
     if (stat(at, &found) == 0 && !S_ISREG(found.st_mode)) refuse("--output %s: it is no regular file, and would be replaced", at);
-    if (!open_kept_folder(&file, at)) refuse("--output %s: %s", at, strerror(errno));
+    path = end_of_link(at);
+    file.mode = READABLE_BY_ALL;
+    umask(022);
+    if (!open_kept_folder(&file, path)) refuse("--output %s: %s", path, strerror(errno));
 }
 
 bool write_output_file(const char *text, size_t size) {

@@ -5,7 +5,7 @@
 #include <stdbool.h>
 #include <stddef.h>
 
-/* Finds the folder of a path. Ends the program with status 2 if it can't. */
+/* Finds the folder of a path, or of what it leads to as a symbolic link. Ends the program with status 2 if it can't. */
 void find_output_file(const char *path);
 
 /* Replaces the file by one with this text; whether that was done, and otherwise why not is said. */
