@@ -8,6 +8,7 @@
 #include <linux/if_packet.h>
 #include <net/if.h>
 #include <stdbool.h>
+#include <stdio.h>
 #include <string.h>
 #include <sys/ioctl.h>
 #include <sys/socket.h>
@@ -36,9 +37,10 @@ static const struct sock_filter wanted[] = {
 };
 
 /* Reads the interface's own address; whether it could. */
-static bool read_station(int socket, unsigned index, uint8_t own[STATION]) {
+static bool read_station(int socket, const char *interface, uint8_t own[STATION]) {
     struct ifreq request = { 0 };
-    if (if_indextoname(index, request.ifr_name) == NULL || ioctl(socket, SIOCGIFHWADDR, &request)) return false;
+    snprintf(request.ifr_name, sizeof request.ifr_name, "%s", interface);
+    if (ioctl(socket, SIOCGIFHWADDR, &request)) return false;
     memcpy(own, request.ifr_hwaddr.sa_data, STATION);
     return true;
 }
@@ -57,18 +59,18 @@ static struct packet_mreq membership(unsigned index, const uint8_t group[STATION
 }
 
 bool join_link_group(int socket, const char *interface) {
-    struct packet_mreq join = membership(if_nametoindex(interface), link_group);
+    struct packet_mreq join = membership(index_of(socket, interface), link_group);
     return setsockopt(socket, SOL_PACKET, PACKET_ADD_MEMBERSHIP, &join, sizeof join) == 0;
 }
 
 /* The socket hears nothing until it is bound, and by then it has its filter. */
 static bool join_group(int socket, const char *interface, uint8_t own[STATION], const char **what) {
     int one = 1;
-    unsigned index = if_nametoindex(interface);
+    unsigned index = index_of(socket, interface);
     struct sockaddr_ll place = { .sll_family = AF_PACKET, .sll_protocol = htons(PTP), .sll_ifindex = (int)index };
     struct packet_mreq join = membership(index, group_station);
     *what = interface;
-    if (index == 0 || !read_station(socket, index, own)) return false;
+    if (index == 0 || !read_station(socket, interface, own)) return false;
     *what = "SO_ATTACH_FILTER";
     if (!filter_ethernet(socket, true)
         || !set_option(socket, SOL_PACKET, PACKET_IGNORE_OUTGOING, &one, sizeof one, what, "PACKET_IGNORE_OUTGOING")

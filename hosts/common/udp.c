@@ -62,7 +62,7 @@ static bool send_at_six(int socket, unsigned interface, const char **what) {
 
 /* Only management messages come in at the socket, which hears nothing until it is bound. */
 static bool stay_at(int socket, const char *interface, bool is_six, const char **what) {
-    unsigned index = if_nametoindex(interface);
+    unsigned index = index_of(socket, interface);
     if (index == 0) return false;
     *what = "SO_ATTACH_FILTER";
     return filter_udp(socket, true)
@@ -96,7 +96,7 @@ static bool join_group_at(int socket, const char *interface, bool is_six, uint16
     *what = port == EVENT_PORT ? "UDP port 319" : "UDP port 320";
     if (!bind_to_group(socket, &to, size, what)) return false;
     *what = is_six ? "IPV6_ADD_MEMBERSHIP" : "IP_ADD_MEMBERSHIP";
-    return join(socket, &to, if_nametoindex(interface));
+    return join(socket, &to, index_of(socket, interface));
 }
 
 static bool join_group(int socket, const char *interface, bool is_six, const char **what) {

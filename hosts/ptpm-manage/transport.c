@@ -9,6 +9,7 @@
 #include "notices.h"
 #include "program.h"
 #include "reading.h"
+#include "socket_option.h"
 #include "stopping.h"
 #include "udp.h"
 #include "unix_socket.h"
@@ -121,7 +122,8 @@ static void find_udp(const struct task *task) {
 }
 
 static void add_end(const char *interface) {
-    if (if_nametoindex(interface) == 0) refuse("nothing was sent: %s: %s", interface, strerror(errno));
+    uint8_t identity[8];
+    if (!write_own_identity(identity, interface)) refuse("nothing was sent: %s: %s", interface, strerror(errno));
     for (size_t i = 0; i < end_count; i++) {
         if (if_nametoindex(ends[i].interface) == if_nametoindex(interface)) refuse("--interface %s: it is named twice", interface);
     }
@@ -194,10 +196,11 @@ void tell_missing_addresses(void) {
     forget_networks();
     for (size_t i = 0; i < end_count; i++) {
         const char *interface = ends[i].interface;
-        unsigned index = interface == NULL || is_ethernet ? 0 : if_nametoindex(interface);
-        if (interface == NULL || is_ethernet || (index != 0 && has_address(index, family()))) continue;
+        if (interface == NULL || is_ethernet) continue;
+        unsigned index = index_of(ends[i].socket, interface);
         if (index == 0) complain("%s is gone", interface);
-        else complain("%s has no address of IPv%d: a clock may not hear this machine there", interface, is_six ? 6 : 4);
+        if (index == 0 || has_address(index, family())) continue;
+        complain("%s has no address of IPv%d: a clock may not hear this machine there", interface, is_six ? 6 : 4);
     }
 }
 
