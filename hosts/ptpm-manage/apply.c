@@ -126,7 +126,10 @@ static void take_up(const struct task *task, struct journal *journal) {
 
 /* Ends it without an answer to the uncertain step. */
 static int give_up_apply(const struct task *task, struct journal *journal) {
-    if (!note_begun_step(journal) || !end_journal(journal, GIVEN_UP, journal->begun)) return NOT_WRITTEN;
+    if (!note_begun_step(journal)) return NOT_WRITTEN;
+    int status = let_go_of_steps(journal);
+    if (status != ANSWERED) return status;
+    if (!end_journal(journal, GIVEN_UP, journal->begun)) return NOT_WRITTEN;
     if (journal->begun != NO_STEP) complain("step %ld may have been carried out", journal->begun + 1);
     print_apply(journal, true, task->is_json);
     return NOT_ANSWERED;

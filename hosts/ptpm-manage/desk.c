@@ -176,7 +176,18 @@ static int stop_at_stranger(const struct desk *desk, const struct journal *journ
 
 bool note_standing(struct desk *desk, struct journal *journal) {
     enum standing standing = find_standing(desk, journal);
-    return (standing != NEVER_BEGUN && standing != NUMBER_TAKEN) || note_not_begun(journal);
+    if ((standing != NEVER_BEGUN && standing != NUMBER_TAKEN) || note_not_begun(journal)) return true;
+    not_noted(journal);
+    return false;
+}
+
+/* The session is saved before the journal gets its end. Should a crash come in between, the step is UNKNOWN, and nothing is sent. */
+int let_go_at_desk(struct desk *desk, const struct journal *journal) {
+    enum standing standing = find_standing(desk, journal);
+    if (standing != UNDER_WAY && standing != IS_TOLD) return ANSWERED;
+    enum ptpm_asked refusal = ptpm_asker_let_go(&desk->session.asker, &desk->driver.handed);
+    if (refusal != PTPM_ASKED) refuse_to_let_go(refusal, &desk->session.earlier, &desk->task);
+    return save_session(&desk->session) ? ANSWERED : not_saved(desk);
 }
 
 int see_to_desk(struct desk *desk, struct journal *journal) {

@@ -27,6 +27,10 @@ int see_to_desk(struct desk *desk, struct journal *journal);
 /* Finds whether the step that was begun last was never sent, and notes it then. Nothing is sent. */
 bool note_standing(struct desk *desk, struct journal *journal);
 
+/* Gives up a step of the journal whose request is still in the session, and saves that. Nothing is sent. ANSWERED, or the program's
+   status. */
+int let_go_at_desk(struct desk *desk, const struct journal *journal);
+
 /* Asks a step until it is answered, and notes what the answer is. ANSWERED, or the program's status. */
 int ask_step(struct desk *desk, struct journal *journal, long step);
 

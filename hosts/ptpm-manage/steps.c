@@ -201,6 +201,12 @@ bool note_begun_step(struct journal *journal) {
     return journal->begun == NO_STEP || note_standing(desk_of(&journal->steps[journal->begun]), journal);
 }
 
+int let_go_of_steps(const struct journal *journal) {
+    int status = ANSWERED;
+    for (size_t i = 0; i < desk_count && status == ANSWERED; i++) status = let_go_at_desk(desks[i], journal);
+    return status;
+}
+
 /* Reads the member, and asks the step if that is as it was planned. */
 static int take_step(const struct task *task, struct journal *journal, long place) {
     static struct answer answer;

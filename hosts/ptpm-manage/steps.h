@@ -21,6 +21,10 @@ int settle_begun_step(struct journal *journal);
 /* Finds whether the step that was begun last was never sent, and notes it then. Nothing is sent. Whether it could. */
 bool note_begun_step(struct journal *journal);
 
+/* Gives up the steps of the journal that are still in a session, so that no later run sends them again. Nothing is sent. ANSWERED, or the
+   program's status. */
+int let_go_of_steps(const struct journal *journal);
+
 /* Notes how it ended, and takes the marks away; whether it could. */
 bool end_journal(struct journal *journal, enum ending ending, long step);
 

@@ -80,7 +80,7 @@ class Middle(threading.Thread):
         super().__init__(daemon=True)
         self.near, self.far = near, far
         self.to_clocks, self.to_manager = (Way(end, troubles or NO_TROUBLES, 2 * seed + way) for way, end in enumerate((far, near)))
-        self.is_mute = False                # answers are lost
+        self.is_mute = self.is_cut = False  # answers are lost; all is
         self.before = None                  # called with each request before it passes on
         self.is_over = False
 
@@ -88,7 +88,8 @@ class Middle(threading.Thread):
         request = request_of(frame)
         if request is not None and self.before is not None:
             self.before(request)
-        self.to_clocks.pass_on(frame)
+        if not self.is_cut:
+            self.to_clocks.pass_on(frame)
 
     def run(self):
         while not self.is_over:
@@ -96,7 +97,7 @@ class Middle(threading.Thread):
                 frame = os.read(end, 2048)
                 if end == self.near:
                     self.ask(frame)
-                elif not self.is_mute:
+                elif not self.is_mute and not self.is_cut:
                     self.to_manager.pass_on(frame)
             self.to_clocks.release_late()
             self.to_manager.release_late()
