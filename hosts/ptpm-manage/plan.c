@@ -14,6 +14,7 @@
 #include <stdio.h>
 #include <stdlib.h>
 #include <string.h>
+#include <sys/stat.h>
 
 enum { MOST_ARGUMENTS = 5, STEP_WORDS = 8 };
 
@@ -147,11 +148,20 @@ static void name_silent_domains(const struct domains *domains) {
     }
 }
 
+/* `ptpm plan` reads the file for each of its forms: of a pipe the second one would have nothing. */
+static void refuse_pipe(const char *path) {
+    struct stat found;
+    if (stat(path, &found) == 0 && S_ISFIFO(found.st_mode)) {
+        refuse("%s: it is read more than once, so it has to be a file, and no pipe", path);
+    }
+}
+
 int make_plan(struct plan *plan, const struct task *task) {
     struct collected what;
     struct domains domains;
     struct printed answers;
     *plan = (struct plan){ 0 };
+    refuse_pipe(task->plan.word);
     find_ptpm_program();
     int status = find_asks(task, &what, &domains);
     if (status != 0) return status;
@@ -164,11 +174,11 @@ int make_plan(struct plan *plan, const struct task *task) {
         status = run_plan(task, "--steps", &lines, &plan->text);
         /* A table of every clock is of none then, and all else is said to be not reached. */
         if (status == ANSWERED) status = asked;
-        if (plan->text.text != NULL) {
+        if (plan->text.size > 0) {
             read_id(plan, "plan");
             read_steps(plan);
         }
-        if (plan->text.text != NULL && task->is_json) take_json(plan, task, &lines);
+        if (plan->text.size > 0 && task->is_json) take_json(plan, task, &lines);
     }
     free(answers.text);
     return stopped ? BY_SIGNAL + stopped : status;
