@@ -97,7 +97,7 @@ static int apply(const struct task *task) {
     int status = make_plan(&plan, task);
     print_plan(&plan);
     if (fflush(stdout)) return NOT_WRITTEN;
-    if (status == REFUSED || status == NOT_ANSWERED) complain("nothing was sent");
+    if (stopped || status == REFUSED || status == NOT_ANSWERED) complain("nothing was sent");
     if (status == ANSWERED) status = apply_plan(task, &plan);
     leave_plan(&plan);
     return status;

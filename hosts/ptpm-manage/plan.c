@@ -164,7 +164,7 @@ int make_plan(struct plan *plan, const struct task *task) {
     refuse_pipe(task->plan.word);
     find_ptpm_program();
     int status = find_asks(task, &what, &domains);
-    if (status != 0) return status;
+    if (status != 0) return stopped ? BY_SIGNAL + stopped : status;
     open_transport(task);
     widen_transport();
     int asked = status = ask_clocks(task, &what, &domains, &answers);
