@@ -105,10 +105,14 @@ static int apply(const struct task *task) {
 
 /* ---- resume */
 
-/* The task as the journal's manager, whichever the way has by itself. */
+/* The task as the journal's manager, whichever the way has by itself. Clock 0 is that of a Unix socket: a clock would refuse it elsewhere. */
 static const struct task *as_manager(const struct task *task, const struct journal *journal) {
+    static const uint8_t of_socket[8];
     static struct task own;
     own = *task;
+    if (task->path == NULL && memcmp(journal->manager, of_socket, 8) == 0) {
+        refuse("nothing was sent: %s was begun on a Unix socket: --unix names it", journal->name);
+    }
     bool is_other = memcmp(journal->manager, task->settings.clock, 8) != 0 || journal->manager_port != task->settings.port;
     if (task->has_manager && is_other) refuse("nothing was sent: %s is by another manager than --manager says", journal->name);
     memcpy(own.settings.clock, journal->manager, 8);
