@@ -8,6 +8,7 @@
 #include "standing.h"
 #include "stopping.h"
 #include "telling.h"
+#include "unanswered.h"
 #include "words.h"
 #include <errno.h>
 #include <string.h>
@@ -56,6 +57,17 @@ static bool note_answer(struct desk *desk, struct journal *journal, long step, b
 
 /* ---- what is asked */
 
+/* What is known of a clock that gave this step no answer. One that moves may be in either domain: nothing is said of it. */
+static void say_silence_at(const struct desk *desk, const struct step *step) {
+    static struct task asked;
+    if (step->id == PTPM_ID_DOMAIN) return;
+    asked = desk->task;
+    asked.id = step->id;
+    asked.port = step->port;
+    asked.settings.domain = step->domain;
+    say_silence(&asked);
+}
+
 /* No answer came. If no message of a step left that was begun now, it was not begun: the session was saved without it. One that an earlier
    run began stays in the session, and that run may have sent it. */
 static int no_answer_to(struct desk *desk, struct journal *journal, long step, bool is_begun_now) {
@@ -74,7 +86,8 @@ static int no_answer_to(struct desk *desk, struct journal *journal, long step, b
     if (driver->is_way_said) return NOT_ANSWERED;
     complain("no answer of %s at %s to %ld message%s: %s", clock, transport_name(), driver->sent, driver->sent == 1 ? "" : "s",
              is_begun ? "the step may have been carried out" : "the next step was not sent");
-    return NOT_ANSWERED;
+    if (step != NO_STEP) say_silence_at(desk, &journal->steps[step]);
+    return stopped ? BY_SIGNAL + stopped : NOT_ANSWERED;
 }
 
 static int not_saved(const struct desk *desk) {

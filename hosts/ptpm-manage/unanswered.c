@@ -87,6 +87,12 @@ static const char *request_clause(const struct task *task, enum unanswered what)
     return ": the request itself was not sent";
 }
 
+void say_silence(const struct task *task) {
+    tell_missing_addresses();
+    tell_deaf_port();
+    if (say_value(task)) say_reason(task, REQUEST, 0);
+}
+
 int no_answer(const struct task *task, enum unanswered what, uint16_t number, long sent) {
     const char *end = stopped ? "ended by a signal: " : "";
     if (sent == 0) {

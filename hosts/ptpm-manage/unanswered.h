@@ -16,4 +16,8 @@ int no_answer(const struct task *task, enum unanswered what, uint16_t number, lo
 /* Says how a survey, or a collection, hears answers that take longer. */
 void advise_on_time(const struct task *task);
 
+/* Says what is known of a clock that gave a step of an apply no answer. If it answers reads, that is what it has, and why it may drop
+   the step. */
+void say_silence(const struct task *task);
+
 #endif
