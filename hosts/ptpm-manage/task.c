@@ -599,8 +599,16 @@ static void read_asked(struct task *task, const struct words *words) {
     read_value(task, words);
 }
 
-/* The domains, hops and attempts that the options name, or else those of what is asked. Of several interfaces the last counts, but a
-   whole site is asked at all of them. */
+/* A whole site is asked at several interfaces, and all else at one. */
+static void see_to_one_interface(struct task *task) {
+    for (int i = 1; i < task->interface_count; i++) {
+        if (strcmp(task->interfaces[i], task->interfaces[0]) == 0) continue;
+        refuse("--interface %s: --interface %s is there already; collect and status take several", task->interfaces[i], task->interfaces[0]);
+    }
+    if (task->interface_count > 1) task->interface_count = 1;
+}
+
+/* The domains, hops and attempts that the options name, or else those of what is asked. */
 static void read_reach(struct task *task, const struct words *words) {
     bool is_site = task->site.is_collected;
     struct ptpm_session_settings *settings = &task->settings;
@@ -610,9 +618,7 @@ static void read_reach(struct task *task, const struct words *words) {
     task->site.is_as_far_as_named = words->hops >= 0;
     settings->hops = (uint8_t)(words->hops >= 0 ? words->hops : is_far ? SITE_HOPS : HOPS);
     settings->attempts = (uint8_t)(words->attempts >= 0 ? words->attempts : is_site ? SITE_ATTEMPTS : ATTEMPTS);
-    if (is_site || task->interface_count < 2) return;
-    task->interfaces[0] = task->interfaces[task->interface_count - 1];
-    task->interface_count = 1;
+    if (!is_site) see_to_one_interface(task);
 }
 
 void read_task(struct task *task, int argc, char **argv) {
