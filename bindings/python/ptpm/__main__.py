@@ -6,7 +6,7 @@ import argparse
 import re
 import signal
 import sys
-from typing import Callable, List, Optional
+from typing import Any, Callable, List, Optional
 
 from . import __version__
 from .answers import Error
@@ -41,6 +41,16 @@ def _number(least: int, most: int) -> Callable[[str], int]:
     return read
 
 
+class _Once(argparse.Action):
+    """A value that is given once. Of two the earlier one would be asked by nobody."""
+
+    def __call__(self, parser: argparse.ArgumentParser, words: argparse.Namespace, value: Any, option: Optional[str] = None) -> None:
+        if getattr(words, f"has_{self.dest}", False):
+            raise argparse.ArgumentError(self, "it is given twice")
+        setattr(words, f"has_{self.dest}", True)
+        setattr(words, self.dest, value)
+
+
 def _parser() -> argparse.ArgumentParser:
     parser = argparse.ArgumentParser(
         prog="python -m ptpm",
@@ -51,13 +61,13 @@ def _parser() -> argparse.ArgumentParser:
     add("verb", choices=["get", "set", "command", "survey"])
     add("id", help="a managementId by its name, or four hexadecimal digits")
     add("value", nargs="*", help="of set: names and values of members as the answer prints them, or the dataField in hexadecimal")
-    add("-i", "--interface", metavar="NAME", help="over UDP port 320 at this interface")
+    add("-i", "--interface", action=_Once, metavar="NAME", help="over UDP port 320 at this interface")
     add("--ipv6", action="store_true", help="with IPv6")
     add("--udp", metavar="ADDRESS", help="over UDP to this address")
     add("-u", "--unix", metavar="PATH", help="at a Unix socket of this machine, as /var/run/ptp4l")
     add("-T", "--target", "--to", metavar="IDENTITY", help="the clock, such as aabbccfffeddee01 or aabbcc.fffe.ddee01-1 for its port 1")
     add("-p", "--port", type=_number(0, 65535), help="the clock's port, named apart")
-    add("-d", "--domain", type=_number(0, 255), default=0)
+    add("-d", "--domain", action=_Once, type=_number(0, 255), default=0)
     add("-b", "--hops", type=_number(0, 255), default=1, help="boundary clocks that pass the request on")
     add("-m", "--manager", metavar="IDENTITY-PORT", help="the manager's own identity")
     add("-k", "--numbers", metavar="FILE", help="the file of the manager's session with the clock")

@@ -11,7 +11,7 @@ import time
 import unittest
 import unittest.mock
 import zlib
-from contextlib import redirect_stdout
+from contextlib import redirect_stderr, redirect_stdout
 from io import StringIO
 from typing import List, Optional
 
@@ -400,6 +400,13 @@ class Asking(Folder):
         with ptpm.SessionFile(MANAGER, CLOCK, path) as file:
             self.assertEqual(ptpm.Session(ptpm.SessionSettings(MANAGER, CLOCK), file).next_number, 11)
         self.assertEqual(os.stat(path).st_mode & 0o777, 0o640)
+
+    def test_a_second_interface_or_domain_is_refused(self) -> None:
+        for words in (["-i", "near0", "-i", "lo"], ["-d", "0", "-d", "1"]):
+            with redirect_stderr(StringIO()) as said, self.assertRaises(SystemExit) as ended:
+                command_line().parse_args(["get", "PRIORITY1", *words])
+            self.assertEqual(ended.exception.code, 2)
+            self.assertIn("it is given twice", said.getvalue())
 
     def test_a_file_that_an_apply_has_marked_is_refused(self) -> None:
         path, journal = f"{self.folder}/session", f"{self.folder}/apply/20261127T170000.journal"
