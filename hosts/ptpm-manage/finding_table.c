@@ -1,5 +1,5 @@
 #include "finding_table.h"
-#include "program.h"
+#include "notices.h"
 #include "ptpm_program.h"
 #include <stdio.h>
 #include <stdlib.h>
@@ -23,18 +23,20 @@ static void take_row(const char *line) {
     rows[row_count++] = row;
 }
 
-void read_finding_table(void) {
+/* Ends the program if there is none: which findings are only momentary is then unknown. */
+static void read_finding_table(void) {
     char *arguments[] = { NULL, (char *)"findings", NULL };
     struct printed printed;
     int status = run_ptpm_program(arguments, NULL, 0, &printed);
     char *line = status == 0 ? strtok(printed.text, "\n") : NULL;
     for (; line != NULL; line = strtok(NULL, "\n")) take_row(line);
     free(printed.text);
-    if (row_count == 0) refuse("nothing was asked: ptpm findings prints no table");
+    if (row_count == 0) refuse("ptpm findings prints no table");
 }
 
 const struct finding_row *finding_row(const struct piece *name) {
     static const struct finding_row none;
+    if (row_count == 0) read_finding_table();
     for (size_t i = 0; i < row_count; i++) {
         if (name->size == strlen(rows[i].name) && memcmp(name->at, rows[i].name, name->size) == 0) return &rows[i];
     }

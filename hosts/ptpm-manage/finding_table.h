@@ -9,10 +9,8 @@
    other values each time, more than one look shows what is over time, and a change is there once. */
 struct finding_row { char name[32]; bool is_passing, is_moving, is_over_time, is_change; };
 
-/* Reads the table. Ends the program with status 2 if there is none. */
-void read_finding_table(void);
-
-/* The row of a name. One that the table lacks is nothing of these. */
+/* The row of a name; that of one that the table lacks is nothing of these. The first call reads the table, and ends the program with status 2
+   if there is none. */
 const struct finding_row *finding_row(const struct piece *name);
 
 #endif

@@ -365,6 +365,10 @@ void leave_out_passing(struct report *report, const struct report *earlier) {
     free(keys.at);
 }
 
+void leave_none_out(struct report *report) {
+    for (size_t i = 0; i < report->count; i++) report->findings[i].is_left_out = false;
+}
+
 bool has_doubtful_line(const struct report *report, const struct report *earlier) {
     for (size_t i = 0; i < report->count; i++) {
         const struct finding *finding = &report->findings[i];

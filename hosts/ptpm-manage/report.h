@@ -55,6 +55,9 @@ bool has_open(const struct report *report);
 /* Leaves out of a report each such finding whose key is not in an earlier one. */
 void leave_out_passing(struct report *report, const struct report *earlier);
 
+/* Has each finding printed, also those that were left out. */
+void leave_none_out(struct report *report);
+
 /* Whether a line of a text was left out, and something followed from it, or from another one in the earlier report. */
 bool has_doubtful_line(const struct report *report, const struct report *earlier);
 

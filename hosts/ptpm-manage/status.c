@@ -2,7 +2,6 @@
 #include "status.h"
 #include "asking.h"
 #include "collect.h"
-#include "finding_table.h"
 #include "message_places.h"
 #include "monotonic.h"
 #include "notices.h"
@@ -30,6 +29,9 @@
 
 /* A change has gone through a site by then. What is open is looked at again as often, and as long as this. */
 enum { BEFORE_SECOND_LOOK = 2000, MOST_OPEN = 30000, TIME_TEXT = 32 };
+
+/* If this many looks each have what the one before lacks, the site is never at rest. */
+enum { MOST_MOMENTARY = 4 };
 
 /* So much is kept of looks while something is open. */
 enum { MOST_KEPT_LINES = 64 << 20 };
@@ -257,13 +259,21 @@ static void join_lines(struct look *look, const struct look *earlier) {
     look->size = size;
 }
 
-/* Looks at the site, and then again and again while something is open that time decides, over the lines of all these looks. */
+static bool has_momentary(const struct look *look) { return findings_left(&look->report) < look->report.count; }
+
+/* Whether another look is to decide: on what is open, or on a finding that only the latest look has. */
+static bool is_undecided(const struct look *look, int64_t end, int momentary) {
+    return (has_open(&look->report) && milliseconds() < end) || (0 < momentary && momentary < MOST_MOMENTARY);
+}
+
+/* Looks at the site, and then again and again while something is undecided, over the lines of all these looks. */
 static void look_until_decided(struct look *look, const struct task *task, struct domains *domains) {
     int64_t end = milliseconds() + MOST_OPEN;
     look_twice(look, task, domains, NULL);
-    while (!stopped && !task->site.is_once && has_open(&look->report) && milliseconds() < end) {
+    int momentary = has_momentary(look);
+    while (!stopped && !task->site.is_once && is_undecided(look, end, momentary)) {
         struct look next;
-        show_progress("something is open; another look in %d s", BEFORE_SECOND_LOOK / 1000);
+        show_progress("not all is decided; another look in %d s", BEFORE_SECOND_LOOK / 1000);
         listen_for_domains(domains, task, BEFORE_SECOND_LOOK);
         if (stopped) return;
         keep_clocks();
@@ -273,7 +283,9 @@ static void look_until_decided(struct look *look, const struct task *task, struc
         if (look->size > 0) join_lines(&next, look);
         free_look(look);
         *look = next;
+        momentary = has_momentary(look) ? momentary + 1 : 0;
     }
+    if (momentary >= MOST_MOMENTARY) leave_none_out(&look->report);
     if (look->status == FINDINGS && look->report.has_findings && findings_left(&look->report) == 0) look->status = 0;
 }
 
@@ -396,7 +408,6 @@ int show_status(const struct task *task) {
     find_ptpm_program();
     if (task->site.output != NULL) find_output_file(task->site.output);
     try_options(task);
-    read_finding_table();
     widen_transport();
     find_domains(&domains, task);
     look_until_decided(&look, task, &domains);

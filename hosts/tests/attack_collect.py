@@ -225,16 +225,19 @@ def programs_that_show():
 
 def refusals_of_memory():
     """Each request for memory is refused, with all later ones: what is shown is the whole site, or a failure with its reason. The
-    program that shows it here needs none: it prints three findings if it is handed a line."""
+    program that shows it here needs none: it prints three findings if it is handed a line, and a table with their name."""
     if is_sanitized("manage"):
         return                                                              # its memory is the sanitizer's
     me = bytes.fromhex(ME)
     folder = os.path.join(work, "shown")
     os.mkdir(folder)
-    write("shown/ptpm.c", """#include <unistd.h>
-int main(void) {
+    write("shown/ptpm.c", """#include <string.h>
+#include <unistd.h>
+int main(int count, char **words) {
+    static const char table[] = "intervals warning 1 over_time A port and the one that it follows do not fit together.\\n";
     static const char none[] = "no clock answered\\n", three[] = "findings: 3\\n0 a intervals 1\\n0 b intervals 2\\n0 c intervals 3\\n";
     char one;
+    if (count > 1 && strcmp(words[1], "findings") == 0) return write(1, table, sizeof table - 1) > 0 ? 0 : 1;
     if (read(0, &one, 1) != 1) return write(1, none, sizeof none - 1) > 0 ? 3 : 1;
     while (read(0, &one, 1) == 1) continue;
     return write(1, three, sizeof three - 1) > 0 ? 1 : 2;

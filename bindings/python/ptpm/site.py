@@ -9,7 +9,7 @@ import shutil
 import subprocess
 import time
 from pathlib import Path
-from typing import FrozenSet, Iterable, List, Optional, Sequence, Tuple, Union
+from typing import Iterable, List, Optional, Sequence, Set, Tuple, Union
 
 from .domain_identity import DomainIdentity
 from .errors import PtpmError
@@ -18,6 +18,7 @@ from .site_tree import Finding, Site, read_site
 
 _FOUND, _NO_CLOCK = 1, 3
 _BEFORE_SECOND_LOOK = 2.0
+_MOST_LOOKS = 5
 
 class SiteError(PtpmError):
     """A program did not show a site: what it said, and its exit status, which is None if it did not run to its end. Status 3
@@ -74,31 +75,32 @@ def _shown(lines: Iterable[str], notes: Sequence[str], limits: Sequence[str]) ->
     return dataclasses.replace(site, lines=kept, notes=(*notes, *said))
 
 
-def _key(finding: Finding) -> Tuple[DomainIdentity, Optional[Identity], str]:
-    """What a finding has in common with the same one of another look."""
-    return finding.domain_identity, finding.clock, finding.name
+_Key = Tuple[DomainIdentity, Optional[Identity], str]
 
 
-def _passing() -> FrozenSet[str]:
-    """The findings that may be there for a moment, while a change goes from clock to clock. They count if two looks have them."""
+def _momentary(findings: Sequence[Finding]) -> Set[_Key]:
+    """What those findings that may be there for a moment, while a change goes from clock to clock, have in common with the same ones of
+    another look."""
+    if not findings:
+        return set()
     printed, _, _ = _run([_program("ptpm", "ptpm"), "findings"], "", (0,), None)
-    rows = (line.split(" ", 3) for line in printed.splitlines())
-    return frozenset(name for name, _, looks, _ in rows if looks != "1")
+    looks = {name: looks for name, _, looks, _ in (line.split(" ", 3) for line in printed.splitlines())}
+    return {(found.domain_identity, found.clock, found.name) for found in findings if looks.get(found.name) == "2"}
 
 
 def _looked(words: Sequence[str], limits: Sequence[str], once: bool, limit: Optional[float]) -> Site:
-    """A look at the site, and if a finding may be only momentary, another: then such findings are left only if they hold twice."""
-    first = _shown(*_collected(words, limit), limits)
-    if once or not first.findings:
-        return first
-    passing = _passing()
-    before = {_key(finding) for finding in first.findings if finding.name in passing}
-    if not before:
-        return first
-    time.sleep(_BEFORE_SECOND_LOOK)
-    second = _shown(*_collected(words, limit), limits)
-    held = (finding for finding in second.findings if finding.name not in passing or _key(finding) in before)
-    return dataclasses.replace(second, findings=tuple(held))
+    """A look at the site, and more as long as it has a finding that may be only momentary, and that the look before lacks. After some
+    such looks the site is never at rest, and the last one counts."""
+    latest = _shown(*_collected(words, limit), limits)
+    before: Set[_Key] = set()
+    for _ in range(0 if once else _MOST_LOOKS - 1):
+        found = _momentary(latest.findings)
+        if found <= before:
+            break
+        before = found
+        time.sleep(_BEFORE_SECOND_LOOK)
+        latest = _shown(*_collected(words, limit), limits)
+    return latest
 
 
 def _words(options: Iterable[Tuple[str, Union[str, int, float, None]]]) -> List[str]:
@@ -143,7 +145,7 @@ def site(
     how long a clock has for an answer, and `listen` how long clocks are listened for. `limit` is how long a collection may take. An
     offset or a delay above `max_offset` or `max_delay`, in nanoseconds, is a finding; a `max_offset` of "none" is no limit.
     `tai_utc` is how many seconds TAI is before UTC. What is None is the programs'. Like `ptpm-manage status` it looks again after
-    two seconds if a finding may pass, unless `once` is set.
+    two seconds if a finding may pass, and until two looks have the same ones, unless `once` is set.
 
     A SiteError has the program's words; its status is 3 if no clock answered."""
     limits = _words((("--max-offset", max_offset), ("--max-delay", max_delay), ("--tai-utc", tai_utc)))

@@ -174,9 +174,11 @@ class Recorded(unittest.TestCase):
         self.assertEqual(str(site).splitlines()[1:3], ["findings: none", "open: 2"])
         self.assertEqual(str(site).splitlines()[-1], "4@0x100 - not_asked clocks=2")
 
-    def test_what_passes_is_as_the_page_says(self) -> None:
+    def test_how_many_looks_is_as_the_page_says(self) -> None:
         page = (TOP / "docs/ptpm-site.md").read_text(encoding="utf-8")
-        self.assertEqual(set(re.findall(r"^\| `(\w+)` \| \w+ \| two \|", page, re.M)), sys.modules["ptpm.site"]._passing())
+        two = set(re.findall(r"^\| `(\w+)` \| \w+ \| two \|", page, re.M))
+        table = subprocess.run([TOP / "ptpm", "findings"], capture_output=True, encoding="utf-8", check=True).stdout
+        self.assertEqual({line.split()[0] for line in table.splitlines() if line.split()[2] == "2"}, two)
 
     def test_a_description_controls_no_terminal(self) -> None:
         def answer(number: int, text: str) -> str:
@@ -261,16 +263,25 @@ class Programs(Folder):
         self.assertRaises(ValueError, ptpm.site, "eth0", domains=ptpm.DomainIdentity(4, 0x100), sdo=0x100)
 
     def test_a_second_look(self) -> None:
-        self.collects("a_changing", "a_chain", "a_chain", "a_changing", "a_changing", "b_lonely")
+        self.collects("a_changing", "a_chain", "a_chain", "a_changing", "a_changing", "b_lonely", "a_chain")
         self.assertEqual(ptpm.site("eth0").findings, ())
         self.assertEqual(ptpm.site("eth0").findings, ())
         self.assertEqual(len(ptpm.site("eth0", once=True).findings), 12)
         # what comes with the second look has not held twice
         self.assertEqual(ptpm.site("eth0").findings, ())
 
+    def test_a_third_look(self) -> None:
+        self.collects("a_changing", "b_lonely", "b_lonely")
+        self.assertEqual(ptpm.site("eth0").findings, ptpm.site(lines=lines("b_lonely")).findings)
+
+    def test_a_site_that_is_never_at_rest(self) -> None:
+        self.collects("a_changing", "b_lonely", "a_changing", "b_lonely", "a_changing", "a_chain")
+        self.assertEqual(len(ptpm.site("eth0").findings), 12)
+        self.assertEqual(len(self.asked()), 5)
+
     def test_what_holds_in_another_domain_has_not_held_twice(self) -> None:
-        self.collects("a_chain", "a_chain")
-        for look, sdo_ids in enumerate(((0, 0x100), (0x100, 0x101)), 1):
+        self.collects("a_chain", "a_chain", "a_chain")
+        for look, sdo_ids in enumerate(((0, 0x100), (0x100, 0x101), (0x100,)), 1):
             Path(self.folder, f"look{look}").write_text(told([told_finding("mute", sdo_id) for sdo_id in sdo_ids]), encoding="ascii")
         self.write("ptpm", f'[ "$1" != findings ] || exec {TOP}/ptpm findings; cd {self.folder}; cat look$(($(wc -l < words)))')
         self.assertEqual([found.sdo_id for found in ptpm.site("eth0", sdo="all").findings], [0x100])
