@@ -79,8 +79,8 @@ _Key = Tuple[DomainIdentity, Optional[Identity], str]
 
 
 def _momentary(findings: Sequence[Finding]) -> Set[_Key]:
-    """What those findings that may be there for a moment, while a change goes from clock to clock, have in common with the same ones of
-    another look."""
+    """The domain, the clock and the name of each finding that may be there for a moment, while a change goes from clock to clock. Two
+    looks have the same one if they agree in these."""
     if not findings:
         return set()
     printed, _, _ = _run([_program("ptpm", "ptpm"), "findings"], "", (0,), None)
