@@ -5,9 +5,6 @@
 /* The program's own: its name, which comes before what it says on standard error. */
 extern const char program[];
 
-/* The program's own: it says how to call the program, and ends it with status 2. */
-_Noreturn void usage(void);
-
 /* Says what went wrong, with the text of errno, and ends the program with status 2. */
 _Noreturn void give_up(const char *what);
 

@@ -91,7 +91,8 @@ _Noreturn static void refuse_path(const char *path) {
 /* Binds a socket to a path, which is then in *address. */
 static int bind_to(struct sockaddr_un *address, const char *path, mode_t mode) {
     *address = (struct sockaddr_un){ .sun_family = AF_UNIX };
-    if (strlen(path) >= sizeof address->sun_path) usage();
+    errno = ENAMETOOLONG;
+    if (strlen(path) >= sizeof address->sun_path) give_up(path);
     strcpy(address->sun_path, path);
     int opened = socket(AF_UNIX, SOCK_DGRAM | SOCK_CLOEXEC, 0);
     mode_t before = umask(~mode & 0777);

@@ -86,7 +86,7 @@ static const char help[] =
     "SIGTERM ends it; at its end, and at SIGUSR1, it prints how often each answer was given.\n"
     "Exit status: 0 it ended in order; 1 the clock does not start; 2 wrong words, or a socket or file can't be opened.\n";
 
-_Noreturn void usage(void) {
+_Noreturn static void usage(void) {
     fputs("ptpm-clock: see ptpm-clock --help\n", stderr);
     exit(2);
 }

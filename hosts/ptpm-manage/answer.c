@@ -15,56 +15,8 @@ void take_report(struct ptpm_session *session, struct answer *answer) {
     answer->outcome = ptpm_session_report(session, answer->octets, sizeof answer->octets, &answer->size, &answer->error);
 }
 
-void print_answer(FILE *to, const struct task *task, const char *lead, const struct answer *answer) {
-    const char *refusal = error_name(answer->error);
-    clear_progress();
-    if (answer->outcome == PTPM_DONE) fprintf(to, "%sdone\n", lead);
-    else if (answer->outcome == PTPM_REFUSED && refusal != NULL) fprintf(to, "%srefused %s\n", lead, refusal);
-    else if (answer->outcome == PTPM_REFUSED) fprintf(to, "%srefused 0x%04x, an error without a name\n", lead, answer->error);
-    else if (answer->outcome != PTPM_VALUE) complain("nothing is reported: %s", answer_name(answer->outcome));
-    else if (task->is_in_octets) print_octets(to, lead, answer->octets, answer->size);
-    else print_members(to, lead, task->id, answer->octets, answer->size);
-}
-
-/* Who answers what: the head of the object. */
-static void print_source_as_json(FILE *to, const struct task *task, const struct ptpm_source *source) {
-    char clock[IDENTITY_TEXT];
-    const char *id = read_id_name(task->id);
-    write_identity(clock, source->clock);
-    fprintf(to, "{\"domainNumber\":%u,\"clockIdentity\":\"%s\",\"portNumber\":", task->settings.domain, clock);
-    if (source->port == 0) fputs("null", to);
-    else fprintf(to, "%u", source->port);
-    if (id != NULL) fprintf(to, ",\"managementId\":\"%s\"", id);
-    else fprintf(to, ",\"managementId\":\"%04x\"", task->id);
-}
-
-static void print_error_as_json(FILE *to, uint16_t error) {
-    const char *name = error_name(error);
-    fputs(",\"status\":\"refused\",\"managementErrorId\":", to);
-    if (name != NULL) fprintf(to, "\"%s\"", name);
-    else fprintf(to, "\"0x%04x\"", error);
-}
-
-static void print_field_as_json(FILE *to, const struct task *task, const struct answer *answer) {
-    fputs(",\"status\":\"answered\",", to);
-    if (task->is_in_octets) print_octets_as_json(to, answer->octets, answer->size);
-    else print_members_as_json(to, "members", task->id, answer->octets, answer->size);
-}
-
-void print_answer_as_json(FILE *to, const struct task *task, const struct ptpm_source *source, const struct answer *answer) {
-    clear_progress();
-    if (answer->outcome != PTPM_DONE && answer->outcome != PTPM_REFUSED && answer->outcome != PTPM_VALUE) {
-        complain("nothing is reported: %s", answer_name(answer->outcome));
-        return;
-    }
-    print_source_as_json(to, task, source);
-    if (answer->outcome == PTPM_DONE) fputs(",\"status\":\"done\"", to);
-    else if (answer->outcome == PTPM_REFUSED) print_error_as_json(to, answer->error);
-    else print_field_as_json(to, task, answer);
-    fputs(is_other(task, answer) ? ",\"isAsAsked\":false}\n" : "}\n", to);
-}
-
-void print_octets(FILE *to, const char *lead, const uint8_t *octets, size_t size) {
+/* Prints a line of a dataField as it is: `value` and its octets in hexadecimal, or `-` if it has none. */
+static void print_octets(FILE *to, const char *lead, const uint8_t *octets, size_t size) {
     fprintf(to, size == 0 ? "%svalue -" : "%svalue ", lead);
     for (size_t i = 0; i < size; i++) fprintf(to, "%02x", octets[i]);
     putc('\n', to);
@@ -84,7 +36,8 @@ static size_t text_octets(const char *value, uint8_t octets[MOST_TEXT]) {
     return size;
 }
 
-void print_members(FILE *to, const char *lead, uint16_t id, const uint8_t *octets, size_t size) {
+/* Prints a line for each member, its name and its value. If the library finds no member, it gives the line of `print_octets`. */
+static void print_members(FILE *to, const char *lead, uint16_t id, const uint8_t *octets, size_t size) {
     struct field_lines lines;
     struct member member;
     uint8_t text[MOST_TEXT];
@@ -95,6 +48,17 @@ void print_members(FILE *to, const char *lead, uint16_t id, const uint8_t *octet
         else fputs(member.value, to);
         putc('\n', to);
     }
+}
+
+void print_answer(FILE *to, const struct task *task, const char *lead, const struct answer *answer) {
+    const char *refusal = error_name(answer->error);
+    clear_progress();
+    if (answer->outcome == PTPM_DONE) fprintf(to, "%sdone\n", lead);
+    else if (answer->outcome == PTPM_REFUSED && refusal != NULL) fprintf(to, "%srefused %s\n", lead, refusal);
+    else if (answer->outcome == PTPM_REFUSED) fprintf(to, "%srefused 0x%04x, an error without a name\n", lead, answer->error);
+    else if (answer->outcome != PTPM_VALUE) complain("nothing is reported: %s", answer_name(answer->outcome));
+    else if (task->is_in_octets) print_octets(to, lead, answer->octets, answer->size);
+    else print_members(to, lead, task->id, answer->octets, answer->size);
 }
 
 /* Words with a space between two of them, as an array. */
@@ -142,7 +106,7 @@ static void print_value_as_json(FILE *to, enum ptpm_member_kind kind, const char
     }
 }
 
-void print_octets_as_json(FILE *to, const uint8_t *octets, size_t size) {
+static void print_octets_as_json(FILE *to, const uint8_t *octets, size_t size) {
     fputs("\"dataField\":\"", to);
     for (size_t i = 0; i < size; i++) fprintf(to, "%02x", octets[i]);
     putc('"', to);
@@ -181,4 +145,42 @@ void print_members_as_json(FILE *to, const char *name, uint16_t id, const uint8_
         print_value_as_json(to, kind, member.value);
     }
     fputs(structure > 0 ? "}}" : "}", to);
+}
+
+/* Who answers what: the head of the object. */
+static void print_source_as_json(FILE *to, const struct task *task, const struct ptpm_source *source) {
+    char clock[IDENTITY_TEXT];
+    const char *id = read_id_name(task->id);
+    write_identity(clock, source->clock);
+    fprintf(to, "{\"domainNumber\":%u,\"clockIdentity\":\"%s\",\"portNumber\":", task->settings.domain, clock);
+    if (source->port == 0) fputs("null", to);
+    else fprintf(to, "%u", source->port);
+    if (id != NULL) fprintf(to, ",\"managementId\":\"%s\"", id);
+    else fprintf(to, ",\"managementId\":\"%04x\"", task->id);
+}
+
+static void print_error_as_json(FILE *to, uint16_t error) {
+    const char *name = error_name(error);
+    fputs(",\"status\":\"refused\",\"managementErrorId\":", to);
+    if (name != NULL) fprintf(to, "\"%s\"", name);
+    else fprintf(to, "\"0x%04x\"", error);
+}
+
+static void print_field_as_json(FILE *to, const struct task *task, const struct answer *answer) {
+    fputs(",\"status\":\"answered\",", to);
+    if (task->is_in_octets) print_octets_as_json(to, answer->octets, answer->size);
+    else print_members_as_json(to, "members", task->id, answer->octets, answer->size);
+}
+
+void print_answer_as_json(FILE *to, const struct task *task, const struct ptpm_source *source, const struct answer *answer) {
+    clear_progress();
+    if (answer->outcome != PTPM_DONE && answer->outcome != PTPM_REFUSED && answer->outcome != PTPM_VALUE) {
+        complain("nothing is reported: %s", answer_name(answer->outcome));
+        return;
+    }
+    print_source_as_json(to, task, source);
+    if (answer->outcome == PTPM_DONE) fputs(",\"status\":\"done\"", to);
+    else if (answer->outcome == PTPM_REFUSED) print_error_as_json(to, answer->error);
+    else print_field_as_json(to, task, answer);
+    fputs(is_other(task, answer) ? ",\"isAsAsked\":false}\n" : "}\n", to);
 }

@@ -20,18 +20,8 @@ void print_answer(FILE *to, const struct task *task, const char *lead, const str
    nobody knows which one answered. */
 void print_answer_as_json(FILE *to, const struct task *task, const struct ptpm_source *source, const struct answer *answer);
 
-/* Prints what the dataField of an id says: after `lead` a line for each member, its name and its value. If the library finds no
-   member in it, it is the line of `print_octets`. */
-void print_members(FILE *to, const char *lead, uint16_t id, const uint8_t *octets, size_t size);
-
-/* Prints a line of a dataField as it is: `value` and its octets in hexadecimal, or `-` if it has none. */
-void print_octets(FILE *to, const char *lead, const uint8_t *octets, size_t size);
-
-/* Prints the same as JSON: a name, such as `"members":`, and an object of the members by their names. A dataField that is not known is
-   `"dataField":` and its octets in hexadecimal. */
+/* Prints what the dataField of an id says as JSON: a name, such as `"members":`, and an object of the members by their names. A
+   dataField that is not known is `"dataField":` and its octets in hexadecimal. */
 void print_members_as_json(FILE *to, const char *name, uint16_t id, const uint8_t *octets, size_t size);
-
-/* Prints a dataField so as it is. */
-void print_octets_as_json(FILE *to, const uint8_t *octets, size_t size);
 
 #endif

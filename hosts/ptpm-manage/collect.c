@@ -13,7 +13,6 @@
 #include "unanswered.h"
 #include <errno.h>
 #include <stdbool.h>
-#include <stdlib.h>
 #include <string.h>
 
 /* One request each 50 ms: all at once lose answers in the buffers of the clocks, which hear each other's answers too. If each domain

@@ -1,7 +1,6 @@
 #include "desk.h"
 #include "as_asked.h"
 #include "asking.h"
-#include "exchange.h"
 #include "names.h"
 #include "notices.h"
 #include "reading.h"

@@ -1,7 +1,6 @@
 #include "in_session.h"
 #include "asking.h"
 #include "driving.h"
-#include "names.h"
 #include "notices.h"
 #include "session.h"
 #include "session_file.h"
@@ -10,7 +9,6 @@
 #include "unanswered.h"
 #include <errno.h>
 #include <stdbool.h>
-#include <stdio.h>
 #include <string.h>
 
 /* While the asker has more to do, and otherwise the program's status. */

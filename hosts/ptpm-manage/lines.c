@@ -1,10 +1,9 @@
 #define _GNU_SOURCE
 #include "lines.h"
-#include "text.h"
 #include "transport.h"
 #include "words.h"
+#include <ctype.h>
 #include <stdbool.h>
-#include <string.h>
 #include <sys/timex.h>
 
 struct timespec time_now(void) {
@@ -13,10 +12,14 @@ struct timespec time_now(void) {
     return now;
 }
 
-/* The name of an interface and the path of a socket may have any octets, and a line takes only UTF-8. */
+/* The name of an interface and the path of a socket may have any octets. A line takes only UTF-8, and a space ends each word. */
 static void write_word(FILE *to, const char *name, const char *value) {
     fputs(name, to);
-    print_text(to, (const uint8_t *)value, strlen(value));
+    for (; *value != '\0'; value++) {
+        unsigned char octet = (unsigned char)*value;
+        if (isgraph(octet) && octet != '\\') fputc(octet, to);
+        else fprintf(to, "\\x%02x", octet);
+    }
     fputc(' ', to);
 }
 

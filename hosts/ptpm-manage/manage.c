@@ -20,8 +20,6 @@
 
 const char program[] = "ptpm-manage";
 
-_Noreturn void usage(void) { refuse("see ptpm-manage --help"); }
-
 /* Asks it. */
 static int ask(struct task *task) {
     find_transport(task);

@@ -24,7 +24,7 @@ static struct session_file *opened;
 
 const char *session_path(void) { return opened->path; }
 
-_Noreturn void refuse_session_file(const struct session_file *file, const char *why) {
+_Noreturn static void refuse_session_file(const struct session_file *file, const char *why) {
     if (file->is_named) refuse("--numbers %s: %s", file->path, why);
     refuse("nothing was sent: %s: %s", file->path, why);
 }

@@ -37,9 +37,6 @@ enum found_session open_session_file(struct session_file **opened_file, const ch
    could. If not, errno says why, and the old file stays. */
 bool write_session_file(struct session_file *file, uint8_t octets[MOST_SESSION_OCTETS], size_t size);
 
-/* Ends the program, status 2: the file can't be used, and why. */
-_Noreturn void refuse_session_file(const struct session_file *file, const char *why);
-
 /* Ends the program, status 2: nothing can be kept there, as errno says, so the request was not sent. */
 _Noreturn void refuse_place(const struct session_file *file);
 

@@ -4,7 +4,6 @@
 #include "names.h"
 #include "notices.h"
 #include "words.h"
-#include <stdbool.h>
 #include <stdio.h>
 #include <string.h>
 

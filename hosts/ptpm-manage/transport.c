@@ -454,13 +454,10 @@ static const char *station_text(const struct sockaddr_ll *sender) {
     return text;
 }
 
-/* A path with a space or a control character is left out. */
+/* A path may have no octet 0 at its end. */
 static const char *path_text(const struct sockaddr_un *sender) {
     static char text[sizeof sender->sun_path + 1];
     memcpy(text, sender->sun_path, sizeof sender->sun_path);
-    for (const char *c = text; *c != '\0'; c++) {
-        if ((unsigned char)*c <= ' ') return "";
-    }
     return text;
 }
 

@@ -56,7 +56,7 @@ enum { MOST_DATAGRAM = 65536 };
    signal asks the program to end. */
 const uint8_t *receive_message(size_t *size, int64_t end);
 
-/* The sender of the message that came in last, as a text without spaces: an address of IPv4 or IPv6, a MAC, or a path. "" if it is
+/* The sender of the message that came in last, as a text: an address of IPv4 or IPv6, a MAC, or a path. "" if it is
    not known. And the interface that it came in at; NULL on a Unix socket. */
 const char *sender_text(void);
 const char *came_in_at(void);

@@ -34,7 +34,7 @@ static struct sockaddr_storage to;
 static socklen_t to_size;
 static int port_socket;
 
-_Noreturn void usage(void) {
+_Noreturn static void usage(void) {
     fputs("bare INTERFACE IDENTITY calls|rounds|ring\n", stderr);
     exit(2);
 }

@@ -27,7 +27,7 @@ static uint8_t request[LEAST_MESSAGE] = {
 static int64_t sent_at[NUMBERS];                /* nanoseconds; 0: answered, or not asked */
 static unsigned long answered, times[MOST_TIME + 1];         /* how many answers took this many microseconds */
 
-_Noreturn void usage(void) {
+_Noreturn static void usage(void) {
     fputs("flood INTERFACE IDENTITY RATE SECONDS\n", stderr);
     exit(2);
 }

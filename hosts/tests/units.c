@@ -207,8 +207,6 @@ static void frames(void) {
     check(parts[1].iov_base == frame && parts[1].iov_len == 46 && parts[2].iov_len == 0, "and no octet after a message that is longer");
 }
 
-/* The session of manager 0011223344556677/1 with clock aabbccfffeddee01 of two ports, from number 7 on. A GET of PRIORITY1 is
-   under way, and then a COMMAND of DISABLE_PORT at port 2 in its place. */
 /* majorSdoId is in the upper half of the first octet, and minorSdoId in the sixth (IEEE 1588-2019, 13.3). */
 static void sdo_ids(void) {
     uint8_t message[] = { 0x3d, 0x12, 0, MESSAGE, 4, 0x2a };
@@ -225,6 +223,8 @@ static void sdo_ids(void) {
     check(strcmp(text, "255@0xfff") == 0, "the longest text");
 }
 
+/* The session of manager 0011223344556677/1 with clock aabbccfffeddee01 of two ports, from number 7 on. A GET of PRIORITY1 is
+   under way, and then a COMMAND of DISABLE_PORT at port 2 in its place. */
 static void images(void) {
     uint8_t octets[] = {
         'p', 't', 'p', 'm', 2, 1, 0, 0, 0, 0, 0, 48, 0x00, 0x11, 0x22, 0x33, 0x44, 0x55, 0x66, 0x77, 0, 1,
