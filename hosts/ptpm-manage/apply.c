@@ -58,18 +58,20 @@ static int carry_out(const struct task *task, struct journal *journal) {
     return status;
 }
 
+static bool make_journal_of(const struct task *task, struct journal *journal) {
+    memcpy(journal->manager, task->settings.clock, 8);
+    journal->manager_port = task->settings.port;
+    if (make_journal(journal)) return true;
+    complain("nothing was sent: %s: %s", journal->path, strerror(errno));
+    return false;
+}
+
 /* Begins a new one: the sessions are taken, the journal is made, and then the marks that name it. */
 static int begin(const struct task *task, struct journal *journal) {
-    struct ptpm_session_settings settings = task->settings;
-    memcpy(journal->manager, settings.clock, 8);
-    journal->manager_port = settings.port;
     own_marks(journal->path);
     judge_ports(journal->steps, journal->count);
     take_sessions(task, journal);
-    if (!make_journal(journal)) {
-        complain("nothing was sent: %s: %s", journal->path, strerror(errno));
-        return NOT_WRITTEN;
-    }
+    if (!make_journal_of(task, journal)) return NOT_WRITTEN;
     return mark_sessions() ? carry_out(task, journal) : NOT_WRITTEN;
 }
 
@@ -120,8 +122,19 @@ static const struct task *as_manager(const struct task *task, const struct journ
     return &own;
 }
 
+/* Ends the apply that a rollback takes back, if a run ended before it did so. */
+static void end_rolled_back(const struct journal *back) {
+    struct journal journal;
+    if (!find_rolled_back(&journal, back)) return;
+    bool is_ended = continue_journal(&journal) && note_end(&journal, ROLLED_BACK, NO_STEP);
+    if (!is_ended) complain("nothing was sent: %s: %s", journal.path, strerror(errno));
+    leave_journal(&journal);
+    if (!is_ended) exit(NOT_WRITTEN);
+}
+
 /* Takes the journal up where a run before left it. */
 static void take_up(const struct task *task, struct journal *journal) {
+    end_rolled_back(journal);
     own_marks(journal->path);
     take_sessions(task, journal);
     if (!continue_journal(journal)) refuse("nothing was sent: %s: %s", journal->path, strerror(errno));
@@ -188,9 +201,29 @@ static int close_apply(const struct task *task, struct journal *journal) {
     return status;
 }
 
-static int roll_back_by(const struct task *task, struct journal *journal, struct journal *back) {
+/* The journal of the rollback is there before the apply has its end. So wherever a run ends, one of the two is open. */
+static int go_over_to(const struct task *task, struct journal *journal, struct journal *back) {
+    if (!make_journal_of(task, back) || !end_journal(journal, ROLLED_BACK, NO_STEP)) return NOT_WRITTEN;
+    leave_sessions();
+    own_marks(back->path);
+    take_sessions(task, back);
+    return mark_sessions() ? carry_out(task, back) : NOT_WRITTEN;
+}
+
+/* Begins the rollback, if there is a step to take back. */
+static int begin_back(const struct task *task, struct journal *journal, struct journal *back) {
     bool is_open = journal->ending == IS_OPEN;
-    int status = is_open ? close_apply(task, journal) : ANSWERED;
+    snprintf(back->rolls_back, sizeof back->rolls_back, "%s", journal->name);
+    name_journal(back, "rollback");
+    if (back->count > 0 && is_open) return go_over_to(task, journal, back);
+    if (back->count > 0) return begin(task, back);
+    if (is_open && !end_journal(journal, ROLLED_BACK, NO_STEP)) return NOT_WRITTEN;
+    complain("%s: no step was done, so none is rolled back", journal->name);
+    return ANSWERED;
+}
+
+static int roll_back_by(const struct task *task, struct journal *journal, struct journal *back) {
+    int status = journal->ending == IS_OPEN ? close_apply(task, journal) : ANSWERED;
     if (status != ANSWERED) return status;
     take_back(back, journal);
     status = find_changed(task, back);
@@ -201,13 +234,7 @@ static int roll_back_by(const struct task *task, struct journal *journal, struct
     if (journal->ending == GIVEN_UP && journal->end_step != NO_STEP) {
         complain("step %ld may have been carried out, and is left out", journal->end_step + 1);
     }
-    if (is_open && !end_journal(journal, ROLLED_BACK, NO_STEP)) return NOT_WRITTEN;
-    leave_sessions();
-    snprintf(back->rolls_back, sizeof back->rolls_back, "%s", journal->name);
-    name_journal(back, "rollback");
-    if (back->count > 0) return begin(task, back);
-    complain("%s: no step was done, so none is rolled back", journal->name);
-    return ANSWERED;
+    return begin_back(task, journal, back);
 }
 
 static int roll_back(const struct task *task, struct journal *journal) {
@@ -222,9 +249,10 @@ static int rollback(const struct task *task) {
     struct journal journal, open;
     take_journals();
     find_journal(&journal, task->plan.word);
-    if (journal.ending != IS_OPEN && find_open_journal(&open)) {
+    if (find_open_journal(&open) && strcmp(open.name, journal.name) != 0) {
         refuse("nothing was sent: %s is open: ptpm-manage resume or rollback comes first", open.name);
     }
+    leave_journal(&open);
     open_transport(task);
     int status = roll_back(as_manager(task, &journal), &journal);
     leave_journal(&journal);

@@ -66,20 +66,41 @@ static void read_it(struct journal *journal, const char *path) {
     }
 }
 
+/* Whether this one is open, and comes before an open one that was found already. */
+static bool is_first(const struct journal *journal, bool is_any_found) {
+    return journal->ending == IS_OPEN && (!is_any_found || *journal->rolls_back != '\0');
+}
+
 bool find_open_journal(struct journal *journal) {
     char path[PATH_MAX];
+    struct journal one;
     DIR *names = opendir(folder);
     bool is_found = false;
     if (names == NULL) refuse_folder(folder);
-    for (struct dirent *one; !is_found && (one = readdir(names)) != NULL;) {
-        if (!is_journal(one->d_name)) continue;
-        write_path(path, one->d_name);
-        read_it(journal, path);
-        is_found = journal->ending == IS_OPEN;
-        if (!is_found) leave_journal(journal);
+    *journal = (struct journal){ 0 };
+    for (struct dirent *entry; (entry = readdir(names)) != NULL;) {
+        if (!is_journal(entry->d_name)) continue;
+        write_path(path, entry->d_name);
+        read_it(&one, path);
+        if (!is_first(&one, is_found)) {
+            leave_journal(&one);
+            continue;
+        }
+        leave_journal(journal);
+        *journal = one;
+        is_found = true;
     }
     closedir(names);
     return is_found;
+}
+
+bool find_rolled_back(struct journal *journal, const struct journal *back) {
+    char path[PATH_MAX];
+    if (*back->rolls_back == '\0') return false;
+    snprintf(path, sizeof path, "%s/%s%s", folder, back->rolls_back, ending);
+    if (read_journal(journal, path) == FOUND_JOURNAL && journal->ending == IS_OPEN) return true;
+    leave_journal(journal);
+    return false;
 }
 
 void find_journal(struct journal *journal, const char *name) {

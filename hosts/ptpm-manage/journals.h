@@ -9,8 +9,12 @@
    of the program. Ends the program with status 2 if it can't be taken. */
 void take_journals(void);
 
-/* Finds the journal that is open; whether there is one. Ends the program with status 2 if one is damaged, or can't be read. */
+/* Finds the journal that is open; whether there is one. A rollback comes before the apply that it takes back. Ends the program with status 2
+   if one is damaged, or can't be read. */
 bool find_open_journal(struct journal *journal);
+
+/* Finds the apply that a rollback takes back, if that is open still; whether it is. */
+bool find_rolled_back(struct journal *journal, const struct journal *back);
 
 /* Finds the journal of this name. Ends the program with status 2 if there is none, or it is damaged. */
 void find_journal(struct journal *journal, const char *name);

@@ -153,11 +153,11 @@ class Network:
         where = self.near if namespace is None else namespace
         return run(*within(where), os.path.join(HOME, "manage"), "-i", "e1", *words, env=environment(os.path.join(self.work, state)), **more)
 
-    def begin(self, *words, path):
-        """A run that goes on. It finds programs in this folder first."""
-        env = environment(os.path.join(self.work, "state"))
+    def begin(self, *words, **variables):
+        """A run that goes on, with these variables of its environment."""
+        env = {**environment(os.path.join(self.work, "state")), **variables}
         return subprocess.Popen([*within(self.near), os.path.join(HOME, "manage"), "-i", "e1", *words], stdout=subprocess.PIPE,
-                                stderr=subprocess.PIPE, text=True, env={**env, "PATH": f"{path}:{env['PATH']}"})
+                                stderr=subprocess.PIPE, text=True, env=env)
 
     def manage_at_terminal(self, *words):
         """Such a run whose standard error is a terminal: its status, and what is shown there."""
