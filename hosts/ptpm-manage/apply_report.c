@@ -14,6 +14,7 @@ void write_member_name(FILE *to, const struct step *step) {
     write_identity(clock, step->clock);
     fputs(clock, to);
     if (step->port != 0) fprintf(to, "/%u", step->port);
+    if (step->domain != 0) fprintf(to, " domain %u", step->domain);
     if (id != NULL) fprintf(to, " %s", id);
     else fprintf(to, " %04x", step->id);
 }
