@@ -69,7 +69,7 @@ static void say_silence_at(const struct desk *desk, const struct step *step) {
 
 /* No answer came. If no message of a step left that was begun now, it was not begun: the session was saved without it. One that an earlier
    run began stays in the session, and that run may have sent it. */
-static int no_answer_to(struct desk *desk, struct journal *journal, long step, bool is_begun_now) {
+static int no_answer_to(struct desk *desk, struct journal *journal, long step, bool is_begun_now, bool is_anothers) {
     char clock[IDENTITY_TEXT];
     const struct driver *driver = &desk->driver;
     bool is_begun = step != NO_STEP && journal->begun == step;
@@ -85,6 +85,7 @@ static int no_answer_to(struct desk *desk, struct journal *journal, long step, b
     if (driver->is_way_said) return NOT_ANSWERED;
     complain("no answer of %s at %s to %ld message%s: %s", clock, transport_name(), driver->sent, driver->sent == 1 ? "" : "s",
              is_begun ? "the step may have been carried out" : "the next step was not sent");
+    if (is_anothers) say_before_steps(&desk->session.earlier, &desk->task);
     if (step != NO_STEP) say_silence_at(desk, &journal->steps[step]);
     return stopped ? BY_SIGNAL + stopped : NOT_ANSWERED;
 }
@@ -115,7 +116,7 @@ static int carry_out(struct desk *desk, struct journal *journal, long step, bool
             }
             if (say_saved(&desk->driver)) return ANSWERED;
             break;
-        default: return no_answer_to(desk, journal, step, is_begun);
+        default: return no_answer_to(desk, journal, step, is_begun, is_anothers);
         }
     }
 }

@@ -54,6 +54,11 @@ int say_settled(const struct earlier *earlier, const struct task *task, const st
     return ferror(stderr) ? NOT_WRITTEN : ANSWERED;
 }
 
+void say_before_steps(const struct earlier *earlier, const struct task *task) {
+    complain("%s, comes before it: once resume --give-up has ended the apply, any other run lets it go by --give-up",
+             earlier_words(earlier, task));
+}
+
 void say_let_go(const struct earlier *earlier, const struct task *task) {
     const char *where = earlier->task.settings.domain == task->settings.domain ? "" : " there";
     const char *words = earlier_words(earlier, task);

@@ -14,6 +14,9 @@ void print_count(long requests, long sent);
 /* Says what the answer to the request of an earlier run is; NOT_WRITTEN if that can't be said. */
 int say_settled(const struct earlier *earlier, const struct task *task, const struct answer *answer);
 
+/* Says that the request of an earlier run comes before the steps of an apply, and how it is abandoned. */
+void say_before_steps(const struct earlier *earlier, const struct task *task);
+
 /* Says that the request of an earlier run is abandoned. */
 void say_let_go(const struct earlier *earlier, const struct task *task);
 
