@@ -155,7 +155,7 @@ static int give_up_apply(const struct task *task, struct journal *journal) {
 static int resume(const struct task *task) {
     struct journal journal;
     take_journals();
-    if (!find_open_journal(&journal)) refuse("nothing was sent: no apply is open");
+    if (!find_open_journal(&journal)) refuse("nothing was sent: no apply is open in %s", journals_folder());
     task = as_manager(task, &journal);
     take_up(task, &journal);
     open_transport(task);

@@ -37,6 +37,8 @@ void take_journals(void) {
     refuse("nothing was sent: another apply, process %ld, has %s", (long)kept_lock_owner(lock), path);
 }
 
+const char *journals_folder(void) { return folder; }
+
 static bool ends_with(const char *name, const char *end) {
     size_t size = strlen(name), most = JOURNAL_NAME + strlen(end);
     return size > strlen(end) && size < most && strcmp(name + size - strlen(end), end) == 0;

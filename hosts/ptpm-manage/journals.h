@@ -9,6 +9,9 @@
    of the program. Ends the program with status 2 if it can't be taken. */
 void take_journals(void);
 
+/* Its path, once it is taken. */
+const char *journals_folder(void);
+
 /* Finds the journal that is open; whether there is one. A rollback comes before the apply that it takes back. Ends the program with status 2
    if one is damaged, or can't be read. */
 bool find_open_journal(struct journal *journal);
