@@ -11,8 +11,8 @@
     asyncio.run(main())
 
 A request waits in a thread of the loop's executor, so other tasks go on meanwhile. A task that is cancelled ends within a twentieth
-of a second. It sends nothing more, and the request stays as it is, as it would after NoAnswer. Tasks that ask in one session, or
-over one transport, take turns."""
+of a second. It sends nothing more, and the request stays as it is, as it would after NoAnswer. If its answer has come all the same,
+`session.earlier` has it. Tasks that ask in one session, or over one transport, take turns."""
 
 from __future__ import annotations
 
@@ -86,23 +86,25 @@ def _turn_of(shared: Any) -> asyncio.Lock:
     return held[1]
 
 
-async def _in_thread(asked: _Asked, call: Callable[[], _Result]) -> _Result:
-    """Runs a call in a thread. If the task is cancelled, the call ends first, so that nobody else uses what it uses."""
+async def _in_thread(asked: _Asked, call: Callable[[], _Result], keep: Callable[[_Result], None] = lambda _: None) -> _Result:
+    """Runs a call in a thread. If the task is cancelled, the call ends first, so that nobody else uses what it uses. What it returns
+    all the same is kept."""
     running = asyncio.ensure_future(asyncio.to_thread(call))
     try:
         return await asyncio.shield(running)
     except asyncio.CancelledError:
         asked.end()
         await asyncio.wait([running])
-        running.exception()
+        if running.exception() is None:
+            keep(running.result())
         raise
 
 
-async def _ask(way: Transport, call: Callable[[Transport], _Result]) -> _Result:
+async def _ask(way: Transport, call: Callable[[Transport], _Result], keep: Callable[[_Result], None] = lambda _: None) -> _Result:
     """Asks over a transport, one task at a time."""
     asked = _Asked(way)
     async with _turn_of(way):
-        return await _in_thread(asked, lambda: call(asked))
+        return await _in_thread(asked, lambda: call(asked), keep)
 
 
 async def receive(way: Transport, timeout: Optional[float] = None) -> Optional[bytes]:
@@ -156,19 +158,23 @@ class Session:
     async def __aexit__(self, *why: Any) -> None:
         self.session.__exit__(*why)
 
+    def _keep(self, report: Report) -> None:
+        """The answer to a task that was cancelled is found where that of an earlier run is."""
+        self.session.earlier = report
+
     async def ask(
         self, way: Transport, action: int, named: IdLike, value: DataField = None, port: int = 0, *, timeout: float = 0.2
     ) -> Report:
         """Does what `ptpm.Session.ask` does."""
         async with _turn_of(self.session):
-            return await _ask(way, lambda asked: self.session.ask(asked, action, named, value, port, timeout=timeout))
+            return await _ask(way, lambda asked: self.session.ask(asked, action, named, value, port, timeout=timeout), self._keep)
 
     async def finish(self, way: Transport, *, timeout: float = 0.2) -> Report:
         """Does what `ptpm.Session.finish` does."""
         async with _turn_of(self.session):
-            return await _ask(way, lambda asked: self.session.finish(asked, timeout=timeout))
+            return await _ask(way, lambda asked: self.session.finish(asked, timeout=timeout), self._keep)
 
     async def go_on(self, way: Transport, attempts: int = 30, *, timeout: float = 0.2) -> Report:
         """Does what `ptpm.Session.go_on` does."""
         async with _turn_of(self.session):
-            return await _ask(way, lambda asked: self.session.go_on(asked, attempts, timeout=timeout))
+            return await _ask(way, lambda asked: self.session.go_on(asked, attempts, timeout=timeout), self._keep)

@@ -29,6 +29,21 @@ class Silent(ptpm.Transport):
         return None
 
 
+class Slow(ptpm.Transport):
+    """Another way, on which it takes a moment to hand out what came in."""
+
+    def __init__(self, way: ptpm.Transport) -> None:
+        self.way = way
+
+    def send(self, octets: bytes) -> bool:
+        return self.way.send(octets)
+
+    def receive(self, until: float) -> Optional[bytes]:
+        datagram = self.way.receive(until)
+        time.sleep(0.3)
+        return datagram
+
+
 @unittest.skipUnless((TOP / "hosts/clock").exists(), "hosts/clock is not built")
 class Awaited(Folder):
     def setUp(self) -> None:
@@ -59,6 +74,17 @@ class Awaited(Folder):
                 return is_busy, (await session.go_on(self.way)).members, session.session.is_busy()
 
         self.assertEqual(asyncio.run(ask()), (True, {"priority1": 100}, False))
+
+    def test_an_answer_that_comes_to_a_cancelled_task_is_kept(self) -> None:
+        async def ask() -> Tuple[object, ...]:
+            async with self.session() as session:
+                await session.ask(self.way, ptpm.Action.GET, "PRIORITY1", timeout=5)
+                with self.assertRaises(asyncio.TimeoutError):
+                    await asyncio.wait_for(session.ask(Slow(self.way), ptpm.Action.SET, "PRIORITY1", 100, timeout=5), 0.1)
+                report = session.session.earlier
+                return session.session.is_busy(), report and report.members
+
+        self.assertEqual(asyncio.run(ask()), (False, {"priority1": 100}))
 
     def test_tasks_take_turns(self) -> None:
         async def ask() -> List[object]:
