@@ -5,6 +5,7 @@
 #include <errno.h>
 #include <fcntl.h>
 #include <limits.h>
+#include <stdbool.h>
 #include <stdint.h>
 #include <stdio.h>
 #include <string.h>
@@ -41,7 +42,14 @@ void find_output_file(const char *at) {
     if (!open_kept_folder(&file, path)) refuse("--output %s: %s", path, strerror(errno));
 }
 
+/* The new file has the owner and the mode of the one before. */
+static void look_at_one_before(void) {
+    bool is_there = fstatat(file.folder, file.name, &file.before, AT_SYMLINK_NOFOLLOW) == 0 && S_ISREG(file.before.st_mode);
+    if (!is_there) file.before = (struct stat){ 0 };
+}
+
 bool write_output_file(const char *text, size_t size) {
+    look_at_one_before();
     if (replace_kept(&file, (const uint8_t *)text, size) != NOT_REPLACED) return true;
     complain("--output %s%s: %s", path, kept_fault(), strerror(errno));
     return false;

@@ -6,6 +6,7 @@
 #include "field_words.h"
 #include "names.h"
 #include "notices.h"
+#include "program.h"
 #include "ptpm.h"
 #include "reading.h"
 #include "words.h"
@@ -251,6 +252,14 @@ static void take_form(struct site_options *site, enum shown_as form) {
     site->form = form;
 }
 
+/* Findings that are left out beside those of an earlier option. */
+static void add_ignored(struct site_options *site, const char *names) {
+    char *all, *before = site->ignored;
+    if (asprintf(&all, "%s%s%s", before == NULL ? "" : before, before == NULL ? "" : ",", names) < 0) give_up("the options");
+    free(before);
+    site->ignored = all;
+}
+
 /* Takes an option of `collect` and `status`; whether it is one of these. */
 static bool take_site_option(struct site_options *site, int option, const char *value) {
     static const char *const names[] = {
@@ -269,7 +278,7 @@ static bool take_site_option(struct site_options *site, int option, const char *
     case TAI_UTC: site->tai_utc = for_site(name, value, "a number of seconds", INT16_MIN, INT16_MAX); break;
     case SETTLE: site->settle = for_site(name, value, "a number of seconds", 0, UINT32_MAX); break;
     case PROFILE: site->profile = value; break;
-    case IGNORE: site->ignored = value; break;
+    case IGNORE: add_ignored(site, value); break;
     case ALL: site->is_all = true; break;
     case DRAW: take_form(site, AS_DRAWING); break;
     case HTML: take_form(site, AS_PAGE); break;
@@ -346,6 +355,12 @@ static void take_domain(struct words *words, const char *text) {
     words->domain = text;
 }
 
+/* Nor would the earlier one of these count. */
+static void take_once(const char **at, const char *option, const char *value) {
+    if (*at != NULL) refuse("%s %s: %s %s is there already", option, value, option, *at);
+    *at = value;
+}
+
 /* Linux takes a longer name of an interface only over netlink. */
 static void take_interface(struct task *task, const char *name) {
     if (strlen(name) >= IFNAMSIZ) {
@@ -372,17 +387,17 @@ static void judge_expected(struct task *task) {
 static void take_option(struct task *task, struct words *words, int option, const char *value) {
     switch (option) {
     case 'i': take_interface(task, value); break;
-    case UDP: task->address = value; break;
+    case UDP: take_once(&task->address, "--udp", value); break;
     case '6': task->is_six = true; break;
     case '2': task->is_ethernet = true; break;
     case ANY_SOURCE: task->is_any_source = true; break;
-    case 'u': task->path = value; break;
-    case 'T': words->target = value; break;
+    case 'u': take_once(&task->path, "--unix", value); break;
+    case 'T': take_once(&words->target, "--target", value); break;
     case NAMES:
         words->has_names = true;
         read_clock_names(value);
         break;
-    case EXPECT: task->plan.expected = value; break;
+    case EXPECT: take_once(&task->plan.expected, "--expect", value); break;
     case PROBE: task->plan.is_probed = true; break;
     case 'p': read_port(words, value); break;
     case 'd': take_domain(words, value); break;
