@@ -8,8 +8,8 @@ mod drawing;
 mod finding_json;
 mod finding_lines;
 mod finding_report;
+mod finding_table;
 mod finding_text;
-mod findings;
 mod followers;
 mod grandmaster_line;
 pub mod ignored;
@@ -39,7 +39,7 @@ mod text;
 mod trees;
 mod utc_text;
 
-pub use findings::findings;
+pub use finding_table::findings;
 pub use inventory_text::write_inventory;
 pub use nagios::Standing;
 pub use reporting::{Conclusion, Form, Options, Viewing, report, report_standing, report_viewed};
