@@ -363,7 +363,7 @@ enum {
     PTPM_STEP_NEVER_BEGUN = 2,          /* no message of it left: that is noted, and it is asked */
     PTPM_STEP_NUMBER_TAKEN = 3,         /* nor here: another program took its number, and its request comes first */
     PTPM_STEP_UNKNOWN = 4,              /* another program used the session since, or the file is gone: nothing is asked */
-    PTPM_STEP_TOLD = 5,                 /* the request under way is that of a step whose answer is noted: it is sent again */
+    PTPM_STEP_TOLD = 5,                 /* the request under way is that of a step whose answer is noted: it is given up, or sent again */
     PTPM_STEP_OF_ANOTHER = 6            /* it is another program's, and comes first */
 };
 

@@ -200,7 +200,9 @@ int let_go_at_desk(struct desk *desk, const struct journal *journal) {
     if (standing != UNDER_WAY && standing != IS_TOLD) return ANSWERED;
     enum ptpm_asked refusal = ptpm_asker_let_go(&desk->session.asker, &desk->driver.handed);
     if (refusal != PTPM_ASKED) refuse_to_let_go(refusal, &desk->session.earlier, &desk->task);
-    return save_session(&desk->session) ? ANSWERED : not_saved(desk);
+    if (!save_session(&desk->session)) return not_saved(desk);
+    say_saved(&desk->driver);
+    return ANSWERED;
 }
 
 int see_to_desk(struct desk *desk, struct journal *journal) {
@@ -213,7 +215,7 @@ int see_to_desk(struct desk *desk, struct journal *journal) {
     case UNKNOWN: return stop_at_stranger(desk, journal);
     case UNDER_WAY: return settle_step(desk, journal, journal->begun);
     case NEVER_BEGUN: return note_not_begun(journal) ? ANSWERED : not_noted(journal);
-    case IS_TOLD: return settle(desk, journal, NO_STEP, domain, false);
+    case IS_TOLD: return let_go_at_desk(desk, journal);
     case NUMBER_TAKEN: if (!note_not_begun(journal)) return not_noted(journal); break;
     case OF_ANOTHER: break;
     }
