@@ -139,7 +139,7 @@ static void take_answer(const struct request *request, const uint8_t *message) {
     latest = milliseconds();
     if (output == NULL) return;
     clear_progress();
-    write_line(output, &(struct line){ .at = time_now(), .from = sender_text(), .on = came_in_at(), .message = message, .size = size });
+    write_line(output, &(struct message_line){ .at = nanoseconds(), .from = sender_text(), .on = came_in_at(), .message = message, .size = size });
 }
 
 /* The request that a datagram would answer by its number and its sdoId. The library judges whether it does. */

@@ -14,11 +14,10 @@ enum { MOST_KEPT_MESSAGES = 1024, MOST_OCTETS_KEPT = 1500, PORT_IDENTITY = 10, M
 
 /* A message is sent again after two to its logMessageInterval, in seconds (13.3.2.14). What is less than a second counts as one, and what
    is more than the standard's greatest of an Announce as that. So does 0x7F, by which a Delay_Req says nothing. */
-enum { SENDINGS = 4, SECOND = 1000, MOST_INTERVAL = 4 };
+enum { SENDINGS = 4, SECOND = 1000000000, MOST_INTERVAL = 4 };
 
 struct kept {
-    struct timespec at;
-    int64_t heard;              /* when, in milliseconds */
+    int64_t at;                 /* when it was heard */
     bool is_written;
     char from[MOST_SENDER], on[IF_NAMESIZE];
     size_t size;
@@ -56,7 +55,7 @@ static struct kept *place_of(const uint8_t *message) {
     return kept_count < MOST_KEPT_MESSAGES ? &all[kept_count++] : NULL;
 }
 
-/* How long it is kept, in milliseconds. */
+/* How long it is kept, in nanoseconds. */
 static int64_t lasting(const uint8_t *message) {
     int interval = (int8_t)message[INTERVAL_AT];
     if (interval < 0) interval = 0;
@@ -66,7 +65,7 @@ static int64_t lasting(const uint8_t *message) {
 void forget_silent(void) {
     size_t left = 0;
     for (size_t i = 0; i < kept_count; i++) {
-        if (milliseconds() - all[i].heard < lasting(all[i].message)) all[left++] = all[i];
+        if (nanoseconds() - all[i].at < lasting(all[i].message)) all[left++] = all[i];
     }
     kept_count = left;
 }
@@ -75,8 +74,7 @@ bool keep_heard(const uint8_t *datagram, size_t size) {
     if (!is_to_keep(datagram, size)) return false;
     struct kept *kept = place_of(datagram);
     if (kept == NULL) return true;
-    kept->at = time_now();
-    kept->heard = milliseconds();
+    kept->at = nanoseconds();
     kept->is_written = false;
     kept->size = length_of(datagram);
     memcpy(kept->message, datagram, kept->size);
@@ -105,7 +103,7 @@ void write_heard(FILE *to, bool is_of_all) {
         struct kept *one = &all[i];
         if (one->is_written && !is_of_all) continue;
         one->is_written = true;
-        write_line(to, &(struct line){
+        write_line(to, &(struct message_line){
             .at = one->at, .from = one->from, .on = *one->on == '\0' ? NULL : one->on, .message = one->message, .size = one->size,
         });
     }

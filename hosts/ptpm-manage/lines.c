@@ -1,15 +1,62 @@
 #define _GNU_SOURCE
 #include "lines.h"
+#include "monotonic.h"
 #include "transport.h"
 #include "words.h"
-#include <ctype.h>
+#include <inttypes.h>
 #include <stdbool.h>
+#include <stdlib.h>
+#include <string.h>
 #include <sys/timex.h>
 
-struct timespec time_now(void) {
+enum { SECOND = 1000000000 };
+
+static const char at_word[] = "at=";
+
+/* The time of this host when `nanoseconds` began. */
+static int64_t beginning;
+static bool is_taken;
+
+int64_t take_time(void) {
     struct timespec now = { 0 };
     clock_gettime(CLOCK_REALTIME, &now);
-    return now;
+    int64_t before = beginning;
+    beginning = (int64_t)now.tv_sec * SECOND + now.tv_nsec - nanoseconds();
+    int64_t step = is_taken ? beginning - before : 0;
+    is_taken = true;
+    return step;
+}
+
+static void write_time(FILE *to, int64_t time) {
+    if (time < 0) time = 0;
+    fprintf(to, "%s%" PRId64 ".%09" PRId64 " ", at_word, time / SECOND, time % SECOND);
+}
+
+/* The rest of a line that is after its time; the whole line if it has none. */
+static const char *read_time(const char *line, int64_t *time) {
+    char *end;
+    if (strncmp(line, at_word, sizeof at_word - 1) != 0) return line;
+    *time = strtoll(line + sizeof at_word - 1, &end, 10) * SECOND;
+    *time += strtoll(end + 1, &end, 10);
+    return end + 1;
+}
+
+void shift_lines(char **lines, size_t *size, int64_t by) {
+    char *shifted = NULL;
+    size_t shifted_size = 0;
+    FILE *to = open_memstream(&shifted, &shifted_size);
+    for (const char *at = *lines, *end = at + *size, *next; to != NULL && at < end; at = next) {
+        int64_t time = 0;
+        const char *rest = read_time(at, &time);
+        next = memchr(at, '\n', (size_t)(end - at));
+        next = next == NULL ? end : next + 1;
+        if (rest != at) write_time(to, time + by);
+        fwrite(rest, 1, (size_t)(next - rest), to);
+    }
+    bool is_whole = to != NULL && fclose(to) == 0;
+    free(*lines);
+    *lines = shifted;
+    *size = is_whole ? shifted_size : 0;
 }
 
 /* The name of an interface and the path of a socket may have any octets. A line takes only UTF-8, and a space ends each word. */
@@ -17,14 +64,15 @@ static void write_word(FILE *to, const char *name, const char *value) {
     fputs(name, to);
     for (; *value != '\0'; value++) {
         unsigned char octet = (unsigned char)*value;
-        if (isgraph(octet) && octet != '\\') fputc(octet, to);
+        if (octet > ' ' && octet < 0x7f && octet != '\\') fputc(octet, to);
         else fprintf(to, "\\x%02x", octet);
     }
     fputc(' ', to);
 }
 
-void write_line(FILE *to, const struct line *line) {
-    fprintf(to, "at=%lld.%09ld ", (long long)line->at.tv_sec, line->at.tv_nsec);
+void write_line(FILE *to, const struct message_line *line) {
+    if (!is_taken) take_time();
+    write_time(to, beginning + line->at);
     if (*line->from != '\0') write_word(to, "from=", line->from);
     if (line->on != NULL) write_word(to, "on=", line->on);
     for (size_t i = 0; i < line->size; i++) fprintf(to, "%02x", line->message[i]);
@@ -32,7 +80,7 @@ void write_line(FILE *to, const struct line *line) {
 }
 
 void write_sent(FILE *to, const uint8_t *message, size_t size) {
-    struct line line = { .at = time_now(), .from = "", .on = sent_at(0), .message = message, .size = size };
+    struct message_line line = { .at = nanoseconds(), .from = "", .on = sent_at(0), .message = message, .size = size };
     write_line(to, &line);
     for (size_t i = 1; (line.on = sent_at(i)) != NULL; i++) write_line(to, &line);
 }

@@ -6,19 +6,23 @@
 #include <stddef.h>
 #include <stdint.h>
 #include <stdio.h>
-#include <time.h>
 
 /* A message that came in, or one that was sent: then nobody sent it to this host, and `from` is "". `on` is NULL on a Unix socket. */
-struct line {
-    struct timespec at;
+struct message_line {
+    int64_t at;                 /* by `nanoseconds` */
     const char *from, *on;
     const uint8_t *message;
     size_t size;
 };
 
-struct timespec time_now(void);
+/* Takes the time of this host, by which at= is written from now on: a clock that is set moves no line that comes later. By how much it was
+   set since the call before, in nanoseconds. */
+int64_t take_time(void);
 
-void write_line(FILE *to, const struct line *line);
+/* Adds this to each at= of lines, which are of an earlier time. They are dropped if there is no memory. */
+void shift_lines(char **lines, size_t *size, int64_t by);
+
+void write_line(FILE *to, const struct message_line *line);
 
 /* The message that went out last: a line for each interface that it went out at. */
 void write_sent(FILE *to, const uint8_t *message, size_t size);

@@ -2,6 +2,7 @@
 #include "status.h"
 #include "asking.h"
 #include "collect.h"
+#include "lines.h"
 #include "message_places.h"
 #include "monotonic.h"
 #include "notices.h"
@@ -35,6 +36,9 @@ enum { MOST_MOMENTARY = 4 };
 
 /* So much is kept of looks while something is open. */
 enum { MOST_KEPT_LINES = 64 << 20 };
+
+/* The times of an earlier look are set too if the clock of this host was set by more than these nanoseconds. */
+enum { LEAST_STEP = 100000000 };
 
 /* `ptpm site` found something, or failed, or it lacks the answers. */
 enum { FINDINGS = 1 };
@@ -143,6 +147,8 @@ static void try_options(const struct task *task) {
 /* Collects, and has it shown after the lines of an earlier look, if there is one; the status. */
 static int look_once(struct look *look, const struct task *task, const struct domains *domains, struct look *earlier) {
     *look = (struct look){ 0 };
+    int64_t step = take_time();
+    if (earlier != NULL && llabs(step) > LEAST_STEP) shift_lines(&earlier->lines, &earlier->size, step);
     FILE *lines = open_memstream(&look->lines, &look->size);
     if (lines == NULL) refuse("nothing was asked: %s", strerror(errno));
     look->status = collect_lines(lines, task, domains);
