@@ -74,12 +74,11 @@ void listen_for_domains(struct domains *domains, const struct task *task, int64_
 
 void find_domains(struct domains *domains, const struct task *task) {
     const struct site_options *site = &task->site;
-    bool has_heard = task->path == NULL && (site->is_every_domain || site->is_every_sdo);
     *domains = (struct domains){ 0 };
     if (!site->is_every_domain || task->path != NULL) add_named(domains, site, site->sdo);
     else add_domain(domains, (struct domain){ USUAL, site->sdo });
-    if (!has_heard) return;
-    show_progress("listening for clocks");
+    if (task->path != NULL) return;
+    if (site->listen > 0) show_progress("listening for clocks");
     listen_for_domains(domains, task, site->listen);
     if (!site->is_every_domain) return;
     add_domain(domains, (struct domain){ USUAL_IN_STUDIOS, site->sdo });

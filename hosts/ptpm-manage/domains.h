@@ -13,9 +13,9 @@ enum { MOST_SDOS = 8 };
 
 struct domains { size_t sdo_count; uint16_t sdos[MOST_SDOS]; bool is_in[MOST_SDOS][DOMAINS]; };
 
-/* Finds them. With `all` domains, or `all` sdoIds, it listens as long as the task says, and adds what is heard. With `all` domains it then
-   asks once in each domain, and adds those in which a clock answers. On a Unix socket none comes in: there it takes each of the 256 of one
-   sdoId. */
+/* Finds them. It listens as long as the task says, and with `all` domains, or `all` sdoIds, adds those that are heard. With `all` domains it
+   then asks once in each domain, and adds those in which a clock answers. On a Unix socket none comes in: there it takes each of the 256 of
+   one sdoId. */
 void find_domains(struct domains *domains, const struct task *task);
 
 /* Hears what comes in for this many milliseconds, and with `all` adds the domains in which a clock sends. */

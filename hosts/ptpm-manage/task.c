@@ -83,7 +83,7 @@ static const char site_text[] =
     "      --give-up           resume ends the apply, whose last step may have been carried out\n"
     "\n"
     "A whole site:\n"
-    "      --listen SECONDS    how long --domain all and --sdo all listen for clocks (4)\n"
+    "      --listen SECONDS    how long it listens for clocks first (0; 4 with --domain all and --sdo all)\n"
     "      --max-offset NS     offsets above this limit are findings, in nanoseconds (1000000); none is no\n"
     "                          limit\n"
     "      --max-delay NS      delays above this limit too\n"
@@ -309,9 +309,7 @@ static void read_domains(struct site_options *site, const char *text) {
 static void judge_site_options(const struct site_options *site) {
     if (site->given != NULL && !site->is_shown) refuse("%s: it is of status alone", site->given);
     if (site->is_sdo_named && !site->is_collected) refuse("--sdo: it is of collect and status alone");
-    if (site->listen >= 0 && !site->is_every_domain && !site->is_every_sdo) {
-        refuse("--listen: it is of --domain all and --sdo all of collect and status");
-    }
+    if (site->listen >= 0 && !site->is_collected) refuse("--listen: it is of collect and status alone");
     if (site->form != AS_TEXT && site->watch > 0 && site->output == NULL) {
         refuse("--watch excludes --draw, --html, --openmetrics and --nagios, unless there is a file for them: --output FILE");
     }
@@ -659,7 +657,7 @@ void read_task(struct task *task, int argc, char **argv) {
     judge_json(task);
     judge_expected(task);
     if (task->plan.is_probed && task->plan.verb != PLAN) refuse("--probe: it is of plan alone");
-    if (task->site.listen < 0) task->site.listen = LISTENED;
+    if (task->site.listen < 0) task->site.listen = task->site.is_every_domain || task->site.is_every_sdo ? LISTENED : 0;
     long port = words.port >= 0 ? words.port : words.target_port;
     task->port = port < 0 ? 0 : (uint16_t)port;
     bool is_beyond = is_beyond_session(task->port);
