@@ -75,10 +75,13 @@ enum kept_found read_kept(const struct kept_file *file, uint8_t *octets, size_t 
     return what;
 }
 
-/* Gives the new file the owner of the one before, as far as this user may, and its mode; whether it has that. */
+/* Gives the new file the owner of the one before, as far as this user may, and its mode; whether it has that. A service that may change no
+   owner has the same one. */
 static bool make_like_before(const struct stat *before, int descriptor) {
+    struct stat found;
     if (before->st_nlink == 0) return true;
-    if (fchown(descriptor, before->st_uid, before->st_gid) && fchown(descriptor, (uid_t)-1, before->st_gid)) {
+    bool is_same = fstat(descriptor, &found) == 0 && found.st_uid == before->st_uid && found.st_gid == before->st_gid;
+    if (!is_same && fchown(descriptor, before->st_uid, before->st_gid) && fchown(descriptor, (uid_t)-1, before->st_gid)) {
         errno = 0;      /* it is this user's then */
     }
     return fchmod(descriptor, before->st_mode & 0777) == 0;
