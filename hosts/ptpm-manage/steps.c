@@ -221,6 +221,17 @@ static int take_step(const struct task *task, struct journal *journal, long plac
     return end_with(journal, ENDED_CHANGED, place);
 }
 
+/* A refusal changes nothing. But an earlier message of the step may have been carried out, by a clock that no longer knows that. Says so if
+   the member has what was asked. */
+static void say_value_of_refused(const struct task *task, const struct journal *journal, long place) {
+    static struct answer answer;
+    const struct step *step = &journal->steps[place];
+    if (read_member(task, step, step->domain, &answer) != ANSWERED || !has(&answer, step, &step->after)) return;
+    complain("step %ld is refused, and yet the clock has what it asks: an earlier message of it was carried out, or somebody else set it",
+             place + 1);
+    complain("a rollback leaves it out");
+}
+
 int carry_out_steps(const struct task *task, struct journal *journal) {
     int status = see_to_begun(journal);
     for (long place; status == ANSWERED && journal->ending == IS_OPEN && (place = next_step(journal)) != NO_STEP;) {
@@ -230,5 +241,6 @@ int carry_out_steps(const struct task *task, struct journal *journal) {
     long failed = failed_step(journal);
     if (failed == NO_STEP) return verify(task, journal);
     bool is_refused = journal->told[failed].outcome == IS_REFUSED;
+    if (is_refused) say_value_of_refused(task, journal, failed);
     return end_with(journal, is_refused ? ENDED_REFUSED : ENDED_ANSWERED, failed);
 }
