@@ -27,7 +27,7 @@ static bool say_value(const struct task *task) {
 
 /* Why a clock that answers reads may drop what this manager asks. */
 static void say_reason(const struct task *task, enum unanswered what, uint16_t number) {
-    static const char unsaved[] = ", or the clock can't save its state, for example since its disk is full";
+    static const char unsaved[] = ", or the clock can't save its state, for example since its disk is full, or its device has not agreed yet";
     char manager[IDENTITY_TEXT];
     unsigned port = task->settings.port;
     write_identity(manager, task->settings.clock);

@@ -9,7 +9,7 @@ import time
 from attack_limits import set_of
 from attack_saves import FAILING, SLOWLY, Disk
 from attack_wire import STRANGER, Wire, message
-from attacking import MANAGER, ME, SLOW, TRACED, Clock, Peer, check, get, pause, path, read, wait_until, work, write
+from attacking import MANAGER, ME, SLOW, TRACED, Clock, Peer, check, get, manage, pause, path, read, wait_until, work, write
 
 SECOND_MANAGER = "0011223344556688"
 PROGRAM = os.path.join(work, "program")
@@ -205,6 +205,10 @@ def programs_that_say_nothing():
     check("with what it has started", wait_until(lambda: processes_with(LONG) == 0, 1) and answer_at(peer, 0.2) is None)
     write("says", f"sleep {LONG} & exit 5\n")
     check("so is what it leaves when it exits", asked(peer, set_of(2, 50)) == (2, "error", NOT_SETABLE) and processes_with(LONG) == 0)
+    write("says", "sleep 0.8\n")
+    status, said, _ = manage("-u", path, "-k", os.path.join(work, "numbers"), "-t", "40", "-a", "4", "set", "PRIORITY1", "60")
+    check("its manager is told that this may be why", status == 3 and "or its device has not agreed yet" in said)
+    check("and has the answer later", wait_until(lambda: asked(other, message(9, STRANGER, ME)) == (9, "value", 60)))
     check("it ends in order", clock.end()[0] == 0 and "the device said nothing: 2\n" in clock.text())
     peer.close(), other.close()
 
