@@ -48,7 +48,20 @@ static void look_at_one_before(void) {
     if (!is_there) file.before = (struct stat){ 0 };
 }
 
+/* Opens the folder that has this name by now: the one before may have been moved, and another made in its place. */
+static bool find_folder(void) {
+    struct kept_file now = { .mode = READABLE_BY_ALL };
+    if (!open_kept_folder(&now, path)) return false;
+    close(file.folder);
+    file = now;
+    return true;
+}
+
 bool write_output_file(const char *text, size_t size) {
+    if (!find_folder()) {
+        complain("--output %s: %s", path, strerror(errno));
+        return false;
+    }
     look_at_one_before();
     if (replace_kept(&file, (const uint8_t *)text, size) != NOT_REPLACED) return true;
     complain("--output %s%s: %s", path, kept_fault(), strerror(errno));
