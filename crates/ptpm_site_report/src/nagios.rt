@@ -158,7 +158,7 @@ fn print_counts<O: Write>(look: &Look<'_, '_>, out: &mut O) -> io::Result<()> {
     Ok(())
 }
 
-/// Prints them for names that are so bad. Answers what comes before the next.
+/// Prints them for the names of findings that are so bad. Answers what comes before the next.
 fn print_counts_of<O: Write>(
     look: &Look<'_, '_>,
     severity: Severity,
@@ -168,12 +168,17 @@ fn print_counts_of<O: Write>(
     let mut between = between;
     for kind in Kind::ALL {
         let count = count_of(look, kind);
-        if count != 0 && kind.row().severity == severity {
+        if count != 0 && is_as_bad(kind, severity) {
             write!(out, "{between}{} {count}", kind.name())?;
             between = ", ";
         }
     }
     Ok(between)
+}
+
+/// Whether findings of a name are so bad.
+fn is_as_bad(kind: Kind, severity: Severity) -> bool {
+    kind.row().severity == severity
 }
 
 /// How many findings of a name follow from no other.
