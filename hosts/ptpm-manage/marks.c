@@ -42,16 +42,25 @@ static bool is_own(const char *journal) {
     return stat(own, &one) == 0 && stat(journal, &other) == 0 && one.st_dev == other.st_dev && one.st_ino == other.st_ino;
 }
 
-void refuse_mark(const char *session) {
+/* Refuses a mark whose journal is open. A past one is removed if it may be. */
+static void see_to_mark(const char *session, bool may_remove) {
     struct kept_file mark;
     char journal[PATH_MAX];
     enum kept_found found = find_mark(&mark, session) ? read_mark(&mark, journal) : KEPT_NONE;
     bool is_past = found == KEPT_FILE && !is_own(journal) && !may_be_open(journal);
-    if (is_past) unlinkat(mark.folder, mark.name, 0);
+    if (is_past && may_remove) unlinkat(mark.folder, mark.name, 0);
     if (mark.folder >= 0) close(mark.folder);
     if (is_past || found == KEPT_NONE || (found == KEPT_FILE && is_own(journal))) return;
     if (found != KEPT_FILE) refuse("nothing was asked: %s.apply: it can't be read: an apply may be open", session);
     refuse("nothing was asked: the apply of %s is open: ptpm-manage resume goes on with it", journal);
+}
+
+void refuse_mark(const char *session) { see_to_mark(session, true); }
+
+void refuse_open_mark(const char *session) {
+    char path[PATH_MAX];
+    struct stat found;
+    if ((size_t)snprintf(path, sizeof path, "%s.apply", session) < sizeof path && lstat(path, &found) == 0) see_to_mark(session, false);
 }
 
 bool make_mark(const char *session) {

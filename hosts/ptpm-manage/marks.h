@@ -15,6 +15,9 @@ bool has_own_marks(void);
    journal is gone, is removed. The session's lock is this run's. */
 void refuse_mark(const char *session);
 
+/* The same for a session whose lock is not this run's: nothing is removed, or made. */
+void refuse_open_mark(const char *session);
+
 /* Marks the file of a session as this run's; whether it could. If not, errno says why. */
 bool make_mark(const char *session);
 

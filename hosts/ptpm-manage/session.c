@@ -145,6 +145,7 @@ void open_session(struct kept_session *session, const struct task *task) {
     bool is_named = task->numbers != NULL;
     session->has_file = true;
     session->earlier.is_left = false;
+    if (is_named) refuse_usual_mark(&task->settings);
     switch (open_session_file(&session->file, is_named ? task->numbers : usual_file(&task->settings), is_named, octets, &size)) {
     case NO_SESSION_FILE:
         start(&session->asker, task);

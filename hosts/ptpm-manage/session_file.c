@@ -149,13 +149,29 @@ static const char *folder_in(const char *variable) {
     return folder != NULL && folder[0] == '/' ? folder : NULL;
 }
 
-/* Writes the path of the folder to `usual_path`; how many octets it has, or would have. */
-static size_t write_folder(void) {
+/* Writes the path of the folder to `usual_path`; how many octets it has, or would have. None if no variable names it. */
+static size_t find_folder(void) {
     const char *state = folder_in("XDG_STATE_HOME"), *home = folder_in("HOME");
     if (state != NULL) return (size_t)snprintf(usual_path, sizeof usual_path, "%s/ptpm", state);
     if (geteuid() == 0) return (size_t)snprintf(usual_path, sizeof usual_path, "/var/lib/ptpm");
     if (home != NULL) return (size_t)snprintf(usual_path, sizeof usual_path, "%s/.local/state/ptpm", home);
-    refuse("the request was not sent: neither XDG_STATE_HOME nor HOME names a folder for the session; %s", elsewhere());
+    return 0;
+}
+
+/* The same; ends the program with status 2 if no variable names it. */
+static size_t write_folder(void) {
+    size_t size = find_folder();
+    if (size == 0) refuse("the request was not sent: neither XDG_STATE_HOME nor HOME names a folder for the session; %s", elsewhere());
+    return size;
+}
+
+/* Adds the name of the session's file to the path of its folder; how many octets there are then, or would be. */
+static size_t add_name(size_t size, const struct ptpm_session_settings *settings) {
+    char manager[IDENTITY_TEXT], clock[IDENTITY_TEXT];
+    if (size >= sizeof usual_path) return size;
+    write_identity(manager, settings->clock);
+    write_identity(clock, settings->target);
+    return size + (size_t)snprintf(usual_path + size, sizeof usual_path - size, "/%s-%u.%s", manager, settings->port, clock);
 }
 
 _Noreturn static void refuse_long_path(void) {
@@ -184,14 +200,13 @@ const char *state_folder(void) {
 }
 
 const char *usual_file(const struct ptpm_session_settings *settings) {
-    char manager[IDENTITY_TEXT], clock[IDENTITY_TEXT];
     size_t size = write_folder();
-    write_identity(manager, settings->clock);
-    write_identity(clock, settings->target);
-    if (size < sizeof usual_path) {
-        make_parents();
-        size += (size_t)snprintf(usual_path + size, sizeof usual_path - size, "/%s-%u.%s", manager, settings->port, clock);
-    }
-    if (size >= sizeof usual_path) refuse_long_path();
+    if (size < sizeof usual_path) make_parents();
+    if (add_name(size, settings) >= sizeof usual_path) refuse_long_path();
     return usual_path;
+}
+
+void refuse_usual_mark(const struct ptpm_session_settings *settings) {
+    size_t size = find_folder();
+    if (size > 0 && add_name(size, settings) < sizeof usual_path) refuse_open_mark(usual_path);
 }

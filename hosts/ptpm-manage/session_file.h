@@ -52,4 +52,7 @@ const char *state_folder(void);
    The folders above it are made if they are missing. Ends the program with status 2 if there is no such folder. */
 const char *usual_file(const struct ptpm_session_settings *settings);
 
+/* Ends the program with status 2 if an apply has marked that file: a session with another file would go ahead of its numbers. */
+void refuse_usual_mark(const struct ptpm_session_settings *settings);
+
 #endif

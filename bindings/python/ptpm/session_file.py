@@ -70,6 +70,36 @@ class DamagedFileError(Error):
         return f"{self.name}: {self.path}: octets of the session were lost or changed; without it a new session begins"
 
 
+def _has_past_mark(path: str) -> bool:
+    """Whether the mark of an apply is beside this file, and that is not open. One that is open is refused. The mark has the journal's
+    path."""
+    mark = f"{path}.apply"
+    try:
+        opened = os.open(mark, os.O_RDONLY | os.O_NOFOLLOW | os.O_NONBLOCK | os.O_CLOEXEC)
+    except FileNotFoundError:
+        return False
+    except OSError:
+        raise OpenApplyError(mark, None) from None
+    try:
+        journal = os.fsdecode(os.read(opened, _MOST_PATH).split(b"\n")[0])
+    except OSError:
+        raise OpenApplyError(mark, None) from None
+    finally:
+        os.close(opened)
+    if may_be_open(journal):
+        raise OpenApplyError(mark, journal)
+    return True
+
+
+def _refuse_usual_mark(manager: PortIdentityLike, target: IdentityLike) -> None:
+    """Refuses a session with another file while an apply is open at the usual one: it would go ahead of its numbers."""
+    try:
+        path = usual_path(manager, target)
+    except SessionFileError:
+        return
+    _has_past_mark(path)
+
+
 class SessionFile:
     """The image in a session's file, or None if there is no file yet. The process that holds the file has its turn: others wait a
     minute. It is held until it is closed, or its `with` ends."""
@@ -81,6 +111,7 @@ class SessionFile:
             self.path = usual_path(manager, target)
             os.makedirs(os.path.dirname(os.path.dirname(self.path)), mode=0o700, exist_ok=True)
         else:
+            _refuse_usual_mark(manager, target)
             self.path = os.path.abspath(os.fspath(path))
         self._folder, self._name = os.path.split(self.path)
         if not os.path.isdir(self._folder):
@@ -151,24 +182,9 @@ class SessionFile:
         return os.path.samestat(found, os.fstat(lock))
 
     def _refuse_mark(self) -> None:
-        """Refuses a session that is marked by an apply that is open. The mark beside its file has the journal's path. If that apply has
-        an end, or its journal is gone, the mark is removed."""
-        mark = f"{self.path}.apply"
-        try:
-            opened = os.open(mark, os.O_RDONLY | os.O_NOFOLLOW | os.O_NONBLOCK | os.O_CLOEXEC)
-        except FileNotFoundError:
-            return
-        except OSError:
-            raise OpenApplyError(mark, None) from None
-        try:
-            journal = os.fsdecode(os.read(opened, _MOST_PATH).split(b"\n")[0])
-        except OSError:
-            raise OpenApplyError(mark, None) from None
-        finally:
-            os.close(opened)
-        if may_be_open(journal):
-            raise OpenApplyError(mark, journal)
-        os.unlink(mark)
+        """Refuses a session that is marked by an apply that is open. If that has an end, or its journal is gone, the mark is removed."""
+        if _has_past_mark(self.path):
+            os.unlink(f"{self.path}.apply")
 
     def _read(self) -> Optional[bytes]:
         try:

@@ -18,6 +18,7 @@ from typing import List, Optional
 import ptpm
 from ptpm.__main__ import Task
 from ptpm.__main__ import _parser as command_line
+from ptpm.session_file import usual_path
 
 from . import CLOCK, MANAGER, TOP, Folder
 
@@ -434,6 +435,21 @@ class Asking(Folder):
         with ptpm.SessionFile(MANAGER, CLOCK, path) as file:
             self.assertIsNone(file.octets)
         self.assertEqual(ptpm.get(self.way, CLOCK, "PRIORITY1").members, {"priority1": 128})
+
+    def test_another_file_is_refused_too_while_an_apply_is_open(self) -> None:
+        journal = f"{self.folder}/one.journal"
+        with open(journal, "w", encoding="utf-8") as file:
+            file.write(journal_line(HEAD))
+        with unittest.mock.patch.dict(os.environ, {"XDG_STATE_HOME": self.folder}):
+            os.mkdir(f"{self.folder}/ptpm")
+            with open(f"{usual_path(MANAGER, CLOCK)}.apply", "w", encoding="utf-8") as mark:
+                mark.write(f"{journal}\n")
+            with self.assertRaises(ptpm.OpenApplyError):
+                ptpm.SessionFile(MANAGER, CLOCK, f"{self.folder}/another")
+            os.unlink(journal)
+            with ptpm.SessionFile(MANAGER, CLOCK, f"{self.folder}/another") as other:
+                self.assertIsNone(other.octets)
+            self.assertTrue(os.path.exists(mark.name))
 
     def test_the_mark_of_an_apply_that_has_ended_is_removed(self) -> None:
         path, journal, mark = (f"{self.folder}/{name}" for name in ("session", "the.journal", "session.apply"))
