@@ -41,6 +41,7 @@ SITE = [("receiver", ["eth0"], "020000.fffe.000010", "time server", 100),
         ("left", ["eth0"], "020000.fffe.000031", "camera 7", 128), ("right", ["eth0"], "020000.fffe.000032", "camera 8", 128)]
 NEIGHBOUR = [("neighbour", ["eth0"], "020000.fffe.000020", "", 128)]
 
+AT_REST = 69            # octets of a session's file without a request, its seal among them
 # The clocks that a page does not begin itself: at the device, with the manager.
 AGENT = "ptpm-clock -m 020000fffe000010/1"
 AGENTS = {"docs/ptpm-manage.md": [f"{AGENT} aabbccfffeddee01 eth0 eth1", f"{AGENT} -d 4 aabbccfffeddee01 eth0",
@@ -171,7 +172,7 @@ class Scene:
         for turn in range(200):
             self.run(f"timeout -s KILL {0.02 + turn / 1000:.3f} {before} -q -n 4000 set PRIORITY1 100")
             images = [os.path.getsize(f"/var/lib/ptpm/{name}") for name in os.listdir("/var/lib/ptpm") if name.endswith("aabbccfffeddee01")]
-            if any(53 < size < 75 for size in images):      # a GET's 20 octets would make it longer
+            if any(AT_REST < size < AT_REST + 20 for size in images):       # a GET's 20 octets would make it longer
                 return
 
 
