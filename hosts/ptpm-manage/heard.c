@@ -71,7 +71,7 @@ void forget_silent(void) {
 }
 
 bool keep_heard(const uint8_t *datagram, size_t size) {
-    if (!is_to_keep(datagram, size)) return false;
+    if (!came_from_asked() || !is_to_keep(datagram, size)) return false;
     struct kept *kept = place_of(datagram);
     if (kept == NULL) return true;
     kept->at = nanoseconds();

@@ -13,7 +13,7 @@
 /* Forgets each message whose port should have sent four more by now. */
 void forget_silent(void);
 
-/* Keeps the message that came in last, if it is one of these; whether it is. Octets may follow it. */
+/* Keeps the message that came in last, if it is one of these, and from whom is asked; whether it is. Octets may follow it. */
 bool keep_heard(const uint8_t *datagram, size_t size);
 
 /* The clocks that sent an Announce, a Sync or a Follow_Up, in the order in which they came, each perhaps several times. NULL after the

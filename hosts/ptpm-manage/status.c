@@ -341,10 +341,11 @@ static int write_look(const struct look *look, const struct look *earlier, const
     return status;
 }
 
-/* Prints it, which was judged after an earlier one if there is one; the status. */
+/* Prints it, which was judged after an earlier one if there is one; the status. If nothing is to be shown, a file stays as it was. */
 static int print_look(const struct look *look, const struct look *earlier, const struct task *task) {
     clear_progress();
-    if (task->site.output != NULL) return write_look(look, earlier, task);
+    bool is_shown = is_whole(look) || task->site.form == AS_PLUGIN;
+    if (task->site.output != NULL) return is_shown ? write_look(look, earlier, task) : look->status;
     return print_look_to(stdout, look, earlier, task);
 }
 

@@ -445,6 +445,16 @@ static bool is_from_here(const struct end *end, const struct sockaddr *sender) {
 static struct place latest_place;
 static const struct end *latest_end;
 
+static bool is_to_group(void) {
+    const struct sockaddr_in *four = (const struct sockaddr_in *)&clock_address;
+    const struct sockaddr_in6 *six = (const struct sockaddr_in6 *)&clock_address;
+    return is_six ? IN6_IS_ADDR_MULTICAST(&six->sin6_addr) : IN_MULTICAST(ntohl(four->sin_addr.s_addr));
+}
+
+bool came_from_asked(void) {
+    return !is_to_one || is_to_group() || is_same((const struct sockaddr *)&latest_place.sender, &clock_address);
+}
+
 const char *came_in_at(void) { return latest_end == NULL ? NULL : latest_end->interface; }
 
 static const char *station_text(const struct sockaddr_ll *sender) {

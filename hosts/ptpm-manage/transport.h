@@ -61,6 +61,9 @@ const uint8_t *receive_message(size_t *size, int64_t end);
 const char *sender_text(void);
 const char *came_in_at(void);
 
+/* Whether it came from whom is asked: from the address of --udp, or else from anybody. */
+bool came_from_asked(void);
+
 /* The identity that this host has at an interface by its hardware address: at the first, the second and so on. Whether there is
    one. */
 bool own_identity(size_t place, uint8_t identity[8]);
