@@ -40,7 +40,9 @@ int main(int argc, char **argv) {
     read_task(&task, argc, argv);
     catch_signals();
     int status = ask(&task);
-    if (fflush(stdout) == 0 && !ferror(stdout)) return status;
-    complain("standard output could not be written: %s", strerror(errno));
-    return NOT_WRITTEN;
+    if (fflush(stdout) || ferror(stdout)) {
+        complain("standard output could not be written: %s", strerror(errno));
+        status = NOT_WRITTEN;
+    }
+    return status == NOT_WRITTEN && task.site.form == AS_PLUGIN ? NOT_ANSWERED : status;
 }

@@ -135,6 +135,10 @@ def site(
     max_offset: Union[int, str, None] = None,
     max_delay: Optional[int] = None,
     tai_utc: Optional[int] = None,
+    settle: Optional[int] = None,
+    profile: Optional[str] = None,
+    expect: Union[str, "os.PathLike[str]", None] = None,
+    ignore: Union[str, Sequence[str]] = (),
     once: bool = False,
 ) -> Site:
     """Looks at a whole site: asks every clock with `ptpm-manage collect`, and passes the answers to `ptpm site`.
@@ -144,11 +148,16 @@ def site(
     "all", and `sdo` their sdoId, such as 0x100, or "all". A DomainIdentity is one domain of its own sdoId. In seconds, `timeout` is
     how long a clock has for an answer, and `listen` how long clocks are listened for. `limit` is how long a collection may take. An
     offset or a delay above `max_offset` or `max_delay`, in nanoseconds, is a finding; a `max_offset` of "none" is no limit.
-    `tai_utc` is how many seconds TAI is before UTC. What is None is the programs'. Like `ptpm-manage status` it looks again after
+    `tai_utc` is how many seconds TAI is before UTC, and `settle` how many a port may take to settle. The site is held to a `profile`, such as
+    "aes67", and to the inventory in the file `expect`. Findings whose names `ignore` has are left out. What is None is the programs'. Like `ptpm-manage status` it looks again after
     two seconds if a finding may pass, and until two looks have the same ones, unless `once` is set.
 
     A SiteError has the program's words; its status is 3 if no clock answered."""
-    limits = _words((("--max-offset", max_offset), ("--max-delay", max_delay), ("--tai-utc", tai_utc)))
+    ignored = ignore if isinstance(ignore, str) else ",".join(ignore)
+    limits = _words((
+        ("--max-offset", max_offset), ("--max-delay", max_delay), ("--tai-utc", tai_utc), ("--settle", settle), ("--profile", profile),
+        ("--expect", None if expect is None else os.fspath(expect)), ("--ignore", ignored or None),
+    ))
     named = [interfaces] if isinstance(interfaces, str) else list(interfaces or ())
     ways = [way for way in (*named, unix, udp) if way is not None]
     if lines is not None:

@@ -35,6 +35,10 @@ def _parser() -> argparse.ArgumentParser:
     add("--max-offset", metavar="NS", help="an offset above this many nanoseconds is a finding; none is no limit")
     add("--max-delay", type=int, metavar="NS", help="a delay above this many nanoseconds is a finding")
     add("--tai-utc", type=int, metavar="S", help="how many seconds TAI is before UTC")
+    add("--settle", type=int, metavar="S", help="how many seconds a port may take to settle")
+    add("--profile", metavar="NAME", help="holds the site to a profile: default, st2059-2, aes67 or gptp")
+    add("--expect", metavar="FILE", help="holds the site to an inventory")
+    add("--ignore", metavar="NAME,..", action="append", default=[], help="leaves out the findings of these names")
     add("--once", action="store_true", help="no second look")
     return parser
 
@@ -44,7 +48,7 @@ def _looked(words: argparse.Namespace, lines: Optional[TextIO]) -> Site:
         words.interface, unix=words.unix, udp=words.udp, ipv6=words.ipv6, ethernet=words.ethernet, lines=lines, domains=words.domain,
         sdo=words.sdo, hops=words.hops, attempts=words.attempts, timeout=None if words.timeout is None else words.timeout / 1000,
         listen=words.listen, max_offset=words.max_offset, max_delay=words.max_delay, tai_utc=words.tai_utc,
-        once=words.once,
+        settle=words.settle, profile=words.profile, expect=words.expect, ignore=words.ignore, once=words.once,
     )
 
 

@@ -293,9 +293,21 @@ class Programs(Folder):
     def test_limits(self) -> None:
         self.collects("a_chain")
         self.write("ptpm", f'echo "$*" >> {self.folder}/told; exec {TOP}/ptpm "$@"')
-        ptpm.site("eth0", max_offset="none", max_delay=1000000, tai_utc=37)
-        told = Path(self.folder, "told").read_text(encoding="ascii")
-        self.assertEqual(told, "site --json --max-offset none --max-delay 1000000 --tai-utc 37\n")
+        wanted = Path(self.folder, "hall")
+        wanted.write_text("# no clock yet\n0 * priority2 128\n", encoding="ascii")
+        ptpm.site("eth0", max_offset="none", max_delay=1000000, tai_utc=37, once=True)
+        ptpm.site(lines=lines("a_chain"), settle=5, profile="default", expect=wanted, ignore=["leap", "mute"])
+        words = ["--settle", "5", "--profile", "default", "--expect", str(wanted), "--ignore", "leap", "--ignore", "gone,mute"]
+        command = [sys.executable, "-m", "ptpm", "site", "--lines", str(SITES / "sites/a_chain.lines"), *words]
+        # its ptpTimescale is false, which this profile does not allow of a grandmaster with a source
+        self.assertEqual(subprocess.run(command, capture_output=True, check=False).returncode, 1)
+        self.assertEqual(Path(self.folder, "told").read_text(encoding="ascii").splitlines(), [
+            "site --json --max-offset none --max-delay 1000000 --tai-utc 37",
+            f"site --json --settle 5 --profile default --expect {wanted} --ignore leap,mute",
+            f"site --json --settle 5 --profile default --expect {wanted} --ignore leap,gone,mute",
+        ])
+        self.refused("none of default, st2059-2, aes67 and gptp", 2, lines=lines("a_chain"), profile="other")
+        self.refused("hall2: No such file", 2, lines=lines("a_chain"), expect=f"{self.folder}/hall2")
 
     def test_refusals(self) -> None:
         self.refused("BadLine 1 BadHex", 1, lines=["zz"])
