@@ -287,8 +287,8 @@ class Programs(Folder):
         self.assertEqual([found.sdo_id for found in ptpm.site("eth0", sdo="all").findings], [0x100])
 
     def test_what_does_not_pass_needs_no_second_look(self) -> None:
-        self.collects("h_short")
-        self.assertEqual([found.name for found in ptpm.site(unix="/run/ptp4l").findings], ["incomplete"])
+        self.collects("p_st2059_wrong")
+        self.assertEqual([found.name for found in ptpm.site(unix="/run/ptp4l", profile="st2059-2").findings], ["profile", "profile"])
 
     def test_limits(self) -> None:
         self.collects("a_chain")

@@ -23,7 +23,7 @@ pub enum Standing {
     NumberTaken,
     /// Another program used the session since, or the file is gone. Nothing is asked.
     Unknown,
-    /// The request under way is that of a step whose answer is noted. It is sent again, and the same answer comes.
+    /// The request under way is that of a step whose answer is noted. It is given up, or sent again, and then the same answer comes.
     Told,
     /// The request under way is another program's. It is settled first.
     OfAnother,

@@ -194,7 +194,7 @@ impl Kind {
             Leap => row("leap", Warning, 1, Steady),
             BetterClock => row("better_clock", Warning, 2, Steady),
             Profile => row("profile", Warning, 1, Steady),
-            Incomplete => row("incomplete", Warning, 1, Steady),
+            Incomplete => row("incomplete", Warning, 2, Steady),
             OutOfReach => row("out_of_reach", Warning, 1, Steady),
             NotAsked => row("not_asked", Warning, 1, Steady),
         }

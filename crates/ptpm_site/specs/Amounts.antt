@@ -1,5 +1,6 @@
 -- Offsets and delays beyond what is allowed: `offset` and `delay`. A TimeInterval is nanoseconds times 2^16 (IEEE 1588-2019, 5.3.2).
-use Rattle.std.specs.Prelude.{ℕ, ℤ, ◌*◌, ◌&&◌, Bool, not, nat_lt, unsigned_abs, Option, Some, None, if◌then◌else◌, option_and_then}
+use Rattle.std.specs.Prelude.{ℕ, ℤ, ◌*◌, ◌&&◌, Bool, not, nat_lt, unsigned_abs, Option, Some, None, if◌then◌else◌, is_some, option_and_then}
+use Rattle.std.specs.Int.{is_negative}
 use Rattle.ptpm_data.specs.PortState.{state_of}
 use Rattle.ptpm_site.specs.declared.data_sets.PortDataSet.{PortDataSet}
 use Rattle.ptpm_site.specs.declared.limits.Limits.{Limits}
@@ -24,10 +25,15 @@ large_offset site s limits = option_and_then (λ _.
     if has_port_of site s groups.Slave && not (is_off_by_utc site limits.tai_utc s)
     then option_and_then (λ c. beyond c.offset_from_master limits.offset) (current_of site s) else None) (followed site s)
 
+-- a delay that is beyond its limit, or below zero by more than an offset may have
+abbrev pub wrong_delay : ℤ → Limits → Option ℤ
+wrong_delay interval limits =
+    if is_negative interval && is_some (beyond interval limits.offset) then Some interval else beyond interval limits.delay
+
 -- meanDelay of a clock that is not its own grandmaster
-abbrev pub large_delay : SiteAnswers → Source → Option ℕ → Option ℤ
-large_delay site s limit = option_and_then (λ _. option_and_then (λ c. beyond c.mean_delay limit) (current_of site s)) (followed site s)
+abbrev pub large_delay : SiteAnswers → Source → Limits → Option ℤ
+large_delay site s limits = option_and_then (λ _. option_and_then (λ c. wrong_delay c.mean_delay limits) (current_of site s)) (followed site s)
 
 -- meanLinkDelay of a port in SLAVE or UNCALIBRATED with P2P or COMMON_P2P
-abbrev pub large_link_delay : PortDataSet → Option ℕ → Option ℤ
-large_link_delay set limit = if is_following (state_of set.state) && measures_link set.delay_mechanism then beyond set.mean_link_delay limit else None
+abbrev pub large_link_delay : PortDataSet → Limits → Option ℤ
+large_link_delay set limits = if is_following (state_of set.state) && measures_link set.delay_mechanism then wrong_delay set.mean_link_delay limits else None

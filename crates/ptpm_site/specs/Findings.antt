@@ -91,7 +91,7 @@ unfoldable pub lock_found : SiteAnswers → Limits → Source → ℕ → List F
 lock_found site limits s n = found (what.NotLocked n) s (unlocked_port site limits s n)
 
 unfoldable pub link_delay_found : SiteAnswers → Limits → Source → ℕ → List Finding
-link_delay_found site limits s n = found (what.LinkDelay n) s (option_and_then (λ set. large_link_delay set limits.delay) (port_of site s n))
+link_delay_found site limits s n = found (what.LinkDelay n) s (option_and_then (λ set. large_link_delay set limits) (port_of site s n))
 
 unfoldable pub link_delays_found : SiteAnswers → Limits → Source → List Finding
 link_delays_found site limits s = if is_some (followed site s) then flat_map (link_delay_found site limits s) (site.ports s) else []
@@ -172,7 +172,7 @@ amounts_found site limits s =
     ++ followers_found site limits s
     ++ origin_found site limits s
     ++ found what.Offset s (large_offset site s limits)
-    ++ found what.Delay s (large_delay site s limits.delay)
+    ++ found what.Delay s (large_delay site s limits)
     ++ link_delays_found site limits s
 
 unfoldable pub found_above : SiteAnswers → Source → List Finding

@@ -1,5 +1,5 @@
 -- Which messages are answers to one of the six ids, and what each says (IEEE 1588-2019, 15.4.1 and 15.5.3).
-use Rattle.std.specs.Prelude.{ℕ, ◌==◌, Bool, true, false, not, List, length, Option, Some, None, if◌then◌else◌, is_some, option_and_then}
+use Rattle.std.specs.Prelude.{ℕ, ◌==◌, Bool, true, false, not, List, length, Option, Some, None, if◌then◌else◌, is_some, option_and_then, unwrap_or}
 use Rattle.std.specs.List.{find}
 use Rattle.std.specs.Option.{option_map}
 use Rattle.std.specs.Str.Lossy.{utf8_lossy}
@@ -35,11 +35,13 @@ pub data Content : Type 0 where
   OfClock : (asked : Asked) → (octets : List ℕ) → Content
   OfPort : (n : ℕ) → (octets : List ℕ) → Content
   Refused : (asked : Asked) → Content
+  Nothing : Content
 
 abbrev pub content : AnswerContent → Content
 content (contents.Clock asked octets) = OfClock asked octets.items
 content (contents.Port n octets) = OfPort n octets.items
 content (contents.Refused asked) = Refused asked
+content contents.Nothing = Nothing
 
 -- the octets are a dataField of the id
 abbrev pub has_members : Asked → List ℕ → Bool
@@ -53,15 +55,15 @@ abbrev pub port_content : Message → List ℕ → Option Content
 port_content m octets =
     option_and_then (λ p. if same_clock p.0.clock m.source.clock then Some (OfPort p.0.port octets) else None) (port_read octets)
 
--- what the dataField of a message says of an id
+-- what the dataField of a message says of an id, if anything
 abbrev pub data_content : Asked → Message → Option Content
 data_content id.UserDescription m = option_map (OfClock id.UserDescription) (description_read (octets_of m.body))
 data_content id.PortDataSet m = port_content m (octets_of m.body)
 data_content a m = clock_content a (octets_of m.body)
 
--- a MANAGEMENT_ERROR_STATUS refuses the id (15.5.4)
-unfoldable pub content_of : Asked → Message → Option Content
-content_of a m = if is_some (error_of m.body) then Some (Refused a) else data_content a m
+-- a MANAGEMENT_ERROR_STATUS refuses the id (15.5.4); any other answer says at least that the clock is there
+unfoldable pub content_of : Asked → Message → Content
+content_of a m = if is_some (error_of m.body) then Refused a else unwrap_or (data_content a m) Nothing
 
 -- ---- which clock an answer is of, and which request it came to
 
@@ -83,9 +85,9 @@ abbrev pub is_response : Action → Bool
 is_response action.Response = true
 is_response _ = false
 
--- the answer that a message is: a RESPONSE to one of the six that says something
+-- the answer that a message is: a RESPONSE to one of the six
 unfoldable pub answer_of : Message → Option Answered
 answer_of m =
     if is_response (action_of m.body)
-    then option_and_then (λ a. option_map (λ c. record { source = source_of m; request = request_of m; content = c }) (content_of a m)) (asked_of (id_of m.body))
+    then option_map (λ a. record { source = source_of m; request = request_of m; content = content_of a m }) (asked_of (id_of m.body))
     else None

@@ -1,7 +1,7 @@
 //! Offsets and delays beyond what is allowed.
 
 ghost use Rattle.std.specs.Prelude.{◌≡◌};
-ghost use Rattle.ptpm_site.specs.Amounts.{beyond, is_above, large_delay, large_link_delay, large_offset};
+ghost use Rattle.ptpm_site.specs.Amounts.{beyond, is_above, large_delay, large_link_delay, large_offset, wrong_delay};
 ghost use Rattle.ptpm_site.specs.Site.{site_answers};
 
 use crate::data_sets::PortDataSet;
@@ -42,21 +42,33 @@ pub fn large_offset(site: &Site, source: Source, limits: Limits) -> Option<i64>
     beyond(current.offset_from_master, limits.offset)
 }
 
-/// meanDelay of a clock that is not its own grandmaster, if it is beyond the limit.
-pub fn large_delay(site: &Site, source: Source, limit: Option<u64>) -> Option<i64>
-    ensures { result ≡ large_delay (site_answers site.now) source limit }
+/// A delay, if it is beyond its limit, or negative by more than an offset may have. No path takes a negative time. So an offset that is
+/// reckoned from such a delay is wrong by its amount at least.
+fn wrong_delay(interval: i64, limits: Limits) -> Option<i64>
+    ensures { result ≡ wrong_delay interval limits }
+{
+    if interval < 0 && beyond(interval, limits.offset).is_some() {
+        Some(interval)
+    } else {
+        beyond(interval, limits.delay)
+    }
+}
+
+/// meanDelay of a clock that is not its own grandmaster, if it is beyond a limit.
+pub fn large_delay(site: &Site, source: Source, limits: Limits) -> Option<i64>
+    ensures { result ≡ large_delay (site_answers site.now) source limits }
 {
     let _ = site.followed(source)?;
     let current = site.current(source)?;
-    beyond(current.mean_delay, limit)
+    wrong_delay(current.mean_delay, limits)
 }
 
-/// meanLinkDelay of a port in SLAVE or UNCALIBRATED that measures the delay of its link, if it is beyond the limit.
-pub fn large_link_delay(port: &PortDataSet, limit: Option<u64>) -> Option<i64>
-    ensures { result ≡ large_link_delay port.now limit }
+/// meanLinkDelay of a port in SLAVE or UNCALIBRATED that measures the delay of its link, if it is beyond a limit.
+pub fn large_link_delay(port: &PortDataSet, limits: Limits) -> Option<i64>
+    ensures { result ≡ large_link_delay port.now limits }
 {
     if port.is_following() && port.measures_link() {
-        beyond(port.mean_link_delay, limit)
+        wrong_delay(port.mean_link_delay, limits)
     } else {
         None
     }

@@ -37,9 +37,7 @@ pub struct Answer {
 impl Answer {
     ghost use Rattle.ptpm_site.specs.Messages.{answer_of, answered};
 
-    /// The answer that a message is, which came at a time. It is `None` if the message is no RESPONSE to one of the six ids, or its
-    /// dataField has another length. It is also `None` if PORT_DATA_SET names another clock than the one that sent
-    /// it.
+    /// The answer that a message is, which came at a time. It is `None` if the message is no RESPONSE to one of the six ids.
     #[tactic(auto, unfolding(crate::specs::Messages::answer_of))]
     pub fn of(
         alloc: Global,
@@ -56,14 +54,11 @@ impl Answer {
         let Some(asked) = Asked::of_id(message.id()) else {
             return Ok(None);
         };
-        let Some(content) = content_of(alloc, asked, message)? else {
-            return Ok(None);
-        };
         Ok(Some(Answer {
             source: source_of(message),
             request: request_of(message),
             at,
-            content,
+            content: content_of(alloc, asked, message)?,
         }))
     }
 }
@@ -90,21 +85,19 @@ pub fn request_of(message: &View<'_>) -> Request
 
 /// What a message says of the id that was asked for.
 #[tactic(auto, unfolding(crate::specs::Messages::content_of))]
-fn content_of(
-    alloc: Global,
-    asked: Asked,
-    message: &View<'_>,
-) -> Result<Option<AnswerContent>, AllocError>
-    ensures { IfOk result (λ found. option_map content found ≡ content_of asked message.now) }
+fn content_of(alloc: Global, asked: Asked, message: &View<'_>) -> Result<AnswerContent, AllocError>
+    ensures { IfOk result (λ said. content said ≡ content_of asked message.now) }
 {
     if message.error().is_some() {
-        Ok(Some(AnswerContent::Refused(asked)))
-    } else {
-        data_content(alloc, asked, message)
+        return Ok(AnswerContent::Refused(asked));
+    }
+    match data_content(alloc, asked, message)? {
+        Some(said) => Ok(said),
+        None => Ok(AnswerContent::Nothing),
     }
 }
 
-/// What the dataField of a message says of the id that was asked for.
+/// What the dataField of a message says of the id that was asked for. `None` if that is nothing.
 fn data_content(
     alloc: Global,
     asked: Asked,

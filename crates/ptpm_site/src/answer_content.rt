@@ -2,7 +2,7 @@
 
 use crate::asked::Asked;
 
-/// What an answer says: the octets of a data set, or that the clock refuses to answer.
+/// What an answer says: the octets of a data set, that the clock refuses to answer, or nothing.
 #[derive(Drop)]
 pub enum AnswerContent {
     /// Those that answer an id: its dataField; of USER_DESCRIPTION its text, in UTF-8.
@@ -11,4 +11,6 @@ pub enum AnswerContent {
     Port(u16, Vec<u8>),
     /// A MANAGEMENT_ERROR_STATUS for this id.
     Refused(Asked),
+    /// Only that the clock is there: the dataField has another length than that of its id, or is of a port of another clock.
+    Nothing,
 }

@@ -144,6 +144,7 @@ impl Clock {
                 self.refused.push(asked)?;
                 Ok(())
             }
+            AnswerContent::Nothing => Ok(()),
         }
     }
 

@@ -110,9 +110,9 @@ fn judge_delay(
     limits: Limits,
     findings: &mut Vec<Finding<'_>>,
 ) -> Result<(), AllocError>
-    ensures { OnOk result (findings.new.items ≡ findings.old.items ++ found What.Delay source (large_delay (site_answers site.now) source limits.delay)) }
+    ensures { OnOk result (findings.new.items ≡ findings.old.items ++ found What.Delay source (large_delay (site_answers site.now) source limits)) }
 {
-    match large_delay(site, source, limits.delay) {
+    match large_delay(site, source, limits) {
         Some(delay) => add_finding(findings, source, What::Delay(delay)),
         None => Ok(()),
     }

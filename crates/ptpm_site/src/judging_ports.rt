@@ -111,7 +111,7 @@ fn judge_link_delay(
     let Some(set) = site.port(source, port) else {
         return Ok(());
     };
-    match large_link_delay(&set, limits.delay) {
+    match large_link_delay(&set, limits) {
         Some(delay) => add_finding(findings, source, What::LinkDelay(port, delay)),
         None => Ok(()),
     }

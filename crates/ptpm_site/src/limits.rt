@@ -4,9 +4,9 @@ ghost use Rattle.std.specs.Prelude.{◌≡◌};
 
 #[derive(Clone, Copy)]
 pub struct Limits {
-    /// How many nanoseconds the amount of an offset may have. `None` is no limit.
+    /// How many nanoseconds the amount of an offset may have, and that of a negative delay. `None` is no limit.
     pub offset: Option<u64>,
-    /// The same of a delay.
+    /// How many nanoseconds the amount of a delay may have.
     pub delay: Option<u64>,
     /// How many seconds TAI is before UTC today.
     pub tai_utc: i16,

@@ -56,6 +56,7 @@ impl fmt::Display for Said<'_> {
             What::Profile(outside) => write_outside(outside, f),
             What::Gone => f.write_str(" answers no more"),
             What::Unseen(unseen) => write_unseen(*unseen, f),
+            What::NotAsked(1) => f.write_str(" 1 clock sends here"),
             What::NotAsked(clocks) => write!(f, " {clocks} clocks send here"),
             What::NoMaster(why) => write_masterless(why, f),
             What::GrandmasterNotSeen(clock) => write!(f, " {clock}"),
