@@ -1,5 +1,5 @@
 -- Which refusal a fault is of, and its place in the file, with what is there. Tables, items and ports' tables are counted from 1.
-use Rattle.std.specs.Prelude.{ℕ, ◌+◌, Bool, if◌then◌else◌, List, [], ◌∷◌, ◌++◌, map, Option, Some, None, is_some}
+use Rattle.std.specs.Prelude.{ℕ, ◌+◌, Bool, if◌then◌else◌, List, [], ◌∷◌, ◌++◌, map, Option, Some, None, is_some, Result, OnOk, ◌≡◌}
 use Rattle.toml.specs.Data.{Members, get_member}
 use Rattle.ptpm_script.specs.declared.fault.Fault.{Fault}
 use Rattle.ptpm_script.specs.declared.fault.Found.{Found}
@@ -57,6 +57,10 @@ mark_of f = record { class = f.class; spot = spot_of f.place; part = part_of f.f
 
 abbrev pub marks_in : List Fault → List Mark
 marks_in faults = map mark_of faults
+
+-- with success these marks are added
+abbrev pub Adds : {T E : Type 0} → Result T E → List Mark → List Mark → List Mark → Type 0
+Adds result before after marks = OnOk result (after ≡ before ++ marks)
 
 -- ---- marks of what is there
 

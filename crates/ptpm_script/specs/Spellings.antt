@@ -35,9 +35,6 @@ if_one_clock octets = if same_clock (record { 0 = octets }) every_clock then Non
 unfoldable pub clock_identity : List ℕ → Option ClockIdentity
 clock_identity text = option_and_then if_one_clock (result_ok (decode_sized text 8))
 
-abbrev pub is_octet : ℕ → ℕ → Bool
-is_octet octet b = b == octet
-
 -- a text cut at the first of an octet; there is none if the octet is not in it
 abbrev pub cut_at : ℕ → List ℕ → Option (List ℕ × List ℕ)
 cut_at octet text =

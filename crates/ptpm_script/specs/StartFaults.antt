@@ -51,9 +51,6 @@ abbrev pub port_start_members : Spot → Option Members → List Mark
 port_start_members spot None = []
 port_start_members spot (Some ms) = port_member_marks spot ms
 
-abbrev pub port_start_marks : ℕ → ℕ → Data → List Mark
-port_start_marks clock n d = port_start_members (in_port clock n) (as_table d)
-
 -- ---- the ports of a clock, in the order in which a start judges them
 
 -- a port that a clock can have, from 1 to 8, or 9 for a table that is of none

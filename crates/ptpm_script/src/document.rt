@@ -1,16 +1,16 @@
 //! A text, read as a network file: every fault in it, or the network that it is.
 
-ghost use Rattle.std.specs.Prelude.{◌≡◌, ◌++◌, ◌∷◌, IfOk, OnOk, Some, [], map};
+ghost use Rattle.std.specs.Prelude.{◌≡◌, IfOk, Some, [], map};
 ghost use Rattle.std.specs.Result.{result_err};
 ghost use Rattle.toml.specs.View.{table_view};
 ghost use Rattle.ptpm_script.specs.NetworkText.{IsAnswerAs, content_network, network_of, network_of_document};
 ghost use Rattle.ptpm_script.specs.Faults.{content_marks, file_marks, first_class, first_refusal, text_marks};
 ghost use Rattle.ptpm_script.specs.Heads.{clock_value, clocks_of, end_value, ends_of, session_value, sessions_of};
 ghost use Rattle.ptpm_script.specs.NetworkValue.{value_of};
-ghost use Rattle.ptpm_script.specs.Marks.{marked, marks_in, spot_of, whole};
+ghost use Rattle.ptpm_script.specs.Marks.{Adds, marks_in};
 
 use crate::fault::{Fault, Found, Need, Wanted};
-use crate::faults::Faults;
+use crate::faults::{Added, Faults};
 use crate::heads::Heads;
 use crate::limits::TEXT_OCTETS;
 use crate::net_error::NetError;
@@ -58,11 +58,8 @@ impl Document {
             (λ faults. first_class faults.items ≡ first_refusal (document_marks self.now)) }
         ensures all { IfOk result (λ faults. marks_in faults.items ≡ document_marks self.now) }
     {
-        let mut faults = Faults::new(alloc);
-        match faults.add_content(&self.content) {
-            Ok(()) => Ok(faults.into_vec()),
-            Err(_) => Err(OutOfMemory),
-        }
+        let faults = faults_in(alloc, &self.content).map_err(|_| OutOfMemory)?;
+        Ok(faults.into_vec())
     }
 
     /// The parts of the network that it is, or the refusal that its first fault is of.
@@ -111,51 +108,41 @@ fn parts_of(alloc: Global, file: &Table) -> Result<Parts, NetError>
 
 /// The line of a text, from 1, that has an error.
 fn line_of(text: &str, error: &toml::de::Error) -> usize {
-    let before = match error.span() {
-        Some(span) => span.start,
-        None => 0,
-    };
-    let octets = text.as_bytes();
-    let mut line = 1usize;
-    for index in 0..octets.len().min(before) {
-        if octets[index] == b'\n' {
-            line = line.saturating_add(1);
+    let before = error.span().map_or(0, |span| span.start);
+    let octets = text.as_bytes().iter().take(before);
+    octets
+        .filter(|octet| **octet == b'\n')
+        .count()
+        .saturating_add(1)
+}
+
+/// The faults that are found in a text, in the order of the refusals.
+fn faults_in(alloc: Global, content: &Content) -> Result<Faults<'_>, AllocError>
+    ensures { IfOk result (λ faults. faults ≡ content_marks content.now) }
+{
+    let mut faults = Faults::new(alloc);
+    match content {
+        Content::Long => {
+            let wanted = Wanted::Need(Need::Size);
+            faults.add(NetError::TooLong, Place::File, Found::Untold, wanted)?
         }
+        Content::Broken(line, error) => {
+            let wanted = Wanted::Need(Need::Toml(*error));
+            faults.add(NetError::NotToml, Place::Line(*line), Found::Untold, wanted)?
+        }
+        Content::Table(file) => faults.add_file(file, &Heads::of(alloc, file)?)?,
     }
-    line
+    Ok(faults)
 }
 
 impl<'a> Faults<'a> {
-    /// Adds the faults that are found in a text, in the order of the refusals.
-    fn add_content(&mut self, content: &'a Content) -> Result<(), AllocError>
-        ensures { OnOk result (self.new ≡ self.old ++ content_marks content.now) }
-    {
-        match content {
-            Content::Long => self.add_text(NetError::TooLong, Place::File, Need::Size),
-            Content::Broken(line, error) => {
-                self.add_text(NetError::NotToml, Place::Line(*line), Need::Toml(*error))
-            }
-            Content::Table(file) => {
-                let heads = Heads::of(self.alloc(), file)?;
-                self.add_file(file, &heads)
-            }
-        }
-    }
-
-    /// Adds a fault of a text that is no document.
-    fn add_text(&mut self, class: NetError, place: Place<'a>, need: Need) -> Result<(), AllocError>
-        ensures { OnOk result (self.new ≡ self.old ++ marked class (spot_of place.entry) whole ∷ []) }
-    {
-        self.add(class, place, Found::Untold, Wanted::Need(need))
-    }
-
     /// Adds the faults of a document.
     #[tactic(auto, unfolding(crate::specs::Faults::file_marks))]
-    fn add_file(&mut self, file: &'a Table, heads: &Heads<'a>) -> Result<(), AllocError>
+    fn add_file(&mut self, file: &'a Table, heads: &Heads<'a>) -> Added
         requires clocks { map clock_value heads.now.clocks.items ≡ clocks_of (table_view file.now) }
         requires sessions { map session_value heads.now.sessions.items ≡ sessions_of (table_view file.now) }
         requires ends { map end_value heads.now.ends.items ≡ ends_of (table_view file.now) }
-        ensures { OnOk result (self.new ≡ self.old ++ file_marks (table_view file.now)) }
+        ensures { Adds result self.old self.new (file_marks (table_view file.now)) }
     {
         self.add_shape_faults(file)?;
         self.add_limit_faults(file, heads.sessions.as_slice())?;

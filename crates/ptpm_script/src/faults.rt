@@ -1,10 +1,10 @@
 //! The faults that are found in a network file. Contracts see them as their marks.
 
-ghost use Rattle.std.specs.Prelude.{◌≡◌, ◌++◌, ◌∷◌, [], OnOk, is_some};
+ghost use Rattle.std.specs.Prelude.{◌≡◌, ◌∷◌, [], is_some};
 ghost use Rattle.toml.specs.View.{table_view};
 ghost use Rattle.ptpm_script.specs.Faults.{first_refusal};
 ghost use Rattle.ptpm_script.specs.KeyFaults.{shape_mark};
-ghost use Rattle.ptpm_script.specs.Marks.{marked, marks_in, part_of, spot_of, value_mark_if};
+ghost use Rattle.ptpm_script.specs.Marks.{Adds, marked, marks_in, part_of, spot_of, value_mark_if};
 
 use crate::fault::{Fault, Found, Wanted};
 use crate::net_error::NetError;
@@ -13,10 +13,13 @@ use crate::values::value_at;
 use std::alloc::{AllocError, Global};
 use std::marker::Model;
 
+/// Whether faults were added: not if memory is refused.
+pub(crate) type Added = Result<(), AllocError>;
+
 /// The faults so far.
 #[derive(Drop)]
 pub(crate) struct Faults<'a> {
-    alloc: Global,
+    pub(crate) alloc: Global,
     found: Vec<Fault<'a>>,
 }
 
@@ -55,11 +58,6 @@ impl<'a> Faults<'a> {
         }
     }
 
-    /// The memory that they are in.
-    pub(crate) fn alloc(&self) -> Global {
-        self.alloc
-    }
-
     /// Adds a fault.
     pub(crate) fn add(
         &mut self,
@@ -67,9 +65,8 @@ impl<'a> Faults<'a> {
         place: Place<'a>,
         found: Found<'a>,
         wanted: Wanted<'a>,
-    ) -> Result<(), AllocError>
-        ensures { OnOk result
-            (self.new ≡ self.old ++ marked class (spot_of place.entry) (part_of found.entry) ∷ []) }
+    ) -> Added
+        ensures { Adds result self.old self.new (marked class (spot_of place.entry) (part_of found.entry) ∷ []) }
     {
         self.found.push(Fault {
             class,
@@ -86,9 +83,8 @@ impl<'a> Faults<'a> {
         place: Place<'a>,
         found: Found<'a>,
         wanted: Wanted<'a>,
-    ) -> Result<(), AllocError>
-        ensures { OnOk result
-            (self.new ≡ self.old ++ shape_mark (spot_of place.entry) (part_of found.entry) ∷ []) }
+    ) -> Added
+        ensures { Adds result self.old self.new (shape_mark (spot_of place.entry) (part_of found.entry) ∷ []) }
     {
         self.add(NetError::BadShape, place, found, wanted)
     }
@@ -101,11 +97,9 @@ impl<'a> Faults<'a> {
         at: TableAt<'a>,
         key: &'static str,
         wanted: Option<Wanted<'a>>,
-    ) -> Result<(), AllocError>
-        ensures { OnOk result
-            (self.new
-            ≡ self.old
-            ++ value_mark_if (is_some wanted.entry) class (spot_of at.entry.place) key.now (table_view at.entry.table.now)) }
+    ) -> Added
+        ensures { Adds result self.old self.new
+            (value_mark_if (is_some wanted.entry) class (spot_of at.entry.place) key.now (table_view at.entry.table.now)) }
     {
         match (wanted, value_at(at.table, key)) {
             (Some(wanted), Some(value)) => {

@@ -1,13 +1,13 @@
 //! The keys of one table, judged by its rules.
 
-ghost use Rattle.std.specs.Prelude.{◌≡◌, ◌++◌, IfOk, OnOk, is_none, map};
+ghost use Rattle.std.specs.Prelude.{◌≡◌, IfOk, is_none, map};
 ghost use Rattle.toml.specs.View.{view, table_view};
 ghost use Rattle.ptpm_script.specs.Rules.{key_rule};
 ghost use Rattle.ptpm_script.specs.KeyFaults.{holds, key_marks, missing_marks, table_marks, wrong_marks};
-ghost use Rattle.ptpm_script.specs.Marks.{spot_of};
+ghost use Rattle.ptpm_script.specs.Marks.{Adds, spot_of};
 
 use crate::fault::{Found, Names, Need, Wanted};
-use crate::faults::Faults;
+use crate::faults::{Added, Faults};
 use crate::nearest::nearest;
 use crate::place::{Place, TableAt};
 use crate::rules::{Rule, kind_of};
@@ -24,9 +24,9 @@ impl<'a> Faults<'a> {
         place: Place<'a>,
         value: &'a Value,
         rules: &'static [Rule],
-    ) -> Result<(), AllocError>
-        ensures { OnOk result
-            (self.new ≡ self.old ++ table_marks (spot_of place.entry) (map key_rule rules.now) (view value.now)) }
+    ) -> Added
+        ensures { Adds result self.old self.new
+            (table_marks (spot_of place.entry) (map key_rule rules.now) (view value.now)) }
     {
         match table_of(value) {
             Some(table) => self.add_keys(TableAt { place, table }, rules),
@@ -36,26 +36,18 @@ impl<'a> Faults<'a> {
 
     /// Adds a fault for each key that is missing, unknown, or holds what it may not.
     #[tactic(auto, unfolding(crate::specs::KeyFaults::key_marks))]
-    pub(crate) fn add_keys(
-        &mut self,
-        at: TableAt<'a>,
-        rules: &'static [Rule],
-    ) -> Result<(), AllocError>
-        ensures { OnOk result
-            (self.new
-            ≡ self.old
-            ++ key_marks (spot_of at.entry.place) (map key_rule rules.now) (table_view at.entry.table.now)) }
+    pub(crate) fn add_keys(&mut self, at: TableAt<'a>, rules: &'static [Rule]) -> Added
+        ensures { Adds result self.old self.new
+            (key_marks (spot_of at.entry.place) (map key_rule rules.now) (table_view at.entry.table.now)) }
     {
         self.add_missing(at, rules)?;
         self.add_wrong(at, rules)
     }
 
     /// Adds a fault for each required key that a table has not.
-    fn add_missing(&mut self, at: TableAt<'a>, rules: &'static [Rule]) -> Result<(), AllocError>
-        ensures { OnOk result
-            (self.new
-            ≡ self.old
-            ++ missing_marks (spot_of at.entry.place) (map key_rule rules.now) (table_view at.entry.table.now)) }
+    fn add_missing(&mut self, at: TableAt<'a>, rules: &'static [Rule]) -> Added
+        ensures { Adds result self.old self.new
+            (missing_marks (spot_of at.entry.place) (map key_rule rules.now) (table_view at.entry.table.now)) }
     {
         for rule in rules {
             if rule.is_required && value_at(at.table, rule.key).is_none() {
@@ -67,14 +59,12 @@ impl<'a> Faults<'a> {
     }
 
     /// Adds a fault for each key of a table that no rule knows, or whose value is not of its kind.
-    fn add_wrong(&mut self, at: TableAt<'a>, rules: &'static [Rule]) -> Result<(), AllocError>
-        ensures { OnOk result
-            (self.new
-            ≡ self.old
-            ++ wrong_marks (spot_of at.entry.place) (map key_rule rules.now) (table_view at.entry.table.now)) }
+    fn add_wrong(&mut self, at: TableAt<'a>, rules: &'static [Rule]) -> Added
+        ensures { Adds result self.old self.new
+            (wrong_marks (spot_of at.entry.place) (map key_rule rules.now) (table_view at.entry.table.now)) }
     {
         for (key, value) in at.table {
-            if let Some(wanted) = wrong(self.alloc(), key.as_str(), value, rules)? {
+            if let Some(wanted) = wrong(self.alloc, key.as_str(), value, rules)? {
                 self.add_shape(at.place, Found::Value(key.as_str(), value), wanted)?;
             }
         }
@@ -95,19 +85,9 @@ fn wrong(
     match kind_of(rules, key) {
         Some(kind) if kind.fits(value) => Ok(None),
         Some(kind) => Ok(Some(Wanted::Need(Need::Kind(kind)))),
-        None => Ok(Some(Wanted::Known(Names::Key, nearest_key(alloc, key, rules)?))),
+        None => {
+            let keys: Vec<&'static str> = rules.iter().map(|rule| rule.key).collect(alloc)?;
+            Ok(Some(Wanted::Known(Names::Key, nearest(alloc, key, keys.as_slice())?)))
+        }
     }
-}
-
-/// The key of the rules that is nearest to one.
-fn nearest_key(
-    alloc: Global,
-    key: &str,
-    rules: &'static [Rule],
-) -> Result<Option<&'static str>, AllocError> {
-    let mut keys = Vec::new(alloc);
-    for rule in rules {
-        keys.push(rule.key)?;
-    }
-    nearest(alloc, key, keys.as_slice())
 }

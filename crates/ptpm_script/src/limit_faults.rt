@@ -1,21 +1,20 @@
 //! How much a network may have.
 
-ghost use Rattle.std.specs.Prelude.{◌≡◌, ◌++◌, OnOk, [], codes, is_some, map, option_and_then};
+ghost use Rattle.std.specs.Prelude.{◌≡◌, [], codes, is_some, map, option_and_then};
 ghost use Rattle.toml.specs.Data.{as_array, get_member};
 ghost use Rattle.toml.specs.View.{view, table_view};
 ghost use Rattle.ptpm_script.specs.Spellings.{passes};
 ghost use Rattle.ptpm_script.specs.Heads.{session_value};
 ghost use Rattle.ptpm_script.specs.LimitFaults.{count_marks, has_bad_size, limit_marks, link_size_marks, manager_marks, managers_of};
-ghost use Rattle.ptpm_script.specs.Marks.{each, each_after};
+ghost use Rattle.ptpm_script.specs.Marks.{Adds, each, each_after};
 
 use crate::fault::{Found, Need, Wanted};
-use crate::faults::Faults;
+use crate::faults::{Added, Faults};
 use crate::heads::SessionHead;
 use crate::limits::{CLOCKS, LEAST_ENDS, LINKS, MANAGERS, MOST_ENDS, SESSIONS};
 use crate::net_error::NetError;
 use crate::place::{Array, Place, TableAt};
 use crate::tables::{array_at, is_name_of, items_at, table_of};
-use std::alloc::AllocError;
 use toml::{Table, Value};
 
 impl<'a> Faults<'a> {
@@ -25,9 +24,8 @@ impl<'a> Faults<'a> {
         &mut self,
         file: &'a Table,
         sessions: &[SessionHead<'a>],
-    ) -> Result<(), AllocError>
-        ensures { OnOk result
-            (self.new ≡ self.old ++ limit_marks (table_view file.now) (map session_value sessions.now)) }
+    ) -> Added
+        ensures { Adds result self.old self.new (limit_marks (table_view file.now) (map session_value sessions.now)) }
     {
         self.add_count(items_at(file, "clock"), "clocks", CLOCKS)?;
         self.add_count(items_at(file, "session"), "sessions", SESSIONS)?;
@@ -36,81 +34,50 @@ impl<'a> Faults<'a> {
         self.add_crowded(sessions)
     }
 
-    fn add_count(
-        &mut self,
-        items: &'a [Value],
-        of: &'static str,
-        most: usize,
-    ) -> Result<(), AllocError>
-        ensures { OnOk result (self.new ≡ self.old ++ count_marks of.now most (map view items.now)) }
+    fn add_count(&mut self, items: &'a [Value], of: &'static str, most: usize) -> Added
+        ensures { Adds result self.old self.new (count_marks of.now most (map view items.now)) }
     {
-        let count = items.len();
-        if count <= most {
+        if items.len() <= most {
             return Ok(());
         }
+        let found = Found::Count(items.len(), of);
         let wanted = Wanted::Need(Need::AtMost(most));
-        self.add(
-            NetError::TooMany,
-            Place::File,
-            Found::Count(count, of),
-            wanted,
-        )
+        self.add(NetError::TooMany, Place::File, found, wanted)
     }
 
     /// Adds a fault for each link of too few ends or of too many.
-    fn add_link_sizes(&mut self, links: &'a [Value]) -> Result<(), AllocError>
-        ensures { OnOk result (self.new ≡ self.old ++ each link_size_marks 1 (map view links.now)) }
+    #[tactic(auto, unfolding(crate::specs::LimitFaults::link_size_marks))]
+    fn add_link_sizes(&mut self, links: &'a [Value]) -> Added
+        ensures { Adds result self.old self.new (each link_size_marks 1 (map view links.now)) }
     {
         for index in 0..links.len() {
-            self.add_link_size(index + 1, &links[index])?;
+            if let Some(table) = table_of(&links[index]) {
+                let place = Place::Table(Array::Link, index + 1, None);
+                let at = TableAt { place, table };
+                self.add_at(NetError::TooMany, at, "ends", other_size(table))?;
+            }
         }
         Ok(())
-    }
-
-    #[tactic(auto, unfolding(crate::specs::LimitFaults::link_size_marks))]
-    fn add_link_size(&mut self, number: usize, link: &'a Value) -> Result<(), AllocError>
-        ensures { OnOk result (self.new ≡ self.old ++ link_size_marks number (view link.now)) }
-    {
-        let Some(table) = table_of(link) else {
-            return Ok(());
-        };
-        let place = Place::Table(Array::Link, number, None);
-        let at = TableAt { place, table };
-        self.add_at(NetError::TooMany, at, "ends", other_size(table))
     }
 
     /// Adds a fault for the first session of each target that has too many.
-    fn add_crowded(&mut self, sessions: &[SessionHead<'a>]) -> Result<(), AllocError>
+    #[tactic(auto, unfolding(crate::specs::LimitFaults::manager_marks))]
+    fn add_crowded(&mut self, sessions: &[SessionHead<'a>]) -> Added
         ensures { let all = map session_value sessions.now in
-            OnOk result (self.new ≡ self.old ++ each_after (manager_marks all) [] all) }
+            Adds result self.old self.new (each_after (manager_marks all) [] all) }
     {
         for index in 0..sessions.len() {
-            self.add_managers(sessions, &sessions[..index], &sessions[index])?;
+            let session = &sessions[index];
+            let Some(target) = session.target else {
+                continue;
+            };
+            let count = managers_of(target, sessions);
+            if MANAGERS < count && managers_of(target, &sessions[..index]) == 0 {
+                let wanted = Wanted::Need(Need::Managers(count, MANAGERS));
+                self.add_at(NetError::TooMany, session.at, "target", Some(wanted))?;
+            }
         }
         Ok(())
-    }
-
-    #[tactic(auto, unfolding(crate::specs::LimitFaults::manager_marks))]
-    fn add_managers(
-        &mut self,
-        all: &[SessionHead<'a>],
-        before: &[SessionHead<'a>],
-        session: &SessionHead<'a>,
-    ) -> Result<(), AllocError>
-        ensures { OnOk result
-            (self.new
-            ≡ self.old
-            ++ manager_marks (map session_value all.now) (map session_value before.now) (session_value session.now)) }
-    {
-        let Some(target) = session.target else {
-            return Ok(());
-        };
-        let count = managers_of(target, all);
-        if count <= MANAGERS || managers_of(target, before) != 0 {
-            return Ok(());
-        }
-        let wanted = Wanted::Need(Need::Managers(count, MANAGERS));
-        self.add_at(NetError::TooMany, session.at, "target", Some(wanted))
     }
 }
 
@@ -120,11 +87,8 @@ fn other_size(link: &Table) -> Option<Wanted<'static>>
         ≡ passes has_bad_size (option_and_then as_array (get_member (codes "ends") (table_view link.now))) }
 {
     let count = array_at(link, "ends")?.len();
-    if count < LEAST_ENDS || MOST_ENDS < count {
-        Some(Wanted::Need(Need::Ends(count)))
-    } else {
-        None
-    }
+    let is_bad = count < LEAST_ENDS || MOST_ENDS < count;
+    is_bad.then_some(Wanted::Need(Need::Ends(count)))
 }
 
 /// How many sessions have this target.

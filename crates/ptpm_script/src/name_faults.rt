@@ -1,17 +1,15 @@
 //! Targets, ends and ports that are not there.
 
-ghost use Rattle.std.specs.Prelude.{◌≡◌, ◌++◌, IfOk, OnOk, bytes_eq, find, flat_map, is_some, map, option_map};
+ghost use Rattle.std.specs.Prelude.{◌≡◌, IfOk, bytes_eq, find, flat_map, is_some, map, option_map};
 ghost use Rattle.std.specs.Option.{option_copied};
-ghost use Rattle.toml.specs.Data.{as_table};
 ghost use Rattle.toml.specs.View.{view};
 ghost use Rattle.ptpm_script.specs.Spellings.{passes};
 ghost use Rattle.ptpm_script.specs.Heads.{clock_value, end_value, session_value};
-ghost use Rattle.ptpm_script.specs.Marks.{each, spot_of};
-ghost use Rattle.ptpm_script.specs.NameFaults.{clock_named, clock_past_ports, end_name_marks, is_no_clock, is_no_end, is_past, lacks, name_marks, past_members, past_port, ports_of, target_marks};
-ghost use Rattle.ptpm_script.specs.RepeatFaults.{is_clock_name, is_session_name};
+ghost use Rattle.ptpm_script.specs.Marks.{Adds, each};
+ghost use Rattle.ptpm_script.specs.NameFaults.{clock_named, clock_past_ports, end_name_marks, is_no_clock, is_no_end, is_past, lacks, name_marks, past_port, ports_of, target_marks};
 
 use crate::fault::{Found, Names, Need, Wanted};
-use crate::faults::Faults;
+use crate::faults::{Added, Faults};
 use crate::heads::{ClockHead, EndHead, Heads, SessionHead};
 use crate::nearest::nearest;
 use crate::net_error::NetError;
@@ -24,11 +22,9 @@ use toml::Value;
 impl<'a> Faults<'a> {
     /// Adds a fault for each port's table, target and end that is not there.
     #[tactic(auto, unfolding(crate::specs::NameFaults::name_marks))]
-    pub(crate) fn add_name_faults(&mut self, heads: &Heads<'a>) -> Result<(), AllocError>
-        ensures { OnOk result
-            (self.new
-            ≡ self.old
-            ++ name_marks (map clock_value heads.now.clocks.items) (map session_value heads.now.sessions.items) (map end_value heads.now.ends.items)) }
+    pub(crate) fn add_name_faults(&mut self, heads: &Heads<'a>) -> Added
+        ensures { Adds result self.old self.new
+            (name_marks (map clock_value heads.now.clocks.items) (map session_value heads.now.sessions.items) (map end_value heads.now.ends.items)) }
     {
         let clocks = heads.clocks.as_slice();
         let sessions = heads.sessions.as_slice();
@@ -38,117 +34,63 @@ impl<'a> Faults<'a> {
     }
 
     /// Adds a fault for each port's table of a clock that is of no port of it.
-    fn add_past_ports(&mut self, clocks: &[ClockHead<'a>]) -> Result<(), AllocError>
-        ensures { OnOk result
-            (self.new ≡ self.old ++ flat_map clock_past_ports (map clock_value clocks.now)) }
+    #[tactic(auto, unfolding(crate::specs::NameFaults::clock_past_ports))]
+    fn add_past_ports(&mut self, clocks: &[ClockHead<'a>]) -> Added
+        ensures { Adds result self.old self.new (flat_map clock_past_ports (map clock_value clocks.now)) }
     {
         for clock in clocks {
-            self.add_ports_past(clock)?;
+            if let Some(count) = ports_of(clock) {
+                self.add_tables_past(clock, count, items_at(clock.at.table, "port"))?;
+            }
         }
         Ok(())
     }
 
-    #[tactic(auto, unfolding(crate::specs::NameFaults::clock_past_ports))]
-    fn add_ports_past(&mut self, clock: &ClockHead<'a>) -> Result<(), AllocError>
-        ensures { OnOk result (self.new ≡ self.old ++ clock_past_ports (clock_value clock.now)) }
-    {
-        match ports_of(clock) {
-            Some(count) => self.add_tables_past(clock, count, items_at(clock.at.table, "port")),
-            None => Ok(()),
-        }
-    }
-
-    fn add_tables_past(
-        &mut self,
-        clock: &ClockHead<'a>,
-        count: u16,
-        ports: &'a [Value],
-    ) -> Result<(), AllocError>
-        ensures { OnOk result
-            (self.new ≡ self.old ++ each (past_port clock.now.number count) 1 (map view ports.now)) }
+    fn add_tables_past(&mut self, clock: &ClockHead<'a>, count: u16, ports: &'a [Value]) -> Added
+        ensures { Adds result self.old self.new (each (past_port clock.now.number count) 1 (map view ports.now)) }
     {
         for index in 0..ports.len() {
-            let place = Place::Port(clock.number, clock.name, index + 1);
-            self.add_table_past(place, count, &ports[index])?;
+            if let Some(table) = table_of(&ports[index]) {
+                let place = Place::Port(clock.number, clock.name, index + 1);
+                let at = TableAt { place, table };
+                let wanted = other_port(u16_at(table, "number"), count);
+                self.add_at(NetError::NoSuchName, at, "number", wanted)?;
+            }
         }
         Ok(())
-    }
-
-    fn add_table_past(
-        &mut self,
-        place: Place<'a>,
-        count: u16,
-        port: &'a Value,
-    ) -> Result<(), AllocError>
-        ensures { OnOk result
-            (self.new ≡ self.old ++ past_members (spot_of place.entry) count (as_table (view port.now))) }
-    {
-        let Some(table) = table_of(port) else {
-            return Ok(());
-        };
-        let wanted = other_port(u16_at(table, "number"), count);
-        self.add_at(
-            NetError::NoSuchName,
-            TableAt { place, table },
-            "number",
-            wanted,
-        )
     }
 
     /// Adds a fault for each target that is not there.
     #[tactic(auto, unfolding(crate::specs::NameFaults::target_marks))]
-    fn add_targets(
-        &mut self,
-        clocks: &[ClockHead<'a>],
-        sessions: &[SessionHead<'a>],
-    ) -> Result<(), AllocError>
-        ensures { OnOk result
-            (self.new ≡ self.old ++ flat_map (target_marks (map clock_value clocks.now)) (map session_value sessions.now)) }
+    fn add_targets(&mut self, clocks: &[ClockHead<'a>], sessions: &[SessionHead<'a>]) -> Added
+        ensures { Adds result self.old self.new
+            (flat_map (target_marks (map clock_value clocks.now)) (map session_value sessions.now)) }
     {
         for session in sessions {
-            let wanted = other_target(self.alloc(), clocks, session.target)?;
+            let wanted = other_target(self.alloc, clocks, session.target)?;
             self.add_at(NetError::NoSuchName, session.at, "target", wanted)?;
         }
         Ok(())
     }
 
     /// Adds a fault for each end that is not there.
+    #[tactic(auto, unfolding(crate::specs::NameFaults::end_name_marks))]
     fn add_ends(
         &mut self,
         clocks: &[ClockHead<'a>],
         sessions: &[SessionHead<'a>],
         ends: &[EndHead<'a>],
-    ) -> Result<(), AllocError>
-        ensures { OnOk result
-            (self.new
-            ≡ self.old
-            ++ flat_map (end_name_marks (map clock_value clocks.now) (map session_value sessions.now)) (map end_value ends.now)) }
+    ) -> Added
+        ensures { Adds result self.old self.new
+            (flat_map (end_name_marks (map clock_value clocks.now) (map session_value sessions.now)) (map end_value ends.now)) }
     {
         for end in ends {
-            self.add_end(clocks, sessions, end)?;
+            if let Some(wanted) = other_end(self.alloc, clocks, sessions, end)? {
+                let found = Found::Item("ends", end.number, end.value);
+                self.add(NetError::NoSuchName, end.place, found, wanted)?;
+            }
         }
         Ok(())
-    }
-
-    #[tactic(auto, unfolding(crate::specs::NameFaults::end_name_marks))]
-    fn add_end(
-        &mut self,
-        clocks: &[ClockHead<'a>],
-        sessions: &[SessionHead<'a>],
-        end: &EndHead<'a>,
-    ) -> Result<(), AllocError>
-        ensures { OnOk result
-            (self.new
-            ≡ self.old
-            ++ end_name_marks (map clock_value clocks.now) (map session_value sessions.now) (end_value end.now)) }
-    {
-        match other_end(self.alloc(), clocks, sessions, end)? {
-            Some(wanted) => {
-                let found = Found::Item("ends", end.number, end.value);
-                self.add(NetError::NoSuchName, end.place, found, wanted)
-            }
-            None => Ok(()),
-        }
     }
 }
 
@@ -199,27 +141,7 @@ fn nearest_clock<'a>(
     name: &str,
     clocks: &[ClockHead<'a>],
 ) -> Result<Option<&'a str>, AllocError> {
-    let mut names = Vec::new(alloc);
-    for clock in clocks {
-        if let Some(other) = clock.name {
-            names.push(other)?;
-        }
-    }
-    nearest(alloc, name, names.as_slice())
-}
-
-/// The name of a session that is nearest to one.
-fn nearest_session<'a>(
-    alloc: Global,
-    name: &str,
-    sessions: &[SessionHead<'a>],
-) -> Result<Option<&'a str>, AllocError> {
-    let mut names = Vec::new(alloc);
-    for session in sessions {
-        if let Some(other) = session.name {
-            names.push(other)?;
-        }
-    }
+    let names: Vec<&'a str> = clocks.iter().filter_map(|clock| clock.name).collect(alloc)?;
     nearest(alloc, name, names.as_slice())
 }
 
@@ -259,7 +181,11 @@ fn other_end<'a>(
         Some(port) => other_clock_port(alloc, clocks, end.name, port),
         None if session_named(sessions, end.name).is_some() => Ok(None),
         None => {
-            let near = nearest_session(alloc, end.name, sessions)?;
+            let names: Vec<&'a str> = sessions
+                .iter()
+                .filter_map(|other| other.name)
+                .collect(alloc)?;
+            let near = nearest(alloc, end.name, names.as_slice())?;
             Ok(Some(Wanted::Known(Names::Session, near)))
         }
     }

@@ -1,16 +1,16 @@
 //! What may be given only once in a network file.
 
-ghost use Rattle.std.specs.Prelude.{◌≡◌, ◌++◌, IfOk, OnOk, [], codes, is_some, map, option_map};
+ghost use Rattle.std.specs.Prelude.{◌≡◌, IfOk, [], is_some, map, option_map};
 ghost use Rattle.std.specs.List.{list_any};
 ghost use Rattle.toml.specs.View.{view, table_view};
 ghost use Rattle.ptpm_script.specs.Spellings.{passes};
 ghost use Rattle.ptpm_codec.specs.Identity.{same_identity};
 ghost use Rattle.ptpm_script.specs.Heads.{clock_value, end_value, number_in, session_value};
-ghost use Rattle.ptpm_script.specs.Marks.{each_after, spot_of};
+ghost use Rattle.ptpm_script.specs.Marks.{Adds, each_after, spot_of};
 ghost use Rattle.ptpm_script.specs.RepeatFaults.{clock_repeats, end_repeats, is_clock_identity, is_clock_name, is_number_of, is_same_end, is_session_identity, is_session_name, port_repeats, repeat_marks, session_repeats, twice_if};
 
 use crate::fault::{Found, Wanted};
-use crate::faults::Faults;
+use crate::faults::{Added, Faults};
 use crate::heads::{ClockHead, EndHead, Heads, SessionHead, number_in};
 use crate::name_faults::{clock_named, session_named};
 use crate::net_error::NetError;
@@ -24,11 +24,9 @@ use toml::Value;
 impl<'a> Faults<'a> {
     /// Adds a fault for each port's number, name, identity and end that was given before it.
     #[tactic(auto, unfolding(crate::specs::RepeatFaults::repeat_marks))]
-    pub(crate) fn add_repeat_faults(&mut self, heads: &Heads<'a>) -> Result<(), AllocError>
-        ensures { OnOk result
-            (self.new
-            ≡ self.old
-            ++ repeat_marks (map clock_value heads.now.clocks.items) (map session_value heads.now.sessions.items) (map end_value heads.now.ends.items)) }
+    pub(crate) fn add_repeat_faults(&mut self, heads: &Heads<'a>) -> Added
+        ensures { Adds result self.old self.new
+            (repeat_marks (map clock_value heads.now.clocks.items) (map session_value heads.now.sessions.items) (map end_value heads.now.ends.items)) }
     {
         let clocks = heads.clocks.as_slice();
         self.add_clock_repeats(clocks)?;
@@ -37,56 +35,32 @@ impl<'a> Faults<'a> {
     }
 
     /// Adds a fault if the value at a key is at another place too.
-    fn add_once(
-        &mut self,
-        at: TableAt<'a>,
-        key: &'static str,
-        other: Option<Place<'a>>,
-    ) -> Result<(), AllocError>
-        ensures { OnOk result
-            (self.new
-            ≡ self.old
-            ++ twice_if (is_some other.entry) (spot_of at.entry.place) key.now (table_view at.entry.table.now)) }
+    fn add_once(&mut self, at: TableAt<'a>, key: &'static str, other: Option<Place<'a>>) -> Added
+        ensures { Adds result self.old self.new
+            (twice_if (is_some other.entry) (spot_of at.entry.place) key.now (table_view at.entry.table.now)) }
     {
         self.add_at(NetError::Twice, at, key, other.map(Wanted::Once))
     }
 
-    fn add_clock_repeats(&mut self, clocks: &[ClockHead<'a>]) -> Result<(), AllocError>
-        ensures { OnOk result
-            (self.new ≡ self.old ++ each_after clock_repeats [] (map clock_value clocks.now)) }
+    #[tactic(auto, unfolding(crate::specs::RepeatFaults::clock_repeats))]
+    fn add_clock_repeats(&mut self, clocks: &[ClockHead<'a>]) -> Added
+        ensures { Adds result self.old self.new (each_after clock_repeats [] (map clock_value clocks.now)) }
     {
         for index in 0..clocks.len() {
-            self.add_clock_repeat(&clocks[..index], &clocks[index])?;
+            let (before, clock) = (&clocks[..index], &clocks[index]);
+            let ports = items_at(clock.at.table, "port");
+            self.add_port_repeats(clock.number, clock.name, ports)?;
+            self.add_once(clock.at, "name", place_of_clock(before, clock.name))?;
+            self.add_once(clock.at, "identity", clock_of(before, clock.identity))?;
         }
         Ok(())
     }
 
-    #[tactic(auto, unfolding(crate::specs::RepeatFaults::clock_repeats))]
-    fn add_clock_repeat(
-        &mut self,
-        before: &[ClockHead<'a>],
-        clock: &ClockHead<'a>,
-    ) -> Result<(), AllocError>
-        ensures { OnOk result
-            (self.new ≡ self.old ++ clock_repeats (map clock_value before.now) (clock_value clock.now)) }
-    {
-        let ports = items_at(clock.at.table, "port");
-        self.add_port_repeats(clock.number, clock.name, ports)?;
-        self.add_once(clock.at, "name", place_of_clock(before, clock.name))?;
-        self.add_once(clock.at, "identity", clock_of(before, clock.identity))
-    }
-
     /// Adds a fault for each table of a port of this clock whose number is that of one before.
-    fn add_port_repeats(
-        &mut self,
-        clock: usize,
-        name: Option<&'a str>,
-        ports: &'a [Value],
-    ) -> Result<(), AllocError>
-        ensures { OnOk result
-            (self.new ≡ self.old ++ each_after (port_repeats clock) [] (map view ports.now)) }
+    fn add_port_repeats(&mut self, clock: usize, name: Option<&'a str>, ports: &'a [Value]) -> Added
+        ensures { Adds result self.old self.new (each_after (port_repeats clock) [] (map view ports.now)) }
     {
-        let numbers = numbers_of(self.alloc(), ports)?;
+        let numbers = numbers_of(self.alloc, ports)?;
         for index in 0..ports.len() {
             self.add_port_repeat(
                 clock,
@@ -107,10 +81,9 @@ impl<'a> Faults<'a> {
         before: &[Value],
         numbers: &[Option<u16>],
         port: &'a Value,
-    ) -> Result<(), AllocError>
+    ) -> Added
         requires { numbers.now ≡ map number_in (map view before.now) }
-        ensures { OnOk result
-            (self.new ≡ self.old ++ port_repeats clock (map view before.now) (view port.now)) }
+        ensures { Adds result self.old self.new (port_repeats clock (map view before.now) (view port.now)) }
     {
         let Some(table) = table_of(port) else {
             return Ok(());
@@ -122,67 +95,40 @@ impl<'a> Faults<'a> {
         self.add_once(TableAt { place, table }, "number", other)
     }
 
+    /// Adds a fault for each of a session's name and identity that a clock or a session before it has too.
+    #[tactic(auto, unfolding(crate::specs::RepeatFaults::session_repeats))]
     fn add_session_repeats(
         &mut self,
         clocks: &[ClockHead<'a>],
         sessions: &[SessionHead<'a>],
-    ) -> Result<(), AllocError>
-        ensures { OnOk result
-            (self.new
-            ≡ self.old
-            ++ each_after (session_repeats (map clock_value clocks.now)) [] (map session_value sessions.now)) }
+    ) -> Added
+        ensures { Adds result self.old self.new
+            (each_after (session_repeats (map clock_value clocks.now)) [] (map session_value sessions.now)) }
     {
         for index in 0..sessions.len() {
-            self.add_session_repeat(clocks, &sessions[..index], &sessions[index])?;
-        }
-        Ok(())
-    }
-
-    /// Adds a fault for each of a session's name and identity that a clock or a session before it has too.
-    #[tactic(auto, unfolding(crate::specs::RepeatFaults::session_repeats))]
-    fn add_session_repeat(
-        &mut self,
-        clocks: &[ClockHead<'a>],
-        before: &[SessionHead<'a>],
-        session: &SessionHead<'a>,
-    ) -> Result<(), AllocError>
-        ensures { OnOk result
-            (self.new
-            ≡ self.old
-            ++ session_repeats (map clock_value clocks.now) (map session_value before.now) (session_value session.now)) }
-    {
-        self.add_once(session.at, "name", place_of_clock(clocks, session.name))?;
-        self.add_once(session.at, "name", place_of_session(before, session.name))?;
-        let clock = session.identity.map(|identity| identity.clock);
-        let wanted = clock_of(clocks, clock).map(Wanted::OtherClock);
-        self.add_at(NetError::Twice, session.at, "identity", wanted)?;
-        self.add_once(session.at, "identity", session_of(before, session.identity))
-    }
-
-    fn add_end_repeats(&mut self, ends: &[EndHead<'a>]) -> Result<(), AllocError>
-        ensures { OnOk result
-            (self.new ≡ self.old ++ each_after end_repeats [] (map end_value ends.now)) }
-    {
-        for index in 0..ends.len() {
-            self.add_end_repeat(&ends[..index], &ends[index])?;
+            let (before, session) = (&sessions[..index], &sessions[index]);
+            self.add_once(session.at, "name", place_of_clock(clocks, session.name))?;
+            self.add_once(session.at, "name", place_of_session(before, session.name))?;
+            let clock = session.identity.map(|identity| identity.clock);
+            let wanted = clock_of(clocks, clock).map(Wanted::OtherClock);
+            self.add_at(NetError::Twice, session.at, "identity", wanted)?;
+            self.add_once(session.at, "identity", session_of(before, session.identity))?;
         }
         Ok(())
     }
 
     #[tactic(auto, unfolding(crate::specs::RepeatFaults::end_repeats))]
-    fn add_end_repeat(
-        &mut self,
-        before: &[EndHead<'a>],
-        end: &EndHead<'a>,
-    ) -> Result<(), AllocError>
-        ensures { OnOk result
-            (self.new ≡ self.old ++ end_repeats (map end_value before.now) (end_value end.now)) }
+    fn add_end_repeats(&mut self, ends: &[EndHead<'a>]) -> Added
+        ensures { Adds result self.old self.new (each_after end_repeats [] (map end_value ends.now)) }
     {
-        let Some(other) = same_end(before, end) else {
-            return Ok(());
-        };
-        let found = Found::Item("ends", end.number, end.value);
-        self.add(NetError::Twice, end.place, found, Wanted::Once(other))
+        for index in 0..ends.len() {
+            let end = &ends[index];
+            if let Some(other) = same_end(&ends[..index], end) {
+                let found = Found::Item("ends", end.number, end.value);
+                self.add(NetError::Twice, end.place, found, Wanted::Once(other))?;
+            }
+        }
+        Ok(())
     }
 }
 

@@ -1,16 +1,16 @@
 //! The shape of a network file: the keys of its tables, and what they hold.
 
-ghost use Rattle.std.specs.Prelude.{◌≡◌, ◌==◌, ◌++◌, OnOk, [], codes, is_some, map, option_and_then, option_map};
+ghost use Rattle.std.specs.Prelude.{◌≡◌, ◌==◌, [], codes, is_some, map, option_and_then};
 ghost use Rattle.std.specs.List.{list_any};
 ghost use Rattle.toml.specs.Data.{as_str, get_member};
 ghost use Rattle.toml.specs.View.{view, table_view};
 ghost use Rattle.ptpm_script.specs.Spellings.{end_of, passes};
-ghost use Rattle.ptpm_script.specs.Marks.{each, each_after, spot_of};
+ghost use Rattle.ptpm_script.specs.Marks.{Adds, each, each_after, spot_of};
 ghost use Rattle.ptpm_script.specs.Rights.{right_in};
-ghost use Rattle.ptpm_script.specs.ShapeFaults.{clock_marks, end_marks, link_marks, ports_marks, right_marks, rights_marks, session_marks, shape_marks, version_marks};
+ghost use Rattle.ptpm_script.specs.ShapeFaults.{clock_marks, end_marks, link_marks, ports_marks, right_marks, session_marks, shape_marks, version_marks};
 
 use crate::fault::{Found, Need, Wanted};
-use crate::faults::Faults;
+use crate::faults::{Added, Faults};
 use crate::place::{Array, Place, TableAt};
 use crate::rights::right_of;
 use crate::rules::{LINK_RULES, clock_rules, file_rules, port_rules, session_rules};
@@ -18,14 +18,13 @@ use crate::spellings::end_spelling;
 use crate::tables::{items_at, items_in, name_in, table_of, text_of};
 use crate::values::{u16_at, value_at};
 use ptpm_data::Rights;
-use std::alloc::AllocError;
 use toml::{Table, Value};
 
 impl<'a> Faults<'a> {
     /// Adds a fault for each key of the file that is missing, unknown, or holds what it may not.
     #[tactic(auto, unfolding(crate::specs::ShapeFaults::shape_marks))]
-    pub(crate) fn add_shape_faults(&mut self, table: &'a Table) -> Result<(), AllocError>
-        ensures { OnOk result (self.new ≡ self.old ++ shape_marks (table_view table.now)) }
+    pub(crate) fn add_shape_faults(&mut self, table: &'a Table) -> Added
+        ensures { Adds result self.old self.new (shape_marks (table_view table.now)) }
     {
         let place = Place::File;
         self.add_keys(TableAt { place, table }, file_rules())?;
@@ -34,27 +33,22 @@ impl<'a> Faults<'a> {
         self.add_link_shapes(items_at(table, "link"))
     }
 
-    fn add_clock_shapes(&mut self, clocks: &'a [Value]) -> Result<(), AllocError>
-        ensures { OnOk result (self.new ≡ self.old ++ each clock_marks 1 (map view clocks.now)) }
+    #[tactic(auto, unfolding(crate::specs::ShapeFaults::clock_marks))]
+    fn add_clock_shapes(&mut self, clocks: &'a [Value]) -> Added
+        ensures { Adds result self.old self.new (each clock_marks 1 (map view clocks.now)) }
     {
         for index in 0..clocks.len() {
-            self.add_clock_shape(index + 1, &clocks[index])?;
+            let clock = &clocks[index];
+            let place = Place::Table(Array::Clock, index + 1, name_in(clock));
+            self.add_table(place, clock, clock_rules())?;
+            self.add_port_shapes(index + 1, clock)?;
         }
         Ok(())
     }
 
-    #[tactic(auto, unfolding(crate::specs::ShapeFaults::clock_marks))]
-    fn add_clock_shape(&mut self, number: usize, clock: &'a Value) -> Result<(), AllocError>
-        ensures { OnOk result (self.new ≡ self.old ++ clock_marks number (view clock.now)) }
-    {
-        let place = Place::Table(Array::Clock, number, name_in(clock));
-        self.add_table(place, clock, clock_rules())?;
-        self.add_port_shapes(number, clock)
-    }
-
     /// Adds the faults of the tables of a clock's ports.
-    fn add_port_shapes(&mut self, number: usize, clock: &'a Value) -> Result<(), AllocError>
-        ensures { OnOk result (self.new ≡ self.old ++ ports_marks number (view clock.now)) }
+    fn add_port_shapes(&mut self, number: usize, clock: &'a Value) -> Added
+        ensures { Adds result self.old self.new (ports_marks number (view clock.now)) }
     {
         let name = name_in(clock);
         let ports = items_in(clock, "port");
@@ -65,61 +59,27 @@ impl<'a> Faults<'a> {
         Ok(())
     }
 
-    fn add_session_shapes(
-        &mut self,
-        version: Option<u16>,
-        sessions: &'a [Value],
-    ) -> Result<(), AllocError>
-        ensures { OnOk result
-            (self.new ≡ self.old ++ each (session_marks version) 1 (map view sessions.now)) }
+    #[tactic(auto, unfolding(crate::specs::ShapeFaults::session_marks))]
+    fn add_session_shapes(&mut self, version: Option<u16>, sessions: &'a [Value]) -> Added
+        ensures { Adds result self.old self.new (each (session_marks version) 1 (map view sessions.now)) }
     {
         for index in 0..sessions.len() {
-            self.add_session_shape(version, index + 1, &sessions[index])?;
+            let session = &sessions[index];
+            let place = Place::Table(Array::Session, index + 1, name_in(session));
+            self.add_table(place, session, session_rules())?;
+            if let Some(table) = table_of(session) {
+                self.add_version(version, TableAt { place, table })?;
+                self.add_bad_rights(place, items_at(table, "rights"))?;
+            }
         }
         Ok(())
     }
 
-    #[tactic(auto, unfolding(crate::specs::ShapeFaults::session_marks))]
-    fn add_session_shape(
-        &mut self,
-        version: Option<u16>,
-        number: usize,
-        session: &'a Value,
-    ) -> Result<(), AllocError>
-        ensures { OnOk result
-            (self.new ≡ self.old ++ session_marks version number (view session.now)) }
-    {
-        let place = Place::Table(Array::Session, number, name_in(session));
-        self.add_table(place, session, session_rules())?;
-        self.add_rights(version, place, table_of(session))
-    }
-
-    /// Adds the faults of a session's rights, if it is a table.
-    fn add_rights(
-        &mut self,
-        version: Option<u16>,
-        place: Place<'a>,
-        session: Option<&'a Table>,
-    ) -> Result<(), AllocError>
-        ensures { OnOk result
-            (self.new
-            ≡ self.old
-            ++ rights_marks (spot_of place.entry) version (option_map (λ t. table_view t.now) session.entry)) }
-    {
-        let Some(table) = session else {
-            return Ok(());
-        };
-        self.add_version(version, TableAt { place, table })?;
-        self.add_bad_rights(place, items_at(table, "rights"))
-    }
-
     /// Adds a fault if a session has no rights in version 2, or some in version 1.
     #[tactic(auto, unfolding(crate::specs::ShapeFaults::version_marks))]
-    fn add_version(&mut self, version: Option<u16>, session: TableAt<'a>) -> Result<(), AllocError>
-        ensures { OnOk result
-            (self.new
-            ≡ self.old
-            ++ version_marks (spot_of session.entry.place) version (get_member (codes "rights") (table_view session.entry.table.now))) }
+    fn add_version(&mut self, version: Option<u16>, session: TableAt<'a>) -> Added
+        ensures { Adds result self.old self.new
+            (version_marks (spot_of session.entry.place) version (get_member (codes "rights") (table_view session.entry.table.now))) }
     {
         match (version, value_at(session.table, "rights")) {
             (Some(2), None) => {
@@ -135,79 +95,47 @@ impl<'a> Faults<'a> {
     }
 
     /// Adds a fault for each item that is no right, or one that was given before it.
-    fn add_bad_rights(&mut self, place: Place<'a>, items: &'a [Value]) -> Result<(), AllocError>
-        ensures { OnOk result
-            (self.new ≡ self.old ++ each_after (right_marks (spot_of place.entry)) [] (map view items.now)) }
+    #[tactic(auto, unfolding(crate::specs::ShapeFaults::right_marks))]
+    fn add_bad_rights(&mut self, place: Place<'a>, items: &'a [Value]) -> Added
+        ensures { Adds result self.old self.new (each_after (right_marks (spot_of place.entry)) [] (map view items.now)) }
     {
         for index in 0..items.len() {
-            self.add_right(place, &items[..index], &items[index])?;
-        }
-        Ok(())
-    }
-
-    #[tactic(auto, unfolding(crate::specs::ShapeFaults::right_marks))]
-    fn add_right(
-        &mut self,
-        place: Place<'a>,
-        before: &[Value],
-        item: &'a Value,
-    ) -> Result<(), AllocError>
-        ensures { OnOk result
-            (self.new ≡ self.old ++ right_marks (spot_of place.entry) (map view before.now) (view item.now)) }
-    {
-        let found = Found::Item("rights", before.len() + 1, item);
-        match right_of(item) {
-            None => self.add_shape(place, found, Wanted::Need(Need::Right)),
-            Some(right) if has_right(before, right) => {
-                self.add_shape(place, found, Wanted::Need(Need::OtherRight))
+            let found = Found::Item("rights", index + 1, &items[index]);
+            match right_of(&items[index]) {
+                None => self.add_shape(place, found, Wanted::Need(Need::Right))?,
+                Some(right) if has_right(&items[..index], right) => {
+                    self.add_shape(place, found, Wanted::Need(Need::OtherRight))?
+                }
+                Some(_) => {}
             }
-            Some(_) => Ok(()),
-        }
-    }
-
-    fn add_link_shapes(&mut self, links: &'a [Value]) -> Result<(), AllocError>
-        ensures { OnOk result (self.new ≡ self.old ++ each link_marks 1 (map view links.now)) }
-    {
-        for index in 0..links.len() {
-            self.add_link_shape(index + 1, &links[index])?;
         }
         Ok(())
     }
 
     #[tactic(auto, unfolding(crate::specs::ShapeFaults::link_marks))]
-    fn add_link_shape(&mut self, number: usize, link: &'a Value) -> Result<(), AllocError>
-        ensures { OnOk result (self.new ≡ self.old ++ link_marks number (view link.now)) }
+    fn add_link_shapes(&mut self, links: &'a [Value]) -> Added
+        ensures { Adds result self.old self.new (each link_marks 1 (map view links.now)) }
     {
-        let place = Place::Table(Array::Link, number, name_in(link));
-        self.add_table(place, link, &LINK_RULES)?;
-        self.add_end_shapes(place, items_in(link, "ends"))
-    }
-
-    /// Adds a fault for each item that is no end.
-    fn add_end_shapes(&mut self, place: Place<'a>, items: &'a [Value]) -> Result<(), AllocError>
-        ensures { OnOk result
-            (self.new ≡ self.old ++ each (end_marks (spot_of place.entry)) 1 (map view items.now)) }
-    {
-        for index in 0..items.len() {
-            self.add_end_shape(place, index + 1, &items[index])?;
+        for index in 0..links.len() {
+            let link = &links[index];
+            let place = Place::Table(Array::Link, index + 1, name_in(link));
+            self.add_table(place, link, &LINK_RULES)?;
+            self.add_end_shapes(place, items_in(link, "ends"))?;
         }
         Ok(())
     }
 
-    fn add_end_shape(
-        &mut self,
-        place: Place<'a>,
-        number: usize,
-        item: &'a Value,
-    ) -> Result<(), AllocError>
-        ensures { OnOk result
-            (self.new ≡ self.old ++ end_marks (spot_of place.entry) number (view item.now)) }
+    /// Adds a fault for each item that is no end.
+    fn add_end_shapes(&mut self, place: Place<'a>, items: &'a [Value]) -> Added
+        ensures { Adds result self.old self.new (each (end_marks (spot_of place.entry)) 1 (map view items.now)) }
     {
-        if is_end(item) {
-            return Ok(());
+        for index in 0..items.len() {
+            if !is_end(&items[index]) {
+                let found = Found::Item("ends", index + 1, &items[index]);
+                self.add_shape(place, found, Wanted::Need(Need::End))?;
+            }
         }
-        let found = Found::Item("ends", number, item);
-        self.add_shape(place, found, Wanted::Need(Need::End))
+        Ok(())
     }
 }
 
@@ -216,17 +144,11 @@ fn has_right(items: &[Value], wanted: Rights) -> bool
         ≡ list_any (λ d. passes (λ r. r == wanted.0) (right_in d)) (map view items.now) }
 {
     for item in items {
-        if is_right(item, wanted) {
+        if right_of(item).is_some_and(|right| right == wanted) {
             return true;
         }
     }
     false
-}
-
-fn is_right(item: &Value, wanted: Rights) -> bool
-    ensures { result ≡ passes (λ r. r == wanted.0) (right_in (view item.now)) }
-{
-    right_of(item).is_some_and(|right| right == wanted)
 }
 
 fn is_end(item: &Value) -> bool

@@ -1,14 +1,13 @@
 //! Members with which a clock can't start.
 
-ghost use Rattle.std.specs.Prelude.{◌≡◌, ◌++◌, OnOk, map};
-ghost use Rattle.toml.specs.Data.{as_table};
+ghost use Rattle.std.specs.Prelude.{◌≡◌, map};
 ghost use Rattle.toml.specs.View.{view, table_view};
 ghost use Rattle.ptpm_script.specs.Heads.{clock_value};
-ghost use Rattle.ptpm_script.specs.Marks.{spot_of};
-ghost use Rattle.ptpm_script.specs.StartFaults.{clock_start_marks, count_start_marks, grandmaster_marks, has_octet, is_own_grandmaster, member_mark_if, member_marks, own_mark_if, own_marks, port_member_marks, port_start_members, ports_start_marks, rank, rank_marks, ranked, start_mark_if, start_marks};
+ghost use Rattle.ptpm_script.specs.Marks.{Adds, spot_of};
+ghost use Rattle.ptpm_script.specs.StartFaults.{clock_start_marks, count_start_marks, grandmaster_marks, has_octet, member_mark_if, member_marks, own_mark_if, own_marks, port_member_marks, ports_start_marks, rank, rank_marks, start_mark_if, start_marks};
 
 use crate::fault::{Need, Wanted};
-use crate::faults::Faults;
+use crate::faults::{Added, Faults};
 use crate::heads::{ClockHead, number_in};
 use crate::net_error::NetError;
 use crate::place::{Place, TableAt};
@@ -16,7 +15,6 @@ use crate::starts::{SOME_CLOCK, clock_start, port_start};
 use crate::tables::{is_number, items_at, table_of};
 use ptpm_codec::ClockIdentity;
 use ptpm_data::{ClockStart, Member, PortStart, StartError};
-use std::alloc::AllocError;
 use toml::Value;
 
 /// The rank of a port's table that is of no port from 1 to 8.
@@ -24,25 +22,18 @@ const LAST_RANK: u16 = 9;
 
 impl<'a> Faults<'a> {
     /// Adds a fault for each number of ports, member of a clock and member of a port with which a clock can't start.
-    #[tactic(auto, unfolding(crate::specs::StartFaults::start_marks))]
-    pub(crate) fn add_start_faults(&mut self, clocks: &[ClockHead<'a>]) -> Result<(), AllocError>
-        ensures { OnOk result (self.new ≡ self.old ++ start_marks (map clock_value clocks.now)) }
+    #[tactic(auto, unfolding(crate::specs::StartFaults::start_marks, crate::specs::StartFaults::clock_start_marks))]
+    pub(crate) fn add_start_faults(&mut self, clocks: &[ClockHead<'a>]) -> Added
+        ensures { Adds result self.old self.new (start_marks (map clock_value clocks.now)) }
     {
         for clock in clocks {
-            self.add_clock_start(clock)?;
+            self.add_port_count(clock)?;
+            self.add_clock_members(clock.at)?;
+            let ports = items_at(clock.at.table, "port");
+            self.add_port_starts(clock.number, clock.name, ports, LAST_RANK)?;
+            self.add_grandmaster(clock)?;
         }
         Ok(())
-    }
-
-    #[tactic(auto, unfolding(crate::specs::StartFaults::clock_start_marks))]
-    fn add_clock_start(&mut self, clock: &ClockHead<'a>) -> Result<(), AllocError>
-        ensures { OnOk result (self.new ≡ self.old ++ clock_start_marks (clock_value clock.now)) }
-    {
-        self.add_port_count(clock)?;
-        self.add_clock_members(clock.at)?;
-        let ports = items_at(clock.at.table, "port");
-        self.add_port_starts(clock.number, clock.name, ports, LAST_RANK)?;
-        self.add_grandmaster(clock)
     }
 
     /// Adds a fault of a start at a key, if a test holds.
@@ -53,45 +44,31 @@ impl<'a> Faults<'a> {
         at: TableAt<'a>,
         key: &'static str,
         need: Need,
-    ) -> Result<(), AllocError>
-        ensures { OnOk result
-            (self.new
-            ≡ self.old
-            ++ start_mark_if test fault (spot_of at.entry.place) key.now (table_view at.entry.table.now)) }
+    ) -> Added
+        ensures { Adds result self.old self.new
+            (start_mark_if test fault (spot_of at.entry.place) key.now (table_view at.entry.table.now)) }
     {
         let wanted = if test { Some(Wanted::Need(need)) } else { None };
         self.add_at(NetError::BadClock(fault), at, key, wanted)
     }
 
     #[tactic(auto, unfolding(crate::specs::StartFaults::count_start_marks))]
-    fn add_port_count(&mut self, clock: &ClockHead<'a>) -> Result<(), AllocError>
-        ensures { OnOk result (self.new ≡ self.old ++ count_start_marks (clock_value clock.now)) }
+    fn add_port_count(&mut self, clock: &ClockHead<'a>) -> Added
+        ensures { Adds result self.old self.new (count_start_marks (clock_value clock.now)) }
     {
+        let (at, need) = (clock.at, Need::Ports);
         let (is_none, is_over) = match clock.count {
             Some(count) => (count == 0, 8 < count),
             None => (false, false),
         };
-        self.add_start_if(is_none, StartError::NoPorts, clock.at, "ports", Need::Ports)?;
-        self.add_start_if(
-            is_over,
-            StartError::TooManyPorts,
-            clock.at,
-            "ports",
-            Need::Ports,
-        )
+        self.add_start_if(is_none, StartError::NoPorts, at, "ports", need)?;
+        self.add_start_if(is_over, StartError::TooManyPorts, at, "ports", need)
     }
 
     /// Adds a fault of a member, if a test holds.
-    fn add_member_if(
-        &mut self,
-        test: bool,
-        at: TableAt<'a>,
-        member: Member,
-    ) -> Result<(), AllocError>
-        ensures { OnOk result
-            (self.new
-            ≡ self.old
-            ++ member_mark_if test member (spot_of at.entry.place) (table_view at.entry.table.now)) }
+    fn add_member_if(&mut self, test: bool, at: TableAt<'a>, member: Member) -> Added
+        ensures { Adds result self.old self.new
+            (member_mark_if test member (spot_of at.entry.place) (table_view at.entry.table.now)) }
     {
         let fault = StartError::BadValue(member);
         self.add_start_if(test, fault, at, member.name(), Need::Start(member))
@@ -99,9 +76,8 @@ impl<'a> Faults<'a> {
 
     /// Adds a fault for each member of a clock that is out of its range.
     #[tactic(auto, unfolding(crate::specs::StartFaults::member_marks))]
-    fn add_clock_members(&mut self, at: TableAt<'a>) -> Result<(), AllocError>
-        ensures { OnOk result
-            (self.new ≡ self.old ++ member_marks (spot_of at.entry.place) (table_view at.entry.table.now)) }
+    fn add_clock_members(&mut self, at: TableAt<'a>) -> Added
+        ensures { Adds result self.old self.new (member_marks (spot_of at.entry.place) (table_view at.entry.table.now)) }
     {
         let start = clock_start(SOME_CLOCK, 0, at.table);
         for member in &ClockStart::judged() {
@@ -118,9 +94,8 @@ impl<'a> Faults<'a> {
         name: Option<&'a str>,
         ports: &'a [Value],
         most: u16,
-    ) -> Result<(), AllocError>
-        ensures { OnOk result
-            (self.new ≡ self.old ++ ports_start_marks most clock (map view ports.now)) }
+    ) -> Added
+        ensures { Adds result self.old self.new (ports_start_marks most clock (map view ports.now)) }
     {
         for place in 0..most {
             self.add_rank(clock, name, ports, place + 1)?;
@@ -134,36 +109,25 @@ impl<'a> Faults<'a> {
         clock: usize,
         name: Option<&'a str>,
         ports: &'a [Value],
-        rank: u16,
-    ) -> Result<(), AllocError>
-        ensures { OnOk result (self.new ≡ self.old ++ rank_marks clock (map view ports.now) rank) }
+        wanted: u16,
+    ) -> Added
+        ensures { Adds result self.old self.new (rank_marks clock (map view ports.now) wanted) }
     {
         for index in 0..ports.len() {
             let place = Place::Port(clock, name, index + 1);
-            self.add_ranked(place, &ports[index], rank)?;
+            match table_of(&ports[index]) {
+                Some(table) if rank(&ports[index]) == wanted => {
+                    self.add_port_members(TableAt { place, table })?
+                }
+                _ => {}
+            }
         }
         Ok(())
     }
 
-    fn add_ranked(
-        &mut self,
-        place: Place<'a>,
-        port: &'a Value,
-        wanted: u16,
-    ) -> Result<(), AllocError>
-        ensures { OnOk result
-            (self.new ≡ self.old ++ ranked wanted (spot_of place.entry) (view port.now)) }
-    {
-        match table_of(port) {
-            Some(table) if rank(port) == wanted => self.add_port_members(TableAt { place, table }),
-            _ => Ok(()),
-        }
-    }
-
     #[tactic(auto, unfolding(crate::specs::StartFaults::port_member_marks))]
-    fn add_port_members(&mut self, at: TableAt<'a>) -> Result<(), AllocError>
-        ensures { OnOk result
-            (self.new ≡ self.old ++ port_member_marks (spot_of at.entry.place) (table_view at.entry.table.now)) }
+    fn add_port_members(&mut self, at: TableAt<'a>) -> Added
+        ensures { Adds result self.old self.new (port_member_marks (spot_of at.entry.place) (table_view at.entry.table.now)) }
     {
         let start = port_start(at.table);
         for member in &PortStart::judged() {
@@ -174,24 +138,23 @@ impl<'a> Faults<'a> {
 
     /// Adds a fault for each member of the grandmaster that is not the clock's own, if the clock is its own grandmaster.
     #[tactic(auto, unfolding(crate::specs::StartFaults::grandmaster_marks))]
-    fn add_grandmaster(&mut self, clock: &ClockHead<'a>) -> Result<(), AllocError>
-        ensures { OnOk result (self.new ≡ self.old ++ grandmaster_marks (clock_value clock.now)) }
+    fn add_grandmaster(&mut self, clock: &ClockHead<'a>) -> Added
+        ensures { Adds result self.old self.new (grandmaster_marks (clock_value clock.now)) }
     {
         let Some(identity) = clock.identity else {
             return Ok(());
         };
         let start = clock_start(identity, 0, clock.at.table);
-        if is_own_grandmaster(identity, start.grandmaster) {
-            self.add_own(clock.at, &start)
-        } else {
-            Ok(())
+        match start.grandmaster {
+            Some(other) if other != identity => Ok(()),
+            _ => self.add_own(clock.at, &start),
         }
     }
 
     #[tactic(auto, unfolding(crate::specs::StartFaults::own_marks))]
-    fn add_own(&mut self, at: TableAt<'a>, start: &ClockStart) -> Result<(), AllocError>
-        ensures { OnOk result
-            (self.new ≡ self.old ++ own_marks (spot_of at.entry.place) (table_view at.entry.table.now) start.now) }
+    fn add_own(&mut self, at: TableAt<'a>, start: &ClockStart) -> Added
+        ensures { Adds result self.old self.new
+            (own_marks (spot_of at.entry.place) (table_view at.entry.table.now) start.now) }
     {
         let is_own = has_octet(start.priority1, start.grandmaster_priority1);
         self.add_own_if(is_own, at, "grandmaster_priority1")?;
@@ -205,16 +168,9 @@ impl<'a> Faults<'a> {
         self.add_own_if(is_own, at, "grandmaster_priority2")
     }
 
-    fn add_own_if(
-        &mut self,
-        is_own: bool,
-        at: TableAt<'a>,
-        key: &'static str,
-    ) -> Result<(), AllocError>
-        ensures { OnOk result
-            (self.new
-            ≡ self.old
-            ++ own_mark_if is_own (spot_of at.entry.place) key.now (table_view at.entry.table.now)) }
+    fn add_own_if(&mut self, is_own: bool, at: TableAt<'a>, key: &'static str) -> Added
+        ensures { Adds result self.old self.new
+            (own_mark_if is_own (spot_of at.entry.place) key.now (table_view at.entry.table.now)) }
     {
         let fault = StartError::GrandmasterDiffers;
         self.add_start_if(!is_own, fault, at, key, Need::OwnGrandmaster)
@@ -229,13 +185,6 @@ fn rank(port: &Value) -> u16
         Some(number) if 1 <= number && number <= 8 => number,
         _ => LAST_RANK,
     }
-}
-
-/// Whether the grandmaster is this clock, also if none is named.
-fn is_own_grandmaster(identity: ClockIdentity, grandmaster: Option<ClockIdentity>) -> bool
-    ensures { result ≡ is_own_grandmaster identity grandmaster }
-{
-    grandmaster.is_none_or(|grandmaster| grandmaster == identity)
 }
 
 fn has_octet(own: u8, shown: Option<u8>) -> bool
