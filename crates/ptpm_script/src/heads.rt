@@ -1,6 +1,6 @@
 //! What tables of a network file are known by: names, identities, targets and ends.
 
-ghost use Rattle.std.specs.Prelude.{◌≡◌, ◌++◌, IfOk, OnOk, [], codes, map, option_map};
+ghost use Rattle.std.specs.Prelude.{◌≡◌, ◌++◌, IfOk, OnOk, [], map, option_map};
 ghost use Rattle.toml.specs.View.{view, table_view};
 ghost use Rattle.ptpm_script.specs.Heads.{clock_head, clock_value, clocks_of, end_head, end_value, ends_of, number_in, session_head, session_value, sessions_of};
 ghost use Rattle.ptpm_script.specs.Marks.{each, if_any, spot_of};
@@ -9,8 +9,8 @@ ghost use Rattle.ptpm_script.specs.Spellings.{end_of};
 use crate::limits::{CLOCKS, LINKS, MOST_ENDS, SESSIONS};
 use crate::place::{Array, Place, TableAt};
 use crate::spellings::end_spelling;
-use crate::tables::{first_values, items_at, items_in, name_at, table_of, text_of};
-use crate::values::{clock_at, port_at, u16_at};
+use crate::tables::{items_at, items_in, name_at, table_of, text_of};
+use crate::values::{clock_at, first_items, port_at, u16_at};
 use ptpm_codec::{ClockIdentity, PortIdentity};
 use std::alloc::{AllocError, Global};
 use toml::{Table, Value};
@@ -72,70 +72,58 @@ impl<'a> Heads<'a> {
     }
 }
 
+#[tactic(auto, unfolding(crate::specs::Heads::clock_head))]
 fn clocks_of<'a>(alloc: Global, file: &'a Table) -> Result<Vec<ClockHead<'a>>, AllocError>
     ensures { IfOk result (λ v. map clock_value v.items ≡ clocks_of (table_view file.now)) }
 {
-    let values = first_values(items_at(file, "clock"), CLOCKS);
+    let values = first_items(items_at(file, "clock"), CLOCKS);
     let mut clocks = Vec::new(alloc);
     for index in 0..values.len() {
         if let Some(table) = table_of(&values[index]) {
-            clocks.push(clock_head(index + 1, table))?;
+            let name = name_at(table, "name");
+            let place = Place::Table(Array::Clock, index + 1, name);
+            clocks.push(ClockHead {
+                at: TableAt { place, table },
+                number: index + 1,
+                name,
+                identity: clock_at(table, "identity"),
+                count: u16_at(table, "ports"),
+            })?;
         }
     }
     Ok(clocks)
 }
 
-#[tactic(auto, unfolding(crate::specs::Heads::clock_head))]
-fn clock_head<'a>(number: usize, table: &'a Table) -> ClockHead<'a>
-    ensures { clock_value result ≡ clock_head number (table_view table.now) }
-{
-    let name = name_at(table, "name");
-    let place = Place::Table(Array::Clock, number, name);
-    ClockHead {
-        at: TableAt { place, table },
-        number,
-        name,
-        identity: clock_at(table, "identity"),
-        count: u16_at(table, "ports"),
-    }
-}
-
+#[tactic(auto, unfolding(crate::specs::Heads::session_head))]
 fn sessions_of<'a>(alloc: Global, file: &'a Table) -> Result<Vec<SessionHead<'a>>, AllocError>
     ensures { IfOk result (λ v. map session_value v.items ≡ sessions_of (table_view file.now)) }
 {
-    let values = first_values(items_at(file, "session"), SESSIONS);
+    let values = first_items(items_at(file, "session"), SESSIONS);
     let mut sessions = Vec::new(alloc);
     for index in 0..values.len() {
         if let Some(table) = table_of(&values[index]) {
-            sessions.push(session_head(index + 1, table))?;
+            let name = name_at(table, "name");
+            let place = Place::Table(Array::Session, index + 1, name);
+            sessions.push(SessionHead {
+                at: TableAt { place, table },
+                name,
+                identity: port_at(table, "identity"),
+                target: name_at(table, "target"),
+            })?;
         }
     }
     Ok(sessions)
 }
 
-#[tactic(auto, unfolding(crate::specs::Heads::session_head))]
-fn session_head<'a>(number: usize, table: &'a Table) -> SessionHead<'a>
-    ensures { session_value result ≡ session_head number (table_view table.now) }
-{
-    let name = name_at(table, "name");
-    let place = Place::Table(Array::Session, number, name);
-    SessionHead {
-        at: TableAt { place, table },
-        name,
-        identity: port_at(table, "identity"),
-        target: name_at(table, "target"),
-    }
-}
-
 fn ends_of<'a>(alloc: Global, file: &'a Table) -> Result<Vec<EndHead<'a>>, AllocError>
     ensures { IfOk result (λ v. map end_value v.items ≡ ends_of (table_view file.now)) }
 {
-    let links = first_values(items_at(file, "link"), LINKS);
+    let links = first_items(items_at(file, "link"), LINKS);
     let mut ends = Vec::new(alloc);
     for index in 0..links.len() {
         let place = Place::Table(Array::Link, index + 1, None);
         let values = items_in(&links[index], "ends");
-        add_ends(&mut ends, place, first_values(values, MOST_ENDS))?;
+        add_ends(&mut ends, place, first_items(values, MOST_ENDS))?;
     }
     Ok(ends)
 }

@@ -3,11 +3,10 @@
 //! Of a file with a fault each value is read as it is there, or another in its place.
 
 ghost use Rattle.std.specs.Prelude.{◌≡◌, ◌≤◌, IfOk, length, map};
-ghost use Rattle.toml.specs.Data.{as_table};
 ghost use Rattle.toml.specs.View.{view, table_view};
 ghost use Rattle.ptpm_script.specs.Heads.{clock_value, clocks_of, session_value, sessions_of};
 ghost use Rattle.ptpm_script.specs.Marks.{if_any};
-ghost use Rattle.ptpm_script.specs.NetworkText.{clock_of, clock_place, end_in, link_of, members_start, network_in, ports_of_clock, session_of, session_place, start_of_port};
+ghost use Rattle.ptpm_script.specs.NetworkText.{clock_of, clock_place, end_in, link_of, network_in, ports_of_clock, session_of, session_place, start_of_port};
 ghost use Rattle.ptpm_script.specs.NetworkValue.{link_value, value_of};
 ghost use Rattle.ptpm_script.specs.NetworkValue as networks;
 
@@ -18,10 +17,8 @@ use crate::network::{End, NetworkClock, NetworkLink, NetworkSession};
 use crate::rights::rights_at;
 use crate::spellings::end_spelling;
 use crate::starts::{SOME_CLOCK, clock_start, port_start};
-use crate::tables::{
-    first_values, is_name_of, is_number, items_at, items_in, table_of, text_of, text_or_none,
-};
-use crate::values::{u8_or, u16_or};
+use crate::tables::{is_name_of, is_number, items_at, items_in, table_of, text_of, text_or_none};
+use crate::values::{first_items, u8_or, u16_or};
 use ptpm_codec::PortIdentity;
 use ptpm_data::PortStart;
 use std::alloc::{AllocError, Global};
@@ -52,7 +49,7 @@ impl Parts {
     {
         let clocks = heads.clocks.as_slice();
         let sessions = heads.sessions.as_slice();
-        let links = first_values(items_at(file, "link"), LINKS);
+        let links = first_items(items_at(file, "link"), LINKS);
         Ok(Parts {
             clocks: clocks_of(alloc, clocks)?,
             sessions: sessions_of(alloc, clocks, sessions)?,
@@ -61,29 +58,23 @@ impl Parts {
     }
 }
 
+/// The clocks with all their ports.
+#[tactic(auto, unfolding(crate::specs::NetworkText::clock_of))]
 fn clocks_of(alloc: Global, heads: &[ClockHead<'_>]) -> Result<Vec<NetworkClock>, AllocError>
     ensures { IfOk result
         (λ v. map networks.clock_value v.items ≡ map clock_of (map clock_value heads.now)) }
 {
     let mut clocks = Vec::new(alloc);
     for head in heads {
-        clocks.push(clock_of(alloc, head)?)?;
+        let table = head.at.table;
+        let identity = head.identity.unwrap_or(SOME_CLOCK);
+        clocks.push(NetworkClock {
+            name: Name::copy_of(alloc, text_or_none(head.name))?,
+            start: clock_start(identity, u8_or(table, "domain", 0), table),
+            ports: ports_of(alloc, head)?,
+        })?;
     }
     Ok(clocks)
-}
-
-/// A clock with all its ports.
-#[tactic(auto, unfolding(crate::specs::NetworkText::clock_of))]
-fn clock_of(alloc: Global, head: &ClockHead<'_>) -> Result<NetworkClock, AllocError>
-    ensures { IfOk result (λ c. networks.clock_value c ≡ clock_of (clock_value head.now)) }
-{
-    let table = head.at.table;
-    let identity = head.identity.unwrap_or(SOME_CLOCK);
-    Ok(NetworkClock {
-        name: Name::copy_of(alloc, text_or_none(head.name))?,
-        start: clock_start(identity, u8_or(table, "domain", 0), table),
-        ports: ports_of(alloc, head)?,
-    })
 }
 
 /// The starts of the ports of a clock, from 1 on.
@@ -105,20 +96,10 @@ fn start_of_port(tables: &[Value], number: u16) -> PortStart
 {
     for port in tables {
         if is_number(number_in(port), number) {
-            return start_in(port);
+            return table_of(port).map_or(PortStart::new(), port_start);
         }
     }
     PortStart::new()
-}
-
-/// The start of a port in its table.
-fn start_in(port: &Value) -> PortStart
-    ensures { result ≡ members_start (as_table (view port.now)) }
-{
-    match table_of(port) {
-        Some(table) => port_start(table),
-        None => PortStart::new(),
-    }
 }
 
 fn sessions_of(

@@ -1,6 +1,6 @@
 //! The content of the tables of a network file, whatever it is.
 
-ghost use Rattle.std.specs.Prelude.{◌≡◌, ◌==◌, [], bytes_eq, map, option_and_then, option_map, take, unwrap_or};
+ghost use Rattle.std.specs.Prelude.{◌≡◌, ◌==◌, [], bytes_eq, map, option_and_then, option_map, unwrap_or};
 ghost use Rattle.ptpm_codec.specs.Identity.{same_clock};
 ghost use Rattle.ptpm_script.specs.Heads.{items_at, items_in, list_of, name_at};
 ghost use Rattle.ptpm_script.specs.Spellings.{passes};
@@ -62,17 +62,6 @@ pub(crate) fn items_in<'a>(value: &'a Value, key: &str) -> &'a [Value]
     match table_of(value) {
         Some(table) => items_at(table, key),
         None => &[],
-    }
-}
-
-/// The first values, at most this number.
-pub(crate) fn first_values(values: &[Value], most: usize) -> &[Value]
-    ensures { result.now ≡ take most values.now }
-{
-    if values.len() <= most {
-        values
-    } else {
-        &values[..most]
     }
 }
 

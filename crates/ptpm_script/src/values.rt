@@ -1,7 +1,7 @@
 //! The values at the keys of a table: if one is of another kind, there is none.
 
 ghost use Rattle.std.specs.Prelude.{◌≡◌, option_map, unwrap_or, take, length, ◌≤◌};
-ghost use Rattle.toml.specs.Data.{as_str, as_bool, as_integer, get_member};
+ghost use Rattle.toml.specs.Data.{get_member};
 ghost use Rattle.toml.specs.View.{view, table_view};
 ghost use Rattle.ptpm_script.specs.Values.{clock_at, description_at, integer_at, natural_at, port_at, signed_at, text_at, flag_at};
 
@@ -22,12 +22,6 @@ pub(crate) fn text_at<'a>(table: &'a Table, key: &str) -> Option<&'a str>
     ensures { option_map (λ s. s.now) result ≡ text_at key.now (table_view table.now) }
 {
     value_at(table, key)?.as_str()
-}
-
-pub(crate) fn flag_at(table: &Table, key: &str) -> Option<bool>
-    ensures { result ≡ flag_at key.now (table_view table.now) }
-{
-    value_at(table, key)?.as_bool()
 }
 
 pub(crate) fn i64_at(table: &Table, key: &str) -> Option<i64>
@@ -51,31 +45,11 @@ pub(crate) fn u16_at(table: &Table, key: &str) -> Option<u16>
     u16::try_from(i64_at(table, key)?).ok()
 }
 
-#[tactic(auto, unfolding(crate::specs::Values::signed_at))]
-pub(crate) fn i8_at(table: &Table, key: &str) -> Option<i8>
-    ensures { result ≡ signed_at 128 key.now (table_view table.now) }
-{
-    i8::try_from(i64_at(table, key)?).ok()
-}
-
-#[tactic(auto, unfolding(crate::specs::Values::signed_at))]
-pub(crate) fn i16_at(table: &Table, key: &str) -> Option<i16>
-    ensures { result ≡ signed_at 32768 key.now (table_view table.now) }
-{
-    i16::try_from(i64_at(table, key)?).ok()
-}
-
-#[tactic(auto, unfolding(crate::specs::Values::signed_at))]
-pub(crate) fn i32_at(table: &Table, key: &str) -> Option<i32>
-    ensures { result ≡ signed_at 2147483648 key.now (table_view table.now) }
-{
-    i32::try_from(i64_at(table, key)?).ok()
-}
-
 pub(crate) fn flag_or(table: &Table, key: &str, default: bool) -> bool
     ensures { result ≡ unwrap_or (flag_at key.now (table_view table.now)) default }
 {
-    flag_at(table, key).unwrap_or(default)
+    let flag = value_at(table, key).and_then(|value| value.as_bool());
+    flag.unwrap_or(default)
 }
 
 pub(crate) fn u8_or(table: &Table, key: &str, default: u8) -> u8
@@ -90,22 +64,28 @@ pub(crate) fn u16_or(table: &Table, key: &str, default: u16) -> u16
     u16_at(table, key).unwrap_or(default)
 }
 
+#[tactic(auto, unfolding(crate::specs::Values::signed_at))]
 pub(crate) fn i8_or(table: &Table, key: &str, default: i8) -> i8
     ensures { result ≡ unwrap_or (signed_at 128 key.now (table_view table.now)) default }
 {
-    i8_at(table, key).unwrap_or(default)
+    let number = i64_at(table, key).and_then(|number| i8::try_from(number).ok());
+    number.unwrap_or(default)
 }
 
+#[tactic(auto, unfolding(crate::specs::Values::signed_at))]
 pub(crate) fn i16_or(table: &Table, key: &str, default: i16) -> i16
     ensures { result ≡ unwrap_or (signed_at 32768 key.now (table_view table.now)) default }
 {
-    i16_at(table, key).unwrap_or(default)
+    let number = i64_at(table, key).and_then(|number| i16::try_from(number).ok());
+    number.unwrap_or(default)
 }
 
+#[tactic(auto, unfolding(crate::specs::Values::signed_at))]
 pub(crate) fn i32_or(table: &Table, key: &str, default: i32) -> i32
     ensures { result ≡ unwrap_or (signed_at 2147483648 key.now (table_view table.now)) default }
 {
-    i32_at(table, key).unwrap_or(default)
+    let number = i64_at(table, key).and_then(|number| i32::try_from(number).ok());
+    number.unwrap_or(default)
 }
 
 pub(crate) fn i64_or(table: &Table, key: &str, default: i64) -> i64
@@ -128,15 +108,15 @@ pub(crate) fn port_at(table: &Table, key: &str) -> Option<PortIdentity>
     port_identity(text_at(table, key)?)
 }
 
-/// The first octets of a text, at most this number.
-fn first_octets(octets: &[u8], most: usize) -> &[u8]
-    ensures front { result.now ≡ take most octets.now }
+/// The first items, at most this number.
+pub(crate) fn first_items<T>(items: &[T], most: usize) -> &[T]
+    ensures front { result.now ≡ take most items.now }
     ensures few { length result.now ≤ most }
 {
-    if octets.len() <= most {
-        octets
+    if items.len() <= most {
+        items
     } else {
-        &octets[..most]
+        &items[..most]
     }
 }
 
@@ -147,7 +127,7 @@ pub(crate) fn description_at(table: &Table, key: &str) -> ArrayVec<u8, 129>
 {
     let mut description = ArrayVec::new();
     if let Some(text) = text_at(table, key) {
-        let _ = description.try_extend_from_slice(first_octets(text.as_bytes(), 129));
+        let _ = description.try_extend_from_slice(first_items(text.as_bytes(), 129));
     }
     description
 }

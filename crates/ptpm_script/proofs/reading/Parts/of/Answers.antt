@@ -41,8 +41,8 @@ returns c =
     let clocks : map clock_value c.as_slice-clocks.result.now ≡ clocks_of ms = ap (map clock_value) c.as_slice-clocks.ensures.value ∙ c.requires.clocks in
     let sessions : map session_value c.as_slice-sessions.result.now ≡ sessions_of ms =
     ap (map session_value) c.as_slice-sessions.ensures.value ∙ c.requires.sessions in
-    let links : map view c.first_values-links.result.now ≡ take 256 (items_at (codes "link") ms) =
-    first-views 256 _ _ _ c.items_at.ensures c.first_values-links.ensures in
+    let links : map view c.first_items-links.result.now ≡ take 256 (items_at (codes "link") ms) =
+    first-views 256 _ _ _ c.items_at.ensures c.first_items-links.ensures.front in
     same-network _ _
     (c.in_ok-clocks_of.ensures ∙ ap (map clock_of) clocks)
     (c.in_ok-sessions_of.ensures ∙ (λ i. map (session_of (clocks i)) (sessions i)))
