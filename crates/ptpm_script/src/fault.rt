@@ -94,34 +94,21 @@ pub enum Need {
     OwnGrandmaster,
 }
 
-/// What a clock can start with in a member whose type has room for more, and which is no setting of a port.
-const START_RANGES: [(Member, &str); 4] = [
-    (Member::UserDescription, "at most 128 octets"),
-    (Member::ClockAccuracy, "0x17 to 0x31, or 0xfe"),
-    (Member::Leap59, "not both leap61 and leap59"),
-    (Member::State, "1 to 9"),
-];
-
 /// For example, `session 1 "m": attempts = 300: a whole number from 0 to 255`.
 impl fmt::Display for Fault<'_> {
     fn fmt<W: fmt::Write>(&self, f: &mut fmt::Formatter<W>) -> fmt::Result {
-        let place = self.place;
-        let wanted = self.wanted;
+        let (place, wanted) = (self.place, self.wanted);
         match self.found {
             Found::Untold => write!(f, "{place}: {wanted}"),
             Found::Missing(key) => write!(f, "{place}: {} is missing: {wanted}", Key(key)),
-            Found::Value(key, value) => write!(
-                f,
-                "{place}: {} = {}: {wanted}",
-                Key(key),
-                ValueText(value)
-            ),
-            Found::Item(key, number, value) => write!(
-                f,
-                "{place}: {}[{number}] = {}: {wanted}",
-                Key(key),
-                ValueText(value)
-            ),
+            Found::Value(key, value) => {
+                let (key, value) = (Key(key), ValueText(value));
+                write!(f, "{place}: {key} = {value}: {wanted}")
+            }
+            Found::Item(key, number, value) => {
+                let (key, value) = (Key(key), ValueText(value));
+                write!(f, "{place}: {key}[{number}] = {value}: {wanted}")
+            }
             Found::Whole(value) => write!(f, "{place}: {}: {wanted}", ValueText(value)),
             Found::Count(count, of) => write!(f, "{place}: {count} {of}: {wanted}"),
         }
@@ -155,26 +142,16 @@ impl fmt::Display for Wanted<'_> {
     fn fmt<W: fmt::Write>(&self, f: &mut fmt::Formatter<W>) -> fmt::Result {
         match *self {
             Wanted::Need(need) => write!(f, "{need}"),
-            Wanted::Known(names, nearest) => write!(f, "{}", KnownText(names, nearest)),
+            Wanted::Known(names, None) => write!(f, "{}; there is none", names.none()),
+            Wanted::Known(Names::Key, Some(name)) => write!(
+                f,
+                "no such key; the nearest is {name}"
+            ),
+            Wanted::Known(names, Some(name)) => {
+                write!(f, "{}; the nearest is \"{name}\"", names.none())
+            }
             Wanted::Once(place) => write!(f, "stands at {place} too"),
             Wanted::OtherClock(place) => write!(f, "has the clockIdentity of {place}"),
-        }
-    }
-}
-
-/// That there is no such name, and which one is the nearest.
-#[derive(Clone, Copy)]
-struct KnownText<'a>(Names, Option<&'a str>);
-
-impl fmt::Display for KnownText<'_> {
-    fn fmt<W: fmt::Write>(&self, f: &mut fmt::Formatter<W>) -> fmt::Result {
-        f.write_str(self.0.none())?;
-        let Some(name) = self.1 else {
-            return f.write_str("; there is none");
-        };
-        match self.0 {
-            Names::Key => write!(f, "; the nearest is {name}"),
-            _ => write!(f, "; the nearest is \"{name}\""),
         }
     }
 }
@@ -195,14 +172,13 @@ impl fmt::Display for Need {
         match *self {
             Need::Size => write!(f, "over {TEXT_OCTETS} octets"),
             Need::Toml(error) => f.write_str(error.message()),
-            Need::Kind(kind) => write!(f, "{}", KindText(kind)),
+            Need::Kind(kind) => write!(f, "{kind}"),
             Need::AtMost(most) => write!(f, "at most {most}"),
             Need::Ends(1) => write!(f, "one end; a link has {LEAST_ENDS} to {MOST_ENDS}"),
             Need::Ends(count) => write!(f, "{count} ends; a link has {LEAST_ENDS} to {MOST_ENDS}"),
-            Need::Managers(count, most) => write!(
-                f,
-                "{count} sessions have this target; at most {most}"
-            ),
+            Need::Managers(count, most) => {
+                write!(f, "{count} sessions have this target; at most {most}")
+            }
             Need::PortUpTo(1) => f.write_str("the clock has port 1 alone"),
             Need::PortUpTo(count) => write!(f, "the clock has ports 1 to {count}"),
             Need::Start(Member::Setting(setting)) => write!(f, "{}", setting.range()),
@@ -229,13 +205,10 @@ impl Need {
     }
 }
 
-/// What a key of a kind holds.
-#[derive(Clone, Copy)]
-struct KindText(Kind);
-
-impl fmt::Display for KindText {
+/// What a key of this kind holds.
+impl fmt::Display for Kind {
     fn fmt<W: fmt::Write>(&self, f: &mut fmt::Formatter<W>) -> fmt::Result {
-        match self.0 {
+        match *self {
             Kind::Whole(least, most) => write!(f, "a whole number from {least} to {most}"),
             Kind::Flag => f.write_str("true or false"),
             Kind::Text => f.write_str("a text"),
@@ -250,12 +223,13 @@ impl fmt::Display for KindText {
     }
 }
 
-/// What a clock can start with in a member.
+/// What a clock can start with in a member whose type has room for more, and which is no setting of a port.
 fn start_range(member: Member) -> &'static str {
-    for (other, range) in &START_RANGES {
-        if *other == member {
-            return *range;
-        }
+    match member {
+        Member::UserDescription => "at most 128 octets",
+        Member::ClockAccuracy => "0x17 to 0x31, or 0xfe",
+        Member::Leap59 => "not both leap61 and leap59",
+        Member::State => "1 to 9",
+        _ => "what a clock starts with",
     }
-    "what a clock starts with"
 }
