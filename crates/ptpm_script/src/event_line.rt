@@ -127,10 +127,7 @@ fn port_named(word: &str) -> Option<Option<u16>>
     if word == NONE {
         return Some(None);
     }
-    match decimal_u16(word) {
-        Some(port) => Some(Some(port)),
-        None => None,
-    }
+    Some(Some(decimal_u16(word)?))
 }
 
 /// Octets by their hexadecimal digits; `None` if these are none.

@@ -47,15 +47,13 @@ pub fn event_fault<'a>(alloc: Global, line: &'a str) -> Result<Option<EventFault
         Err(LineError::OutOfMemory) => return Err(OutOfMemory),
     };
     let word = word_at(line, fault.place);
-    match nearest_to(alloc, word.unwrap_or(""), fault.expected) {
-        Ok(nearest) => Ok(Some(EventFault {
-            error: fault.expected.error(),
-            word,
-            expected: fault.expected,
-            nearest,
-        })),
-        Err(_) => Err(OutOfMemory),
-    }
+    let nearest = nearest_to(alloc, word.unwrap_or(""), fault.expected);
+    Ok(Some(EventFault {
+        error: fault.expected.error(),
+        word,
+        expected: fault.expected,
+        nearest: nearest.map_err(|_| OutOfMemory)?,
+    }))
 }
 
 /// Of the names that are expected, the one that is nearest to a word; `None` if no names are.

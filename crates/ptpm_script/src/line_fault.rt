@@ -2,6 +2,7 @@
 
 ghost use Rattle.std.specs.Prelude.{◌≡◌};
 ghost use Rattle.ptpm_script.specs.EventLine.{error_of};
+ghost use Rattle.ptpm_script.specs.declared.line_fault.LineError.TheVariants as errors;
 
 use crate::event::EventError;
 use ptpm_codec::OutOfMemory;
@@ -67,9 +68,6 @@ pub enum LineError {
 }
 
 impl From<OutOfMemory> for LineError {
-    ghost use Rattle.std.specs.Prelude.{◌≡◌};
-    ghost use Rattle.ptpm_script.specs.declared.line_fault.LineError.TheVariants as errors;
-
     ghost from_gives = { λ _ e. e ≡ errors.OutOfMemory };
 
     fn from(_refused: OutOfMemory) -> LineError {
@@ -78,9 +76,6 @@ impl From<OutOfMemory> for LineError {
 }
 
 impl From<AllocError> for LineError {
-    ghost use Rattle.std.specs.Prelude.{◌≡◌};
-    ghost use Rattle.ptpm_script.specs.declared.line_fault.LineError.TheVariants as errors;
-
     ghost from_gives = { λ _ e. e ≡ errors.OutOfMemory };
 
     fn from(_refused: AllocError) -> LineError {

@@ -35,10 +35,7 @@ impl Name {
     pub fn copy(&self, alloc: Global) -> Result<Name, OutOfMemory>
         ensures { IfOk result (λ n. n ≡ self.now) }
     {
-        match Name::copy_of(alloc, self.as_str()) {
-            Ok(name) => Ok(name),
-            Err(_) => Err(OutOfMemory),
-        }
+        Name::copy_of(alloc, self.as_str()).map_err(|_| OutOfMemory)
     }
 
     /// Its text, lent.

@@ -1,5 +1,8 @@
 //! Why a text is no network.
 
+ghost use Rattle.std.specs.Prelude.{◌≡◌};
+ghost use Rattle.ptpm_script.specs.declared.net_error.NetError.TheVariants as errors;
+
 use ptpm_codec::OutOfMemory;
 use ptpm_data::StartError;
 use std::alloc::{AllocError, AllocFailed};
@@ -49,9 +52,6 @@ impl fmt::Display for NetError {
 }
 
 impl From<OutOfMemory> for NetError {
-    ghost use Rattle.std.specs.Prelude.{◌≡◌};
-    ghost use Rattle.ptpm_script.specs.declared.net_error.NetError.TheVariants as errors;
-
     ghost from_gives = { λ _ e. e ≡ errors.OutOfMemory };
 
     fn from(_refused: OutOfMemory) -> NetError {
@@ -60,9 +60,6 @@ impl From<OutOfMemory> for NetError {
 }
 
 impl From<AllocError> for NetError {
-    ghost use Rattle.std.specs.Prelude.{◌≡◌};
-    ghost use Rattle.ptpm_script.specs.declared.net_error.NetError.TheVariants as errors;
-
     ghost from_gives = { λ _ e. e ≡ errors.OutOfMemory };
 
     fn from(_refused: AllocError) -> NetError {
@@ -71,9 +68,6 @@ impl From<AllocError> for NetError {
 }
 
 impl<T: Drop> From<AllocFailed<T>> for NetError {
-    ghost use Rattle.std.specs.Prelude.{◌≡◌};
-    ghost use Rattle.ptpm_script.specs.declared.net_error.NetError.TheVariants as errors;
-
     ghost from_gives = { λ _ e. e ≡ errors.OutOfMemory };
 
     fn from(_refused: AllocFailed<T>) -> NetError {

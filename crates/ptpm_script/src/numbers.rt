@@ -35,30 +35,21 @@ fn decimal_up_to(most: u64, text: &str) -> Option<u64>
 pub(crate) fn decimal_u8(text: &str) -> Option<u8>
     ensures { result ≡ decimal_up_to 255 text.now }
 {
-    match decimal_up_to(0xff, text) {
-        Some(number) => Some(number as u8),
-        None => None,
-    }
+    Some(decimal_up_to(0xff, text)? as u8)
 }
 
 /// The number below 65,536 that one to ten decimal digits write, for example a portNumber. Nothing may come before them.
 pub fn decimal_u16(text: &str) -> Option<u16>
     ensures { result ≡ decimal_up_to 65535 text.now }
 {
-    match decimal_up_to(0xffff, text) {
-        Some(number) => Some(number as u16),
-        None => None,
-    }
+    Some(decimal_up_to(0xffff, text)? as u16)
 }
 
 /// The number of a frame. A network holds 400,000 of them at most.
 pub(crate) fn frame_number(text: &str) -> Option<u32>
     ensures { result ≡ decimal_up_to 400000 text.now }
 {
-    match decimal_up_to(400_000, text) {
-        Some(number) => Some(number as u32),
-        None => None,
-    }
+    Some(decimal_up_to(400_000, text)? as u32)
 }
 
 /// The number that four hexadecimal digits write.

@@ -40,9 +40,5 @@ pub fn end_spelling(text: &str) -> Option<(&str, Option<u16>)>
         Some((name, port)) => (name, Some(decimal_u16(port)?)),
         None => (text, None),
     };
-    if is_name(name) {
-        Some((name, port))
-    } else {
-        None
-    }
+    is_name(name).then_some((name, port))
 }
