@@ -2,12 +2,11 @@
 
 ghost use Rattle.std.specs.Prelude.{◌≡◌, ◌++◌, OnOk};
 ghost use Rattle.ptpm_site.specs.Differences.{what_differs};
-ghost use Rattle.ptpm_site.specs.Findings.{found, found_each};
+ghost use Rattle.ptpm_site.specs.Findings.{found_each};
 
 use crate::differences::Differs;
-use crate::finding::{Finding, What, add_finding};
+use crate::finding::{Added, Finding, What, add_finding};
 use crate::source::Source;
-use std::alloc::AllocError;
 
 /// What a clock is compared with.
 #[derive(Clone, Copy)]
@@ -39,25 +38,13 @@ pub fn add_differences(
     source: Source,
     compared: Compared,
     members: &[Option<Differs>],
-) -> Result<(), AllocError>
+) -> Added
     ensures { OnOk result (findings.new.items ≡ findings.old.items ++ found_each compared source members.now) }
 {
     for differs in members {
-        add_difference(findings, source, compared, *differs)?;
+        if let Some(differs) = *differs {
+            add_finding(findings, source, compared.what(differs))?;
+        }
     }
     Ok(())
-}
-
-fn add_difference(
-    findings: &mut Vec<Finding<'_>>,
-    source: Source,
-    compared: Compared,
-    differs: Option<Differs>,
-) -> Result<(), AllocError>
-    ensures { OnOk result (findings.new.items ≡ findings.old.items ++ found (what_differs compared) source differs) }
-{
-    match differs {
-        Some(differs) => add_finding(findings, source, compared.what(differs)),
-        None => Ok(()),
-    }
 }

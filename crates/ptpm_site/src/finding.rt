@@ -111,12 +111,11 @@ pub enum What<'a> {
     TwoOffsets(TwoOffsets),
 }
 
+/// Whether findings were added: not if memory is refused.
+pub type Added = Result<(), AllocError>;
+
 /// Adds a finding after all earlier ones.
-pub fn add_finding<'a>(
-    findings: &mut Vec<Finding<'a>>,
-    source: Source,
-    what: What<'a>,
-) -> Result<(), AllocError>
+pub fn add_finding<'a>(findings: &mut Vec<Finding<'a>>, source: Source, what: What<'a>) -> Added
     ensures { OnOk result (findings.new.items ≡ findings.old.items ++ finding source what.entry ∷ []) }
 {
     findings.push(Finding { source, what })?;
@@ -125,11 +124,7 @@ pub fn add_finding<'a>(
 
 /// The same, with a contract by what the finding says.
 #[tactic(auto, using(crate::proofs::Reports::reported_more))]
-pub fn report<'a>(
-    findings: &mut Vec<Finding<'a>>,
-    source: Source,
-    what: What<'a>,
-) -> Result<(), AllocError>
+pub fn report<'a>(findings: &mut Vec<Finding<'a>>, source: Source, what: What<'a>) -> Added
     ensures { OnOk result (reported findings.new.items ≡ reported findings.old.items ++ said source (says what.entry) ∷ []) }
 {
     add_finding(findings, source, what)
