@@ -2,74 +2,50 @@
 
 ghost use Rattle.std.specs.Prelude.{◌≡◌, ◌++◌, OnOk};
 ghost use Rattle.std.specs.Option.{option_copied};
-ghost use Rattle.ptpm_site.specs.Findings.{better_found, class_found, leader_found, leap_found, offset_found, properties_found, quality_found, traceability_found, validity_found};
+ghost use Rattle.ptpm_site.specs.Findings.{leader_found, leap_found, offset_found, properties_found, traceability_found, validity_found};
 ghost use Rattle.ptpm_site.specs.Leading.{all_standing_by};
 ghost use Rattle.ptpm_site.specs.Site.{site_answers};
 
 use crate::data_sets::{DefaultDataSet, TimePropertiesDataSet};
-use crate::finding::{Finding, What, add_finding};
+use crate::finding::{Added, Finding, What, add_finding};
 use crate::leading::{
     announced_leap, better_clock, invalid_offset, not_traceable, without_source, wrong_offset,
 };
 use crate::limits::Limits;
 use crate::site::Site;
 use crate::source::Source;
-use std::alloc::AllocError;
 
 /// `gm_holdover`, `gm_degraded`, `gm_free_running`, `not_traceable`, `utc_invalid`, `utc_offset`, `leap`, `better_clock`: all of a
 /// clock that leads. `others` has all clocks that stand by.
-#[tactic(auto, unfolding(crate::specs::Findings::leader_found))]
+#[tactic(auto, unfolding(crate::specs::Findings::leader_found, crate::specs::Findings::quality_found))]
 pub fn judge_leader(
     site: &Site,
     source: Source,
     others: &[Source],
     limits: Limits,
     findings: &mut Vec<Finding<'_>>,
-) -> Result<(), AllocError>
+) -> Added
     requires { others.now ≡ all_standing_by (site_answers site.now) }
     ensures { OnOk result (findings.new.items ≡ findings.old.items ++ leader_found (site_answers site.now) limits source) }
 {
-    if site.leads(source) {
-        judge_quality(site, source, others, limits, findings)
-    } else {
-        Ok(())
+    if !site.leads(source) {
+        return Ok(());
     }
-}
-
-#[tactic(auto, unfolding(crate::specs::Findings::quality_found))]
-fn judge_quality(
-    site: &Site,
-    source: Source,
-    others: &[Source],
-    limits: Limits,
-    findings: &mut Vec<Finding<'_>>,
-) -> Result<(), AllocError>
-    requires { others.now ≡ all_standing_by (site_answers site.now) }
-    ensures { OnOk result (findings.new.items ≡ findings.old.items ++ quality_found (site_answers site.now) limits source) }
-{
     let default = site.default(source);
-    judge_class(source, &default, findings)?;
+    if let Some(default) = &default {
+        if let Some(degraded) = without_source(default) {
+            add_finding(findings, source, What::Degraded(degraded))?;
+        }
+    }
     if let Some(time) = site.time(source) {
         judge_properties(source, &default, &time, limits, findings)?;
     }
-    judge_better(site, source, &default, others, findings)
-}
-
-/// `gm_holdover`, `gm_degraded` and `gm_free_running`.
-fn judge_class(
-    source: Source,
-    default: &Option<DefaultDataSet>,
-    findings: &mut Vec<Finding<'_>>,
-) -> Result<(), AllocError>
-    ensures { OnOk result (findings.new.items ≡ findings.old.items ++ class_found source default.now) }
-{
-    let Some(default) = default else {
-        return Ok(());
-    };
-    match without_source(default) {
-        Some(degraded) => add_finding(findings, source, What::Degraded(degraded)),
-        None => Ok(()),
+    if let Some(default) = &default {
+        if let Some(better) = better_clock(site, source, default, others) {
+            add_finding(findings, source, What::BetterClock(better))?;
+        }
     }
+    Ok(())
 }
 
 /// `not_traceable`, `utc_invalid`, `utc_offset` and `leap`.
@@ -80,7 +56,7 @@ fn judge_properties(
     time: &TimePropertiesDataSet,
     limits: Limits,
     findings: &mut Vec<Finding<'_>>,
-) -> Result<(), AllocError>
+) -> Added
     ensures { OnOk result (findings.new.items ≡ findings.old.items ++ properties_found limits source default.now time.now) }
 {
     judge_traceability(source, default, time, findings)?;
@@ -94,7 +70,7 @@ fn judge_validity(
     source: Source,
     time: &TimePropertiesDataSet,
     findings: &mut Vec<Finding<'_>>,
-) -> Result<(), AllocError>
+) -> Added
     ensures { OnOk result (findings.new.items ≡ findings.old.items ++ validity_found source time.now) }
 {
     match invalid_offset(time) {
@@ -109,7 +85,7 @@ fn judge_utc_offset(
     time: &TimePropertiesDataSet,
     limits: Limits,
     findings: &mut Vec<Finding<'_>>,
-) -> Result<(), AllocError>
+) -> Added
     ensures { OnOk result (findings.new.items ≡ findings.old.items ++ offset_found limits source time.now) }
 {
     match wrong_offset(limits.tai_utc, time) {
@@ -123,7 +99,7 @@ fn judge_leap(
     source: Source,
     time: &TimePropertiesDataSet,
     findings: &mut Vec<Finding<'_>>,
-) -> Result<(), AllocError>
+) -> Added
     ensures { OnOk result (findings.new.items ≡ findings.old.items ++ leap_found source time.now) }
 {
     match announced_leap(time) {
@@ -138,7 +114,7 @@ fn judge_traceability(
     default: &Option<DefaultDataSet>,
     time: &TimePropertiesDataSet,
     findings: &mut Vec<Finding<'_>>,
-) -> Result<(), AllocError>
+) -> Added
     ensures { OnOk result (findings.new.items ≡ findings.old.items ++ traceability_found source default.now time.now) }
 {
     let Some(default) = default else {
@@ -146,26 +122,6 @@ fn judge_traceability(
     };
     match not_traceable(default, time) {
         Some(untraceable) => add_finding(findings, source, What::NotTraceable(untraceable)),
-        None => Ok(()),
-    }
-}
-
-/// `better_clock`.
-fn judge_better(
-    site: &Site,
-    source: Source,
-    default: &Option<DefaultDataSet>,
-    others: &[Source],
-    findings: &mut Vec<Finding<'_>>,
-) -> Result<(), AllocError>
-    requires { others.now ≡ all_standing_by (site_answers site.now) }
-    ensures { OnOk result (findings.new.items ≡ findings.old.items ++ better_found (site_answers site.now) source default.now) }
-{
-    let Some(default) = default else {
-        return Ok(());
-    };
-    match better_clock(site, source, default, others) {
-        Some(better) => add_finding(findings, source, What::BetterClock(better)),
         None => Ok(()),
     }
 }
