@@ -3,17 +3,15 @@
 ghost use Rattle.std.specs.Prelude.{◌≡◌, ◌++◌, OnOk, IfOk};
 ghost use Rattle.std.specs.List.{flat_map};
 ghost use Rattle.ptpm_site.specs.Evidence.{IsOf};
-ghost use Rattle.ptpm_site.specs.Findings.{found};
 ghost use Rattle.ptpm_site.specs.Open.{has_any, intervals_found, open_absent, open_at, open_intervals, open_lock_found, open_locks, open_of, open_one, open_seldom_found, open_state_found, open_states, open_twins, twins_found};
 ghost use Rattle.ptpm_site.specs.Site.{site_answers};
 ghost use Rattle.ptpm_site.specs.TwoAddresses.{all_twins};
-ghost use Rattle.ptpm_site.specs.Unasked.{not_asked, senders_of};
-ghost use Rattle.ptpm_site.specs.Unseen.{open_mute};
+ghost use Rattle.ptpm_site.specs.Unasked.{senders_of};
 
 use crate::announcing::open_seldom;
 use crate::asked::Asked;
 use crate::evidence::Evidence;
-use crate::finding::{Finding, What, add_finding};
+use crate::finding::{Added, Finding, What, add_finding};
 use crate::judging_answers::{judge_addresses, judge_twice};
 use crate::judging_ports::{judge_intervals, judge_locks, judge_ports};
 use crate::limits::Limits;
@@ -74,7 +72,7 @@ fn judge_open_of(
     subjects: &[Source],
     known: &Known<'_>,
     findings: &mut Vec<Finding<'_>>,
-) -> Result<(), AllocError>
+) -> Added
     requires sources { known.now.sources.now ≡ (site_answers site.now).clocks }
     requires of { IsOf (site_answers site.now).heard known.now.evidence.now }
     requires senders { known.now.senders.now ≡ senders_of (site_answers site.now).heard }
@@ -83,81 +81,36 @@ fn judge_open_of(
         ≡ findings.old.items ++ flat_map (open_one (site_answers site.now) known.now.limits) subjects.now) }
 {
     for subject in subjects {
-        judge_open_one(site, *subject, known, findings)?;
+        if site.is_seen(*subject) {
+            judge_open(site, *subject, known, findings)?;
+        } else {
+            judge_open_absent(site, *subject, known, findings)?;
+        }
     }
     Ok(())
 }
 
-/// What is open at a clock, whether it is seen or not.
-fn judge_open_one(
-    site: &Site,
-    subject: Source,
-    known: &Known<'_>,
-    findings: &mut Vec<Finding<'_>>,
-) -> Result<(), AllocError>
-    requires sources { known.now.sources.now ≡ (site_answers site.now).clocks }
-    requires of { IsOf (site_answers site.now).heard known.now.evidence.now }
-    requires senders { known.now.senders.now ≡ senders_of (site_answers site.now).heard }
-    requires twins { known.now.twins.now ≡ all_twins (site_answers site.now).heard }
-    ensures { OnOk result (findings.new.items ≡ findings.old.items ++ open_one (site_answers site.now) known.now.limits subject) }
-{
-    if site.is_seen(subject) {
-        judge_open(site, subject, known, findings)
-    } else {
-        judge_open_absent(site, subject, known, findings)
-    }
-}
-
-/// What is open at a clock that is not seen.
+/// What is open at a clock that is not seen: `mute`, by Delay_Req; and `not_asked`, at the first clock that sends in a domain.
 #[tactic(auto, unfolding(crate::specs::Open::open_absent))]
 fn judge_open_absent(
     site: &Site,
     subject: Source,
     known: &Known<'_>,
     findings: &mut Vec<Finding<'_>>,
-) -> Result<(), AllocError>
+) -> Added
     requires sources { known.now.sources.now ≡ (site_answers site.now).clocks }
     requires of { IsOf (site_answers site.now).heard known.now.evidence.now }
     requires senders { known.now.senders.now ≡ senders_of (site_answers site.now).heard }
     ensures { OnOk result (findings.new.items ≡ findings.old.items ++ open_absent (site_answers site.now) subject) }
 {
-    judge_open_mute(site, subject, known, findings)?;
-    judge_not_asked(site, subject, known, findings)
-}
-
-/// `mute`, by Delay_Req.
-fn judge_open_mute(
-    site: &Site,
-    subject: Source,
-    known: &Known<'_>,
-    findings: &mut Vec<Finding<'_>>,
-) -> Result<(), AllocError>
-    requires sources { known.now.sources.now ≡ (site_answers site.now).clocks }
-    requires of { IsOf (site_answers site.now).heard known.now.evidence.now }
-    ensures { OnOk result (findings.new.items ≡ findings.old.items ++ found What.Unseen subject (open_mute (site_answers site.now) subject)) }
-{
-    match open_mute(site, known.evidence, subject, known.sources) {
-        Some(why) => add_finding(findings, subject, What::Unseen(why)),
-        None => Ok(()),
+    let (evidence, sources) = (known.evidence, known.sources);
+    if let Some(why) = open_mute(site, evidence, subject, sources) {
+        add_finding(findings, subject, What::Unseen(why))?;
     }
-}
-
-/// `not_asked`, at the first clock that sends in a domain.
-fn judge_not_asked(
-    site: &Site,
-    subject: Source,
-    known: &Known<'_>,
-    findings: &mut Vec<Finding<'_>>,
-) -> Result<(), AllocError>
-    requires sources { known.now.sources.now ≡ (site_answers site.now).clocks }
-    requires of { IsOf (site_answers site.now).heard known.now.evidence.now }
-    requires senders { known.now.senders.now ≡ senders_of (site_answers site.now).heard }
-    ensures { OnOk result (findings.new.items ≡ findings.old.items ++ found What.NotAsked subject (not_asked (site_answers site.now) subject)) }
-{
-    match not_asked(site, known.evidence, subject, known.sources, known.senders) {
-        Some(clocks) => add_finding(findings, subject, What::NotAsked(clocks)),
-        None => Ok(()),
+    if let Some(clocks) = not_asked(site, evidence, subject, sources, known.senders) {
+        add_finding(findings, subject, What::NotAsked(clocks))?;
     }
+    Ok(())
 }
 
 /// What is open at a clock that is seen.
@@ -167,7 +120,7 @@ fn judge_open(
     source: Source,
     known: &Known<'_>,
     findings: &mut Vec<Finding<'_>>,
-) -> Result<(), AllocError>
+) -> Added
     requires of { IsOf (site_answers site.now).heard known.now.evidence.now }
     requires twins { known.now.twins.now ≡ all_twins (site_answers site.now).heard }
     ensures { OnOk result (findings.new.items ≡ findings.old.items ++ open_at (site_answers site.now) known.now.limits source) }
@@ -189,7 +142,7 @@ fn judge_open_states(
     ports: &[u16],
     limits: Limits,
     findings: &mut Vec<Finding<'_>>,
-) -> Result<(), AllocError>
+) -> Added
     requires { ports.now ≡ (site_answers site.now).ports source }
     ensures { OnOk result (findings.new.items ≡ findings.old.items ++ open_states (site_answers site.now) limits source) }
 {
@@ -210,7 +163,7 @@ fn judge_open_locks(
     ports: &[u16],
     known: &Known<'_>,
     findings: &mut Vec<Finding<'_>>,
-) -> Result<(), AllocError>
+) -> Added
     requires ports { ports.now ≡ (site_answers site.now).ports source }
     requires of { IsOf (site_answers site.now).heard known.now.evidence.now }
     ensures { OnOk result (findings.new.items ≡ findings.old.items ++ open_locks (site_answers site.now) known.now.limits source) }
@@ -233,7 +186,7 @@ fn judge_open_intervals(
     ports: &[u16],
     known: &Known<'_>,
     findings: &mut Vec<Finding<'_>>,
-) -> Result<(), AllocError>
+) -> Added
     requires ports { ports.now ≡ (site_answers site.now).ports source }
     requires of { IsOf (site_answers site.now).heard known.now.evidence.now }
     ensures { OnOk result (findings.new.items ≡ findings.old.items ++ open_intervals (site_answers site.now) source) }
@@ -255,7 +208,7 @@ fn judge_open_twins(
     ports: &[u16],
     known: &Known<'_>,
     findings: &mut Vec<Finding<'_>>,
-) -> Result<(), AllocError>
+) -> Added
     requires ports { ports.now ≡ (site_answers site.now).ports source }
     requires twins { known.now.twins.now ≡ all_twins (site_answers site.now).heard }
     ensures { OnOk result (findings.new.items ≡ findings.old.items ++ open_twins (site_answers site.now) source) }
@@ -287,97 +240,57 @@ fn has_twins(
     Ok(!found.is_empty())
 }
 
+#[tactic(auto, unfolding(crate::specs::Open::open_state_found))]
 fn add_open_states(
     site: &Site,
     source: Source,
     ports: &[u16],
     limits: Limits,
     findings: &mut Vec<Finding<'_>>,
-) -> Result<(), AllocError>
+) -> Added
     ensures { OnOk result (findings.new.items ≡ findings.old.items ++ flat_map (open_state_found (site_answers site.now) limits source) ports.now) }
 {
     for port in ports {
-        add_open_state(site, source, *port, limits, findings)?;
+        if let Some(stay) = open_state(site, limits, source, *port) {
+            add_finding(findings, source, What::PortState(*port, stay))?;
+        }
     }
     Ok(())
 }
 
-#[tactic(auto, unfolding(crate::specs::Open::open_state_found))]
-fn add_open_state(
-    site: &Site,
-    source: Source,
-    port: u16,
-    limits: Limits,
-    findings: &mut Vec<Finding<'_>>,
-) -> Result<(), AllocError>
-    ensures { OnOk result (findings.new.items ≡ findings.old.items ++ open_state_found (site_answers site.now) limits source port) }
-{
-    match open_state(site, limits, source, port) {
-        Some(stay) => add_finding(findings, source, What::PortState(port, stay)),
-        None => Ok(()),
-    }
-}
-
-fn add_open_seldoms(
-    site: &Site,
-    evidence: &Evidence,
-    source: Source,
-    ports: &[u16],
-    findings: &mut Vec<Finding<'_>>,
-) -> Result<(), AllocError>
-    requires { IsOf (site_answers site.now).heard evidence.now }
-    ensures { OnOk result (findings.new.items ≡ findings.old.items ++ flat_map (open_seldom_found (site_answers site.now) source) ports.now) }
-{
-    for port in ports {
-        add_open_seldom(site, evidence, source, *port, findings)?;
-    }
-    Ok(())
-}
-
-#[tactic(auto, unfolding(crate::specs::Open::open_seldom_found))]
-fn add_open_seldom(
-    site: &Site,
-    evidence: &Evidence,
-    source: Source,
-    port: u16,
-    findings: &mut Vec<Finding<'_>>,
-) -> Result<(), AllocError>
-    requires { IsOf (site_answers site.now).heard evidence.now }
-    ensures { OnOk result (findings.new.items ≡ findings.old.items ++ open_seldom_found (site_answers site.now) source port) }
-{
-    match open_seldom(site, evidence, source, port) {
-        Some(seldom) => add_finding(findings, source, What::Announces(port, seldom)),
-        None => Ok(()),
-    }
-}
-
+#[tactic(auto, unfolding(crate::specs::Open::open_lock_found))]
 fn add_open_locks(
     site: &Site,
     source: Source,
     ports: &[u16],
     limits: Limits,
     findings: &mut Vec<Finding<'_>>,
-) -> Result<(), AllocError>
+) -> Added
     ensures { OnOk result (findings.new.items ≡ findings.old.items ++ flat_map (open_lock_found (site_answers site.now) limits source) ports.now) }
 {
     for port in ports {
-        add_open_lock(site, source, *port, limits, findings)?;
+        if let Some(unlocked) = open_lock(site, limits, source, *port) {
+            add_finding(findings, source, What::NotLocked(*port, unlocked))?;
+        }
     }
     Ok(())
 }
 
-#[tactic(auto, unfolding(crate::specs::Open::open_lock_found))]
-fn add_open_lock(
+#[tactic(auto, unfolding(crate::specs::Open::open_seldom_found))]
+fn add_open_seldoms(
     site: &Site,
+    evidence: &Evidence,
     source: Source,
-    port: u16,
-    limits: Limits,
+    ports: &[u16],
     findings: &mut Vec<Finding<'_>>,
-) -> Result<(), AllocError>
-    ensures { OnOk result (findings.new.items ≡ findings.old.items ++ open_lock_found (site_answers site.now) limits source port) }
+) -> Added
+    requires { IsOf (site_answers site.now).heard evidence.now }
+    ensures { OnOk result (findings.new.items ≡ findings.old.items ++ flat_map (open_seldom_found (site_answers site.now) source) ports.now) }
 {
-    match open_lock(site, limits, source, port) {
-        Some(unlocked) => add_finding(findings, source, What::NotLocked(port, unlocked)),
-        None => Ok(()),
+    for port in ports {
+        if let Some(seldom) = open_seldom(site, evidence, source, *port) {
+            add_finding(findings, source, What::Announces(*port, seldom))?;
+        }
     }
+    Ok(())
 }
