@@ -12,7 +12,7 @@ ghost use Rattle.ptpm_site.specs.Site.{site_answers};
 ghost use Rattle.ptpm_site.specs.TwoAddresses.{all_twins};
 
 use crate::evidence::Evidence;
-use crate::finding::Finding;
+use crate::finding::{Added, Finding, What, report};
 use crate::forest::place_among;
 use crate::grandmaster_changes::{GrandmasterChange, grandmaster_changes};
 use crate::grandmasters::leading;
@@ -22,7 +22,6 @@ use crate::judging_grandmasters::{judge_grandmaster, judge_parent};
 use crate::judging_leading::judge_leader;
 use crate::judging_loops::judge_loop;
 use crate::judging_ports::{judge_intervals, judge_locks, judge_ports};
-use crate::judging_unseen::{judge_gone, judge_unseen};
 use crate::leading::all_standing_by;
 use crate::limits::Limits;
 use crate::marks::is_marked;
@@ -32,6 +31,7 @@ use crate::source::Source;
 use crate::subjects::subjects_of;
 use crate::tai_and_utc::all_followers;
 use crate::two_addresses::{Twins, all_twins};
+use crate::unseen::unseen;
 use std::alloc::{AllocError, Global};
 
 /// All findings. Each loop is reported at its least clock, which is marked in `least`.
@@ -103,7 +103,7 @@ fn judge_all<'a>(
     subjects: &[Source],
     given: &Given<'_>,
     findings: &mut Vec<Finding<'a>>,
-) -> Result<(), AllocError>
+) -> Added
     requires { IsGiven (site_answers site.now) given.now }
     ensures { OnOk result (reported findings.new.items
         ≡ reported findings.old.items ++ flat_map (found_at (site_answers site.now) given.now.limits) subjects.now) }
@@ -120,7 +120,7 @@ fn judge_one<'a>(
     subject: Source,
     given: &Given<'_>,
     findings: &mut Vec<Finding<'a>>,
-) -> Result<(), AllocError>
+) -> Added
     requires { IsGiven (site_answers site.now) given.now }
     ensures { OnOk result (reported findings.new.items
         ≡ reported findings.old.items ++ found_at (site_answers site.now) given.now.limits subject) }
@@ -133,19 +133,24 @@ fn judge_one<'a>(
     }
 }
 
-/// What is wrong with one clock that is not seen.
+/// What is wrong with one clock that is not seen: `gone`, `own_host` and `mute`, and `grandmaster_changed`.
+#[tactic(auto, unfolding(crate::specs::Findings::gone_reported, crate::specs::Findings::unseen_reported))]
 fn judge_absent(
     site: &Site,
     subject: Source,
     given: &Given<'_>,
     findings: &mut Vec<Finding<'_>>,
-) -> Result<(), AllocError>
+) -> Added
     requires { IsGiven (site_answers site.now) given.now }
     ensures { OnOk result (reported findings.new.items
         ≡ reported findings.old.items ++ absent_reported (site_answers site.now) subject) }
 {
-    judge_gone(site, given.evidence, subject, findings)?;
-    judge_unseen(site, given.evidence, subject, given.sources, findings)?;
+    if given.evidence.gone.contains(&subject) {
+        report(findings, subject, What::Gone)?;
+    }
+    if let Some(why) = unseen(site, given.evidence, subject, given.sources) {
+        report(findings, subject, What::Unseen(why))?;
+    }
     judge_changes(given.changes, subject, findings)
 }
 
@@ -167,7 +172,7 @@ fn judge<'a>(
     is_least: bool,
     given: &Given<'_>,
     findings: &mut Vec<Finding<'a>>,
-) -> Result<(), AllocError>
+) -> Added
     requires given { IsGiven (site_answers site.now) given.now }
     requires least { is_least ≡ is_some (loop_of (site_answers site.now) source) }
     ensures { OnOk result (reported findings.new.items
@@ -200,7 +205,7 @@ fn judge_above(
     source: Source,
     leading: &[Source],
     findings: &mut Vec<Finding<'_>>,
-) -> Result<(), AllocError>
+) -> Added
     requires { leading.now ≡ leading_clocks (site_answers site.now) }
     ensures { OnOk result (findings.new.items ≡ findings.old.items ++ found_above (site_answers site.now) source) }
 {
@@ -216,7 +221,7 @@ fn judge_here(
     ports: &[u16],
     given: &Given<'_>,
     findings: &mut Vec<Finding<'_>>,
-) -> Result<(), AllocError>
+) -> Added
     requires ports { ports.now ≡ (site_answers site.now).ports source }
     requires given { IsGiven (site_answers site.now) given.now }
     ensures { OnOk result (findings.new.items ≡ findings.old.items ++ found_here (site_answers site.now) given.now.limits source) }

@@ -6,7 +6,7 @@ ghost use Rattle.ptpm_site.specs.Findings.{loop_reported, reported};
 ghost use Rattle.ptpm_site.specs.Loops.{circle, loop_of};
 ghost use Rattle.ptpm_site.specs.Site.{site_answers};
 
-use crate::finding::{Finding, What, report};
+use crate::finding::{Added, Finding, What, report};
 use crate::site::Site;
 use crate::source::Source;
 use ptpm_codec::ClockIdentity;
@@ -22,7 +22,7 @@ pub fn judge_loop(
     is_least: bool,
     count: usize,
     findings: &mut Vec<Finding<'_>>,
-) -> Result<(), AllocError>
+) -> Added
     requires least { is_least ≡ is_some (loop_of (site_answers site.now) source) }
     requires count { count ≡ length (site_answers site.now).clocks }
     ensures { OnOk result (reported findings.new.items ≡ reported findings.old.items ++ loop_reported (site_answers site.now) source) }

@@ -35,7 +35,6 @@ mod judging_leading;
 mod judging_loops;
 pub mod judging_open;
 mod judging_ports;
-mod judging_unseen;
 pub mod laws;
 pub mod leading;
 pub mod left_out;
