@@ -15,7 +15,7 @@ use crate::asked::Asked;
 use crate::changes::{Change, Contradiction, first_change, first_contradiction, is_said_otherwise};
 use crate::clock::Received;
 use crate::completeness::missing_answers;
-use crate::finding::{Finding, What, report};
+use crate::finding::{Added, Finding, What, report};
 use crate::grandmaster_changes::GrandmasterChange;
 use crate::member::{is_moving, is_of_grandmaster, members_of};
 use crate::reach::{Reach, out_of_reach};
@@ -38,7 +38,7 @@ pub fn judge_answers<'a>(
     source: Source,
     ports: &[u16],
     findings: &mut Vec<Finding<'a>>,
-) -> Result<(), AllocError>
+) -> Added
     requires ports { ports.now ≡ (site_answers site.now).ports source }
     requires reach { IsReach (site_answers site.now).heard reach.now }
     requires changes { changes.now ≡ grandmaster_changes (site_answers site.now) }
@@ -61,7 +61,7 @@ pub fn judge_addresses<'a>(
     twins: &[Twins],
     source: Source,
     findings: &mut Vec<Finding<'a>>,
-) -> Result<(), AllocError>
+) -> Added
     requires { twins.now ≡ all_twins (site_answers site.now).heard }
     ensures { OnOk result (reported findings.new.items ≡ reported findings.old.items ++ addresses_reported (site_answers site.now) source) }
 {
@@ -76,11 +76,7 @@ pub fn judge_addresses<'a>(
 
 /// `identity_twice`, by two offsets in each of two looks.
 #[tactic(auto, unfolding(crate::specs::Findings::offsets_reported))]
-fn judge_offsets(
-    site: &Site,
-    source: Source,
-    findings: &mut Vec<Finding<'_>>,
-) -> Result<(), AllocError>
+fn judge_offsets(site: &Site, source: Source, findings: &mut Vec<Finding<'_>>) -> Added
     ensures { OnOk result (reported findings.new.items ≡ reported findings.old.items ++ offsets_reported (site_answers site.now) source) }
 {
     match two_offsets(site.answers(source, Asked::CurrentDataSet)) {
@@ -91,12 +87,7 @@ fn judge_offsets(
 
 /// `out_of_reach`.
 #[tactic(auto, unfolding(crate::specs::Findings::reach_reported))]
-fn judge_reach(
-    site: &Site,
-    reach: &Reach,
-    source: Source,
-    findings: &mut Vec<Finding<'_>>,
-) -> Result<(), AllocError>
+fn judge_reach(site: &Site, reach: &Reach, source: Source, findings: &mut Vec<Finding<'_>>) -> Added
     requires { IsReach (site_answers site.now).heard reach.now }
     ensures { OnOk result (reported findings.new.items ≡ reported findings.old.items ++ reach_reported (site_answers site.now) source) }
 {
@@ -111,26 +102,15 @@ pub fn judge_changes(
     changes: &[GrandmasterChange],
     source: Source,
     findings: &mut Vec<Finding<'_>>,
-) -> Result<(), AllocError>
+) -> Added
     ensures { OnOk result (reported findings.new.items ≡ reported findings.old.items ++ flat_map (change_reported source) changes.now) }
 {
     for change in changes {
-        judge_change(change, source, findings)?;
+        if change.source == source {
+            report(findings, source, What::GrandmasterChanged(*change))?;
+        }
     }
     Ok(())
-}
-
-fn judge_change(
-    change: &GrandmasterChange,
-    source: Source,
-    findings: &mut Vec<Finding<'_>>,
-) -> Result<(), AllocError>
-    ensures { OnOk result (reported findings.new.items ≡ reported findings.old.items ++ change_reported source change.now) }
-{
-    if change.source != source {
-        return Ok(());
-    }
-    report(findings, source, What::GrandmasterChanged(*change))
 }
 
 /// `identity_twice`. States of ports may differ by themselves while they change: these alone are no finding.
@@ -141,7 +121,7 @@ pub fn judge_twice<'a>(
     source: Source,
     ports: &[u16],
     findings: &mut Vec<Finding<'a>>,
-) -> Result<(), AllocError>
+) -> Added
     requires { ports.now ≡ (site_answers site.now).ports source }
     ensures { OnOk result (reported findings.new.items ≡ reported findings.old.items ++ twice_reported (site_answers site.now) source) }
 {
@@ -181,7 +161,7 @@ fn judge_missing(
     source: Source,
     ports: &[u16],
     findings: &mut Vec<Finding<'_>>,
-) -> Result<(), AllocError>
+) -> Added
     requires { ports.now ≡ (site_answers site.now).ports source }
     ensures { OnOk result (reported findings.new.items ≡ reported findings.old.items ++ incomplete_reported (site_answers site.now) source) }
 {
@@ -201,7 +181,7 @@ fn judge_contradictions<'a>(
     ports: &[u16],
     how: Contradiction,
     findings: &mut Vec<Finding<'a>>,
-) -> Result<(), AllocError>
+) -> Added
     requires { ports.now ≡ (site_answers site.now).ports source }
     ensures { OnOk result (reported findings.new.items ≡ reported findings.old.items ++ contradictions_reported how (site_answers site.now) source) }
 {
@@ -218,20 +198,14 @@ fn judge_clock_sets<'a>(
     source: Source,
     how: Contradiction,
     findings: &mut Vec<Finding<'a>>,
-) -> Result<(), AllocError>
+) -> Added
     ensures { OnOk result (reported findings.new.items ≡ reported findings.old.items ++ clock_sets_reported how (site_answers site.now) source) }
 {
     judge_clock_set(alloc, site, source, Asked::DefaultDataSet, how, findings)?;
     judge_clock_set(alloc, site, source, Asked::CurrentDataSet, how, findings)?;
     judge_clock_set(alloc, site, source, Asked::ParentDataSet, how, findings)?;
-    judge_clock_set(
-        alloc,
-        site,
-        source,
-        Asked::TimePropertiesDataSet,
-        how,
-        findings,
-    )
+    let asked = Asked::TimePropertiesDataSet;
+    judge_clock_set(alloc, site, source, asked, how, findings)
 }
 
 /// The same for one of them.
@@ -243,7 +217,7 @@ fn judge_clock_set<'a>(
     asked: Asked,
     how: Contradiction,
     findings: &mut Vec<Finding<'a>>,
-) -> Result<(), AllocError>
+) -> Added
     ensures { OnOk result (reported findings.new.items ≡ reported findings.old.items ++ clock_set_reported how (site_answers site.now) source asked) }
 {
     let compared = Compared::of(site, source, None, asked, how);
@@ -258,7 +232,7 @@ fn judge_port_sets<'a>(
     ports: &[u16],
     how: Contradiction,
     findings: &mut Vec<Finding<'a>>,
-) -> Result<(), AllocError>
+) -> Added
     ensures { OnOk result (reported findings.new.items ≡ reported findings.old.items ++ flat_map (port_set_reported how (site_answers site.now) source) ports.now) }
 {
     for port in ports {
@@ -275,7 +249,7 @@ fn judge_port_set<'a>(
     port: u16,
     how: Contradiction,
     findings: &mut Vec<Finding<'a>>,
-) -> Result<(), AllocError>
+) -> Added
     ensures { OnOk result (reported findings.new.items ≡ reported findings.old.items ++ port_set_reported how (site_answers site.now) source port) }
 {
     let compared = Compared::of(site, source, Some(port), Asked::PortDataSet, how);
@@ -326,7 +300,7 @@ fn judge_set<'a>(
     compared: Compared,
     received: &'a [Received],
     findings: &mut Vec<Finding<'a>>,
-) -> Result<(), AllocError>
+) -> Added
     ensures { OnOk result (reported findings.new.items ≡ reported findings.old.items
         ++ set_reported compared.how compared.source compared.port compared.is_own compared.asked received.now) }
 {
@@ -346,7 +320,7 @@ fn judge_member<'a>(
     received: &'a [Received],
     member: Member,
     findings: &mut Vec<Finding<'a>>,
-) -> Result<(), AllocError>
+) -> Added
     ensures { OnOk result (reported findings.new.items ≡ reported findings.old.items
         ++ member_reported compared.how compared.source compared.port compared.is_own compared.asked received.now member) }
 {
@@ -382,7 +356,7 @@ fn report_change<'a>(
     findings: &mut Vec<Finding<'a>>,
     compared: Compared,
     change: Change<'a>,
-) -> Result<(), AllocError>
+) -> Added
     ensures { OnOk result (reported findings.new.items ≡ reported findings.old.items
         ++ said compared.source (Otherwise compared.how compared.port (member_change change.entry)) ∷ []) }
 {
