@@ -13,6 +13,7 @@ ghost use Rattle.ptpm_world.specs.ScriptError.{ReadsWhole, is_of_reading, is_out
 use crate::lines::Lines;
 use crate::script::{is_skipped, read_text};
 use crate::script_error::ScriptError;
+use crate::writing::Written;
 use ptpm_script::{Document, event_fault};
 use std::alloc::Global;
 use std::io::{Read, Write};
@@ -94,7 +95,7 @@ fn check_network<W: Write>(
     text: &str,
     findings: &mut Findings,
     out: &mut W,
-) -> Result<(), ScriptError>
+) -> Written
     ensures first { OnOk result
         (findings.new.first
         ≡ option_or findings.old.first
@@ -119,7 +120,7 @@ fn check_events<R: Read + Drop, W: Write>(
     script: &mut Lines<R>,
     findings: &mut Findings,
     out: &mut W,
-) -> Result<(), ScriptError>
+) -> Written
     ensures first { OnOk result
         (IfSome (left_in R.remaining script.old)
         (λ octets.
@@ -174,7 +175,7 @@ fn check_event<R: Read + Drop, W: Write>(
     number: u32,
     findings: &mut Findings,
     out: &mut W,
-) -> Result<(), ScriptError>
+) -> Written
     ensures first { OnOk result
         (findings.new.first
         ≡ option_or findings.old.first
@@ -198,11 +199,7 @@ fn check_event<R: Read + Drop, W: Write>(
 }
 
 /// Writes the fault of a line that can't be read as one. If reading itself failed, that is the answer.
-fn note_line<W: Write>(
-    fault: ScriptError,
-    findings: &mut Findings,
-    out: &mut W,
-) -> Result<(), ScriptError>
+fn note_line<W: Write>(fault: ScriptError, findings: &mut Findings, out: &mut W) -> Written
     requires { is_of_reading fault ≡ true }
     ensures first { OnOk result (findings.new.first ≡ option_or findings.old.first (Some fault)) }
     ensures inside { OnOk result (is_outside fault ≡ false) }
@@ -210,18 +207,14 @@ fn note_line<W: Write>(
     ensures outside { IfErr result (λ e. is_outside e ≡ true) }
 {
     match fault {
-        ScriptError::LineTooLong(line) => {
-            writeln!(
-                out,
-                "line {line}: at most 4096 octets; nothing behind it is read"
-            )?;
-        }
-        ScriptError::TooManyLines => {
-            writeln!(
-                out,
-                "file: at most 2000000 lines; nothing behind them is read"
-            )?;
-        }
+        ScriptError::LineTooLong(line) => writeln!(
+            out,
+            "line {line}: at most 4096 octets; nothing behind it is read"
+        )?,
+        ScriptError::TooManyLines => writeln!(
+            out,
+            "file: at most 2000000 lines; nothing behind them is read"
+        )?,
         ScriptError::NotText(line) => writeln!(out, "line {line}: not UTF-8")?,
         outside => return Err(outside),
     }

@@ -17,7 +17,7 @@ ghost use Rattle.ptpm_world.specs.Writing.{Writes};
 use crate::script_error::ScriptError;
 use crate::took::{StepError, Took};
 use crate::world::World;
-use crate::writing::write_shown;
+use crate::writing::{Written, write_shown};
 use itoa::Buffer;
 use ptpm_codec::ErrorId;
 use ptpm_data::{DataSets, Value};
@@ -35,7 +35,7 @@ pub(crate) fn write_event<W: Write>(
     number: u32,
     event: &Event,
     out: &mut W,
-) -> Result<(), ScriptError>
+) -> Written
     ensures line { (N : Network) → IsOf N world.old
         → Writes (event_line N (names_in world.old) (running world.old) number event.now)
         (W.contents out.old) (W.contents out.new) result }
@@ -54,31 +54,16 @@ pub(crate) fn write_event<W: Write>(
         return Err(ScriptError::OutOfMemory);
     }
     let after = world.frames();
-    let answer = Answer { took, is_late };
-    let made = MadeFrames { before, after };
-    write_line(alloc, number, event, answer, made, out)?;
-    Ok(())
-}
-
-fn write_line<W: Write>(
-    alloc: Global,
-    number: u32,
-    event: &Event,
-    answer: Answer,
-    made: MadeFrames,
-    out: &mut W,
-) -> Result<(), ScriptError>
-    ensures { Writes
-        (event_text number (verb_of event.now) answer.took answer.is_late made.before made.after)
-        (W.contents out.old) (W.contents out.new) result }
-{
     let line = EventText {
         number,
         verb: event.verb(),
-        answer,
-        made,
+        took,
+        is_late,
+        before,
+        after,
     };
-    write_shown(alloc, &line, out)
+    write_shown(alloc, &line, out)?;
+    Ok(())
 }
 
 /// Whether an event is refused for want of memory.
@@ -93,23 +78,26 @@ fn is_out_of_memory(took: &Result<Took, StepError>) -> bool
 struct EventText<'a> {
     number: u32,
     verb: &'a str,
-    answer: Answer,
-    made: MadeFrames,
+    took: Result<Took, StepError>,
+    /// Whether it is the delivery of a late frame.
+    is_late: bool,
+    /// How many frames there were before it, and after it.
+    before: u32,
+    after: u32,
 }
 
 impl fmt::Display for EventText<'_> {
     ghost use Rattle.std.specs.Prelude.{Some};
 
-    ghost output = { λ e. Some (event_text e.number e.verb.now e.answer.took e.answer.is_late
-        e.made.before e.made.after) };
+    ghost output = { λ e. Some (event_text e.number e.verb.now e.took e.is_late e.before e.after) };
 
     fn fmt<W: fmt::Write>(&self, f: &mut fmt::Formatter<W>) -> fmt::Result {
         show_number(self.number as u64, f)?;
         f.write_str(" ")?;
         f.write_str(self.verb)?;
         f.write_str(" ")?;
-        show_answer(self.answer, f)?;
-        show_frames(self.made, f)?;
+        show_answer(self.took, self.is_late, f)?;
+        show_frames(self.before, self.after, f)?;
         f.write_str("\n")
     }
 }
@@ -124,108 +112,58 @@ fn show_number<W: fmt::Write>(number: u64, f: &mut fmt::Formatter<W>) -> fmt::Re
 }
 
 /// What an event did or why it was refused, and whether it is the delivery of a late frame.
-#[derive(Clone, Copy)]
-struct Answer {
+fn show_answer<W: fmt::Write>(
     took: Result<Took, StepError>,
     is_late: bool,
-}
-
-fn show_answer<W: fmt::Write>(answer: Answer, f: &mut fmt::Formatter<W>) -> fmt::Result
-    ensures { WritesOnOk W.write_str_gives f.old result (answer_text answer.took answer.is_late)
-        f.new }
+    f: &mut fmt::Formatter<W>,
+) -> fmt::Result
+    ensures { WritesOnOk W.write_str_gives f.old result (answer_text took is_late) f.new }
 {
-    match answer.took {
-        Ok(took) => {
-            write!(f, "{took}")?;
-            if answer.is_late {
-                f.write_str(" late")?;
-            }
-            Ok(())
-        }
-        Err(error) => {
-            f.write_str("refused ")?;
-            write!(f, "{error}")
-        }
+    match took {
+        Ok(took) if is_late => write!(f, "{took} late"),
+        Ok(took) => write!(f, "{took}"),
+        Err(error) => write!(f, "refused {error}"),
     }
 }
 
 /// The frames that were made between two counts: nothing if none were.
-#[derive(Clone, Copy)]
-struct MadeFrames {
-    before: u32,
-    after: u32,
-}
-
-fn show_frames<W: fmt::Write>(made: MadeFrames, f: &mut fmt::Formatter<W>) -> fmt::Result
-    ensures { WritesOnOk W.write_str_gives f.old result (frames_text made.before made.after) f.new }
+fn show_frames<W: fmt::Write>(before: u32, after: u32, f: &mut fmt::Formatter<W>) -> fmt::Result
+    ensures { WritesOnOk W.write_str_gives f.old result (frames_text before after) f.new }
 {
-    if made.before < made.after {
+    if before < after {
         f.write_str(" frames ")?;
-        show_number(made.before as u64 + 1, f)?;
+        show_number(before as u64 + 1, f)?;
         f.write_str("-")?;
-        show_number(made.after as u64, f)?;
+        show_number(after as u64, f)?;
     }
     Ok(())
 }
 
 /// A line for each report, session by session.
-pub(crate) fn write_reports<W: Write>(
-    alloc: Global,
-    world: &World,
-    out: &mut W,
-) -> Result<(), ScriptError>
+pub(crate) fn write_reports<W: Write>(alloc: Global, world: &World, out: &mut W) -> Written
     ensures { Writes (report_lines (names_in world.now) (running world.now))
         (W.contents out.old) (W.contents out.new) result }
 {
     for session in &world.sessions {
-        write_session(
-            alloc,
-            session.name.as_str(),
-            session.reports.as_slice(),
-            out,
-        )?;
+        let reports = session.reports.as_slice();
+        write_session(alloc, session.name.as_str(), reports, out)?;
     }
     Ok(())
 }
 
 /// A line for each report of a session.
-fn write_session<W: Write>(
-    alloc: Global,
-    name: &str,
-    reports: &[Report],
-    out: &mut W,
-) -> Result<(), ScriptError>
+fn write_session<W: Write>(alloc: Global, name: &str, reports: &[Report], out: &mut W) -> Written
     ensures { Writes (flat_map (report_line name.now) reports.now)
         (W.contents out.old) (W.contents out.new) result }
 {
     for report in reports {
-        write_report(alloc, name, report, out)?;
+        write_shown(alloc, &ReportText(name, report), out)?;
     }
     Ok(())
 }
 
-fn write_report<W: Write>(
-    alloc: Global,
-    name: &str,
-    report: &Report,
-    out: &mut W,
-) -> Result<(), ScriptError>
-    ensures { Writes (report_line name.now report.now)
-        (W.contents out.old) (W.contents out.new) result }
-{
-    let line = ReportText {
-        session: name,
-        report,
-    };
-    write_shown(alloc, &line, out)
-}
-
 /// A line for each data set of the clocks and of their ports.
-pub(crate) fn write_data_sets<W: Write>(
-    alloc: Global,
-    world: &World,
-    out: &mut W,
-) -> Result<(), ScriptError>
+pub(crate) fn write_data_sets<W: Write>(alloc: Global, world: &World, out: &mut W) -> Written
     ensures { Writes (data_lines (names_in world.now) (running world.now))
         (W.contents out.old) (W.contents out.new) result }
 {
@@ -236,12 +174,7 @@ pub(crate) fn write_data_sets<W: Write>(
 }
 
 /// A line for each data set of a clock and of its ports.
-fn write_sets<W: Write>(
-    alloc: Global,
-    name: &str,
-    sets: &DataSets,
-    out: &mut W,
-) -> Result<(), ScriptError>
+fn write_sets<W: Write>(alloc: Global, name: &str, sets: &DataSets, out: &mut W) -> Written
     ensures { Writes (clock_lines name.now sets.now)
         (W.contents out.old) (W.contents out.new) result }
 {
@@ -254,12 +187,7 @@ fn write_sets<W: Write>(
 
 /// USER_DESCRIPTION and the four data sets of a clock, a line each.
 #[tactic(auto, unfolding(ptpm_data::specs::ManagementId::row_of, crate::specs::Trace::data_set_lines))]
-fn write_clock<W: Write>(
-    alloc: Global,
-    name: &str,
-    sets: &DataSets,
-    out: &mut W,
-) -> Result<(), ScriptError>
+fn write_clock<W: Write>(alloc: Global, name: &str, sets: &DataSets, out: &mut W) -> Written
     ensures { Writes (data_set_lines name.now sets.now)
         (W.contents out.old) (W.contents out.new) result }
 {
@@ -279,7 +207,7 @@ fn write_data<W: Write>(
     id: u16,
     digits: &str,
     out: &mut W,
-) -> Result<(), ScriptError>
+) -> Written
     requires permits { permits Get id ≡ true }
     requires clock { is_of_port id ≡ false }
     ensures { Writes (data_line name.now digits.now (data_field_of_id id 0 sets.now))
@@ -299,7 +227,7 @@ fn write_port<W: Write>(
     sets: &DataSets,
     port: u16,
     out: &mut W,
-) -> Result<(), ScriptError>
+) -> Written
     requires { HasPort port sets.now }
     ensures { Writes (port_line name.now sets.now port)
         (W.contents out.old) (W.contents out.new) result }
@@ -314,25 +242,22 @@ fn write_port<W: Write>(
     )
 }
 
-/// What a report's line says.
+/// What the line of a session's report says.
 #[derive(Clone, Copy)]
-struct ReportText<'a> {
-    session: &'a str,
-    report: &'a Report,
-}
+struct ReportText<'a>(&'a str, &'a Report);
 
 impl fmt::Display for ReportText<'_> {
     ghost use Rattle.std.specs.Prelude.{Some};
 
-    ghost output = { λ r. Some (report_line r.session.now r.report.now) };
+    ghost output = { λ r. Some (report_line r.0.now r.1.now) };
 
     fn fmt<W: fmt::Write>(&self, f: &mut fmt::Formatter<W>) -> fmt::Result {
         f.write_str("report ")?;
-        f.write_str(self.session)?;
+        f.write_str(self.0)?;
         f.write_str(" ")?;
-        show_number(self.report.index, f)?;
+        show_number(self.1.index, f)?;
         f.write_str(" ")?;
-        write!(f, "{}", OutcomeText(&self.report.outcome))?;
+        write!(f, "{}", OutcomeText(&self.1.outcome))?;
         f.write_str("\n")
     }
 }

@@ -13,13 +13,16 @@ use std::io::{ErrorKind, Write};
 /// Room for what is displayed without memory: a line of any event, and of a report whose value is short.
 const SHORT: usize = 128;
 
+/// Whether something was written.
+pub(crate) type Written = Result<(), ScriptError>;
+
 /// What a value displays, in one piece, since each piece costs a writer as much again.
 #[inline(always)]
 pub(crate) fn write_shown<W: Write, D: fmt::Display>(
     alloc: Global,
     value: &D,
     out: &mut W,
-) -> Result<(), ScriptError>
+) -> Written
     ensures { IfSome (D.output value.now)
         (λ text. Writes text (W.contents out.old) (W.contents out.new) result) }
 {
@@ -33,11 +36,7 @@ pub(crate) fn write_shown<W: Write, D: fmt::Display>(
 /// The same for a long text. It takes memory, and if there is none, nothing is written.
 #[cold]
 #[inline(never)]
-fn write_long<W: Write, D: fmt::Display>(
-    alloc: Global,
-    value: &D,
-    out: &mut W,
-) -> Result<(), ScriptError>
+fn write_long<W: Write, D: fmt::Display>(alloc: Global, value: &D, out: &mut W) -> Written
     ensures { IfSome (D.output value.now)
         (λ text. Writes text (W.contents out.old) (W.contents out.new) result) }
 {
@@ -46,7 +45,7 @@ fn write_long<W: Write, D: fmt::Display>(
 }
 
 /// Writes octets whole. An interrupted write is tried again. A writer that takes nothing has failed.
-fn write_whole<W: Write>(octets: &[u8], out: &mut W) -> Result<(), ScriptError>
+fn write_whole<W: Write>(octets: &[u8], out: &mut W) -> Written
     ensures { Writes octets.now (W.contents out.old) (W.contents out.new) result }
 {
     let mut rest = octets;

@@ -23,8 +23,8 @@ returns-in_err-write_session g c =
     let same : c.deref-session-items.result.now ≡ sessions = c.deref-session-items.ensures.value in
     let within : i < length sessions = omega (arith, ap length same) in
     let is : session ≡ get_or sessions i session = c.session-item.is ∙ ap (λ (l : List RunningSession). get_or l i session) same in
-    let told : flat_map (report_line c.as_str.result.now) c.as_slice.result.now ≡ session_lines session.name session.reports.items =
-    (λ j. flat_map (report_line (c.as_str.ensures j)) (c.as_slice.ensures.value j)) in
+    let told : flat_map (report_line c.as_str.result.now) c.as_slice-reports.result.now ≡ session_lines session.name session.reports.items =
+    (λ j. flat_map (report_line (c.as_str.ensures j)) (c.as_slice-reports.ensures.value j)) in
     let cut = written-cut (W c.args.out.now) (W c.loop-session.out) (W c.write_session.new.out) (λ (s : RunningSession). session_lines s.name s.reports.items) sessions i session within is c.loop-session.invariant
     (subst (λ (l : List ℕ). TakesFirst l (W c.loop-session.out) (W c.write_session.new.out)) told c.in_err-write_session.ensures.1) in
     writes-err c.from_residual.result c.in_err-write_session.field-0.0 c.from_residual.ensures.1 c.in_err-write_session.ensures.0

@@ -12,7 +12,7 @@ loop-report-preserved g c = grind (arith, written-more)
 pub returns : goal.returns
 returns g c = grind (arith, flat_map, take_all)
 
-pub returns-in_err-write_report : goal.returns-in_err-write_report
-returns-in_err-write_report g c =
-    writes-err c.from_residual.result c.in_err-write_report.field-0.0 c.from_residual.ensures.1 c.in_err-write_report.ensures.0
-    (written-cut _ _ _ _ _ c.loop-report.report-index _ c.loop-report-test.true c.report-item.is c.loop-report.invariant c.in_err-write_report.ensures.1)
+pub returns-in_err-write_shown : goal.returns-in_err-write_shown
+returns-in_err-write_shown g c =
+    writes-err c.from_residual.result c.in_err-write_shown.field-0.0 c.from_residual.ensures.1 c.in_err-write_shown.ensures.0
+    (written-cut _ _ _ _ _ c.loop-report.report-index _ c.loop-report-test.true c.report-item.is c.loop-report.invariant c.in_err-write_shown.ensures.1)
