@@ -16,7 +16,7 @@ use crate::shapes::{Arrow, write_mark};
 use crate::sizes::{MEMBER, STUB, Sizes, row_height};
 use crate::strokes::{LOST, Stroke, stroke_of};
 use crate::words::{
-    LabelText, LineText, ListText, LostText, OutcomeText, VerbText, error_shown, spell,
+    LabelText, LineText, ListText, LostText, OutcomeText, VerbText, Written, error_shown, spell,
 };
 use ptpm_world::{Event, ScriptError};
 use std::alloc::{AllocError, Global};
@@ -28,6 +28,16 @@ const HEADER: usize = 72;
 
 /// Around the picture.
 const MARGIN: usize = 16;
+
+/// What a picture begins with.
+const START: &str = r#"<?xml version="1.0" encoding="UTF-8"?>
+<svg xmlns="http://www.w3.org/2000/svg" version="1.1" "#;
+
+/// What is after the size of a picture.
+const STYLE: &str = r##"
+font-family="DejaVu Sans Mono, Menlo, Consolas, monospace" font-size="13" fill="#24292f">
+<title>What happens in a network, event by event</title>
+<desc>From left to right: the numbers of events, "##;
 
 /// What a picture ends with.
 const END: &str = "</svg>\n";
@@ -49,23 +59,6 @@ pub(crate) struct Chart<'a> {
     height: usize,
 }
 
-/// A row with its event, and what that changed.
-#[derive(Clone, Copy)]
-struct Act<'a> {
-    row: &'a EventRow,
-    event: &'a Event,
-    change: Option<&'a Change>,
-}
-
-/// A row with all that is written in it.
-#[derive(Clone, Copy)]
-struct Line<'a> {
-    row: &'a EventRow,
-    event: &'a Event,
-    /// The members that the event changed.
-    changed: &'a [String],
-}
-
 impl<'a> Chart<'a> {
     /// Lays out a picture.
     pub(crate) fn new(alloc: Global, selection: &'a Selection) -> Result<Chart<'a>, AllocError>
@@ -83,10 +76,8 @@ impl<'a> Chart<'a> {
             step: beside.max(across(sizes.name, 48)),
         };
         let overhang = if sizes.has_overhang { beside } else { box_half };
-        let right = lifelines
-            .last()
-            .saturating_add(overhang)
-            .saturating_add(MARGIN);
+        let right = lifelines.last().saturating_add(overhang);
+        let right = right.saturating_add(MARGIN);
         Ok(Chart {
             selection,
             sizes,
@@ -118,7 +109,9 @@ impl<'a> Chart<'a> {
     fn head(&self, alloc: Global) -> Result<String, AllocError> {
         let mut text = String::new(alloc);
         self.write_start(&mut text)?;
-        self.write_lifelines(&mut text)?;
+        for place in 0..self.lifelines.count() {
+            self.write_lifeline(self.lifelines.party(place), &mut text)?;
+        }
         Ok(text)
     }
 
@@ -138,8 +131,8 @@ impl<'a> Chart<'a> {
             let row = &picture.rows[place];
             let event = &lines[place].event;
             let change = changes.take(row.line);
-            let act = Act { row, event, change };
-            let Ok(below) = self.spell_row(alloc, act, top, &mut label, &mut text) else {
+            let Ok(below) = self.spell_row(alloc, row, event, change, top, &mut label, &mut text)
+            else {
                 return Err(ScriptError::OutOfMemory);
             };
             top = below;
@@ -152,44 +145,27 @@ impl<'a> Chart<'a> {
     fn spell_row(
         &self,
         alloc: Global,
-        act: Act<'_>,
+        row: &EventRow,
+        event: &Event,
+        change: Option<&Change>,
         top: usize,
         label: &mut String,
         text: &mut String,
     ) -> Result<usize, AllocError> {
-        let Act { row, event, change } = act;
         let changed = member_texts(alloc, change)?;
-        let line = Line {
-            row,
-            event,
-            changed: changed.as_slice(),
-        };
         text.clear();
-        self.write_row(&line, top, label, text)?;
+        self.write_row(row, event, changed.as_slice(), top, label, text)?;
         let below = top.saturating_add(row_height(changed.len()));
         self.write_lost(row, below, label, text)
     }
 
     /// The start of the file, and what is said of the picture as a whole.
-    fn write_start(&self, text: &mut String) -> Result<(), AllocError> {
+    fn write_start(&self, text: &mut String) -> Written {
         let (width, height) = (self.width, self.height);
-        writeln!(text, r#"<?xml version="1.0" encoding="UTF-8"?>"#)?;
-        write!(
-            text,
-            r#"<svg xmlns="http://www.w3.org/2000/svg" version="1.1" "#
-        )?;
+        text.push_str(START)?;
         write!(text, r#"width="{width}" height="{height}" "#)?;
-        writeln!(text, r#"viewBox="0 0 {} {}""#, self.width, self.height)?;
-        write!(
-            text,
-            r#"font-family="DejaVu Sans Mono, Menlo, Consolas, monospace" "#
-        )?;
-        writeln!(text, r##"font-size="13" fill="#24292f">"##)?;
-        writeln!(
-            text,
-            "<title>What happens in a network, event by event</title>"
-        )?;
-        write!(text, "<desc>From left to right: the numbers of events, ")?;
+        write!(text, r#"viewBox="0 0 {width} {height}""#)?;
+        text.push_str(STYLE)?;
         for place in 0..self.lifelines.count() {
             let party = self.lifelines.party(place);
             let name = self.lifelines.name(Some(party));
@@ -198,21 +174,12 @@ impl<'a> Chart<'a> {
         let (rows, all) = (self.selection.lines.len(), self.selection.events);
         write!(text, "and what became of events. From top to bottom: ")?;
         writeln!(text, "{rows} of {all} events.</desc>")?;
-        writeln!(
-            text,
-            r##"<rect width="{width}" height="{height}" fill="#ffffff"/>"##
-        )
+        write!(text, r#"<rect width="{width}" height="{height}" "#)?;
+        writeln!(text, r##"fill="#ffffff"/>"##)
     }
 
-    /// The lifelines with their names: a session's in a round box, a clock's in a square one.
-    fn write_lifelines(&self, text: &mut String) -> Result<(), AllocError> {
-        for place in 0..self.lifelines.count() {
-            self.write_lifeline(self.lifelines.party(place), text)?;
-        }
-        Ok(())
-    }
-
-    fn write_lifeline(&self, party: Party, text: &mut String) -> Result<(), AllocError> {
+    /// A lifeline with its name: a session's in a round box, a clock's in a square one.
+    fn write_lifeline(&self, party: Party, text: &mut String) -> Written {
         let x = self.lifelines.x(party);
         let end = self.height.saturating_sub(MARGIN);
         let width = across(self.sizes.name, 24);
@@ -224,70 +191,56 @@ impl<'a> Chart<'a> {
         let (kind, name) = (kind_of(party), self.lifelines.name(Some(party)));
         writeln!(text, "<g><title>{kind} {name}</title>")?;
         writeln!(text, r##"<path d="M{x} 56V{end}" stroke="#8c959f"/>"##)?;
-        write!(
-            text,
-            r#"<rect x="{left}" y="16" width="{width}" height="40" rx="{round}" "#
-        )?;
-        writeln!(text, r##"fill="#f6f8fa" stroke="#57606a"/>"##)?;
-        write!(
-            text,
-            r#"<text x="{x}" y="32" text-anchor="middle" font-size="11">"#
-        )?;
-        writeln!(text, "{}</text>", kind_of(party))?;
-        write!(
-            text,
-            r#"<text x="{x}" y="49" text-anchor="middle" font-weight="bold">"#
-        )?;
-        writeln!(text, "{}</text></g>", self.lifelines.name(Some(party)))
+        write!(text, r#"<rect x="{left}" y="16" width="{width}" "#)?;
+        write!(text, r##"height="40" rx="{round}" fill="#f6f8fa" "##)?;
+        writeln!(text, r##"stroke="#57606a"/>"##)?;
+        write!(text, r#"<text x="{x}" y="32" text-anchor="middle" "#)?;
+        writeln!(text, r#"font-size="11">{kind}</text>"#)?;
+        write!(text, r#"<text x="{x}" y="49" text-anchor="middle" "#)?;
+        writeln!(text, r#"font-weight="bold">{name}</text></g>"#)
     }
 
-    /// Writes a row whose upper edge is here.
+    /// Writes a row whose upper edge is here, and whose event changed these members.
     fn write_row(
         &self,
-        line: &Line<'_>,
+        row: &EventRow,
+        event: &Event,
+        changed: &[String],
         top: usize,
         label: &mut String,
         text: &mut String,
-    ) -> Result<(), AllocError> {
-        let Line { row, event, .. } = *line;
+    ) -> Written {
         let picture = &self.selection.picture;
-        spell(
-            label,
-            LabelText {
-                picture,
-                row,
-                event,
-            },
-        )?;
+        spell(label, LabelText(picture, row, event))?;
         let y = top.saturating_add(RISE);
         let base = y.saturating_add(4);
         write!(text, "{}: {label}", VerbText(event))?;
-        self.write_ends(row, text)?;
-        write!(text, "</title><desc>{}", OutcomeText { picture, row })?;
-        writeln!(text, "{}</desc>", ListText(line.changed))?;
+        match self.ends(row) {
+            Some((from, to)) => self.write_ends(from, to, text)?,
+            None => write!(text, ", at {}", self.lifelines.name(row.at))?,
+        }
+        write!(text, "</title><desc>{}", OutcomeText(picture, row))?;
+        writeln!(text, "{}</desc>", ListText(changed))?;
         write!(text, r##"<text x="{MARGIN}" y="{base}" fill="#57606a">"##)?;
-        let line_text = LineText {
-            line: row.line,
-            event,
-        };
-        writeln!(text, "{line_text}</text>")?;
+        writeln!(text, "{}</text>", LineText(row.line, event))?;
         self.write_way(row, y, label.as_str(), text)?;
-        self.write_outcome(line, base, text)
+        self.write_outcome(row, changed, base, text)
     }
 
     /// Writes what became of a row's event, and below it each member that it changed.
     fn write_outcome(
         &self,
-        line: &Line<'_>,
+        row: &EventRow,
+        changed: &[String],
         base: usize,
         text: &mut String,
-    ) -> Result<(), AllocError> {
-        let (right, picture, row) = (self.right, &self.selection.picture, line.row);
+    ) -> Written {
+        let (right, picture) = (self.right, &self.selection.picture);
         let colour = self.stroke(row).colour;
         write!(text, r#"<text x="{right}" y="{base}" fill="{colour}">"#)?;
-        write!(text, "{}</text>", OutcomeText { picture, row })?;
+        write!(text, "{}</text>", OutcomeText(picture, row))?;
         let mut below = base;
-        for member in line.changed {
+        for member in changed {
             below = below.saturating_add(MEMBER);
             write!(text, "\n")?;
             write!(text, r#"<text x="{right}" y="{below}" fill="{colour}">"#)?;
@@ -296,50 +249,29 @@ impl<'a> Chart<'a> {
         writeln!(text, "</g>")
     }
 
-    /// Who sent a row's message, and who got it; of a mark, at whom it is.
-    fn write_ends(&self, row: &EventRow, text: &mut String) -> Result<(), AllocError> {
+    /// From whom to whom a row's message went; `None` of a mark.
+    fn ends(&self, row: &EventRow) -> Option<(Option<Party>, Option<Party>)> {
         match row.way {
-            Way::Mark => write!(text, ", at {}", self.lifelines.name(row.at)),
-            Way::FromEdge => write!(text, ", from a stranger to {}", self.lifelines.name(row.at)),
-            Way::Arrow(frame) => match self.selection.picture.message(frame) {
-                Some(message) => self.write_message(message, text),
-                None => Ok(()),
-            },
+            Way::Mark => None,
+            Way::FromEdge => Some((None, row.at)),
+            Way::Arrow(frame) => {
+                let message = self.selection.picture.message(frame)?;
+                Some((message.from, Some(message.to)))
+            }
         }
     }
 
-    fn write_message(&self, message: &Message, text: &mut String) -> Result<(), AllocError> {
-        let from = self.lifelines.name(message.from);
-        let to = self.lifelines.name(Some(message.to));
+    fn write_ends(&self, from: Option<Party>, to: Option<Party>, text: &mut String) -> Written {
+        let (from, to) = (self.lifelines.name(from), self.lifelines.name(to));
         write!(text, ", from {from} to {to}")
     }
 
     /// Writes the arrow or the mark of a row.
-    fn write_way(
-        &self,
-        row: &EventRow,
-        y: usize,
-        label: &str,
-        text: &mut String,
-    ) -> Result<(), AllocError> {
+    fn write_way(&self, row: &EventRow, y: usize, label: &str, text: &mut String) -> Written {
         let stroke = self.stroke(row);
-        let at = self.x(row.at);
-        match row.way {
-            Way::Mark => write_mark(at, y, stroke, label, text),
-            Way::FromEdge => {
-                let from = self.edge;
-                Arrow {
-                    from,
-                    to: at,
-                    y,
-                    stroke,
-                }
-                .write(label, text)
-            }
-            Way::Arrow(frame) => match self.selection.picture.message(frame) {
-                Some(message) => self.arrow(message, y, stroke).write(label, text),
-                None => Ok(()),
-            },
+        match self.ends(row) {
+            Some((from, to)) => self.arrow(from, to, y, stroke).write(label, text),
+            None => write_mark(self.x(row.at), y, stroke, label, text),
         }
     }
 
@@ -351,25 +283,15 @@ impl<'a> Chart<'a> {
         label: &mut String,
         text: &mut String,
     ) -> Result<usize, AllocError> {
-        let Selection {
-            picture,
-            is_delivered,
-            ..
-        } = self.selection;
         let mut top = top;
         for count in row.before..row.after {
-            let frame = count.saturating_add(1);
-            if let (Some(false), Some(message)) = (
-                is_delivered.get(count as usize).copied(),
-                picture.message(frame),
-            ) {
-                spell(label, LostText { picture, frame })?;
+            if let Some(&Message { from, to, .. }) = self.selection.lost(count + 1) {
+                spell(label, LostText(&self.selection.picture, count + 1))?;
                 write!(text, "<g><title>{label}")?;
-                self.write_message(message, text)?;
+                self.write_ends(from, Some(to), text)?;
                 writeln!(text, "</title><desc>lost</desc>")?;
-                let y = top.saturating_add(4);
-                self.arrow(message, y, LOST)
-                    .write_stub(label.as_str(), text)?;
+                let arrow = self.arrow(from, Some(to), top.saturating_add(4), LOST);
+                arrow.write_stub(label.as_str(), text)?;
                 writeln!(text, "</g>")?;
                 top = top.saturating_add(STUB);
             }
@@ -379,17 +301,16 @@ impl<'a> Chart<'a> {
 
     /// How a row is drawn.
     fn stroke(&self, row: &EventRow) -> Stroke {
-        stroke_of(
-            row.outcome(),
-            error_shown(&self.selection.picture, row).is_some(),
-        )
+        let error = error_shown(&self.selection.picture, row);
+        stroke_of(row.outcome(), error.is_some())
     }
 
-    /// The arrow of a message, at this height.
-    fn arrow(&self, message: &Message, y: usize, stroke: Stroke) -> Arrow {
+    /// The arrow of a message between these, at this height.
+    fn arrow(&self, from: Option<Party>, to: Option<Party>, y: usize, stroke: Stroke) -> Arrow {
+        let (from, to) = (self.x(from), self.x(to));
         Arrow {
-            from: self.x(message.from),
-            to: self.x(Some(message.to)),
+            from,
+            to,
             y,
             stroke,
         }
@@ -406,8 +327,7 @@ impl<'a> Chart<'a> {
 
 /// Writes the part of a row: its opening, with the number of its line, and then the row's text.
 fn write_part<W: Write>(line: u32, text: &str, out: &mut W) -> io::Result<()>
-    ensures { OnOk result (Appends (W.contents out.old) (W.contents out.new)
-        (opening line ++ text.now)) }
+    ensures { OnOk result (Appends (W.contents out.old) (W.contents out.new) (opening line ++ text.now)) }
 {
     write!(out, "<g><title>{line} ")?;
     out.write_all(text.as_bytes())

@@ -6,7 +6,7 @@ ghost use Rattle.ptpm_draw.specs.Picture.{drawn_in};
 ghost use Rattle.ptpm_script.specs.NetworkView.{network_value};
 
 use crate::chosen::Chosen;
-use crate::picture::Picture;
+use crate::picture::{Message, Picture};
 use ptpm_world::{EventLine, Network, Script};
 
 /// What is drawn of a script. Nothing else of it is left, so a line that is not chosen cannot be shown.
@@ -32,11 +32,9 @@ impl Selection {
         is_delivered: Vec<bool>,
         chosen: Chosen,
     ) -> Selection
-        requires { map (λ row. row.line) picture.rows.items
-            ≡ map (λ line. line.number) script.lines.items }
+        requires { map (λ row. row.line) picture.rows.items ≡ map (λ line. line.number) script.lines.items }
         ensures network { network_value result.network ≡ network_value script.network }
-        ensures lines { result.lines.items
-            ≡ filter (λ line. is_chosen chosen line.number) script.lines.items }
+        ensures lines { result.lines.items ≡ filter (λ line. is_chosen chosen line.number) script.lines.items }
         ensures picture { drawn_in result.picture ≡ chosen_of chosen (drawn_in picture) }
         ensures delivered { result.is_delivered.items ≡ is_delivered.items }
         ensures events { result.events ≡ length script.lines.items }
@@ -54,6 +52,14 @@ impl Selection {
             is_delivered,
             events,
         }
+    }
+
+    /// The message of the frame of a number, counted from 1, if no event delivered it.
+    pub(crate) fn lost(&self, frame: u32) -> Option<&Message> {
+        if *self.is_delivered.get((frame as usize).checked_sub(1)?)? {
+            return None;
+        }
+        self.picture.message(frame)
     }
 }
 

@@ -3,11 +3,12 @@
 use crate::changes::{Change, Changes};
 use crate::members::member_texts;
 use crate::party::Party;
-use crate::picture::{EventRow, Picture, Way};
+use crate::picture::{EventRow, Way};
 use crate::selection::Selection;
-use crate::words::{LabelText, LineText, LostText, OutcomeText, spell};
-use ptpm_world::{Event, Network};
+use crate::words::{LabelText, LineText, LostText, OutcomeText, Written, spell};
+use ptpm_world::Network;
 use std::alloc::{AllocError, Global};
+use std::fmt;
 
 /// From a row to the next, in the picture's units.
 const ROW: usize = 44;
@@ -19,7 +20,7 @@ pub(crate) const MEMBER: usize = 16;
 pub(crate) const STUB: usize = 22;
 
 /// The most characters of each kind of words, and what else says how large a picture is.
-#[derive(Clone, Copy, Debug)]
+#[derive(Clone, Copy, Debug, Default)]
 pub(crate) struct Sizes {
     /// Of what is written at arrows and marks.
     pub(crate) label: usize,
@@ -42,57 +43,27 @@ pub(crate) struct Sizes {
 impl Sizes {
     /// The sizes of what is drawn of a script.
     pub(crate) fn of(alloc: Global, selection: &Selection) -> Result<Sizes, AllocError> {
-        let Selection {
-            network,
-            picture,
-            ..
-        } = selection;
-        let is_delivered = selection.is_delivered.as_slice();
+        let picture = &selection.picture;
         let mut sizes = Sizes {
-            label: 0,
-            stub: 0,
-            outcome: 0,
-            line: 0,
-            name: longest_name(network),
-            height: 0,
-            has_edge: false,
-            has_overhang: false,
+            name: longest_name(&selection.network),
+            ..Sizes::default()
         };
         let mut text = String::new(alloc);
         let mut changes = Changes::of(picture);
         for (row, line) in picture.rows.iter().zip(selection.lines.as_slice()) {
-            sizes.note_row(picture, row, &line.event, &mut text)?;
+            let event = &line.event;
+            note(&mut sizes.label, LabelText(picture, row, event), &mut text)?;
+            note(&mut sizes.outcome, OutcomeText(picture, row), &mut text)?;
+            note(&mut sizes.line, LineText(row.line, event), &mut text)?;
             sizes.note_changed(alloc, changes.take(row.line))?;
-            sizes.note_lost(picture, row, is_delivered, &mut text)?;
-            sizes.note_ends(network, picture, row);
+            sizes.note_lost(selection, row, &mut text)?;
+            sizes.note_ends(selection, row);
         }
         Ok(sizes)
     }
 
-    fn note_row(
-        &mut self,
-        picture: &Picture,
-        row: &EventRow,
-        event: &Event,
-        text: &mut String,
-    ) -> Result<(), AllocError> {
-        let label = LabelText {
-            picture,
-            row,
-            event,
-        };
-        spell(text, label)?;
-        self.label = self.label.max(text.len());
-        spell(text, OutcomeText { picture, row })?;
-        self.outcome = self.outcome.max(text.len());
-        let line = row.line;
-        spell(text, LineText { line, event })?;
-        self.line = self.line.max(text.len());
-        Ok(())
-    }
-
     /// Notes how high a row is by itself, and the members that its event changed.
-    fn note_changed(&mut self, alloc: Global, change: Option<&Change>) -> Result<(), AllocError> {
+    fn note_changed(&mut self, alloc: Global, change: Option<&Change>) -> Written {
         let texts = member_texts(alloc, change)?;
         for text in texts.as_slice() {
             self.outcome = self.outcome.max(text.len());
@@ -102,21 +73,14 @@ impl Sizes {
     }
 
     /// Notes the messages of a row that no event delivered.
-    fn note_lost(
-        &mut self,
-        picture: &Picture,
-        row: &EventRow,
-        is_delivered: &[bool],
-        text: &mut String,
-    ) -> Result<(), AllocError> {
+    fn note_lost(&mut self, selection: &Selection, row: &EventRow, text: &mut String) -> Written {
         for count in row.before..row.after {
-            let frame = count.saturating_add(1);
-            if let (Some(false), Some(message)) = (
-                is_delivered.get(count as usize).copied(),
-                picture.message(frame),
-            ) {
-                spell(text, LostText { picture, frame })?;
-                self.stub = self.stub.max(text.len());
+            if let Some(message) = selection.lost(count + 1) {
+                note(
+                    &mut self.stub,
+                    LostText(&selection.picture, count + 1),
+                    text,
+                )?;
                 self.height = self.height.saturating_add(STUB);
                 self.has_overhang |= message.from == Some(message.to);
             }
@@ -125,18 +89,25 @@ impl Sizes {
     }
 
     /// Notes what reaches past the first and the last lifeline.
-    fn note_ends(&mut self, network: &Network, picture: &Picture, row: &EventRow) {
+    fn note_ends(&mut self, selection: &Selection, row: &EventRow) {
         match row.way {
             Way::FromEdge => self.has_edge = true,
             Way::Mark if row.at.is_none() => self.has_edge = true,
-            Way::Mark => self.has_overhang |= row.at == last_party(network),
+            Way::Mark => self.has_overhang |= row.at == last_party(&selection.network),
             Way::Arrow(frame) => {
-                if let Some(message) = picture.message(frame) {
+                if let Some(message) = selection.picture.message(frame) {
                     self.has_overhang |= message.from == Some(message.to);
                 }
             }
         }
     }
+}
+
+/// Notes how many characters this has, if none of its kind had more.
+fn note<T: fmt::Display + Drop>(most: &mut usize, shown: T, text: &mut String) -> Written {
+    spell(text, shown)?;
+    *most = text.len().max(*most);
+    Ok(())
 }
 
 /// How high a row is whose event changed this many members.

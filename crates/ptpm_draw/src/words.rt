@@ -11,6 +11,9 @@ use ptpm_world::Event;
 use std::alloc::AllocError;
 use std::fmt;
 
+/// Whether text was written: not if memory is refused.
+pub(crate) type Written = Result<(), AllocError>;
+
 /// An act shows a value of at most this many octets.
 const SHOWN_OCTETS: usize = 8;
 
@@ -67,11 +70,9 @@ impl fmt::Display for ActText<'_> {
         let verb = self.0.verb();
         match self.0 {
             Event::Begin(_, ask) => write!(f, "{verb} {}", AskText(ask)),
-            Event::Send(_) => f.write_str(verb),
-            Event::Resume(_, attempts) => write!(f, "{verb} {attempts}"),
-            Event::Retune(_, domain) => write!(f, "{verb} {domain}"),
-            Event::Deliver(frame) => write!(f, "{verb} {frame}"),
+            Event::Resume(_, number) | Event::Retune(_, number) => write!(f, "{verb} {number}"),
             Event::Stranger(_, port, _) => write!(f, "{verb} {port}"),
+            Event::Send(_) | Event::Deliver(_) => write!(f, "{}", VerbText(self.0)),
         }
     }
 }
@@ -94,15 +95,12 @@ impl fmt::Display for AskText<'_> {
 
 /// What became of a row's event, and by which error it was answered; that it was late, and which frames it made.
 #[derive(Clone, Copy)]
-pub(crate) struct OutcomeText<'a> {
-    pub(crate) picture: &'a Picture,
-    pub(crate) row: &'a EventRow,
-}
+pub(crate) struct OutcomeText<'a>(pub &'a Picture, pub &'a EventRow);
 
 impl fmt::Display for OutcomeText<'_> {
     fn fmt<W: fmt::Write>(&self, f: &mut fmt::Formatter<W>) -> fmt::Result {
-        let row = self.row;
-        match (row.outcome(), error_shown(self.picture, row)) {
+        let OutcomeText(picture, row) = *self;
+        match (row.outcome(), error_shown(picture, row)) {
             (EventOutcome::CarriedOut, Some(error)) => write!(f, "answered: {}", ErrorText(error))?,
             (outcome, Some(error)) => write!(f, "{outcome}: {}", ErrorText(error))?,
             (outcome, None) => write!(f, "{outcome}")?,
@@ -130,14 +128,7 @@ pub(crate) fn error_shown(picture: &Picture, row: &EventRow) -> Option<u16> {
 
 /// The first error among the messages that a row's event made.
 fn error_sent(picture: &Picture, row: &EventRow) -> Option<u16> {
-    for count in row.before..row.after {
-        if let Some(says) = picture.says(count.saturating_add(1)) {
-            if says.error.is_some() {
-                return says.error;
-            }
-        }
-    }
-    None
+    (row.before..row.after).find_map(|count| picture.says(count.saturating_add(1))?.error)
 }
 
 /// The members that an event changed, each after a comma.
@@ -185,62 +176,47 @@ impl fmt::Display for VerbText<'_> {
 
 /// The number of an event's line, and its verb.
 #[derive(Clone, Copy)]
-pub(crate) struct LineText<'a> {
-    pub(crate) line: u32,
-    pub(crate) event: &'a Event,
-}
+pub(crate) struct LineText<'a>(pub u32, pub &'a Event);
 
 impl fmt::Display for LineText<'_> {
     fn fmt<W: fmt::Write>(&self, f: &mut fmt::Formatter<W>) -> fmt::Result {
-        write!(f, "{} {}", self.line, VerbText(self.event))
+        write!(f, "{} {}", self.0, VerbText(self.1))
     }
 }
 
 /// What is written at a row's arrow or mark.
 #[derive(Clone, Copy)]
-pub(crate) struct LabelText<'a> {
-    pub(crate) picture: &'a Picture,
-    pub(crate) row: &'a EventRow,
-    pub(crate) event: &'a Event,
-}
+pub(crate) struct LabelText<'a>(pub &'a Picture, pub &'a EventRow, pub &'a Event);
 
 impl fmt::Display for LabelText<'_> {
     fn fmt<W: fmt::Write>(&self, f: &mut fmt::Formatter<W>) -> fmt::Result {
-        match (self.row.way, self.event) {
-            (Way::Arrow(frame), _) => write!(f, "{}", SaysText(self.picture.says(frame))),
+        let LabelText(picture, row, event) = *self;
+        match (row.way, event) {
+            (Way::Arrow(frame), _) => write!(f, "{}", SaysText(picture.says(frame))),
             (Way::FromEdge, Event::Stranger(_, _, octets)) => {
                 write!(f, "{}", SaysText(said_by(octets.as_slice())))
             }
-            (Way::Mark, Event::Send(_)) if self.row.before < self.row.after => {
-                let first = self.row.before.saturating_add(1);
-                write!(f, "send {}", SaysText(self.picture.says(first)))
+            (Way::Mark, Event::Send(_)) if row.before < row.after => {
+                write!(f, "send {}", SaysText(picture.says(row.before + 1)))
             }
             (_, event) => write!(f, "{}", ActText(event)),
         }
     }
 }
 
-/// A message that no event delivered.
+/// A message that no event delivered, by the number of its frame.
 #[derive(Clone, Copy)]
-pub(crate) struct LostText<'a> {
-    pub(crate) picture: &'a Picture,
-    /// The number of its frame.
-    pub(crate) frame: u32,
-}
+pub(crate) struct LostText<'a>(pub &'a Picture, pub u32);
 
 impl fmt::Display for LostText<'_> {
     fn fmt<W: fmt::Write>(&self, f: &mut fmt::Formatter<W>) -> fmt::Result {
-        let frame = self.frame;
-        write!(
-            f,
-            "frame {frame} lost: {}",
-            SaysText(self.picture.says(frame))
-        )
+        let LostText(picture, frame) = *self;
+        write!(f, "frame {frame} lost: {}", SaysText(picture.says(frame)))
     }
 }
 
 /// Makes a text of only this.
-pub(crate) fn spell<T: fmt::Display + Drop>(text: &mut String, shown: T) -> Result<(), AllocError> {
+pub(crate) fn spell<T: fmt::Display + Drop>(text: &mut String, shown: T) -> Written {
     text.clear();
     write!(text, "{shown}")
 }
