@@ -2,7 +2,7 @@
 
 ghost use Rattle.std.specs.Prelude.{◌≡◌, ◌<◌, ◌==◌, Some, length, option_map};
 ghost use Rattle.std.specs.List.{list_all};
-ghost use Rattle.ptpm_draw.specs.Changes.{change_between, change_of, is_nothing, sets_of};
+ghost use Rattle.ptpm_draw.specs.Changes.{change_of, is_nothing, sets_of};
 ghost use Rattle.ptpm_draw.specs.Party.{IsThere};
 ghost use Rattle.ptpm_draw.specs.Picture.{IsWorldOf};
 ghost use Rattle.ptpm_script.specs.NetworkView.{network_value};
@@ -90,13 +90,8 @@ pub(crate) fn change_of(
 ) -> Option<Change>
     ensures { result ≡ change_of line before (option_map (λ sets. sets.now) after.entry) }
 {
-    change_between(line, &before?, after?)
-}
-
-fn change_between(line: u32, before: &DataSets, after: &DataSets) -> Option<Change>
-    ensures { result ≡ change_between line before.now after.now }
-{
-    let members = after.changed_since(before);
+    let (before, after) = (before?, after?);
+    let members = after.changed_since(&before);
     if is_nothing(&members) {
         return None;
     }

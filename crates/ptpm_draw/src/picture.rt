@@ -1,10 +1,10 @@
 //! What a picture of a run shows: a row for each event, each message that was sent, and what changed.
 
-ghost use Rattle.std.specs.Prelude.{◌≡◌, [], ◌∷◌, ◌++◌, IfErr, IfOk, OnOk, drop, filter, length, map, option_and_then, option_map, option_to_list};
+ghost use Rattle.std.specs.Prelude.{◌≡◌, ◌++◌, IfErr, IfOk, OnOk, drop, length, map, option_and_then, option_map, option_to_list};
 ghost use Rattle.std.specs.List.{range_with_len};
 ghost use Rattle.std.specs.Option.{option_copied};
 ghost use Rattle.ptpm_codec.specs.Reading.{reading};
-ghost use Rattle.ptpm_draw.specs.Chosen.{chosen_of, is_chosen};
+ghost use Rattle.ptpm_draw.specs.Chosen.{chosen_of};
 ghost use Rattle.ptpm_draw.specs.Picture.{IsWorldOf, drawn_by, drawn_in, is_delivered, marked, marked_by, message_of, picture_of, says_in, then_drawn, way_of};
 ghost use Rattle.ptpm_network.specs.Events.{frame_at};
 ghost use Rattle.ptpm_network.specs.Network as machine;
@@ -92,30 +92,19 @@ impl Picture {
     /// to. It also keeps the messages of the frames that the event made, and what it changed at its clock. These messages are
     /// sent by the party at which the event happens.
     pub fn of(alloc: Global, script: &Script) -> Result<Picture, ScriptError>
-        ensures drawn { IfOk result
-            (λ p.
-            drawn_in p ≡ picture_of (network_value script.now.network) script.now.lines.items) }
+        ensures drawn { IfOk result (λ p. drawn_in p ≡ picture_of (network_value script.now.network) script.now.lines.items) }
         ensures memory { IfErr result (λ e. e ≡ faults.OutOfMemory) }
     {
         let mut world = World::new(alloc, &script.network)?;
-        let mut picture = Picture::empty(alloc);
+        let mut picture = Picture {
+            rows: Vec::new(alloc),
+            messages: Vec::new(alloc),
+            changes: Vec::new(alloc),
+        };
         for line in script.lines.as_slice() {
             picture.play(&script.network, &mut world, line)?;
         }
         Ok(picture)
-    }
-
-    /// Nothing is drawn yet.
-    fn empty(alloc: Global) -> Picture
-        ensures rows { result.rows.items ≡ [] }
-        ensures messages { result.messages.items ≡ [] }
-        ensures changes { result.changes.items ≡ [] }
-    {
-        Picture {
-            rows: Vec::new(alloc),
-            messages: Vec::new(alloc),
-            changes: Vec::new(alloc),
-        }
     }
 
     /// Lets an event happen, and keeps what is drawn of it.
@@ -141,19 +130,11 @@ impl Picture {
         let at = party_at(network, world, &line.event);
         let before = copy_of(sets_of(network, world, at));
         let row = play_event(world, line, at)?;
-        self.keep_row(row)?;
+        self.rows.push(row).map_err(|_| OutOfMemory)?;
         self.keep_messages(world, &row)?;
         let change = change_of(line.number, before, sets_of(network, world, at));
         self.keep_change(change)?;
         Ok(())
-    }
-
-    fn keep_row(&mut self, row: EventRow) -> Result<(), OutOfMemory>
-        ensures rows { OnOk result (self.new.rows.items ≡ self.old.rows.items ++ row ∷ []) }
-        ensures messages { self.new.messages.items ≡ self.old.messages.items }
-        ensures changes { self.new.changes.items ≡ self.old.changes.items }
-    {
-        self.rows.push(row).map_err(|_| OutOfMemory)
     }
 
     /// Keeps the messages that the event of a row made, which was the last.
@@ -197,8 +178,7 @@ impl Picture {
 
     /// Keeps what an event changed, if it changed anything.
     fn keep_change(&mut self, change: Option<Change>) -> Result<(), OutOfMemory>
-        ensures changes { OnOk result
-            (self.new.changes.items ≡ self.old.changes.items ++ option_to_list change) }
+        ensures changes { OnOk result (self.new.changes.items ≡ self.old.changes.items ++ option_to_list change) }
         ensures rows { self.new.rows.items ≡ self.old.rows.items }
         ensures messages { self.new.messages.items ≡ self.old.messages.items }
     {
@@ -212,8 +192,8 @@ impl Picture {
     pub(crate) fn choose(&mut self, chosen: Chosen)
         ensures { drawn_in self.new ≡ chosen_of chosen (drawn_in self.old) }
     {
-        choose_rows(&mut self.rows, chosen);
-        choose_changes(&mut self.changes, chosen);
+        self.rows.retain(|row| chosen.contains(row.line));
+        self.changes.retain(|change| chosen.contains(change.line));
     }
 
     /// The message of the frame of a number, counted from 1.
@@ -246,21 +226,6 @@ impl Picture {
     {
         self.message(number)?.says
     }
-}
-
-/// Keeps the rows of the lines that are chosen.
-fn choose_rows(rows: &mut Vec<EventRow>, chosen: Chosen)
-    ensures { rows.new.items ≡ filter (λ row. is_chosen chosen row.line) rows.old.items }
-{
-    rows.retain(|row| chosen.contains(row.line));
-}
-
-/// Keeps what the lines that are chosen changed.
-fn choose_changes(changes: &mut Vec<Change>, chosen: Chosen)
-    ensures { changes.new.items
-        ≡ filter (λ change. is_chosen chosen change.line) changes.old.items }
-{
-    changes.retain(|change| chosen.contains(change.line));
 }
 
 /// Notes the frame that an arrow delivers.

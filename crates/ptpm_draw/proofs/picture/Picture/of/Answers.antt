@@ -10,13 +10,13 @@ loop-line-init c =
       world = record { network = w.network; names = w.names };
       drawn = drawn-started (network_value c.args.script.now.network) c.in_ok-world.world c.args.script.now.lines.items
           c.as_slice-line-items.result.now
-          (drawn_in c.empty-picture.result)
+          (record { rows = c.new-2.result.items; messages = c.new-3.result.items; changes = c.new-4.result.items })
           c.as_slice-line-items.ensures.value
           w.network
           w.stands
-          c.empty-picture.ensures.rows
-          c.empty-picture.ensures.messages
-          c.empty-picture.ensures.changes;
+          c.new-2.ensures.items
+          c.new-3.ensures.items
+          c.new-4.ensures.items;
     }
 
 pub loop-line-preserved : goal.loop-line-preserved

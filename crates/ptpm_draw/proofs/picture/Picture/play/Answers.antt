@@ -1,8 +1,8 @@
-use Rattle.ptpm_world.proofs.Common.{◌∙◌, ◌++◌, ap, drop, length, map, described, names_of, network_value, placed, running}
+use Rattle.ptpm_world.proofs.Common.{◌∙◌, ◌++◌, ap, cond-true, is_ok, length, sym, described, names_of, network_value, placed, running}
 use Rattle.std.specs.Prelude.{option_to_list}
 use Rattle.ptpm_world.specs.Took.{after, answer}
 use Rattle.ptpm_world.specs.Trace.{is_late_event}
-use Rattle.ptpm_draw.specs.Picture.{drawn_in, message_of}
+use Rattle.ptpm_draw.specs.Picture.{drawn_in}
 use Rattle.ptpm_draw.proofs.Pictures.{change-is, event-drawn, row-is, stays}
 use Rattle.ptpm_draw.proofs.picture.Picture.play.Goals as goal
 
@@ -38,8 +38,8 @@ returns-clause-drawn c =
     is.before
     (is.after ∙ ap (λ w. length w.frames) (is.goes (described n) c.requires.network ∙ ap (λ ns. after (described n) r (placed ns line.event)) names)))
     (change-is line.number at r next c.copy_of-before.result _ c.change_of-change.result (c.copy_of-before.ensures ∙ c.sets_of.ensures) c.sets_of-2.ensures c.change_of-change.ensures)
-    (c.in_ok-keep_change.ensures.rows ∙ c.in_ok-keep_messages.ensures.rows ∙ c.in_ok-keep_row.ensures.rows)
-    (c.in_ok-keep_change.ensures.messages ∙ c.in_ok-keep_messages.ensures.messages
-    ∙ ap (λ ms. ms ++ map (message_of row.at) (drop row.before next.frames)) c.in_ok-keep_row.ensures.messages)
+    (c.in_ok-keep_change.ensures.rows ∙ c.in_ok-keep_messages.ensures.rows ∙ c.push.ensures.items
+    ∙ cond-true _ _ _ (sym c.map_err.ensures.variant ∙ ap is_ok c.in_ok-map_err.was))
+    (c.in_ok-keep_change.ensures.messages ∙ c.in_ok-keep_messages.ensures.messages)
     (c.in_ok-keep_change.ensures.changes
-    ∙ ap (λ cs. cs ++ option_to_list c.change_of-change.result) (c.in_ok-keep_messages.ensures.changes ∙ c.in_ok-keep_row.ensures.changes))
+    ∙ ap (λ cs. cs ++ option_to_list c.change_of-change.result) c.in_ok-keep_messages.ensures.changes)
