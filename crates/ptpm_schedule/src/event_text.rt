@@ -23,9 +23,7 @@ impl fmt::Display for EventText<'_> {
         match self.0 {
             Event::Begin(session, ask) => write!(f, "begin {} {}", session.as_str(), AskText(ask)),
             Event::Send(session) => write!(f, "send {}", session.as_str()),
-            Event::Resume(session, attempts) => {
-                write!(f, "resume {} {attempts}", session.as_str())
-            }
+            Event::Resume(session, count) => write!(f, "resume {} {count}", session.as_str()),
             Event::Retune(session, domain) => write!(f, "retune {} {domain}", session.as_str()),
             Event::Deliver(frame) => write!(f, "deliver {frame}"),
             Event::Stranger(clock, port, octets) => {
@@ -49,14 +47,9 @@ impl fmt::Display for AskText<'_> {
     #[tactic(auto, unfolding(crate::specs::EventText::ask_text))]
     fn fmt<W: fmt::Write>(&self, f: &mut fmt::Formatter<W>) -> fmt::Result {
         let ask = self.0;
+        let (id, port) = (IdText(ask.id), PortText(ask.port));
         let octets = Hexadecimal(ask.octets.as_slice());
-        write!(
-            f,
-            "{} {} {} {octets}",
-            word_of(ask.action),
-            IdText(ask.id),
-            PortText(ask.port)
-        )
+        write!(f, "{} {id} {port} {octets}", word_of(ask.action))
     }
 }
 

@@ -8,7 +8,7 @@ ghost use Rattle.ptpm_schedule.specs.Scheduled.{HasScheduled, IsScheduled, is_as
 
 use crate::chances::Chances;
 use crate::left_out::LeftOut;
-use crate::traffic::Traffic;
+use crate::traffic::{Gone, Traffic};
 use ptpm_world::{DIVIDER, Event, EventError, EventLine, ScriptError, World, read_script};
 use std::alloc::Global;
 use std::io;
@@ -33,8 +33,7 @@ pub fn schedule<R: Read + Drop, W: Write, E: Write>(
     err: &mut E,
 ) -> Result<(), ScriptError>
     ensures scheduled { OnOk result (IsScheduled (W.contents out.old) (W.contents out.new)) }
-    ensures read { IfSome (R.remaining reader)
-        (λ input. HasScheduled input (W.contents out.old) (W.contents out.new) result) }
+    ensures read { IfSome (R.remaining reader) (λ input. HasScheduled input (W.contents out.old) (W.contents out.new) result) }
 {
     let script = read_script(alloc, reader)?;
     judge(script.lines.as_slice())?;
@@ -53,7 +52,7 @@ fn play<W: Write, E: Write>(
     world: &mut World,
     out: &mut W,
     err: &mut E,
-) -> Result<(), ScriptError>
+) -> Gone
     ensures { Went result (asked_in lines.now) world.old world.new (W.contents out.old)
         (W.contents out.new) traffic.old.lines traffic.new.lines }
 {
@@ -90,8 +89,7 @@ fn is_asked(event: &Event) -> bool
 
 /// Writes the network file and the divider. Answers how many lines that were.
 fn write_network<W: Write>(text: &str, out: &mut W) -> io::Result<u64>
-    ensures written { OnOk result (Appends (W.contents out.old) (W.contents out.new)
-        (text.now ++ codes "%%" ++ 10 ∷ [])) }
+    ensures written { OnOk result (Appends (W.contents out.old) (W.contents out.new) (text.now ++ codes "%%" ++ 10 ∷ [])) }
     ensures counted { IfOk result (λ lines. lines ≤ count_by (λ octet. octet == 10) text.now + 1) }
 {
     writeln!(out, "{text}{DIVIDER}")?;

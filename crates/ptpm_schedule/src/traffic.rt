@@ -14,7 +14,6 @@ ghost use Rattle.ptpm_world.specs.Running.{running};
 use crate::chances::{Chances, Draws};
 use crate::event_text::EventText;
 use ptpm_codec::OutOfMemory;
-use ptpm_script::{Name, NetworkSession};
 use ptpm_world::{End, Event, Network, SCRIPT_LINES, ScriptError, StepError, Took, World};
 use std::alloc::Global;
 use std::io;
@@ -30,6 +29,9 @@ pub(crate) enum Tried {
     /// It was refused. Nothing has changed.
     Refused(StepError),
 }
+
+/// Whether the network went on as far as that.
+pub(crate) type Gone = Result<(), ScriptError>;
 
 /// How long a network goes on.
 #[derive(Clone, Copy)]
@@ -115,26 +117,15 @@ impl<'a> Traffic<'a> {
     }
 
     /// Lets the network go on until nothing is under way and no session waits.
-    pub(crate) fn finish<W: Write>(
-        &mut self,
-        world: &mut World,
-        out: &mut W,
-    ) -> Result<(), ScriptError>
-        ensures { Went result [] world.old world.new (W.contents out.old) (W.contents out.new)
-            self.old.lines self.new.lines }
+    pub(crate) fn finish<W: Write>(&mut self, world: &mut World, out: &mut W) -> Gone
+        ensures { Went result [] world.old world.new (W.contents out.old) (W.contents out.new) self.old.lines self.new.lines }
     {
         self.go_on_until(Until::Quiet, world, out)
     }
 
     /// Lets the network go on until the session at this place, if there is one, waits no more.
-    fn settle<W: Write>(
-        &mut self,
-        world: &mut World,
-        place: Option<u16>,
-        out: &mut W,
-    ) -> Result<(), ScriptError>
-        ensures { Went result [] world.old world.new (W.contents out.old) (W.contents out.new)
-            self.old.lines self.new.lines }
+    fn settle<W: Write>(&mut self, world: &mut World, place: Option<u16>, out: &mut W) -> Gone
+        ensures { Went result [] world.old world.new (W.contents out.old) (W.contents out.new) self.old.lines self.new.lines }
     {
         match place {
             Some(place) => self.go_on_until(Until::Settled(place), world, out),
@@ -143,14 +134,8 @@ impl<'a> Traffic<'a> {
     }
 
     /// Lets the network go on until then.
-    fn go_on_until<W: Write>(
-        &mut self,
-        until: Until,
-        world: &mut World,
-        out: &mut W,
-    ) -> Result<(), ScriptError>
-        ensures { Went result [] world.old world.new (W.contents out.old) (W.contents out.new)
-            self.old.lines self.new.lines }
+    fn go_on_until<W: Write>(&mut self, until: Until, world: &mut World, out: &mut W) -> Gone
+        ensures { Went result [] world.old world.new (W.contents out.old) (W.contents out.new) self.old.lines self.new.lines }
     {
         for _ in 0..u64::MAX {
             if self.has_come(until) {
@@ -170,9 +155,8 @@ impl<'a> Traffic<'a> {
     }
 
     /// Delivers one of the frames that are under way. If there are none, one of the sessions that wait sends again.
-    fn go_on<W: Write>(&mut self, world: &mut World, out: &mut W) -> Result<(), ScriptError>
-        ensures { Went result [] world.old world.new (W.contents out.old) (W.contents out.new)
-            self.old.lines self.new.lines }
+    fn go_on<W: Write>(&mut self, world: &mut World, out: &mut W) -> Gone
+        ensures { Went result [] world.old world.new (W.contents out.old) (W.contents out.new) self.old.lines self.new.lines }
     {
         if !self.under_way.is_empty() {
             let place = self.draws.place(self.under_way.len());
@@ -188,14 +172,8 @@ impl<'a> Traffic<'a> {
     }
 
     /// Delivers a frame. The session that it answers waits no more.
-    fn deliver<W: Write>(
-        &mut self,
-        world: &mut World,
-        frame: u32,
-        out: &mut W,
-    ) -> Result<(), ScriptError>
-        ensures { Went result [] world.old world.new (W.contents out.old) (W.contents out.new)
-            self.old.lines self.new.lines }
+    fn deliver<W: Write>(&mut self, world: &mut World, frame: u32, out: &mut W) -> Gone
+        ensures { Went result [] world.old world.new (W.contents out.old) (W.contents out.new) self.old.lines self.new.lines }
     {
         let tried = self.happen(world, &Event::Deliver(frame), out)?;
         if let Tried::Happened(Took::Answered) = tried {
@@ -205,14 +183,8 @@ impl<'a> Traffic<'a> {
     }
 
     /// Lets the session at a place send. If it may not, it waits no more.
-    fn send<W: Write>(
-        &mut self,
-        world: &mut World,
-        session: u16,
-        out: &mut W,
-    ) -> Result<(), ScriptError>
-        ensures { Went result [] world.old world.new (W.contents out.old) (W.contents out.new)
-            self.old.lines self.new.lines }
+    fn send<W: Write>(&mut self, world: &mut World, session: u16, out: &mut W) -> Gone
+        ensures { Went result [] world.old world.new (W.contents out.old) (W.contents out.new) self.old.lines self.new.lines }
     {
         let tried = self.try_send(world, session, out)?;
         if let Tried::Refused(_) = tried {
@@ -228,8 +200,7 @@ impl<'a> Traffic<'a> {
         session: u16,
         out: &mut W,
     ) -> Result<Tried, ScriptError>
-        ensures { Went result [] world.old world.new (W.contents out.old) (W.contents out.new)
-            self.old.lines self.new.lines }
+        ensures { Went result [] world.old world.new (W.contents out.old) (W.contents out.new) self.old.lines self.new.lines }
     {
         let Some(listed) = self.network.sessions().get(session as usize) else {
             return Ok(Tried::Refused(StepError::NoSuchName));
@@ -269,26 +240,16 @@ impl<'a> Traffic<'a> {
         ensures { self.new.lines ≡ self.old.lines }
     {
         for sent in before..after {
-            draw_frame(&mut self.under_way, &mut self.draws, self.chances, sent + 1)?;
+            if self.draws.happens(self.chances.loss) {
+                continue;
+            }
+            self.under_way.push(sent + 1).map_err(|_| OutOfMemory)?;
+            if self.draws.happens(self.chances.repeat) {
+                self.under_way.push(sent + 1).map_err(|_| OutOfMemory)?;
+            }
         }
         Ok(())
     }
-}
-
-/// Draws whether a frame is under way, and whether twice.
-fn draw_frame(
-    under_way: &mut Vec<u32>,
-    draws: &mut Draws,
-    chances: Chances,
-    frame: u32,
-) -> Result<(), OutOfMemory> {
-    if !draws.happens(chances.loss) {
-        under_way.push(frame).map_err(|_| OutOfMemory)?;
-        if draws.happens(chances.repeat) {
-            under_way.push(frame).map_err(|_| OutOfMemory)?;
-        }
-    }
-    Ok(())
 }
 
 /// The session at a place waits no more.
@@ -305,8 +266,7 @@ fn leave_reached(waiting: &mut Vec<u16>, world: &World, frame: u32) {
 
 /// Writes the line of an event.
 fn write_line<W: Write>(event: &Event, out: &mut W) -> io::Result<()>
-    ensures { OnOk result (Appends (W.contents out.old) (W.contents out.new)
-        (event_text event.now ++ 10 ∷ [])) }
+    ensures { OnOk result (Appends (W.contents out.old) (W.contents out.new) (event_text event.now ++ 10 ∷ [])) }
 {
     writeln!(out, "{}", EventText(event))
 }
@@ -352,14 +312,10 @@ fn is_late(world: &World, event: &Event) -> bool
 /// The place of the session that an event names.
 fn place_of(network: &Network, event: &Event) -> Option<u16> {
     let name = match event {
-        Event::Begin(name, _) | Event::Resume(name, _) | Event::Retune(name, _) => name,
+        Event::Begin(name, _) | Event::Resume(name, _) | Event::Retune(name, _) => name.as_str(),
         _ => return None,
     };
     let sessions = network.sessions();
-    let place = sessions.iter().position(|session| is_named(session, name))?;
+    let place = sessions.iter().position(|it| it.name.as_str() == name)?;
     u16::try_from(place).ok()
-}
-
-fn is_named(session: &NetworkSession, name: &Name) -> bool {
-    session.name.as_str() == name.as_str()
 }
