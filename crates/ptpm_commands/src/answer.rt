@@ -15,7 +15,7 @@ ghost use Rattle.ptpm_table.specs.Managers.{IsFresh, clock_with};
 ghost use Rattle.ptpm_world.specs.Lines.{whole_lines};
 
 use crate::clock::{admit_manager, fresh_clock};
-use crate::faults::Fault;
+use crate::faults::{Done, Fault};
 use crate::lines::Lines;
 use ptpm_agent::Agent;
 use ptpm_script::Hexadecimal;
@@ -27,10 +27,9 @@ use std::io::{Read, Write};
 /// Prints a line for each message that the clock sends for the datagram that the text spells in hexadecimal: its port and its
 /// octets. Prints `nothing` if it sends none.
 #[inline(never)]
-pub fn answer<O: Write>(alloc: Global, text: &str, out: &mut O) -> Result<(), Fault>
+pub fn answer<O: Write>(alloc: Global, text: &str, out: &mut O) -> Done
     ensures answered { OnOk result (IsAnswered text.now (O.contents out.old) (O.contents out.new)) }
-    ensures fault { IfErr result
-        (λ e. is_outside e ≡ false → (e ≡ Fault.BadHex) × IsErr (decode_of text.now)) }
+    ensures fault { IfErr result (λ e. is_outside e ≡ false → (e ≡ Fault.BadHex) × IsErr (decode_of text.now)) }
 {
     let datagram = hex::decode(alloc, text)?;
     answer_one(datagram.as_slice(), out)
@@ -38,9 +37,8 @@ pub fn answer<O: Write>(alloc: Global, text: &str, out: &mut O) -> Result<(), Fa
 
 /// Lets a fresh clock answer one datagram.
 #[inline(never)]
-fn answer_one<O: Write>(datagram: &[u8], out: &mut O) -> Result<(), Fault>
-    ensures answered { OnOk result (Appends (O.contents out.old) (O.contents out.new)
-        (answered_first datagram.now)) }
+fn answer_one<O: Write>(datagram: &[u8], out: &mut O) -> Done
+    ensures answered { OnOk result (Appends (O.contents out.old) (O.contents out.new) (answered_first datagram.now)) }
     ensures fault { IfErr result (λ e. e ≡ Fault.WriteFault) }
 {
     answer_once(fresh_clock(), datagram, out)
@@ -48,18 +46,13 @@ fn answer_one<O: Write>(datagram: &[u8], out: &mut O) -> Result<(), Fault>
 
 /// Gives a fresh clock its manager, and lets it answer one datagram.
 #[inline(never)]
-fn answer_once<O: Write>(
-    mut clock: Agent<BoundTable>,
-    datagram: &[u8],
-    out: &mut O,
-) -> Result<(), Fault>
+fn answer_once<O: Write>(mut clock: Agent<BoundTable>, datagram: &[u8], out: &mut O) -> Done
     requires sets { clock.sets ≡ fresh_sets }
     requires table { IsFresh shown []
         (⟦<BoundTable as ReplyTable>⟧.owner clock.table)
         (⟦<BoundTable as ReplyTable>⟧.entries clock.table) }
     requires port { HasPort 1 clock.sets }
-    ensures answered { OnOk result (Appends (O.contents out.old) (O.contents out.new)
-        (answered_first datagram.now)) }
+    ensures answered { OnOk result (Appends (O.contents out.old) (O.contents out.new) (answered_first datagram.now)) }
     ensures fault { IfErr result (λ e. e ≡ Fault.WriteFault) }
 {
     admit_manager(&mut clock);
@@ -69,11 +62,7 @@ fn answer_once<O: Write>(
 /// The same for each line of a reader in turn, all of them at one clock. A line that is `nothing` is passed over. What is printed
 /// is flushed before a line that is not at hand.
 #[inline(never)]
-pub fn answer_lines<R: Read + Drop, O: Write>(
-    alloc: Global,
-    reader: R,
-    out: &mut O,
-) -> Result<(), Fault>
+pub fn answer_lines<R: Read + Drop, O: Write>(alloc: Global, reader: R, out: &mut O) -> Done
     ensures lines { IfSome (R.remaining reader)
         (λ octets.
         HasNumbers octets
@@ -88,11 +77,7 @@ pub fn answer_lines<R: Read + Drop, O: Write>(
 
 /// Lets a fresh clock answer the datagram of each line that is left.
 #[inline(never)]
-fn answer_rest<R: Read + Drop, O: Write>(
-    alloc: Global,
-    lines: &mut Lines<R>,
-    out: &mut O,
-) -> Result<(), Fault>
+fn answer_rest<R: Read + Drop, O: Write>(alloc: Global, lines: &mut Lines<R>, out: &mut O) -> Done
     ensures lines { IfSome (left_in R.remaining lines.old)
         (λ octets.
         HasNumbers octets
@@ -111,7 +96,7 @@ fn answer_each<R: Read + Drop, O: Write>(
     alloc: Global,
     lines: &mut Lines<R>,
     out: &mut O,
-) -> Result<(), Fault>
+) -> Done
     requires sets { clock.sets ≡ fresh_sets }
     requires table { IsFresh shown []
         (⟦<BoundTable as ReplyTable>⟧.owner clock.table)
@@ -140,15 +125,10 @@ fn answer_each<R: Read + Drop, O: Write>(
 
 /// Lets the clock take its turn at a datagram at its port 1, and prints what it sends.
 #[inline(never)]
-fn answer_datagram<O: Write>(
-    clock: &mut Agent<BoundTable>,
-    datagram: &[u8],
-    out: &mut O,
-) -> Result<(), Fault>
+fn answer_datagram<O: Write>(clock: &mut Agent<BoundTable>, datagram: &[u8], out: &mut O) -> Done
     requires port { HasPort 1 clock.old.sets }
     ensures clock { clock_shown clock.new ≡ clock_shown clock.old }
-    ensures state { state_shown clock.new
-        ≡ (turn (clock_shown clock.old) (state_shown clock.old) 1 datagram.now).next }
+    ensures state { state_shown clock.new ≡ (turn (clock_shown clock.old) (state_shown clock.old) 1 datagram.now).next }
     ensures port { HasPort 1 clock.new.sets }
     ensures answered { OnOk result (Appends (O.contents out.old) (O.contents out.new)
         (answered (clock_shown clock.old) (state_shown clock.old) datagram.now)) }
@@ -162,8 +142,7 @@ fn answer_datagram<O: Write>(
 
 /// A line for each message of an outbox; `nothing` if it has none.
 fn write_messages<O: Write>(outbox: &Outbox, out: &mut O) -> io::Result<()>
-    ensures { OnOk result (Appends (O.contents out.old) (O.contents out.new)
-        (sent_lines outbox.now)) }
+    ensures { OnOk result (Appends (O.contents out.old) (O.contents out.new) (sent_lines outbox.now)) }
 {
     let entries = outbox.entries();
     if entries.is_empty() {
@@ -176,8 +155,7 @@ fn write_messages<O: Write>(outbox: &Outbox, out: &mut O) -> io::Result<()>
 }
 
 fn write_message<O: Write>(port: u16, message: &[u8], out: &mut O) -> io::Result<()>
-    ensures { OnOk result (Appends (O.contents out.old) (O.contents out.new)
-        (sent_line (port, message.now))) }
+    ensures { OnOk result (Appends (O.contents out.old) (O.contents out.new) (sent_line (port, message.now))) }
 {
     writeln!(out, "{port} {}", Hexadecimal(message))
 }

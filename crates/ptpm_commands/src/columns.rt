@@ -20,8 +20,7 @@ pub(crate) struct Row<'a> {
 pub(crate) fn row_of<'a>(alloc: Global, line: &'a str) -> Result<Row<'a>, Fault>
     ensures ok { IfOk result
         (λ row. IsRow line.now (map (λ c. c.now) row.columns.items) (option_map (λ v. v.items) row.datagram)) }
-    ensures err { IfErr result
-        (λ e. (e ≡ Fault.OutOfMemory) ⊎ ((e ≡ Fault.BadHex) × HasNoDatagram line.now)) }
+    ensures err { IfErr result (λ e. (e ≡ Fault.OutOfMemory) ⊎ ((e ≡ Fault.BadHex) × HasNoDatagram line.now)) }
 {
     let (columns, digits) = cells(alloc, line)?;
     let datagram = datagram_of(alloc, digits)?;

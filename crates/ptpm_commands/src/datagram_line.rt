@@ -13,8 +13,7 @@ use std::alloc::Global;
 /// what should be its digits are none.
 pub(crate) fn datagram_of(alloc: Global, line: &str) -> Result<Option<Vec<u8>>, Fault>
     ensures ok { IfOk result (λ d. datagram_of line.now ≡ Ok (option_map (λ v. v.items) d)) }
-    ensures err { IfErr result
-        (λ e. (e ≡ Fault.OutOfMemory) ⊎ ((e ≡ Fault.BadHex) × IsErr (datagram_of line.now))) }
+    ensures err { IfErr result (λ e. (e ≡ Fault.OutOfMemory) ⊎ ((e ≡ Fault.BadHex) × IsErr (datagram_of line.now))) }
 {
     let Some(digits) = digits_of(line) else {
         return Ok(None);
@@ -86,13 +85,7 @@ fn after_port(line: &str) -> &str
     ensures { result.now ≡ after_port line.now }
 {
     match line.split_once(' ') {
-        Some((port, rest)) => {
-            if decimal_u16(port).is_some() {
-                rest
-            } else {
-                line
-            }
-        }
-        None => line,
+        Some((port, rest)) if decimal_u16(port).is_some() => rest,
+        _ => line,
     }
 }

@@ -54,6 +54,9 @@ pub enum Fault {
     WriteFault,
 }
 
+/// Whether a command was done.
+pub type Done = Result<(), Fault>;
+
 /// What is wrong with a line.
 #[derive(Clone, Copy, Debug, PartialEq, Eq, Error)]
 pub enum LineFault {

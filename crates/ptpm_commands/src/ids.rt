@@ -37,8 +37,7 @@ fn write_id<O: Write>(id: u16, out: &mut O) -> io::Result<()>
 /// are permitted.
 #[tactic(auto, unfolding(crate::specs::Ids::row_line))]
 fn write_row<O: Write>(row: &ManagementIdRow, out: &mut O) -> io::Result<()>
-    ensures { OnOk result (Appends (O.contents out.old) (O.contents out.new)
-        (row_line (row_value row.now))) }
+    ensures { OnOk result (Appends (O.contents out.old) (O.contents out.new) (row_line (row_value row.now))) }
 {
     let id = Hexadecimal(&row.id.to_be_bytes());
     let scope = scope_text(row.scope);

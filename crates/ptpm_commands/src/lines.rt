@@ -23,14 +23,11 @@ pub struct Lines<R> {
 impl<R: Read + Drop> Lines<R> {
     /// The lines of a reader. Takes the memory for one line and for the reader's buffer.
     pub fn new(alloc: Global, reader: R) -> Result<Lines<R>, Fault>
-        ensures octets { IfOk result
-            (λ l. IfSome (R.remaining reader) (λ octets. left_in R.remaining l ≡ Some octets)) }
+        ensures octets { IfOk result (λ l. IfSome (R.remaining reader) (λ octets. left_in R.remaining l ≡ Some octets)) }
         ensures fault { IfErr result (λ e. is_outside e ≡ true) }
     {
-        match LineReader::new(alloc, reader) {
-            Ok(reader) => Ok(Lines { reader }),
-            Err(_) => Err(Fault::OutOfMemory),
-        }
+        let reader = LineReader::new(alloc, reader).map_err(|_| Fault::OutOfMemory)?;
+        Ok(Lines { reader })
     }
 
     /// Reads the next line, which has this number; false if there are no more. The line that was read before is gone.
@@ -43,9 +40,7 @@ impl<R: Read + Drop> Lines<R> {
             ReadsNext (left_in R.remaining self.old) more
             (latest_line self.new) (left_in R.remaining self.new)) }
         ensures line { IfErr result (λ e. IsAtLine number e) }
-        ensures fault { IfErr result
-            (λ e.
-            FailsNext number (left_in R.remaining self.old) (left_in R.remaining self.new) e) }
+        ensures fault { IfErr result (λ e. FailsNext number (left_in R.remaining self.old) (left_in R.remaining self.new) e) }
     {
         match self.reader.read() {
             Ok(more) => Ok(more),
@@ -68,11 +63,9 @@ impl<R: Read + Drop> Lines<R> {
 
     /// The columns and the datagram of the line that was read last, which has this number.
     pub(crate) fn row(&self, alloc: Global, number: u64) -> Result<Row<'_>, Fault>
-        ensures row { IfOk result
-            (λ row. row_in number (latest_line self.now) ≡ Ok (row_value row)) }
+        ensures row { IfOk result (λ row. row_in number (latest_line self.now) ≡ Ok (row_value row)) }
         ensures line { IfErr result (λ e. IsAtLine number e) }
-        ensures fault { IfErr result
-            (λ e. (is_outside e ≡ true) ⊎ (row_in number (latest_line self.now) ≡ Err e)) }
+        ensures fault { IfErr result (λ e. (is_outside e ≡ true) ⊎ (row_in number (latest_line self.now) ≡ Err e)) }
     {
         let line = self.text(number)?;
         match row_of(alloc, line) {
@@ -83,11 +76,9 @@ impl<R: Read + Drop> Lines<R> {
 
     /// The datagram of the line that was read last, which has this number; `None` if the line is `nothing`.
     pub fn datagram(&self, alloc: Global, number: u64) -> Result<Option<Vec<u8>>, Fault>
-        ensures datagram { IfOk result
-            (λ d. datagram_in number (latest_line self.now) ≡ Ok (option_map (λ v. v.items) d)) }
+        ensures datagram { IfOk result (λ d. datagram_in number (latest_line self.now) ≡ Ok (option_map (λ v. v.items) d)) }
         ensures line { IfErr result (λ e. IsAtLine number e) }
-        ensures fault { IfErr result
-            (λ e. (is_outside e ≡ true) ⊎ (datagram_in number (latest_line self.now) ≡ Err e)) }
+        ensures fault { IfErr result (λ e. (is_outside e ≡ true) ⊎ (datagram_in number (latest_line self.now) ≡ Err e)) }
     {
         let line = self.text(number)?;
         match datagram_of(alloc, line) {

@@ -40,8 +40,7 @@ pub struct RequestWords<'a> {
 pub fn make<O: Write>(alloc: Global, words: &RequestWords<'_>, out: &mut O) -> Result<(), Fault>
     ensures made { OnOk result (IsMade words.now (O.contents out.old) (O.contents out.new)) }
     ensures fault { IfErr result (λ e. is_outside e ≡ false → asked words.now ≡ Err e) }
-    ensures unprinted { IfErr result
-        (λ e. e ≢ Fault.WriteFault → O.contents out.new ≡ O.contents out.old) }
+    ensures unprinted { IfErr result (λ e. e ≢ Fault.WriteFault → O.contents out.new ≡ O.contents out.old) }
 {
     let (action, id) = action_and_id(words)?;
     let octets = hex::decode(alloc, words.value)?;
@@ -60,8 +59,7 @@ pub fn make_with_members<O: Write>(
 ) -> Result<(), Fault>
     ensures made { OnOk result (IsMadeOf (asked_with words.now (map (λ m. m.now) members.now)) (O.contents out.old) (O.contents out.new)) }
     ensures fault { IfErr result (λ e. is_outside e ≡ false → asked_with words.now (map (λ m. m.now) members.now) ≡ Err e) }
-    ensures unprinted { IfErr result
-        (λ e. e ≢ Fault.WriteFault → O.contents out.new ≡ O.contents out.old) }
+    ensures unprinted { IfErr result (λ e. e ≢ Fault.WriteFault → O.contents out.new ≡ O.contents out.old) }
 {
     let (action, id) = action_and_id(words)?;
     let said = words_of_members(alloc, members)?;
@@ -116,8 +114,7 @@ fn print_request<O: Write>(
     requires { IsRequestAction action }
     ensures made { OnOk result (IsMadeOf (request_of words.now action id octets.now) (O.contents out.old) (O.contents out.new)) }
     ensures fault { IfErr result (λ e. is_outside e ≡ false → request_of words.now action id octets.now ≡ Err e) }
-    ensures unprinted { IfErr result
-        (λ e. e ≢ Fault.WriteFault → O.contents out.new ≡ O.contents out.old) }
+    ensures unprinted { IfErr result (λ e. e ≢ Fault.WriteFault → O.contents out.new ≡ O.contents out.old) }
 {
     let request = request_of(words, action, id, octets)?;
     let mut buffer = ArrayVec::new();

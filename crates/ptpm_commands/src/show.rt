@@ -12,7 +12,7 @@ ghost use Rattle.ptpm_commands.specs.Taken.{HasNumbers, HasTaken, IsNext, ShowsN
 ghost use Rattle.ptpm_commands.specs.Show.{AreShown, IsShown, action_lines, body_lines, column_lines, data_lines, error_named, field_lines, header_lines, identity_lines, message_lines, message_of, name_or_dash, named_line, object_line, read_as, row_lines, sdo_line, value_lines};
 
 use crate::columns::Row;
-use crate::faults::{Fault, tell};
+use crate::faults::{Done, Fault, tell};
 use crate::lines::Lines;
 use ptpm_codec::{ErrorId, View, view};
 use ptpm_members::{FieldText, id_name};
@@ -34,23 +34,19 @@ pub enum Values {
 }
 
 /// Prints the message that the text spells in hexadecimal, its dataField by its octets.
-pub fn show<O: Write>(alloc: Global, text: &str, out: &mut O) -> Result<(), Fault>
-    ensures shown { OnOk result
-        (IsShown Values.Octets [] (message_of text.now) (O.contents out.old) (O.contents out.new)) }
+pub fn show<O: Write>(alloc: Global, text: &str, out: &mut O) -> Done
+    ensures shown { OnOk result (IsShown Values.Octets [] (message_of text.now) (O.contents out.old) (O.contents out.new)) }
     ensures fault { IfErr result (λ e. is_outside e ≡ false → message_of text.now ≡ Err e) }
-    ensures unprinted { IfErr result
-        (λ e. e ≢ Fault.WriteFault → O.contents out.new ≡ O.contents out.old) }
+    ensures unprinted { IfErr result (λ e. e ≢ Fault.WriteFault → O.contents out.new ≡ O.contents out.old) }
 {
     show_as(alloc, Values::Octets, text, out)
 }
 
 /// Prints the message that the text spells in hexadecimal.
-pub fn show_as<O: Write>(alloc: Global, form: Values, text: &str, out: &mut O) -> Result<(), Fault>
-    ensures shown { OnOk result
-        (IsShown form [] (message_of text.now) (O.contents out.old) (O.contents out.new)) }
+pub fn show_as<O: Write>(alloc: Global, form: Values, text: &str, out: &mut O) -> Done
+    ensures shown { OnOk result (IsShown form [] (message_of text.now) (O.contents out.old) (O.contents out.new)) }
     ensures fault { IfErr result (λ e. is_outside e ≡ false → message_of text.now ≡ Err e) }
-    ensures unprinted { IfErr result
-        (λ e. e ≢ Fault.WriteFault → O.contents out.new ≡ O.contents out.old) }
+    ensures unprinted { IfErr result (λ e. e ≢ Fault.WriteFault → O.contents out.new ≡ O.contents out.old) }
 {
     let datagram = hex::decode(alloc, text)?;
     show_datagram(alloc, form, &[], datagram.as_slice(), out)
@@ -58,18 +54,13 @@ pub fn show_as<O: Write>(alloc: Global, form: Values, text: &str, out: &mut O) -
 
 /// Prints the message of each line of a reader, one after another, each dataField by its octets. A line that is `nothing` is
 /// passed over; the first that holds no management message is a fault.
-pub fn show_lines<R: Read + Drop, O: Write>(
-    alloc: Global,
-    reader: R,
-    out: &mut O,
-) -> Result<(), Fault>
+pub fn show_lines<R: Read + Drop, O: Write>(alloc: Global, reader: R, out: &mut O) -> Done
     ensures lines { IfSome (R.remaining reader)
         (λ octets.
         HasNumbers octets
         → HasTaken (flat_map (row_lines Values.Octets)) (taken line_message 1 (whole_lines octets))
         (O.contents out.old) (O.contents out.new) result) }
-    ensures shown { OnOk result
-        (AreShown Values.Octets (O.contents out.old) (O.contents out.new)) }
+    ensures shown { OnOk result (AreShown Values.Octets (O.contents out.old) (O.contents out.new)) }
     ensures fault { IfErr result (λ e. IsAtSomeLine e) }
 {
     show_lines_as(alloc, Values::Octets, reader, out)
@@ -82,7 +73,7 @@ pub fn show_lines_as<R: Read + Drop, O: Write>(
     form: Values,
     reader: R,
     out: &mut O,
-) -> Result<(), Fault>
+) -> Done
     ensures lines { IfSome (R.remaining reader)
         (λ octets.
         HasNumbers octets
@@ -107,15 +98,14 @@ pub fn show_good_lines<R: Read + Drop, O: Write, E: Write>(
     reader: R,
     out: &mut O,
     err: &mut E,
-) -> Result<(), Fault>
+) -> Done
     ensures lines { OnOk result
         (IfSome (R.remaining reader)
         (λ octets.
         HasNumbers octets
         → Appends (O.contents out.old) (O.contents out.new)
         (flat_map (row_lines Values.Octets) (good line_message 1 (whole_lines octets))))) }
-    ensures shown { OnOk result
-        (AreShown Values.Octets (O.contents out.old) (O.contents out.new)) }
+    ensures shown { OnOk result (AreShown Values.Octets (O.contents out.old) (O.contents out.new)) }
     ensures fault { IfErr result (λ e. is_outside e ≡ true) }
 {
     show_good_lines_as(alloc, Values::Octets, reader, out, err)
@@ -128,7 +118,7 @@ pub fn show_good_lines_as<R: Read + Drop, O: Write, E: Write>(
     reader: R,
     out: &mut O,
     err: &mut E,
-) -> Result<(), Fault>
+) -> Done
     ensures lines { OnOk result
         (IfSome (R.remaining reader)
         (λ octets.
@@ -171,8 +161,7 @@ fn show_next<R: Read + Drop, O: Write>(
         (is_outside e ≡ true)
         ⊎ IsNext line_message number (left_in R.remaining lines.old) (left_in R.remaining lines.new) (Err e)) }
     ensures line { IfErr result (λ e. IsAtLine number e) }
-    ensures unprinted { IfErr result
-        (λ e. is_of_line e ≡ true → O.contents out.new ≡ O.contents out.old) }
+    ensures unprinted { IfErr result (λ e. is_of_line e ≡ true → O.contents out.new ≡ O.contents out.old) }
 {
     if !lines.read(number)? {
         return Ok(false);
@@ -184,20 +173,11 @@ fn show_next<R: Read + Drop, O: Write>(
 }
 
 /// Prints the message of the line of this number, if it has one. A fault of the line names it.
-fn show_row<O: Write>(
-    alloc: Global,
-    number: u64,
-    form: Values,
-    row: &Row<'_>,
-    out: &mut O,
-) -> Result<(), Fault>
-    ensures shown { OnOk result
-        (ShowsRow form number (row_value row.now) (O.contents out.old) (O.contents out.new)) }
-    ensures fault { IfErr result
-        (λ e. (is_outside e ≡ true) ⊎ (message_of_row number (Ok (row_value row.now)) ≡ Err e)) }
+fn show_row<O: Write>(alloc: Global, number: u64, form: Values, row: &Row<'_>, out: &mut O) -> Done
+    ensures shown { OnOk result (ShowsRow form number (row_value row.now) (O.contents out.old) (O.contents out.new)) }
+    ensures fault { IfErr result (λ e. (is_outside e ≡ true) ⊎ (message_of_row number (Ok (row_value row.now)) ≡ Err e)) }
     ensures line { IfErr result (λ e. IsAtLine number e) }
-    ensures unprinted { IfErr result
-        (λ e. is_of_line e ≡ true → O.contents out.new ≡ O.contents out.old) }
+    ensures unprinted { IfErr result (λ e. is_of_line e ≡ true → O.contents out.new ≡ O.contents out.old) }
 {
     let Some(datagram) = &row.datagram else {
         return Ok(());
@@ -220,13 +200,11 @@ fn show_datagram<O: Write>(
     columns: &[&str],
     datagram: &[u8],
     out: &mut O,
-) -> Result<(), Fault>
+) -> Done
     ensures shown { OnOk result
         (IsShown form (map (λ c. c.now) columns.now) (read_as (reading datagram.now)) (O.contents out.old) (O.contents out.new)) }
-    ensures fault { IfErr result
-        (λ e. is_outside e ≡ false → read_as (reading datagram.now) ≡ Err e) }
-    ensures unprinted { IfErr result
-        (λ e. e ≢ Fault.WriteFault → O.contents out.new ≡ O.contents out.old) }
+    ensures fault { IfErr result (λ e. is_outside e ≡ false → read_as (reading datagram.now) ≡ Err e) }
+    ensures unprinted { IfErr result (λ e. e ≢ Fault.WriteFault → O.contents out.new ≡ O.contents out.old) }
 {
     let message = view(datagram)?;
     show_message(alloc, form, columns, &message, out)?;
@@ -239,13 +217,12 @@ fn show_message<O: Write>(
     columns: &[&str],
     message: &View<'_>,
     out: &mut O,
-) -> Result<(), Fault>
+) -> Done
     requires { message.now.sdo ≤ 4095 }
     ensures shown { OnOk result (Appends (O.contents out.old) (O.contents out.new)
         (message_lines form (map (λ c. c.now) columns.now) message.now)) }
     ensures fault { IfErr result (λ e. is_outside e ≡ true) }
-    ensures unprinted { IfErr result
-        (λ e. e ≢ Fault.WriteFault → O.contents out.new ≡ O.contents out.old) }
+    ensures unprinted { IfErr result (λ e. e ≢ Fault.WriteFault → O.contents out.new ≡ O.contents out.old) }
 {
     match form {
         Values::Octets => show_fields(Values::Octets, columns, message, out),
@@ -255,17 +232,11 @@ fn show_message<O: Write>(
 }
 
 /// Prints a message as one object of JSON, in a line.
-fn show_object<O: Write>(
-    alloc: Global,
-    columns: &[&str],
-    message: &View<'_>,
-    out: &mut O,
-) -> Result<(), Fault>
+fn show_object<O: Write>(alloc: Global, columns: &[&str], message: &View<'_>, out: &mut O) -> Done
     ensures shown { OnOk result (Appends (O.contents out.old) (O.contents out.new)
         (object_line (map (λ c. c.now) columns.now) message.now)) }
     ensures fault { IfErr result (λ e. is_outside e ≡ true) }
-    ensures unprinted { IfErr result
-        (λ e. e ≢ Fault.WriteFault → O.contents out.new ≡ O.contents out.old) }
+    ensures unprinted { IfErr result (λ e. e ≢ Fault.WriteFault → O.contents out.new ≡ O.contents out.old) }
 {
     let text = message_text(alloc, columns, message)?;
     writeln!(out, "{}", text.as_str())?;
@@ -273,18 +244,12 @@ fn show_object<O: Write>(
 }
 
 /// Prints columns, and the fields of a message, a line each.
-fn show_fields<O: Write>(
-    form: Values,
-    columns: &[&str],
-    message: &View<'_>,
-    out: &mut O,
-) -> Result<(), Fault>
+fn show_fields<O: Write>(form: Values, columns: &[&str], message: &View<'_>, out: &mut O) -> Done
     requires { message.now.sdo ≤ 4095 }
     ensures shown { OnOk result (Appends (O.contents out.old) (O.contents out.new)
         (field_lines form (map (λ c. c.now) columns.now) message.now)) }
     ensures fault { IfErr result (λ e. is_outside e ≡ true) }
-    ensures unprinted { IfErr result
-        (λ e. e ≢ Fault.WriteFault → O.contents out.new ≡ O.contents out.old) }
+    ensures unprinted { IfErr result (λ e. e ≢ Fault.WriteFault → O.contents out.new ≡ O.contents out.old) }
 {
     show_columns(columns, out)?;
     show_header(message, out)?;
@@ -295,8 +260,7 @@ fn show_fields<O: Write>(
 /// What came before the octets of a message in its line.
 #[tactic(auto, unfolding(crate::specs::Show::column_lines))]
 fn show_columns<O: Write>(columns: &[&str], out: &mut O) -> io::Result<()>
-    ensures { OnOk result (Appends (O.contents out.old) (O.contents out.new)
-        (column_lines (map (λ c. c.now) columns.now))) }
+    ensures { OnOk result (Appends (O.contents out.old) (O.contents out.new) (column_lines (map (λ c. c.now) columns.now))) }
 {
     for column in columns {
         writeln!(out, "column {column}")?;
@@ -307,8 +271,7 @@ fn show_columns<O: Write>(columns: &[&str], out: &mut O) -> io::Result<()>
 #[tactic(auto, unfolding(crate::specs::Show::header_lines))]
 fn show_header<O: Write>(message: &View<'_>, out: &mut O) -> io::Result<()>
     requires { message.now.sdo ≤ 4095 }
-    ensures { OnOk result (Appends (O.contents out.old) (O.contents out.new)
-        (header_lines message.now)) }
+    ensures { OnOk result (Appends (O.contents out.old) (O.contents out.new) (header_lines message.now)) }
 {
     show_sdo(message.sdo(), out)?;
     writeln!(out, "domain {}", message.domain())?;
@@ -319,8 +282,7 @@ fn show_header<O: Write>(message: &View<'_>, out: &mut O) -> io::Result<()>
 /// Both identities, and the sequenceId.
 #[tactic(auto, unfolding(crate::specs::Show::identity_lines))]
 fn show_identities<O: Write>(message: &View<'_>, out: &mut O) -> io::Result<()>
-    ensures { OnOk result (Appends (O.contents out.old) (O.contents out.new)
-        (identity_lines message.now)) }
+    ensures { OnOk result (Appends (O.contents out.old) (O.contents out.new) (identity_lines message.now)) }
 {
     writeln!(out, "source {}", message.source())?;
     writeln!(out, "target {}", message.target())?;
@@ -330,15 +292,10 @@ fn show_identities<O: Write>(message: &View<'_>, out: &mut O) -> io::Result<()>
 /// Both hop fields, and the action.
 #[tactic(auto, unfolding(crate::specs::Show::action_lines))]
 fn show_rest<O: Write>(message: &View<'_>, out: &mut O) -> io::Result<()>
-    ensures { OnOk result (Appends (O.contents out.old) (O.contents out.new)
-        (action_lines message.now)) }
+    ensures { OnOk result (Appends (O.contents out.old) (O.contents out.new) (action_lines message.now)) }
 {
-    writeln!(
-        out,
-        "hops {} of {}",
-        message.hops(),
-        message.starting_hops()
-    )?;
+    let starting = message.starting_hops();
+    writeln!(out, "hops {} of {starting}", message.hops())?;
     writeln!(out, "action {}", message.action())
 }
 
@@ -358,8 +315,7 @@ fn show_sdo<O: Write>(sdo: u16, out: &mut O) -> io::Result<()>
 /// The managementId, whose name is `-` if the table of ids has none, and what follows it in the TLV.
 #[tactic(auto, unfolding(crate::specs::Show::body_lines))]
 fn show_body<O: Write>(form: Values, message: &View<'_>, out: &mut O) -> io::Result<()>
-    ensures { OnOk result (Appends (O.contents out.old) (O.contents out.new)
-        (body_lines form message.now)) }
+    ensures { OnOk result (Appends (O.contents out.old) (O.contents out.new) (body_lines form message.now)) }
 {
     let id = message.id();
     writeln!(out, "id {} {}", Hexadecimal(&id.to_be_bytes()), name_of(id))?;
@@ -382,18 +338,13 @@ fn show_value<O: Write>(form: Values, message: &View<'_>, out: &mut O) -> io::Re
 /// The dataField of this id; none of an object, which has it within.
 #[tactic(auto, unfolding(crate::specs::Show::data_lines))]
 fn show_data<O: Write>(form: Values, id: u16, octets: &[u8], out: &mut O) -> io::Result<()>
-    ensures { OnOk result (Appends (O.contents out.old) (O.contents out.new)
-        (data_lines form id octets.now)) }
+    ensures { OnOk result (Appends (O.contents out.old) (O.contents out.new) (data_lines form id octets.now)) }
 {
     match form {
         Values::Octets => writeln!(out, "value {}", Hexadecimal(octets)),
         Values::Members => {
-            let members = FieldText {
-                lead: "",
-                id,
-                octets,
-            };
-            write!(out, "{members}")
+            let lead = "";
+            write!(out, "{}", FieldText { lead, id, octets })
         }
         Values::Json => Ok(()),
     }
@@ -415,8 +366,5 @@ fn show_error<O: Write>(number: u16, out: &mut O) -> io::Result<()>
 fn name_of(id: u16) -> &'static str
     ensures { result.now ≡ name_or_dash (name_of_id id) }
 {
-    match id_name(id) {
-        Some(name) => name,
-        None => "-",
-    }
+    id_name(id).unwrap_or("-")
 }
