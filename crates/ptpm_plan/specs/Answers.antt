@@ -1,6 +1,6 @@
 -- Answers to GETs (IEEE 1588-2019, 15.4.1 and 15.5.3), and what a list of them says of a clock. The last answer counts.
 use Rattle.std.specs.Prelude.{ℕ, ◌-◌, ◌==◌, nat_le, Bool, true, false, ◌&&◌, ◌||◌, reverse, List, [], ◌∷◌, length, Option, Some, None, if◌then◌else◌, option_and_then}
-use Rattle.std.specs.List.{find, list_any}
+use Rattle.std.specs.List.{find}
 use Rattle.std.specs.Option.{option_map}
 use Rattle.std.specs.Result.{result_ok}
 use Rattle.ptpm_codec.specs.Identity.{same_clock}
@@ -63,10 +63,6 @@ is_answer_of domain clock a = (a.domain == domain) && same_clock a.source.clock 
 -- it is of this clock for this id, and of this port if the number is not 0
 abbrev pub is_of : ℕ → ClockIdentity → ℕ → ℕ → Answer → Bool
 is_of domain clock port id a = is_answer_of domain clock a && ((a.id == id) && ((port == 0) || (a.source.port == port)))
-
--- a clock is seen in a domain if it gave any answer there, a refusal too
-abbrev pub is_seen : ℕ → ClockIdentity → List Answer → Bool
-is_seen domain clock answers = list_any (is_answer_of domain clock) answers
 
 abbrev pub last_answer : ℕ → ClockIdentity → ℕ → ℕ → List Answer → Option Answer
 last_answer domain clock port id answers = find (is_of domain clock port id) (reverse answers)

@@ -1,5 +1,5 @@
 -- The rows of a plan: what becomes of each member that it asks for.
-use Rattle.std.specs.Prelude.{◌≡◌, ℕ, ◌==◌, Bool, true, false, if◌then◌else◌, is_some, ◌&&◌, List, [], ◌∷◌, ◌++◌, Option, Some, None, Result, Ok, Err}
+use Rattle.std.specs.Prelude.{◌≡◌, ℕ, ◌==◌, Bool, true, false, if◌then◌else◌, is_some, ◌&&◌, List, [], ◌∷◌, ◌++◌, fold, Option, Some, None, Result, Ok, Err, OnOk}
 use Rattle.std.specs.List.{find}
 use Rattle.ptpm_codec.specs.Identity.{same_clock}
 use Rattle.ptpm_plan.specs.PlannedId.{number_of}
@@ -27,6 +27,10 @@ row_in s rows = find (is_row_of s) rows
 -- one row more, unless its member has one
 abbrev pub with_row : List Row → Row → List Row
 with_row rows row = if is_some (row_in row.subject rows) then rows else rows ++ row ∷ []
+
+-- with success these rows are added, one after the other
+abbrev pub Adds : {E : Type 0} → Result (Unit {0}) E → List Row → List Row → List Row → Type 0
+Adds result old new rows = OnOk result (new ≡ fold with_row old rows)
 
 abbrev pub AddsOrRepeats : Option Row → List Row → Row → List Row → Type 0
 AddsOrRepeats None old row new = new ≡ old ++ row ∷ []

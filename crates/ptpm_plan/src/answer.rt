@@ -1,7 +1,7 @@
 //! Answers to GETs: which clock and port says what of an id.
 
 ghost use Rattle.std.specs.Prelude.{◌≡◌, ◌≤◌, length};
-ghost use Rattle.ptpm_plan.specs.Answers.{answer_of, field_said, hops_of, said_of};
+ghost use Rattle.ptpm_plan.specs.Answers.{answer_of, field_said, said_of};
 
 use ptpm_codec::{Action, PortIdentity, View, put};
 use ptpm_data::Value;
@@ -14,7 +14,7 @@ pub struct Answer {
     pub domain: u8,
     /// sourcePortIdentity.
     pub source: PortIdentity,
-    /// How many boundary clocks it passed.
+    /// How many boundary clocks it passed: startingBoundaryHops less boundaryHops (15.4.1).
     pub hops: u8,
     /// managementId.
     pub id: u16,
@@ -36,26 +36,17 @@ impl Answer {
     pub fn of(message: &View<'_>) -> Option<Answer>
         ensures { result ≡ answer_of message.now }
     {
-        match message.action() {
-            Action::Response => {}
-            _ => return None,
+        if !matches!(message.action(), Action::Response) {
+            return None;
         }
-        let said = said_of(message)?;
         Some(Answer {
             domain: message.domain(),
             source: message.source(),
-            hops: hops_of(message),
+            hops: message.starting_hops().saturating_sub(message.hops()),
             id: message.id(),
-            said,
+            said: said_of(message)?,
         })
     }
-}
-
-/// startingBoundaryHops less boundaryHops (15.4.1).
-fn hops_of(message: &View<'_>) -> u8
-    ensures { result ≡ hops_of message.now }
-{
-    message.starting_hops().saturating_sub(message.hops())
 }
 
 /// What a message says of its id.

@@ -1,9 +1,8 @@
 //! The answers that clocks gave, in the order in which they came. The last one counts.
 
-ghost use Rattle.std.specs.Prelude.{◌≡◌, ◌++◌, OnOk, IfOk, [], reverse};
-ghost use Rattle.std.specs.List.{find, list_any};
+ghost use Rattle.std.specs.Prelude.{◌≡◌, ◌++◌, OnOk, []};
 ghost use Rattle.std.specs.Option.{option_copied, option_map, option_to_list};
-ghost use Rattle.ptpm_plan.specs.Answers.{answer_in, description_by, is_answer_of, is_of, is_seen, last_answer, text_said};
+ghost use Rattle.ptpm_plan.specs.Answers.{answer_in, description_by, is_answer_of, is_of, last_answer, text_said};
 
 use crate::answer::{Answer, Said};
 use ptpm_codec::{ClockIdentity, is_ptp_text, text_of_ptp_text, view};
@@ -36,15 +35,6 @@ impl Answers {
             self.list.push(answer)?;
         }
         Ok(())
-    }
-
-    /// Whether a clock answered in a domain.
-    pub fn has_clock(&self, domain: u8, clock: ClockIdentity) -> bool
-        ensures { result ≡ is_seen domain clock self.now.list.items }
-    {
-        self.list
-            .iter()
-            .any(|answer| is_answer_of(answer, domain, clock))
     }
 
     /// What a clock answered last for an id, of this port if the number is not 0.
@@ -81,10 +71,7 @@ fn text_said(said: &Said) -> Option<&[u8]>
 fn answer_in(datagram: &[u8]) -> Option<Answer>
     ensures { result ≡ answer_in datagram.now }
 {
-    match view(datagram) {
-        Ok(message) => Answer::of(&message),
-        Err(_) => None,
-    }
+    Answer::of(&view(datagram).ok()?)
 }
 
 /// Whether an answer is of a clock of a domain.

@@ -1,16 +1,16 @@
 //! What the tables of a plan file ask for, member by member.
 
-ghost use Rattle.std.specs.Prelude.{◌≡◌, OnOk, fold};
-ghost use Rattle.ptpm_plan.specs.Asking.{of_clock, rows_of_clock, rows_of_clocks, rows_of_ports, rows_of_table, rows_of_wishes, row_for, subject_of, unnamed_of};
-ghost use Rattle.ptpm_plan.specs.Rows.{with_row};
+ghost use Rattle.std.specs.Prelude.{◌≡◌};
+ghost use Rattle.ptpm_plan.specs.Asking.{rows_of_clock, rows_of_clocks, rows_of_wishes, unnamed_of};
+ghost use Rattle.ptpm_plan.specs.Rows.{Adds};
 
 use crate::answers::Answers;
-use crate::file_fault::FileFault;
 use crate::naming::{Named, clock_named};
-use crate::rows::{Row, add_row, row_of};
-use crate::subject::{Asked, Subject};
-use crate::surveyed::SurveyedClock;
-use crate::wish::{ClockWishes, PortWishes, Wish};
+use crate::rows::{Added, Row, add_row};
+use crate::subject::Subject;
+use crate::surveyed::{Surveyed, SurveyedClock};
+use crate::verdict::verdict_of;
+use crate::wish::{ClockWishes, Wish};
 use ptpm_codec::ClockIdentity;
 use std::alloc::Global;
 
@@ -31,138 +31,77 @@ pub struct Unnamed {
     pub count: usize,
 }
 
-/// Adds the rows of what is wished of a clock, or of one of its ports.
-#[tactic(auto, using(crate::proofs::AskingLemmas::wishes_more))]
-pub(crate) fn ask_wishes(
-    alloc: Global,
-    answers: &Answers,
-    of: Of,
-    port: u16,
-    wishes: &[Wish],
-    rows: &mut Vec<Row>,
-) -> Result<(), FileFault>
-    ensures { OnOk result (rows.new.items ≡ fold with_row rows.old.items (rows_of_wishes answers.now.list.items of port wishes.now)) }
-{
-    for wish in wishes {
-        ask_wish(alloc, answers, of, port, wish, rows)?;
+/// What the tables of a file are read with: the answers of a survey, and what they say of clocks and ports.
+#[derive(Clone, Copy)]
+pub(crate) struct Known<'a> {
+    pub(crate) alloc: Global,
+    pub(crate) answers: &'a Answers,
+    pub(crate) surveyed: &'a Surveyed,
+}
+
+impl Known<'_> {
+    /// Adds the rows of what is wished of a clock, or of one of its ports.
+    #[tactic(auto, using(crate::proofs::AskingLemmas::wishes_more))]
+    pub fn ask_wishes(&self, of: Of, port: u16, wishes: &[Wish], rows: &mut Vec<Row>) -> Added
+        ensures { Adds result rows.old.items rows.new.items (rows_of_wishes self.now.answers.now.list.items of port wishes.now) }
+    {
+        for wish in wishes {
+            let subject = Subject {
+                domain: of.domain,
+                clock: of.clock,
+                port,
+                id: wish.id,
+            };
+            let verdict = verdict_of(self.alloc, self.answers, subject, &wish.wished)?;
+            let place = of.place;
+            add_row(
+                rows,
+                Row {
+                    place,
+                    subject,
+                    verdict,
+                },
+            )?;
+        }
+        Ok(())
     }
-    Ok(())
-}
 
-/// Adds the row of a wish.
-fn ask_wish(
-    alloc: Global,
-    answers: &Answers,
-    of: Of,
-    port: u16,
-    wish: &Wish,
-    rows: &mut Vec<Row>,
-) -> Result<(), FileFault>
-    ensures { OnOk result (rows.new.items ≡ with_row rows.old.items (row_for answers.now.list.items of port wish.now)) }
-{
-    let asked = asked_for(of, port, wish);
-    let row = row_of(alloc, answers, &asked)?;
-    add_row(rows, row)
-}
-
-fn asked_for<'a>(of: Of, port: u16, wish: &'a Wish) -> Asked<'a>
-    ensures place { result.place ≡ of.place }
-    ensures subject { result.subject ≡ subject_of of port wish.now }
-    ensures wished { result.wished.now ≡ wish.now.wished }
-{
-    let subject = Subject {
-        domain: of.domain,
-        clock: of.clock,
-        port,
-        id: wish.id,
-    };
-    Asked {
-        place: of.place,
-        subject,
-        wished: &wish.wished,
+    /// Adds the rows of what is wished of a clock.
+    #[tactic(auto, using(crate::proofs::AskingLemmas::flat_more))]
+    fn ask_clock(&self, of: Of, clock: &ClockWishes, rows: &mut Vec<Row>) -> Added
+        ensures { Adds result rows.old.items rows.new.items (rows_of_clock self.now.answers.now.list.items of clock.now) }
+    {
+        self.ask_wishes(of, 0, clock.wishes.as_slice(), rows)?;
+        let ports = clock.ports.as_slice();
+        for port in ports {
+            self.ask_wishes(of, port.number, port.wishes.as_slice(), rows)?;
+        }
+        Ok(())
     }
-}
 
-/// Adds the rows of what is wished of some ports of a clock.
-#[tactic(auto, using(crate::proofs::AskingLemmas::flat_more))]
-fn ask_ports(
-    alloc: Global,
-    answers: &Answers,
-    of: Of,
-    ports: &[PortWishes],
-    rows: &mut Vec<Row>,
-) -> Result<(), FileFault>
-    ensures { OnOk result (rows.new.items ≡ fold with_row rows.old.items (rows_of_ports answers.now.list.items of ports.now)) }
-{
-    for port in ports {
-        ask_wishes(
-            alloc,
-            answers,
-            of,
-            port.number,
-            port.wishes.as_slice(),
-            rows,
-        )?;
+    /// Adds the rows of those tables of a file that name a clock.
+    #[tactic(auto, using(crate::proofs::AskingLemmas::flat_more))]
+    pub fn ask_clocks(&self, tables: &[ClockWishes], rows: &mut Vec<Row>) -> Added
+        ensures { Adds result rows.old.items rows.new.items
+            (rows_of_clocks self.now.answers.now.list.items self.now.surveyed.now.clocks.items tables.now) }
+    {
+        let clocks = self.surveyed.clocks.as_slice();
+        for table in tables {
+            let (place, domain) = (table.place, table.domain);
+            if let Named::One(clock) = clock_named(clocks, self.answers, domain, &table.target) {
+                self.ask_clock(
+                    Of {
+                        place,
+                        domain,
+                        clock,
+                    },
+                    table,
+                    rows,
+                )?;
+            }
+        }
+        Ok(())
     }
-    Ok(())
-}
-
-/// Adds the rows of what is wished of a clock.
-fn ask_clock(
-    alloc: Global,
-    answers: &Answers,
-    of: Of,
-    clock: &ClockWishes,
-    rows: &mut Vec<Row>,
-) -> Result<(), FileFault>
-    ensures { OnOk result (rows.new.items ≡ fold with_row rows.old.items (rows_of_clock answers.now.list.items of clock.now)) }
-{
-    ask_wishes(alloc, answers, of, 0, clock.wishes.as_slice(), rows)?;
-    ask_ports(alloc, answers, of, clock.ports.as_slice(), rows)
-}
-
-/// Adds the rows of a clock's table, if it names a clock.
-fn ask_table(
-    alloc: Global,
-    answers: &Answers,
-    clocks: &[SurveyedClock],
-    table: &ClockWishes,
-    rows: &mut Vec<Row>,
-) -> Result<(), FileFault>
-    ensures { OnOk result (rows.new.items ≡ fold with_row rows.old.items (rows_of_table answers.now.list.items clocks.now table.now)) }
-{
-    match clock_named(clocks, answers, table.domain, &table.target) {
-        Named::One(clock) => ask_clock(alloc, answers, of_clock(table, clock), table, rows),
-        Named::Other(_) => Ok(()),
-    }
-}
-
-/// The clock that a table is of.
-fn of_clock(table: &ClockWishes, clock: ClockIdentity) -> Of
-    ensures { result ≡ of_clock table.now clock }
-{
-    Of {
-        place: table.place,
-        domain: table.domain,
-        clock,
-    }
-}
-
-/// Adds the rows of the clocks of a file.
-#[tactic(auto, using(crate::proofs::AskingLemmas::flat_more))]
-pub(crate) fn ask_clocks(
-    alloc: Global,
-    answers: &Answers,
-    clocks: &[SurveyedClock],
-    tables: &[ClockWishes],
-    rows: &mut Vec<Row>,
-) -> Result<(), FileFault>
-    ensures { OnOk result (rows.new.items ≡ fold with_row rows.old.items (rows_of_clocks answers.now.list.items clocks.now tables.now)) }
-{
-    for table in tables {
-        ask_table(alloc, answers, clocks, table, rows)?;
-    }
-    Ok(())
 }
 
 /// What a table is, if its description is not that of one clock.
@@ -173,11 +112,9 @@ pub(crate) fn unnamed_of(
 ) -> Option<Unnamed>
     ensures { result ≡ unnamed_of answers.now.list.items clocks.now table.now }
 {
+    let place = table.place;
     match clock_named(clocks, answers, table.domain, &table.target) {
         Named::One(_) => None,
-        Named::Other(count) => Some(Unnamed {
-            place: table.place,
-            count,
-        }),
+        Named::Other(count) => Some(Unnamed { place, count }),
     }
 }

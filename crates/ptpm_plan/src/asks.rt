@@ -26,13 +26,9 @@ pub(crate) fn print_asks<O: Write>(file: &PlanFile, domains: &[u8], out: &mut O)
 impl PlanFile {
     /// The domains that the file names, ascending, each once.
     pub(crate) fn domains(&self, alloc: Global) -> Result<Vec<u8>, AllocError> {
-        let mut domains = Vec::new(alloc);
-        for domain in 0..=0xffu8 {
-            if self.has_domain(domain) {
-                domains.push(domain)?;
-            }
-        }
-        Ok(domains)
+        (0..=0xffu8)
+            .filter(|domain| self.has_domain(*domain))
+            .collect(alloc)
     }
 
     fn has_domain(&self, domain: u8) -> bool {

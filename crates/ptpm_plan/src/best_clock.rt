@@ -100,24 +100,16 @@ impl Rank {
     }
 
     /// This rank with another value of an id's member.
-    fn with(self, id: PlannedId, value: u8) -> Rank
+    fn with(mut self, id: PlannedId, value: u8) -> Rank
         ensures { result ≡ rank_with id value self }
     {
         match id {
-            PlannedId::Priority1 => Rank {
-                priority1: value,
-                ..self
-            },
-            PlannedId::Priority2 => Rank {
-                priority2: value,
-                ..self
-            },
-            PlannedId::ClockAccuracy => Rank {
-                accuracy: value,
-                ..self
-            },
-            _ => self,
+            PlannedId::Priority1 => self.priority1 = value,
+            PlannedId::Priority2 => self.priority2 = value,
+            PlannedId::ClockAccuracy => self.accuracy = value,
+            _ => {}
         }
+        self
     }
 }
 
@@ -126,13 +118,10 @@ impl RankedClock {
     fn of(clock: &SurveyedClock) -> Option<RankedClock>
         ensures { result ≡ ranked clock.now }
     {
-        match clock.precedence {
-            Some(precedence) => Some(RankedClock {
-                domain: clock.domain,
-                rank: Rank::of(clock.identity, precedence),
-            }),
-            None => None,
-        }
+        Some(RankedClock {
+            domain: clock.domain,
+            rank: Rank::of(clock.identity, clock.precedence?),
+        })
     }
 
     /// Whether a change is one of this clock's rank.
@@ -143,17 +132,13 @@ impl RankedClock {
     }
 
     /// This clock after a change.
-    fn after(&self, change: &Change) -> RankedClock
-        ensures { result ≡ after_change change.now self.now }
+    fn after(mut self, change: &Change) -> RankedClock
+        ensures { result ≡ after_change change.now self }
     {
         if self.is_changed_by(change) {
-            RankedClock {
-                domain: self.domain,
-                rank: self.rank.with(change.id, first_octet(&change.after)),
-            }
-        } else {
-            *self
+            self.rank = self.rank.with(change.id, first_octet(&change.after));
         }
+        self
     }
 }
 
@@ -161,10 +146,7 @@ impl RankedClock {
 pub(crate) fn first_octet(field: &Value) -> u8
     ensures { result ≡ octet 0 field.now.items }
 {
-    match field.first() {
-        Some(octet) => *octet,
-        None => 0,
-    }
+    octet(field.as_slice(), 0)
 }
 
 /// The ranks of all clocks that have one.

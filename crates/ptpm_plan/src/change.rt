@@ -6,6 +6,7 @@ ghost use Rattle.ptpm_plan.specs.PlannedId.{number_of, setting_of};
 
 use ptpm_codec::ClockIdentity;
 use ptpm_data::{Layout, ManagementIdRow, PortSetting, Scope, Value};
+use std::fmt;
 
 /// The ids that a plan may set, those of the clock first. Changes that are alike in all else are asked in this order.
 #[derive(Clone, Copy, PartialEq, Eq, PartialOrd, Ord)]
@@ -100,6 +101,13 @@ impl PlannedId {
             Layout::Setting(setting) => Some(setting),
             _ => None,
         }
+    }
+}
+
+/// The standard's name.
+impl fmt::Display for PlannedId {
+    fn fmt<W: fmt::Write>(&self, f: &mut fmt::Formatter<W>) -> fmt::Result {
+        f.write_str(self.name())
     }
 }
 

@@ -44,16 +44,13 @@ fn read_target(alloc: Global, table: &Table, place: Place) -> Result<Target, Fil
     match (identity, description) {
         (Some(text), None) => match clock_identity_of(text) {
             Some(identity) if identity != ClockIdentity::EVERY => Ok(Target::Identity(identity)),
-            _ => Err(FileFault::at(
-                place,
-                TableFault::Takes(
-                    "identity",
-                    "a clockIdentity, such as aabbccfffeddee01 or aabbcc.fffe.ddee01",
-                ),
-            )),
+            _ => {
+                let takes = "a clockIdentity, such as aabbccfffeddee01 or aabbcc.fffe.ddee01";
+                Err(FileFault::takes(place, "identity", takes))
+            }
         },
         (None, Some(text)) => Ok(Target::Description(Text::copy_of(alloc, text)?)),
-        _ => Err(FileFault::at(place, TableFault::NotOneName)),
+        _ => Err(FileFault::At(place, TableFault::NotOneName)),
     }
 }
 
@@ -67,12 +64,11 @@ fn read_alias(
         return Ok(None);
     };
     if clock_identity_of(alias).is_some() {
-        let fault = TableFault::Takes("alias", "a name that is no clockIdentity");
-        return Err(FileFault::at(place, fault));
+        return Err(FileFault::takes(place, "alias", "a name that is no clockIdentity"));
     }
     let text = Text::copy_of(alloc, alias)?;
     if clock_of_alias(earlier, alias).is_some() {
-        return Err(FileFault::at(place, TableFault::AliasTwice(text)));
+        return Err(FileFault::At(place, TableFault::AliasTwice(text)));
     }
     Ok(Some(text))
 }
@@ -82,49 +78,29 @@ pub(crate) fn clock_of_alias<'a>(
     clocks: &'a [ClockWishes],
     alias: &str,
 ) -> Option<&'a ClockWishes> {
-    clocks.iter().find(|clock| has_alias(clock, alias))
-}
-
-fn has_alias(clock: &ClockWishes, alias: &str) -> bool {
-    match &clock.alias {
+    clocks.iter().find(|clock| match &clock.alias {
         Some(text) => text.as_str() == alias,
         None => false,
-    }
+    })
 }
 
 fn read_ports(alloc: Global, table: &Table, clock: usize) -> Result<Vec<PortWishes>, FileFault> {
     let mut ports = Vec::new(alloc);
     for value in tables_at(table, "port", Place::Clock(clock))? {
         let place = Place::Port(clock, ports.len());
-        ports.push(read_port(alloc, value, clock, place)?)?;
+        let table = shaped(value, "port", place)?;
+        let number = number_of(table, place)?;
+        let place = Place::NumberedPort(clock, number);
+        let wishes = read_wishes(alloc, table, Owner::Port, &["number"], place)?;
+        ports.push(PortWishes { number, wishes })?;
     }
     Ok(ports)
 }
 
-fn read_port(
-    alloc: Global,
-    value: &Value,
-    clock: usize,
-    place: Place,
-) -> Result<PortWishes, FileFault> {
-    let table = shaped(value, "port", place)?;
-    let number = number_of(table, place)?;
-    let place = Place::NumberedPort(clock, number);
-    let wishes = read_wishes(alloc, table, Owner::Port, &["number"], place)?;
-    Ok(PortWishes { number, wishes })
-}
-
 /// The portNumber of a port's table. 0 and 0xFFFF are of no port (7.5.2.3).
 fn number_of(table: &Table, place: Place) -> Result<u16, FileFault> {
-    let number = match table.get("number") {
-        Some(value) => value.as_integer(),
-        None => None,
-    };
-    match number {
+    match table.get("number").and_then(|value| value.as_integer()) {
         Some(number) if 1 <= number && number <= 0xfffe => Ok(number as u16),
-        _ => Err(FileFault::at(
-            place,
-            TableFault::Takes("number", "a number from 1 to 65534"),
-        )),
+        _ => Err(FileFault::takes(place, "number", "a number from 1 to 65534")),
     }
 }

@@ -40,34 +40,25 @@ fn push_others(alloc: Global, changes: &[Change], text: &mut String) -> Result<(
     ensures { OnOk result (string_bytes text.new ≡ string_bytes text.old ++ flat_map next_text changes.now) }
 {
     for change in changes {
-        push_next(alloc, change, text)?;
+        text.push_str(", ")?;
+        push_change(alloc, change, text)?;
     }
     Ok(())
 }
 
-fn push_next(alloc: Global, change: &Change, text: &mut String) -> Result<(), AllocError>
-    ensures { OnOk result (string_bytes text.new ≡ string_bytes text.old ++ next_text change.now) }
-{
-    text.push_str(", ")?;
-    push_change(alloc, change, text)
-}
-
+/// Adds a change as an object in JSON.
 fn push_change(alloc: Global, change: &Change, text: &mut String) -> Result<(), AllocError>
     ensures { OnOk result (string_bytes text.new ≡ string_bytes text.old ++ change_text change.now) }
 {
-    let change = change_text(alloc, change)?;
-    text.push_str(change.as_str())
+    text.push_str(change_text(alloc, change)?.as_str())
 }
 
-/// A change as an object in JSON.
 fn change_text(alloc: Global, change: &Change) -> Result<String, AllocError>
     ensures { IfOk result (λ t. string_bytes t ≡ change_text change.now) }
 {
     let mut text = clock_text(alloc, change)?;
-    let member = member_text(alloc, change)?;
-    text.push_str(member.as_str())?;
-    let fields = fields_text(alloc, change)?;
-    text.push_str(fields.as_str())?;
+    text.push_str(member_text(alloc, change)?.as_str())?;
+    text.push_str(fields_text(alloc, change)?.as_str())?;
     Ok(text)
 }
 

@@ -25,7 +25,7 @@ pub(crate) fn read_every(
     let domain = domain_at(table, place)?;
     let except = read_except(alloc, table, place, clocks)?;
     let wishes = read_wishes(alloc, table, Owner::EveryClock, &EVERY_KEYS, place)?;
-    let port_wishes = read_port_wishes(alloc, table, place)?;
+    let port_wishes = read_port_wishes(alloc, table, number)?;
     Ok(EveryWishes {
         place: clocks.len().saturating_add(number),
         domain,
@@ -35,20 +35,12 @@ pub(crate) fn read_every(
     })
 }
 
-fn read_port_wishes(alloc: Global, table: &Table, place: Place) -> Result<Vec<Wish>, FileFault> {
+fn read_port_wishes(alloc: Global, table: &Table, number: usize) -> Result<Vec<Wish>, FileFault> {
     let Some(value) = table.get("port") else {
         return Ok(Vec::new(alloc));
     };
-    let table = shaped(value, "port", place)?;
-    read_wishes(alloc, table, Owner::Port, &[], of_ports(place))
-}
-
-/// The place of the ports of a table of every clock.
-fn of_ports(place: Place) -> Place {
-    match place {
-        Place::Every(number) => Place::EveryPort(number),
-        other => other,
-    }
+    let table = shaped(value, "port", Place::Every(number))?;
+    read_wishes(alloc, table, Owner::Port, &[], Place::EveryPort(number))
 }
 
 fn read_except(
@@ -74,9 +66,10 @@ fn read_except(
 }
 
 fn takes_names(place: Place) -> FileFault {
-    FileFault::at(
+    FileFault::takes(
         place,
-        TableFault::Takes("except", "a list of aliases and identities, each a text"),
+        "except",
+        "a list of aliases and identities, each a text",
     )
 }
 
@@ -87,14 +80,12 @@ fn excepted(
     place: Place,
     clocks: &[ClockWishes],
 ) -> Result<Target, FileFault> {
-    if let Some(clock) = clock_of_alias(clocks, text) {
-        return Ok(copy_of(alloc, &clock.target)?);
-    }
-    match clock_identity_of(text) {
-        Some(identity) => Ok(Target::Identity(identity)),
-        None => {
-            let text = Text::copy_of(alloc, text)?;
-            Err(FileFault::at(place, TableFault::UnknownClock(text)))
+    match (clock_of_alias(clocks, text), clock_identity_of(text)) {
+        (Some(clock), _) => Ok(copy_of(alloc, &clock.target)?),
+        (None, Some(identity)) => Ok(Target::Identity(identity)),
+        (None, None) => {
+            let fault = TableFault::UnknownClock(Text::copy_of(alloc, text)?);
+            Err(FileFault::At(place, fault))
         }
     }
 }

@@ -4,7 +4,7 @@ use crate::clock_table::read_clock;
 use crate::every_table::read_every;
 use crate::file_fault::{FileFault, Place, TableFault};
 use crate::text::Text;
-use crate::wish::{ClockWishes, EveryWishes, PlanFile};
+use crate::wish::PlanFile;
 use std::alloc::Global;
 use toml::{Table, Value};
 
@@ -26,37 +26,32 @@ impl PlanFile {
 }
 
 fn read_tables(alloc: Global, table: &Table) -> Result<PlanFile, FileFault> {
-    check_version(table)?;
     check_keys(alloc, table)?;
     let mut clocks = Vec::new(alloc);
     for value in tables_at(table, "clock", Place::File)? {
         let clock = read_clock(alloc, value, clocks.as_slice())?;
         clocks.push(clock)?;
     }
-    let every = read_everies(alloc, table, clocks.as_slice())?;
+    let mut every = Vec::new(alloc);
+    for value in tables_at(table, "every", Place::File)? {
+        let wishes = read_every(alloc, value, every.len(), clocks.as_slice())?;
+        every.push(wishes)?;
+    }
     Ok(PlanFile { clocks, every })
 }
 
-fn check_version(table: &Table) -> Result<(), FileFault> {
-    let version = match table.get("version") {
-        Some(value) => value.as_integer(),
-        None => None,
-    };
-    if version == Some(1) {
-        Ok(())
-    } else {
-        Err(FileFault::at(Place::File, TableFault::Version))
-    }
-}
-
-/// Whether the document has just the keys of a plan.
+/// Whether the document has the version of a plan, and just its keys.
 fn check_keys(alloc: Global, table: &Table) -> Result<(), FileFault> {
+    let version = table.get("version").and_then(|value| value.as_integer());
+    if version != Some(1) {
+        return Err(FileFault::At(Place::File, TableFault::Version));
+    }
     for key in table.keys() {
         match key.as_str() {
             "version" | "clock" | "every" => {}
             other => {
                 let key = Text::copy_of(alloc, other)?;
-                return Err(FileFault::at(Place::File, TableFault::NoKey(key)));
+                return Err(FileFault::At(Place::File, TableFault::NoKey(key)));
             }
         }
     }
@@ -69,27 +64,14 @@ pub(crate) fn tables_at<'a>(
     key: &'static str,
     place: Place,
 ) -> Result<&'a [Value], FileFault> {
-    match table.get(key) {
-        None => Ok(&[]),
-        Some(value) => match value.as_array() {
-            Some(array) => Ok(array.as_slice()),
-            None => Err(FileFault::at(
-                place,
-                TableFault::Takes(key, "tables, each after its name in double brackets"),
-            )),
-        },
+    let Some(value) = table.get(key) else {
+        return Ok(&[]);
+    };
+    match value.as_array() {
+        Some(array) => Ok(array.as_slice()),
+        None => {
+            let takes = "tables, each after its name in double brackets";
+            Err(FileFault::takes(place, key, takes))
+        }
     }
-}
-
-fn read_everies(
-    alloc: Global,
-    table: &Table,
-    clocks: &[ClockWishes],
-) -> Result<Vec<EveryWishes>, FileFault> {
-    let mut every = Vec::new(alloc);
-    for value in tables_at(table, "every", Place::File)? {
-        let number = every.len();
-        every.push(read_every(alloc, value, number, clocks)?)?;
-    }
-    Ok(every)
 }

@@ -65,8 +65,9 @@ pub enum TableFault {
 }
 
 impl FileFault {
-    pub(crate) fn at(place: Place, fault: TableFault) -> FileFault {
-        FileFault::At(place, fault)
+    /// A key of a table does not hold what it takes.
+    pub(crate) fn takes(place: Place, key: &'static str, what: &'static str) -> FileFault {
+        FileFault::At(place, TableFault::Takes(key, what))
     }
 }
 

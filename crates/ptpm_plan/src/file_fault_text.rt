@@ -12,11 +12,8 @@ impl fmt::Display for FileFault {
             FileFault::NotToml => f.write_str("it is no TOML document"),
             FileFault::At(place, fault) => write!(f, "{place}{fault}"),
             FileFault::TwoValues(subject) => {
-                let who = Who {
-                    clock: subject.clock,
-                    port: subject.port,
-                };
-                write!(f, "{who} {}: two values", subject.id.name())
+                let who = Who(subject.clock, subject.port);
+                write!(f, "{who} {}: two values", subject.id)
             }
         }
     }
@@ -29,18 +26,12 @@ impl fmt::Display for Place {
             Place::File => Ok(()),
             Place::Clock(clock) => write!(f, "clock {}: ", counted(clock)),
             Place::Port(clock, port) => {
-                write!(
-                    f,
-                    "clock {}, table {} of its ports: ",
-                    counted(clock),
-                    counted(port)
-                )
+                let (clock, port) = (counted(clock), counted(port));
+                write!(f, "clock {clock}, table {port} of its ports: ")
             }
-            Place::NumberedPort(clock, port) => write!(
-                f,
-                "clock {}, port {port}: ",
-                counted(clock)
-            ),
+            Place::NumberedPort(clock, port) => {
+                write!(f, "clock {}, port {port}: ", counted(clock))
+            }
             Place::Every(every) => write!(f, "every {}: ", counted(every)),
             Place::EveryPort(every) => write!(f, "every {}, port: ", counted(every)),
         }
@@ -61,31 +52,20 @@ impl fmt::Display for TableFault {
                 write!(f, "{:?} is neither a key nor a managementId", key.as_str())
             }
             TableFault::NotPlanned(key) => write!(f, "{} is no id that a plan sets", key.as_str()),
-            TableFault::OfPort(id) => {
-                write!(f, "{} is of a port: write it in a table port", id.name())
-            }
+            TableFault::OfPort(id) => write!(f, "{id} is of a port: write it in a table port"),
             TableFault::OfClock(id) => {
-                write!(
-                    f,
-                    "{} is of the clock: write it in the clock's table",
-                    id.name()
-                )
+                write!(f, "{id} is of the clock: write it in the clock's table")
             }
             TableFault::OneClocks => f.write_str("USER_DESCRIPTION is of one clock"),
             TableFault::NotOneName => f.write_str("it takes one of identity and description"),
             TableFault::AliasTwice(alias) => write!(f, "alias {:?} is given twice", alias.as_str()),
             TableFault::UnknownClock(name) => {
-                write!(
-                    f,
-                    "except: {:?} is neither an alias nor an identity",
-                    name.as_str()
-                )
+                let name = name.as_str();
+                write!(f, "except: {name:?} is neither an alias nor an identity")
             }
             TableFault::Takes(key, what) => write!(f, "{key} takes {what}"),
-            TableFault::IdTakes(id, what) => write!(f, "{} takes {what}", id.name()),
-            TableFault::NoMember(id, name) => {
-                write!(f, "{} has no member {:?}", id.name(), name.as_str())
-            }
+            TableFault::IdTakes(id, what) => write!(f, "{id} takes {what}"),
+            TableFault::NoMember(id, name) => write!(f, "{id} has no member {:?}", name.as_str()),
         }
     }
 }

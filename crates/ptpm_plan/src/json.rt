@@ -2,8 +2,9 @@
 
 use crate::best_clock::BestClocks;
 use crate::change::Change;
-use crate::outcome::{not_reached, why_not};
-use crate::report::{Report, id_text, no_memory, who_of_row};
+use crate::outcome::{Why, is_refused, not_reached};
+use crate::places::Who;
+use crate::report::{Report, id_text};
 use crate::rows::Row;
 use crate::subject::Subject;
 use crate::verdict::Verdict;
@@ -17,37 +18,24 @@ use std::io::Write;
 impl Report<'_> {
     /// Prints one object, in a line.
     pub(crate) fn print_json<O: Write>(&self, alloc: Global, out: &mut O) -> Result<(), Fault> {
-        let value = self.value(alloc).map_err(no_memory)?;
-        let text = value.to_string(alloc).map_err(no_memory)?;
+        let text = self.value(alloc)?.to_string(alloc)?;
         writeln!(out, "{text}")?;
         Ok(())
     }
 
     fn value(&self, alloc: Global) -> Result<Value, AllocError> {
+        let (plan, rows) = (self.plan, self.plan.rows.as_slice());
+        let changes = plan.changes.as_slice();
         let mut map = Map::new(alloc);
-        let id = id_text(alloc, self.plan.changes.as_slice())?;
+        let id = id_text(alloc, changes)?;
         put(&mut map, alloc, "plan", Value::String(id))?;
-        put(
-            &mut map,
-            alloc,
-            "changes",
-            changes_value(alloc, self.plan.changes.as_slice())?,
-        )?;
-        let rows = self.plan.rows.as_slice();
+        put(&mut map, alloc, "changes", changes_value(alloc, changes)?)?;
         put(&mut map, alloc, "stays", staying_value(alloc, rows)?)?;
         put(&mut map, alloc, "cannotBeSet", refused_value(alloc, rows)?)?;
-        put(
-            &mut map,
-            alloc,
-            "notReached",
-            self.not_reached_value(alloc)?,
-        )?;
-        put(
-            &mut map,
-            alloc,
-            "bestClock",
-            best_value(alloc, self.plan.best.as_slice())?,
-        )?;
+        let lines = self.not_reached_value(alloc)?;
+        put(&mut map, alloc, "notReached", lines)?;
+        let best = plan.best.as_slice();
+        put(&mut map, alloc, "bestClock", best_value(alloc, best)?)?;
         put(&mut map, alloc, "warnings", self.warnings_value(alloc)?)?;
         Ok(Value::Object(map))
     }
@@ -71,9 +59,8 @@ impl Report<'_> {
 
 fn changes_value(alloc: Global, changes: &[Change]) -> Result<Value, AllocError> {
     let mut values = Vec::new(alloc);
-    for change in changes {
-        let number = values.len().saturating_add(1);
-        values.push(change_value(alloc, number, change)?)?;
+    for (place, change) in changes.iter().enumerate() {
+        values.push(change_value(alloc, place + 1, change)?)?;
     }
     Ok(Value::Array(values))
 }
@@ -98,20 +85,15 @@ fn change_value(alloc: Global, number: usize, change: &Change) -> Result<Value, 
 fn subject_map(alloc: Global, subject: Subject) -> Result<Map<String, Value>, AllocError> {
     let mut map = Map::new(alloc);
     put(&mut map, alloc, "domainNumber", Value::from(subject.domain))?;
-    put(
-        &mut map,
-        alloc,
-        "clockIdentity",
-        clock_value(alloc, subject.clock)?,
-    )?;
-    let port = if subject.port == 0 {
-        Value::Null
-    } else {
-        Value::from(subject.port)
+    let clock = clock_value(alloc, subject.clock)?;
+    put(&mut map, alloc, "clockIdentity", clock)?;
+    let port = match subject.port {
+        0 => Value::Null,
+        port => Value::from(port),
     };
     put(&mut map, alloc, "portNumber", port)?;
-    let id = text_value(alloc, subject.id.name())?;
-    put(&mut map, alloc, "managementId", id)?;
+    let id = String::from_str(alloc, subject.id.name())?;
+    put(&mut map, alloc, "managementId", Value::String(id))?;
     Ok(map)
 }
 
@@ -131,11 +113,10 @@ fn staying_value(alloc: Global, rows: &[Row]) -> Result<Value, AllocError> {
 fn refused_value(alloc: Global, rows: &[Row]) -> Result<Value, AllocError> {
     let mut values = Vec::new(alloc);
     for row in rows {
-        if let Some(why) = why_not(&row.verdict) {
-            let who = who_of_row(row);
-            let name = row.subject.id.name();
-            let what = format!(in alloc; "{who} {name}")?;
-            let why = format!(in alloc; "{why}")?;
+        if is_refused(row) {
+            let who = Who(row.subject.clock, row.subject.port);
+            let what = format!(in alloc; "{who} {}", row.subject.id)?;
+            let why = format!(in alloc; "{}", Why(&row.verdict))?;
             values.push(json!(in alloc; {"what": what, "why": why})?)?;
         }
     }
@@ -146,24 +127,14 @@ fn best_value(alloc: Global, best: &[BestClocks]) -> Result<Value, AllocError> {
     let mut values = Vec::new(alloc);
     for of_domain in best {
         let mut map = Map::new(alloc);
-        put(
-            &mut map,
-            alloc,
-            "domainNumber",
-            Value::from(of_domain.domain),
-        )?;
-        put(
-            &mut map,
-            alloc,
-            "clockIdentity",
-            clock_value(alloc, of_domain.first)?,
-        )?;
+        let domain = Value::from(of_domain.domain);
+        put(&mut map, alloc, "domainNumber", domain)?;
+        let first = clock_value(alloc, of_domain.first)?;
+        put(&mut map, alloc, "clockIdentity", first)?;
         let mut changes = Vec::new(alloc);
         for altered in of_domain.alterations.as_slice() {
-            let clock = clock_value(alloc, altered.clock)?;
-            changes.push(
-                json!(in alloc; {"after": altered.after as u64, "clockIdentity": clock})?,
-            )?;
+            let (after, clock) = (altered.after as u64, clock_value(alloc, altered.clock)?);
+            changes.push(json!(in alloc; {"after": after, "clockIdentity": clock})?)?;
         }
         put(&mut map, alloc, "changes", Value::Array(changes))?;
         values.push(Value::Object(map))?;
@@ -173,8 +144,4 @@ fn best_value(alloc: Global, best: &[BestClocks]) -> Result<Value, AllocError> {
 
 fn clock_value(alloc: Global, clock: ClockIdentity) -> Result<Value, AllocError> {
     Ok(Value::String(format!(in alloc; "{clock}")?))
-}
-
-fn text_value(alloc: Global, text: &str) -> Result<Value, AllocError> {
-    Ok(Value::String(String::from_str(alloc, text)?))
 }

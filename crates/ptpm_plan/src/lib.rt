@@ -48,7 +48,7 @@ pub use order::{OrderKey, Turn, in_order};
 pub use plan::Plan;
 pub use planning::{Form, PlanFault, print_plan, print_questions};
 pub use rows::Row;
-pub use subject::{Asked, Subject};
+pub use subject::Subject;
 pub use surveyed::{Surveyed, SurveyedClock, SurveyedPort};
 pub use text::Text;
 pub use verdict::Verdict;

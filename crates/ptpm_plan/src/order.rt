@@ -7,7 +7,7 @@ ghost use Rattle.ptpm_plan.specs.Order.{grows, hops_of, is_best, is_longer, is_m
 
 use crate::best_clock::{Rank, RankedClock, best_in, first_octet, ranks_after, ranks_of};
 use crate::change::{Change, PlannedId};
-use crate::surveyed::Surveyed;
+use crate::surveyed::{Surveyed, clock_in, port_in};
 use ptpm_codec::ClockIdentity;
 use ptpm_data::PortState;
 use std::alloc::{AllocError, Global};
@@ -58,10 +58,9 @@ impl Outlook<'_> {
     fn is_sender(&self, change: &Change) -> bool
         ensures { result ≡ is_sender self.now.surveyed.now change.now }
     {
-        match self.surveyed.port(change.domain, change.clock, change.port) {
-            Some(port) => port.state == Some(PortState::Master),
-            None => false,
-        }
+        let ports = self.surveyed.ports.as_slice();
+        let port = port_in(ports, change.domain, change.clock, change.port);
+        port.map_or(false, |port| port.state == Some(PortState::Master))
     }
 
     fn interval_turn(&self, change: &Change) -> Turn
@@ -88,10 +87,8 @@ impl Outlook<'_> {
     fn hops(&self, change: &Change) -> u8
         ensures { result ≡ hops_of self.now.surveyed.now change.now }
     {
-        match self.surveyed.clock(change.domain, change.clock) {
-            Some(clock) => clock.hops,
-            None => 0,
-        }
+        let clock = clock_in(self.surveyed.clocks.as_slice(), change.domain, change.clock);
+        clock.map_or(0, |clock| clock.hops)
     }
 
     fn turn(&self, change: &Change) -> Turn
@@ -180,10 +177,7 @@ fn rank_in(domain: u8, clock: ClockIdentity, ranks: &[RankedClock]) -> Option<Ra
 fn is_best(domain: u8, clock: ClockIdentity, ranks: &[RankedClock]) -> bool
     ensures { result ≡ is_best domain clock ranks.now }
 {
-    match best_in(domain, ranks) {
-        Some(best) => best.identity == clock,
-        None => false,
-    }
+    best_in(domain, ranks).map_or(false, |best| best.identity == clock)
 }
 
 /// The changes in the order in which they are asked.

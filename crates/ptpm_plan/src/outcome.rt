@@ -1,12 +1,13 @@
 //! What comes of a plan: what can't be set, who is not reached, and the exit status.
 
-ghost use Rattle.std.specs.Prelude.{◌≡◌, ◌<◌, length};
+ghost use Rattle.std.specs.Prelude.{◌≡◌};
 ghost use Rattle.std.specs.List.{list_any};
 ghost use Rattle.ptpm_plan.specs.Outcome.{is_not_reached, is_refused, status_of, status_of_rows};
 
 use crate::asking::Unnamed;
 use crate::plan::Plan;
 use crate::rows::Row;
+use crate::subject::Subject;
 use crate::verdict::Verdict;
 use crate::wish::{PlanFile, Target};
 use ptpm_codec::{ClockIdentity, ErrorId};
@@ -51,14 +52,14 @@ fn has_refused(rows: &[Row]) -> bool
 }
 
 /// Whether the clock gave no answer for a member.
-pub(crate) fn is_not_reached(row: &Row) -> bool
+fn is_not_reached(row: &Row) -> bool
     ensures { result ≡ is_not_reached row.now }
 {
     matches!(row.verdict, Verdict::NotReached)
 }
 
 /// Whether a member can't be set.
-fn is_refused(row: &Row) -> bool
+pub(crate) fn is_refused(row: &Row) -> bool
     ensures { result ≡ is_refused row.now }
 {
     matches!(
@@ -67,36 +68,23 @@ fn is_refused(row: &Row) -> bool
     )
 }
 
-/// Why a member can't be set.
+/// Why a member can't be set, by its verdict.
 #[derive(Clone, Copy)]
-pub(crate) enum Why {
-    NoPort,
-    GetRefused(u16),
-    NoValue(ParseFault),
-}
+pub(crate) struct Why<'a>(pub(crate) &'a Verdict);
 
-/// Why a member can't be set, if it is so.
-pub(crate) fn why_not(verdict: &Verdict) -> Option<Why> {
-    match verdict {
-        Verdict::NoPort => Some(Why::NoPort),
-        Verdict::GetRefused(error) => Some(Why::GetRefused(*error)),
-        Verdict::NoValue(fault) => Some(Why::NoValue(*fault)),
-        _ => None,
-    }
-}
-
-impl fmt::Display for Why {
+impl fmt::Display for Why<'_> {
     fn fmt<W: fmt::Write>(&self, f: &mut fmt::Formatter<W>) -> fmt::Result {
-        match *self {
-            Why::NoPort => f.write_str("it has no such port"),
-            Why::GetRefused(number) => match ErrorId::from_number(number) {
+        match self.0 {
+            Verdict::NoPort => f.write_str("it has no such port"),
+            Verdict::GetRefused(number) => match ErrorId::from_number(*number) {
                 Some(error) => write!(f, "GET is refused: {error}"),
-                None => write!(f, "GET is refused: 0x{number:04x}"),
+                None => write!(f, "GET is refused: 0x{:04x}", *number),
             },
-            Why::NoValue(ParseFault::NoValue(member)) => {
+            Verdict::NoValue(ParseFault::NoValue(member)) => {
                 write!(f, "the value is none of {}", member.name())
             }
-            Why::NoValue(_) => f.write_str("the value is none of the id"),
+            Verdict::NoValue(_) => f.write_str("the value is none of the id"),
+            _ => Ok(()),
         }
     }
 }
@@ -109,57 +97,31 @@ pub(crate) fn not_reached(
 ) -> Result<Vec<String>, AllocError> {
     let mut lines = Vec::new(alloc);
     for unnamed in plan.unnamed.as_slice() {
-        if let Some(line) = unnamed_line(alloc, file, *unnamed)? {
-            lines.push(line)?;
+        if let Some(table) = file.clocks.get(unnamed.place) {
+            if let Target::Description(text) = &table.target {
+                let (text, have, domain) = (text.as_str(), Have(unnamed.count), table.domain);
+                lines.push(format!(in alloc;
+                    "{text:?}: {have} this description in domain {domain}"
+                )?)?;
+            }
         }
     }
     let rows = plan.rows.as_slice();
     for place in 0..rows.len() {
-        if is_not_reached(&rows[place]) && !is_told(rows, place) {
-            lines.push(silent_line(alloc, &rows[place])?)?;
+        let Subject { domain, clock, .. } = rows[place].subject;
+        let (earlier, _) = rows.split_at(place);
+        if is_not_reached(&rows[place])
+            && !earlier.iter().any(|row| is_silent(row, domain, clock))
+        {
+            lines.push(format!(in alloc; "{clock} in domain {domain}")?)?;
         }
     }
     Ok(lines)
 }
 
-/// Whether an earlier row says that its clock was not reached.
-fn is_told(rows: &[Row], place: usize) -> bool
-    requires { place < length rows.now }
-{
-    let row = &rows[place];
-    let (earlier, _) = rows.split_at(place);
-    earlier.iter().any(|other| is_not_reached(other)
-        && is_of(other, row.subject.domain, row.subject.clock))
-}
-
-fn is_of(row: &Row, domain: u8, clock: ClockIdentity) -> bool {
-    row.subject.domain == domain && row.subject.clock == clock
-}
-
-fn silent_line(alloc: Global, row: &Row) -> Result<String, AllocError> {
-    let clock = row.subject.clock;
-    let domain = row.subject.domain;
-    format!(in alloc; "{clock} in domain {domain}")
-}
-
-/// The line of a table that names no clock.
-fn unnamed_line(
-    alloc: Global,
-    file: &PlanFile,
-    unnamed: Unnamed,
-) -> Result<Option<String>, AllocError> {
-    let Some(table) = file.clocks.get(unnamed.place) else {
-        return Ok(None);
-    };
-    match &table.target {
-        Target::Identity(_) => Ok(None),
-        Target::Description(text) => {
-            let text = text.as_str();
-            let domain = table.domain;
-            let have = Have(unnamed.count);
-            Ok(Some(format!(in alloc; "{text:?}: {have} this description in domain {domain}")?))
-        }
-    }
+/// Whether a row says that a clock of a domain was not reached.
+fn is_silent(row: &Row, domain: u8, clock: ClockIdentity) -> bool {
+    is_not_reached(row) && row.subject.domain == domain && row.subject.clock == clock
 }
 
 /// How many clocks have something.

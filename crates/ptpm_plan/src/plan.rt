@@ -9,10 +9,9 @@ ghost use Rattle.ptpm_plan.specs.Rows.{with_row};
 
 use crate::answer::value_of;
 use crate::answers::Answers;
-use crate::asking::{Unnamed, ask_clocks, unnamed_of};
+use crate::asking::{Known, Unnamed, unnamed_of};
 use crate::best_clock::{BestClocks, best_clocks};
 use crate::change::Change;
-use crate::every::ask_all;
 use crate::file_fault::FileFault;
 use crate::order::in_order;
 use crate::rows::Row;
@@ -46,12 +45,8 @@ impl Plan {
     {
         let surveyed = answers.surveyed(alloc)?;
         let rows = rows_of_file(alloc, file, answers, &surveyed)?;
-        let unnamed = all_unnamed(
-            alloc,
-            answers,
-            surveyed.clocks.as_slice(),
-            file.clocks.as_slice(),
-        )?;
+        let clocks = surveyed.clocks.as_slice();
+        let unnamed = all_unnamed(alloc, answers, clocks, file.clocks.as_slice())?;
         let changes = changes_of(alloc, rows.as_slice())?;
         let changes = in_order(alloc, changes, &surveyed)?;
         let best = best_clocks(alloc, changes.as_slice(), &surveyed)?;
@@ -76,10 +71,14 @@ fn rows_of_file(
 ) -> Result<Vec<Row>, FileFault>
     ensures { IfOk result (λ v. v.items ≡ fold with_row [] (rows_of_file answers.now.list.items surveyed.now file.now)) }
 {
+    let known = Known {
+        alloc,
+        answers,
+        surveyed,
+    };
     let mut rows = Vec::new(alloc);
-    let clocks = surveyed.clocks.as_slice();
-    ask_clocks(alloc, answers, clocks, file.clocks.as_slice(), &mut rows)?;
-    ask_all(alloc, answers, surveyed, file.every.as_slice(), &mut rows)?;
+    known.ask_clocks(file.clocks.as_slice(), &mut rows)?;
+    known.ask_all(file.every.as_slice(), &mut rows)?;
     Ok(rows)
 }
 

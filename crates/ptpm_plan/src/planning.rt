@@ -5,7 +5,7 @@ use crate::asks::print_asks;
 use crate::file_fault::FileFault;
 use crate::outcome::status_of;
 use crate::plan::Plan;
-use crate::report::{Report, no_memory};
+use crate::report::Report;
 use crate::wish::PlanFile;
 use ptpm_commands::Fault;
 use ptpm_commands::lines::Lines;
@@ -77,16 +77,14 @@ pub fn print_plan<R: Read + Drop, O: Write>(
 /// Prints what is asked before the plan of a file can be made.
 pub fn print_questions<O: Write>(alloc: Global, text: &[u8], out: &mut O) -> Result<(), PlanFault> {
     let file = read_file(alloc, text)?;
-    let domains = file.domains(alloc).map_err(no_memory)?;
+    let domains = file.domains(alloc).map_err(Fault::from)?;
     print_asks(&file, domains.as_slice(), out).map_err(Fault::from)?;
     Ok(())
 }
 
 fn read_file(alloc: Global, text: &[u8]) -> Result<PlanFile, FileFault> {
-    match std::str::from_utf8(text) {
-        Ok(text) => PlanFile::read(alloc, text),
-        Err(_) => Err(FileFault::NotToml),
-    }
+    let text = std::str::from_utf8(text).map_err(|_| FileFault::NotToml)?;
+    PlanFile::read(alloc, text)
 }
 
 /// The answers among a reader's lines. A datagram that is no answer is passed over; a line that is no datagram in hexadecimal is a
@@ -99,7 +97,7 @@ fn read_answers<R: Read + Drop>(alloc: Global, reader: R) -> Result<Answers, Fau
             break;
         }
         if let Some(datagram) = lines.datagram(alloc, number)? {
-            answers.take(datagram.as_slice()).map_err(no_memory)?;
+            answers.take(datagram.as_slice())?;
         }
     }
     Ok(answers)

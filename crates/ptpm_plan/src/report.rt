@@ -2,15 +2,12 @@
 
 use crate::answers::Answers;
 use crate::change::Change;
-use crate::clock_names::ClockNames;
 use crate::digest::digest_of;
-use crate::outcome::{not_reached, why_not};
+use crate::outcome::{Why, is_refused, not_reached};
 use crate::places::{Arrow, Values, Who};
 use crate::plan::Plan;
-use crate::rows::Row;
 use crate::verdict::{Verdict, text_of};
 use crate::wish::PlanFile;
-use ptpm_codec::ClockIdentity;
 use ptpm_commands::Fault;
 use std::alloc::{AllocError, Global};
 use std::fmt;
@@ -41,7 +38,7 @@ impl Report<'_> {
 
     fn print_head<O: Write>(&self, alloc: Global, out: &mut O) -> Result<(), Fault> {
         let changes = self.plan.changes.as_slice();
-        let id = id_text(alloc, changes).map_err(no_memory)?;
+        let id = id_text(alloc, changes)?;
         let count = Counted(changes.len(), "change");
         let clocks = Counted(clock_count(changes), "clock");
         writeln!(out, "plan {id}: {count} at {clocks}")?;
@@ -49,20 +46,12 @@ impl Report<'_> {
     }
 
     fn print_changes<O: Write>(&self, alloc: Global, out: &mut O) -> Result<(), Fault> {
-        let names = ClockNames {
-            file: self.file,
-            answers: self.answers,
-        };
-        let mut number = 1usize;
-        for change in self.plan.changes.as_slice() {
-            let name = names
-                .quoted(alloc, change.domain, change.clock)
-                .map_err(no_memory)?;
-            let who = who_of(change);
+        for (place, change) in self.plan.changes.as_slice().iter().enumerate() {
+            let name = self.quoted(alloc, change.domain, change.clock)?;
+            let who = Who(change.clock, change.port);
             let domain = InDomain(change.domain);
-            write!(out, "  {number} {who}{name}{domain} ")?;
+            write!(out, "  {} {who}{name}{domain} ", place + 1)?;
             print_change(alloc, change, out)?;
-            number = number.saturating_add(1);
         }
         Ok(())
     }
@@ -72,11 +61,10 @@ impl Report<'_> {
         for row in self.plan.rows.as_slice() {
             if let Verdict::Stays(field) = &row.verdict {
                 let id = row.subject.id;
-                let lines = text_of(alloc, id, field.as_slice()).map_err(no_memory)?;
-                let lines = lines.as_str();
-                let values = Values { id, lines };
-                let who = who_of_row(row);
-                writeln!(out, "{head}  {who} {} {values}", id.name())?;
+                let lines = text_of(alloc, id, field.as_slice())?;
+                let values = Values(id, lines.as_str());
+                let who = Who(row.subject.clock, row.subject.port);
+                writeln!(out, "{head}  {who} {id} {values}")?;
                 head = "";
             }
         }
@@ -86,9 +74,10 @@ impl Report<'_> {
     fn print_refused<O: Write>(&self, out: &mut O) -> Result<(), Fault> {
         let mut head = "can't be set:\n";
         for row in self.plan.rows.as_slice() {
-            if let Some(why) = why_not(&row.verdict) {
-                let who = who_of_row(row);
-                writeln!(out, "{head}  {who} {}: {why}", row.subject.id.name())?;
+            if is_refused(row) {
+                let who = Who(row.subject.clock, row.subject.port);
+                let (id, why) = (row.subject.id, Why(&row.verdict));
+                writeln!(out, "{head}  {who} {id}: {why}")?;
                 head = "";
             }
         }
@@ -97,7 +86,7 @@ impl Report<'_> {
 
     fn print_not_reached<O: Write>(&self, alloc: Global, out: &mut O) -> Result<(), Fault> {
         let mut head = "not reached:\n";
-        let lines = not_reached(alloc, self.plan, self.file).map_err(no_memory)?;
+        let lines = not_reached(alloc, self.plan, self.file)?;
         for line in lines.as_slice() {
             writeln!(out, "{head}  {line}")?;
             head = "";
@@ -122,24 +111,14 @@ impl Report<'_> {
     /// Prints an empty line, and a line for each change with its dataFields.
     pub(crate) fn print_steps<O: Write>(&self, alloc: Global, out: &mut O) -> Result<(), Fault> {
         writeln!(out)?;
-        let mut number = 1usize;
-        for change in self.plan.changes.as_slice() {
-            let Change {
-                domain,
-                clock,
-                port,
-                ..
-            } = change;
-            let id = change.id.number();
-            let before = hex::encode(alloc, change.before.as_slice()).map_err(no_memory)?;
-            let after = hex::encode(alloc, change.after.as_slice()).map_err(no_memory)?;
-            write!(
-                out,
-                "step {number} {domain} {clock} {port} {id:04x} {before} {after} "
-            )?;
-            write!(out, "{} ", who_of(change))?;
+        for (place, change) in self.plan.changes.as_slice().iter().enumerate() {
+            let (domain, clock, port) = (change.domain, change.clock, change.port);
+            let (number, id) = (place + 1, change.id.number());
+            let before = hex::encode(alloc, change.before.as_slice())?;
+            let after = hex::encode(alloc, change.after.as_slice())?;
+            write!(out, "step {number} {domain} {clock} {port} {id:04x} ")?;
+            write!(out, "{before} {after} {} ", Who(clock, port))?;
             print_change(alloc, change, out)?;
-            number = number.saturating_add(1);
         }
         Ok(())
     }
@@ -148,16 +127,11 @@ impl Report<'_> {
 /// Prints what a change does: its id, and its values before and after.
 fn print_change<O: Write>(alloc: Global, change: &Change, out: &mut O) -> Result<(), Fault> {
     let id = change.id;
-    let before = text_of(alloc, id, change.before.as_slice()).map_err(no_memory)?;
-    let after = text_of(alloc, id, change.after.as_slice()).map_err(no_memory)?;
-    let before = before.as_str();
-    let after = after.as_str();
-    writeln!(out, "{} {}", id.name(), Arrow { id, before, after })?;
+    let before = text_of(alloc, id, change.before.as_slice())?;
+    let after = text_of(alloc, id, change.after.as_slice())?;
+    let arrow = Arrow(id, before.as_str(), after.as_str());
+    writeln!(out, "{id} {arrow}")?;
     Ok(())
-}
-
-pub(crate) fn no_memory(_refused: AllocError) -> Fault {
-    Fault::OutOfMemory
 }
 
 /// The id of a plan.
@@ -170,30 +144,13 @@ pub(crate) fn id_text(alloc: Global, changes: &[Change]) -> Result<String, Alloc
 fn clock_count(changes: &[Change]) -> usize {
     let mut count = 0usize;
     for place in 0..changes.len() {
+        let clock = changes[place].clock;
         let (earlier, _) = changes.split_at(place);
-        if !has_clock(earlier, changes[place].clock) {
+        if !earlier.iter().any(|change| change.clock == clock) {
             count = count.saturating_add(1);
         }
     }
     count
-}
-
-fn has_clock(changes: &[Change], clock: ClockIdentity) -> bool {
-    changes.iter().any(|change| change.clock == clock)
-}
-
-fn who_of(change: &Change) -> Who {
-    Who {
-        clock: change.clock,
-        port: change.port,
-    }
-}
-
-pub(crate) fn who_of_row(row: &Row) -> Who {
-    Who {
-        clock: row.subject.clock,
-        port: row.subject.port,
-    }
 }
 
 /// A number of things: `1 change`, `2 changes`.
@@ -213,10 +170,9 @@ struct InDomain(u8);
 
 impl fmt::Display for InDomain {
     fn fmt<W: fmt::Write>(&self, f: &mut fmt::Formatter<W>) -> fmt::Result {
-        if self.0 == 0 {
-            Ok(())
-        } else {
-            write!(f, " domain {}", self.0)
+        match self.0 {
+            0 => Ok(()),
+            domain => write!(f, " domain {domain}"),
         }
     }
 }

@@ -1,14 +1,15 @@
 //! What becomes of each member that a plan asks for, a row each.
 
-ghost use Rattle.std.specs.Prelude.{◌≡◌, IfOk, OnOk};
+ghost use Rattle.std.specs.Prelude.{◌≡◌, OnOk};
 ghost use Rattle.std.specs.Option.{option_copied};
-ghost use Rattle.ptpm_plan.specs.Rows.{AddsRow, is_row_of, row_in, row_of, with_row};
+ghost use Rattle.ptpm_plan.specs.Rows.{AddsRow, is_row_of, row_in, with_row};
 
-use crate::answers::Answers;
 use crate::file_fault::FileFault;
-use crate::subject::{Asked, Subject};
-use crate::verdict::{Verdict, verdict_of};
-use std::alloc::{AllocError, Global};
+use crate::subject::Subject;
+use crate::verdict::Verdict;
+
+/// Whether rows were added: not if memory is refused, or if two tables want two values of a member.
+pub(crate) type Added = Result<(), FileFault>;
 
 /// What becomes of a member.
 #[derive(Drop)]
@@ -17,17 +18,6 @@ pub struct Row {
     pub place: usize,
     pub subject: Subject,
     pub verdict: Verdict,
-}
-
-/// The row of a member, by the answers of its clock.
-pub(crate) fn row_of(alloc: Global, answers: &Answers, asked: &Asked<'_>) -> Result<Row, AllocError>
-    ensures { IfOk result (λ r. r ≡ row_of answers.now.list.items asked.now.place asked.now.subject asked.now.wished.now) }
-{
-    Ok(Row {
-        place: asked.place,
-        subject: asked.subject,
-        verdict: verdict_of(alloc, answers, asked)?,
-    })
 }
 
 /// The row of a member, if there is one.
@@ -47,17 +37,13 @@ fn is_row_of(row: &Row, subject: Subject) -> bool
 }
 
 /// Adds a row. One that says the same as that of the same member is left out; one that says something else is a fault.
-pub(crate) fn add_row(rows: &mut Vec<Row>, row: Row) -> Result<(), FileFault>
+pub(crate) fn add_row(rows: &mut Vec<Row>, row: Row) -> Added
     ensures adds { AddsRow rows.old.items row result rows.new.items }
     ensures rows { OnOk result (rows.new.items ≡ with_row rows.old.items row) }
 {
-    if let Some(there) = row_in(row.subject, rows.as_slice()) {
-        return if there.verdict.is_alike(&row.verdict) {
-            Ok(())
-        } else {
-            Err(FileFault::TwoValues(row.subject))
-        };
+    match row_in(row.subject, rows.as_slice()) {
+        Some(there) if there.verdict.is_alike(&row.verdict) => Ok(()),
+        Some(_) => Err(FileFault::TwoValues(row.subject)),
+        None => Ok(rows.push(row)?),
     }
-    rows.push(row)?;
-    Ok(())
 }

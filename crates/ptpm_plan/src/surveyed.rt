@@ -4,7 +4,7 @@ ghost use Rattle.std.specs.Prelude.{◌≡◌};
 ghost use Rattle.std.specs.Option.{option_copied};
 ghost use Rattle.ptpm_plan.specs.Surveyed.{clock_in, port_in};
 
-use ptpm_codec::{ClockIdentity, PortIdentity};
+use ptpm_codec::ClockIdentity;
 use ptpm_data::{ClockPrecedence, PortState};
 
 /// A clock that answered in a domain.
@@ -32,39 +32,11 @@ pub struct SurveyedPort {
     pub settings: [u8; 5],
 }
 
-impl SurveyedPort {
-    /// portIdentity.
-    pub fn identity(&self) -> PortIdentity
-        ensures { result ≡ record { clock = self.now.clock; port = self.now.number } }
-    {
-        PortIdentity {
-            clock: self.clock,
-            port: self.number,
-        }
-    }
-}
-
 /// The clocks and ports of a site. Of each there is one entry at most.
 #[derive(Drop)]
 pub struct Surveyed {
     pub clocks: Vec<SurveyedClock>,
     pub ports: Vec<SurveyedPort>,
-}
-
-impl Surveyed {
-    /// A clock of a domain, if it answered there.
-    pub fn clock(&self, domain: u8, identity: ClockIdentity) -> Option<&SurveyedClock>
-        ensures { option_copied result ≡ clock_in domain identity self.now.clocks.items }
-    {
-        clock_in(self.clocks.as_slice(), domain, identity)
-    }
-
-    /// A port of a clock, if its PORT_DATA_SET was answered.
-    pub fn port(&self, domain: u8, clock: ClockIdentity, number: u16) -> Option<&SurveyedPort>
-        ensures { option_copied result ≡ port_in domain clock number self.now.ports.items }
-    {
-        port_in(self.ports.as_slice(), domain, clock, number)
-    }
 }
 
 /// A clock of a domain among these.

@@ -68,13 +68,11 @@ impl Answers {
         ensures { OnOk result (All (IsPortOf self.now.list.items) ports.new.items) }
     {
         let (domain, clock, number) = (answer.domain, answer.source.clock, answer.source.port);
-        if answer.id != PORT_DATA_SET
-            || port_in(ports.as_slice(), domain, clock, number).is_some()
-        {
-            return Ok(());
-        }
-        if let Some(port) = self.port_from(domain, clock, number) {
-            ports.push(port)?;
+        let there = port_in(ports.as_slice(), domain, clock, number);
+        if answer.id == PORT_DATA_SET && there.is_none() {
+            if let Some(port) = self.port_from(domain, clock, number) {
+                ports.push(port)?;
+            }
         }
         Ok(())
     }
@@ -88,14 +86,8 @@ impl Answers {
             domain,
             identity,
             hops: self.hops(domain, identity),
-            number_ports: match field {
-                Some(field) => Some(pair_at(field, 2)),
-                None => None,
-            },
-            precedence: match field {
-                Some(field) => Some(precedence_in(field)),
-                None => None,
-            },
+            number_ports: field.map(|field| pair_at(field, 2)),
+            precedence: field.map(precedence_in),
         }
     }
 

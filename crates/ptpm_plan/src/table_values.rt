@@ -1,6 +1,6 @@
 //! Values at the keys of a plan file's tables.
 
-use crate::file_fault::{FileFault, Place, TableFault};
+use crate::file_fault::{FileFault, Place};
 use toml::{Table, Value};
 
 /// The table that a value is.
@@ -11,7 +11,7 @@ pub(crate) fn shaped<'a>(
 ) -> Result<&'a Table, FileFault> {
     match value.as_table() {
         Some(table) => Ok(table),
-        None => Err(FileFault::at(place, TableFault::Takes(key, "a table"))),
+        None => Err(FileFault::takes(place, key, "a table")),
     }
 }
 
@@ -25,7 +25,7 @@ pub(crate) fn text_at<'a>(
         None => Ok(None),
         Some(value) => match value.as_str() {
             Some(text) => Ok(Some(text)),
-            None => Err(FileFault::at(place, TableFault::Takes(key, "a text"))),
+            None => Err(FileFault::takes(place, key, "a text")),
         },
     }
 }
@@ -37,6 +37,6 @@ pub(crate) fn domain_at(table: &Table, place: Place) -> Result<u8, FileFault> {
     };
     match value.as_integer() {
         Some(number) if 0 <= number && number <= 0xff => Ok(number as u8),
-        _ => Err(FileFault::at(place, TableFault::Takes("domain", "a number from 0 to 255"))),
+        _ => Err(FileFault::takes(place, "domain", "a number from 0 to 255")),
     }
 }

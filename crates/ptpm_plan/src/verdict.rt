@@ -3,14 +3,14 @@
 ghost use Rattle.std.specs.Prelude.{◌≡◌, ◌≤◌, IfOk, length, string_bytes, []};
 ghost use Rattle.ptpm_members.specs.FieldText.{field_text};
 ghost use Rattle.ptpm_plan.specs.PlannedId.{number_of};
-ghost use Rattle.ptpm_plan.specs.Verdicts.{changed, has_fewer_ports, is_same, lacks_port, unanswered, verdict_of, verdict_of_said};
+ghost use Rattle.ptpm_plan.specs.Verdicts.{changed, has_fewer_ports, is_same, lacks_port, verdict_of, verdict_of_said};
 
 use crate::after::after;
 use crate::answer::{Said, value_of};
 use crate::answers::Answers;
 use crate::change::PlannedId;
 use crate::octets::pair_at;
-use crate::subject::{Asked, Subject};
+use crate::subject::Subject;
 use crate::wish::Wished;
 use ptpm_data::Value;
 use ptpm_members::{FieldText, ParseFault};
@@ -60,26 +60,16 @@ impl Verdict {
 pub fn verdict_of(
     alloc: Global,
     answers: &Answers,
-    asked: &Asked<'_>,
+    subject: Subject,
+    wished: &Wished,
 ) -> Result<Verdict, AllocError>
-    ensures { IfOk result (λ v. v ≡ verdict_of answers.now.list.items asked.now.subject asked.now.wished.now) }
+    ensures { IfOk result (λ v. v ≡ verdict_of answers.now.list.items subject wished.now) }
 {
-    let subject = asked.subject;
     let number = subject.id.number();
     match answers.last(subject.domain, subject.clock, subject.port, number) {
-        Some(answer) => verdict_of_said(alloc, subject.id, asked.wished, &answer.said),
-        None => Ok(unanswered(answers, subject)),
-    }
-}
-
-/// What becomes of a member for which there is no answer.
-fn unanswered(answers: &Answers, subject: Subject) -> Verdict
-    ensures { result ≡ unanswered answers.now.list.items subject }
-{
-    if lacks_port(answers, subject) {
-        Verdict::NoPort
-    } else {
-        Verdict::NotReached
+        Some(answer) => verdict_of_said(alloc, subject.id, wished, &answer.said),
+        None if lacks_port(answers, subject) => Ok(Verdict::NoPort),
+        None => Ok(Verdict::NotReached),
     }
 }
 
@@ -88,10 +78,8 @@ fn unanswered(answers: &Answers, subject: Subject) -> Verdict
 fn lacks_port(answers: &Answers, subject: Subject) -> bool
     ensures { result ≡ lacks_port answers.now.list.items subject }
 {
-    match answers.last(subject.domain, subject.clock, 0, DEFAULT_DATA_SET) {
-        Some(answer) => has_fewer_ports(&answer.said, subject.port),
-        None => false,
-    }
+    let answer = answers.last(subject.domain, subject.clock, 0, DEFAULT_DATA_SET);
+    answer.map_or(false, |answer| has_fewer_ports(&answer.said, subject.port))
 }
 
 /// Whether numberPorts of a DEFAULT_DATA_SET is below a port's number.
@@ -127,12 +115,10 @@ fn changed(alloc: Global, id: PlannedId, before: &[u8], after: Value) -> Result<
     requires { length before.now ≤ 130 }
     ensures { IfOk result (λ v. v ≡ changed id before.now after.items) }
 {
-    let before_value = value_of(before);
     if is_same(alloc, id, before, after.as_slice())? {
-        Ok(Verdict::Stays(before_value))
-    } else {
-        Ok(Verdict::Changes(before_value, after))
+        return Ok(Verdict::Stays(value_of(before)));
     }
+    Ok(Verdict::Changes(value_of(before), after))
 }
 
 /// Whether two dataFields of an id have members of the same values: reserved octets and bits do not count.

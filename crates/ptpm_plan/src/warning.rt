@@ -21,16 +21,12 @@ impl fmt::Display for Warning {
     fn fmt<W: fmt::Write>(&self, f: &mut fmt::Formatter<W>) -> fmt::Result {
         match self {
             Warning::Refused(port, id) => {
-                let (name, range) = (id.name(), Taken(*id));
                 if id.is_of_port() {
-                    write!(f, "{port} {name}: a clock of ptpm takes {range} alone")
+                    write!(f, "{port}")?;
                 } else {
-                    write!(
-                        f,
-                        "{} {name}: a clock of ptpm takes {range} alone",
-                        port.clock
-                    )
+                    write!(f, "{}", port.clock)?;
                 }
+                write!(f, " {id}: a clock of ptpm takes {} alone", Taken(*id))
             }
             Warning::BestClock(domain, times) => {
                 write!(f, "domain {domain}: the best clock changes {times} times")

@@ -8,7 +8,7 @@ ghost use Rattle.ptpm_data.specs.Refusals.{is_set_value};
 ghost use Rattle.ptpm_plan.specs.PlannedId.{setting_of};
 ghost use Rattle.ptpm_plan.specs.Warnings.{below_doublings, is_taken, is_taken_of_clock, refusal};
 
-use crate::best_clock::{BestClocks, best_clocks, first_octet};
+use crate::best_clock::{best_clocks, first_octet};
 use crate::change::{Change, PlannedId};
 use crate::surveyed::{Surveyed, SurveyedPort};
 use crate::warning::Warning;
@@ -23,10 +23,19 @@ pub fn warnings_of(
     surveyed: &Surveyed,
 ) -> Result<Vec<Warning>, AllocError> {
     let mut found = refusals(alloc, changes)?;
-    let best = best_clocks(alloc, changes, surveyed)?;
-    add_best_clocks(best.as_slice(), &mut found)?;
+    let all = best_clocks(alloc, changes, surveyed)?;
+    for best in all.as_slice() {
+        let times = best.alterations.len();
+        if times > 1 {
+            found.push(Warning::BestClock(best.domain, times))?;
+        }
+    }
     add_impatient(alloc, changes, surveyed, &mut found)?;
-    add_mechanisms(changes, &mut found)?;
+    for (place, change) in changes.iter().enumerate() {
+        if change.id == PlannedId::DelayMechanism {
+            found.push(Warning::Mechanism(place + 1))?;
+        }
+    }
     Ok(found)
 }
 
@@ -94,27 +103,6 @@ fn has_one_leap(octets: &[u8]) -> bool
     }
 }
 
-/// Adds the domains whose best clock changes more than once.
-fn add_best_clocks(best: &[BestClocks], found: &mut Vec<Warning>) -> Result<(), AllocError> {
-    for clocks in best {
-        let times = clocks.alterations.len();
-        if times > 1 {
-            found.push(Warning::BestClock(clocks.domain, times))?;
-        }
-    }
-    Ok(())
-}
-
-/// Adds the changes of how a port measures delay.
-fn add_mechanisms(changes: &[Change], found: &mut Vec<Warning>) -> Result<(), AllocError> {
-    for (place, change) in changes.iter().enumerate() {
-        if change.id == PlannedId::DelayMechanism {
-            found.push(Warning::Mechanism(place + 1))?;
-        }
-    }
-    Ok(())
-}
-
 /// A port that sends Announces, or waits for them.
 #[derive(Clone, Copy)]
 struct Announcing {
@@ -124,13 +112,6 @@ struct Announcing {
 }
 
 impl Announcing {
-    fn of(port: &SurveyedPort) -> Announcing {
-        Announcing {
-            port: *port,
-            is_known: false,
-        }
-    }
-
     fn is_sender(&self) -> bool {
         self.port.state == Some(PortState::Master)
     }
@@ -146,36 +127,26 @@ impl Announcing {
 
     /// Carries out a change, if it is one of this port.
     fn take(&mut self, change: &Change) {
-        let is_own = change.domain == self.port.domain
-            && change.clock == self.port.clock
-            && change.port == self.port.number;
-        if !is_own {
-            return;
-        }
-        if let Some(setting) = change.id.setting() {
-            self.port.settings[setting.place()] = first_octet(&change.after);
+        let port = &mut self.port;
+        let is_one = change.domain == port.domain && change.clock == port.clock;
+        if is_one && change.port == port.number {
+            if let Some(setting) = change.id.setting() {
+                port.settings[setting.place()] = first_octet(&change.after);
+            }
         }
     }
 
-    /// Whether it waits for less than two intervals of a sender, and did not before.
+    /// Whether it waits for less than two intervals of a sender, and did not before. Intervals are logarithms to the base 2 of seconds.
     fn becomes_impatient(&mut self, domain: u8, slowest: i8) -> bool {
         let timeout = self.octet(PortSetting::AnnounceReceiptTimeout);
+        let doublings = i16::from(slowest) + 1 - i16::from(self.log_interval());
         let is_one = self.port.domain == domain
             && !self.is_sender()
             && !self.is_known
-            && is_below_two(slowest, self.log_interval(), timeout);
-        if is_one {
-            self.is_known = true;
-        }
+            && is_below_doublings(doublings, timeout);
+        self.is_known |= is_one;
         is_one
     }
-}
-
-/// Whether a time-out, in intervals of a receiver, is below two intervals of a sender. The intervals are logarithms to the base 2 of
-/// seconds.
-fn is_below_two(sender: i8, receiver: i8, timeout: u8) -> bool {
-    let doublings = i16::from(sender) + 1 - i16::from(receiver);
-    is_below_doublings(doublings, timeout)
 }
 
 /// Whether an octet is below a power of 2, whose exponent may be negative.
@@ -221,21 +192,11 @@ fn add_newly_impatient(
     };
     for port in ports.iter_mut() {
         if port.becomes_impatient(domain, slowest) {
-            found.push(Warning::Impatient(number, port.port.identity()))?;
+            let (clock, port) = (port.port.clock, port.port.number);
+            found.push(Warning::Impatient(number, PortIdentity { clock, port }))?;
         }
     }
     Ok(())
-}
-
-/// Marks the ports that wait for less than two Announces before any change.
-fn mark_impatient(ports: &mut [Announcing], changes: &[Change]) {
-    for change in changes {
-        if let Some(slowest) = slowest_sender(change.domain, ports) {
-            for port in ports.iter_mut() {
-                let _known = port.becomes_impatient(change.domain, slowest);
-            }
-        }
-    }
 }
 
 /// Adds the ports that may lose their masters meanwhile, each after the first change from which on it waits for less than two Announces.
@@ -245,8 +206,15 @@ fn add_impatient(
     surveyed: &Surveyed,
     found: &mut Vec<Warning>,
 ) -> Result<(), AllocError> {
-    let mut ports: Vec<Announcing> = surveyed.ports.iter().map(Announcing::of).collect(alloc)?;
-    mark_impatient(ports.as_mut_slice(), changes);
+    let of = |port: &SurveyedPort| Announcing {
+        port: *port,
+        is_known: false,
+    };
+    let mut ports: Vec<Announcing> = surveyed.ports.iter().map(of).collect(alloc)?;
+    let mut known = Vec::new(alloc);
+    for change in changes {
+        add_newly_impatient(0, change.domain, ports.as_mut_slice(), &mut known)?;
+    }
     for (place, change) in changes.iter().enumerate() {
         for port in ports.iter_mut() {
             port.take(change);

@@ -16,12 +16,6 @@ pub(crate) enum Owner {
     Port,
 }
 
-impl Owner {
-    fn is_of_port(self) -> bool {
-        matches!(self, Owner::Port)
-    }
-}
-
 /// Reads the ids of a table, in the order of `PlannedId`. Its other keys are given.
 pub(crate) fn read_wishes(
     alloc: Global,
@@ -31,7 +25,9 @@ pub(crate) fn read_wishes(
     place: Place,
 ) -> Result<Vec<Wish>, FileFault> {
     for key in table.keys() {
-        check_key(alloc, key.as_str(), owner, keys, place)?;
+        if let Some(fault) = fault_of(alloc, key.as_str(), owner, keys)? {
+            return Err(FileFault::At(place, fault));
+        }
     }
     let mut wishes = Vec::new(alloc);
     for id in &PlannedId::ALL {
@@ -43,25 +39,16 @@ pub(crate) fn read_wishes(
     Ok(wishes)
 }
 
-/// Whether a key is one of these, or an id that such a table may have.
-fn check_key(
+/// What is wrong with a key that is to be one of these, or an id that such a table may have.
+fn fault_of(
     alloc: Global,
     key: &str,
     owner: Owner,
     keys: &[&str],
-    place: Place,
-) -> Result<(), FileFault> {
+) -> Result<Option<TableFault>, AllocError> {
     if keys.iter().any(|known| *known == key) {
-        return Ok(());
+        return Ok(None);
     }
-    match fault_of(alloc, key, owner)? {
-        None => Ok(()),
-        Some(fault) => Err(FileFault::at(place, fault)),
-    }
-}
-
-/// What is wrong with a key that is to be an id.
-fn fault_of(alloc: Global, key: &str, owner: Owner) -> Result<Option<TableFault>, AllocError> {
     let Some(row) = ptpm_data::by_name(key) else {
         return Ok(Some(TableFault::UnknownKey(Text::copy_of(alloc, key)?)));
     };
@@ -73,13 +60,11 @@ fn fault_of(alloc: Global, key: &str, owner: Owner) -> Result<Option<TableFault>
 
 /// What is wrong with an id in such a table.
 fn misplaced(id: PlannedId, owner: Owner) -> Option<TableFault> {
-    match (id.is_of_port(), owner.is_of_port()) {
-        (true, false) => Some(TableFault::OfPort(id)),
-        (false, true) => Some(TableFault::OfClock(id)),
-        _ => match (id, owner) {
-            (PlannedId::UserDescription, Owner::EveryClock) => Some(TableFault::OneClocks),
-            _ => None,
-        },
+    match owner {
+        Owner::Port if !id.is_of_port() => Some(TableFault::OfClock(id)),
+        Owner::Clock | Owner::EveryClock if id.is_of_port() => Some(TableFault::OfPort(id)),
+        Owner::EveryClock if id == PlannedId::UserDescription => Some(TableFault::OneClocks),
+        _ => None,
     }
 }
 
@@ -90,43 +75,32 @@ fn read_wished(
     value: &Value,
     place: Place,
 ) -> Result<Wished, FileFault> {
-    match id {
-        PlannedId::UtcProperties => {
-            let Some(table) = value.as_table() else {
-                return Err(FileFault::at(place, TableFault::IdTakes(id, "a table of its members")));
-            };
-            Ok(Wished::UtcProperties(read_utc(alloc, table, place)?))
-        }
-        _ => Ok(Wished::Alone(typed(alloc, id, value, place)?)),
+    if id != PlannedId::UtcProperties {
+        return Ok(Wished::Alone(typed(alloc, id, value, place)?));
+    }
+    match value.as_table() {
+        Some(table) => Ok(Wished::UtcProperties(read_utc(alloc, table, place)?)),
+        None => Err(FileFault::At(place, TableFault::IdTakes(id, "a table of its members"))),
     }
 }
-
-/// The names of the members of UTC_PROPERTIES.
-const OFFSET: &str = "currentUtcOffset";
-
-const LEAP61: &str = "leap61";
-
-const LEAP59: &str = "leap59";
-
-const VALID: &str = "currentUtcOffsetValid";
 
 /// What the members of UTC_PROPERTIES are to be.
 fn read_utc(alloc: Global, table: &Table, place: Place) -> Result<UtcWish, FileFault> {
     for key in table.keys() {
         match key.as_str() {
-            OFFSET | LEAP61 | LEAP59 | VALID => {}
+            "currentUtcOffset" | "leap61" | "leap59" | "currentUtcOffsetValid" => {}
             other => {
                 let name = Text::copy_of(alloc, other)?;
                 let fault = TableFault::NoMember(PlannedId::UtcProperties, name);
-                return Err(FileFault::at(place, fault));
+                return Err(FileFault::At(place, fault));
             }
         }
     }
     Ok(UtcWish {
-        offset: member_at(alloc, table, OFFSET, place)?,
-        leap61: member_at(alloc, table, LEAP61, place)?,
-        leap59: member_at(alloc, table, LEAP59, place)?,
-        valid: member_at(alloc, table, VALID, place)?,
+        offset: member_at(alloc, table, "currentUtcOffset", place)?,
+        leap61: member_at(alloc, table, "leap61", place)?,
+        leap59: member_at(alloc, table, "leap59", place)?,
+        valid: member_at(alloc, table, "currentUtcOffsetValid", place)?,
     })
 }
 
@@ -143,27 +117,19 @@ fn member_at(
     }
 }
 
-/// A value as a person types it.
+/// A value as a person types it: a number in decimal, `true` or `false`, or the text.
 fn typed(alloc: Global, id: PlannedId, value: &Value, place: Place) -> Result<Text, FileFault> {
-    match text_of(alloc, value)? {
-        Some(text) => Ok(text),
-        None => Err(FileFault::at(
-            place,
-            TableFault::IdTakes(id, "a number, true or false, or a text"),
-        )),
-    }
-}
-
-/// A number in decimal, `true` or `false`, or the text; `None` of any other value.
-fn text_of(alloc: Global, value: &Value) -> Result<Option<Text>, AllocError> {
-    if let Some(text) = value.as_str() {
-        return Ok(Some(Text::copy_of(alloc, text)?));
-    }
-    if let Some(flag) = value.as_bool() {
-        return Ok(Some(Text::copy_of(alloc, if flag { "true" } else { "false" })?));
-    }
-    match value.as_integer() {
-        Some(number) => Ok(Some(Text::of(format!(in alloc; "{number}")?))),
-        None => Ok(None),
+    let word = match value.as_bool() {
+        Some(true) => Some("true"),
+        Some(false) => Some("false"),
+        None => value.as_str(),
+    };
+    match (word, value.as_integer()) {
+        (Some(word), _) => Ok(Text::copy_of(alloc, word)?),
+        (None, Some(number)) => Ok(Text::of(format!(in alloc; "{number}")?)),
+        (None, None) => {
+            let fault = TableFault::IdTakes(id, "a number, true or false, or a text");
+            Err(FileFault::At(place, fault))
+        }
     }
 }

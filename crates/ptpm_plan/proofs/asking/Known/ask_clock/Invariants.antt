@@ -1,9 +1,9 @@
 use Rattle.std.proofs.Common.{◌≡◌, flat_map, fold, take}
 use Rattle.ptpm_plan.specs.Asking.{rows_of_port}
 use Rattle.ptpm_plan.specs.Rows.{with_row}
-use Rattle.ptpm_plan.proofs.asking.ask_ports.Given as goal
+use Rattle.ptpm_plan.proofs.asking.Known.ask_clock.Given as goal
 
 -- the rows of the ports so far are added
 abbrev pub invariant-loop-port : goal.invariant-loop-port
 invariant-loop-port l =
-    l.rows.items ≡ fold with_row l.initial.rows.items (flat_map (rows_of_port l.answers.list.items l.of) (take l.port-index l.ports))
+    l.rows.items ≡ fold with_row l.initial.rows.items (flat_map (rows_of_port l.self.answers.now.list.items l.of) (take l.port-index l.ports))
