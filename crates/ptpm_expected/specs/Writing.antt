@@ -1,5 +1,5 @@
 -- The inventory of a site as it is.
-use Rattle.std.specs.Prelude.{ℕ, ◌++◌, ◌&&◌, Bool, true, not, is_some, List, [], ◌∷◌, Option, Some, None, map, if◌then◌else◌}
+use Rattle.std.specs.Prelude.{◌≡◌, ℕ, ◌++◌, ◌&&◌, Bool, true, not, is_some, List, [], ◌∷◌, OnOk, Option, Some, None, Result, map, if◌then◌else◌}
 use Rattle.std.specs.BTreeSet.{insert_key}
 use Rattle.std.specs.List.{flat_map, fold}
 use Rattle.std.specs.Str.{IsUtf8}
@@ -48,6 +48,10 @@ line_of site e = line_of_rule site e.domain e.rule
 
 unfoldable pub lines_of : SiteAnswers → List Entry → List Line
 lines_of site entries = map (line_of site) entries
+
+-- with success these lines are added
+abbrev pub Writes : {T E : Type 0} → SiteAnswers → Result T E → List Entry → List Entry → List Line → Type 0
+Writes site result old new lines = OnOk result (lines_of site new ≡ lines_of site old ++ lines)
 
 -- ---- the lines of a site
 

@@ -18,17 +18,12 @@ impl<'a> Descriptions<'a> {
     pub(crate) fn of(alloc: Global, entries: &'a [Entry]) -> Result<Descriptions<'a>, AllocError> {
         let mut by_clock = BTreeMap::new(alloc);
         for entry in entries {
-            let Rule::Member(clock, rule) = &entry.rule else {
-                continue;
-            };
-            let Some(text) = only_text(rule) else {
-                continue;
-            };
-            let source = Source {
-                domain: entry.domain,
-                clock: *clock,
-            };
-            let _ = by_clock.insert(source, text)?;
+            if let Rule::Member(clock, rule) = &entry.rule {
+                let (domain, clock) = (entry.domain, *clock);
+                if let Some(text) = only_text(rule) {
+                    let _ = by_clock.insert(Source { domain, clock }, text)?;
+                }
+            }
         }
         Ok(Descriptions { by_clock })
     }

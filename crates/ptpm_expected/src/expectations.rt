@@ -10,6 +10,7 @@ use crate::held_to_inventory::{hold_to_inventory, keep_open};
 use crate::held_to_profile::hold_to_profile;
 use crate::inventory::Inventory;
 use crate::profile::Profile;
+use crate::telling::Added;
 use ptpm_site::finding::Finding;
 use ptpm_site::left_out::LeftOut;
 use ptpm_site::limits::Limits;
@@ -53,12 +54,9 @@ pub fn picture_of<'a>(
     let mut picture = Picture::of(alloc, site, left_out, limits)?;
     let findings = &mut picture.findings;
     hold(alloc, site, sources.as_slice(), expectations, findings)?;
-    hold_open(
-        alloc,
-        site,
-        expectations.inventory,
-        &mut picture.open_findings,
-    )?;
+    if let Some(inventory) = expectations.inventory {
+        keep_open(alloc, site, inventory, &mut picture.open_findings)?;
+    }
     Ok(picture)
 }
 
@@ -69,7 +67,7 @@ fn hold<'a>(
     sources: &[Source],
     expectations: Expectations<'a>,
     findings: &mut Vec<Finding<'a>>,
-) -> Result<(), AllocError>
+) -> Added
     requires { sources.now ≡ (site_answers site.now).clocks }
     ensures { expectations.entry.inventory ≡ None → OnOk result (length findings.new.items
         ≡ length (said_by (site_answers site.now) expectations.entry.profile (reported findings.old.items))) }
@@ -83,21 +81,6 @@ fn hold<'a>(
     }
 }
 
-/// Holds what is open to an inventory, if there is one.
-fn hold_open(
-    alloc: Global,
-    site: &Site,
-    inventory: Option<&Inventory>,
-    findings: &mut Vec<Finding<'_>>,
-) -> Result<(), AllocError>
-    ensures { OnOk result (findings.new.items ≡ open_by (site_answers site.now) (option_map (λ inventory. inventory.now.entries.items) inventory.entry) findings.old.items) }
-{
-    match inventory {
-        Some(inventory) => keep_open(alloc, site, inventory, findings),
-        None => Ok(()),
-    }
-}
-
 /// Holds the findings of a site to a profile, if there is one.
 fn hold_to_any_profile(
     alloc: Global,
@@ -105,7 +88,7 @@ fn hold_to_any_profile(
     sources: &[Source],
     profile: Option<Profile>,
     findings: &mut Vec<Finding<'_>>,
-) -> Result<(), AllocError>
+) -> Added
     requires { sources.now ≡ (site_answers site.now).clocks }
     ensures { OnOk result (length findings.new.items
         ≡ length (said_by (site_answers site.now) profile (reported findings.old.items))) }

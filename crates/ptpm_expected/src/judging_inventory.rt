@@ -11,7 +11,7 @@ ghost use Rattle.ptpm_expected.specs.Telling.{told_all};
 
 use crate::inventory::{Entry, MemberRule, Rule};
 use crate::meeting::unmet;
-use crate::telling::tell;
+use crate::telling::{Added, tell};
 use ptpm_codec::ClockIdentity;
 use ptpm_site::domain::Domain;
 use ptpm_site::expected::OtherLeaders;
@@ -27,7 +27,7 @@ pub(crate) fn judge_entries<'a>(
     entries: &'a [Entry],
     sources: &[Source],
     findings: &mut Vec<Finding<'a>>,
-) -> Result<(), AllocError>
+) -> Added
     requires { sources.now ≡ (site_answers site.now).clocks }
     ensures { OnOk result (told_all findings.new.items ≡ told_all findings.old.items ++ flat_map (entry_told (site_answers site.now)) entries.now) }
 {
@@ -43,7 +43,7 @@ fn judge_entry<'a>(
     entry: &'a Entry,
     sources: &[Source],
     findings: &mut Vec<Finding<'a>>,
-) -> Result<(), AllocError>
+) -> Added
     requires { sources.now ≡ (site_answers site.now).clocks }
     ensures { OnOk result (told_all findings.new.items ≡ told_all findings.old.items ++ entry_told (site_answers site.now) entry.now) }
 {
@@ -68,7 +68,7 @@ fn judge_member<'a>(
     source: Source,
     rule: &'a MemberRule,
     findings: &mut Vec<Finding<'a>>,
-) -> Result<(), AllocError>
+) -> Added
     ensures { OnOk result (told_all findings.new.items ≡ told_all findings.old.items ++ member_told (site_answers site.now) rule.now source) }
 {
     if !site.is_seen(source) {
@@ -87,7 +87,7 @@ fn judge_each<'a>(
     rule: &'a MemberRule,
     sources: &[Source],
     findings: &mut Vec<Finding<'a>>,
-) -> Result<(), AllocError>
+) -> Added
     ensures { OnOk result (told_all findings.new.items
         ≡ told_all findings.old.items ++ flat_map (member_told_in (site_answers site.now) domain rule.now) sources.now) }
 {
@@ -105,7 +105,7 @@ fn judge_leaders<'a>(
     wanted: &'a [Vec<ClockIdentity>],
     leading: Vec<ClockIdentity>,
     findings: &mut Vec<Finding<'a>>,
-) -> Result<(), AllocError>
+) -> Added
     ensures { OnOk result (told_all findings.new.items
         ≡ told_all findings.old.items ++ leaders_told domain (map (λ clocks. clocks.items) wanted.now) leading.items) }
 {
@@ -113,12 +113,8 @@ fn judge_leaders<'a>(
         return Ok(());
     }
     let clock = first_of(leading.as_slice());
-    let source = Source { domain, clock };
-    tell(
-        findings,
-        source,
-        What::OtherLeaders(OtherLeaders { leading, wanted }),
-    )
+    let other = What::OtherLeaders(OtherLeaders { leading, wanted });
+    tell(findings, Source { domain, clock }, other)
 }
 
 /// Whether the clocks that lead are one of these lists.
@@ -131,15 +127,7 @@ fn are_leading(leading: &[ClockIdentity], choices: &[Vec<ClockIdentity>]) -> boo
 fn is_one_of(leading: &[ClockIdentity], choices: &[Vec<ClockIdentity>]) -> bool
     ensures { result ≡ list_any (λ clocks. pointwise same_clock clocks.items leading.now) choices.now }
 {
-    choices
-        .iter()
-        .any(|clocks| are_same(clocks.as_slice(), leading))
-}
-
-fn are_same(clocks: &[ClockIdentity], leading: &[ClockIdentity]) -> bool
-    ensures { result ≡ pointwise same_clock clocks.now leading.now }
-{
-    clocks == leading
+    choices.iter().any(|clocks| clocks.as_slice() == leading)
 }
 
 /// The first of the clocks that lead, or an identity of zeros.

@@ -1,9 +1,8 @@
 //! Which clocks of an inventory are absent, and which are not in it.
 
 ghost use Rattle.std.specs.Prelude.{◌≡◌, ◌++◌, OnOk};
-ghost use Rattle.std.specs.List.{flat_map};
 ghost use Rattle.ptpm_site.specs.Site.{site_answers};
-ghost use Rattle.ptpm_expected.specs.InventoryFindings.{absent_at, absent_told, unexpected_at, unexpected_sender, unexpected_told};
+ghost use Rattle.ptpm_expected.specs.InventoryFindings.{absent_at, absent_told, unexpected_at, unexpected_told};
 ghost use Rattle.ptpm_expected.specs.Named.{IsOf};
 ghost use Rattle.ptpm_expected.specs.Telling.{told_all};
 
@@ -11,11 +10,11 @@ use crate::descriptions::Descriptions;
 use crate::inventory::Entry;
 use crate::named::Named;
 use crate::senders::announcing;
-use crate::telling::tell;
+use crate::telling::{Added, tell};
 use ptpm_site::finding::{Finding, What};
 use ptpm_site::site::Site;
 use ptpm_site::source::Source;
-use std::alloc::{AllocError, Global};
+use std::alloc::Global;
 
 /// Adds a finding for each clock that is to be seen and is not. `named` is of these entries.
 #[tactic(auto, unfolding(crate::specs::InventoryFindings::absent_told))]
@@ -25,36 +24,15 @@ pub(crate) fn judge_absent<'a>(
     entries: &'a [Entry],
     named: &Named,
     findings: &mut Vec<Finding<'a>>,
-) -> Result<(), AllocError>
+) -> Added
     requires { IsOf entries.now named.now }
     ensures { OnOk result (told_all findings.new.items ≡ told_all findings.old.items ++ absent_told (site_answers site.now) entries.now) }
 {
     let descriptions = Descriptions::of(alloc, entries)?;
     let demanded: Vec<Source> = named.demanded.iter().copied().collect(alloc)?;
-    judge_all_absent(
-        site,
-        entries,
-        named,
-        &descriptions,
-        demanded.as_slice(),
-        findings,
-    )
-}
-
-fn judge_all_absent<'a>(
-    site: &Site,
-    entries: &[Entry],
-    named: &Named,
-    descriptions: &Descriptions<'a>,
-    sources: &[Source],
-    findings: &mut Vec<Finding<'a>>,
-) -> Result<(), AllocError>
-    requires { IsOf entries.now named.now }
-    ensures { OnOk result (told_all findings.new.items
-        ≡ told_all findings.old.items ++ flat_map (absent_at (site_answers site.now) entries.now) sources.now) }
-{
+    let sources = demanded.as_slice();
     for source in sources {
-        judge_absent_at(site, entries, named, descriptions, *source, findings)?;
+        judge_absent_at(site, entries, named, &descriptions, *source, findings)?;
     }
     Ok(())
 }
@@ -67,7 +45,7 @@ fn judge_absent_at<'a>(
     descriptions: &Descriptions<'a>,
     source: Source,
     findings: &mut Vec<Finding<'a>>,
-) -> Result<(), AllocError>
+) -> Added
     requires { IsOf entries.now named.now }
     ensures { OnOk result (told_all findings.new.items ≡ told_all findings.old.items ++ absent_at (site_answers site.now) entries.now source) }
 {
@@ -87,56 +65,31 @@ pub(crate) fn judge_unexpected(
     named: &Named,
     sources: &[Source],
     findings: &mut Vec<Finding<'_>>,
-) -> Result<(), AllocError>
+) -> Added
     requires named { IsOf entries.now named.now }
     requires sources { sources.now ≡ (site_answers site.now).clocks }
     ensures { OnOk result (told_all findings.new.items ≡ told_all findings.old.items ++ unexpected_told (site_answers site.now) entries.now) }
 {
-    judge_seen(entries, named, sources, findings)?;
-    let announcing = announcing(alloc, site)?;
-    judge_unseen(site, entries, named, announcing.as_slice(), findings)
-}
-
-fn judge_seen(
-    entries: &[Entry],
-    named: &Named,
-    sources: &[Source],
-    findings: &mut Vec<Finding<'_>>,
-) -> Result<(), AllocError>
-    requires { IsOf entries.now named.now }
-    ensures { OnOk result (told_all findings.new.items ≡ told_all findings.old.items ++ flat_map (unexpected_at entries.now) sources.now) }
-{
     for source in sources {
         judge_unexpected_at(entries, named, *source, findings)?;
     }
-    Ok(())
-}
-
-fn judge_unseen(
-    site: &Site,
-    entries: &[Entry],
-    named: &Named,
-    sources: &[Source],
-    findings: &mut Vec<Finding<'_>>,
-) -> Result<(), AllocError>
-    requires { IsOf entries.now named.now }
-    ensures { OnOk result (told_all findings.new.items
-        ≡ told_all findings.old.items ++ flat_map (unexpected_sender (site_answers site.now) entries.now) sources.now) }
-{
-    for source in sources {
-        if !site.is_seen(*source) {
-            judge_unexpected_at(entries, named, *source, findings)?;
+    let announcing = announcing(alloc, site)?;
+    let senders = announcing.as_slice();
+    for sender in senders {
+        if !site.is_seen(*sender) {
+            judge_unexpected_at(entries, named, *sender, findings)?;
         }
     }
     Ok(())
 }
 
+/// Adds a finding if a clock is in a closed domain, and is not named.
 fn judge_unexpected_at(
     entries: &[Entry],
     named: &Named,
     source: Source,
     findings: &mut Vec<Finding<'_>>,
-) -> Result<(), AllocError>
+) -> Added
     requires { IsOf entries.now named.now }
     ensures { OnOk result (told_all findings.new.items ≡ told_all findings.old.items ++ unexpected_at entries.now source) }
 {

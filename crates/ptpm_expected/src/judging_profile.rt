@@ -6,17 +6,17 @@ ghost use Rattle.ptpm_site.specs.Evidence.{IsOf};
 ghost use Rattle.ptpm_site.specs.Findings.{found};
 ghost use Rattle.ptpm_site.specs.Site.{site_answers};
 ghost use Rattle.ptpm_site.specs.declared.finding.What.TheVariants as what;
-ghost use Rattle.ptpm_expected.specs.ProfileFindings.{clock_found, default_found, each_outside, port_found, port_set_found, profile_found};
+ghost use Rattle.ptpm_expected.specs.ProfileFindings.{clock_found, each_outside, port_found, profile_found};
 
 use crate::outside::{clock_outside, is_idle, parent_outside, port_outside, timescale_outside};
 use crate::profile::Profile;
-use ptpm_site::data_sets::PortDataSet;
+use crate::telling::Added;
 use ptpm_site::evidence::Evidence;
 use ptpm_site::expected::Outside;
 use ptpm_site::finding::{Finding, What, add_finding};
 use ptpm_site::site::Site;
 use ptpm_site::source::Source;
-use std::alloc::{AllocError, Global};
+use std::alloc::Global;
 
 /// Adds what a profile does not allow at these clocks, after all earlier findings. For each clock its own members come first, and
 /// then its ports.
@@ -27,7 +27,7 @@ pub fn judge_profile(
     profile: Profile,
     sources: &[Source],
     findings: &mut Vec<Finding<'_>>,
-) -> Result<(), AllocError>
+) -> Added
     requires { IsOf (site_answers site.now).heard evidence.now }
     ensures { OnOk result (findings.new.items ≡ findings.old.items ++ flat_map (profile_found (site_answers site.now) profile) sources.now) }
 {
@@ -45,67 +45,38 @@ fn judge_clock(
     profile: Profile,
     source: Source,
     findings: &mut Vec<Finding<'_>>,
-) -> Result<(), AllocError>
+) -> Added
     requires { IsOf (site_answers site.now).heard evidence.now }
     ensures { OnOk result (findings.new.items ≡ findings.old.items ++ profile_found (site_answers site.now) profile source) }
 {
     judge_members(site, profile, source, findings)?;
-    let ports = site.ports(alloc, source)?;
-    judge_ports(site, evidence, profile, source, ports.as_slice(), findings)
-}
-
-/// The members of the clock.
-#[tactic(auto, unfolding(crate::specs::ProfileFindings::clock_found))]
-fn judge_members(
-    site: &Site,
-    profile: Profile,
-    source: Source,
-    findings: &mut Vec<Finding<'_>>,
-) -> Result<(), AllocError>
-    ensures { OnOk result (findings.new.items ≡ findings.old.items ++ clock_found (site_answers site.now) profile source) }
-{
-    judge_default(site, profile, source, findings)?;
-    add_outside(findings, source, timescale_outside(site, source))
-}
-
-/// Those of DEFAULT_DATA_SET.
-fn judge_default(
-    site: &Site,
-    profile: Profile,
-    source: Source,
-    findings: &mut Vec<Finding<'_>>,
-) -> Result<(), AllocError>
-    ensures { OnOk result (findings.new.items ≡ findings.old.items ++ default_found (site_answers site.now) profile source) }
-{
-    match site.default(source) {
-        Some(default) => add_all_outside(
-            findings,
-            source,
-            &clock_outside(profile, source.domain, &default),
-        ),
-        None => Ok(()),
-    }
-}
-
-fn judge_ports(
-    site: &Site,
-    evidence: &Evidence,
-    profile: Profile,
-    source: Source,
-    ports: &[u16],
-    findings: &mut Vec<Finding<'_>>,
-) -> Result<(), AllocError>
-    requires { IsOf (site_answers site.now).heard evidence.now }
-    ensures { OnOk result (findings.new.items ≡ findings.old.items ++ flat_map (port_found (site_answers site.now) profile source) ports.now) }
-{
+    let all = site.ports(alloc, source)?;
+    let ports = all.as_slice();
     for port in ports {
         judge_port(site, evidence, profile, source, *port, findings)?;
     }
     Ok(())
 }
 
+/// The members of the clock: those of DEFAULT_DATA_SET, and ptpTimescale.
+#[tactic(auto, unfolding(crate::specs::ProfileFindings::clock_found))]
+fn judge_members(
+    site: &Site,
+    profile: Profile,
+    source: Source,
+    findings: &mut Vec<Finding<'_>>,
+) -> Added
+    ensures { OnOk result (findings.new.items ≡ findings.old.items ++ clock_found (site_answers site.now) profile source) }
+{
+    if let Some(default) = site.default(source) {
+        let outside = clock_outside(profile, source.domain, &default);
+        add_all_outside(findings, source, &outside)?;
+    }
+    add_outside(findings, source, timescale_outside(site, source))
+}
+
 /// The members of a port that takes part.
-#[tactic(auto, unfolding(crate::specs::ProfileFindings::port_found))]
+#[tactic(auto, unfolding(crate::specs::ProfileFindings::port_found, crate::specs::ProfileFindings::port_set_found))]
 fn judge_port(
     site: &Site,
     evidence: &Evidence,
@@ -113,37 +84,19 @@ fn judge_port(
     source: Source,
     port: u16,
     findings: &mut Vec<Finding<'_>>,
-) -> Result<(), AllocError>
+) -> Added
     requires { IsOf (site_answers site.now).heard evidence.now }
     ensures { OnOk result (findings.new.items ≡ findings.old.items ++ port_found (site_answers site.now) profile source port) }
 {
-    match site.port(source, port) {
-        Some(set) if !is_idle(set.state()) => {
-            judge_port_set(site, evidence, profile, source, port, &set, findings)
-        }
-        _ => Ok(()),
+    let Some(set) = site.port(source, port) else {
+        return Ok(());
+    };
+    if is_idle(set.state()) {
+        return Ok(());
     }
-}
-
-#[tactic(auto, unfolding(crate::specs::ProfileFindings::port_set_found))]
-fn judge_port_set(
-    site: &Site,
-    evidence: &Evidence,
-    profile: Profile,
-    source: Source,
-    port: u16,
-    set: &PortDataSet,
-    findings: &mut Vec<Finding<'_>>,
-) -> Result<(), AllocError>
-    requires { IsOf (site_answers site.now).heard evidence.now }
-    ensures { OnOk result (findings.new.items ≡ findings.old.items ++ port_set_found (site_answers site.now) profile source port set.now) }
-{
-    add_all_outside(findings, source, &port_outside(profile, port, set))?;
-    add_outside(
-        findings,
-        source,
-        parent_outside(site, evidence, source, port, set),
-    )
+    add_all_outside(findings, source, &port_outside(profile, port, &set))?;
+    let parent = parent_outside(site, evidence, source, port, &set);
+    add_outside(findings, source, parent)
 }
 
 /// Adds a finding for each of these members that is not allowed.
@@ -151,7 +104,7 @@ fn add_all_outside(
     findings: &mut Vec<Finding<'_>>,
     source: Source,
     members: &[Option<Outside>],
-) -> Result<(), AllocError>
+) -> Added
     ensures { OnOk result (findings.new.items ≡ findings.old.items ++ each_outside source members.now) }
 {
     for outside in members {
@@ -160,11 +113,7 @@ fn add_all_outside(
     Ok(())
 }
 
-fn add_outside(
-    findings: &mut Vec<Finding<'_>>,
-    source: Source,
-    outside: Option<Outside>,
-) -> Result<(), AllocError>
+fn add_outside(findings: &mut Vec<Finding<'_>>, source: Source, outside: Option<Outside>) -> Added
     ensures { OnOk result (findings.new.items ≡ findings.old.items ++ found what.Profile source outside) }
 {
     match outside {

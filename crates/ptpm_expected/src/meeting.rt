@@ -69,10 +69,7 @@ fn first_some<'a>(
 ) -> Option<MemberValue<'a>>
     ensures { option_map said result ≡ first_some (option_map said first.entry) (option_map said second.entry) }
 {
-    match first {
-        Some(value) => Some(value),
-        None => second,
-    }
+    first.or(second)
 }
 
 /// What a clock says of a member of its own.

@@ -11,6 +11,7 @@ ghost use Rattle.ptpm_site.specs.declared.domain.Domain.{Domain};
 ghost use Rattle.ptpm_site.specs.Domains.{domain_cmp};
 
 use crate::inventory::{Entry, Presence, Rule};
+use crate::telling::Added;
 use ptpm_codec::ClockIdentity;
 use ptpm_site::domain::Domain;
 use ptpm_site::source::Source;
@@ -30,17 +31,19 @@ pub(crate) enum Naming {
     Leading,
 }
 
+type Clocks = BTreeSet<Source>;
+
 /// The clocks that an inventory names.
 #[derive(Drop)]
 pub(crate) struct Named {
     /// Those that are to be seen, unless they are excused.
-    pub(crate) demanded: BTreeSet<Source>,
+    pub(crate) demanded: Clocks,
     /// Those that may be absent.
-    pub(crate) excused: BTreeSet<Source>,
+    pub(crate) excused: Clocks,
     /// Those that may lead.
-    pub(crate) leading: BTreeSet<Source>,
+    pub(crate) leading: Clocks,
     /// Those that need to answer nothing while they are heard.
-    pub(crate) mute: BTreeSet<Source>,
+    pub(crate) mute: Clocks,
     /// The domains that have no clock that is not named.
     pub(crate) closed: BTreeSet<Domain>,
 }
@@ -70,11 +73,7 @@ impl Named {
 }
 
 /// The clocks that are named in this way.
-fn clock_set(
-    alloc: Global,
-    entries: &[Entry],
-    naming: Naming,
-) -> Result<BTreeSet<Source>, AllocError>
+fn clock_set(alloc: Global, entries: &[Entry], naming: Naming) -> Result<Clocks, AllocError>
     ensures keys { IfOk result (λ set. keys set ≡ all_named_as naming entries.now) }
     ensures has { IfOk result (λ set. (s : Source) → contains source_cmp set s ≡ is_named_as naming entries.now s) }
 {
@@ -83,11 +82,7 @@ fn clock_set(
     Ok(set)
 }
 
-fn add_all_named(
-    entries: &[Entry],
-    naming: Naming,
-    set: &mut BTreeSet<Source>,
-) -> Result<(), AllocError>
+fn add_all_named(entries: &[Entry], naming: Naming, set: &mut Clocks) -> Added
     ensures { OnOk result (keys set.new ≡ fold (insert_key source_cmp) (keys set.old) (flat_map (named_by naming) entries.now)) }
 {
     for entry in entries {
@@ -97,7 +92,7 @@ fn add_all_named(
 }
 
 /// Adds the clocks that an entry names in this way.
-fn add_named(entry: &Entry, naming: Naming, set: &mut BTreeSet<Source>) -> Result<(), AllocError>
+fn add_named(entry: &Entry, naming: Naming, set: &mut Clocks) -> Added
     ensures { OnOk result (keys set.new ≡ fold (insert_key source_cmp) (keys set.old) (named_by naming entry.now)) }
 {
     let domain = entry.domain;
@@ -127,11 +122,7 @@ fn is_named_so(naming: Naming, presence: Presence) -> bool
     }
 }
 
-fn add_clock(
-    domain: Domain,
-    clock: ClockIdentity,
-    set: &mut BTreeSet<Source>,
-) -> Result<(), AllocError>
+fn add_clock(domain: Domain, clock: ClockIdentity, set: &mut Clocks) -> Added
     ensures { OnOk result (keys set.new ≡ insert_key source_cmp (keys set.old) (in_domain_of domain clock)) }
 {
     set.insert(Source { domain, clock })?;
@@ -139,11 +130,7 @@ fn add_clock(
 }
 
 /// Adds the clocks of each of these lists.
-fn add_choices(
-    domain: Domain,
-    choices: &[Vec<ClockIdentity>],
-    set: &mut BTreeSet<Source>,
-) -> Result<(), AllocError>
+fn add_choices(domain: Domain, choices: &[Vec<ClockIdentity>], set: &mut Clocks) -> Added
     ensures { OnOk result (keys set.new
         ≡ fold (insert_key source_cmp) (keys set.old) (flat_map (λ clocks. map (in_domain_of domain) clocks.items) choices.now)) }
 {
@@ -153,11 +140,7 @@ fn add_choices(
     Ok(())
 }
 
-fn add_clocks(
-    domain: Domain,
-    clocks: &[ClockIdentity],
-    set: &mut BTreeSet<Source>,
-) -> Result<(), AllocError>
+fn add_clocks(domain: Domain, clocks: &[ClockIdentity], set: &mut Clocks) -> Added
     ensures { OnOk result (keys set.new ≡ fold (insert_key source_cmp) (keys set.old) (map (in_domain_of domain) clocks.now)) }
 {
     for clock in clocks {

@@ -1,11 +1,11 @@
 //! The clocks that send by themselves.
 
-ghost use Rattle.std.specs.Prelude.{◌≡◌, [], IfOk, OnOk};
+ghost use Rattle.std.specs.Prelude.{◌≡◌, [], IfOk};
 ghost use Rattle.std.specs.BTreeSet.{insert_key, keys};
-ghost use Rattle.std.specs.List.{flat_map, fold};
+ghost use Rattle.std.specs.List.{fold};
 ghost use Rattle.ptpm_site.specs.Answers.{source_cmp};
 ghost use Rattle.ptpm_site.specs.Site.{site_answers};
-ghost use Rattle.ptpm_expected.specs.Senders.{announcing, is_sent_so, sender_of, senders_of};
+ghost use Rattle.ptpm_expected.specs.Senders.{announcing, is_sent_so, senders_of};
 
 use ptpm_site::evidence::senders;
 use ptpm_site::heard::{ANNOUNCE, DELAY_REQ, Heard, Sender};
@@ -31,36 +31,15 @@ pub(crate) fn sender_set(
 ) -> Result<BTreeSet<Source>, AllocError>
     ensures { IfOk result (λ set. keys set ≡ fold (insert_key source_cmp) [] (senders_of sending heard.now)) }
 {
-    let mut set = BTreeSet::new(alloc);
     let all = senders(alloc, heard)?;
-    add_senders(all.as_slice(), sending, &mut set)?;
-    Ok(set)
-}
-
-fn add_senders(
-    senders: &[Sender],
-    sending: Sending,
-    set: &mut BTreeSet<Source>,
-) -> Result<(), AllocError>
-    ensures { OnOk result (keys set.new ≡ fold (insert_key source_cmp) (keys set.old) (flat_map (sender_of sending) senders.now)) }
-{
+    let senders = all.as_slice();
+    let mut set = BTreeSet::new(alloc);
     for sender in senders {
-        add_sender(sender, sending, set)?;
+        if is_sent_so(sending, sender) {
+            set.insert(sender.source)?;
+        }
     }
-    Ok(())
-}
-
-fn add_sender(
-    sender: &Sender,
-    sending: Sending,
-    set: &mut BTreeSet<Source>,
-) -> Result<(), AllocError>
-    ensures { OnOk result (keys set.new ≡ fold (insert_key source_cmp) (keys set.old) (sender_of sending sender.now)) }
-{
-    if is_sent_so(sending, sender) {
-        set.insert(sender.source)?;
-    }
-    Ok(())
+    Ok(set)
 }
 
 /// Whether a sender sends this.

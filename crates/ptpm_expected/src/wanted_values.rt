@@ -88,20 +88,12 @@ fn bounds_of(form: Form) -> (i64, i64) {
     }
 }
 
-/// A number that may have a name, or numbers. `reserved` is each that has no name.
+/// A number that may have a name in either case, or numbers. `reserved` is each that has no name.
 fn of_enumeration(enumeration: Enumeration, text: &str) -> Option<Wanted> {
-    match number_of(enumeration, text) {
+    match enumeration.number_of(text).or_else(|| octet_of(text)) {
         Some(number) => Some(Wanted::Value(MemberValue::Named(enumeration, number))),
         None if text == "reserved" => Some(Wanted::Reserved),
         None => numbers((0, 0xff), text),
-    }
-}
-
-/// The number of a name in either case, or the number itself.
-fn number_of(enumeration: Enumeration, text: &str) -> Option<u8> {
-    match enumeration.number_of(text) {
-        Some(number) => Some(number),
-        None => octet_of(text),
     }
 }
 

@@ -2,10 +2,8 @@
 
 /// What is before the note that ends a line. A note begins with a `#` that is not in quotes.
 pub(crate) fn without_note(line: &str) -> &str {
-    match unquoted(line, '#') {
-        Some(place) => line.get(..place).unwrap_or(line),
-        None => line,
-    }
+    let place = unquoted(line, '#').unwrap_or(line.len());
+    line.get(..place).unwrap_or(line)
 }
 
 /// The first of the choices that a text has, and the rest after `|`, if there are more. A `|` in quotes divides nothing.

@@ -10,13 +10,14 @@ ghost use Rattle.ptpm_site.specs.Site.{site_answers};
 ghost use Rattle.ptpm_expected.specs.InventoryFindings.{told_by_inventory};
 ghost use Rattle.ptpm_expected.specs.Meeting.{is_met, meets};
 ghost use Rattle.ptpm_expected.specs.Senders.{announcing};
-ghost use Rattle.ptpm_expected.specs.Writing.{IsWantable, clock_lines, clock_lines_in, domain_lines, domain_of, excuse_in, leader_lines, line_of_rule, lines_of, member_line, port_lines, written};
+ghost use Rattle.ptpm_expected.specs.Writing.{IsWantable, clock_lines, clock_lines_in, domain_lines, domain_of, excuse_in, leader_lines, line_of_rule, lines_of, member_line, port_lines, Writes, written};
 ghost use Rattle.ptpm_site.specs.Domains.{domain_cmp};
 
 use crate::inventory::{Entry, Inventory, MemberRule, Presence, Rule};
 use crate::judging_inventory::leading_in;
 use crate::meeting::rule_value;
 use crate::senders::announcing;
+use crate::telling::Added;
 use ptpm_codec::ClockIdentity;
 use ptpm_data::Member::{
     LogMinDelayReq, ParentPort, Priority1, Priority2, Setting, UserDescription,
@@ -123,11 +124,10 @@ fn add_domains(
     sources: &[Source],
     senders: &[Source],
     entries: &mut Vec<Entry>,
-) -> Result<(), AllocError>
+) -> Added
     requires sources { sources.now ≡ (site_answers site.now).clocks }
     requires senders { senders.now ≡ announcing (site_answers site.now) }
-    ensures { OnOk result (lines_of (site_answers site.now) entries.new.items
-        ≡ lines_of (site_answers site.now) entries.old.items ++ flat_map (domain_lines (site_answers site.now)) domains.now) }
+    ensures { Writes (site_answers site.now) result entries.old.items entries.new.items (flat_map (domain_lines (site_answers site.now)) domains.now) }
 {
     for domain in domains {
         add_domain(alloc, site, *domain, sources, senders, entries)?;
@@ -145,11 +145,10 @@ fn add_domain(
     sources: &[Source],
     senders: &[Source],
     entries: &mut Vec<Entry>,
-) -> Result<(), AllocError>
+) -> Added
     requires sources { sources.now ≡ (site_answers site.now).clocks }
     requires senders { senders.now ≡ announcing (site_answers site.now) }
-    ensures { OnOk result (lines_of (site_answers site.now) entries.new.items
-        ≡ lines_of (site_answers site.now) entries.old.items ++ domain_lines (site_answers site.now) domain) }
+    ensures { Writes (site_answers site.now) result entries.old.items entries.new.items (domain_lines (site_answers site.now) domain) }
 {
     let leading = leading_in(alloc, site, domain, sources)?;
     add_leaders(alloc, site, domain, leading, entries)?;
@@ -160,14 +159,8 @@ fn add_domain(
 
 /// Adds a line. `site` is that which it is of.
 #[tactic(auto, using(crate::proofs::Lines::lines_more))]
-fn add_entry(
-    site: &Site,
-    domain: Domain,
-    rule: Rule,
-    entries: &mut Vec<Entry>,
-) -> Result<(), AllocError>
-    ensures { OnOk result (lines_of (site_answers site.now) entries.new.items
-        ≡ lines_of (site_answers site.now) entries.old.items ++ line_of_rule (site_answers site.now) domain rule ∷ []) }
+fn add_entry(site: &Site, domain: Domain, rule: Rule, entries: &mut Vec<Entry>) -> Added
+    ensures { Writes (site_answers site.now) result entries.old.items entries.new.items (line_of_rule (site_answers site.now) domain rule ∷ []) }
 {
     entries.push(Entry { domain, rule })?;
     Ok(())
@@ -180,9 +173,8 @@ fn add_leaders(
     domain: Domain,
     leading: Vec<ClockIdentity>,
     entries: &mut Vec<Entry>,
-) -> Result<(), AllocError>
-    ensures { OnOk result (lines_of (site_answers site.now) entries.new.items
-        ≡ lines_of (site_answers site.now) entries.old.items ++ leader_lines domain leading.items) }
+) -> Added
+    ensures { Writes (site_answers site.now) result entries.old.items entries.new.items (leader_lines domain leading.items) }
 {
     if leading.is_empty() {
         return Ok(());
@@ -193,14 +185,8 @@ fn add_leaders(
 }
 
 /// Adds the clocks of a domain that announce and are not seen.
-fn add_excused(
-    site: &Site,
-    domain: Domain,
-    senders: &[Source],
-    entries: &mut Vec<Entry>,
-) -> Result<(), AllocError>
-    ensures { OnOk result (lines_of (site_answers site.now) entries.new.items
-        ≡ lines_of (site_answers site.now) entries.old.items ++ flat_map (excuse_in (site_answers site.now) domain) senders.now) }
+fn add_excused(site: &Site, domain: Domain, senders: &[Source], entries: &mut Vec<Entry>) -> Added
+    ensures { Writes (site_answers site.now) result entries.old.items entries.new.items (flat_map (excuse_in (site_answers site.now) domain) senders.now) }
 {
     for source in senders {
         if source.domain == domain && !site.is_seen(*source) {
@@ -218,9 +204,8 @@ fn add_clocks(
     domain: Domain,
     sources: &[Source],
     entries: &mut Vec<Entry>,
-) -> Result<(), AllocError>
-    ensures { OnOk result (lines_of (site_answers site.now) entries.new.items
-        ≡ lines_of (site_answers site.now) entries.old.items ++ flat_map (clock_lines_in (site_answers site.now) domain) sources.now) }
+) -> Added
+    ensures { Writes (site_answers site.now) result entries.old.items entries.new.items (flat_map (clock_lines_in (site_answers site.now) domain) sources.now) }
 {
     for source in sources {
         if source.domain == domain {
@@ -232,14 +217,8 @@ fn add_clocks(
 
 /// Adds a clock, its members, and those of its ports, as far as they were answered.
 #[tactic(auto, unfolding(crate::specs::Writing::clock_lines))]
-fn add_clock(
-    alloc: Global,
-    site: &Site,
-    source: Source,
-    entries: &mut Vec<Entry>,
-) -> Result<(), AllocError>
-    ensures { OnOk result (lines_of (site_answers site.now) entries.new.items
-        ≡ lines_of (site_answers site.now) entries.old.items ++ clock_lines (site_answers site.now) source) }
+fn add_clock(alloc: Global, site: &Site, source: Source, entries: &mut Vec<Entry>) -> Added
+    ensures { Writes (site_answers site.now) result entries.old.items entries.new.items (clock_lines (site_answers site.now) source) }
 {
     let rule = Rule::Clock(source.clock, Presence::Wanted);
     add_entry(site, source.domain, rule, entries)?;
@@ -255,9 +234,8 @@ fn add_ports(
     source: Source,
     ports: &[u16],
     entries: &mut Vec<Entry>,
-) -> Result<(), AllocError>
-    ensures { OnOk result (lines_of (site_answers site.now) entries.new.items
-        ≡ lines_of (site_answers site.now) entries.old.items ++ flat_map (port_lines (site_answers site.now) source) ports.now) }
+) -> Added
+    ensures { Writes (site_answers site.now) result entries.old.items entries.new.items (flat_map (port_lines (site_answers site.now) source) ports.now) }
 {
     for port in ports {
         add_members(alloc, site, source, Some(*port), &PORT_MEMBERS, entries)?;
@@ -273,9 +251,8 @@ fn add_members(
     port: Option<u16>,
     members: &[Member],
     entries: &mut Vec<Entry>,
-) -> Result<(), AllocError>
-    ensures { OnOk result (lines_of (site_answers site.now) entries.new.items
-        ≡ lines_of (site_answers site.now) entries.old.items ++ flat_map (member_line (site_answers site.now) source port) members.now) }
+) -> Added
+    ensures { Writes (site_answers site.now) result entries.old.items entries.new.items (flat_map (member_line (site_answers site.now) source port) members.now) }
 {
     for member in members {
         add_member(alloc, site, source, port, *member, entries)?;
@@ -291,19 +268,14 @@ fn add_member(
     port: Option<u16>,
     member: Member,
     entries: &mut Vec<Entry>,
-) -> Result<(), AllocError>
-    ensures { OnOk result (lines_of (site_answers site.now) entries.new.items
-        ≡ lines_of (site_answers site.now) entries.old.items ++ member_line (site_answers site.now) source port member) }
+) -> Added
+    ensures { Writes (site_answers site.now) result entries.old.items entries.new.items (member_line (site_answers site.now) source port member) }
 {
     match rule_value(site, source, port, member) {
         Some(value) => {
             let rule = rule_of(alloc, port, member, value)?;
-            add_entry(
-                site,
-                source.domain,
-                Rule::Member(source.clock, rule),
-                entries,
-            )
+            let rule = Rule::Member(source.clock, rule);
+            add_entry(site, source.domain, rule, entries)
         }
         None => Ok(()),
     }

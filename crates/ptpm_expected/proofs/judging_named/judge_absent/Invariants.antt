@@ -4,7 +4,7 @@ use Rattle.std.specs.List.{flat_map}
 use Rattle.ptpm_site.specs.Site.{site_answers}
 use Rattle.ptpm_expected.specs.InventoryFindings.{absent_at}
 use Rattle.ptpm_expected.specs.Telling.{told_all}
-use Rattle.ptpm_expected.proofs.judging_named.judge_all_absent.Given as goal
+use Rattle.ptpm_expected.proofs.judging_named.judge_absent.Given as goal
 
 abbrev pub invariant-loop-source : goal.invariant-loop-source
 invariant-loop-source l =
