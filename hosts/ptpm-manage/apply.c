@@ -84,6 +84,7 @@ static int apply_plan(const struct task *task, const struct plan *plan) {
         return NOT_AS_ASKED;
     }
     if (plan->count == 0) return ANSWERED;
+    if (plan->has_warning && task->plan.expected == NULL) refuse("nothing was sent: the plan has a warning: --expect %s applies it", plan->id);
     give_steps(&journal, plan->steps, plan->count);
     name_journal(&journal, plan->id);
     int status = begin(task, &journal);
@@ -222,6 +223,17 @@ static int begin_back(const struct task *task, struct journal *journal, struct j
     return ANSWERED;
 }
 
+/* Only what is known to be done is taken back. */
+static void say_left_out(const struct journal *journal) {
+    long failed = failed_step(journal);
+    if (journal->ending == GIVEN_UP && journal->end_step != NO_STEP) {
+        complain("step %ld may have been carried out, and is left out", journal->end_step + 1);
+    }
+    if (failed != NO_STEP && journal->told[failed].outcome == OTHER_VALUE) {
+        complain("step %ld was answered by another value, and is left out", failed + 1);
+    }
+}
+
 static int roll_back_by(const struct task *task, struct journal *journal, struct journal *back) {
     int status = journal->ending == IS_OPEN ? close_apply(task, journal) : ANSWERED;
     if (status != ANSWERED) return status;
@@ -231,9 +243,7 @@ static int roll_back_by(const struct task *task, struct journal *journal, struct
         complain("nothing was rolled back");
         return status;
     }
-    if (journal->ending == GIVEN_UP && journal->end_step != NO_STEP) {
-        complain("step %ld may have been carried out, and is left out", journal->end_step + 1);
-    }
+    say_left_out(journal);
     return begin_back(task, journal, back);
 }
 

@@ -57,10 +57,18 @@ static bool is_journal(const char *name) {
     return ends_with(name, ending);
 }
 
+/* A copy of an open journal would be carried out once more. */
+static void refuse_copy(const struct journal *journal, const char *path) {
+    const char *name = strrchr(path, '/') + 1;
+    size_t size = strlen(name) - strlen(ending);
+    if (journal->ending != IS_OPEN || (size == strlen(journal->name) && memcmp(name, journal->name, size) == 0)) return;
+    refuse("nothing was sent: %s: it is the journal of %s, which is open: remove a copy, or give it that name", path, journal->name);
+}
+
 /* Reads one that is there. */
 static void read_it(struct journal *journal, const char *path) {
     switch (read_journal(journal, path)) {
-    case FOUND_JOURNAL: return;
+    case FOUND_JOURNAL: refuse_copy(journal, path); return;
     case NO_JOURNAL: refuse("nothing was sent: %s: there is no such journal", path);
     case DAMAGED_JOURNAL:
         refuse("nothing was sent: DAMAGED: %s: octets of the journal were lost or changed; without it no apply is open", path);

@@ -25,13 +25,24 @@ static bool find_mark(struct kept_file *mark, const char *session) {
     return false;
 }
 
+/* The journals' folder may have been moved together with the session: then the journal is in the folder `apply` beside that. */
+static void find_moved(char journal[PATH_MAX], const char *session) {
+    char beside[PATH_MAX];
+    struct stat found;
+    const char *name = strrchr(journal, '/'), *end = strrchr(session, '/');
+    if (name == NULL || end == NULL || lstat(journal, &found) == 0) return;
+    int size = snprintf(beside, sizeof beside, "%.*s/apply%s", (int)(end - session), session, name);
+    if ((size_t)size < sizeof beside && lstat(beside, &found) == 0) memcpy(journal, beside, (size_t)size + 1);
+}
+
 /* The journal that a mark names. */
-static enum kept_found read_mark(const struct kept_file *mark, char journal[PATH_MAX]) {
+static enum kept_found read_mark(const struct kept_file *mark, const char *session, char journal[PATH_MAX]) {
     struct stat found;
     size_t size;
     enum kept_found what = read_kept(mark, (uint8_t *)journal, PATH_MAX - 1, &size, &found);
     journal[size] = '\0';
     journal[strcspn(journal, "\n")] = '\0';
+    find_moved(journal, session);
     return what;
 }
 
@@ -46,7 +57,7 @@ static bool is_own(const char *journal) {
 static void see_to_mark(const char *session, bool may_remove) {
     struct kept_file mark;
     char journal[PATH_MAX];
-    enum kept_found found = find_mark(&mark, session) ? read_mark(&mark, journal) : KEPT_NONE;
+    enum kept_found found = find_mark(&mark, session) ? read_mark(&mark, session, journal) : KEPT_NONE;
     bool is_past = found == KEPT_FILE && !is_own(journal) && !may_be_open(journal);
     if (is_past && may_remove) unlinkat(mark.folder, mark.name, 0);
     if (mark.folder >= 0) close(mark.folder);
@@ -77,6 +88,6 @@ bool make_mark(const char *session) {
 void remove_mark(const char *session) {
     struct kept_file mark;
     char journal[PATH_MAX];
-    if (find_mark(&mark, session) && read_mark(&mark, journal) == KEPT_FILE && is_own(journal)) unlinkat(mark.folder, mark.name, 0);
+    if (find_mark(&mark, session) && read_mark(&mark, session, journal) == KEPT_FILE && is_own(journal)) unlinkat(mark.folder, mark.name, 0);
     if (mark.folder >= 0) close(mark.folder);
 }

@@ -70,6 +70,12 @@ class DamagedFileError(Error):
         return f"{self.name}: {self.path}: octets of the session were lost or changed; without it a new session begins"
 
 
+def _journal_of(mark: str, named: str) -> str:
+    """The journal that a mark names. If its folder was moved together with the session, it is in the folder `apply` beside that."""
+    beside = os.path.join(os.path.dirname(mark), "apply", os.path.basename(named))
+    return beside if os.path.lexists(beside) and not os.path.lexists(named) else named
+
+
 def _has_past_mark(path: str) -> bool:
     """Whether the mark of an apply is beside this file, and that is not open. One that is open is refused. The mark has the journal's
     path."""
@@ -81,7 +87,7 @@ def _has_past_mark(path: str) -> bool:
     except OSError:
         raise OpenApplyError(mark, None) from None
     try:
-        journal = os.fsdecode(os.read(opened, _MOST_PATH).split(b"\n")[0])
+        journal = _journal_of(mark, os.fsdecode(os.read(opened, _MOST_PATH).split(b"\n")[0]))
     except OSError:
         raise OpenApplyError(mark, None) from None
     finally:

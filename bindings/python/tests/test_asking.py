@@ -446,7 +446,12 @@ class Asking(Folder):
                 mark.write(f"{journal}\n")
             with self.assertRaises(ptpm.OpenApplyError):
                 ptpm.SessionFile(MANAGER, CLOCK, f"{self.folder}/another")
-            os.unlink(journal)
+            moved = f"{self.folder}/ptpm/apply/one.journal"
+            os.renames(journal, moved)
+            with self.assertRaises(ptpm.OpenApplyError) as caught:
+                ptpm.SessionFile(MANAGER, CLOCK, f"{self.folder}/another")
+            self.assertEqual(caught.exception.journal, moved)
+            os.unlink(moved)
             with ptpm.SessionFile(MANAGER, CLOCK, f"{self.folder}/another") as other:
                 self.assertIsNone(other.octets)
             self.assertTrue(os.path.exists(mark.name))
