@@ -120,17 +120,18 @@ static char *read_file(const char *path, size_t *size) {
     return octets;
 }
 
-/* Takes each whole line; whether all are right. */
-static bool take_lines(struct journal *journal, char *octets, size_t size) {
+/* Takes each whole line. */
+static enum found_journal take_lines(struct journal *journal, char *octets, size_t size) {
     bool is_head = true;
     char *at = octets;
     for (char *end; (end = memchr(at, '\n', size - (size_t)(at - octets))) != NULL; at = end + 1, is_head = false) {
         *end = '\0';
         const char *text = text_of(at, (size_t)(end - at));
-        if (text == NULL || !(is_head ? take_head(journal, text) : take_note(journal, text))) return false;
+        if (text != NULL && is_head && is_head_of_other_version(text)) return OTHER_JOURNAL;
+        if (text == NULL || !(is_head ? take_head(journal, text) : take_note(journal, text))) return DAMAGED_JOURNAL;
     }
     journal->size = (size_t)(at - octets);
-    return !is_head;
+    return is_head ? DAMAGED_JOURNAL : FOUND_JOURNAL;
 }
 
 enum found_journal read_journal(struct journal *journal, const char *path) {
@@ -139,9 +140,9 @@ enum found_journal read_journal(struct journal *journal, const char *path) {
     snprintf(journal->path, sizeof journal->path, "%s", path);
     char *octets = read_file(path, &size);
     if (octets == NULL) return errno == ENOENT ? NO_JOURNAL : UNREADABLE_JOURNAL;
-    bool is_right = take_lines(journal, octets, size);
+    enum found_journal found = take_lines(journal, octets, size);
     free(octets);
-    return is_right ? FOUND_JOURNAL : DAMAGED_JOURNAL;
+    return found;
 }
 
 bool may_be_open(const char *path) {

@@ -51,9 +51,9 @@ void give_steps(struct journal *journal, const struct step *steps, size_t count)
 /* Makes the file whole, with only the steps; whether it could. If not, errno says why. */
 bool make_journal(struct journal *journal);
 
-enum found_journal { FOUND_JOURNAL, NO_JOURNAL, DAMAGED_JOURNAL, UNREADABLE_JOURNAL };
+enum found_journal { FOUND_JOURNAL, NO_JOURNAL, DAMAGED_JOURNAL, OTHER_JOURNAL, UNREADABLE_JOURNAL };
 
-/* Reads the journal at its path. A last line that was torn does not count. */
+/* Reads the journal at its path. A last line that was torn does not count. OTHER_JOURNAL is one of another version of this program. */
 enum found_journal read_journal(struct journal *journal, const char *path);
 
 /* Opens its file for more notes, and cuts a torn line off; whether it could. */

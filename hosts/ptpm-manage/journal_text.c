@@ -143,6 +143,11 @@ static void take_steps(struct reader *reader, struct journal *journal) {
     }
 }
 
+bool is_head_of_other_version(const char *text) {
+    struct reader reader = { text, false };
+    return is_next(&reader, "{\"version\":") && !is_next(&reader, "1,");
+}
+
 bool take_head(struct journal *journal, const char *text) {
     struct reader reader = { text, false };
     take(&reader, "{\"version\":1,\"name\":");
