@@ -1,6 +1,7 @@
 #include "desk.h"
 #include "as_asked.h"
 #include "asking.h"
+#include "monotonic.h"
 #include "names.h"
 #include "notices.h"
 #include "reading.h"
@@ -19,6 +20,7 @@ void open_desk(struct desk *desk, const struct task *task, const struct step *fi
     desk->task.port = first->port;
     open_session(&desk->session, &desk->task);
     desk->driver = (struct driver){ .asker = &desk->session.asker, .task = &desk->task };
+    if (!desk->session.has_file) desk->driver.opened = milliseconds();
 }
 
 void leave_desk(struct desk *desk) { ptpm_asker_stop(&desk->session.asker); }

@@ -27,7 +27,9 @@ bool say_saved(struct driver *driver) {
 }
 
 void ask_request(struct driver *driver, uint64_t tag, const struct task *request) {
-    see_to(ptpm_asker_ask(driver->asker, time_of(driver), tag, request->action, request->id, request->port, request->octets, request->size,
+    uint64_t now = driver->opened != 0 ? (uint64_t)(driver->now = driver->opened) : time_of(driver);
+    driver->opened = 0;
+    see_to(ptpm_asker_ask(driver->asker, now, tag, request->action, request->id, request->port, request->octets, request->size,
                           request->settings.domain, &driver->handed));
 }
 
@@ -91,9 +93,9 @@ static bool is_taken_back(struct driver *driver) {
 
 /* A new session lets what is on its way come in. */
 static void wait_for_copies(struct driver *driver) {
-    long wait = driver->task->wait;
-    if (wait >= 1000) show_progress("a new session waits %ld s, until no copy of an earlier one is on its way", wait / 1000);
-    set_wake(driver);
+    driver->wake = (int64_t)driver->handed.time;
+    long wait = (long)(driver->wake - milliseconds());
+    if (wait >= 1000) show_progress("a new session waits %ld s, until no copy of an earlier one is on its way", (wait + 999) / 1000);
     driver->handed.what = PTPM_NOTHING;
 }
 
