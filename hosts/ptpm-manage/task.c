@@ -664,8 +664,9 @@ void read_task(struct task *task, int argc, char **argv) {
     bool is_beyond = is_beyond_session(task->port);
     if (is_beyond && task->numbers != NULL) refuse("--numbers: no session is kept of a port above %d, which no clock of ptpm has", SESSION_PORTS);
     task->is_kept = is_by_one_manager(task) && !is_beyond;
-    bool may_let_go = task->is_kept && (task->plan.verb == NO_PLAN || task->plan.verb == RESUME);
-    if (task->is_letting_go && !may_let_go) refuse("--give-up: no session is kept of what is asked");
+    bool is_asked = task->plan.verb == NO_PLAN;
+    if (task->is_letting_go && !is_asked && task->plan.verb != RESUME) refuse("--give-up: of a plan it is of resume alone");
+    if (task->is_letting_go && is_asked && !task->is_kept) refuse("--give-up: no session is kept of what is asked");
 }
 
 const char *task_words(const struct task *task) {
