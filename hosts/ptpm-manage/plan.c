@@ -177,7 +177,6 @@ int make_plan(struct plan *plan, const struct task *task) {
         if (plan->text.size > 0) {
             read_id(plan, "plan");
             read_steps(plan);
-            plan->has_warning = strstr(plan->text.text, "\nwarning: ") != NULL;
         }
         if (plan->text.size > 0 && task->is_json) take_json(plan, task, &lines);
     }

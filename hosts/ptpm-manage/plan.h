@@ -14,7 +14,6 @@ struct plan {
     char id[PLAN_ID + 1];               /* of what it changes */
     struct step *steps;                 /* in the order in which they are asked */
     size_t count;
-    bool has_warning;                   /* of `ptpm plan` */
 };
 
 /* Opens the transport, asks the clocks, and has the plan made. The status is that of `ptpm plan`. It is 0 if it can be applied, and 1 if

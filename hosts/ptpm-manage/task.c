@@ -79,8 +79,7 @@ static const char help_text[] =
 static const char site_text[] =
     "Several clocks from one file:\n"
     "      --probe             plan also asks each clock a SET that changes nothing: does it take any?\n"
-    "      --expect PLAN       apply sends nothing if its plan is another one than this, of eight digits;\n"
-    "                          a plan with a warning needs it\n"
+    "      --expect PLAN       apply sends nothing if its plan is another one than this, of eight digits\n"
     "      --give-up           resume ends the apply, whose last step may have been carried out\n"
     "\n"
     "A whole site:\n"
