@@ -21,16 +21,10 @@ static bool is_lasting(const struct finding *open) {
     return is_piece(&open->key[NAME_PART], "not_asked") || is_piece(&open->key[NAME_PART], "mute");
 }
 
-/* Whether it says that clocks of one identity have two offsets. These are other ones each time. */
-static bool has_two_offsets(const struct finding *finding) {
-    static const char words[] = "identity_twice two offsets ", member[] = "\"offsets\":";
-    const char *name = finding->key[NAME_PART].at, *end = finding->whole.at + finding->whole.size;
-    if (!is_piece(&finding->key[NAME_PART], "identity_twice")) return false;
-    return ((size_t)(end - name) >= sizeof words - 1 && memcmp(name, words, sizeof words - 1) == 0)
-           || memmem(finding->whole.at, finding->whole.size, member, sizeof member - 1) != NULL;
+/* Whether its values are other ones each time. Of two clocks with one identity either one may answer first. */
+static bool is_moving(const struct finding *finding) {
+    return row_of(finding)->is_moving || is_piece(&finding->key[NAME_PART], "identity_twice");
 }
-
-static bool is_moving(const struct finding *finding) { return row_of(finding)->is_moving || has_two_offsets(finding); }
 
 /* Without memory for one the program ends: a report that lacks a finding would say that less is wrong. */
 static void add_finding(struct report *report, const struct finding *finding) {
@@ -62,16 +56,37 @@ static size_t sum_of_followers(const char *at, const char *end) {
     return sum;
 }
 
+static const char *after_string(const char *at, const char *end) {
+    for (at++; at < end && *at != '"'; at++) {
+        if (*at == '\\' && at + 1 < end) at++;
+    }
+    return at < end ? at + 1 : end;
+}
+
+/* Whether a text in quotes, with a space before it, is a value of its finding. Otherwise it is the description of the clock. */
+static bool is_value(const char *line, const char *quoted) {
+    static const char *const before[] = { " userDescription", " and", " not", " then", " |" };
+    for (size_t i = 0; i < sizeof before / sizeof *before; i++) {
+        size_t size = strlen(before[i]);
+        if ((size_t)(quoted - line) >= size && memcmp(quoted - size, before[i], size) == 0) return true;
+    }
+    return false;
+}
+
 /* What follows from a finding is counted after its words, before the description. */
 static void read_followers(struct finding *finding) {
     static const char so_too[] = "; so too: ", quoted[] = " \"";
-    const char *at = finding->whole.at, *end = at + finding->whole.size;
+    const char *at = finding->whole.at, *end = at + finding->whole.size, *values = at;
     const char *description = memmem(at, finding->whole.size, quoted, sizeof quoted - 1);
+    while (description != NULL && is_value(at, description)) {
+        values = after_string(description + 1, end);
+        description = memmem(values, (size_t)(end - values), quoted, sizeof quoted - 1);
+    }
     if (description == NULL) description = end;
-    const char *last = memmem(at, (size_t)(description - at), so_too, sizeof so_too - 1);
+    const char *last = memmem(values, (size_t)(description - values), so_too, sizeof so_too - 1);
     if (last != NULL) finding->followers = sum_of_followers(last + sizeof so_too - 1, description);
     finding->words = (struct piece){ at, (size_t)((last == NULL ? description : last) - at) };
-    finding->rest = (struct piece){ description, (size_t)(end - description) };
+    finding->description = (struct piece){ description, (size_t)(end - description) };
 }
 
 /* A domain is `4` or `4@0x100`. */
@@ -135,13 +150,6 @@ static const char *after_spaces(const char *at, const char *end) {
     return at;
 }
 
-static const char *after_string(const char *at, const char *end) {
-    for (at++; at < end && *at != '"'; at++) {
-        if (*at == '\\' && at + 1 < end) at++;
-    }
-    return at < end ? at + 1 : end;
-}
-
 /* The end of a value: the comma after it, or the bracket of what it is in. */
 static const char *after_value(const char *at, const char *end) {
     for (int depth = 0; at < end;) {
@@ -198,7 +206,12 @@ static bool read_object(struct finding *finding, const char *at, const char *end
     struct piece cause;
     while (end > at && isspace((unsigned char)end[-1])) end--;
     finding->whole = finding->words = (struct piece){ at, (size_t)(end - at) };
-    finding->rest = (struct piece){ end, 0 };
+    finding->more = finding->description = (struct piece){ end, 0 };
+    if (find_member(&finding->description, at, end, "userDescription")) {
+        const char *after = finding->description.at + finding->description.size;
+        finding->words.size = (size_t)(finding->description.at - at);
+        finding->more = (struct piece){ after, (size_t)(end - after) };
+    }
     finding->has_cause = find_member(&cause, at, end, "because") && !is_piece(&cause, "null");
     for (int part = 0; part < TEXT_PARTS; part++) {
         if (!find_member(&finding->key[part], at, end, names[part])) return false;
@@ -273,13 +286,6 @@ static int by_key(const void *one, const void *other) {
     return order;
 }
 
-/* The same, with two offsets apart from what else shows two clocks of one identity. */
-static int by_kind(const void *one, const void *other) {
-    const struct finding *first = *(const struct finding *const *)one, *second = *(const struct finding *const *)other;
-    int order = by_key(one, other);
-    return order != 0 ? order : has_two_offsets(first) - has_two_offsets(second);
-}
-
 static int by_line(const void *one, const void *other) {
     const struct line *first = &(*(const struct finding *const *)one)->line, *second = &(*(const struct finding *const *)other)->line;
     int order = (first->number > second->number) - (first->number < second->number);
@@ -288,11 +294,11 @@ static int by_line(const void *one, const void *other) {
     return order != 0 ? order : compare_pieces(&first->name, &second->name);
 }
 
-/* What follows from it may be another number each time. */
+/* What follows from it may be another number each time, and the clock may get another description. */
 static int by_text(const void *one, const void *other) {
     const struct finding *first = *(const struct finding *const *)one, *second = *(const struct finding *const *)other;
     int order = compare_pieces(&first->words, &second->words);
-    return order != 0 ? order : compare_pieces(&first->rest, &second->rest);
+    return order != 0 ? order : compare_pieces(&first->more, &second->more);
 }
 
 /* Findings of a report in an order: all, or those that are not left out. */
@@ -456,13 +462,10 @@ static struct piece description_in_json(const struct report *report, const struc
     return found;
 }
 
-/* The description at the end of a finding, as the two above have it. */
+/* The description in a finding, as the two above have it. */
 static struct piece own_description(const struct report *report, const struct finding *finding) {
-    const char *end = finding->whole.at + finding->whole.size;
-    struct piece found = { end, 0 };
-    if (report->is_json) find_member(&found, finding->whole.at, end, "userDescription");
-    else if (finding->rest.size > 0) found = (struct piece){ finding->rest.at + 1, finding->rest.size - 1 };
-    return found;
+    size_t space = report->is_json || finding->description.size == 0 ? 0 : 1;
+    return (struct piece){ finding->description.at + space, finding->description.size - space };
 }
 
 /* The description of the finding's clock in a report: in its tree, or in a finding that the clock was gone by then. */
@@ -482,8 +485,8 @@ static void add_description(struct finding *finding, const struct piece *descrip
                         : asprintf(&finding->own, "%.*s %.*s", size, finding->whole.at, more, description->at);
     if (whole < 0) give_up("the findings");
     finding->whole = (struct piece){ finding->own, (size_t)whole };
-    if (is_json) finding->words = finding->whole;
-    else finding->rest = (struct piece){ finding->own + size, (size_t)(whole - size) };
+    if (is_json) finding->description = (struct piece){ finding->own + whole - more - 2, (size_t)more };
+    else finding->description = (struct piece){ finding->own + size, (size_t)(whole - size) };
 }
 
 void describe_gone(struct report *report, const struct report *earlier) {
@@ -575,16 +578,16 @@ static void print_change(FILE *to, const char *lead, char sign, const struct fin
    other ones each time. Of those that report a change it prints none that went. */
 static void print_lacking(FILE *to, const char *lead, char sign, const struct report *report, const struct report *other,
                           const char *colour) {
-    struct sorted kinds = sort_findings(other, by_kind, false), texts = sort_findings(other, by_text, false);
+    struct sorted keys = sort_findings(other, by_key, false), texts = sort_findings(other, by_text, false);
     for (size_t i = 0; i < report->count; i++) {
         const struct finding *finding = &report->findings[i];
-        const struct sorted *same = is_moving(finding) ? &kinds : &texts;
+        const struct sorted *same = is_moving(finding) ? &keys : &texts;
         bool is_in_other = has_finding(same, finding) || (row_of(finding)->is_change && sign == '-');
         if (finding->is_left_out || finding->has_cause || is_in_other) continue;
         if (report->is_json) print_event(to, lead, sign, finding);
         else print_change(to, lead, sign, finding, colour);
     }
-    free(kinds.at);
+    free(keys.at);
     free(texts.at);
 }
 

@@ -10,12 +10,13 @@
 struct piece { const char *at; size_t size; };
 
 /* A finding: all of it; its domain, its clock and its name, which together are its key; and whether it is left out. A line of text says
-   how many others follow from it: `words` come before that, and `rest` after it. In JSON one may have a cause, from which it follows. There
-   the domain's sdoId is a part of its own, which is empty in a text. `line` is the line that a text has for it. */
+   how many others follow from it: `words` come before that, and the clock's description after it. An object of JSON has the description
+   between `words` and `more`. One may have a cause there, from which it follows. There the domain's sdoId is a part of its own, which is
+   empty in a text. `line` is the line that a text has for it. */
 enum { DOMAIN_PART, CLOCK_PART, NAME_PART, TEXT_PARTS, SDO_PART = TEXT_PARTS, KEY_PARTS };
 struct line { unsigned long number, sdo; struct piece clock, name; };
 struct finding {
-    struct piece whole, key[KEY_PARTS], words, rest;
+    struct piece whole, key[KEY_PARTS], words, description, more;
     struct line line;
     size_t followers;
     bool has_cause, is_left_out;

@@ -2,8 +2,8 @@
 #include "status.h"
 #include "asking.h"
 #include "collect.h"
+#include "kept_lines.h"
 #include "lines.h"
-#include "message_places.h"
 #include "monotonic.h"
 #include "notices.h"
 #include "output_file.h"
@@ -34,9 +34,6 @@ enum { BEFORE_SECOND_LOOK = 2000, MOST_OPEN = 30000, TIME_TEXT = 32 };
 /* If this many looks each have what the one before lacks, the site is never at rest. */
 enum { MOST_MOMENTARY = 4 };
 
-/* So much is kept of looks while something is open. */
-enum { MOST_KEPT_LINES = 64 << 20 };
-
 /* The times of an earlier look are set too if the clock of this host was set by more than these nanoseconds. */
 enum { LEAST_STEP = 100000000 };
 
@@ -45,8 +42,7 @@ enum { FINDINGS = 1 };
 
 /* A look at the site: the answers as lines, and what they show. */
 struct look {
-    char *lines;
-    size_t size;
+    struct lines lines;
     struct report report;
     int status;
 };
@@ -56,48 +52,9 @@ static struct seen_clock clocks_before[2 * MOST_CLOCKS];
 static size_t count_before;
 
 static void free_look(struct look *look) {
-    free(look->lines);
+    free(look->lines.at);
     free_report(&look->report);
     *look = (struct look){ 0 };
-}
-
-/* The message of a line, after its words. The line ends with a line feed. */
-static const char *message_in_line(const char *line, size_t size) {
-    const char *space = memrchr(line, ' ', size);
-    return space == NULL ? line : space + 1;
-}
-
-/* The part of a line of an earlier look that says more than the latest look, up to its end; NULL if there is none. What clocks send by
-   themselves is in that look too, as long as they send it. The answer of a clock that did not answer there is needed, so that it stays gone
-   until it does. When that came is no time of this look. */
-static const char *needed_part(const char *line, size_t size, bool is_older) {
-    uint8_t head[TLV_AT];
-    const char *message = message_in_line(line, size), *rest = message;
-    if (read_octets(&rest, head, sizeof head) < sizeof head || (head[TYPE_AT] & LOWER_HALF) != MANAGEMENT_TYPE) return NULL;
-    bool is_answer = (head[ACTION_AT] & LOWER_HALF) != PTPM_GET;
-    if (!is_older) return line;
-    return is_answer && !is_seen(domain_of(head), head + SOURCE_AT) ? message : NULL;
-}
-
-/* Keeps of the lines of earlier looks what is needed. The first of these, this many octets, are only needed for clocks that went. */
-static void leave_needed(struct look *look, size_t older) {
-    size_t left = 0;
-    for (size_t at = 0, next; at < look->size; at = next) {
-        const char *end = memchr(look->lines + at, '\n', look->size - at);
-        next = end == NULL ? look->size : (size_t)(end - look->lines) + 1;
-        const char *part = needed_part(look->lines + at, next - at, at < older);
-        if (part == NULL) continue;
-        size_t size = (size_t)(look->lines + next - part);
-        memmove(look->lines + left, part, size);
-        left += size;
-    }
-    look->size = left;
-}
-
-/* How many octets of the lines of earlier looks the next one needs no more: those of the older half if there are too many. */
-static size_t not_needed(const struct look *earlier, const struct look *latest) {
-    if (!is_over_time(&latest->report)) return earlier->size;
-    return earlier->size > MOST_KEPT_LINES / 2 ? earlier->size / 2 : 0;
 }
 
 /* Whether a socket may be made beside it. */
@@ -118,7 +75,7 @@ static int collect_lines(FILE *lines, const struct task *task, const struct doma
 }
 
 static struct piece lines_of(const struct look *look) {
-    return look == NULL ? (struct piece){ NULL, 0 } : (struct piece){ look->lines, look->size };
+    return look == NULL ? (struct piece){ NULL, 0 } : (struct piece){ look->lines.at, look->lines.size };
 }
 
 /* Before a watch begins nobody asks what has changed. */
@@ -148,12 +105,12 @@ static void try_options(const struct task *task) {
 static int look_once(struct look *look, const struct task *task, const struct domains *domains, struct look *earlier) {
     *look = (struct look){ 0 };
     int64_t step = take_time();
-    if (earlier != NULL && llabs(step) > LEAST_STEP) shift_lines(&earlier->lines, &earlier->size, step);
-    FILE *lines = open_memstream(&look->lines, &look->size);
+    if (earlier != NULL && llabs(step) > LEAST_STEP) shift_lines(&earlier->lines.at, &earlier->lines.size, step);
+    FILE *lines = open_memstream(&look->lines.at, &look->lines.size);
     if (lines == NULL) refuse("nothing was asked: %s", strerror(errno));
     look->status = collect_lines(lines, task, domains);
     bool is_whole = !ferror(lines);
-    if (fclose(lines) != 0 || !is_whole || look->lines == NULL) {
+    if (fclose(lines) != 0 || !is_whole || look->lines.at == NULL) {
         complain("there is no memory for the answers");
         return look->status = FINDINGS;
     }
@@ -253,16 +210,11 @@ static void look_twice(struct look *look, const struct task *task, struct domain
     *look = second;
 }
 
-/* Puts the lines of an earlier look before those of this one, if there is room for both. */
-static void join_lines(struct look *look, const struct look *earlier) {
-    size_t size = earlier->size + look->size;
-    char *lines = size <= MOST_KEPT_LINES ? malloc(size + 1) : NULL;
-    if (lines == NULL) return;
-    memcpy(lines, earlier->lines, earlier->size);
-    memcpy(lines + earlier->size, look->lines, look->size);
-    free(look->lines);
-    look->lines = lines;
-    look->size = size;
+/* The look after which the next one is judged is this one, with what is needed of those before. */
+static void follow_look(struct look *earlier, struct look *look, bool is_over_time) {
+    keep_lines_before(&look->lines, &earlier->lines, is_over_time);
+    free_look(earlier);
+    *earlier = *look;
 }
 
 static bool has_momentary(const struct look *look) { return findings_left(&look->report) < look->report.count; }
@@ -285,10 +237,7 @@ static void look_until_decided(struct look *look, const struct task *task, struc
         keep_clocks();
         look_at_site(&next, task, domains, look);
         leave_out_momentary(&(struct judged){ &next, look }, &(struct judged){ look, NULL }, task);
-        leave_needed(look, 0);
-        if (look->size > 0) join_lines(&next, look);
-        free_look(look);
-        *look = next;
+        follow_look(look, &next, true);
         momentary = has_momentary(look) ? momentary + 1 : 0;
     }
     if (momentary >= MOST_MOMENTARY) leave_none_out(&look->report);
@@ -401,10 +350,7 @@ static int watch(struct look *earlier, const struct task *task, struct domains *
         }
         print_difference(&look, earlier, task);
         keep_clocks();
-        leave_needed(earlier, not_needed(earlier, &look));
-        if (earlier->size > 0) join_lines(&look, earlier);
-        free_look(earlier);
-        *earlier = look;
+        follow_look(earlier, &look, is_over_time(&look.report));
     }
     return stopped ? BY_SIGNAL + stopped : NOT_WRITTEN;
 }

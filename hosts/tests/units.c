@@ -1,14 +1,16 @@
 /* Tests of what the hosts decide without a socket. They try the library's token buckets, its table of messages that were
    passed on, and its stops. They try where a message is in a frame, which sdoId it has, and what the image of a session says. They try
-   the seal of a file, TimeIntervals and JSON as texts, and that a wait takes its time. Prints what does not hold, and
-   `units: N passed, M failed`. */
+   the seal of a file, and TimeIntervals and JSON as texts. They try what a watch keeps of earlier looks, and that a wait takes its time.
+   Prints what does not hold, and `units: N passed, M failed`. */
 #define _GNU_SOURCE
 #include "checking.h"
 #include "domain.h"
 #include "ethernet.h"
 #include "field_text.h"
+#include "kept_lines.h"
 #include "ptpm.h"
 #include "seal.h"
+#include "seen.h"
 #include "session_image.h"
 #include "stopping.h"
 #include "text.h"
@@ -353,6 +355,60 @@ static void waits(void) {
     check(waited(1020) >= 1020, "a wait of more than a second");
 }
 
+enum { SEEN = 1, LOST = 2 };
+
+/* Which clocks the latest look has. */
+bool is_seen(struct domain domain, const uint8_t clock[8]) { return domain.number == 0 && clock[7] == SEEN; }
+
+/* A line of a look. In it this clock says that its port is in a state. If that is 0, it is asked for it. */
+static const char *look_line(const char *words, unsigned clock, unsigned sequence, unsigned state) {
+    static char lines[16][256];
+    static size_t next;
+    char *line = lines[next++ % 16];
+    snprintf(line, sizeof lines[0], "%s0d02004a%032x%016x0001%04x04%02x%020x0101%02x000001001a2004%016x0001%02x%030x\n", words, 0, clock, sequence,
+             0x7f, 0, state == 0 ? 0 : 2, clock, state, 0);
+    return line;
+}
+
+static struct lines lines_of(const char *one, const char *two, const char *three) {
+    struct lines lines = { 0 };
+    int size = asprintf(&lines.at, "%s%s%s", one, two, three);
+    lines.size = size < 0 ? 0 : (size_t)size;
+    return lines;
+}
+
+/* Whether this is kept before a look, of the looks before it. */
+static bool keeps(struct lines earlier, struct lines look, bool is_over_time, const char *one, const char *two) {
+    struct lines expected = lines_of(one, two, look.at);
+    keep_lines_before(&look, &earlier, is_over_time);
+    bool is_same = look.size == expected.size && memcmp(look.at, expected.at, look.size) == 0;
+    free(earlier.at);
+    free(look.at);
+    free(expected.at);
+    return is_same;
+}
+
+static void kept_lines(void) {
+    const char *words = "at=1.5 from=::1 on=e ", *get = look_line(words, SEEN, 6, 0);
+    const char *one = look_line(words, SEEN, 7, PTPM_STATE_UNCALIBRATED);
+    const char *two = look_line("at=2 ", SEEN, 8, PTPM_STATE_LISTENING);
+    const char *look = look_line("", SEEN, 9, PTPM_STATE_UNCALIBRATED);
+    check(keeps(lines_of(get, one, two), lines_of(look, "", ""), true, one, two), "since when a port is on its way");
+    check(keeps(lines_of(get, one, two), lines_of(look, "", ""), false, "", ""), "which only counts if time decides");
+    check(keeps(lines_of(one, one, two), lines_of(look, "", ""), true, one, two), "two answers to two requests");
+    two = look_line("at=3 ", SEEN, 8, PTPM_STATE_SLAVE);
+    check(keeps(lines_of(one, two, two), lines_of(look, "", ""), true, "", ""), "a state ends the stay in another one");
+    look = look_line("", SEEN, 9, PTPM_STATE_SLAVE);
+    check(keeps(lines_of(one, two, ""), lines_of(look, "", ""), true, two, ""), "since when a port is a slave");
+    one = look_line(words, SEEN, 7, PTPM_STATE_MASTER);
+    look = look_line("", SEEN, 9, PTPM_STATE_MASTER);
+    check(keeps(lines_of(one, "", ""), lines_of(look, "", ""), true, "", ""), "a state that may last");
+    one = look_line(words, LOST, 7, PTPM_STATE_MASTER);
+    check(keeps(lines_of(one, "", ""), lines_of(look, "", ""), false, one + strlen(words), ""), "what a clock answered that is gone");
+    one = look_line(words, LOST, 7, PTPM_STATE_LISTENING);
+    check(keeps(lines_of(one, "", ""), lines_of(look, "", ""), true, "", ""), "but not that its port was on its way");
+}
+
 int main(void) {
     buckets();
     passing_on();
@@ -366,6 +422,7 @@ int main(void) {
     seals();
     intervals();
     json();
+    kept_lines();
     waits();
     free(printed);
     return print_checks("units");

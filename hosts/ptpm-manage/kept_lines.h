@@ -1,0 +1,16 @@
+/* What is kept of the lines of earlier looks, so that the next look is judged after them. */
+#ifndef KEPT_LINES_H
+#define KEPT_LINES_H
+
+#include <stdbool.h>
+#include <stddef.h>
+
+/* Lines in memory of malloc, each with a line feed at its end. */
+struct lines { char *at; size_t size; };
+
+/* Puts before the lines of a look what the next one needs of those that it was judged after. These are the answers of clocks that did not
+   answer this time: so they stay gone until they do. If something is decided over time, it is also since when each port is in its state.
+   All else that they show is over. Without memory only the lines of the look are left. */
+void keep_lines_before(struct lines *look, const struct lines *earlier, bool is_over_time);
+
+#endif
