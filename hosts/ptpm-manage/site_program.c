@@ -5,7 +5,7 @@
 #include <stdlib.h>
 
 /* The words of its command line, without those of names. */
-enum { MOST_ARGUMENTS = 21 };
+enum { MOST_ARGUMENTS = 23 };
 
 /* Adds an option with its value, if it was given; how many arguments there are then. */
 static size_t add_option(char **arguments, size_t count, const char *name, const char *value) {
@@ -28,6 +28,7 @@ static void name_arguments(char **arguments, const struct site_options *options,
     count = add_option(arguments, count, "--expect", options->inventory);
     count = add_option(arguments, count, "--ignore", options->ignored);
     count = add_option(arguments, count, "--ignore", options->is_without_changes ? "changed,grandmaster_changed" : NULL);
+    count = add_option(arguments, count, "--ignore", options->is_of_one_address ? "grandmaster_not_seen,parent_not_seen" : NULL);
     if (options->is_all) arguments[count++] = (char *)"--all";
     for (size_t i = 0; i < clock_name_count(); i++) count = add_option(arguments, count, "--name", clock_name(i));
     arguments[count] = NULL;

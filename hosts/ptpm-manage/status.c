@@ -84,6 +84,7 @@ static bool is_watching;
 static struct site_options as_looked_at(const struct task *task) {
     struct site_options options = task->site;
     options.is_without_changes = !is_watching;
+    options.is_of_one_address = asks_one_address();
     return options;
 }
 

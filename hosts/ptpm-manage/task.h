@@ -26,6 +26,7 @@ struct site_options {
     char *ignored;                              /* the names of all --ignore, or NULL */
     bool is_all;                                /* the text has what follows from a finding too */
     bool is_without_changes;                    /* what differs from the look before is no finding */
+    bool is_of_one_address;                     /* who is not seen may be a clock that is not asked, and is no finding */
     const char *given;                          /* an option only of `status` that was given, or NULL */
 };
 

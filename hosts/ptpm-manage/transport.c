@@ -451,8 +451,10 @@ static bool is_to_group(void) {
     return is_six ? IN6_IS_ADDR_MULTICAST(&six->sin6_addr) : IN_MULTICAST(ntohl(four->sin_addr.s_addr));
 }
 
+bool asks_one_address(void) { return is_to_one && !is_to_group(); }
+
 bool came_from_asked(void) {
-    return !is_to_one || is_to_group() || is_same((const struct sockaddr *)&latest_place.sender, &clock_address);
+    return !asks_one_address() || is_same((const struct sockaddr *)&latest_place.sender, &clock_address);
 }
 
 const char *came_in_at(void) { return latest_end == NULL ? NULL : latest_end->interface; }

@@ -61,6 +61,9 @@ const uint8_t *receive_message(size_t *size, int64_t end);
 const char *sender_text(void);
 const char *came_in_at(void);
 
+/* Whether the clocks of one address are asked, by --udp, and not a group. */
+bool asks_one_address(void);
+
 /* Whether it came from whom is asked: from the address of --udp, or else from anybody. */
 bool came_from_asked(void);
 

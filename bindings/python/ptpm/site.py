@@ -4,6 +4,7 @@ what is wrong."""
 from __future__ import annotations
 
 import dataclasses
+import ipaddress
 import os
 import shutil
 import subprocess
@@ -108,6 +109,15 @@ def _words(options: Iterable[Tuple[str, Union[str, int, float, None]]]) -> List[
     return [word for name, value in options if value is not None for word in (name, str(value))]
 
 
+def _not_asked(udp: Optional[str]) -> Sequence[str]:
+    """The findings about clocks that are not asked, if only those of one address are."""
+    try:
+        is_group = udp is None or ipaddress.ip_address(udp.split("%")[0]).is_multicast
+    except ValueError:          # which ptpm-manage refuses
+        is_group = True
+    return () if is_group else ("grandmaster_not_seen", "parent_not_seen")
+
+
 def _domain_words(domains: Union[int, str, DomainIdentity], sdo: Union[int, str, None]) -> List[str]:
     """The words that say in which domains is asked."""
     if isinstance(domains, DomainIdentity):
@@ -149,11 +159,11 @@ def site(
     how long a clock has for an answer, and `listen` how long clocks are listened for. `limit` is how long a collection may take. An
     offset or a delay above `max_offset` or `max_delay`, in nanoseconds, is a finding; a `max_offset` of "none" is no limit.
     `tai_utc` is how many seconds TAI is before UTC, and `settle` how many a port may take to settle. The site is held to a `profile`, such as
-    "aes67", and to the inventory in the file `expect`. Findings whose names `ignore` has are left out. What is None is the programs'. Like `ptpm-manage status` it looks again after
-    two seconds if a finding may pass, and until two looks have the same ones, unless `once` is set.
+    "aes67", and to the inventory in the file `expect`. Findings whose names `ignore` has are left out. What is None is the programs'. Like
+    `ptpm-manage status` it looks again after two seconds if a finding may pass, and until two looks have the same ones, unless `once` is set.
 
     A SiteError has the program's words; its status is 3 if no clock answered."""
-    ignored = ignore if isinstance(ignore, str) else ",".join(ignore)
+    ignored = ",".join((*([ignore] if isinstance(ignore, str) else ignore), *_not_asked(udp)))
     limits = _words((
         ("--max-offset", max_offset), ("--max-delay", max_delay), ("--tai-utc", tai_utc), ("--settle", settle), ("--profile", profile),
         ("--expect", None if expect is None else os.fspath(expect)), ("--ignore", ignored or None),

@@ -290,6 +290,12 @@ class Programs(Folder):
         self.collects("p_st2059_wrong")
         self.assertEqual([found.name for found in ptpm.site(unix="/run/ptp4l", profile="st2059-2").findings], ["profile", "profile"])
 
+    def test_who_is_not_asked_is_not_missed(self) -> None:
+        self.collects("a_changing", "a_changing")
+        missed = {"grandmaster_not_seen", "parent_not_seen"}
+        names = [{found.name for found in ptpm.site(udp=way, once=True).findings} for way in ("192.0.2.7", "ff02::181%eth0")]
+        self.assertEqual([found & missed for found in names], [set(), missed])
+
     def test_limits(self) -> None:
         self.collects("a_chain")
         self.write("ptpm", f'echo "$*" >> {self.folder}/told; exec {TOP}/ptpm "$@"')
