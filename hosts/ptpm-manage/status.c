@@ -2,8 +2,8 @@
 #include "status.h"
 #include "asking.h"
 #include "collect.h"
-#include "kept_lines.h"
 #include "lines.h"
+#include "look_lines.h"
 #include "monotonic.h"
 #include "notices.h"
 #include "output_file.h"
@@ -28,8 +28,8 @@
 /* The socket of a ptp4l whose configuration names no other. */
 #define OWN_CLOCK "/var/run/ptp4l"
 
-/* A change has gone through a site by then. What is open is looked at again as often, and as long as this. */
-enum { BEFORE_SECOND_LOOK = 2000, MOST_OPEN = 30000, TIME_TEXT = 32 };
+/* What is open is looked at again as often, and as long as this, in milliseconds. */
+enum { BETWEEN_OPEN = 2000, MOST_OPEN = 30000, TIME_TEXT = 32 };
 
 /* If this many looks each have what the one before lacks, the site is never at rest. */
 enum { MOST_MOMENTARY = 4 };
@@ -200,8 +200,9 @@ static void look_twice(struct look *look, const struct task *task, struct domain
     if (stopped || task->site.is_once || look->status != FINDINGS) return;
     if (!has_passing_finding(&look->report, earlier == NULL ? NULL : &earlier->report)) return;
     struct look second;
-    show_progress("findings: %zu; a second look in %d s", look->report.count, BEFORE_SECOND_LOOK / 1000);
-    listen_for_domains(domains, task, BEFORE_SECOND_LOOK);
+    int64_t wait = change_time(&look->lines);
+    show_progress("findings: %zu; a second look in %d s", look->report.count, (int)(wait / 1000));
+    listen_for_domains(domains, task, wait);
     if (stopped) return;
     expect_more_clocks();
     look_at_site(&second, task, domains, earlier);
@@ -232,8 +233,9 @@ static void look_until_decided(struct look *look, const struct task *task, struc
     int momentary = has_momentary(look);
     while (!stopped && !task->site.is_once && is_undecided(look, end, momentary)) {
         struct look next;
-        show_progress("not all is decided; another look in %d s", BEFORE_SECOND_LOOK / 1000);
-        listen_for_domains(domains, task, BEFORE_SECOND_LOOK);
+        int64_t wait = momentary > 0 ? change_time(&look->lines) : BETWEEN_OPEN;
+        show_progress("not all is decided; another look in %d s", (int)(wait / 1000));
+        listen_for_domains(domains, task, wait);
         if (stopped) return;
         keep_clocks();
         look_at_site(&next, task, domains, look);

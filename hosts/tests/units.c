@@ -1,13 +1,13 @@
 /* Tests of what the hosts decide without a socket. They try the library's token buckets, its table of messages that were
    passed on, and its stops. They try where a message is in a frame, which sdoId it has, and what the image of a session says. They try
-   the seal of a file, and TimeIntervals and JSON as texts. They try what a watch keeps of earlier looks, and that a wait takes its time.
-   Prints what does not hold, and `units: N passed, M failed`. */
+   the seal of a file, and TimeIntervals and JSON as texts. They try what a watch keeps of earlier looks, how long a change takes
+   through a site, and that a wait takes its time. Prints what does not hold, and `units: N passed, M failed`. */
 #define _GNU_SOURCE
 #include "checking.h"
 #include "domain.h"
 #include "ethernet.h"
 #include "field_text.h"
-#include "kept_lines.h"
+#include "look_lines.h"
 #include "ptpm.h"
 #include "seal.h"
 #include "seen.h"
@@ -388,6 +388,33 @@ static bool keeps(struct lines earlier, struct lines look, bool is_over_time, co
     return is_same;
 }
 
+/* A line in which a clock says its stepsRemoved, or that its port is a master with a logAnnounceInterval. */
+static const char *steps_line(unsigned steps) {
+    static char line[256];
+    snprintf(line, sizeof line, "at=1 0d020038%084x02000001000a2001%04x\n", 0, steps);
+    return line;
+}
+
+static const char *announce_line(unsigned log) {
+    static char line[256];
+    snprintf(line, sizeof line, "0d02004a%084x02000001001a2004%020x06%018x%02x03\n", 0, 0, 0, log);
+    return line;
+}
+
+static int64_t change_time_of(unsigned steps, unsigned log) {
+    struct lines look = lines_of(steps_line(steps), announce_line(log), "#ptpm\n");
+    int64_t time = change_time(&look);
+    free(look.at);
+    return time;
+}
+
+static void change_times(void) {
+    check(change_time_of(3, 1) == 6000, "three steps at two seconds each");
+    check(change_time_of(5, 0xff) == 2500, "five at half a second");
+    check(change_time_of(1, 1) == 2000 && change_time_of(0, 4) == 2000 && change_time_of(9, 0x80) == 2000, "two seconds at least");
+    check(change_time_of(3, 4) == 10000 && change_time_of(65535, 127) == 10000, "ten seconds at most");
+}
+
 static void kept_lines(void) {
     const char *words = "at=1.5 from=::1 on=e ", *get = look_line(words, SEEN, 6, 0);
     const char *one = look_line(words, SEEN, 7, PTPM_STATE_UNCALIBRATED);
@@ -423,6 +450,7 @@ int main(void) {
     intervals();
     json();
     kept_lines();
+    change_times();
     waits();
     free(printed);
     return print_checks("units");

@@ -15,10 +15,11 @@ from typing import Iterable, List, Optional, Sequence, Set, Tuple, Union
 from .domain_identity import DomainIdentity
 from .errors import PtpmError
 from .identity import Identity
+from .settings import PortState
 from .site_tree import Finding, Site, read_site
 
 _FOUND, _NO_CLOCK = 1, 3
-_BEFORE_SECOND_LOOK = 2.0
+_LEAST_CHANGE, _MOST_CHANGE = 2.0, 10.0       # in seconds
 _MOST_LOOKS = 5
 
 class SiteError(PtpmError):
@@ -89,6 +90,14 @@ def _momentary(findings: Sequence[Finding]) -> Set[_Key]:
     return {(found.domain_identity, found.clock, found.name) for found in findings if looks.get(found.name) == "2"}
 
 
+def _change_time(site: Site) -> float:
+    """How long a change may take to go through the site, in seconds. That is the longest Announce interval times the most steps."""
+    clocks = [clock for domain in site.domains for clock in domain.clocks]
+    steps = max((clock.current.steps_removed for clock in clocks if clock.current), default=0)
+    logs = [port.log_announce_interval for clock in clocks for port in clock.ports if port.port_state == PortState.MASTER]
+    return min(max(_LEAST_CHANGE, steps * 2.0 ** max(logs, default=0)), _MOST_CHANGE)
+
+
 def _looked(words: Sequence[str], limits: Sequence[str], once: bool, limit: Optional[float]) -> Site:
     """A look at the site, and more as long as it has a finding that may be only momentary, and that the look before lacks. After some
     such looks the site is never at rest, and the last one counts."""
@@ -99,7 +108,7 @@ def _looked(words: Sequence[str], limits: Sequence[str], once: bool, limit: Opti
         if found <= before:
             break
         before = found
-        time.sleep(_BEFORE_SECOND_LOOK)
+        time.sleep(_change_time(latest))
         latest = _shown(*_collected(words, limit), limits)
     return latest
 
@@ -160,7 +169,7 @@ def site(
     offset or a delay above `max_offset` or `max_delay`, in nanoseconds, is a finding; a `max_offset` of "none" is no limit.
     `tai_utc` is how many seconds TAI is before UTC, and `settle` how many a port may take to settle. The site is held to a `profile`, such as
     "aes67", and to the inventory in the file `expect`. Findings whose names `ignore` has are left out. What is None is the programs'. Like
-    `ptpm-manage status` it looks again after two seconds if a finding may pass, and until two looks have the same ones, unless `once` is set.
+    `ptpm-manage status` it looks again if a finding may pass, and until two looks have the same ones, unless `once` is set.
 
     A SiteError has the program's words; its status is 3 if no clock answered."""
     ignored = ",".join((*([ignore] if isinstance(ignore, str) else ignore), *_not_asked(udp)))

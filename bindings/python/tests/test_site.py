@@ -214,7 +214,7 @@ class Programs(Folder):
     def setUp(self) -> None:
         super().setUp()
         self.patched(mock.patch.dict(os.environ, PTPM_PROGRAMS=self.folder))
-        self.patched(mock.patch.object(sys.modules["ptpm.site"], "_BEFORE_SECOND_LOOK", 0))
+        self.patched(mock.patch.object(sys.modules["ptpm.site"], "_MOST_CHANGE", 0))
         self.write("ptpm", f'exec {TOP}/ptpm "$@"')
 
     def patched(self, patch: Any) -> None:
@@ -269,6 +269,12 @@ class Programs(Folder):
         self.assertEqual(len(ptpm.site("eth0", once=True).findings), 12)
         # what comes with the second look has not held twice
         self.assertEqual(ptpm.site("eth0").findings, ())
+
+    def test_how_long_a_change_takes(self) -> None:
+        module = sys.modules["ptpm.site"]
+        self.patched(mock.patch.object(module, "_MOST_CHANGE", 10.0))
+        times = [getattr(module, "_change_time")(ptpm.site(lines=lines(name))) for name in ("a_chain", "a_tc", "i_hundred")]
+        self.assertEqual(times, [3, 2, 2])
 
     def test_a_third_look(self) -> None:
         self.collects("a_changing", "b_lonely", "b_lonely")

@@ -1,9 +1,10 @@
-/* What is kept of the lines of earlier looks, so that the next look is judged after them. */
-#ifndef KEPT_LINES_H
-#define KEPT_LINES_H
+/* What is read in the lines of a look here, and not by `ptpm site`. */
+#ifndef LOOK_LINES_H
+#define LOOK_LINES_H
 
 #include <stdbool.h>
 #include <stddef.h>
+#include <stdint.h>
 
 /* Lines in memory of malloc, each with a line feed at its end. */
 struct lines { char *at; size_t size; };
@@ -12,5 +13,8 @@ struct lines { char *at; size_t size; };
    answer this time: so they stay gone until they do. If something is decided over time, it is also since when each port is in its state.
    All else that they show is over. Without memory only the lines of the look are left. */
 void keep_lines_before(struct lines *look, const struct lines *earlier, bool is_over_time);
+
+/* How long a change may take to go through the site, in milliseconds. That is the longest Announce interval times the most steps. */
+int64_t change_time(const struct lines *look);
 
 #endif

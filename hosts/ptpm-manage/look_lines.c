@@ -1,5 +1,5 @@
 #define _GNU_SOURCE
-#include "kept_lines.h"
+#include "look_lines.h"
 #include "message_places.h"
 #include "ptpm.h"
 #include "seen.h"
@@ -8,8 +8,14 @@
 #include <stdlib.h>
 #include <string.h>
 
-/* In the dataField of PORT_DATA_SET (IEEE 1588-2019, 15.5.3.7.1): portIdentity, and then portState. */
-enum { PORT_SIZE = 10, STATE_AT = FIELD_AT + PORT_SIZE, STATE_END };
+/* In the dataField of PORT_DATA_SET (IEEE 1588-2019, 15.5.3.7.1): portIdentity, portState, two members more, and logAnnounceInterval. */
+enum { PORT_SIZE = 10, STATE_AT = FIELD_AT + PORT_SIZE, ANNOUNCE_AT = STATE_AT + 10, ANNOUNCE_END };
+
+/* In that of CURRENT_DATA_SET (15.5.3.4.1) the first member is stepsRemoved. */
+enum { STEPS_END = FIELD_AT + 2 };
+
+/* The least and the most that a change is thought to take, in milliseconds: a plugin has to end in time. */
+enum { SECOND = 1000, LEAST_CHANGE = 2 * SECOND, MOST_CHANGE = 10 * SECOND, MOST_LOG = 4 };
 
 /* Of a port that stays in a state two answers to different requests are kept. `ptpm site` needs the first, and of a port in SLAVE three,
    with that of the look itself. */
@@ -55,11 +61,15 @@ static enum state_kind kind_of(uint8_t state) {
     return is_on_the_way ? ON_THE_WAY : OTHER_STATE;
 }
 
+/* Whether a line has an answer to this id. */
+static bool read_answer_to(unsigned id, uint8_t *octets, size_t size, const char *line, const char *end) {
+    return read_answer(octets, size, line, end) && (unsigned)(octets[ID_AT] << 8 | octets[ID_AT + 1]) == id;
+}
+
 /* Whether a line has the state of a port. */
 static bool read_state(struct state_line *state, const char *line, const char *end) {
-    uint8_t message[STATE_END];
-    if (!read_answer(message, sizeof message, line, end)) return false;
-    if ((message[ID_AT] << 8 | message[ID_AT + 1]) != PTPM_ID_PORT_DATA_SET) return false;
+    uint8_t message[ANNOUNCE_END];
+    if (!read_answer_to(PTPM_ID_PORT_DATA_SET, message, sizeof message, line, end)) return false;
     *state = (struct state_line){ .line = line, .domain = domain_of(message), .kind = kind_of(message[STATE_AT]) };
     memcpy(state->port, message + FIELD_AT, PORT_SIZE);
     state->sequence = (uint16_t)(message[SEQUENCE_AT] << 8 | message[SEQUENCE_AT + 1]);
@@ -156,4 +166,27 @@ void keep_lines_before(struct lines *look, const struct lines *earlier, bool is_
     to = append(to, look->at, look->size);
     free(look->at);
     *look = (struct lines){ kept, (size_t)(to - kept) };
+}
+
+static int64_t interval_of(int8_t log) {
+    if (log > MOST_LOG) return MOST_CHANGE;
+    return log < 0 ? SECOND >> (log < -MOST_LOG ? MOST_LOG : -log) : SECOND << log;
+}
+
+int64_t change_time(const struct lines *look) {
+    int64_t interval = 0, steps = 0;
+    const char *end = look->at + look->size;
+    for (const char *at = look->at, *next; at < end; at = next) {
+        uint8_t message[ANNOUNCE_END];
+        next = end_of_line(at, end);
+        if (read_answer_to(PTPM_ID_CURRENT_DATA_SET, message, STEPS_END, at, next)) {
+            int64_t said = message[FIELD_AT] << 8 | message[FIELD_AT + 1];
+            if (said > steps) steps = said;
+        } else if (read_answer_to(PTPM_ID_PORT_DATA_SET, message, ANNOUNCE_END, at, next) && message[STATE_AT] == PTPM_STATE_MASTER) {
+            int64_t said = interval_of((int8_t)message[ANNOUNCE_AT]);
+            if (said > interval) interval = said;
+        }
+    }
+    int64_t time = steps * interval;
+    return time < LEAST_CHANGE ? LEAST_CHANGE : time > MOST_CHANGE ? MOST_CHANGE : time;
 }
