@@ -164,8 +164,30 @@ void keep_lines_before(struct lines *look, const struct lines *earlier, bool is_
     free(states.at);
     if (kept == NULL) return;
     to = append(to, look->at, look->size);
+    *to = '\0';
     free(look->at);
     *look = (struct lines){ kept, (size_t)(to - kept) };
+}
+
+/* Whether a line has a GET, and that is not to all ports of all clocks. */
+static bool is_single(const char *line, const char *end) {
+    static const uint8_t all[PORT_SIZE] = { 0xff, 0xff, 0xff, 0xff, 0xff, 0xff, 0xff, 0xff, 0xff, 0xff };
+    const char *message = message_in_line(line, end);
+    uint8_t head[TLV_AT];
+    if (read_octets(&message, head, sizeof head) < sizeof head || (head[TYPE_AT] & LOWER_HALF) != MANAGEMENT_TYPE) return false;
+    return (head[ACTION_AT] & LOWER_HALF) == PTPM_GET && memcmp(head + TARGET_AT, all, sizeof all) != 0;
+}
+
+void leave_out_single(struct lines *lines) {
+    char *to = lines->at;
+    const char *end = lines->at + lines->size;
+    for (const char *at = lines->at, *next; at < end; at = next) {
+        next = end_of_line(at, end);
+        if (is_single(at, next)) continue;
+        memmove(to, at, (size_t)(next - at));
+        to += next - at;
+    }
+    lines->size = (size_t)(to - lines->at);
 }
 
 static int64_t interval_of(int8_t log) {

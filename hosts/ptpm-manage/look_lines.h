@@ -14,6 +14,10 @@ struct lines { char *at; size_t size; };
    All else that they show is over. Without memory only the lines of the look are left. */
 void keep_lines_before(struct lines *look, const struct lines *earlier, bool is_over_time);
 
+/* Leaves out the GETs to one clock or port. In their own look an answer with the number of one shows that its clock is there, whatever came
+   after it. In a later look it does not. */
+void leave_out_single(struct lines *lines);
+
 /* How long a change may take to go through the site, in milliseconds. That is the longest Announce interval times the most steps. */
 int64_t change_time(const struct lines *look);
 

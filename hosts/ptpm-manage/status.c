@@ -106,6 +106,7 @@ static void try_options(const struct task *task) {
 static int look_once(struct look *look, const struct task *task, const struct domains *domains, struct look *earlier) {
     *look = (struct look){ 0 };
     int64_t step = take_time();
+    if (earlier != NULL) leave_out_single(&earlier->lines);
     if (earlier != NULL && llabs(step) > LEAST_STEP) shift_lines(&earlier->lines.at, &earlier->lines.size, step);
     FILE *lines = open_memstream(&look->lines.at, &look->lines.size);
     if (lines == NULL) refuse("nothing was asked: %s", strerror(errno));

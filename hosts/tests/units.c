@@ -415,6 +415,16 @@ static void change_times(void) {
     check(change_time_of(3, 4) == 10000 && change_time_of(65535, 127) == 10000, "ten seconds at most");
 }
 
+static void single_gets(void) {
+    const char *to_all = "0d02003600000000000000000000000000000000000000000000000100010007007fffffffffffffffffffff01010000000100022004\n";
+    struct lines lines = lines_of(to_all, look_line("at=1 ", SEEN, 7, 0), look_line("", SEEN, 7, PTPM_STATE_MASTER));
+    struct lines left = lines_of(to_all, "", look_line("", SEEN, 7, PTPM_STATE_MASTER));
+    leave_out_single(&lines);
+    check(lines.size == left.size && memcmp(lines.at, left.at, left.size) == 0, "without the GET to one clock");
+    free(lines.at);
+    free(left.at);
+}
+
 static void kept_lines(void) {
     const char *words = "at=1.5 from=::1 on=e ", *get = look_line(words, SEEN, 6, 0);
     const char *one = look_line(words, SEEN, 7, PTPM_STATE_UNCALIBRATED);
@@ -451,6 +461,7 @@ int main(void) {
     json();
     kept_lines();
     change_times();
+    single_gets();
     waits();
     free(printed);
     return print_checks("units");
