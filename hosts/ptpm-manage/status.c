@@ -294,7 +294,8 @@ static int write_look(const struct look *look, const struct look *earlier, const
     return status;
 }
 
-/* Prints it, which was judged after an earlier one if there is one; the status. If nothing is to be shown, a file stays as it was. */
+/* Prints it, which was judged after an earlier one if there is one; the status. If nothing is to be shown, a file stays as it was, except
+   that of a plugin: there the site would be well for good. */
 static int print_look(const struct look *look, const struct look *earlier, const struct task *task) {
     clear_progress();
     bool is_shown = is_whole(look) || task->site.form == AS_PLUGIN;
@@ -349,6 +350,7 @@ static int watch(struct look *earlier, const struct task *task, struct domains *
         renew_transport();
         look_twice(&look, task, domains, earlier);
         if (stopped || !is_whole(&look)) {
+            if (!stopped && task->site.form == AS_PLUGIN) print_look(&look, NULL, task);
             free_look(&look);
             continue;
         }
