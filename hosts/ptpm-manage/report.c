@@ -87,6 +87,7 @@ static void read_followers(struct finding *finding) {
     if (last != NULL) finding->followers = sum_of_followers(last + sizeof so_too - 1, description);
     finding->words = (struct piece){ at, (size_t)((last == NULL ? description : last) - at) };
     finding->description = (struct piece){ description, (size_t)(end - description) };
+    finding->more = (struct piece){ end, 0 };
 }
 
 /* A domain is `4` or `4@0x100`. */
