@@ -21,11 +21,6 @@ static bool is_lasting(const struct finding *open) {
     return is_piece(&open->key[NAME_PART], "not_asked") || is_piece(&open->key[NAME_PART], "mute");
 }
 
-/* Whether its values are other ones each time. Of two clocks with one identity either one may answer first. */
-static bool is_moving(const struct finding *finding) {
-    return row_of(finding)->is_moving || is_piece(&finding->key[NAME_PART], "identity_twice");
-}
-
 /* Without memory for one the program ends: a report that lacks a finding would say that less is wrong. */
 static void add_finding(struct report *report, const struct finding *finding) {
     struct finding *more = reallocarray(report->findings, report->count + 1, sizeof *more);
@@ -582,7 +577,7 @@ static void print_lacking(FILE *to, const char *lead, char sign, const struct re
     struct sorted keys = sort_findings(other, by_key, false), texts = sort_findings(other, by_text, false);
     for (size_t i = 0; i < report->count; i++) {
         const struct finding *finding = &report->findings[i];
-        const struct sorted *same = is_moving(finding) ? &keys : &texts;
+        const struct sorted *same = row_of(finding)->is_moving ? &keys : &texts;
         bool is_in_other = has_finding(same, finding) || (row_of(finding)->is_change && sign == '-');
         if (finding->is_left_out || finding->has_cause || is_in_other) continue;
         if (report->is_json) print_event(to, lead, sign, finding);

@@ -165,7 +165,7 @@ impl Kind {
             OwnHost => row("own_host", Warning, 1, Steady),
             Mute => row("mute", Warning, 2, Steady),
             Absent => row("absent", Critical, 1, Steady),
-            IdentityTwice => row("identity_twice", Critical, 2, OverTime),
+            IdentityTwice => row("identity_twice", Critical, 2, MovingOverTime),
             TwoGrandmasters => row("two_grandmasters", Critical, 2, Steady),
             Holdover => row("gm_holdover", Warning, 2, Steady),
             Degraded => row("gm_degraded", Critical, 2, Steady),
