@@ -2,9 +2,11 @@
 #![tactic(auto)]
 
 mod command;
+mod command_line;
 mod files;
 mod plan;
 mod site;
+mod task;
 
 use std::io;
 use std::io::BufWriter;
