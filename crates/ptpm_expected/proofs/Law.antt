@@ -29,9 +29,10 @@ use Rattle.ptpm_expected.specs.declared.named.Naming.TheVariants as naming
 use Rattle.ptpm_expected.specs.InventoryFindings.{absent_at, absent_told, are_leading, entry_told, rule_told, told_by_inventory, unexpected_at, unexpected_sender, unexpected_told}
 use Rattle.ptpm_expected.specs.Leaders.{leaders_among}
 use Rattle.ptpm_expected.specs.Naming.{all_named_as, closed_by, closed_in, in_domain_of, is_closed, is_named, is_named_as, named_by, named_by_rule}
+use Rattle.ptpm_expected.specs.Profiles.{port_members}
 use Rattle.ptpm_expected.specs.Senders.{announcing}
 use Rattle.ptpm_expected.specs.Telling.{Told}
-use Rattle.ptpm_expected.specs.Writing.{Closes, Excuses, Holds, Leads, Line, OfEach, Silences, Wants, clock_lines, clock_lines_in, clock_members, domain_lines, domains, excuse_in, leader_lines, line_of, line_of_rule, lines_of, member_line, port_lines, port_members, written}
+use Rattle.ptpm_expected.specs.Writing.{Closes, Excuses, Holds, Leads, Line, OfEach, Silences, Wants, clock_lines, clock_lines_in, clock_members, domain_lines, domains, excuse_in, leader_lines, line_of, line_of_rule, lines_of, member_line, port_lines, written}
 use Rattle.ptpm_expected.proofs.Tests.{all_among, all_append, all_flat, all_if, all_inserted, all_made, all_weaker, any_flat, any_left, any_right, any_weaker, flat_append, flat_flat, flat_none, flat_same, none_made, or_this, or_that}
 use Rattle.ptpm_site.specs.declared.domain.Domain.{Domain}
 use Rattle.ptpm_site.specs.Domains.{same_domain}

@@ -1,5 +1,5 @@
 -- The members of a clock and of its ports that are not what a profile allows: `profile`.
-use Rattle.std.specs.Prelude.{ℕ, ◌&&◌, Bool, true, false, not, List, [], ◌∷◌, Option, Some, None, if◌then◌else◌, option_and_then}
+use Rattle.std.specs.Prelude.{ℕ, ◌&&◌, Bool, true, false, not, List, [], ◌∷◌, Option, Some, None, if◌then◌else◌, map, option_and_then}
 use Rattle.std.specs.Option.{option_map}
 use Rattle.std.specs.Ordering.{int_eq}
 use Rattle.ptpm_data.specs.declared.members.Member.{Member as DataSetMember}
@@ -24,12 +24,12 @@ use Rattle.ptpm_site.specs.Announcing.{port_above}
 use Rattle.ptpm_site.specs.Following.{beside}
 use Rattle.ptpm_site.specs.Grandmasters.{leads}
 use Rattle.ptpm_site.specs.Leading.{has_source}
-use Rattle.ptpm_site.specs.PortStates.{is_following, is_giving, measures_end_to_end, measures_link}
+use Rattle.ptpm_site.specs.PortStates.{is_following}
 use Rattle.ptpm_site.specs.SiteAnswers.{SiteAnswers, default_of, parent_of, port_of, time_of}
 use Rattle.ptpm_expected.specs.declared.profile.Profile.{Profile}
 use Rattle.ptpm_expected.specs.declared.ranges.Range.{Range}
 use Rattle.ptpm_expected.specs.Numbers.{is_between}
-use Rattle.ptpm_expected.specs.Profiles.{allowed_mechanisms, domain_range, port_range, priority_range, sdo_range}
+use Rattle.ptpm_expected.specs.Profiles.{allowed_mechanisms, domain_range, held_value, port_members, port_range, priority_range, sdo_range}
 use Rattle.ptpm_site.specs.declared.domain.Domain.{Domain}
 use Rattle.ptpm_site.specs.Domains.{sdo_of}
 
@@ -56,19 +56,6 @@ timescale_outside site s = if leads site s then option_and_then (λ d. option_an
 
 -- ---- of a port
 
--- The number that a member of a port is, if it counts. The intervals of Sync and of Delay_Req count of a port in MASTER, PRE_MASTER or
--- PASSIVE: any other takes its master's. Those of Delay_Req and of Pdelay_Req count with the mechanism that sends it.
-abbrev pub held_value : PortDataSet → DataSetMember → Option MemberValue
-held_value set (sets.Setting settings.LogAnnounceInterval) = Some (values.Signed set.log_announce)
-held_value set (sets.Setting settings.LogSyncInterval) =
-    if is_giving (state_of set.state) then Some (values.Signed set.log_sync) else None
-held_value set sets.LogMinDelayReq =
-    if is_giving (state_of set.state) && measures_end_to_end set.delay_mechanism then Some (values.Signed set.log_min_delay_req) else None
-held_value set (sets.Setting settings.LogMinPdelayReqInterval) =
-    if measures_link set.delay_mechanism then Some (values.Signed set.log_min_pdelay) else None
-held_value set (sets.Setting settings.AnnounceReceiptTimeout) = Some (values.Unsigned set.receipt_timeout)
-held_value set _ = None
-
 unfoldable pub number_outside : Profile → ℕ → PortDataSet → DataSetMember → Option Outside
 number_outside profile n set m =
     option_and_then (λ value. member_outside (Some n) (members.DataSet m) value (port_range profile m set.log_sync)) (held_value set m)
@@ -78,14 +65,14 @@ mechanism_outside profile n set = option_map
     (λ a. record { port = Some n; member = members.DataSet (sets.Setting settings.DelayMechanism); value = values.Named enumerations.DelayMechanism set.delay_mechanism; allowed = a })
     (allowed_mechanisms profile set.delay_mechanism)
 
+-- a number by its range, and delayMechanism by those that are allowed
+abbrev pub port_member_outside : Profile → ℕ → PortDataSet → Member → Option Outside
+port_member_outside profile n set (members.DataSet (sets.Setting settings.DelayMechanism)) = mechanism_outside profile n set
+port_member_outside profile n set (members.DataSet m) = number_outside profile n set m
+port_member_outside profile n set _ = None
+
 unfoldable pub port_outside : Profile → ℕ → PortDataSet → List (Option Outside)
-port_outside profile n set =
-    number_outside profile n set (sets.Setting settings.LogAnnounceInterval)
-    ∷ number_outside profile n set (sets.Setting settings.LogSyncInterval)
-    ∷ number_outside profile n set sets.LogMinDelayReq
-    ∷ number_outside profile n set (sets.Setting settings.LogMinPdelayReqInterval)
-    ∷ number_outside profile n set (sets.Setting settings.AnnounceReceiptTimeout)
-    ∷ mechanism_outside profile n set ∷ []
+port_outside profile n set = map (port_member_outside profile n set) port_members
 
 -- a port in DISABLED or FAULTY takes no part
 abbrev pub is_idle : Option PortState → Bool

@@ -1,10 +1,17 @@
 -- What each profile allows of a member: IEEE 1588-2019 (I.3, I.4), SMPTE ST 2059-2, AES67 and IEEE 802.1AS-2020. None: anything.
-use Rattle.std.specs.Prelude.{ℕ, ℤ, pos, neg_ℤ, ◌+ℤ◌, ◌==◌, ◌||◌, Bool, Option, Some, None, if◌then◌else◌}
+use Rattle.std.specs.Prelude.{ℕ, ℤ, pos, neg_ℤ, ◌+ℤ◌, ◌==◌, ◌&&◌, ◌||◌, Bool, List, [], ◌∷◌, Option, Some, None, if◌then◌else◌}
 use Rattle.ptpm_data.specs.declared.members.Member.{Member}
 use Rattle.ptpm_data.specs.declared.members.Member.TheVariants as sets
 use Rattle.ptpm_data.specs.declared.port_setting.PortSetting.TheVariants as settings
+use Rattle.ptpm_data.specs.PortState.{state_of}
+use Rattle.ptpm_members.specs.declared.names.Member.{Member as AnyMember}
+use Rattle.ptpm_members.specs.declared.names.Member.TheVariants as members
+use Rattle.ptpm_members.specs.declared.values.MemberValue.{MemberValue}
+use Rattle.ptpm_members.specs.declared.values.MemberValue.TheVariants as values
+use Rattle.ptpm_site.specs.declared.data_sets.PortDataSet.{PortDataSet}
 use Rattle.ptpm_site.specs.declared.expected.Allowed.{Allowed}
 use Rattle.ptpm_site.specs.declared.expected.Allowed.TheVariants as allowed
+use Rattle.ptpm_site.specs.PortStates.{is_giving, measures_end_to_end, measures_link}
 use Rattle.ptpm_expected.specs.declared.profile.Profile.{Profile}
 use Rattle.ptpm_expected.specs.declared.profile.Profile.TheVariants as profiles
 use Rattle.ptpm_expected.specs.declared.ranges.Range.{Range}
@@ -29,6 +36,26 @@ priority_range profiles.Aes67 = None
 priority_range profiles.Gptp = from (pos 1) (pos 255)
 
 -- ---- of a member of a port
+
+-- the members that a profile may limit, in the order of their findings; an inventory that is written has them too
+abbrev pub port_members : List AnyMember
+port_members =
+    members.DataSet (sets.Setting settings.LogAnnounceInterval) ∷ members.DataSet (sets.Setting settings.LogSyncInterval)
+    ∷ members.DataSet sets.LogMinDelayReq ∷ members.DataSet (sets.Setting settings.LogMinPdelayReqInterval)
+    ∷ members.DataSet (sets.Setting settings.AnnounceReceiptTimeout) ∷ members.DataSet (sets.Setting settings.DelayMechanism) ∷ []
+
+-- The number that a member of a port is, if it counts. The intervals of Sync and of Delay_Req count of a port in MASTER, PRE_MASTER or
+-- PASSIVE: any other takes its master's. Those of Delay_Req and of Pdelay_Req count with the mechanism that sends it.
+abbrev pub held_value : PortDataSet → Member → Option MemberValue
+held_value set (sets.Setting settings.LogAnnounceInterval) = Some (values.Signed set.log_announce)
+held_value set (sets.Setting settings.LogSyncInterval) =
+    if is_giving (state_of set.state) then Some (values.Signed set.log_sync) else None
+held_value set sets.LogMinDelayReq =
+    if is_giving (state_of set.state) && measures_end_to_end set.delay_mechanism then Some (values.Signed set.log_min_delay_req) else None
+held_value set (sets.Setting settings.LogMinPdelayReqInterval) =
+    if measures_link set.delay_mechanism then Some (values.Signed set.log_min_pdelay) else None
+held_value set (sets.Setting settings.AnnounceReceiptTimeout) = Some (values.Unsigned set.receipt_timeout)
+held_value set _ = None
 
 abbrev pub default_range : Member → Option Range
 default_range (sets.Setting settings.LogAnnounceInterval) = from (pos 0) (pos 4)

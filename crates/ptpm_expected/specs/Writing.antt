@@ -5,7 +5,6 @@ use Rattle.std.specs.List.{flat_map, fold}
 use Rattle.std.specs.Str.{IsUtf8}
 use Rattle.ptpm_codec.specs.declared.identity.ClockIdentity.{ClockIdentity}
 use Rattle.ptpm_data.specs.declared.members.Member.TheVariants as sets
-use Rattle.ptpm_data.specs.declared.port_setting.PortSetting.TheVariants as settings
 use Rattle.ptpm_members.specs.declared.names.Member.{Member}
 use Rattle.ptpm_members.specs.declared.names.Member.TheVariants as members
 use Rattle.ptpm_members.specs.Values.{Said, Clocks, Octets, Text}
@@ -19,6 +18,7 @@ use Rattle.ptpm_expected.specs.declared.inventory.Rule.TheVariants as rule
 use Rattle.ptpm_expected.specs.Leaders.{leaders_among}
 use Rattle.ptpm_expected.specs.Meeting.{is_as_wanted, rule_says}
 use Rattle.ptpm_expected.specs.Naming.{in_domain_of}
+use Rattle.ptpm_expected.specs.Profiles.{port_members}
 use Rattle.ptpm_expected.specs.Senders.{announcing}
 use Rattle.ptpm_site.specs.declared.domain.Domain.{Domain}
 use Rattle.ptpm_site.specs.Domains.{domain_cmp}
@@ -55,17 +55,11 @@ Writes site result old new lines = OnOk result (lines_of site new ≡ lines_of s
 
 -- ---- the lines of a site
 
--- the members of a clock that are written, and those of a port
+-- the members of a clock that are written
 abbrev pub clock_members : List Member
 clock_members =
     members.DataSet sets.Priority1 ∷ members.ClockQuality ∷ members.DataSet sets.Priority2 ∷ members.SlaveOnly ∷ members.NumberPorts
     ∷ members.DataSet sets.UserDescription ∷ members.DataSet sets.ParentPort ∷ []
-
-abbrev pub port_members : List Member
-port_members =
-    members.DataSet (sets.Setting settings.LogAnnounceInterval) ∷ members.DataSet (sets.Setting settings.LogSyncInterval)
-    ∷ members.DataSet sets.LogMinDelayReq ∷ members.DataSet (sets.Setting settings.LogMinPdelayReqInterval)
-    ∷ members.DataSet (sets.Setting settings.AnnounceReceiptTimeout) ∷ members.DataSet (sets.Setting settings.DelayMechanism) ∷ []
 
 -- a value that an inventory can have: its octets are those of a text alone
 abbrev pub IsWantable : Said → Type 0

@@ -1,21 +1,18 @@
 //! The members of a clock and of its ports that are not what a profile allows.
 
-ghost use Rattle.std.specs.Prelude.{◌≡◌, Some};
-ghost use Rattle.ptpm_members.specs.declared.values.MemberValue.TheVariants as values;
+ghost use Rattle.std.specs.Prelude.{◌≡◌};
 ghost use Rattle.ptpm_site.specs.Evidence.{IsOf};
 ghost use Rattle.ptpm_site.specs.Site.{site_answers};
-ghost use Rattle.ptpm_expected.specs.Outside.{clock_outside, held_value, is_idle, mechanism_outside, member_outside, number_outside, parent_outside, port_outside, timescale_outside, unlike_parent};
+ghost use Rattle.ptpm_expected.specs.Outside.{clock_outside, is_idle, mechanism_outside, member_outside, number_outside, parent_outside, port_member_outside, port_outside, timescale_outside, unlike_parent};
 
 use crate::numbers::is_between;
 use crate::profile::Profile;
 use crate::ranges::{
-    Range, allowed_mechanisms, domain_range, port_range, priority_range, sdo_range,
+    PORT_MEMBERS, Range, allowed_mechanisms, domain_range, held_value, port_range, priority_range,
+    sdo_range,
 };
-use ptpm_data::Member::{Domain as DomainNumber, LogMinDelayReq, Priority1, PtpTimescale, Setting};
-use ptpm_data::PortSetting::{
-    AnnounceReceiptTimeout, DelayMechanism, LogAnnounceInterval, LogMinPdelayReqInterval,
-    LogSyncInterval,
-};
+use ptpm_data::Member::{Domain as DomainNumber, Priority1, PtpTimescale, Setting};
+use ptpm_data::PortSetting::{DelayMechanism, LogAnnounceInterval};
 use ptpm_data::{Member as DataSetMember, PortState};
 use ptpm_members::Member::DataSet;
 use ptpm_members::{Enumeration, Member, MemberValue};
@@ -24,7 +21,6 @@ use ptpm_site::data_sets::{DefaultDataSet, PortDataSet};
 use ptpm_site::domain::Domain;
 use ptpm_site::evidence::Evidence;
 use ptpm_site::expected::{Allowed, Outside};
-use ptpm_site::port_groups::PortGroup;
 use ptpm_site::site::Site;
 use ptpm_site::source::Source;
 
@@ -93,13 +89,29 @@ pub fn port_outside(profile: Profile, number: u16, set: &PortDataSet) -> [Option
     ensures { result ≡ port_outside profile number set.now }
 {
     [
-        number_outside(profile, number, set, Setting(LogAnnounceInterval)),
-        number_outside(profile, number, set, Setting(LogSyncInterval)),
-        number_outside(profile, number, set, LogMinDelayReq),
-        number_outside(profile, number, set, Setting(LogMinPdelayReqInterval)),
-        number_outside(profile, number, set, Setting(AnnounceReceiptTimeout)),
-        mechanism_outside(profile, number, set),
+        port_member_outside(profile, number, set, PORT_MEMBERS[0]),
+        port_member_outside(profile, number, set, PORT_MEMBERS[1]),
+        port_member_outside(profile, number, set, PORT_MEMBERS[2]),
+        port_member_outside(profile, number, set, PORT_MEMBERS[3]),
+        port_member_outside(profile, number, set, PORT_MEMBERS[4]),
+        port_member_outside(profile, number, set, PORT_MEMBERS[5]),
     ]
+}
+
+/// A member of a port, if it is not allowed: a number by its range, and delayMechanism by those that are allowed.
+fn port_member_outside(
+    profile: Profile,
+    number: u16,
+    set: &PortDataSet,
+    member: Member,
+) -> Option<Outside>
+    ensures { result ≡ port_member_outside profile number set.now member }
+{
+    match member {
+        DataSet(Setting(DelayMechanism)) => mechanism_outside(profile, number, set),
+        DataSet(member) => number_outside(profile, number, set, member),
+        _ => None,
+    }
 }
 
 /// A member of a port that is a number, if it is not allowed.
@@ -115,31 +127,6 @@ fn number_outside(
     let value = held_value(set, member)?;
     let range = port_range(profile, member, set.log_sync);
     member_outside(Some(number), DataSet(member), value, range)
-}
-
-/// An interval of a port: the logarithm of seconds to the base 2.
-fn interval(log: i8) -> Option<MemberValue<'static>>
-    ensures { result ≡ Some (values.Signed log) }
-{
-    Some(MemberValue::Signed(i64::from(log)))
-}
-
-/// The number that a member of a port is, if it counts. The intervals of Sync and of Delay_Req count if the port gives time: else it
-/// takes its master's. Those of Delay_Req and of Pdelay_Req count with the mechanism that sends it.
-fn held_value(set: &PortDataSet, member: DataSetMember) -> Option<MemberValue<'static>>
-    ensures { result ≡ held_value set.now member }
-{
-    let gives = PortGroup::Giving.has(set.state());
-    match member {
-        Setting(LogAnnounceInterval) => interval(set.log_announce),
-        Setting(LogSyncInterval) if gives => interval(set.log_sync),
-        LogMinDelayReq if gives && set.measures_end_to_end() => interval(set.log_min_delay_req),
-        Setting(LogMinPdelayReqInterval) if set.measures_link() => interval(set.log_min_pdelay),
-        Setting(AnnounceReceiptTimeout) => {
-            Some(MemberValue::Unsigned(u64::from(set.receipt_timeout)))
-        }
-        _ => None,
-    }
 }
 
 /// delayMechanism, if it is not allowed.

@@ -1,19 +1,34 @@
-//! What the profiles allow, in a table of their own: numbers from a least to a greatest, and mechanisms.
+//! The members that profiles limit, and what each profile allows of them: numbers from a least to a greatest, and mechanisms.
 
-ghost use Rattle.std.specs.Prelude.{◌≡◌};
-ghost use Rattle.ptpm_expected.specs.Profiles.{allowed_mechanisms, audio_range, default_range, domain_range, is_of_gptp, is_of_ptp, port_range, priority_range, sdo_range, studio_range};
+ghost use Rattle.std.specs.Prelude.{◌≡◌, Some};
+ghost use Rattle.ptpm_members.specs.declared.values.MemberValue.TheVariants as values;
+ghost use Rattle.ptpm_expected.specs.Profiles.{allowed_mechanisms, audio_range, default_range, domain_range, held_value, is_of_gptp, is_of_ptp, port_range, priority_range, sdo_range, studio_range};
 
 use crate::profile::Profile;
 use ptpm_data::Member;
 use ptpm_data::Member::{LogMinDelayReq, Setting};
 use ptpm_data::PortSetting::{
-    AnnounceReceiptTimeout, LogAnnounceInterval, LogMinPdelayReqInterval, LogSyncInterval,
+    AnnounceReceiptTimeout, DelayMechanism, LogAnnounceInterval, LogMinPdelayReqInterval,
+    LogSyncInterval,
 };
-use ptpm_site::data_sets::{COMMON_PEER_TO_PEER, END_TO_END, PEER_TO_PEER};
+use ptpm_members::Member::DataSet;
+use ptpm_members::{Member as AnyMember, MemberValue};
+use ptpm_site::data_sets::{COMMON_PEER_TO_PEER, END_TO_END, PEER_TO_PEER, PortDataSet};
 use ptpm_site::expected::Allowed;
+use ptpm_site::port_groups::PortGroup;
 
 /// delayMechanism SPECIAL (8.2.15.4.4, table 21).
 const SPECIAL: u8 = 4;
+
+/// The members of a port that a profile may limit, in the order of their findings. An inventory that is written has them too.
+pub const PORT_MEMBERS: [AnyMember; 6] = [
+    DataSet(Setting(LogAnnounceInterval)),
+    DataSet(Setting(LogSyncInterval)),
+    DataSet(LogMinDelayReq),
+    DataSet(Setting(LogMinPdelayReqInterval)),
+    DataSet(Setting(AnnounceReceiptTimeout)),
+    DataSet(Setting(DelayMechanism)),
+];
 
 /// The numbers from the least to the greatest.
 #[derive(Clone, Copy)]
@@ -53,6 +68,31 @@ pub fn priority_range(profile: Profile) -> Option<Range>
     match profile {
         Profile::Default | Profile::St2059 | Profile::Aes67 => None,
         Profile::Gptp => numbers(1, 255),
+    }
+}
+
+/// An interval of a port: the logarithm of seconds to the base 2.
+fn interval(log: i8) -> Option<MemberValue<'static>>
+    ensures { result ≡ Some (values.Signed log) }
+{
+    Some(MemberValue::Signed(i64::from(log)))
+}
+
+/// The number that a member of a port is, if it counts. The intervals of Sync and of Delay_Req count if the port gives time: else it
+/// takes its master's. Those of Delay_Req and of Pdelay_Req count with the mechanism that sends it.
+pub fn held_value(set: &PortDataSet, member: Member) -> Option<MemberValue<'static>>
+    ensures { result ≡ held_value set.now member }
+{
+    let gives = PortGroup::Giving.has(set.state());
+    match member {
+        Setting(LogAnnounceInterval) => interval(set.log_announce),
+        Setting(LogSyncInterval) if gives => interval(set.log_sync),
+        LogMinDelayReq if gives && set.measures_end_to_end() => interval(set.log_min_delay_req),
+        Setting(LogMinPdelayReqInterval) if set.measures_link() => interval(set.log_min_pdelay),
+        Setting(AnnounceReceiptTimeout) => {
+            Some(MemberValue::Unsigned(u64::from(set.receipt_timeout)))
+        }
+        _ => None,
     }
 }
 

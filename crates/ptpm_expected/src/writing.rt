@@ -16,13 +16,11 @@ ghost use Rattle.ptpm_site.specs.Domains.{domain_cmp};
 use crate::inventory::{Entry, Inventory, MemberRule, Presence, Rule};
 use crate::judging_inventory::leading_in;
 use crate::meeting::rule_value;
+use crate::ranges::PORT_MEMBERS;
 use crate::senders::announcing;
 use crate::telling::Added;
 use ptpm_codec::ClockIdentity;
-use ptpm_data::Member::{
-    LogMinDelayReq, ParentPort, Priority1, Priority2, Setting, UserDescription,
-};
-use ptpm_data::PortSetting;
+use ptpm_data::Member::{ParentPort, Priority1, Priority2, UserDescription};
 use ptpm_members::Member::DataSet;
 use ptpm_members::{Member, MemberValue};
 use ptpm_site::domain::Domain;
@@ -42,16 +40,6 @@ const CLOCK_MEMBERS: [Member; 7] = [
     Member::NumberPorts,
     DataSet(UserDescription),
     DataSet(ParentPort),
-];
-
-/// The members of a port that are written.
-const PORT_MEMBERS: [Member; 6] = [
-    DataSet(Setting(PortSetting::LogAnnounceInterval)),
-    DataSet(Setting(PortSetting::LogSyncInterval)),
-    DataSet(LogMinDelayReq),
-    DataSet(Setting(PortSetting::LogMinPdelayReqInterval)),
-    DataSet(Setting(PortSetting::AnnounceReceiptTimeout)),
-    DataSet(Setting(PortSetting::DelayMechanism)),
 ];
 
 /// The inventory of a site: of each domain who leads, that no other clock is there, and its clocks. A clock that announces and is
