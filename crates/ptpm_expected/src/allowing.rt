@@ -4,13 +4,14 @@ ghost use Rattle.std.specs.Prelude.{◌≡◌, ◌&&◌, ◌==◌, IfOk};
 ghost use Rattle.std.specs.List.{list_any};
 ghost use Rattle.ptpm_site.specs.Site.{site_answers};
 ghost use Rattle.ptpm_expected.specs.Held.{IsHeld};
-ghost use Rattle.ptpm_expected.specs.HeldToInventory.{has_quality, is_allowed, is_mute, is_quality_of};
+ghost use Rattle.ptpm_expected.specs.HeldToInventory.{has_quality, is_allowed, is_mute, is_quality_of, may_lead, names_leaders};
 
 use crate::inventory::{Entry, MemberRule, Rule};
 use crate::meeting::is_as_wanted;
 use crate::named::Named;
 use crate::senders::{Sending, sender_set};
 use ptpm_members::Member;
+use ptpm_site::domain::Domain;
 use ptpm_site::finding::{Finding, What};
 use ptpm_site::site::Site;
 use ptpm_site::source::Source;
@@ -53,13 +54,23 @@ impl<'a> Held<'a> {
     {
         let source = finding.source;
         match finding.what {
-            What::Degraded(_) => has_quality(self.site, source, self.entries),
+            What::Degraded(_) => {
+                self.may_lead(source) && has_quality(self.site, source, self.entries)
+            }
             What::BetterClock(_) => self.named.leading.contains(&source),
             What::Unseen(Absence::Mute(_)) => self.named.mute.contains(&source),
             What::GrandmasterNotSeen(clock) => self.is_mute(source.beside(clock)),
             What::ParentNotSeen(port) => self.is_mute(source.beside(port.clock)),
             _ => false,
         }
+    }
+
+    /// Whether a clock may lead: a line `grandmaster` names it, or none is of its domain.
+    fn may_lead(&self, source: Source) -> bool
+        requires { IsHeld self.now }
+        ensures { result ≡ may_lead self.now.entries.now source }
+    {
+        self.named.leading.contains(&source) || !has_leaders(self.entries, source.domain)
     }
 
     /// Whether a clock needs to answer nothing, and is heard.
@@ -69,6 +80,19 @@ impl<'a> Held<'a> {
     {
         self.named.mute.contains(&source) && self.heard.contains(&source)
     }
+}
+
+/// Whether one of these entries says who leads in a domain.
+fn has_leaders(entries: &[Entry], domain: Domain) -> bool
+    ensures { result ≡ list_any (names_leaders domain) entries.now }
+{
+    entries.iter().any(|entry| names_leaders(entry, domain))
+}
+
+fn names_leaders(entry: &Entry, domain: Domain) -> bool
+    ensures { result ≡ names_leaders domain entry.now }
+{
+    entry.domain == domain && matches!(entry.rule, Rule::Leaders(_))
 }
 
 /// Whether one of these entries has what the clockQuality of a clock is.
