@@ -4,8 +4,8 @@ use Rattle.toml.specs.Data.{Members}
 use Rattle.toml.specs.Parse.{parse_document}
 use Rattle.toml.specs.View.{table_view}
 use Rattle.ptpm_script.specs.declared.fault.Fault.{Fault}
-use Rattle.ptpm_script.specs.declared.document.Content.{Content}
-use Rattle.ptpm_script.specs.declared.document.Content.TheVariants as contents
+use Rattle.ptpm_script.specs.declared.document.Document.{Document}
+use Rattle.ptpm_script.specs.declared.document.Document.TheVariants as documents
 use Rattle.ptpm_script.specs.declared.net_error.NetError.{NetError}
 use Rattle.ptpm_script.specs.declared.net_error.NetError.TheVariants.{TooLong, NotToml}
 use Rattle.ptpm_script.specs.Heads.{clocks_of, ends_of, sessions_of}
@@ -52,7 +52,7 @@ text_marks text = if nat_lt 262144 (length text) then long_marks else marks_of_d
 
 -- ---- as the program has it
 
-abbrev pub content_marks : Content → List Mark
-content_marks contents.Long = long_marks
-content_marks (contents.Broken line error) = broken_marks
-content_marks (contents.Table t) = file_marks (table_view t)
+abbrev pub document_marks : Document → List Mark
+document_marks documents.Long = long_marks
+document_marks (documents.Broken line error) = broken_marks
+document_marks (documents.Table t) = file_marks (table_view t)

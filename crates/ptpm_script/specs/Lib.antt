@@ -18,7 +18,6 @@ pub mod RepeatFaults
 pub mod NameFaults
 pub mod StartFaults
 pub mod Faults
-pub mod DocumentView
 pub mod NetworkValue
 pub mod NetworkText
 pub mod NetworkView

@@ -9,8 +9,8 @@ use Rattle.ptpm_codec.specs.declared.identity.PortIdentity.{PortIdentity}
 use Rattle.ptpm_data.specs.Start.{default_port, start_fault}
 use Rattle.ptpm_data.specs.declared.start.PortStart.{PortStart}
 use Rattle.ptpm_data.specs.declared.start.StartError.{StartError}
-use Rattle.ptpm_script.specs.declared.document.Content.{Content}
-use Rattle.ptpm_script.specs.declared.document.Content.TheVariants as contents
+use Rattle.ptpm_script.specs.declared.document.Document.{Document}
+use Rattle.ptpm_script.specs.declared.document.Document.TheVariants as documents
 use Rattle.ptpm_script.specs.declared.net_error.NetError.{NetError}
 use Rattle.ptpm_script.specs.declared.net_error.NetError.TheVariants.{TooLong, NotToml, OutOfMemory}
 use Rattle.ptpm_script.specs.declared.network.End.{End}
@@ -122,10 +122,10 @@ unfoldable pub network_of : List ℕ → Result NetworkValue NetError
 network_of text = if nat_lt 262144 (length text) then Err TooLong else network_of_document (parse_document text)
 
 -- the same, as the program has it
-abbrev pub content_network : Content → Result NetworkValue NetError
-content_network contents.Long = Err TooLong
-content_network (contents.Broken line error) = Err NotToml
-content_network (contents.Table t) = network_of_document (Some (table_view t))
+abbrev pub document_network : Document → Result NetworkValue NetError
+document_network documents.Long = Err TooLong
+document_network (documents.Broken line error) = Err NotToml
+document_network (documents.Table t) = network_of_document (Some (table_view t))
 
 -- what some text is the network of
 abbrev pub IsOfText : NetworkValue → Type 0

@@ -1,15 +1,15 @@
 //! A text, read as a network file: every fault in it, or the network that it is.
 
-ghost use Rattle.std.specs.Prelude.{◌≡◌, IfOk, Some, [], map};
+ghost use Rattle.std.specs.Prelude.{◌≡◌, IfOk, Some, map};
 ghost use Rattle.std.specs.Result.{result_err};
 ghost use Rattle.toml.specs.View.{table_view};
-ghost use Rattle.ptpm_script.specs.NetworkText.{IsAnswerAs, content_network, network_of, network_of_document};
-ghost use Rattle.ptpm_script.specs.Faults.{content_marks, file_marks, first_class, first_refusal, text_marks};
+ghost use Rattle.ptpm_script.specs.NetworkText.{IsAnswerAs, document_network, network_of, network_of_document};
+ghost use Rattle.ptpm_script.specs.Faults.{document_marks, file_marks, first_class, first_refusal, text_marks};
 ghost use Rattle.ptpm_script.specs.Heads.{clock_value, clocks_of, end_value, ends_of, session_value, sessions_of};
 ghost use Rattle.ptpm_script.specs.NetworkValue.{value_of};
 ghost use Rattle.ptpm_script.specs.Marks.{Adds, marks_in};
 
-use crate::fault::{Fault, Found, Need, Wanted};
+use crate::fault::{Fault, Found, Wanted};
 use crate::faults::{Added, Faults};
 use crate::heads::Heads;
 use crate::limits::TEXT_OCTETS;
@@ -22,13 +22,7 @@ use toml::Table;
 
 /// A text, read as a network file. It keeps what its faults point to.
 #[derive(Drop)]
-pub struct Document {
-    content: Content,
-}
-
-/// What a text is.
-#[derive(Drop)]
-enum Content {
+pub enum Document {
     /// A text that is too long.
     Long,
     /// A text that is no TOML from this line on.
@@ -37,8 +31,6 @@ enum Content {
 }
 
 impl Document {
-    ghost use Rattle.ptpm_script.specs.DocumentView.{document_marks, document_network};
-
     /// Reads a text, whether or not it is a network file. The first fault of it is of the refusal that `Network::from_toml` answers.
     /// Nothing is made if memory is refused.
     pub fn of(alloc: Global, text: &str) -> Result<Document, OutOfMemory>
@@ -47,8 +39,7 @@ impl Document {
         ensures found { IfOk result (λ d. document_marks d ≡ text_marks text.now) }
         ensures network { IfOk result (λ d. document_network d ≡ network_of text.now) }
     {
-        let content = content_of(alloc, text)?;
-        Ok(Document { content })
+        document_of(alloc, text)
     }
 
     /// Its faults, in the order of the refusals: none exactly if the text is a network file. They are those of the text by the
@@ -58,7 +49,7 @@ impl Document {
             (λ faults. first_class faults.items ≡ first_refusal (document_marks self.now)) }
         ensures all { IfOk result (λ faults. marks_in faults.items ≡ document_marks self.now) }
     {
-        let faults = faults_in(alloc, &self.content).map_err(|_| OutOfMemory)?;
+        let faults = faults_in(alloc, self).map_err(|_| OutOfMemory)?;
         Ok(faults.into_vec())
     }
 
@@ -67,27 +58,27 @@ impl Document {
         ensures { IsAnswerAs (λ p. value_of p.clocks.items p.sessions.items p.links.items) result
             (document_network self.now) }
     {
-        match &self.content {
-            Content::Long => Err(NetError::TooLong),
-            Content::Broken(..) => Err(NetError::NotToml),
-            Content::Table(file) => parts_of(alloc, file),
+        match self {
+            Document::Long => Err(NetError::TooLong),
+            Document::Broken(..) => Err(NetError::NotToml),
+            Document::Table(file) => parts_of(alloc, file),
         }
     }
 }
 
-/// What a text is, whether or not it is a network file.
+/// A text, read as a network file, whether or not it is one.
 #[tactic(auto, unfolding(crate::specs::Faults::text_marks, crate::specs::NetworkText::network_of))]
-fn content_of(alloc: Global, text: &str) -> Result<Content, OutOfMemory>
-    ensures found { IfOk result (λ content. content_marks content ≡ text_marks text.now) }
-    ensures network { IfOk result (λ content. content_network content ≡ network_of text.now) }
+fn document_of(alloc: Global, text: &str) -> Result<Document, OutOfMemory>
+    ensures found { IfOk result (λ d. document_marks d ≡ text_marks text.now) }
+    ensures network { IfOk result (λ d. document_network d ≡ network_of text.now) }
 {
     if text.len() > TEXT_OCTETS {
-        return Ok(Content::Long);
+        return Ok(Document::Long);
     }
     match toml::table_from_str(alloc, text) {
-        Ok(table) => Ok(Content::Table(table)),
+        Ok(table) => Ok(Document::Table(table)),
         Err(error) if error.is_memory() => Err(OutOfMemory),
-        Err(error) => Ok(Content::Broken(line_of(text, &error), error)),
+        Err(error) => Ok(Document::Broken(line_of(text, &error), error)),
     }
 }
 
@@ -117,20 +108,17 @@ fn line_of(text: &str, error: &toml::de::Error) -> usize {
 }
 
 /// The faults that are found in a text, in the order of the refusals.
-fn faults_in(alloc: Global, content: &Content) -> Result<Faults<'_>, AllocError>
-    ensures { IfOk result (λ faults. faults ≡ content_marks content.now) }
+fn faults_in(alloc: Global, document: &Document) -> Result<Faults<'_>, AllocError>
+    ensures { IfOk result (λ faults. faults ≡ document_marks document.now) }
 {
     let mut faults = Faults::new(alloc);
-    match content {
-        Content::Long => {
-            let wanted = Wanted::Need(Need::Size);
-            faults.add(NetError::TooLong, Place::File, Found::Untold, wanted)?
-        }
-        Content::Broken(line, error) => {
-            let wanted = Wanted::Need(Need::Toml(*error));
+    match document {
+        Document::Long => faults.add(NetError::TooLong, Place::File, Found::Untold, Wanted::Size)?,
+        Document::Broken(line, error) => {
+            let wanted = Wanted::Toml(*error);
             faults.add(NetError::NotToml, Place::Line(*line), Found::Untold, wanted)?
         }
-        Content::Table(file) => faults.add_file(file, &Heads::of(alloc, file)?)?,
+        Document::Table(file) => faults.add_file(file, &Heads::of(alloc, file)?)?,
     }
     Ok(faults)
 }

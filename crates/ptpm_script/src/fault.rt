@@ -1,6 +1,6 @@
 //! A fault of a network file.
 
-use crate::limits::{LEAST_ENDS, MOST_ENDS, TEXT_OCTETS};
+use crate::limits::{LEAST_ENDS, MANAGERS, MOST_ENDS, TEXT_OCTETS};
 use crate::net_error::NetError;
 use crate::place::Place;
 use crate::rules::Kind;
@@ -39,27 +39,6 @@ pub enum Found<'a> {
 /// What may be at a place, or why what is there may not.
 #[derive(Clone, Copy)]
 pub enum Wanted<'a> {
-    /// What is asked of it in every file.
-    Need(Need),
-    /// A name of this kind that is known; this one is the nearest.
-    Known(Names, Option<&'a str>),
-    /// What is not at this place too.
-    Once(Place<'a>),
-    /// Another clockIdentity than that of the clock at this place.
-    OtherClock(Place<'a>),
-}
-
-/// What a name is to be of.
-#[derive(Clone, Copy)]
-pub enum Names {
-    Key,
-    Clock,
-    Session,
-}
-
-/// What is asked of a place, whatever else is in the file.
-#[derive(Clone, Copy)]
-pub enum Need {
     /// At most 262,144 octets; there are more.
     Size,
     /// TOML, which ends here for this reason.
@@ -82,8 +61,8 @@ pub enum Need {
     AtMost(usize),
     /// As many ends as a link has.
     Ends(usize),
-    /// How many sessions have this target, and how many may at most.
-    Managers(usize, usize),
+    /// Fewer sessions with this target than this many.
+    Managers(usize),
     /// A port of a clock that has this many.
     PortUpTo(u16),
     /// A number of ports with which a clock can start.
@@ -92,6 +71,20 @@ pub enum Need {
     Start(Member),
     /// The clock's own value, since it is its own grandmaster.
     OwnGrandmaster,
+    /// A name of this kind that is known; this one is the nearest.
+    Known(Names, Option<&'a str>),
+    /// What is not at this place too.
+    Once(Place<'a>),
+    /// Another clockIdentity than that of the clock at this place.
+    OtherClock(Place<'a>),
+}
+
+/// What a name is to be of.
+#[derive(Clone, Copy)]
+pub enum Names {
+    Key,
+    Clock,
+    Session,
 }
 
 /// For example, `session 1 "m": attempts = 300: a whole number from 0 to 255`.
@@ -131,27 +124,41 @@ impl fmt::Display for Key<'_> {
 
 /// Whether a key is a short one that needs no quotes.
 fn is_bare(key: &str) -> bool {
-    !key.is_empty() && key.len() <= 40 && key.as_bytes().iter().all(|octet| is_bare_octet(*octet))
-}
-
-fn is_bare_octet(octet: u8) -> bool {
-    matches!(octet, b'a'..=b'z' | b'A'..=b'Z' | b'0'..=b'9' | b'_' | b'-')
+    !key.is_empty()
+        && key.len() <= 40
+        && key.as_bytes().iter().all(
+            |octet| matches!(octet, b'a'..=b'z' | b'A'..=b'Z' | b'0'..=b'9' | b'_' | b'-'),
+        )
 }
 
 impl fmt::Display for Wanted<'_> {
     fn fmt<W: fmt::Write>(&self, f: &mut fmt::Formatter<W>) -> fmt::Result {
         match *self {
-            Wanted::Need(need) => write!(f, "{need}"),
+            Wanted::Size => write!(f, "over {TEXT_OCTETS} octets"),
+            Wanted::Toml(error) => f.write_str(error.message()),
+            Wanted::Kind(kind) => write!(f, "{kind}"),
+            Wanted::AtMost(most) => write!(f, "at most {most}"),
+            Wanted::Ends(1) => write!(f, "one end; a link has {LEAST_ENDS} to {MOST_ENDS}"),
+            Wanted::Ends(count) => {
+                write!(f, "{count} ends; a link has {LEAST_ENDS} to {MOST_ENDS}")
+            }
+            Wanted::Managers(count) => {
+                write!(f, "{count} sessions have this target; at most {MANAGERS}")
+            }
+            Wanted::PortUpTo(1) => f.write_str("the clock has port 1 alone"),
+            Wanted::PortUpTo(count) => write!(f, "the clock has ports 1 to {count}"),
+            Wanted::Start(Member::Setting(setting)) => write!(f, "{}", setting.range()),
+            Wanted::Start(member) => f.write_str(start_range(member)),
             Wanted::Known(names, None) => write!(f, "{}; there is none", names.none()),
-            Wanted::Known(Names::Key, Some(name)) => write!(
-                f,
-                "no such key; the nearest is {name}"
-            ),
+            Wanted::Known(Names::Key, Some(name)) => {
+                write!(f, "no such key; the nearest is {name}")
+            }
             Wanted::Known(names, Some(name)) => {
                 write!(f, "{}; the nearest is \"{name}\"", names.none())
             }
             Wanted::Once(place) => write!(f, "stands at {place} too"),
             Wanted::OtherClock(place) => write!(f, "has the clockIdentity of {place}"),
+            _ => f.write_str(self.words()),
         }
     }
 }
@@ -167,39 +174,18 @@ impl Names {
     }
 }
 
-impl fmt::Display for Need {
-    fn fmt<W: fmt::Write>(&self, f: &mut fmt::Formatter<W>) -> fmt::Result {
-        match *self {
-            Need::Size => write!(f, "over {TEXT_OCTETS} octets"),
-            Need::Toml(error) => f.write_str(error.message()),
-            Need::Kind(kind) => write!(f, "{kind}"),
-            Need::AtMost(most) => write!(f, "at most {most}"),
-            Need::Ends(1) => write!(f, "one end; a link has {LEAST_ENDS} to {MOST_ENDS}"),
-            Need::Ends(count) => write!(f, "{count} ends; a link has {LEAST_ENDS} to {MOST_ENDS}"),
-            Need::Managers(count, most) => {
-                write!(f, "{count} sessions have this target; at most {most}")
-            }
-            Need::PortUpTo(1) => f.write_str("the clock has port 1 alone"),
-            Need::PortUpTo(count) => write!(f, "the clock has ports 1 to {count}"),
-            Need::Start(Member::Setting(setting)) => write!(f, "{}", setting.range()),
-            Need::Start(member) => f.write_str(start_range(member)),
-            _ => f.write_str(self.words()),
-        }
-    }
-}
-
-impl Need {
+impl Wanted<'_> {
     /// The words of what has no further part.
     fn words(&self) -> &'static str {
         match self {
-            Need::Table => "a table",
-            Need::NoRights => "no key of version 1, in which each session has all rights",
-            Need::Rights => "an array of clock-set, port-set and port-command, each once at most",
-            Need::Right => "clock-set, port-set or port-command",
-            Need::OtherRight => "stands in the array before",
-            Need::End => "the name of a session, or the name of a clock, a dot and a port",
-            Need::Ports => "1 to 8 ports",
-            Need::OwnGrandmaster => "the clock's own, since it is its own grandmaster",
+            Wanted::Table => "a table",
+            Wanted::NoRights => "no key of version 1, in which each session has all rights",
+            Wanted::Rights => "an array of clock-set, port-set and port-command, each once at most",
+            Wanted::Right => "clock-set, port-set or port-command",
+            Wanted::OtherRight => "stands in the array before",
+            Wanted::End => "the name of a session, or the name of a clock, a dot and a port",
+            Wanted::Ports => "1 to 8 ports",
+            Wanted::OwnGrandmaster => "the clock's own, since it is its own grandmaster",
             _ => "",
         }
     }

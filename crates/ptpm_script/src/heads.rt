@@ -1,15 +1,14 @@
 //! What tables of a network file are known by: names, identities, targets and ends.
 
-ghost use Rattle.std.specs.Prelude.{◌≡◌, ◌++◌, IfOk, OnOk, [], map, option_map};
+ghost use Rattle.std.specs.Prelude.{◌≡◌, ◌++◌, IfOk, OnOk, map};
 ghost use Rattle.toml.specs.View.{view, table_view};
 ghost use Rattle.ptpm_script.specs.Heads.{clock_head, clock_value, clocks_of, end_head, end_value, ends_of, number_in, session_head, session_value, sessions_of};
-ghost use Rattle.ptpm_script.specs.Marks.{each, if_any, spot_of};
-ghost use Rattle.ptpm_script.specs.Spellings.{end_of};
+ghost use Rattle.ptpm_script.specs.Marks.{each, spot_of};
 
 use crate::limits::{CLOCKS, LINKS, MOST_ENDS, SESSIONS};
 use crate::place::{Array, Place, TableAt};
-use crate::spellings::end_spelling;
-use crate::tables::{items_at, items_in, name_at, table_of, text_of};
+use crate::spellings::end_at;
+use crate::tables::{items_at, items_in, name_at};
 use crate::values::{clock_at, first_items, port_at, u16_at};
 use ptpm_codec::{ClockIdentity, PortIdentity};
 use std::alloc::{AllocError, Global};
@@ -79,7 +78,7 @@ fn clocks_of<'a>(alloc: Global, file: &'a Table) -> Result<Vec<ClockHead<'a>>, A
     let values = first_items(items_at(file, "clock"), CLOCKS);
     let mut clocks = Vec::new(alloc);
     for index in 0..values.len() {
-        if let Some(table) = table_of(&values[index]) {
+        if let Some(table) = values[index].as_table() {
             let name = name_at(table, "name");
             let place = Place::Table(Array::Clock, index + 1, name);
             clocks.push(ClockHead {
@@ -101,7 +100,7 @@ fn sessions_of<'a>(alloc: Global, file: &'a Table) -> Result<Vec<SessionHead<'a>
     let values = first_items(items_at(file, "session"), SESSIONS);
     let mut sessions = Vec::new(alloc);
     for index in 0..values.len() {
-        if let Some(table) = table_of(&values[index]) {
+        if let Some(table) = values[index].as_table() {
             let name = name_at(table, "name");
             let place = Place::Table(Array::Session, index + 1, name);
             sessions.push(SessionHead {
@@ -138,29 +137,23 @@ fn add_ends<'a>(
         ≡ map end_value ends.old.items ++ each (end_head (spot_of place.entry)) 1 (map view values.now)) }
 {
     for index in 0..values.len() {
-        if let Some(end) = end_of(place, index + 1, &values[index]) {
-            ends.push(end)?;
+        let (number, value) = (index + 1, &values[index]);
+        if let Some((name, port)) = end_at(value) {
+            ends.push(EndHead {
+                place,
+                number,
+                value,
+                name,
+                port,
+            })?;
         }
     }
     Ok(())
-}
-
-fn end_of<'a>(place: Place<'a>, number: usize, value: &'a Value) -> Option<EndHead<'a>>
-    ensures { if_any (option_map end_value result) ≡ end_head (spot_of place.entry) number (view value.now) }
-{
-    let (name, port) = end_spelling(text_of(value)?)?;
-    Some(EndHead {
-        place,
-        number,
-        value,
-        name,
-        port,
-    })
 }
 
 /// The number of a port's table.
 pub(crate) fn number_in(port: &Value) -> Option<u16>
     ensures { result ≡ number_in (view port.now) }
 {
-    u16_at(table_of(port)?, "number")
+    u16_at(port.as_table()?, "number")
 }

@@ -6,12 +6,11 @@ ghost use Rattle.ptpm_script.specs.Rules.{key_rule};
 ghost use Rattle.ptpm_script.specs.KeyFaults.{holds, key_marks, missing_marks, table_marks, wrong_marks};
 ghost use Rattle.ptpm_script.specs.Marks.{Adds, spot_of};
 
-use crate::fault::{Found, Names, Need, Wanted};
+use crate::fault::{Found, Names, Wanted};
 use crate::faults::{Added, Faults};
 use crate::nearest::nearest;
 use crate::place::{Place, TableAt};
 use crate::rules::{Rule, kind_of};
-use crate::tables::table_of;
 use crate::values::value_at;
 use std::alloc::{AllocError, Global};
 use toml::Value;
@@ -28,9 +27,9 @@ impl<'a> Faults<'a> {
         ensures { Adds result self.old self.new
             (table_marks (spot_of place.entry) (map key_rule rules.now) (view value.now)) }
     {
-        match table_of(value) {
+        match value.as_table() {
             Some(table) => self.add_keys(TableAt { place, table }, rules),
-            None => self.add_shape(place, Found::Whole(value), Wanted::Need(Need::Table)),
+            None => self.add_shape(place, Found::Whole(value), Wanted::Table),
         }
     }
 
@@ -51,8 +50,7 @@ impl<'a> Faults<'a> {
     {
         for rule in rules {
             if rule.is_required && value_at(at.table, rule.key).is_none() {
-                let wanted = Wanted::Need(Need::Kind(rule.kind));
-                self.add_shape(at.place, Found::Missing(rule.key), wanted)?;
+                self.add_shape(at.place, Found::Missing(rule.key), Wanted::Kind(rule.kind))?;
             }
         }
         Ok(())
@@ -84,7 +82,7 @@ fn wrong(
 {
     match kind_of(rules, key) {
         Some(kind) if kind.fits(value) => Ok(None),
-        Some(kind) => Ok(Some(Wanted::Need(Need::Kind(kind)))),
+        Some(kind) => Ok(Some(Wanted::Kind(kind))),
         None => {
             let keys: Vec<&'static str> = rules.iter().map(|rule| rule.key).collect(alloc)?;
             Ok(Some(Wanted::Known(Names::Key, nearest(alloc, key, keys.as_slice())?)))

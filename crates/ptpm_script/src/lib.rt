@@ -40,7 +40,7 @@ pub use document::Document;
 pub use event::{Event, EventError};
 pub use event_line::{read_event, read_line};
 pub use event_lines::{EventFault, event_fault};
-pub use fault::{Fault, Found, Names, Need, Wanted};
+pub use fault::{Fault, Found, Names, Wanted};
 pub use hexadecimal::Hexadecimal;
 pub use limits::{CLOCKS, LEAST_ENDS, LINKS, MANAGERS, MOST_ENDS, SESSIONS, TEXT_OCTETS};
 pub use line_fault::{Expected, LineError, LineFault, Verb};

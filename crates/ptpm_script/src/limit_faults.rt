@@ -8,13 +8,13 @@ ghost use Rattle.ptpm_script.specs.Heads.{session_value};
 ghost use Rattle.ptpm_script.specs.LimitFaults.{count_marks, has_bad_size, limit_marks, link_size_marks, manager_marks, managers_of};
 ghost use Rattle.ptpm_script.specs.Marks.{Adds, each, each_after};
 
-use crate::fault::{Found, Need, Wanted};
+use crate::fault::{Found, Wanted};
 use crate::faults::{Added, Faults};
 use crate::heads::SessionHead;
 use crate::limits::{CLOCKS, LEAST_ENDS, LINKS, MANAGERS, MOST_ENDS, SESSIONS};
 use crate::net_error::NetError;
 use crate::place::{Array, Place, TableAt};
-use crate::tables::{array_at, is_name_of, items_at, table_of};
+use crate::tables::{array_at, is_name_of, items_at};
 use toml::{Table, Value};
 
 impl<'a> Faults<'a> {
@@ -41,8 +41,7 @@ impl<'a> Faults<'a> {
             return Ok(());
         }
         let found = Found::Count(items.len(), of);
-        let wanted = Wanted::Need(Need::AtMost(most));
-        self.add(NetError::TooMany, Place::File, found, wanted)
+        self.add(NetError::TooMany, Place::File, found, Wanted::AtMost(most))
     }
 
     /// Adds a fault for each link of too few ends or of too many.
@@ -51,7 +50,7 @@ impl<'a> Faults<'a> {
         ensures { Adds result self.old self.new (each link_size_marks 1 (map view links.now)) }
     {
         for index in 0..links.len() {
-            if let Some(table) = table_of(&links[index]) {
+            if let Some(table) = links[index].as_table() {
                 let place = Place::Table(Array::Link, index + 1, None);
                 let at = TableAt { place, table };
                 self.add_at(NetError::TooMany, at, "ends", other_size(table))?;
@@ -73,7 +72,7 @@ impl<'a> Faults<'a> {
             };
             let count = managers_of(target, sessions);
             if MANAGERS < count && managers_of(target, &sessions[..index]) == 0 {
-                let wanted = Wanted::Need(Need::Managers(count, MANAGERS));
+                let wanted = Wanted::Managers(count);
                 self.add_at(NetError::TooMany, session.at, "target", Some(wanted))?;
             }
         }
@@ -88,7 +87,7 @@ fn other_size(link: &Table) -> Option<Wanted<'static>>
 {
     let count = array_at(link, "ends")?.len();
     let is_bad = count < LEAST_ENDS || MOST_ENDS < count;
-    is_bad.then_some(Wanted::Need(Need::Ends(count)))
+    is_bad.then_some(Wanted::Ends(count))
 }
 
 /// How many sessions have this target.

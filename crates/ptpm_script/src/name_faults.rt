@@ -8,13 +8,13 @@ ghost use Rattle.ptpm_script.specs.Heads.{clock_value, end_value, session_value}
 ghost use Rattle.ptpm_script.specs.Marks.{Adds, each};
 ghost use Rattle.ptpm_script.specs.NameFaults.{clock_named, clock_past_ports, end_name_marks, is_no_clock, is_no_end, is_past, lacks, name_marks, past_port, ports_of, target_marks};
 
-use crate::fault::{Found, Names, Need, Wanted};
+use crate::fault::{Found, Names, Wanted};
 use crate::faults::{Added, Faults};
 use crate::heads::{ClockHead, EndHead, Heads, SessionHead};
 use crate::nearest::nearest;
 use crate::net_error::NetError;
 use crate::place::{Place, TableAt};
-use crate::tables::{is_name_of, items_at, table_of};
+use crate::tables::{is_name_of, items_at};
 use crate::values::u16_at;
 use std::alloc::{AllocError, Global};
 use toml::Value;
@@ -50,7 +50,7 @@ impl<'a> Faults<'a> {
         ensures { Adds result self.old self.new (each (past_port clock.now.number count) 1 (map view ports.now)) }
     {
         for index in 0..ports.len() {
-            if let Some(table) = table_of(&ports[index]) {
+            if let Some(table) = ports[index].as_table() {
                 let place = Place::Port(clock.number, clock.name, index + 1);
                 let at = TableAt { place, table };
                 let wanted = other_port(u16_at(table, "number"), count);
@@ -106,9 +106,7 @@ fn other_port(number: Option<u16>, count: u16) -> Option<Wanted<'static>>
     ensures { is_some result ≡ passes (is_past count) number }
 {
     match number {
-        Some(number) if number == 0 || count < number => {
-            Some(Wanted::Need(Need::PortUpTo(count)))
-        }
+        Some(number) if number == 0 || count < number => Some(Wanted::PortUpTo(count)),
         _ => None,
     }
 }
@@ -135,14 +133,14 @@ pub(crate) fn session_named<'h, 'a>(
         .find(|session| is_name_of(session.name, name))
 }
 
-/// The name of a clock that is nearest to one.
-fn nearest_clock<'a>(
+/// What a clock's name may be instead of one that no clock has.
+fn other_clock<'a>(
     alloc: Global,
     name: &str,
     clocks: &[ClockHead<'a>],
-) -> Result<Option<&'a str>, AllocError> {
+) -> Result<Wanted<'a>, AllocError> {
     let names: Vec<&'a str> = clocks.iter().filter_map(|clock| clock.name).collect(alloc)?;
-    nearest(alloc, name, names.as_slice())
+    Ok(Wanted::Known(Names::Clock, nearest(alloc, name, names.as_slice())?))
 }
 
 /// What a target may be, if it is not there.
@@ -157,10 +155,9 @@ fn other_target<'a>(
         ≡ passes (is_no_clock (map clock_value clocks.now)) (option_map (λ n. n.now) target.entry)) }
 {
     match target {
-        Some(target) if clock_named(clocks, target).is_none() => Ok(Some(Wanted::Known(
-            Names::Clock,
-            nearest_clock(alloc, target, clocks)?,
-        ))),
+        Some(target) if clock_named(clocks, target).is_none() => {
+            Ok(Some(other_clock(alloc, target, clocks)?))
+        }
         _ => Ok(None),
     }
 }
@@ -203,8 +200,7 @@ fn other_clock_port<'a>(
         (λ wanted. is_some wanted ≡ lacks (clock_named (map clock_value clocks.now) name.now) port) }
 {
     let Some(clock) = clock_named(clocks, name) else {
-        let near = nearest_clock(alloc, name, clocks)?;
-        return Ok(Some(Wanted::Known(Names::Clock, near)));
+        return Ok(Some(other_clock(alloc, name, clocks)?));
     };
     match ports_of(clock) {
         Some(count) => Ok(other_port(Some(port), count)),

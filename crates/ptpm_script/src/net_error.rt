@@ -5,7 +5,7 @@ ghost use Rattle.ptpm_script.specs.declared.net_error.NetError.TheVariants as er
 
 use ptpm_codec::OutOfMemory;
 use ptpm_data::StartError;
-use std::alloc::{AllocError, AllocFailed};
+use std::alloc::AllocError;
 use std::fmt;
 use thiserror::Error;
 
@@ -63,14 +63,6 @@ impl From<AllocError> for NetError {
     ghost from_gives = { λ _ e. e ≡ errors.OutOfMemory };
 
     fn from(_refused: AllocError) -> NetError {
-        NetError::OutOfMemory
-    }
-}
-
-impl<T: Drop> From<AllocFailed<T>> for NetError {
-    ghost from_gives = { λ _ e. e ≡ errors.OutOfMemory };
-
-    fn from(_refused: AllocFailed<T>) -> NetError {
         NetError::OutOfMemory
     }
 }

@@ -25,10 +25,7 @@ fn decimal(text: &str) -> Option<u64>
 fn decimal_up_to(most: u64, text: &str) -> Option<u64>
     ensures { result ≡ decimal_up_to most text.now }
 {
-    match decimal(text) {
-        Some(number) if number <= most => Some(number),
-        _ => None,
-    }
+    decimal(text).filter(|number| *number <= most)
 }
 
 /// A decimal number of one octet.

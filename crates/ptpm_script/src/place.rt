@@ -1,8 +1,5 @@
 //! The place of a fault.
 
-ghost use Rattle.std.specs.Prelude.{◌≡◌};
-ghost use Rattle.ptpm_script.specs.Place.{array_key};
-
 use std::fmt;
 use toml::Table;
 
@@ -14,7 +11,7 @@ pub enum Array {
     Link,
 }
 
-/// Its key.
+/// The key that it is at.
 impl fmt::Display for Array {
     ghost use Rattle.std.specs.Prelude.{Some};
     ghost use Rattle.ptpm_script.specs.Place.{array_key};
@@ -22,20 +19,11 @@ impl fmt::Display for Array {
     ghost output = { λ a. Some (array_key a) };
 
     fn fmt<W: fmt::Write>(&self, f: &mut fmt::Formatter<W>) -> fmt::Result {
-        f.write_str(self.key())
-    }
-}
-
-impl Array {
-    /// The key that it is at.
-    pub fn key(self) -> &'static str
-        ensures { result.now ≡ array_key self }
-    {
-        match self {
+        f.write_str(match self {
             Array::Clock => "clock",
             Array::Session => "session",
             Array::Link => "link",
-        }
+        })
     }
 }
 

@@ -15,9 +15,9 @@ use crate::limits::LINKS;
 use crate::names::Name;
 use crate::network::{End, NetworkClock, NetworkLink, NetworkSession};
 use crate::rights::rights_at;
-use crate::spellings::end_spelling;
+use crate::spellings::end_at;
 use crate::starts::{SOME_CLOCK, clock_start, port_start};
-use crate::tables::{is_name_of, is_number, items_at, items_in, table_of, text_of, text_or_none};
+use crate::tables::{is_name_of, is_number, items_at, items_in, text_or_none};
 use crate::values::{first_items, u8_or, u16_or};
 use ptpm_codec::PortIdentity;
 use ptpm_data::PortStart;
@@ -96,7 +96,7 @@ fn start_of_port(tables: &[Value], number: u16) -> PortStart
 {
     for port in tables {
         if is_number(number_in(port), number) {
-            return table_of(port).map_or(PortStart::new(), port_start);
+            return port.as_table().map_or(PortStart::new(), port_start);
         }
     }
     PortStart::new()
@@ -217,7 +217,7 @@ fn end_in(clocks: &[ClockHead<'_>], sessions: &[SessionHead<'_>], value: &Value)
     ensures { if_any result
         ≡ end_in (map clock_value clocks.now) (map session_value sessions.now) (view value.now) }
 {
-    let (name, port) = end_spelling(text_of(value)?)?;
+    let (name, port) = end_at(value)?;
     match port {
         Some(port) => Some(End::Clock(clock_place(clocks, name), port)),
         None => Some(End::Session(session_place(sessions, name))),

@@ -4,7 +4,7 @@ ghost use Rattle.std.specs.Prelude.{◌≡◌, IfOk, [], is_some, map, option_ma
 ghost use Rattle.std.specs.List.{list_any};
 ghost use Rattle.toml.specs.View.{view, table_view};
 ghost use Rattle.ptpm_script.specs.Spellings.{passes};
-ghost use Rattle.ptpm_codec.specs.Identity.{same_identity};
+ghost use Rattle.ptpm_codec.specs.Identity.{same_clock, same_identity};
 ghost use Rattle.ptpm_script.specs.Heads.{clock_value, end_value, number_in, session_value};
 ghost use Rattle.ptpm_script.specs.Marks.{Adds, each_after, spot_of};
 ghost use Rattle.ptpm_script.specs.RepeatFaults.{clock_repeats, end_repeats, is_clock_identity, is_clock_name, is_number_of, is_same_end, is_session_identity, is_session_name, port_repeats, repeat_marks, session_repeats, twice_if};
@@ -15,7 +15,7 @@ use crate::heads::{ClockHead, EndHead, Heads, SessionHead, number_in};
 use crate::name_faults::{clock_named, session_named};
 use crate::net_error::NetError;
 use crate::place::{Place, TableAt};
-use crate::tables::{is_clock, is_number, items_at, table_of};
+use crate::tables::{is_number, items_at};
 use crate::values::u16_at;
 use ptpm_codec::{ClockIdentity, PortIdentity};
 use std::alloc::{AllocError, Global};
@@ -48,8 +48,7 @@ impl<'a> Faults<'a> {
     {
         for index in 0..clocks.len() {
             let (before, clock) = (&clocks[..index], &clocks[index]);
-            let ports = items_at(clock.at.table, "port");
-            self.add_port_repeats(clock.number, clock.name, ports)?;
+            self.add_port_repeats(clock, items_at(clock.at.table, "port"))?;
             self.add_once(clock.at, "name", place_of_clock(before, clock.name))?;
             self.add_once(clock.at, "identity", clock_of(before, clock.identity))?;
         }
@@ -57,18 +56,13 @@ impl<'a> Faults<'a> {
     }
 
     /// Adds a fault for each table of a port of this clock whose number is that of one before.
-    fn add_port_repeats(&mut self, clock: usize, name: Option<&'a str>, ports: &'a [Value]) -> Added
-        ensures { Adds result self.old self.new (each_after (port_repeats clock) [] (map view ports.now)) }
+    fn add_port_repeats(&mut self, clock: &ClockHead<'a>, ports: &'a [Value]) -> Added
+        ensures { Adds result self.old self.new (each_after (port_repeats clock.now.number) [] (map view ports.now)) }
     {
         let numbers = numbers_of(self.alloc, ports)?;
         for index in 0..ports.len() {
-            self.add_port_repeat(
-                clock,
-                name,
-                &ports[..index],
-                &numbers[..index],
-                &ports[index],
-            )?;
+            let (before, known) = (&ports[..index], &numbers[..index]);
+            self.add_port_repeat(clock, before, known, &ports[index])?;
         }
         Ok(())
     }
@@ -76,22 +70,20 @@ impl<'a> Faults<'a> {
     #[tactic(auto, unfolding(crate::specs::RepeatFaults::port_repeats))]
     fn add_port_repeat(
         &mut self,
-        clock: usize,
-        name: Option<&'a str>,
+        clock: &ClockHead<'a>,
         before: &[Value],
         numbers: &[Option<u16>],
         port: &'a Value,
     ) -> Added
         requires { numbers.now ≡ map number_in (map view before.now) }
-        ensures { Adds result self.old self.new (port_repeats clock (map view before.now) (view port.now)) }
+        ensures { Adds result self.old self.new (port_repeats clock.now.number (map view before.now) (view port.now)) }
     {
-        let Some(table) = table_of(port) else {
+        let Some(table) = port.as_table() else {
             return Ok(());
         };
-        let place = Place::Port(clock, name, before.len() + 1);
-        let other = port_before(numbers, u16_at(table, "number")).map(|number| Place::Port(
-            clock, name, number,
-        ));
+        let place = Place::Port(clock.number, clock.name, before.len() + 1);
+        let other = port_before(numbers, u16_at(table, "number"));
+        let other = other.map(|number| Place::Port(clock.number, clock.name, number));
         self.add_once(TableAt { place, table }, "number", other)
     }
 
@@ -187,12 +179,6 @@ fn place_of_session<'a>(sessions: &[SessionHead<'a>], name: Option<&str>) -> Opt
     Some(session_named(sessions, name?)?.at.place)
 }
 
-fn is_identity(identity: Option<PortIdentity>, wanted: PortIdentity) -> bool
-    ensures { result ≡ passes (λ i. same_identity i wanted) identity }
-{
-    identity.is_some_and(|identity| identity == wanted)
-}
-
 /// The place of the first session of a portIdentity.
 fn session_of<'a>(sessions: &[SessionHead<'a>], identity: Option<PortIdentity>) -> Option<Place<'a>>
     ensures { is_some result
@@ -217,4 +203,16 @@ fn same_end<'a>(ends: &[EndHead<'a>], end: &EndHead<'a>) -> Option<Place<'a>>
         }
     }
     None
+}
+
+fn is_clock(identity: Option<ClockIdentity>, wanted: ClockIdentity) -> bool
+    ensures { result ≡ passes (λ i. same_clock i wanted) identity }
+{
+    identity.is_some_and(|identity| identity == wanted)
+}
+
+fn is_identity(identity: Option<PortIdentity>, wanted: PortIdentity) -> bool
+    ensures { result ≡ passes (λ i. same_identity i wanted) identity }
+{
+    identity.is_some_and(|identity| identity == wanted)
 }

@@ -1,21 +1,21 @@
 //! The shape of a network file: the keys of its tables, and what they hold.
 
-ghost use Rattle.std.specs.Prelude.{◌≡◌, ◌==◌, [], codes, is_some, map, option_and_then};
+ghost use Rattle.std.specs.Prelude.{◌≡◌, ◌==◌, [], codes, map};
 ghost use Rattle.std.specs.List.{list_any};
-ghost use Rattle.toml.specs.Data.{as_str, get_member};
+ghost use Rattle.toml.specs.Data.{get_member};
 ghost use Rattle.toml.specs.View.{view, table_view};
-ghost use Rattle.ptpm_script.specs.Spellings.{end_of, passes};
+ghost use Rattle.ptpm_script.specs.Spellings.{passes};
 ghost use Rattle.ptpm_script.specs.Marks.{Adds, each, each_after, spot_of};
 ghost use Rattle.ptpm_script.specs.Rights.{right_in};
 ghost use Rattle.ptpm_script.specs.ShapeFaults.{clock_marks, end_marks, link_marks, ports_marks, right_marks, session_marks, shape_marks, version_marks};
 
-use crate::fault::{Found, Need, Wanted};
+use crate::fault::{Found, Wanted};
 use crate::faults::{Added, Faults};
 use crate::place::{Array, Place, TableAt};
 use crate::rights::right_of;
 use crate::rules::{LINK_RULES, clock_rules, file_rules, port_rules, session_rules};
-use crate::spellings::end_spelling;
-use crate::tables::{items_at, items_in, name_in, table_of, text_of};
+use crate::spellings::end_at;
+use crate::tables::{items_at, items_in, name_in};
 use crate::values::{u16_at, value_at};
 use ptpm_data::Rights;
 use toml::{Table, Value};
@@ -67,7 +67,7 @@ impl<'a> Faults<'a> {
             let session = &sessions[index];
             let place = Place::Table(Array::Session, index + 1, name_in(session));
             self.add_table(place, session, session_rules())?;
-            if let Some(table) = table_of(session) {
+            if let Some(table) = session.as_table() {
                 self.add_version(version, TableAt { place, table })?;
                 self.add_bad_rights(place, items_at(table, "rights"))?;
             }
@@ -81,14 +81,11 @@ impl<'a> Faults<'a> {
         ensures { Adds result self.old self.new
             (version_marks (spot_of session.entry.place) version (get_member (codes "rights") (table_view session.entry.table.now))) }
     {
+        let place = session.place;
         match (version, value_at(session.table, "rights")) {
-            (Some(2), None) => {
-                let wanted = Wanted::Need(Need::Rights);
-                self.add_shape(session.place, Found::Missing("rights"), wanted)
-            }
+            (Some(2), None) => self.add_shape(place, Found::Missing("rights"), Wanted::Rights),
             (Some(1), Some(rights)) => {
-                let wanted = Wanted::Need(Need::NoRights);
-                self.add_shape(session.place, Found::Value("rights", rights), wanted)
+                self.add_shape(place, Found::Value("rights", rights), Wanted::NoRights)
             }
             _ => Ok(()),
         }
@@ -102,9 +99,9 @@ impl<'a> Faults<'a> {
         for index in 0..items.len() {
             let found = Found::Item("rights", index + 1, &items[index]);
             match right_of(&items[index]) {
-                None => self.add_shape(place, found, Wanted::Need(Need::Right))?,
+                None => self.add_shape(place, found, Wanted::Right)?,
                 Some(right) if has_right(&items[..index], right) => {
-                    self.add_shape(place, found, Wanted::Need(Need::OtherRight))?
+                    self.add_shape(place, found, Wanted::OtherRight)?
                 }
                 Some(_) => {}
             }
@@ -130,9 +127,9 @@ impl<'a> Faults<'a> {
         ensures { Adds result self.old self.new (each (end_marks (spot_of place.entry)) 1 (map view items.now)) }
     {
         for index in 0..items.len() {
-            if !is_end(&items[index]) {
+            if end_at(&items[index]).is_none() {
                 let found = Found::Item("ends", index + 1, &items[index]);
-                self.add_shape(place, found, Wanted::Need(Need::End))?;
+                self.add_shape(place, found, Wanted::End)?;
             }
         }
         Ok(())
@@ -149,10 +146,4 @@ fn has_right(items: &[Value], wanted: Rights) -> bool
         }
     }
     false
-}
-
-fn is_end(item: &Value) -> bool
-    ensures { result ≡ is_some (option_and_then end_of (as_str (view item.now))) }
-{
-    text_of(item).is_some_and(|text| end_spelling(text).is_some())
 }

@@ -1,11 +1,14 @@
 //! Identities and ends as a network file writes them (this project's profile).
 
-ghost use Rattle.std.specs.Prelude.{◌≡◌, option_map};
+ghost use Rattle.std.specs.Prelude.{◌≡◌, option_and_then, option_map};
+ghost use Rattle.toml.specs.Data.{as_str};
+ghost use Rattle.toml.specs.View.{view};
 ghost use Rattle.ptpm_script.specs.Spellings.{clock_identity, end_of, port_identity};
 
 use crate::names::is_name;
 use crate::numbers::decimal_u16;
 use ptpm_codec::{ClockIdentity, PortIdentity};
+use toml::Value;
 
 /// A clockIdentity of sixteen hexadecimal digits, not all ones.
 #[tactic(auto, unfolding(crate::specs::Spellings::clock_identity))]
@@ -31,11 +34,12 @@ pub(crate) fn port_identity(text: &str) -> Option<PortIdentity>
     })
 }
 
-/// An end of a link: a session's name, or a clock's, a dot and a decimal port.
+/// The end of a link that a value is spelt as: a session's name, or a clock's, a dot and a decimal port.
 #[tactic(auto, unfolding(crate::specs::Spellings::end_of))]
-pub fn end_spelling(text: &str) -> Option<(&str, Option<u16>)>
-    ensures { option_map (λ e. (e.0.now, e.1)) result ≡ end_of text.now }
+pub(crate) fn end_at(value: &Value) -> Option<(&str, Option<u16>)>
+    ensures { option_map (λ e. (e.0.now, e.1)) result ≡ option_and_then end_of (as_str (view value.now)) }
 {
+    let text = value.as_str()?;
     let (name, port) = match text.split_once('.') {
         Some((name, port)) => (name, Some(decimal_u16(port)?)),
         None => (text, None),

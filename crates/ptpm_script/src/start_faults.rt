@@ -4,15 +4,15 @@ ghost use Rattle.std.specs.Prelude.{◌≡◌, map};
 ghost use Rattle.toml.specs.View.{view, table_view};
 ghost use Rattle.ptpm_script.specs.Heads.{clock_value};
 ghost use Rattle.ptpm_script.specs.Marks.{Adds, spot_of};
-ghost use Rattle.ptpm_script.specs.StartFaults.{clock_start_marks, count_start_marks, grandmaster_marks, has_octet, member_mark_if, member_marks, own_mark_if, own_marks, port_member_marks, ports_start_marks, rank, rank_marks, start_mark_if, start_marks};
+ghost use Rattle.ptpm_script.specs.StartFaults.{clock_start_marks, count_start_marks, grandmaster_marks, has_octet, member_mark_if, member_marks, own_mark_if, own_marks, port_member_marks, ports_start_marks, rank, rank_marks, start_marks};
 
-use crate::fault::{Need, Wanted};
+use crate::fault::Wanted;
 use crate::faults::{Added, Faults};
 use crate::heads::{ClockHead, number_in};
 use crate::net_error::NetError;
 use crate::place::{Place, TableAt};
 use crate::starts::{SOME_CLOCK, clock_start, port_start};
-use crate::tables::{is_number, items_at, table_of};
+use crate::tables::{is_number, items_at};
 use ptpm_codec::ClockIdentity;
 use ptpm_data::{ClockStart, Member, PortStart, StartError};
 use toml::Value;
@@ -29,40 +29,23 @@ impl<'a> Faults<'a> {
         for clock in clocks {
             self.add_port_count(clock)?;
             self.add_clock_members(clock.at)?;
-            let ports = items_at(clock.at.table, "port");
-            self.add_port_starts(clock.number, clock.name, ports, LAST_RANK)?;
+            self.add_port_starts(clock, items_at(clock.at.table, "port"))?;
             self.add_grandmaster(clock)?;
         }
         Ok(())
-    }
-
-    /// Adds a fault of a start at a key, if a test holds.
-    fn add_start_if(
-        &mut self,
-        test: bool,
-        fault: StartError,
-        at: TableAt<'a>,
-        key: &'static str,
-        need: Need,
-    ) -> Added
-        ensures { Adds result self.old self.new
-            (start_mark_if test fault (spot_of at.entry.place) key.now (table_view at.entry.table.now)) }
-    {
-        let wanted = if test { Some(Wanted::Need(need)) } else { None };
-        self.add_at(NetError::BadClock(fault), at, key, wanted)
     }
 
     #[tactic(auto, unfolding(crate::specs::StartFaults::count_start_marks))]
     fn add_port_count(&mut self, clock: &ClockHead<'a>) -> Added
         ensures { Adds result self.old self.new (count_start_marks (clock_value clock.now)) }
     {
-        let (at, need) = (clock.at, Need::Ports);
-        let (is_none, is_over) = match clock.count {
-            Some(count) => (count == 0, 8 < count),
-            None => (false, false),
+        let fault = match clock.count {
+            Some(0) => StartError::NoPorts,
+            Some(count) if 8 < count => StartError::TooManyPorts,
+            _ => return Ok(()),
         };
-        self.add_start_if(is_none, StartError::NoPorts, at, "ports", need)?;
-        self.add_start_if(is_over, StartError::TooManyPorts, at, "ports", need)
+        let class = NetError::BadClock(fault);
+        self.add_at(class, clock.at, "ports", Some(Wanted::Ports))
     }
 
     /// Adds a fault of a member, if a test holds.
@@ -70,8 +53,13 @@ impl<'a> Faults<'a> {
         ensures { Adds result self.old self.new
             (member_mark_if test member (spot_of at.entry.place) (table_view at.entry.table.now)) }
     {
-        let fault = StartError::BadValue(member);
-        self.add_start_if(test, fault, at, member.name(), Need::Start(member))
+        let class = NetError::BadClock(StartError::BadValue(member));
+        self.add_at(
+            class,
+            at,
+            member.name(),
+            test.then_some(Wanted::Start(member)),
+        )
     }
 
     /// Adds a fault for each member of a clock that is out of its range.
@@ -86,36 +74,24 @@ impl<'a> Faults<'a> {
         Ok(())
     }
 
-    /// Adds a fault for each member of a clock's ports that is out of its range. It looks at tables that have a rank up to this.
+    /// Adds a fault for each member of a clock's ports that is out of its range, in the order of the ports.
     #[tactic(auto, unfolding(crate::specs::StartFaults::ports_start_marks))]
-    fn add_port_starts(
-        &mut self,
-        clock: usize,
-        name: Option<&'a str>,
-        ports: &'a [Value],
-        most: u16,
-    ) -> Added
-        ensures { Adds result self.old self.new (ports_start_marks most clock (map view ports.now)) }
+    fn add_port_starts(&mut self, clock: &ClockHead<'a>, ports: &'a [Value]) -> Added
+        ensures { Adds result self.old self.new (ports_start_marks 9 clock.now.number (map view ports.now)) }
     {
-        for place in 0..most {
-            self.add_rank(clock, name, ports, place + 1)?;
+        for place in 0..LAST_RANK {
+            self.add_rank(clock, ports, place + 1)?;
         }
         Ok(())
     }
 
     /// Adds the same for the tables of one rank.
-    fn add_rank(
-        &mut self,
-        clock: usize,
-        name: Option<&'a str>,
-        ports: &'a [Value],
-        wanted: u16,
-    ) -> Added
-        ensures { Adds result self.old self.new (rank_marks clock (map view ports.now) wanted) }
+    fn add_rank(&mut self, clock: &ClockHead<'a>, ports: &'a [Value], wanted: u16) -> Added
+        ensures { Adds result self.old self.new (rank_marks clock.now.number (map view ports.now) wanted) }
     {
         for index in 0..ports.len() {
-            let place = Place::Port(clock, name, index + 1);
-            match table_of(&ports[index]) {
+            let place = Place::Port(clock.number, clock.name, index + 1);
+            match ports[index].as_table() {
                 Some(table) if rank(&ports[index]) == wanted => {
                     self.add_port_members(TableAt { place, table })?
                 }
@@ -172,8 +148,8 @@ impl<'a> Faults<'a> {
         ensures { Adds result self.old self.new
             (own_mark_if is_own (spot_of at.entry.place) key.now (table_view at.entry.table.now)) }
     {
-        let fault = StartError::GrandmasterDiffers;
-        self.add_start_if(!is_own, fault, at, key, Need::OwnGrandmaster)
+        let class = NetError::BadClock(StartError::GrandmasterDiffers);
+        self.add_at(class, at, key, (!is_own).then_some(Wanted::OwnGrandmaster))
     }
 }
 

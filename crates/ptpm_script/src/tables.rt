@@ -1,30 +1,14 @@
 //! The content of the tables of a network file, whatever it is.
 
 ghost use Rattle.std.specs.Prelude.{◌≡◌, ◌==◌, [], bytes_eq, map, option_and_then, option_map, unwrap_or};
-ghost use Rattle.ptpm_codec.specs.Identity.{same_clock};
 ghost use Rattle.ptpm_script.specs.Heads.{items_at, items_in, list_of, name_at};
 ghost use Rattle.ptpm_script.specs.Spellings.{passes};
-ghost use Rattle.toml.specs.Data.{as_array, as_str, as_table, get_member};
+ghost use Rattle.toml.specs.Data.{as_array, as_table, get_member};
 ghost use Rattle.toml.specs.View.{view, table_view};
 
 use crate::names::is_name;
 use crate::values::{text_at, value_at};
-use ptpm_codec::ClockIdentity;
 use toml::{Table, Value};
-
-/// The table that a value is.
-pub(crate) fn table_of(value: &Value) -> Option<&Table>
-    ensures { option_map (λ t. table_view t.now) result ≡ as_table (view value.now) }
-{
-    value.as_table()
-}
-
-/// The text that a value is.
-pub(crate) fn text_of(value: &Value) -> Option<&str>
-    ensures { option_map (λ s. s.now) result ≡ as_str (view value.now) }
-{
-    value.as_str()
-}
 
 /// The items of an array.
 fn items_of(value: &Value) -> Option<&[Value]>
@@ -59,7 +43,7 @@ pub(crate) fn items_at<'a>(table: &'a Table, key: &str) -> &'a [Value]
 pub(crate) fn items_in<'a>(value: &'a Value, key: &str) -> &'a [Value]
     ensures { map view result.now ≡ items_in key.now (view value.now) }
 {
-    match table_of(value) {
+    match value.as_table() {
         Some(table) => items_at(table, key),
         None => &[],
     }
@@ -70,22 +54,19 @@ pub(crate) fn name_at<'a>(table: &'a Table, key: &str) -> Option<&'a str>
     ensures { option_map (λ s. s.now) result ≡ name_at key.now (table_view table.now) }
 {
     let text = text_at(table, key)?;
-    if is_name(text) { Some(text) } else { None }
+    is_name(text).then_some(text)
 }
 
 /// The name in a value that is a table.
 pub(crate) fn name_in(value: &Value) -> Option<&str> {
-    name_at(table_of(value)?, "name")
+    name_at(value.as_table()?, "name")
 }
 
 /// A text, or the text of no octets if there is none.
 pub(crate) fn text_or_none(text: Option<&str>) -> &str
     ensures { result.now ≡ unwrap_or (option_map (λ s. s.now) text.entry) [] }
 {
-    match text {
-        Some(text) => text,
-        None => "",
-    }
+    text.unwrap_or("")
 }
 
 /// Whether a name is there, and is this one.
@@ -100,11 +81,4 @@ pub(crate) fn is_number(number: Option<u16>, wanted: u16) -> bool
     ensures { result ≡ passes (λ n. n == wanted) number }
 {
     number.is_some_and(|number| number == wanted)
-}
-
-/// Whether a clockIdentity is there, and is this one.
-pub(crate) fn is_clock(identity: Option<ClockIdentity>, wanted: ClockIdentity) -> bool
-    ensures { result ≡ passes (λ i. same_clock i wanted) identity }
-{
-    identity.is_some_and(|identity| identity == wanted)
 }

@@ -4,4 +4,4 @@ use Rattle.ptpm_script.proofs.Loops.{ByOthers}
 use Rattle.ptpm_script.proofs.faults.Faults.add_port_repeats.Given as goal
 
 abbrev pub invariant-loop-index : goal.invariant-loop-index
-invariant-loop-index l = ByOthers view (port_repeats l.clock) l.initial.self l.self l.index l.ports
+invariant-loop-index l = ByOthers view (port_repeats l.clock.number) l.initial.self l.self l.index l.ports

@@ -15,7 +15,7 @@ one_more n =
 pub loop-place-preserved : goal.loop-place-preserved
 loop-place-preserved c =
     let place = c.loop-place.place in
-    let of = rank_marks c.args.clock (map view c.args.ports.now) in
+    let of = rank_marks c.args.clock.now.number (map view c.args.ports.now) in
     let before = c.args.self.now in
     c.in_ok-add_rank.ensures
     ∙ ap (λ ms. ms ++ of (place + 1)) c.loop-place.invariant

@@ -7,4 +7,4 @@ use Rattle.ptpm_script.proofs.faults.Faults.add_port_starts.Given as goal
 -- what was reported is of the ranks so far
 abbrev pub invariant-loop-place : goal.invariant-loop-place
 invariant-loop-place l =
-    l.self ≡ l.initial.self ++ flat_map (rank_marks l.clock (map view l.ports)) (range_with_len 1 l.place)
+    l.self ≡ l.initial.self ++ flat_map (rank_marks l.clock.number (map view l.ports)) (range_with_len 1 l.place)
