@@ -6,9 +6,9 @@ use Rattle.toml.specs.View.{items_of, view}
 use Rattle.toml.specs.declared.value.Value.{Value}
 use Rattle.ptpm_script.specs.Heads.{list_of}
 
-pub list-items : (ds : List Data) → list_of (items_of ds) ≡ ds
-list-items [] = refl
-list-items (d ∷ ds) = ap (λ xs. d ∷ xs) (list-items ds)
+pub list_items : (ds : List Data) → list_of (items_of ds) ≡ ds
+list_items [] = refl
+list_items (d ∷ ds) = ap (λ xs. d ∷ xs) (list_items ds)
 
 -- the first items
 pub first-views : (most : ℕ) (items first : List Value) (ds : List Data)

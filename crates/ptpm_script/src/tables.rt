@@ -10,22 +10,13 @@ use crate::names::is_name;
 use crate::values::{text_at, value_at};
 use toml::{Table, Value};
 
-/// The items of an array.
-fn items_of(value: &Value) -> Option<&[Value]>
-    ensures { option_map (λ s. map view s.now) result ≡ option_map list_of (as_array (view value.now)) }
-{
-    match value.as_array() {
-        Some(items) => Some(items.as_slice()),
-        None => None,
-    }
-}
-
 /// The items of the array at a key, if there is one.
+#[tactic(auto, using(crate::proofs::ItemLemmas::list_items))]
 pub(crate) fn array_at<'a>(table: &'a Table, key: &str) -> Option<&'a [Value]>
     ensures { option_map (λ s. map view s.now) result
         ≡ option_map list_of (option_and_then as_array (get_member key.now (table_view table.now))) }
 {
-    items_of(value_at(table, key)?)
+    Some(value_at(table, key)?.as_array()?.as_slice())
 }
 
 /// The items of the array at a key; none if there is no array.
