@@ -102,6 +102,8 @@ fn start_of_port(tables: &[Value], number: u16) -> PortStart
     PortStart::new()
 }
 
+/// The sessions, each with the place of its target.
+#[tactic(auto, unfolding(crate::specs::NetworkText::session_of))]
 fn sessions_of(
     alloc: Global,
     clocks: &[ClockHead<'_>],
@@ -113,32 +115,19 @@ fn sessions_of(
 {
     let mut sessions = Vec::new(alloc);
     for head in heads {
-        sessions.push(session_of(alloc, clocks, head)?)?;
+        let table = head.at.table;
+        sessions.push(NetworkSession {
+            name: Name::copy_of(alloc, text_or_none(head.name))?,
+            identity: head.identity.unwrap_or(SOME_PORT),
+            target: clock_place(clocks, text_or_none(head.target)),
+            first: u16_or(table, "first", 0),
+            hops: u8_or(table, "hops", 0),
+            attempts: u8_or(table, "attempts", 0),
+            domain: u8_or(table, "domain", 0),
+            rights: rights_at(table),
+        })?;
     }
     Ok(sessions)
-}
-
-/// A session with the place of its target.
-#[tactic(auto, unfolding(crate::specs::NetworkText::session_of))]
-fn session_of(
-    alloc: Global,
-    clocks: &[ClockHead<'_>],
-    head: &SessionHead<'_>,
-) -> Result<NetworkSession, AllocError>
-    requires { length clocks.now ≤ 64 }
-    ensures { IfOk result (λ s. s ≡ session_of (map clock_value clocks.now) (session_value head.now)) }
-{
-    let table = head.at.table;
-    Ok(NetworkSession {
-        name: Name::copy_of(alloc, text_or_none(head.name))?,
-        identity: head.identity.unwrap_or(SOME_PORT),
-        target: clock_place(clocks, text_or_none(head.target)),
-        first: u16_or(table, "first", 0),
-        hops: u8_or(table, "hops", 0),
-        attempts: u8_or(table, "attempts", 0),
-        domain: u8_or(table, "domain", 0),
-        rights: rights_at(table),
-    })
 }
 
 /// The place of the clock of a name.
