@@ -156,6 +156,8 @@ fn session_place(sessions: &[SessionHead<'_>], name: &str) -> u16
     0
 }
 
+/// The links, with their ends by places.
+#[tactic(auto, unfolding(crate::specs::NetworkText::link_of))]
 fn links_of(
     alloc: Global,
     clocks: &[ClockHead<'_>],
@@ -169,34 +171,17 @@ fn links_of(
         ≡ map (link_of (map clock_value clocks.now) (map session_value sessions.now)) (map view values.now)) }
 {
     let mut links = Vec::new(alloc);
-    for value in values {
-        let ends = link_of(alloc, clocks, sessions, value)?;
+    for link in values {
+        let mut ends = Vec::new(alloc);
+        let spelt = items_in(link, "ends");
+        for value in spelt {
+            if let Some(end) = end_in(clocks, sessions, value) {
+                ends.push(end)?;
+            }
+        }
         links.push(NetworkLink { ends })?;
     }
     Ok(links)
-}
-
-/// The ends of a link, by places.
-#[tactic(auto, unfolding(crate::specs::NetworkText::link_of))]
-fn link_of(
-    alloc: Global,
-    clocks: &[ClockHead<'_>],
-    sessions: &[SessionHead<'_>],
-    link: &Value,
-) -> Result<Vec<End>, AllocError>
-    requires clocks { length clocks.now ≤ 64 }
-    requires sessions { length sessions.now ≤ 256 }
-    ensures { IfOk result
-        (λ v. v.items ≡ link_of (map clock_value clocks.now) (map session_value sessions.now) (view link.now)) }
-{
-    let mut ends = Vec::new(alloc);
-    let values = items_in(link, "ends");
-    for value in values {
-        if let Some(end) = end_in(clocks, sessions, value) {
-            ends.push(end)?;
-        }
-    }
-    Ok(ends)
 }
 
 /// An end by places, if it is spelt as one.
