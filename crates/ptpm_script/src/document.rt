@@ -49,8 +49,7 @@ impl Document {
             (λ faults. first_class faults.items ≡ first_refusal (document_marks self.now)) }
         ensures all { IfOk result (λ faults. marks_in faults.items ≡ document_marks self.now) }
     {
-        let faults = faults_in(alloc, self).map_err(|_| OutOfMemory)?;
-        Ok(faults.into_vec())
+        Ok(faults_in(alloc, self).map_err(|_| OutOfMemory)?.into_vec())
     }
 
     /// The parts of the network that it is, or the refusal that its first fault is of.
@@ -101,10 +100,8 @@ fn parts_of(alloc: Global, file: &Table) -> Result<Parts, NetError>
 fn line_of(text: &str, error: &toml::de::Error) -> usize {
     let before = error.span().map_or(0, |span| span.start);
     let octets = text.as_bytes().iter().take(before);
-    octets
-        .filter(|octet| **octet == b'\n')
-        .count()
-        .saturating_add(1)
+    let lines = octets.filter(|octet| **octet == b'\n').count();
+    lines.saturating_add(1)
 }
 
 /// The faults that are found in a text, in the order of the refusals.

@@ -55,8 +55,6 @@ pub(crate) fn four_digits(text: &str) -> Option<u16>
     ensures { result ≡ four_digits text.now }
 {
     let mut octets = [0, 0];
-    match hex::decode_to_slice(text, &mut octets) {
-        Ok(()) => Some(octets[0] as u16 * 256 + octets[1] as u16),
-        Err(_) => None,
-    }
+    hex::decode_to_slice(text, &mut octets).ok()?;
+    Some(octets[0] as u16 * 256 + octets[1] as u16)
 }

@@ -61,8 +61,7 @@ impl<'a> Faults<'a> {
     {
         let numbers = numbers_of(self.alloc, ports)?;
         for index in 0..ports.len() {
-            let (before, known) = (&ports[..index], &numbers[..index]);
-            self.add_port_repeat(clock, before, known, &ports[index])?;
+            self.add_port_repeat(clock, &ports[..index], &numbers[..index], &ports[index])?;
         }
         Ok(())
     }

@@ -2,7 +2,7 @@
 
 ghost use Rattle.std.specs.Prelude.{◌≡◌, map};
 ghost use Rattle.toml.specs.View.{view};
-ghost use Rattle.ptpm_script.specs.Rules.{fits, key_rule, kind_of};
+ghost use Rattle.ptpm_script.specs.Rules.{clock_rules, file_rules, fits, key_rule, kind_of, port_rules, session_rules};
 
 use crate::names::is_name;
 use crate::spellings::{clock_identity, port_identity};
@@ -99,7 +99,13 @@ pub(crate) fn kind_of(rules: &[Rule], key: &str) -> Option<Kind>
 }
 
 /// The keys of a file.
-pub(crate) static FILE_RULES: [Rule; 4] = [
+pub(crate) fn file_rules() -> &'static [Rule]
+    ensures { map key_rule result.now ≡ file_rules }
+{
+    &FILE_RULES
+}
+
+static FILE_RULES: [Rule; 4] = [
     required!("version", Kind::Whole(1, 2)),
     optional!("clock", Kind::Array),
     optional!("session", Kind::Array),
@@ -107,7 +113,13 @@ pub(crate) static FILE_RULES: [Rule; 4] = [
 ];
 
 /// The keys of a clock.
-pub(crate) static CLOCK_RULES: [Rule; 33] = [
+pub(crate) fn clock_rules() -> &'static [Rule]
+    ensures { map key_rule result.now ≡ clock_rules }
+{
+    &CLOCK_RULES
+}
+
+static CLOCK_RULES: [Rule; 33] = [
     required!("name", Kind::Name),
     required!("identity", Kind::Clock),
     required!("domain", U8),
@@ -144,7 +156,13 @@ pub(crate) static CLOCK_RULES: [Rule; 33] = [
 ];
 
 /// The keys of a port.
-pub(crate) static PORT_RULES: [Rule; 9] = [
+pub(crate) fn port_rules() -> &'static [Rule]
+    ensures { map key_rule result.now ≡ port_rules }
+{
+    &PORT_RULES
+}
+
+static PORT_RULES: [Rule; 9] = [
     required!("number", U16),
     optional!("state", U8),
     optional!("log_min_delay_req", I8),
@@ -157,7 +175,13 @@ pub(crate) static PORT_RULES: [Rule; 9] = [
 ];
 
 /// The keys of a session.
-pub(crate) static SESSION_RULES: [Rule; 8] = [
+pub(crate) fn session_rules() -> &'static [Rule]
+    ensures { map key_rule result.now ≡ session_rules }
+{
+    &SESSION_RULES
+}
+
+static SESSION_RULES: [Rule; 8] = [
     required!("name", Kind::Name),
     required!("identity", Kind::Port(0xfffe)),
     required!("target", Kind::Name),

@@ -13,7 +13,7 @@ use crate::fault::{Found, Wanted};
 use crate::faults::{Added, Faults};
 use crate::place::{Array, Place, TableAt};
 use crate::rights::right_of;
-use crate::rules::{CLOCK_RULES, FILE_RULES, LINK_RULES, PORT_RULES, SESSION_RULES};
+use crate::rules::{LINK_RULES, clock_rules, file_rules, port_rules, session_rules};
 use crate::spellings::end_at;
 use crate::tables::{items_at, items_in, name_in};
 use crate::values::{u16_at, value_at};
@@ -27,7 +27,7 @@ impl<'a> Faults<'a> {
         ensures { Adds result self.old self.new (shape_marks (table_view table.now)) }
     {
         let place = Place::File;
-        self.add_keys(TableAt { place, table }, &FILE_RULES)?;
+        self.add_keys(TableAt { place, table }, file_rules())?;
         self.add_clock_shapes(items_at(table, "clock"))?;
         self.add_session_shapes(u16_at(table, "version"), items_at(table, "session"))?;
         self.add_link_shapes(items_at(table, "link"))
@@ -40,7 +40,7 @@ impl<'a> Faults<'a> {
         for index in 0..clocks.len() {
             let clock = &clocks[index];
             let place = Place::Table(Array::Clock, index + 1, name_in(clock));
-            self.add_table(place, clock, &CLOCK_RULES)?;
+            self.add_table(place, clock, clock_rules())?;
             self.add_port_shapes(index + 1, clock)?;
         }
         Ok(())
@@ -54,7 +54,7 @@ impl<'a> Faults<'a> {
         let ports = items_in(clock, "port");
         for index in 0..ports.len() {
             let place = Place::Port(number, name, index + 1);
-            self.add_table(place, &ports[index], &PORT_RULES)?;
+            self.add_table(place, &ports[index], port_rules())?;
         }
         Ok(())
     }
@@ -66,7 +66,7 @@ impl<'a> Faults<'a> {
         for index in 0..sessions.len() {
             let session = &sessions[index];
             let place = Place::Table(Array::Session, index + 1, name_in(session));
-            self.add_table(place, session, &SESSION_RULES)?;
+            self.add_table(place, session, session_rules())?;
             if let Some(table) = session.as_table() {
                 self.add_version(version, TableAt { place, table })?;
                 self.add_bad_rights(place, items_at(table, "rights"))?;

@@ -54,12 +54,8 @@ impl<'a> Faults<'a> {
             (member_mark_if test member (spot_of at.entry.place) (table_view at.entry.table.now)) }
     {
         let class = NetError::BadClock(StartError::BadValue(member));
-        self.add_at(
-            class,
-            at,
-            member.name(),
-            test.then_some(Wanted::Start(member)),
-        )
+        let wanted = test.then_some(Wanted::Start(member));
+        self.add_at(class, at, member.name(), wanted)
     }
 
     /// Adds a fault for each member of a clock that is out of its range.

@@ -24,10 +24,7 @@ pub(crate) fn array_at<'a>(table: &'a Table, key: &str) -> Option<&'a [Value]>
 pub(crate) fn items_at<'a>(table: &'a Table, key: &str) -> &'a [Value]
     ensures { map view result.now ≡ items_at key.now (table_view table.now) }
 {
-    match array_at(table, key) {
-        Some(items) => items,
-        None => &[],
-    }
+    array_at(table, key).unwrap_or(&[])
 }
 
 /// The items of the array at a key of a value; none if it is no table, or there is no array.

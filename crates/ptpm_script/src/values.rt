@@ -113,11 +113,7 @@ pub(crate) fn first_items<T>(items: &[T], most: usize) -> &[T]
     ensures front { result.now ≡ take most items.now }
     ensures few { length result.now ≤ most }
 {
-    if items.len() <= most {
-        items
-    } else {
-        &items[..most]
-    }
+    &items[..items.len().min(most)]
 }
 
 /// The first 129 octets of a text: one more than a userDescription may have, so that a text too long is refused.
