@@ -18,6 +18,7 @@ use Rattle.ptpm_codec.specs.Identity.{same_clock}
 use Rattle.ptpm_codec.specs.declared.identity.ClockIdentity.{ClockIdentity}
 use Rattle.ptpm_plan.specs.BestClock.{altered, alterations, AreApart, best_after, best_in, changes_rank, HaveOneEach, is_better, is_of_rank, is_ranked, rank_cmp, ranks_after, ranks_of}
 use Rattle.ptpm_plan.specs.Order.{is_best, order_key, rank_in, rank_turn, turn_by}
+use Rattle.ptpm_plan.specs.PlannedId.{concern_of}
 use Rattle.ptpm_plan.specs.declared.best_clock.Alteration.{Alteration}
 use Rattle.ptpm_plan.specs.declared.best_clock.Rank.{Rank}
 use Rattle.ptpm_plan.specs.declared.best_clock.RankedClock.{RankedClock}
@@ -85,7 +86,7 @@ parts_of r c e =
     }
 
 turn_of_rank : (s : Surveyed) (ranks planned : List RankedClock) (c : Change) (id : PlannedId) → is_of_rank id ≡ true
-    → turn_by s ranks planned id c ≡ rank_turn (is_best c.domain c.clock ranks) (rank_in c.domain c.clock ranks) (rank_in c.domain c.clock planned)
+    → turn_by s ranks planned (concern_of id) c ≡ rank_turn (is_best c.domain c.clock ranks) (rank_in c.domain c.clock ranks) (rank_in c.domain c.clock planned)
 turn_of_rank s ranks planned c ids.Priority1 e = refl
 turn_of_rank s ranks planned c _ e = cc
 
@@ -183,8 +184,8 @@ module _ (cmp : OrderKey → OrderKey → Ordering) (orders : OrdersRanks cmp) (
       ∙ ap (λ o. option_map (λ (x : RankedClock). x.rank) (option_map (changed given) o)) (found r is)
       ∙ ap (λ (x : RankedClock). Some x.rank) (in_any_order (changes_of r) step (Own r) (keeps r.domain r.rank.identity) (idle r.domain r.rank.identity) given asked r (itself r) moved (given_once r is))
 
-  key_turn : (c : Change) → (key c).turn ≡ turn_by s ranks planned c.id c
-  key_turn c = ap (λ rs. turn_by s rs (ranks_after given rs) c.id c) (sym are)
+  key_turn : (c : Change) → (key c).turn ≡ turn_by s ranks planned (concern_of c.id) c
+  key_turn c = ap (λ rs. turn_by s rs (ranks_after given rs) (concern_of c.id) c) (sym are)
 
   turn_is : (r : RankedClock) (c : Change) → Is r → Changes r c → (key c).turn ≡ rank_turn (is_best c.domain c.clock ranks) (Some r.rank) (Some (after r))
   turn_is r c is h =

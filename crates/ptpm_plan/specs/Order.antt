@@ -8,12 +8,13 @@ use Rattle.ptpm_data.specs.ImageReading.{i8_at}
 use Rattle.ptpm_data.specs.declared.port_state.PortState.{PortState}
 use Rattle.ptpm_data.specs.declared.port_state.PortState.TheVariants as states
 use Rattle.ptpm_plan.specs.BestClock.{best_in, is_better, is_ranked, ranks_after, ranks_of}
+use Rattle.ptpm_plan.specs.PlannedId.{concern_of}
 use Rattle.ptpm_plan.specs.Surveyed.{clock_in, port_in}
 use Rattle.ptpm_plan.specs.declared.best_clock.Rank.{Rank}
 use Rattle.ptpm_plan.specs.declared.best_clock.RankedClock.{RankedClock}
 use Rattle.ptpm_plan.specs.declared.change.Change.{Change}
-use Rattle.ptpm_plan.specs.declared.change.PlannedId.{PlannedId}
-use Rattle.ptpm_plan.specs.declared.change.PlannedId.TheVariants as ids
+use Rattle.ptpm_plan.specs.declared.change.Concern.{Concern}
+use Rattle.ptpm_plan.specs.declared.change.Concern.TheVariants as concerns
 use Rattle.ptpm_plan.specs.declared.order.OrderKey.{OrderKey}
 use Rattle.ptpm_plan.specs.declared.order.Turn.{Turn}
 use Rattle.ptpm_plan.specs.declared.order.Turn.TheVariants as turns
@@ -72,22 +73,16 @@ turn_of_interval s c = if is_sender s c then turns.Sender else patience (is_long
 
 -- by the ranks before and after all changes
 module _ (s : Surveyed) (before after : List RankedClock) where
-  abbrev pub turn_by : PlannedId → Change → Turn
-  turn_by ids.AnnounceReceiptTimeout c = patience (grows c)
-  turn_by ids.LogAnnounceInterval c = turn_of_interval s c
-  turn_by ids.LogSyncInterval c = turn_of_interval s c
-  turn_by ids.UserDescription c = turns.Free
-  turn_by ids.UtcProperties c = turns.Free
-  turn_by ids.DelayMechanism c = turns.Free
-  turn_by ids.LogMinPdelayReqInterval c = turns.Free
-  turn_by ids.Priority1 c = turn_of_ranks before after c
-  turn_by ids.Priority2 c = turn_of_ranks before after c
-  turn_by ids.ClockAccuracy c = turn_of_ranks before after c
-  turn_by ids.Domain c = turns.Move (record { 0 = hops_of s c })
+  abbrev pub turn_by : Concern → Change → Turn
+  turn_by concerns.Patience c = patience (grows c)
+  turn_by concerns.Interval c = turn_of_interval s c
+  turn_by concerns.Rank c = turn_of_ranks before after c
+  turn_by concerns.Domain c = turns.Move (record { 0 = hops_of s c })
+  turn_by concerns.Free c = turns.Free
 
   -- its turn, and then the place in the file, the clock, the port and the id
   abbrev pub key_by : Change → OrderKey
-  key_by c = record { turn = turn_by c.id c; place = c.place; clock = c.clock; port = c.port; id = c.id }
+  key_by c = record { turn = turn_by (concern_of c.id) c; place = c.place; clock = c.clock; port = c.port; id = c.id }
 
 -- by what a change is sorted into a plan of these changes
 abbrev pub order_key : Surveyed → List Change → Change → OrderKey

@@ -5,22 +5,31 @@ use Rattle.ptpm_data.specs.ManagementId.{row_of}
 use Rattle.ptpm_data.specs.declared.management_id.Layout.{Layout}
 use Rattle.ptpm_data.specs.declared.management_id.Layout.TheVariants.{Setting}
 use Rattle.ptpm_data.specs.declared.port_setting.PortSetting.{PortSetting}
+use Rattle.ptpm_plan.specs.declared.change.Concern.{Concern}
+use Rattle.ptpm_plan.specs.declared.change.Concern.TheVariants as concerns
+use Rattle.ptpm_plan.specs.declared.change.Entry.{Entry}
 use Rattle.ptpm_plan.specs.declared.change.PlannedId.{PlannedId}
 use Rattle.ptpm_plan.specs.declared.change.PlannedId.TheVariants as ids
 
--- managementId
+-- managementId, and what a change of it is to the order
+abbrev pub entry_of : PlannedId → Entry
+entry_of ids.UserDescription = record { number = 0x0002; concern = concerns.Free }
+entry_of ids.UtcProperties = record { number = 0x2011; concern = concerns.Free }
+entry_of ids.Priority1 = record { number = 0x2005; concern = concerns.Rank }
+entry_of ids.Priority2 = record { number = 0x2006; concern = concerns.Rank }
+entry_of ids.ClockAccuracy = record { number = 0x2010; concern = concerns.Rank }
+entry_of ids.Domain = record { number = 0x2007; concern = concerns.Domain }
+entry_of ids.AnnounceReceiptTimeout = record { number = 0x200a; concern = concerns.Patience }
+entry_of ids.LogAnnounceInterval = record { number = 0x2009; concern = concerns.Interval }
+entry_of ids.LogSyncInterval = record { number = 0x200b; concern = concerns.Interval }
+entry_of ids.DelayMechanism = record { number = 0x6000; concern = concerns.Free }
+entry_of ids.LogMinPdelayReqInterval = record { number = 0x6001; concern = concerns.Free }
+
 abbrev pub number_of : PlannedId → ℕ
-number_of ids.UserDescription = 0x0002
-number_of ids.UtcProperties = 0x2011
-number_of ids.Priority1 = 0x2005
-number_of ids.Priority2 = 0x2006
-number_of ids.ClockAccuracy = 0x2010
-number_of ids.Domain = 0x2007
-number_of ids.AnnounceReceiptTimeout = 0x200a
-number_of ids.LogAnnounceInterval = 0x2009
-number_of ids.LogSyncInterval = 0x200b
-number_of ids.DelayMechanism = 0x6000
-number_of ids.LogMinPdelayReqInterval = 0x6001
+number_of id = (entry_of id).number
+
+abbrev pub concern_of : PlannedId → Concern
+concern_of id = (entry_of id).concern
 
 -- the setting of a port that an id's dataField has
 abbrev pub setting_in : Layout → Option PortSetting

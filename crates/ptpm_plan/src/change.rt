@@ -2,7 +2,7 @@
 
 ghost use Rattle.std.specs.Prelude.{◌≡◌, ◌==◌, Some, find, option_map};
 ghost use Rattle.ptpm_data.specs.ManagementId.{is_of_port, row_of, row_value};
-ghost use Rattle.ptpm_plan.specs.PlannedId.{number_of, setting_of};
+ghost use Rattle.ptpm_plan.specs.PlannedId.{concern_of, entry_of, number_of, setting_of};
 
 use ptpm_codec::ClockIdentity;
 use ptpm_data::{Layout, ManagementIdRow, PortSetting, Scope, Value};
@@ -24,6 +24,37 @@ pub enum PlannedId {
     LogMinPdelayReqInterval,
 }
 
+/// What a change of an id is to the order of changes.
+#[derive(Clone, Copy, PartialEq, Eq)]
+pub enum Concern {
+    /// How long a port waits for Announces.
+    Patience,
+    /// How often a port sends, or is sent to.
+    Interval,
+    /// The rank of a clock.
+    Rank,
+    /// The domain of a clock.
+    Domain,
+    /// Nothing that has an order.
+    Free,
+}
+
+/// What a plan knows of an id beside the table of ids.
+#[derive(Clone, Copy)]
+struct Entry {
+    /// managementId (15.5.2.3).
+    number: u16,
+    concern: Concern,
+}
+
+impl Entry {
+    fn new(number: u16, concern: Concern) -> Entry
+        ensures { result ≡ record { number = number; concern = concern } }
+    {
+        Entry { number, concern }
+    }
+}
+
 impl PlannedId {
     /// All of them, in their order.
     pub const ALL: [PlannedId; 11] = [
@@ -40,23 +71,36 @@ impl PlannedId {
         PlannedId::LogMinPdelayReqInterval,
     ];
 
+    fn entry(self) -> Entry
+        ensures { result ≡ entry_of self }
+    {
+        match self {
+            PlannedId::UserDescription => Entry::new(0x0002, Concern::Free),
+            PlannedId::UtcProperties => Entry::new(0x2011, Concern::Free),
+            PlannedId::Priority1 => Entry::new(0x2005, Concern::Rank),
+            PlannedId::Priority2 => Entry::new(0x2006, Concern::Rank),
+            PlannedId::ClockAccuracy => Entry::new(0x2010, Concern::Rank),
+            PlannedId::Domain => Entry::new(0x2007, Concern::Domain),
+            PlannedId::AnnounceReceiptTimeout => Entry::new(0x200a, Concern::Patience),
+            PlannedId::LogAnnounceInterval => Entry::new(0x2009, Concern::Interval),
+            PlannedId::LogSyncInterval => Entry::new(0x200b, Concern::Interval),
+            PlannedId::DelayMechanism => Entry::new(0x6000, Concern::Free),
+            PlannedId::LogMinPdelayReqInterval => Entry::new(0x6001, Concern::Free),
+        }
+    }
+
     /// Its managementId (15.5.2.3).
     pub fn number(self) -> u16
         ensures { result ≡ number_of self }
     {
-        match self {
-            PlannedId::UserDescription => 0x0002,
-            PlannedId::UtcProperties => 0x2011,
-            PlannedId::Priority1 => 0x2005,
-            PlannedId::Priority2 => 0x2006,
-            PlannedId::ClockAccuracy => 0x2010,
-            PlannedId::Domain => 0x2007,
-            PlannedId::AnnounceReceiptTimeout => 0x200a,
-            PlannedId::LogAnnounceInterval => 0x2009,
-            PlannedId::LogSyncInterval => 0x200b,
-            PlannedId::DelayMechanism => 0x6000,
-            PlannedId::LogMinPdelayReqInterval => 0x6001,
-        }
+        self.entry().number
+    }
+
+    /// What a change of it is to the order.
+    pub(crate) fn concern(self) -> Concern
+        ensures { result ≡ concern_of self }
+    {
+        self.entry().concern
     }
 
     /// The id of this number, if a plan may set it.

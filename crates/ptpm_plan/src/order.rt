@@ -4,9 +4,10 @@
 ghost use Rattle.std.specs.Prelude.{◌≡◌, IfOk, List, Option, Some};
 ghost use Rattle.std.specs.List.Sorted.{IsPermutation, IsSortedByKey, IsStableByKey};
 ghost use Rattle.ptpm_plan.specs.Order.{grows, hops_of, is_best, is_longer, is_master, is_sender, key_by, order_key, patience, rank_in, rank_turn, turn_by, turn_of_interval, turn_of_ranks};
+ghost use Rattle.ptpm_plan.specs.PlannedId.{concern_of};
 
 use crate::best_clock::{Rank, RankedClock, best_in, first_octet, ranks_after, ranks_of};
-use crate::change::{Change, PlannedId};
+use crate::change::{Change, Concern, PlannedId};
 use crate::surveyed::{Surveyed, clock_in, port_in};
 use ptpm_codec::ClockIdentity;
 use ptpm_data::PortState;
@@ -92,21 +93,14 @@ impl Outlook<'_> {
     }
 
     fn turn(&self, change: &Change) -> Turn
-        ensures { result ≡ turn_by self.now.surveyed.now self.now.before.now self.now.after.now change.now.id change.now }
+        ensures { result ≡ turn_by self.now.surveyed.now self.now.before.now self.now.after.now (concern_of change.now.id) change.now }
     {
-        match change.id {
-            PlannedId::AnnounceReceiptTimeout => patience(grows(change)),
-            PlannedId::LogAnnounceInterval | PlannedId::LogSyncInterval => {
-                self.interval_turn(change)
-            }
-            PlannedId::Priority1 | PlannedId::Priority2 | PlannedId::ClockAccuracy => {
-                self.rank_turn(change)
-            }
-            PlannedId::Domain => Turn::Move(Reverse(self.hops(change))),
-            PlannedId::UserDescription
-            | PlannedId::UtcProperties
-            | PlannedId::DelayMechanism
-            | PlannedId::LogMinPdelayReqInterval => Turn::Free,
+        match change.id.concern() {
+            Concern::Patience => patience(grows(change)),
+            Concern::Interval => self.interval_turn(change),
+            Concern::Rank => self.rank_turn(change),
+            Concern::Domain => Turn::Move(Reverse(self.hops(change))),
+            Concern::Free => Turn::Free,
         }
     }
 
