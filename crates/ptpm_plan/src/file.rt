@@ -1,8 +1,12 @@
 //! A plan file as a whole: its version, its clocks, and what it asks of every clock.
 
+ghost use Rattle.std.specs.Prelude.{◌≡◌, ◌≤◌, length, take};
+ghost use Rattle.ptpm_plan.specs.Octets.{line_after};
+
 use crate::clock_table::read_clock;
 use crate::every_table::read_every;
 use crate::file_fault::{FileFault, Place, TableFault};
+use crate::octets::line_after;
 use crate::text::Text;
 use crate::wish::PlanFile;
 use std::alloc::Global;
@@ -13,16 +17,27 @@ const TEXT_OCTETS: usize = 262_144;
 
 impl PlanFile {
     /// Reads a TOML document. Of several faults the first one in the order of the file's tables is named.
-    pub fn read(alloc: Global, text: &str) -> Result<PlanFile, FileFault> {
+    pub fn read(alloc: Global, text: &[u8]) -> Result<PlanFile, FileFault> {
         if text.len() > TEXT_OCTETS {
             return Err(FileFault::TooLong);
         }
-        match toml::table_from_str(alloc, text) {
+        match toml::table_from_slice(alloc, text) {
             Ok(table) => read_tables(alloc, &table),
             Err(error) if error.is_memory() => Err(FileFault::OutOfMemory),
-            Err(_) => Err(FileFault::NotToml),
+            Err(error) => {
+                let place = error.span().map_or(0, |span| span.start);
+                Err(FileFault::NotToml(line_at(text, place), error))
+            }
         }
     }
+}
+
+/// The line of a place of a text, from 1.
+fn line_at(text: &[u8], place: usize) -> usize
+    requires { length text.now ≤ 262144 }
+    ensures { result ≡ line_after (take place text.now) }
+{
+    line_after(text.get(..place).unwrap_or(text))
 }
 
 fn read_tables(alloc: Global, table: &Table) -> Result<PlanFile, FileFault> {

@@ -12,8 +12,8 @@ pub enum FileFault {
     OutOfMemory,
     /// Over 262,144 octets.
     TooLong,
-    /// No TOML document.
-    NotToml,
+    /// No TOML document, from this line on.
+    NotToml(usize, toml::de::Error),
     /// A table has what it may not have.
     At(Place, TableFault),
     /// Two tables ask for two values of a member.

@@ -9,7 +9,7 @@ impl fmt::Display for FileFault {
         match self {
             FileFault::OutOfMemory => f.write_str("OutOfMemory"),
             FileFault::TooLong => f.write_str("it has over 262144 octets"),
-            FileFault::NotToml => f.write_str("it is no TOML document"),
+            FileFault::NotToml(line, error) => write!(f, "line {line}: {}", error.message()),
             FileFault::At(place, fault) => write!(f, "{place}{fault}"),
             FileFault::TwoValues(subject) => {
                 let who = Who(subject.clock, subject.port);

@@ -55,7 +55,7 @@ pub fn print_plan<R: Read + Drop, O: Write>(
     reader: R,
     out: &mut O,
 ) -> Result<u8, PlanFault> {
-    let file = read_file(alloc, text)?;
+    let file = PlanFile::read(alloc, text)?;
     let answers = read_answers(alloc, reader)?;
     let plan = Plan::of(alloc, &file, &answers)?;
     let report = Report {
@@ -76,15 +76,10 @@ pub fn print_plan<R: Read + Drop, O: Write>(
 
 /// Prints what is asked before the plan of a file can be made.
 pub fn print_questions<O: Write>(alloc: Global, text: &[u8], out: &mut O) -> Result<(), PlanFault> {
-    let file = read_file(alloc, text)?;
+    let file = PlanFile::read(alloc, text)?;
     let domains = file.domains(alloc).map_err(Fault::from)?;
     print_asks(&file, domains.as_slice(), out).map_err(Fault::from)?;
     Ok(())
-}
-
-fn read_file(alloc: Global, text: &[u8]) -> Result<PlanFile, FileFault> {
-    let text = std::str::from_utf8(text).map_err(|_| FileFault::NotToml)?;
-    PlanFile::read(alloc, text)
 }
 
 /// The answers among a reader's lines. A datagram that is no answer is passed over; a line that is no datagram in hexadecimal is a
