@@ -1,7 +1,8 @@
 -- Which clock of a domain a table of the file names: by its identity, or by the description that it alone has there.
-use Rattle.std.specs.Prelude.{ℕ, ◌==◌, Bool, false, ◌&&◌, if◌then◌else◌, bytes_eq, count_by, List, Option, Some, None}
+use Rattle.std.specs.Prelude.{ℕ, ◌==◌, Bool, false, not, ◌&&◌, if◌then◌else◌, bytes_eq, count_by, replicate, List, Option, Some, None}
 use Rattle.std.specs.List.{find}
 use Rattle.std.specs.Option.{option_map}
+use Rattle.ptpm_codec.specs.Identity.{every_clock, same_clock}
 use Rattle.ptpm_codec.specs.declared.identity.ClockIdentity.{ClockIdentity}
 use Rattle.ptpm_plan.specs.Answers.{description_by}
 use Rattle.ptpm_plan.specs.declared.answer.Answer.{Answer}
@@ -10,6 +11,14 @@ use Rattle.ptpm_plan.specs.declared.naming.Named.TheVariants as names
 use Rattle.ptpm_plan.specs.declared.surveyed.SurveyedClock.{SurveyedClock}
 use Rattle.ptpm_plan.specs.declared.wish.Target.{Target}
 use Rattle.ptpm_plan.specs.declared.wish.Target.TheVariants as targets
+
+-- what a clock has until its host gives it an identity (this project's profile)
+abbrev pub no_identity : ClockIdentity
+no_identity = record { 0 = replicate 8 0 }
+
+-- an identity that a table may give: all ones mean every clock (15.3.1)
+abbrev pub is_of_one_clock : ClockIdentity → Bool
+is_of_one_clock identity = not (same_clock identity every_clock) && not (same_clock identity no_identity)
 
 abbrev pub is_text : List ℕ → Option (List ℕ) → Bool
 is_text text None = false

@@ -1,5 +1,8 @@
 //! The table of a clock in a plan file.
 
+ghost use Rattle.std.specs.Prelude.{◌≡◌};
+ghost use Rattle.ptpm_plan.specs.Naming.{is_of_one_clock};
+
 use crate::file::tables_at;
 use crate::file_fault::{FileFault, Place, TableFault};
 use crate::table_values::{domain_at, shaped, text_at};
@@ -13,6 +16,9 @@ use toml::{Table, Value};
 
 /// The keys of a clock that are no managementId.
 const CLOCK_KEYS: [&str; 5] = ["identity", "description", "alias", "domain", "port"];
+
+/// What a clock has until its host gives it an identity.
+const NO_IDENTITY: ClockIdentity = ClockIdentity([0; 8]);
 
 /// Reads the table of the clock that comes after these.
 pub(crate) fn read_clock(
@@ -43,7 +49,7 @@ fn read_target(alloc: Global, table: &Table, place: Place) -> Result<Target, Fil
     let description = text_at(table, "description", place)?;
     match (identity, description) {
         (Some(text), None) => match clock_identity_of(text) {
-            Some(identity) if identity != ClockIdentity::EVERY => Ok(Target::Identity(identity)),
+            Some(identity) if is_of_one_clock(identity) => Ok(Target::Identity(identity)),
             _ => {
                 let takes = "a clockIdentity, such as aabbccfffeddee01 or aabbcc.fffe.ddee01";
                 Err(FileFault::takes(place, "identity", takes))
@@ -52,6 +58,13 @@ fn read_target(alloc: Global, table: &Table, place: Place) -> Result<Target, Fil
         (None, Some(text)) => Ok(Target::Description(Text::copy_of(alloc, text)?)),
         _ => Err(FileFault::At(place, TableFault::NotOneName)),
     }
+}
+
+/// Whether it can be the identity of one clock.
+fn is_of_one_clock(identity: ClockIdentity) -> bool
+    ensures { result ≡ is_of_one_clock identity }
+{
+    identity != ClockIdentity::EVERY && identity != NO_IDENTITY
 }
 
 fn read_alias(
