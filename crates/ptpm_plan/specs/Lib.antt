@@ -1,5 +1,6 @@
 pub mod BestClock
 pub mod Order
+pub mod Reach
 pub mod PlannedId
 pub mod Surveyed
 pub mod Answers

@@ -25,6 +25,7 @@ mod outcome;
 mod places;
 mod plan;
 mod planning;
+mod reach;
 mod report;
 mod rows;
 mod subject;

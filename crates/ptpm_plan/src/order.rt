@@ -84,14 +84,6 @@ impl Outlook<'_> {
         )
     }
 
-    /// How many boundary clocks the answers of the clock of a change passed.
-    fn hops(&self, change: &Change) -> u8
-        ensures { result ≡ hops_of self.now.surveyed.now change.now }
-    {
-        let clock = clock_in(self.surveyed.clocks.as_slice(), change.domain, change.clock);
-        clock.map_or(0, |clock| clock.hops)
-    }
-
     fn turn(&self, change: &Change) -> Turn
         ensures { result ≡ turn_by self.now.surveyed.now self.now.before.now self.now.after.now (concern_of change.now.id) change.now }
     {
@@ -99,7 +91,7 @@ impl Outlook<'_> {
             Concern::Patience => patience(grows(change)),
             Concern::Interval => self.interval_turn(change),
             Concern::Rank => self.rank_turn(change),
-            Concern::Domain => Turn::Move(Reverse(self.hops(change))),
+            Concern::Domain => Turn::Move(Reverse(hops_of(self.surveyed, change))),
             Concern::Free => Turn::Free,
         }
     }
@@ -115,6 +107,14 @@ impl Outlook<'_> {
             id: change.id,
         }
     }
+}
+
+/// How many boundary clocks the answers of the clock of a change passed.
+pub(crate) fn hops_of(surveyed: &Surveyed, change: &Change) -> u8
+    ensures { result ≡ hops_of surveyed.now change.now }
+{
+    let clock = clock_in(surveyed.clocks.as_slice(), change.domain, change.clock);
+    clock.map_or(0, |clock| clock.hops)
 }
 
 /// Whether the octet that a member is gets greater.

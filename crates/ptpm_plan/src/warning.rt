@@ -1,7 +1,7 @@
 //! A warning of a plan, as it is printed.
 
 use crate::change::PlannedId;
-use ptpm_codec::PortIdentity;
+use ptpm_codec::{ClockIdentity, PortIdentity};
 use std::fmt;
 
 /// What an operator is to know before a plan is applied. Changes are numbered from 1, in the order in which they are asked.
@@ -15,6 +15,8 @@ pub enum Warning {
     Impatient(usize, PortIdentity),
     /// A change of how a port measures delay.
     Mechanism(usize),
+    /// A change moves a clock to a domain in which no request reaches it.
+    OutOfReach(usize, ClockIdentity, u8),
 }
 
 impl fmt::Display for Warning {
@@ -38,6 +40,10 @@ impl fmt::Display for Warning {
             Warning::Mechanism(number) => write!(
                 f,
                 "change {number}: no delay is measured on that link until its other end has the same mechanism"
+            ),
+            Warning::OutOfReach(number, clock, domain) => write!(
+                f,
+                "change {number}: {clock} is not reached after it: a clock before it is not in domain {domain} then"
             ),
         }
     }

@@ -10,6 +10,7 @@ ghost use Rattle.ptpm_plan.specs.Warnings.{below_doublings, is_taken, is_taken_o
 
 use crate::best_clock::{best_clocks, first_octet};
 use crate::change::{Change, PlannedId};
+use crate::reach::is_out_of_reach;
 use crate::surveyed::{Surveyed, SurveyedPort};
 use crate::warning::Warning;
 use ptpm_codec::PortIdentity;
@@ -34,6 +35,10 @@ pub fn warnings_of(
     for (place, change) in changes.iter().enumerate() {
         if change.id == PlannedId::DelayMechanism {
             found.push(Warning::Mechanism(place + 1))?;
+        }
+        if is_out_of_reach(change, changes, surveyed) {
+            let domain = first_octet(&change.after);
+            found.push(Warning::OutOfReach(place + 1, change.clock, domain))?;
         }
     }
     Ok(found)

@@ -1,0 +1,50 @@
+-- Which clocks are still reached after a plan has moved clocks to other domains (this project's profile). A boundary clock passes on
+-- only what is of its own domain.
+use Rattle.std.specs.Prelude.{ℕ, zero, suc, ◌==◌, nat_lt, Bool, true, false, not, ◌&&◌, List, Option, None, Some}
+use Rattle.std.specs.List.{find, list_any}
+use Rattle.ptpm_codec.specs.Layout.{octet}
+use Rattle.ptpm_plan.specs.Order.{hops_of}
+use Rattle.ptpm_plan.specs.Surveyed.{is_clock}
+use Rattle.ptpm_plan.specs.declared.change.Change.{Change}
+use Rattle.ptpm_plan.specs.declared.change.PlannedId.{PlannedId}
+use Rattle.ptpm_plan.specs.declared.change.PlannedId.TheVariants as ids
+use Rattle.ptpm_plan.specs.declared.surveyed.Surveyed.{Surveyed}
+use Rattle.ptpm_plan.specs.declared.surveyed.SurveyedClock.{SurveyedClock}
+
+abbrev pub is_of_domain : PlannedId → Bool
+is_of_domain ids.Domain = true
+is_of_domain _ = false
+
+-- a change moves a clock to another domain
+abbrev pub is_move_of : SurveyedClock → Change → Bool
+is_move_of clock c = is_of_domain c.id && is_clock c.domain c.clock clock
+
+-- the domain of a clock that is moved, or stays
+abbrev pub domain_by : SurveyedClock → Option Change → ℕ
+domain_by clock None = clock.domain
+domain_by clock (Some c) = octet 0 c.after.items
+
+-- the domain of a clock after all changes
+abbrev pub domain_after : List Change → SurveyedClock → ℕ
+domain_after changes clock = domain_by clock (find (is_move_of clock) changes)
+
+-- more than one port, by DEFAULT_DATA_SET
+abbrev pub has_several : Option ℕ → Bool
+has_several None = false
+has_several (Some ports) = nat_lt 1 ports
+
+-- a clock this many hops away passes on what is of a domain, after all changes
+abbrev pub passes_on : List Change → ℕ → ℕ → SurveyedClock → Bool
+passes_on changes domain hops clock =
+    (clock.hops == hops) && (has_several clock.number_ports && (domain_after changes clock == domain))
+
+-- at each smaller number of hops some clock passes it on
+unfoldable pub is_reached : List Change → List SurveyedClock → ℕ → ℕ → Bool
+is_reached changes clocks domain zero = true
+is_reached changes clocks domain (suc hops) =
+    is_reached changes clocks domain hops && list_any (passes_on changes domain hops) clocks
+
+-- a change moves its clock to where it is not reached
+abbrev pub is_out_of_reach : List Change → Surveyed → Change → Bool
+is_out_of_reach changes s c =
+    is_of_domain c.id && not (is_reached changes s.clocks.items (octet 0 c.after.items) (hops_of s c))
