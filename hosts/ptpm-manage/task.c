@@ -149,7 +149,7 @@ static _Noreturn void help(void) {
     fputs(asking_text, stdout);
     printf("ID, in either case, or four hexadecimal digits:");
     print_ids(ptpm_id_at);
-    printf("\n\nget and survey also take these, which no clock of ptpm answers:");
+    printf("\n\nget and survey also take these, which ptpm-clock answers only with --give:");
     print_ids(ptpm_other_id_at);
     printf("\n\n%s", help_end);
     exit(fflush(stdout) == 0 ? 0 : 4);
