@@ -28,9 +28,9 @@
 //!
 //! - No call is made from a signal handler, or in a forked child of a process with threads. Rust lets neither be made without
 //!   `unsafe` of its own.
-//! - The stack has room for what the header says: a clock's restore 9,200 octets, [`Clock::start`] 5,500 and its settings, every
-//!   other call 2,100. With what a device says it is more: [`Clock::handle_said`] 8,500 and [`Clock::ask`] 3,800. An [`Outbox`] has
-//!   22,140 octets: [`Outbox::boxed`] puts them on the heap.
+//! - The stack has room for what the header says of each call, and for 500 octets more. [`Clock::handle_said`] takes 2,000 more, and
+//!   [`Members`] 5,300. Without optimisation a call takes up to three times as much. An [`Outbox`] has 22,140 octets:
+//!   [`Outbox::boxed`] puts them on the heap.
 //! - `malloc`, `realloc` and `free` of the program are those of one allocator.
 //!
 //! # Without std, and without a C library
