@@ -41,6 +41,8 @@ static size_t count_members(uint16_t id) {
 
 bool takes_value(uint16_t id) { return count_members(id) == 1 && !has_text(id); }
 
+bool takes_names(uint16_t id) { return count_members(id) > 1 && !can_only_be_read(id); }
+
 bool is_member(uint16_t id, const char *word) {
     struct field_lines lines;
     struct member member;

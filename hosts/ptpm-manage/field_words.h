@@ -16,6 +16,9 @@ bool has_text(uint16_t id);
 /* Whether an id has one member, which is no text, so that a SET takes its value as a word. */
 bool takes_value(uint16_t id);
 
+/* Whether a SET of the id takes several members, each by its name. */
+bool takes_names(uint16_t id);
+
 /* Whether the standard has only a GET of the id. */
 bool can_only_be_read(uint16_t id);
 

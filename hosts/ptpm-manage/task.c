@@ -492,6 +492,7 @@ static void read_id(struct task *task, const char *text) {
 /* What else is said about a value that is no dataField. */
 static const char *hint(const struct task *task) {
     if (has_text(task->id)) return "; a text takes --text";
+    if (task->action == PTPM_SET && takes_names(task->id)) return "; each of its members takes its name and its value";
     return task->action == PTPM_SET && can_only_be_read(task->id) ? "; the id can only be read" : "";
 }
 
