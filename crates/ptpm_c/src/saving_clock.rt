@@ -75,7 +75,9 @@ pub extern "C" fn ptpm_clock_restore(
         × (result ≡ clock_restore_number e) }
     ensures fresh { result ≡ 0 → handle.new.restored ≡ 1 }
     ensures unchanged { result ≢ 0
-        → (gone.new ≡ 0) × (held handle.new.keeping ≡ held handle.old.keeping) }
+        → (gone.new ≡ 0)
+        × (held handle.new.keeping ≡ held handle.old.keeping)
+        × (handle.new.restored ≡ handle.old.restored) }
 {
     *gone = 0;
     let (clock, lost) = match HostedClock::restored_boxed(alloc, identity, ports, managers, image) {
