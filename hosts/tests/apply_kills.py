@@ -16,7 +16,7 @@ from apply_runs import Broken, Journal, Runs
 IDENTITIES = [f"02c0fffffe00010{number}" for number in (1, 2, 3)]
 VALUES = {"PRIORITY1": (0, 255), "PRIORITY2": (0, 255), "CLOCK_ACCURACY": (0x17, 0x31)}
 PORT_VALUES = {"LOG_SYNC_INTERVAL": (-8, 1), "ANNOUNCE_RECEIPT_TIMEOUT": (2, 10)}
-REFUSED_ID, REFUSED_FIELD = 0x6001, "fd00"          # LOG_MIN_PDELAY_REQ_INTERVAL, -3: below the range of apply_network.LIMITS
+REFUSED_ID, REFUSED_FIELD = 0x6001, "f700"          # LOG_MIN_PDELAY_REQ_INTERVAL, -9: below the profile's range
 TROUBLES = Troubles(loss=0.30, repeat=0.20, swap=0.10)
 CRASHES = 0.1                                       # of a clock after a run
 MOST_LIVES, PATIENT_AFTER, PATIENCE = 400, 60, 60
@@ -84,7 +84,7 @@ class Changes(Runs):
             lines += ["[[clock.port]]", "number = 1"]
             lines += [f"{name} = {self.chance.randint(*PORT_VALUES[name])}" for name in PORT_VALUES if self.chance.random() < 0.5]
             if is_refused and place == 1:
-                lines += ["LOG_MIN_PDELAY_REQ_INTERVAL = -3"]
+                lines += ["LOG_MIN_PDELAY_REQ_INTERVAL = -9"]
         return self.write_plan(lines)
 
     def crash(self):

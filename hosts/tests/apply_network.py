@@ -13,7 +13,6 @@ from apply_observer import Observer
 
 HOME = os.path.dirname(os.path.dirname(os.path.abspath(__file__)))
 MANAGER, OTHER = "020000fffe000010/1", "0a0000fffe000099/1"
-LIMITS = "LOG_MIN_PDELAY_REQ_INTERVAL 0..5\n"      # of each clock's hardware: a plan does not know them, and has no warning
 MANAGERS_STATION = "02:00:00:00:00:10"
 TUNSETIFF, IFF_TAP, IFF_NO_PI = 0x400454CA, 2, 0x1000
 ANSWERED_NEW = "5"
@@ -123,15 +122,13 @@ class Network:
         clock.log = lead + ".log"
         with open(lead + ".observed", "w") as observed:
             observed.writelines(f"port {port} state 9\n" for port in clock.slaves)
-        with open(lead + ".limits", "w") as limits:
-            limits.write(LIMITS)
         managers = ["-m", OTHER] + (["-m", MANAGER] if clock.has_rights else [])
         with open(clock.log, "a") as log:
             before = log.tell()
             clock.process = subprocess.Popen(
                 [*within(clock.namespace), os.path.join(HOME, "clock"), "-v", "--user", "root", "-s", lead + ".state", "-o",
-                 lead + ".observed", "--limits", lead + ".limits", *managers, clock.identity]
-                + [f"e{port}" for port in range(1, clock.ports + 1)], stdout=log, stderr=log)
+                 lead + ".observed", *managers, clock.identity] + [f"e{port}" for port in range(1, clock.ports + 1)],
+                stdout=log, stderr=log)
         said = ""
         while "managers" not in said and "1 manager" not in said:
             if clock.process.poll() is not None:
