@@ -49,10 +49,20 @@ static void judge_ports(const struct step *steps, size_t count) {
     }
 }
 
+/* Whether a rollback that is complete left nothing out, as far as the journal of the apply is there. */
+static int judge_left_out(const struct task *task, const struct journal *back) {
+    struct journal journal;
+    if (!find_rolled_back(&journal, back)) return ANSWERED;
+    int status = find_left_out(task, &journal);
+    leave_journal(&journal);
+    return status;
+}
+
 /* Goes on with a journal whose sessions are taken and marked, and says what became of it. */
 static int carry_out(const struct task *task, struct journal *journal) {
     int status = carry_out_steps(task, journal);
     if (status == ANSWERED) status = status_of(journal->ending);
+    if (status == ANSWERED) status = judge_left_out(task, journal);
     print_apply(journal, status == NOT_ANSWERED, task->is_json);
     leave_sessions();
     return status;
@@ -126,7 +136,7 @@ static const struct task *as_manager(const struct task *task, const struct journ
 static void end_rolled_back(const struct journal *back) {
     struct journal journal;
     if (!find_rolled_back(&journal, back)) return;
-    bool is_ended = continue_journal(&journal) && note_end(&journal, ROLLED_BACK, NO_STEP);
+    bool is_ended = journal.ending != IS_OPEN || (continue_journal(&journal) && note_end(&journal, ROLLED_BACK, NO_STEP));
     if (!is_ended) complain("nothing was sent: %s: %s", journal.path, strerror(errno));
     leave_journal(&journal);
     if (!is_ended) exit(NOT_WRITTEN);
@@ -175,8 +185,8 @@ static struct step back_of(const struct step *step) {
     return back;
 }
 
-/* The steps that take back what was done. Moves of DOMAIN come first, in the order of the apply: the farthest clock first again. The others
-   follow in reverse order. */
+/* The steps that take back what is known to be done. Moves of DOMAIN come first, in the order of the apply: the farthest clock first again.
+   The others follow in reverse order. */
 static void take_back(struct journal *back, const struct journal *journal) {
     size_t count = 0;
     struct step *steps = calloc(journal->count + 1, sizeof *steps);
@@ -218,32 +228,18 @@ static int begin_back(const struct task *task, struct journal *journal, struct j
     if (back->count > 0 && is_open) return go_over_to(task, journal, back);
     if (back->count > 0) return begin(task, back);
     if (is_open && !end_journal(journal, ROLLED_BACK, NO_STEP)) return NOT_WRITTEN;
-    complain("%s: no step was done, so none is rolled back", journal->name);
-    return ANSWERED;
-}
-
-/* Only what is known to be done is taken back. */
-static void say_left_out(const struct journal *journal) {
-    long failed = failed_step(journal);
-    if (journal->ending == GIVEN_UP && journal->end_step != NO_STEP) {
-        complain("step %ld may have been carried out, and is left out", journal->end_step + 1);
-    }
-    if (failed != NO_STEP && journal->told[failed].outcome == OTHER_VALUE) {
-        complain("step %ld was answered by another value, and is left out", failed + 1);
-    }
+    complain("%s: no step is to be rolled back", journal->name);
+    return find_left_out(task, journal);
 }
 
 static int roll_back_by(const struct task *task, struct journal *journal, struct journal *back) {
     int status = journal->ending == IS_OPEN ? close_apply(task, journal) : ANSWERED;
     if (status != ANSWERED) return status;
     take_back(back, journal);
-    status = find_changed(task, back);
-    if (status != ANSWERED) {
-        complain("nothing was rolled back");
-        return status;
-    }
-    say_left_out(journal);
-    return begin_back(task, journal, back);
+    status = leave_needed_steps(task, back);
+    if (status == ANSWERED) return begin_back(task, journal, back);
+    complain("nothing was rolled back");
+    return status;
 }
 
 static int roll_back(const struct task *task, struct journal *journal) {

@@ -226,16 +226,29 @@ int see_to_desk(struct desk *desk, struct journal *journal) {
 
 /* ---- what a member is */
 
-int read_member(const struct task *task, const struct step *step, uint8_t domain, struct answer *answer) {
+static bool is_read(const struct task *task, const struct step *step, uint8_t domain, struct answer *answer) {
     static struct task reading;
-    char clock[IDENTITY_TEXT];
     reading = *task;
     memcpy(reading.settings.target, step->clock, 8);
     reading.settings.domain = domain;
     reading.port = step->port;
-    if (read_by_nobody(&reading, step->id, task->settings.attempts, answer)) return ANSWERED;
+    return read_by_nobody(&reading, step->id, task->settings.attempts, answer);
+}
+
+static int not_read(const struct step *step, uint8_t domain) {
+    char clock[IDENTITY_TEXT];
     if (stopped) return BY_SIGNAL + stopped;
     write_identity(clock, step->clock);
     complain("no answer of %s at %s in domain %u to a read of %s", clock, transport_name(), domain, id_name(step->id));
     return NOT_ANSWERED;
+}
+
+int read_member(const struct task *task, const struct step *step, uint8_t domain, struct answer *answer) {
+    return is_read(task, step, domain, answer) ? ANSWERED : not_read(step, domain);
+}
+
+int read_moved(const struct task *task, const struct step *step, uint8_t domain, struct answer *answer) {
+    bool is_answered = is_read(task, step, domain, answer);
+    if (!is_answered && step->id == PTPM_ID_DOMAIN) is_answered = is_read(task, step, step->after.octets[0], answer);
+    return is_answered ? ANSWERED : not_read(step, domain);
 }

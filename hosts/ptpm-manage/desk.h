@@ -37,6 +37,9 @@ int ask_step(struct desk *desk, struct journal *journal, long step);
 /* Reads the member of a step in a domain, by nobody. ANSWERED, or the program's status. */
 int read_member(const struct task *task, const struct step *step, uint8_t domain, struct answer *answer);
 
+/* The same, and that DOMAIN is read in either domain of its step. The clock may have moved. */
+int read_moved(const struct task *task, const struct step *step, uint8_t domain, struct answer *answer);
+
 void leave_desk(struct desk *desk);
 
 #endif

@@ -109,7 +109,7 @@ bool find_rolled_back(struct journal *journal, const struct journal *back) {
     char path[PATH_MAX];
     if (*back->rolls_back == '\0') return false;
     snprintf(path, sizeof path, "%s/%s%s", folder, back->rolls_back, ending);
-    if (read_journal(journal, path) == FOUND_JOURNAL && journal->ending == IS_OPEN) return true;
+    if (read_journal(journal, path) == FOUND_JOURNAL) return true;
     leave_journal(journal);
     return false;
 }

@@ -16,7 +16,7 @@ const char *journals_folder(void);
    if one is damaged, or can't be read. */
 bool find_open_journal(struct journal *journal);
 
-/* Finds the apply that a rollback takes back, if that is open still; whether it is. */
+/* Finds the apply that a rollback takes back; whether it is there. */
 bool find_rolled_back(struct journal *journal, const struct journal *back);
 
 /* Finds the journal of this name. Ends the program with status 2 if there is none, or it is damaged. */

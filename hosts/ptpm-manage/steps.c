@@ -90,18 +90,22 @@ static int end_with(struct journal *journal, enum ending ending, long step) {
 /* ---- progress */
 
 /* Shows which step is at work, whose member it is, and since when. */
-static void show_step(const char *what, const struct journal *journal, long place) {
+static void show_one(const char *what, long place, size_t count, const struct step *step) {
     char *member = NULL, since[16];
     size_t size;
     time_t now = time(NULL);
     struct tm parts;
     FILE *to = open_memstream(&member, &size);
     if (to == NULL) give_up("the progress");
-    write_member_name(to, &journal->steps[place]);
+    write_member_name(to, step);
     if (fclose(to)) give_up("the progress");
     strftime(since, sizeof since, "%H:%M:%S", gmtime_r(&now, &parts));
-    head_progress("%s %ld of %zu, %s, since %s UTC", what, place + 1, journal->count, member, since);
+    head_progress("%s %ld of %zu, %s, since %s UTC", what, place + 1, count, member, since);
     free(member);
+}
+
+static void show_step(const char *what, const struct journal *journal, long place) {
+    show_one(what, place, journal->count, &journal->steps[place]);
 }
 
 /* ---- what members are */
@@ -120,8 +124,8 @@ static bool has(const struct answer *answer, const struct step *step, const stru
     return answer->outcome == PTPM_VALUE && has_value(step->id, value->octets, value->size, answer);
 }
 
-/* Says that a member has another value than is wanted. */
-static void say_changed(const struct step *step, const struct answer *answer, const struct value *wanted) {
+/* Says after a lead that a member has another value than is wanted. */
+static void say_value(const char *lead, const struct step *step, const struct answer *answer, const struct value *wanted) {
     char *text = NULL;
     size_t size;
     FILE *to = open_memstream(&text, &size);
@@ -133,8 +137,12 @@ static void say_changed(const struct step *step, const struct answer *answer, co
     fputs(", and not ", to);
     write_value(to, step->id, wanted->octets, wanted->size);
     if (fclose(to)) give_up("a notice");
-    complain("changed since: %s", text);
+    complain("%s: %s", lead, text);
     free(text);
+}
+
+static void say_changed(const struct step *step, const struct answer *answer, const struct value *wanted) {
+    say_value("changed since", step, answer, wanted);
 }
 
 /* Reads each member that was set once more. */
@@ -162,17 +170,65 @@ static uint8_t domain_at_begin(const struct journal *journal, const struct step 
     return step->domain;
 }
 
-int find_changed(const struct task *task, const struct journal *journal) {
+/* Says that a step is not needed. */
+static void say_needless(const struct step *step) {
+    char *text = NULL;
+    size_t size;
+    FILE *to = open_memstream(&text, &size);
+    if (to == NULL) give_up("a notice");
+    write_member_name(to, step);
+    fputs(" is ", to);
+    write_value(to, step->id, step->after.octets, step->after.size);
+    if (fclose(to)) give_up("a notice");
+    complain("%s already", text);
+    free(text);
+}
+
+int leave_needed_steps(const struct task *task, struct journal *back) {
+    static struct answer answer;
+    int found = ANSWERED;
+    size_t count = back->count;
+    back->count = 0;
+    for (size_t i = 0; i < count; i++) {
+        const struct step step = back->steps[i];
+        show_one("read", (long)i, count, &step);
+        int status = read_moved(task, &step, domain_at_begin(back, &step), &answer);
+        if (status != ANSWERED) return status;
+        bool is_needless = has(&answer, &step, &step.after);
+        if (is_needless) say_needless(&step);
+        else back->steps[back->count++] = step;
+        if (is_needless || has(&answer, &step, &step.before)) continue;
+        say_changed(&step, &answer, &step.before);
+        found = NOT_AS_ASKED;
+    }
+    return found;
+}
+
+/* Why a rollback leaves a step out; NULL if it does not, or the step was never asked. */
+static const char *why_left_out(const struct journal *journal, size_t place) {
+    switch (journal->told[place].outcome) {
+    case IS_REFUSED: return "was refused";
+    case OTHER_VALUE: return "was answered by another value";
+    case NOT_TOLD: return journal->begun == (long)place ? "may have been carried out" : NULL;
+    default: return NULL;
+    }
+}
+
+int find_left_out(const struct task *task, const struct journal *journal) {
     static struct answer answer;
     int found = ANSWERED;
     for (size_t i = 0; i < journal->count; i++) {
         const struct step *step = &journal->steps[i];
+        const char *why = why_left_out(journal, i);
+        char lead[2 * JOURNAL_NAME + 64];
+        if (why == NULL) continue;
         show_step("read", journal, (long)i);
-        int status = read_member(task, step, domain_at_begin(journal, step), &answer);
-        if (status != ANSWERED) return status;
-        if (has(&answer, step, &step->before)) continue;
-        say_changed(step, &answer, &step->before);
-        found = NOT_AS_ASKED;
+        int status = read_moved(task, step, domain_at_begin(journal, step), &answer);
+        if (status == ANSWERED && has(&answer, step, &step->before)) continue;
+        snprintf(lead, sizeof lead, "step %zu of %s %s, and is left out", i + 1, journal->name, why);
+        if (status == ANSWERED) say_value(lead, step, &answer, &step->before);
+        else complain("%s", lead);
+        found = status == ANSWERED ? NOT_ANSWERED : status;
     }
     return found;
 }

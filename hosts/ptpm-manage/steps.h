@@ -28,9 +28,13 @@ int let_go_of_steps(const struct journal *journal);
 /* Notes how it ended, and takes the marks away; whether it could. */
 bool end_journal(struct journal *journal, enum ending ending, long step);
 
-/* Whether each member has what these steps have as before, read in the domain in which its clock is; each that has not is said.
-   ANSWERED, NOT_AS_ASKED if one has not, or the program's status. */
-int find_changed(const struct task *task, const struct journal *journal);
+/* Leaves only the steps of a rollback that are needed. Each member is read in the domain in which its clock is. One that has its value
+   already is said, and so is one that has neither value. ANSWERED, NOT_AS_ASKED if one has neither, or the program's status. */
+int leave_needed_steps(const struct task *task, struct journal *back);
+
+/* After the rollback of a journal: whether each member that it left out is as before the apply; each that is not is said. ANSWERED,
+   NOT_ANSWERED if one is not, or the program's status. */
+int find_left_out(const struct task *task, const struct journal *journal);
 
 void leave_sessions(void);
 
