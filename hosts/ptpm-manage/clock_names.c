@@ -33,11 +33,20 @@ static bool is_utf8(const char *name) {
     return ptpm_field_parse(PTPM_ID_USER_DESCRIPTION, name, strlen(name) + 1, octets, sizeof octets, &size, &member) != PTPM_NOT_WORDS;
 }
 
+/* Names the clock at this place, which is `count` if it is a new one. */
+static void put_name(size_t place, const uint8_t identity[8], const char *name) {
+    char text[IDENTITY_TEXT], *named;
+    write_identity(text, identity);
+    if (asprintf(&named, "%s=%s", text, name) < 0) give_up("the names");
+    free(names[place]);
+    names[place] = named;
+    if (place == count) count++;
+}
+
 /* Takes a line without its end: of a clock that is named twice the later name counts. */
 static void take_line(const char *path, size_t number, const char *line) {
     static const char blanks[] = " \t";
     uint8_t identity[8];
-    char text[IDENTITY_TEXT], *named;
     size_t size = strcspn(line, blanks);
     const char *name = line + size + strspn(line + size, blanks);
     bool is_named = line[size] != '\0' && ptpm_identity_parse(line, size, identity);
@@ -46,11 +55,16 @@ static void take_line(const char *path, size_t number, const char *line) {
     if (!is_utf8(name)) refuse("--names %s: line %zu: the name is no UTF-8", path, number);
     size_t place = place_of(identity);
     if (place == MOST_NAMES) refuse("--names %s: it has more than %d clocks", path, MOST_NAMES);
-    write_identity(text, identity);
-    if (asprintf(&named, "%s=%s", text, name) < 0) give_up("the names");
-    free(names[place]);
-    names[place] = named;
-    if (place == count) count++;
+    put_name(place, identity, name);
+}
+
+void add_clock_name(const uint8_t identity[8], const char *name) {
+    size_t place = place_of(identity);
+    if (place == count && place < MOST_NAMES && *name != '\0' && is_utf8(name)) put_name(place, identity, name);
+}
+
+void forget_clock_names(size_t left) {
+    for (; count > left; names[count] = NULL) free(names[--count]);
 }
 
 /* Opens a file or a pipe that may be read to its end. */

@@ -402,6 +402,14 @@ void keep_lines(struct report *report, const struct report *objects) {
 
 static bool is_gone(const struct finding *finding) { return is_piece(&finding->key[NAME_PART], "gone"); }
 
+const struct finding *next_gone(const struct report *report, size_t *place) {
+    while (*place < report->count) {
+        const struct finding *finding = &report->findings[(*place)++];
+        if (is_gone(finding)) return finding;
+    }
+    return NULL;
+}
+
 static bool is_same_piece(const struct piece *one, const struct piece *other) { return compare_pieces(one, other) == 0; }
 
 /* The description in a line of the tree, in quotes, if it is that of the finding's clock; an empty one otherwise. */

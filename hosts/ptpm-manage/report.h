@@ -66,6 +66,9 @@ bool has_doubtful_line(const struct report *report, const struct report *earlier
    from which one that is left follows. */
 void keep_lines(struct report *report, const struct report *objects);
 
+/* The next finding of a clock that is gone, from this place on; NULL if there is none. */
+const struct finding *next_gone(const struct report *report, size_t *place);
+
 /* Adds to each finding of a clock that is gone the description that the clock had in an earlier report. */
 void describe_gone(struct report *report, const struct report *earlier);
 

@@ -1,6 +1,7 @@
 #define _GNU_SOURCE
 #include "status.h"
 #include "asking.h"
+#include "clock_names.h"
 #include "collect.h"
 #include "lines.h"
 #include "look_lines.h"
@@ -258,6 +259,27 @@ static bool is_coloured(void) {
 /* Whether a look shows the site, which may have no clock by now; otherwise something failed, and that is said. */
 static bool is_whole(const struct look *look) { return look->report.has_findings || look->status == NOT_ANSWERED; }
 
+static bool is_seen_anywhere(const uint8_t identity[8]) {
+    for (size_t i = 0; i < seen_count(); i++) {
+        if (memcmp(seen_clock(i)->identity, identity, 8) == 0) return true;
+    }
+    return false;
+}
+
+/* Only the text and JSON of a watch have the description that a clock had which is gone. In the other forms it is the clock's name. One
+   that answers in another domain gets none: it would be its name there too. */
+static void name_gone(const struct look *look, const struct look *earlier) {
+    const struct finding *gone;
+    for (size_t place = 0; (gone = next_gone(&look->report, &place)) != NULL;) {
+        uint8_t identity[8];
+        char text[DESCRIPTION_TEXT];
+        struct domain domain = { (uint8_t)gone->line.number, (uint16_t)gone->line.sdo };
+        if (!ptpm_identity_parse(gone->line.clock.at, gone->line.clock.size, identity) || is_seen_anywhere(identity)) continue;
+        bool is_found = find_description(&look->lines, domain, identity, text);
+        if (is_found || (earlier != NULL && find_description(&earlier->lines, domain, identity, text))) add_clock_name(identity, text);
+    }
+}
+
 /* Has the lines of a look shown in the form that was asked for, after those of an earlier one; the status. That of numbers and of a plugin is
    the program's own. */
 static int print_form(FILE *to, const struct look *look, const struct look *earlier, const struct task *task) {
@@ -265,7 +287,10 @@ static int print_form(FILE *to, const struct look *look, const struct look *earl
     const struct piece lines[2] = { lines_of(earlier), lines_of(look) };
     const struct site_options options = as_looked_at(task);
     enum shown_as form = options.form;
+    size_t own_names = clock_name_count();
+    name_gone(look, earlier);
     int status = run_site_program(&options, form, lines, 2, &shown);
+    forget_clock_names(own_names);
     if (shown.size > 0) fwrite(shown.text, 1, shown.size, to);
     free_report(&shown);
     return status > FINDINGS || form == AS_NUMBERS || form == AS_PLUGIN ? status : look->status;
@@ -371,7 +396,8 @@ int show_status(const struct task *task) {
     find_domains(&domains, task);
     look_until_decided(&look, task, &domains);
     int status = stopped ? BY_SIGNAL + stopped : print_look(&look, NULL, task);
-    if (!stopped && task->site.watch > 0 && status != NOT_ASKED) status = watch(&look, task, &domains);
+    bool is_asked = status != NOT_ASKED || task->site.form == AS_PLUGIN;
+    if (!stopped && task->site.watch > 0 && is_asked) status = watch(&look, task, &domains);
     free_look(&look);
     return status;
 }
