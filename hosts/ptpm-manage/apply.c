@@ -206,7 +206,7 @@ static void take_back(struct journal *back, const struct journal *journal) {
 /* An apply that is open is ended: its uncertain step is settled first. ANSWERED, or the program's status. */
 static int close_apply(const struct task *task, struct journal *journal) {
     take_up(task, journal);
-    int status = settle_begun_step(journal);
+    int status = settle_begun_steps(journal);
     if (status != ANSWERED) complain("nothing was rolled back");
     return status;
 }

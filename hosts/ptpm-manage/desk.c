@@ -221,6 +221,7 @@ int see_to_desk(struct desk *desk, struct journal *journal) {
     case NUMBER_TAKEN: if (!note_not_begun(journal)) return not_noted(journal); break;
     case OF_ANOTHER: break;
     }
+    desk->is_changed = desk->session.earlier.task.action != PTPM_GET;
     return settle(desk, journal, NO_STEP, domain, true);
 }
 

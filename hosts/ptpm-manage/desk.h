@@ -13,7 +13,8 @@ struct desk {
     struct task task;                   /* what is asked of all clocks, with this one as the target */
     struct kept_session session;
     struct driver driver;
-    bool is_seen_to;                    /* what an earlier run left there is */
+    bool is_seen_to;                    /* what an earlier run left there is, */
+    bool is_changed;                    /* and that was a SET or a COMMAND of another program */
 };
 
 /* Takes the session of a task with the clock of its first step. A question that an earlier run left at another port than that step's is

@@ -235,22 +235,32 @@ int find_left_out(const struct task *task, const struct journal *journal) {
 
 /* ---- the steps */
 
-int settle_begun_step(struct journal *journal) {
+static int settle_begun_step(struct journal *journal) {
     if (journal->begun == NO_STEP) return ANSWERED;
     show_step("step", journal, journal->begun);
     return see_to_desk(desk_of(&journal->steps[journal->begun]), journal);
 }
 
-/* Sees to the sessions in which this journal has begun steps before any other. */
-static int see_to_begun(struct journal *journal) {
+int settle_begun_steps(struct journal *journal) {
     int status = settle_begun_step(journal);
-    if (status != ANSWERED) return status;
-    for (size_t i = 0; i < journal->count; i++) {
-        if (journal->told[i].outcome == NOT_TOLD) continue;
-        status = see_to_desk(desk_of(&journal->steps[i]), journal);
-        if (status != ANSWERED) return status;
+    for (size_t i = 0; i < journal->count && status == ANSWERED; i++) {
+        if (journal->told[i].outcome != NOT_TOLD) status = see_to_desk(desk_of(&journal->steps[i]), journal);
     }
-    return ANSWERED;
+    return status;
+}
+
+/* Sees to all sessions before any step. If another program left a SET in one, it is carried out by now. The clocks were read before that, so
+   the plan may lack it. */
+static int see_to_sessions(struct journal *journal) {
+    int status = settle_begun_steps(journal);
+    bool is_changed = false;
+    for (size_t i = 0; i < desk_count && status == ANSWERED; i++) {
+        status = see_to_desk(desks[i], journal);
+        is_changed |= desks[i]->is_changed;
+    }
+    if (status != ANSWERED || !is_changed) return status;
+    complain("that was not planned: no further step is sent");
+    return end_with(journal, ENDED_CHANGED, NO_STEP);
 }
 
 bool note_begun_step(struct journal *journal) {
@@ -289,7 +299,7 @@ static void say_value_of_refused(const struct task *task, const struct journal *
 }
 
 int carry_out_steps(const struct task *task, struct journal *journal) {
-    int status = see_to_begun(journal);
+    int status = see_to_sessions(journal);
     for (long place; status == ANSWERED && journal->ending == IS_OPEN && (place = next_step(journal)) != NO_STEP;) {
         status = take_step(task, journal, place);
     }

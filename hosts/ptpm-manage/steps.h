@@ -15,8 +15,8 @@ bool mark_sessions(void);
    then. Otherwise it stays open, and the answer is the program's status. */
 int carry_out_steps(const struct task *task, struct journal *journal);
 
-/* Sees to the step that was begun and has no answer. ANSWERED, or the program's status. */
-int settle_begun_step(struct journal *journal);
+/* Sees to the step that was begun and has no answer, and to the sessions of those that have one. ANSWERED, or the program's status. */
+int settle_begun_steps(struct journal *journal);
 
 /* Finds whether the step that was begun last was never sent, and notes it then. Nothing is sent. Whether it could. */
 bool note_begun_step(struct journal *journal);
