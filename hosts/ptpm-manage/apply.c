@@ -203,14 +203,6 @@ static void take_back(struct journal *back, const struct journal *journal) {
     free(steps);
 }
 
-/* An apply that is open is ended: its uncertain step is settled first. ANSWERED, or the program's status. */
-static int close_apply(const struct task *task, struct journal *journal) {
-    take_up(task, journal);
-    int status = settle_begun_steps(journal);
-    if (status != ANSWERED) complain("nothing was rolled back");
-    return status;
-}
-
 /* The journal of the rollback is there before the apply has its end. So wherever a run ends, one of the two is open. */
 static int go_over_to(const struct task *task, struct journal *journal, struct journal *back) {
     if (!make_journal_of(task, back) || !end_journal(journal, ROLLED_BACK, NO_STEP)) return NOT_WRITTEN;
@@ -232,13 +224,17 @@ static int begin_back(const struct task *task, struct journal *journal, struct j
     return find_left_out(task, journal);
 }
 
+/* The uncertain step of an apply that is open is settled first. */
 static int roll_back_by(const struct task *task, struct journal *journal, struct journal *back) {
-    int status = journal->ending == IS_OPEN ? close_apply(task, journal) : ANSWERED;
-    if (status != ANSWERED) return status;
-    take_back(back, journal);
-    status = leave_needed_steps(task, back);
+    bool is_open = journal->ending == IS_OPEN;
+    if (is_open) take_up(task, journal);
+    int status = is_open ? settle_begun_steps(journal) : ANSWERED;
+    if (status == ANSWERED) {
+        take_back(back, journal);
+        status = leave_needed_steps(task, back);
+    }
     if (status == ANSWERED) return begin_back(task, journal, back);
-    complain("nothing was rolled back");
+    complain("nothing was rolled back%s", is_open ? ": the apply stays open" : "");
     return status;
 }
 
