@@ -3,6 +3,7 @@
 use crate::command_line::{Subcommand, command_line};
 use crate::plan::{PlanShown, PlanWords};
 use crate::site::{Shown, SiteWords};
+use NoTask::NoCommand;
 use clap::ArgMatches;
 use clap::error::ErrorKind;
 use ptpm_commands::make::RequestWords;
@@ -119,21 +120,20 @@ pub(crate) fn parse<'a>(alloc: Global, words: &'a [&'a str]) -> Result<Task<'a>,
 
 /// The task of the subcommand whose values were taken.
 fn task_of<'a>(alloc: Global, matches: &ArgMatches<'a>) -> Result<Task<'a>, NoTask> {
-    let (name, values) = matches.subcommand().ok_or(NoTask::NoCommand)?;
-    let task = match Subcommand::named(name).ok_or(NoTask::NoCommand)? {
-        Subcommand::Answer => datagrams_of(values).map(Task::Answer),
-        Subcommand::Show => show_task(values),
-        Subcommand::Ids => Some(Task::Ids),
-        Subcommand::Make => make_task(alloc, values)?,
-        Subcommand::Run => Some(Task::Run),
-        Subcommand::Check => Some(Task::Check),
-        Subcommand::Schedule => chances(values).map(Task::Schedule),
-        Subcommand::Draw => chosen(values).map(Task::Draw),
-        Subcommand::Site => Some(Task::Site(site_words(alloc, values)?)),
-        Subcommand::Findings => Some(Task::Findings),
-        Subcommand::Plan => plan_words(values).map(Task::Plan),
-    };
-    task.ok_or(NoTask::NoCommand)
+    let (name, values) = matches.subcommand().ok_or(NoCommand)?;
+    match Subcommand::named(name).ok_or(NoCommand)? {
+        Subcommand::Answer => Ok(Task::Answer(datagrams_of(values).ok_or(NoCommand)?)),
+        Subcommand::Show => show_task(values).ok_or(NoCommand),
+        Subcommand::Ids => Ok(Task::Ids),
+        Subcommand::Make => make_task(alloc, values),
+        Subcommand::Run => Ok(Task::Run),
+        Subcommand::Check => Ok(Task::Check),
+        Subcommand::Schedule => Ok(Task::Schedule(chances(values).ok_or(NoCommand)?)),
+        Subcommand::Draw => Ok(Task::Draw(chosen(values).ok_or(NoCommand)?)),
+        Subcommand::Site => Ok(Task::Site(site_words(alloc, values)?)),
+        Subcommand::Findings => Ok(Task::Findings),
+        Subcommand::Plan => Ok(Task::Plan(plan_words(values).ok_or(NoCommand)?)),
+    }
 }
 
 fn show_task<'a>(values: &ArgMatches<'a>) -> Option<Task<'a>> {
@@ -144,18 +144,16 @@ fn show_task<'a>(values: &ArgMatches<'a>) -> Option<Task<'a>> {
     Some(Task::Show(shown, datagrams_of(values)?))
 }
 
-fn make_task<'a>(alloc: Global, values: &ArgMatches<'a>) -> Result<Option<Task<'a>>, AllocError> {
-    let Some(words) = request_words(values) else {
-        return Ok(None);
-    };
+fn make_task<'a>(alloc: Global, values: &ArgMatches<'a>) -> Result<Task<'a>, NoTask> {
+    let words = request_words(values).ok_or(NoCommand)?;
     let Some(said) = values.get_strs("member") else {
-        return Ok(Some(Task::Make(words)));
+        return Ok(Task::Make(words));
     };
     let mut members = Vec::new(alloc);
     for member in said {
-        members.push(*member)?;
+        members.push(*member).map_err(AllocError::from)?;
     }
-    Ok(Some(Task::MakeWithMembers(words, members)))
+    Ok(Task::MakeWithMembers(words, members))
 }
 
 fn datagrams_of<'a>(values: &ArgMatches<'a>) -> Option<Datagrams<'a>> {
