@@ -172,7 +172,7 @@ enum site_option {
 enum { MOST_WORDS = 2 + MOST_FIELD_WORDS, MOST_FIELD = 1418, NOT_NAMED = -1 };
 
 /* What holds if no option says otherwise. A request to only one clock is repeated for two seconds. */
-enum { HOPS = 1, ATTEMPTS = 30, SITE_HOPS = 7, SITE_ATTEMPTS = 10, LISTENED = 4000, PLAN_DIGITS = 8 };
+enum { HOPS = 1, ATTEMPTS = 30, SITE_ATTEMPTS = 10, LISTENED = 4000, PLAN_DIGITS = 8 };
 
 enum { SECOND = 1000, MOST_SECONDS = 86400 };
 

@@ -6,7 +6,8 @@
 #include <stdbool.h>
 #include <stdint.h>
 
-enum { MOST_INTERFACES = 8, DOMAINS = 256 };
+/* SITE_HOPS: how many boundary clocks pass on what `collect` and `status` ask, if no --hops is given. */
+enum { MOST_INTERFACES = 8, DOMAINS = 256, SITE_HOPS = 7 };
 
 /* How a site is shown: as a text, JSON, a picture in SVG, a page in HTML, numbers in OpenMetrics, or a line of Nagios. */
 enum shown_as { AS_TEXT, AS_JSON, AS_DRAWING, AS_PAGE, AS_NUMBERS, AS_PLUGIN };

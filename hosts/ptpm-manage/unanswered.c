@@ -56,7 +56,10 @@ void advise_on_time(const struct task *task) {
 /* What may be wrong if the clock answers nobody. */
 static void advise(const struct task *task, enum unanswered what) {
     const char *end = what == EARLIER_REQUEST || what == EARLIER_ELSEWHERE ? "" : "; --domain names another";
+    unsigned hops = task->settings.hops;
     if (task->port > 1) complain("numberPorts of get DEFAULT_DATA_SET shows whether the clock has a port %u", task->port);
+    if (hops < SITE_HOPS) complain("a clock past more than %u boundary clock%s was not asked: --hops %d asks as far as status does",
+                                   hops, hops == 1 ? "" : "s", SITE_HOPS);
     if (task->path != NULL) return;
     if (task->port == 0) complain("a clock that answers only if its port is named, such as a ptpd, is asked with --port 1");
     complain("survey DEFAULT_DATA_SET shows which clocks are in that domain%s", end);
