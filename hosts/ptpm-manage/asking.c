@@ -1,6 +1,7 @@
 #include "asking.h"
 #include "answer.h"
 #include "exchange.h"
+#include "message_places.h"
 #include "monotonic.h"
 #include "names.h"
 #include "notices.h"
@@ -8,6 +9,7 @@
 #include "telling.h"
 #include "transport.h"
 #include "unanswered.h"
+#include "unreadable.h"
 #include "words.h"
 #include <errno.h>
 #include <stdbool.h>
@@ -88,13 +90,15 @@ int ask_without_file(const struct task *task) {
     return status;
 }
 
-/* How many answers the survey hears in time that are the first of their port; more ports than it has room for are counted. */
-static int taken_in_time(long wait, long *lost) {
+/* How many answers to the message the survey hears in time that are the first of their port. More ports than it has room for are
+   counted. */
+static int taken_in_time(const uint8_t *message, long wait, long *lost) {
     int taken = 0;
     int64_t end = milliseconds() + wait;
     size_t size;
     for (const uint8_t *datagram; (datagram = receive_message(&size, end)) != NULL;) {
         enum ptpm_survey_received became = ptpm_survey_receive(&survey, datagram, size);
+        tell_unreadable(became, message + SOURCE_AT, datagram, size);
         taken += became == PTPM_TAKEN;
         *lost += became == PTPM_FULL || became == PTPM_NO_MEMORY;
     }
@@ -144,7 +148,7 @@ int ask_every_port(const struct task *task) {
         if (quiet >= (ptpm_survey_count(&survey) > 0 ? QUIET : QUIET_AT_FIRST)) break;
         show_progress("attempt %d: %zu answers so far", attempt, ptpm_survey_count(&survey));
         if (!count_sending(send_message(message, size), &sent)) return NOT_ASKED;
-        quiet = taken_in_time(task->timeout, &lost) > 0 ? 0 : quiet + 1;
+        quiet = taken_in_time(message, task->timeout, &lost) > 0 ? 0 : quiet + 1;
     }
     int status = end_of_survey(task, sent, lost);
     ptpm_survey_stop(&survey);

@@ -11,6 +11,7 @@
 #include "stopping.h"
 #include "transport.h"
 #include "unanswered.h"
+#include "unreadable.h"
 #include <errno.h>
 #include <stdbool.h>
 #include <string.h>
@@ -167,12 +168,13 @@ static void hear_until(int64_t end) {
         struct request *request = asked_under(datagram, size);
         if (request == NULL) keep_heard(datagram, size);
         if (request == NULL) continue;
-        switch (judge(request, datagram, size)) {
+        uint32_t became = judge(request, datagram, size);
+        switch (became) {
         case PTPM_TAKEN:
         case PTPM_AGAIN:                                /* which may be of another port, or of another clock with that identity */
         case PTPM_FULL:
         case PTPM_NO_MEMORY: take_answer(request, datagram); break;
-        default: break;
+        default: tell_unreadable(became, request->message + SOURCE_AT, datagram, size);
         }
     }
 }

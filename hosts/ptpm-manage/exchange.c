@@ -1,12 +1,14 @@
 #include "exchange.h"
 #include "message_places.h"
+#include "unreadable.h"
 #include <string.h>
 
 enum { ERROR_TLV = 2 };             /* a tlvType (14.1.1): a MANAGEMENT_ERROR_STATUS (15.5.4) */
 enum { CLOCK = SOURCE_PORT_AT - SOURCE_AT, PORT_IDENTITY = CLOCK + 2 };     /* octets of identities */
 
-/* The target of the latest message as the session has it. And the port that takes the place of the session's last one, or 0. */
-static uint8_t target[PORT_IDENTITY];
+/* Who asks by the latest message, and its target as the session has it. And the port that takes the place of the session's last one,
+   or 0. */
+static uint8_t source[PORT_IDENTITY], target[PORT_IDENTITY];
 static uint16_t beyond;
 
 bool is_beyond_session(uint16_t port) { return port > SESSION_PORTS && port != EVERY_PORT; }
@@ -28,6 +30,7 @@ static void swap_port(uint8_t *at) {
 }
 
 void name_target(uint8_t *message) {
+    memcpy(source, message + SOURCE_AT, sizeof source);
     memcpy(target, message + TARGET_AT, sizeof target);
     swap_port(message + TARGET_AT + CLOCK);
 }
@@ -61,7 +64,9 @@ bool is_error_of_clock(uint8_t *copy, size_t size) {
 static bool is_answered(struct ptpm_session *session, const uint8_t *datagram, size_t size) {
     static uint8_t copy[PTPM_MOST_OCTETS];
     size = copy_datagram(copy, datagram, size);
-    if (ptpm_session_receive(session, copy, size) == PTPM_ANSWERED) return true;
+    enum ptpm_session_received became = ptpm_session_receive(session, copy, size);
+    if (became == PTPM_ANSWERED) return true;
+    tell_unreadable(became, source, copy, size);
     return is_error_of_clock(copy, size) && ptpm_session_receive(session, copy, size) == PTPM_ANSWERED;
 }
 
