@@ -353,7 +353,7 @@ static int end_of_collection(const struct task *task, const struct domains *doma
     tell_missing_addresses();
     if (!task->site.is_every_domain) complain("--domain all asks in each domain in which a clock is heard");
     if (!task->site.is_every_sdo) advise_on_sdo(domains);
-    advise_on_time(task);
+    advise_on_every(task);
     return NOT_ANSWERED;
 }
 

@@ -48,9 +48,25 @@ static void say_reason(const struct task *task, enum unanswered what, uint16_t n
     }
 }
 
+/* A request goes over one of three, and clocks hear only theirs. */
+static void advise_on_way(const struct task *task) {
+    if (task->address != NULL) return;
+    if (task->is_ethernet) complain("clocks over Ethernet alone were asked, and none over UDP");
+    else if (task->is_six) complain("clocks over IPv6 alone were asked, and none over IPv4, or over Ethernet (--ethernet)");
+    else complain("clocks over IPv4 alone were asked, and none over IPv6 (--ipv6), or over Ethernet (--ethernet)");
+}
+
 /* A request to every clock or every port waits for the time of a few answers. An answer that takes longer is not heard. */
-void advise_on_time(const struct task *task) {
-    if (task->path == NULL) complain("over a slow link --timeout waits longer for each answer, %ld ms here", task->timeout);
+static void advise_on_time(const struct task *task) {
+    complain("over a slow link --timeout waits longer for each answer, %ld ms here", task->timeout);
+}
+
+void advise_on_every(const struct task *task) {
+    static bool is_advised;
+    if (task->path != NULL || is_advised) return;
+    is_advised = true;
+    advise_on_way(task);
+    advise_on_time(task);
 }
 
 /* What may be wrong if the clock answers nobody. */
@@ -63,6 +79,7 @@ static void advise(const struct task *task, enum unanswered what) {
     if (task->path != NULL) return;
     if (task->port == 0) complain("a clock that answers only if its port is named, such as a ptpd, is asked with --port 1");
     complain("survey DEFAULT_DATA_SET shows which clocks are in that domain%s", end);
+    advise_on_way(task);
     if (task->is_survey) advise_on_time(task);
 }
 
@@ -109,7 +126,7 @@ int no_answer(const struct task *task, enum unanswered what, uint16_t number, lo
     tell_missing_addresses();
     tell_deaf_port();
     if (task->is_survey && !task->is_of_clock) {
-        advise_on_time(task);
+        advise_on_every(task);
         return NOT_ANSWERED;
     }
     bool is_answered = (task->is_kept || task->action != PTPM_GET) && say_value(task);

@@ -13,8 +13,8 @@ enum unanswered { REQUEST, EARLIER_REQUEST, EARLIER_ELSEWHERE, NUMBER, FIRST_NUM
    clock may have dropped them, nobody reads its value, and what it has is said. The program's status. */
 int no_answer(const struct task *task, enum unanswered what, uint16_t number, long sent);
 
-/* Says how a survey, or a collection, hears answers that take longer. */
-void advise_on_time(const struct task *task);
+/* Says once which clocks a survey, or a collection, did not ask, and how it hears answers that take longer. */
+void advise_on_every(const struct task *task);
 
 /* Says what is known of a clock that gave a step of an apply no answer. If it answers reads, that is what it has, and why it may drop
    the step. */
