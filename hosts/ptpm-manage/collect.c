@@ -26,6 +26,9 @@ enum { STEP = 50, DOMAIN_STEP = 4, BURST = 128, MOST_SILENT = 128, DOMAINS_AT_ON
    many time-outs at most. */
 enum { TRIES = 25, TRY = 2, MOST_TIMEOUTS = 10 };
 
+/* A clock of this project passes a request on to this many boundary hops if nobody gave it another --hops. */
+enum { HOPS_OF_CLOCKS = 8 };
+
 /* In the answers: a tlvType (IEEE 1588-2019, 14.1.1), how many octets two data sets have, and the places of their members (15.5.3). */
 enum { ERROR_TLV = 2, DEFAULT_SIZE = 20, PORT_SIZE = 26, PORT_COUNT_AT = FIELD_AT + 2, FIELD_PORT_AT = FIELD_AT + 8 };
 
@@ -58,6 +61,7 @@ static long sent;                       /* messages that went out */
 static int64_t latest;                  /* when an answer came that is no copy */
 static size_t let_go;                   /* clocks that are asked no more */
 static bool has_no_transport;
+static uint8_t farthest, farthest_switch;   /* past how many boundary clocks any clock answered, and one with two ports or more */
 static const struct seen_clock *expected;
 static size_t expected_count;
 
@@ -118,6 +122,12 @@ static uint64_t sum_of_answer(const uint8_t *message, size_t size) {
     return sum_of(sum_of(sum, interface, strlen(interface) + 1), message + ACTION_AT, size - ACTION_AT);
 }
 
+/* An answer starts with as many boundary hops as its request used (15.3.3). */
+static void note_distance(uint8_t hops, uint16_t port_count) {
+    if (hops > farthest) farthest = hops;
+    if (port_count > 1 && hops > farthest_switch) farthest_switch = hops;
+}
+
 /* Records an answer that the library accepted, and prints it unless it is a copy. Octets may follow the message. */
 static void take_answer(const struct request *request, const uint8_t *message) {
     size_t size = two_octets(message + LENGTH_AT);
@@ -135,6 +145,7 @@ static void take_answer(const struct request *request, const uint8_t *message) {
         bool is_own = memcmp(message + FIELD_AT, answer.clock, 8) == 0;
         answer.port = is_own ? (uint16_t)two_octets(message + FIELD_PORT_AT) : 0;       /* 0 is no port, and none is answered */
     }
+    note_distance(message[STARTING_HOPS_AT], answer.port_count);
     enum seen seen = see_answer(&answer);
     if (seen == SEEN_BEFORE || seen == NO_PLACE) return;
     latest = milliseconds();
@@ -337,6 +348,16 @@ static void advise_on_sdo(const struct domains *domains) {
     }
 }
 
+/* Clocks lower the hops of what they pass on, and no answer shows it. So clocks past the last one may be there, and were not asked. */
+static void tell_lowered_hops(const struct task *task) {
+    static bool is_told;
+    bool is_at_limit = farthest == HOPS_OF_CLOCKS && farthest_switch == HOPS_OF_CLOCKS && task->settings.hops > HOPS_OF_CLOCKS;
+    if (is_told || !is_at_limit) return;
+    is_told = true;
+    complain("clocks answer past %d boundary clocks, and none past more: some may not be asked, since a ptpm-clock passes on no further "
+             "without --hops", HOPS_OF_CLOCKS);
+}
+
 static int end_of_collection(const struct task *task, const struct domains *domains) {
     clear_progress();
     if (unseen_answers() > 0) {
@@ -348,6 +369,7 @@ static int end_of_collection(const struct task *task, const struct domains *doma
     else if (sent == 0 && !stopped) complain("nothing was sent: no message is taken at %s", transport_name());
     if (has_no_transport || (sent == 0 && !stopped)) return NOT_ASKED;
     if (stopped) return BY_SIGNAL + stopped;
+    tell_lowered_hops(task);
     if (seen_count() > 0) return ANSWERED;
     complain("no answer at %s in %s to %ld message%s", transport_name(), domains_text(domains), sent, sent == 1 ? "" : "s");
     tell_missing_addresses();
@@ -389,6 +411,7 @@ static void begin(const struct collected *what, FILE *to) {
     sent = 0;
     let_go = 0;
     has_no_transport = false;
+    farthest = farthest_switch = 0;
 }
 
 /* Asks once in each domain of an sdoId. */
