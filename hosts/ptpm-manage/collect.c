@@ -1,6 +1,7 @@
 #include "collect.h"
 #include "asking.h"
 #include "heard.h"
+#include "late.h"
 #include "lines.h"
 #include "message_places.h"
 #include "monotonic.h"
@@ -97,6 +98,7 @@ static bool start_request(const struct task *task, struct domain domain, unsigne
         return false;
     }
     write_sdo(request->message, domain.sdo);
+    ask_as(request->message + SOURCE_AT);
     request->number = number;
     request->domain = domain;
     request->id = id;
@@ -177,8 +179,11 @@ static void hear_until(int64_t end) {
     size_t size;
     for (const uint8_t *datagram; (datagram = receive_message(&size, end)) != NULL;) {
         struct request *request = asked_under(datagram, size);
-        if (request == NULL) keep_heard(datagram, size);
-        if (request == NULL) continue;
+        if (request == NULL) {
+            keep_heard(datagram, size);
+            note_late(datagram, size);
+            continue;
+        }
         uint32_t became = judge(request, datagram, size);
         switch (became) {
         case PTPM_TAKEN:
@@ -370,6 +375,7 @@ static int end_of_collection(const struct task *task, const struct domains *doma
     if (has_no_transport || (sent == 0 && !stopped)) return NOT_ASKED;
     if (stopped) return BY_SIGNAL + stopped;
     tell_lowered_hops(task);
+    tell_late(task);
     if (seen_count() > 0) return ANSWERED;
     complain("no answer at %s in %s to %ld message%s", transport_name(), domains_text(domains), sent, sent == 1 ? "" : "s");
     tell_missing_addresses();

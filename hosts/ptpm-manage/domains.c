@@ -2,6 +2,7 @@
 #include "domains.h"
 #include "collect.h"
 #include "heard.h"
+#include "late.h"
 #include "monotonic.h"
 #include "notices.h"
 #include "transport.h"
@@ -68,6 +69,7 @@ void listen_for_domains(struct domains *domains, const struct task *task, int64_
     receive_every_type(true);
     for (const uint8_t *datagram; (datagram = receive_message(&size, end)) != NULL;) {
         if (keep_heard(datagram, size)) take_heard(domains, &task->site, domain_of(datagram));
+        else note_late(datagram, size);
     }
     receive_every_type(false);
 }
