@@ -147,6 +147,7 @@ static void take_answer(const struct request *request, const uint8_t *message) {
         bool is_own = memcmp(message + FIELD_AT, answer.clock, 8) == 0;
         answer.port = is_own ? (uint16_t)two_octets(message + FIELD_PORT_AT) : 0;       /* 0 is no port, and none is answered */
     }
+    note_way();
     note_distance(message[STARTING_HOPS_AT], answer.port_count);
     enum seen seen = see_answer(&answer);
     if (seen == SEEN_BEFORE || seen == NO_PLACE) return;
@@ -376,6 +377,7 @@ static int end_of_collection(const struct task *task, const struct domains *doma
     if (stopped) return BY_SIGNAL + stopped;
     tell_lowered_hops(task);
     tell_late(task);
+    if (seen_count() > 0) tell_silent_ways();
     if (seen_count() > 0) return ANSWERED;
     complain("no answer at %s in %s to %ld message%s", transport_name(), domains_text(domains), sent, sent == 1 ? "" : "s");
     tell_missing_addresses();
@@ -418,6 +420,7 @@ static void begin(const struct collected *what, FILE *to) {
     let_go = 0;
     has_no_transport = false;
     farthest = farthest_switch = 0;
+    forget_ways();
 }
 
 /* Asks once in each domain of an sdoId. */

@@ -291,7 +291,11 @@ static int print_form(FILE *to, const struct look *look, const struct look *earl
     name_gone(look, earlier);
     int status = run_site_program(&options, form, lines, 2, &shown);
     forget_clock_names(own_names);
-    if (shown.size > 0) fwrite(shown.text, 1, shown.size, to);
+    const char *silent = form == AS_PLUGIN && status == 0 ? silent_way() : NULL;
+    if (silent != NULL) {
+        fprintf(to, "PTP UNKNOWN - no clock answered at %s\n", silent);
+        status = NOT_ANSWERED;
+    } else if (shown.size > 0) fwrite(shown.text, 1, shown.size, to);
     free_report(&shown);
     return status > FINDINGS || form == AS_NUMBERS || form == AS_PLUGIN ? status : look->status;
 }
@@ -396,6 +400,7 @@ int show_status(const struct task *task) {
     find_domains(&domains, task);
     look_until_decided(&look, task, &domains);
     int status = stopped ? BY_SIGNAL + stopped : print_look(&look, NULL, task);
+    if (status == 0 && task->site.form != AS_NUMBERS && silent_way() != NULL) status = NOT_ANSWERED;
     bool is_asked = status != NOT_ASKED || task->site.form == AS_PLUGIN;
     if (!stopped && task->site.watch > 0 && is_asked) status = watch(&look, task, &domains);
     free_look(&look);

@@ -29,7 +29,14 @@
 /* A socket, and over UDP or Ethernet its interface, with the index of that one, and its address on Ethernet. Over UDP the socket
    hears what comes to the group, and another one, -1 elsewhere, asks, and hears what is answered by unicast. A third one hears event
    messages, as long as they are wanted, and is -1 otherwise. */
-struct end { int socket, asking, events; bool has_sent; const char *interface; unsigned index; uint8_t station[STATION]; };
+struct end {
+    int socket, asking, events;
+    bool has_sent, has_answer, is_told;         /* the latest message went out there; an answer came; that none came was said */
+    int failure;                                /* why the latest message did not go out, or 0 */
+    const char *interface;
+    unsigned index;
+    uint8_t station[STATION];
+};
 
 static struct sockaddr_storage clock_address;
 static socklen_t clock_size;
@@ -43,6 +50,7 @@ static char name[MOST_INTERFACES * (IFNAMSIZ + 2) + sizeof ((struct sockaddr_un 
 static bool is_six, is_ethernet, is_any_source;
 static bool has_link_group;     /* over Ethernet clocks of 802.1AS are heard too */
 static bool is_to_one;          /* messages go to one address, and not to a group */
+static bool has_several_ways;   /* several interfaces were named, or one and a Unix socket */
 
 enum { ROOM_FOR_MANY = 4 << 20, SOCKETS_OF_END = 3, MOST_WAITS = SOCKETS_OF_END * MOST_INTERFACES + 2 };
 
@@ -231,6 +239,7 @@ void open_transport(const struct task *task) {
     if (task->path != NULL) ends[0] = (struct end){ .socket = open_beside(task->path), .asking = -1, .events = -1 };
     for (size_t i = 0; i < end_count && task->path == NULL; i++) open_at_interface(&ends[i]);
     if (task->path == NULL && !is_ethernet) copies = open_copies(is_six);
+    has_several_ways = end_count > 1 || task->own_socket != NULL;
     if (task->own_socket != NULL && !ask_own_clock(task->own_socket)) refuse("nothing was sent: %s: no clock is there", task->own_socket);
 }
 
@@ -340,6 +349,7 @@ enum sending send_message(const uint8_t *octets, size_t size) {
     enum sending sending = NO_TRANSPORT;
     for (size_t i = 0; i < end_count; i++) {
         ends[i].has_sent = (is_ethernet ? send_frame(&ends[i], octets, size) : send_datagram(&ends[i], octets, size)) >= 0;
+        ends[i].failure = ends[i].has_sent ? 0 : errno;
         if (ends[i].has_sent) sending = OUT;
         else if (sending == NO_TRANSPORT && (errno == EAGAIN || errno == EWOULDBLOCK || errno == ENOBUFS)) sending = NO_ROOM;
     }
@@ -458,6 +468,44 @@ bool came_from_asked(void) {
 }
 
 const char *came_in_at(void) { return latest_end == NULL ? NULL : latest_end->interface; }
+
+/* Of several ways that were named the interfaces in turn, and after them the Unix socket; NULL after the last. */
+static struct end *end_in_turn(size_t place) {
+    if (!has_several_ways) return NULL;
+    if (place < end_count && ends[place].interface != NULL) return &ends[place];
+    return place == end_count && own_clock.socket >= 0 ? &own_clock : NULL;
+}
+
+static const char *end_name(const struct end *end) { return end == &own_clock ? own_clock_address.sun_path : end->interface; }
+
+void forget_ways(void) {
+    struct end *end;
+    for (size_t i = 0; (end = end_in_turn(i)) != NULL; i++) end->has_answer = false;
+}
+
+void note_way(void) {
+    struct end *end;
+    for (size_t i = 0; (end = end_in_turn(i)) != NULL; i++) end->has_answer |= latest_end == end;
+}
+
+const char *silent_way(void) {
+    const struct end *end;
+    for (size_t i = 0; (end = end_in_turn(i)) != NULL; i++) {
+        if (!end->has_answer) return end_name(end);
+    }
+    return NULL;
+}
+
+void tell_silent_ways(void) {
+    struct end *end;
+    for (size_t i = 0; (end = end_in_turn(i)) != NULL; i++) {
+        const char *why = end->failure == 0 ? "" : strerror(end->failure);
+        if (!end->has_answer && !end->is_told) {
+            complain("no clock answered at %s%s%s", end_name(end), *why == '\0' ? "" : ": nothing was sent: ", why);
+        }
+        end->is_told = !end->has_answer;
+    }
+}
 
 static const char *station_text(const struct sockaddr_ll *sender) {
     static char text[3 * STATION];

@@ -61,6 +61,15 @@ const uint8_t *receive_message(size_t *size, int64_t end);
 const char *sender_text(void);
 const char *came_in_at(void);
 
+/* If several interfaces were named, or one and a Unix socket: from now on no answer came at any of them. Then the message that came in last
+   is one. And the first of them at which none came; NULL if there is none. */
+void forget_ways(void);
+void note_way(void);
+const char *silent_way(void);
+
+/* Says at which of them no answer came, though one did the time before. */
+void tell_silent_ways(void);
+
 /* Whether the clocks of one address are asked, by --udp, and not a group. */
 bool asks_one_address(void);
 
