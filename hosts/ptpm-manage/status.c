@@ -8,6 +8,7 @@
 #include "monotonic.h"
 #include "notices.h"
 #include "output_file.h"
+#include "page.h"
 #include "ptpm_program.h"
 #include "report.h"
 #include "seen.h"
@@ -30,7 +31,7 @@
 #define OWN_CLOCK "/var/run/ptp4l"
 
 /* What is open is looked at again as often, and as long as this, in milliseconds. */
-enum { BETWEEN_OPEN = 2000, MOST_OPEN = 30000, TIME_TEXT = 32 };
+enum { BETWEEN_OPEN = 2000, MOST_OPEN = 30000, TIME_TEXT = 32, NOTICE_TEXT = 160 };
 
 /* If this many looks each have what the one before lacks, the site is never at rest. */
 enum { MOST_MOMENTARY = 4 };
@@ -280,6 +281,23 @@ static void name_gone(const struct look *look, const struct look *earlier) {
     }
 }
 
+/* Prints a page, with the interface or the socket at which no clock answered, if there is one. */
+static void print_page(FILE *to, const char *page) {
+    char notice[NOTICE_TEXT];
+    const char *silent = silent_way();
+    snprintf(notice, sizeof notice, "No clock answered at %s.", silent == NULL ? "" : silent);
+    write_page(to, page, silent == NULL ? NULL : notice);
+}
+
+/* Prints the page of the look before, and that this one failed. */
+static void print_page_again(FILE *to) {
+    char notice[NOTICE_TEXT];
+    time_t now = time(NULL);
+    struct tm parts;
+    strftime(notice, sizeof notice, "The look at %F %T UTC failed. What follows was seen before it.", gmtime_r(&now, &parts));
+    write_page_again(to, notice);
+}
+
 /* Has the lines of a look shown in the form that was asked for, after those of an earlier one; the status. That of numbers and of a plugin is
    the program's own. */
 static int print_form(FILE *to, const struct look *look, const struct look *earlier, const struct task *task) {
@@ -291,10 +309,11 @@ static int print_form(FILE *to, const struct look *look, const struct look *earl
     name_gone(look, earlier);
     int status = run_site_program(&options, form, lines, 2, &shown);
     forget_clock_names(own_names);
-    const char *silent = form == AS_PLUGIN && status == 0 ? silent_way() : NULL;
-    if (silent != NULL) {
-        fprintf(to, "PTP UNKNOWN - no clock answered at %s\n", silent);
+    if (form == AS_PLUGIN && status == 0 && silent_way() != NULL) {
+        fprintf(to, "PTP UNKNOWN - no clock answered at %s\n", silent_way());
         status = NOT_ANSWERED;
+    } else if (form == AS_PAGE && shown.size > 0) {
+        print_page(to, shown.text);
     } else if (shown.size > 0) fwrite(shown.text, 1, shown.size, to);
     free_report(&shown);
     return status > FINDINGS || form == AS_NUMBERS || form == AS_PLUGIN ? status : look->status;
@@ -307,6 +326,10 @@ static int print_look_to(FILE *to, const struct look *look, const struct look *e
     if (task->site.form == AS_PLUGIN) {
         fputs("PTP UNKNOWN - the site could not be shown\n", to);
         return NOT_ANSWERED;
+    }
+    if (task->site.form == AS_PAGE && to != stdout) {
+        print_page_again(to);
+        return look->status;
     }
     print_report_text(to, &look->report, to == stdout && is_coloured());
     return look->status;
@@ -323,11 +346,13 @@ static int write_look(const struct look *look, const struct look *earlier, const
     return status;
 }
 
-/* Prints it, which was judged after an earlier one if there is one; the status. If nothing is to be shown, a file stays as it was, except
-   that of a plugin: there the site would be well for good. */
+/* Whether a file has to say that a look failed: on a plugin's or a page the site would be well for good. */
+static bool tells_failures(const struct task *task) { return task->site.form == AS_PLUGIN || task->site.form == AS_PAGE; }
+
+/* Prints it, which was judged after an earlier one if there is one; the status. If nothing is to be shown, most files stay as they were. */
 static int print_look(const struct look *look, const struct look *earlier, const struct task *task) {
     clear_progress();
-    bool is_shown = is_whole(look) || task->site.form == AS_PLUGIN;
+    bool is_shown = is_whole(look) || tells_failures(task);
     if (task->site.output != NULL) return is_shown ? write_look(look, earlier, task) : look->status;
     return print_look_to(stdout, look, earlier, task);
 }
@@ -379,7 +404,7 @@ static int watch(struct look *earlier, const struct task *task, struct domains *
         renew_transport();
         look_twice(&look, task, domains, earlier);
         if (stopped || !is_whole(&look)) {
-            if (!stopped && task->site.form == AS_PLUGIN) print_look(&look, NULL, task);
+            if (!stopped && tells_failures(task)) print_look(&look, NULL, task);
             free_look(&look);
             continue;
         }
