@@ -87,18 +87,33 @@ static int end_with(struct journal *journal, enum ending ending, long step) {
     return end_journal(journal, ending, step) ? ANSWERED : NOT_WRITTEN;
 }
 
+/* The name of a member, then its value if it was read, and the one that is wanted, if there are these. It is to be freed. */
+static char *describe_member(const struct step *step, const struct answer *answer, const struct value *wanted) {
+    char *text = NULL;
+    size_t size;
+    FILE *to = open_memstream(&text, &size);
+    if (to == NULL) give_up("a notice");
+    write_member_name(to, step);
+    if (answer != NULL) {
+        fputs(" is ", to);
+        if (answer->outcome == PTPM_VALUE) write_value(to, step->id, answer->octets, answer->size);
+        else fputs("refused", to);
+    }
+    if (wanted != NULL) {
+        fputs(", and not ", to);
+        write_value(to, step->id, wanted->octets, wanted->size);
+    }
+    if (fclose(to)) give_up("a notice");
+    return text;
+}
+
 /* ---- progress */
 
 /* Shows which step is at work, whose member it is, and since when. */
 static void show_one(const char *what, long place, size_t count, const struct step *step) {
-    char *member = NULL, since[16];
-    size_t size;
+    char *member = describe_member(step, NULL, NULL), since[16];
     time_t now = time(NULL);
     struct tm parts;
-    FILE *to = open_memstream(&member, &size);
-    if (to == NULL) give_up("the progress");
-    write_member_name(to, step);
-    if (fclose(to)) give_up("the progress");
     strftime(since, sizeof since, "%H:%M:%S", gmtime_r(&now, &parts));
     head_progress("%s %ld of %zu, %s, since %s UTC", what, place + 1, count, member, since);
     free(member);
@@ -126,17 +141,7 @@ static bool has(const struct answer *answer, const struct step *step, const stru
 
 /* Says after a lead that a member has another value than is wanted. */
 static void say_value(const char *lead, const struct step *step, const struct answer *answer, const struct value *wanted) {
-    char *text = NULL;
-    size_t size;
-    FILE *to = open_memstream(&text, &size);
-    if (to == NULL) give_up("a notice");
-    write_member_name(to, step);
-    fputs(" is ", to);
-    if (answer->outcome == PTPM_VALUE) write_value(to, step->id, answer->octets, answer->size);
-    else fputs("refused", to);
-    fputs(", and not ", to);
-    write_value(to, step->id, wanted->octets, wanted->size);
-    if (fclose(to)) give_up("a notice");
+    char *text = describe_member(step, answer, wanted);
     complain("%s: %s", lead, text);
     free(text);
 }
@@ -171,15 +176,8 @@ static uint8_t domain_at_begin(const struct journal *journal, const struct step 
 }
 
 /* Says that a step is not needed. */
-static void say_needless(const struct step *step) {
-    char *text = NULL;
-    size_t size;
-    FILE *to = open_memstream(&text, &size);
-    if (to == NULL) give_up("a notice");
-    write_member_name(to, step);
-    fputs(" is ", to);
-    write_value(to, step->id, step->after.octets, step->after.size);
-    if (fclose(to)) give_up("a notice");
+static void say_needless(const struct step *step, const struct answer *answer) {
+    char *text = describe_member(step, answer, NULL);
     complain("%s already", text);
     free(text);
 }
@@ -195,7 +193,7 @@ int leave_needed_steps(const struct task *task, struct journal *back) {
         int status = read_moved(task, &step, domain_at_begin(back, &step), &answer);
         if (status != ANSWERED) return status;
         bool is_needless = has(&answer, &step, &step.after);
-        if (is_needless) say_needless(&step);
+        if (is_needless) say_needless(&step, &answer);
         else back->steps[back->count++] = step;
         if (is_needless || has(&answer, &step, &step.before)) continue;
         say_changed(&step, &answer, &step.before);
