@@ -14,20 +14,18 @@ static size_t row_count;
 static void take_row(const char *line) {
     struct finding_row row;
     char course[32];
-    int looks;
-    if (row_count == MOST_ROWS || sscanf(line, "%31s %*s %d %31s", row.name, &looks, course) != 3) return;
-    row.is_passing = looks > 1;
+    if (row_count == MOST_ROWS || sscanf(line, "%31s %*s %*s %31s", row.name, course) != 2) return;
     row.is_moving = strncmp(course, "moving", strlen("moving")) == 0;
     row.is_over_time = strstr(course, "over_time") != NULL;
     row.is_change = strcmp(course, "change") == 0;
     rows[row_count++] = row;
 }
 
-/* Ends the program if there is none: which findings are only momentary is then unknown. */
+/* Ends the program if there is none: which findings go on is then unknown. */
 static void read_finding_table(void) {
     char *arguments[] = { NULL, (char *)"findings", NULL };
     struct printed printed;
-    int status = run_ptpm_program(arguments, NULL, 0, &printed);
+    int status = run_ptpm_program(arguments, &(struct given){ 0 }, &printed);
     char *line = status == 0 ? strtok(printed.text, "\n") : NULL;
     for (; line != NULL; line = strtok(NULL, "\n")) take_row(line);
     free(printed.text);

@@ -5,9 +5,8 @@
 #include "report.h"
 #include <stdbool.h>
 
-/* A finding that is passing may be there for a moment, while a change goes through a site: two looks must have it. That which is moving has
-   other values each time, more than one look shows what is over time, and a change is there once. */
-struct finding_row { char name[32]; bool is_passing, is_moving, is_over_time, is_change; };
+/* A finding that is moving has other values each time, more than one look shows what is over time, and a change is there once. */
+struct finding_row { char name[32]; bool is_moving, is_over_time, is_change; };
 
 /* The row of a name; that of one that the table lacks is nothing of these. The first call reads the table, and ends the program with status 2
    if there is none. */

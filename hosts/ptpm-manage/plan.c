@@ -21,7 +21,7 @@ enum { MOST_ARGUMENTS = 5, STEP_WORDS = 8 };
 /* Runs `ptpm plan` over these lines; its status. */
 static int run_plan(const struct task *task, const char *form, const struct piece *lines, struct printed *printed) {
     char *arguments[MOST_ARGUMENTS] = { NULL, (char *)"plan", (char *)form, (char *)task->plan.word, NULL };
-    return run_ptpm_program(arguments, lines, lines == NULL ? 0 : 1, printed);
+    return run_ptpm_program(arguments, &(struct given){ .lines = lines, .count = lines != NULL }, printed);
 }
 
 /* ---- what is asked */

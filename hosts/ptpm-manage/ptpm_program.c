@@ -15,7 +15,7 @@
 #include <sys/wait.h>
 #include <unistd.h>
 
-enum { PART = 65536, TURN = 1000, FAULT = 1 };
+enum { PART = 65536, TURN = 1000, FAULT = 1, BESIDE = 3 };
 
 static char ptpm_program[2 * PATH_MAX];
 
@@ -56,8 +56,11 @@ static int file_of(const struct piece *lines, size_t count) {
     return opened;
 }
 
-/* Starts it with a standard input and output; whether it is started. */
-static bool start_program(pid_t *process, char *const *arguments, int from, int to) {
+/* What it is started with: its standard input and output, and a file beside, or -1. */
+struct ends { int from, to, beside; };
+
+/* Starts it; whether it is started. */
+static bool start_program(pid_t *process, char *const *arguments, const struct ends *ends) {
     posix_spawn_file_actions_t files;
     posix_spawnattr_t attributes;
     sigset_t none, usual;
@@ -65,8 +68,9 @@ static bool start_program(pid_t *process, char *const *arguments, int from, int 
     sigemptyset(&usual);
     sigaddset(&usual, SIGPIPE);
     if (posix_spawn_file_actions_init(&files) != 0 || posix_spawnattr_init(&attributes) != 0) return false;
-    errno = posix_spawn_file_actions_adddup2(&files, from, STDIN_FILENO);
-    if (errno == 0) errno = posix_spawn_file_actions_adddup2(&files, to, STDOUT_FILENO);
+    errno = posix_spawn_file_actions_adddup2(&files, ends->from, STDIN_FILENO);
+    if (errno == 0) errno = posix_spawn_file_actions_adddup2(&files, ends->to, STDOUT_FILENO);
+    if (errno == 0 && ends->beside >= 0) errno = posix_spawn_file_actions_adddup2(&files, ends->beside, BESIDE);
     if (errno != 0) return false;               /* and without them it would read what this program reads */
     posix_spawnattr_setsigmask(&attributes, &none);
     posix_spawnattr_setsigdefault(&attributes, &usual);
@@ -107,23 +111,38 @@ static int status_of(pid_t process) {
     return FAULT;
 }
 
-int run_ptpm_program(char **arguments, const struct piece *lines, size_t count, struct printed *printed) {
-    int ends[2], status = FAULT, input = file_of(lines, count);
+/* Closes an end, if it is open. */
+static void close_end(int *end) {
+    if (*end >= 0) close(*end);
+    *end = -1;
+}
+
+/* Opens what the program is started with, and a pipe from which its output is read; whether there is room for all. */
+static bool open_ends(struct ends *ends, int *output, const struct given *given) {
+    int both[2];
+    ends->from = file_of(given->lines, given->count);
+    if (given->beside != NULL) ends->beside = file_of(given->beside, given->count);
+    if (ends->from < 0 || (given->beside != NULL && ends->beside < 0) || pipe2(both, O_CLOEXEC)) return false;
+    *output = both[0];
+    ends->to = both[1];
+    return true;
+}
+
+int run_ptpm_program(char **arguments, const struct given *given, struct printed *printed) {
+    struct ends ends = { -1, -1, -1 };
+    int output = -1, status = FAULT;
     pid_t process;
     *printed = (struct printed){ 0 };
     arguments[0] = ptpm_program;
-    if (input < 0 || pipe2(ends, O_CLOEXEC)) {
-        complain("%s: %s", ptpm_program, strerror(errno));
-        return FAULT;
-    }
-    bool has_started = start_program(&process, arguments, input, ends[1]);
+    bool has_started = open_ends(&ends, &output, given) && start_program(&process, arguments, &ends);
     if (!has_started) complain("%s: %s", ptpm_program, strerror(errno));
-    close(input);
-    close(ends[1]);
+    close_end(&ends.from);
+    close_end(&ends.to);
+    close_end(&ends.beside);
     if (has_started) {
-        read_all(ends[0], printed);
+        read_all(output, printed);
         status = status_of(process);
     }
-    close(ends[0]);
+    close_end(&output);
     return status;
 }

@@ -11,8 +11,12 @@ struct printed { char *text; size_t size; };
 /* Finds the program: beside this one, or else in the PATH. Ends the program with status 2 if it is nowhere. */
 void find_ptpm_program(void);
 
-/* Has it read these lines. Its words are `arguments`, whose first is left for its path, and whose last is NULL. Its status, or 1 if it did
-   not end normally, which is said. */
-int run_ptpm_program(char **arguments, const struct piece *lines, size_t count, struct printed *printed);
+/* What it is given to read, in as many parts each: lines on standard input, and others in a file of this name, if they are not NULL. */
+#define FILE_BESIDE "/proc/self/fd/3"
+struct given { const struct piece *lines, *beside; size_t count; };
+
+/* Has it read this. Its words are `arguments`, whose first is left for its path, and whose last is NULL. Its status, or 1 if it did not end
+   normally, which is said. */
+int run_ptpm_program(char **arguments, const struct given *given, struct printed *printed);
 
 #endif

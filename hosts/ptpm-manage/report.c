@@ -37,20 +37,6 @@ static const char *end_of_line(const char *at, const char *end) {
     return found == NULL ? end : found + 1;
 }
 
-/* The sum of the numbers in `; so too: changed 33, steps 2`. */
-static size_t sum_of_followers(const char *at, const char *end) {
-    size_t sum = 0, number = 0;
-    for (; at < end; at++) {
-        bool is_digit = isdigit((unsigned char)*at) && (number > 0 || at[-1] == ' ');
-        if (is_digit) number = 10 * number + (size_t)(*at - '0');
-        if (!is_digit || at + 1 == end) {
-            sum += number;
-            number = 0;
-        }
-    }
-    return sum;
-}
-
 static const char *after_string(const char *at, const char *end) {
     for (at++; at < end && *at != '"'; at++) {
         if (*at == '\\' && at + 1 < end) at++;
@@ -68,8 +54,8 @@ static bool is_value(const char *line, const char *quoted) {
     return false;
 }
 
-/* What follows from a finding is counted after its words, before the description. */
-static void read_followers(struct finding *finding) {
+/* What follows from a finding is named after its words, before the description. */
+static void part_line(struct finding *finding) {
     static const char so_too[] = "; so too: ", quoted[] = " \"";
     const char *at = finding->whole.at, *end = at + finding->whole.size, *values = at;
     const char *description = memmem(at, finding->whole.size, quoted, sizeof quoted - 1);
@@ -79,7 +65,6 @@ static void read_followers(struct finding *finding) {
     }
     if (description == NULL) description = end;
     const char *last = memmem(values, (size_t)(description - values), so_too, sizeof so_too - 1);
-    if (last != NULL) finding->followers = sum_of_followers(last + sizeof so_too - 1, description);
     finding->words = (struct piece){ at, (size_t)((last == NULL ? description : last) - at) };
     finding->description = (struct piece){ description, (size_t)(end - description) };
     finding->more = (struct piece){ end, 0 };
@@ -108,16 +93,8 @@ static bool read_line(struct finding *finding, const char *at, const char *end) 
     }
     finding->key[SDO_PART] = (struct piece){ next, 0 };
     read_own_line(finding);
-    read_followers(finding);
+    part_line(finding);
     return true;
-}
-
-/* `findings: 1, and 2 that follow`, or without these. */
-static void read_heading(struct report *report, const char *numbers) {
-    static const char between[] = ", and ";
-    char *end;
-    report->said = strtoul(numbers, &end, 10);
-    if (strncmp(end, between, sizeof between - 1) == 0) report->followers = strtoul(end + sizeof between - 1, NULL, 10);
 }
 
 static void read_text(struct report *report) {
@@ -127,7 +104,6 @@ static void read_text(struct report *report) {
     if (at == end) return;
     report->has_findings = true;
     report->head.size = (size_t)(at - report->text);
-    read_heading(report, at + sizeof heading - 1);
     report->heading = (struct piece){ at, (size_t)(end_of_line(at, end) - at) };
     at = end_of_line(at, end);
     for (const char *next; at < end; at = next) {
@@ -246,7 +222,23 @@ static void read_json(struct report *report) {
     report->tail = (struct piece){ at, (size_t)(end - at) };
 }
 
+/* Takes the line out that says how many findings are momentary: the other forms have none. */
+static void take_momentary(struct report *report) {
+    static const char text[] = "momentary: ", member[] = "\"momentary\":";
+    char *end = report->text + report->size;
+    for (char *at = report->text, *next; at < end; at = next) {
+        next = (char *)end_of_line(at, end);
+        size_t size = strncmp(at, text, sizeof text - 1) == 0 ? sizeof text - 1 : strncmp(at, member, sizeof member - 1) == 0 ? sizeof member - 1 : 0;
+        if (size == 0) continue;
+        report->momentary = strtoul(at + size, NULL, 10);
+        memmove(at, next, (size_t)(end - next) + 1);
+        report->size -= (size_t)(next - at);
+        return;
+    }
+}
+
 void read_report(struct report *report) {
+    if (report->size > 0) take_momentary(report);
     report->head = (struct piece){ report->text, report->size };
     if (report->size == 0) return;
     const char *first = after_spaces(report->text, report->text + report->size);
@@ -282,14 +274,6 @@ static int by_key(const void *one, const void *other) {
     return order;
 }
 
-static int by_line(const void *one, const void *other) {
-    const struct line *first = &(*(const struct finding *const *)one)->line, *second = &(*(const struct finding *const *)other)->line;
-    int order = (first->number > second->number) - (first->number < second->number);
-    if (order == 0) order = (first->sdo > second->sdo) - (first->sdo < second->sdo);
-    if (order == 0) order = compare_pieces(&first->clock, &second->clock);
-    return order != 0 ? order : compare_pieces(&first->name, &second->name);
-}
-
 /* What follows from it may be another number each time, and the clock may get another description. */
 static int by_text(const void *one, const void *other) {
     const struct finding *first = *(const struct finding *const *)one, *second = *(const struct finding *const *)other;
@@ -297,14 +281,12 @@ static int by_text(const void *one, const void *other) {
     return order != 0 ? order : compare_pieces(&first->more, &second->more);
 }
 
-/* Findings of a report in an order: all, or those that are not left out. */
+/* Findings of a report in an order. */
 struct sorted { const struct finding **at; size_t count; int (*order)(const void *, const void *); };
 
-static struct sorted sort_findings(const struct report *report, int (*order)(const void *, const void *), bool is_of_all) {
+static struct sorted sort_findings(const struct report *report, int (*order)(const void *, const void *)) {
     struct sorted sorted = { calloc(report->count + 1, sizeof *sorted.at), 0, order };
-    for (size_t i = 0; i < report->count && sorted.at != NULL; i++) {
-        if (is_of_all || !report->findings[i].is_left_out) sorted.at[sorted.count++] = &report->findings[i];
-    }
+    for (size_t i = 0; i < report->count && sorted.at != NULL; i++) sorted.at[sorted.count++] = &report->findings[i];
     if (sorted.count > 0) qsort(sorted.at, sorted.count, sizeof *sorted.at, order);
     return sorted;
 }
@@ -346,56 +328,6 @@ bool is_over_time(const struct report *report) {
         if (row_of(&report->findings[i])->is_over_time) return true;
     }
     return has_open(report);
-}
-
-bool has_passing_finding(const struct report *report, const struct report *earlier) {
-    struct sorted keys = earlier == NULL ? (struct sorted){ 0 } : sort_findings(earlier, by_key, true);
-    bool has_one = false;
-    for (size_t i = 0; i < report->count && !has_one; i++) {
-        has_one = row_of(&report->findings[i])->is_passing && !has_finding(&keys, &report->findings[i]);
-    }
-    free(keys.at);
-    return has_one;
-}
-
-void leave_out_passing(struct report *report, const struct report *earlier) {
-    struct sorted keys = sort_findings(earlier, by_key, true);
-    for (size_t i = 0; i < report->count && keys.at != NULL; i++) {
-        struct finding *finding = &report->findings[i];
-        finding->is_left_out = row_of(finding)->is_passing && !has_finding(&keys, finding);
-    }
-    free(keys.at);
-}
-
-void leave_none_out(struct report *report) {
-    for (size_t i = 0; i < report->count; i++) report->findings[i].is_left_out = false;
-}
-
-bool has_doubtful_line(const struct report *report, const struct report *earlier) {
-    for (size_t i = 0; i < report->count; i++) {
-        const struct finding *finding = &report->findings[i];
-        if (finding->is_left_out && (finding->followers > 0 || earlier->followers > 0)) return true;
-    }
-    return false;
-}
-
-/* Leaves of them what follows from another. */
-static void leave_effects(struct sorted *sorted) {
-    size_t count = 0;
-    for (size_t i = 0; i < sorted->count; i++) {
-        if (sorted->at[i]->has_cause) sorted->at[count++] = sorted->at[i];
-    }
-    sorted->count = count;
-}
-
-void keep_lines(struct report *report, const struct report *objects) {
-    struct sorted left = sort_findings(objects, by_line, false);
-    if (report == objects) leave_effects(&left);
-    for (size_t i = 0; i < report->count; i++) {
-        struct finding *finding = &report->findings[i];
-        if (finding->is_left_out && !finding->has_cause && has_finding(&left, finding)) finding->is_left_out = false;
-    }
-    free(left.at);
 }
 
 /* What `ptpm site` says of a clock that is gone has no description, since nothing that it answered counts any more. */
@@ -502,43 +434,19 @@ void describe_gone(struct report *report, const struct report *earlier) {
     }
 }
 
-size_t findings_left(const struct report *report) {
-    size_t left = 0;
-    for (size_t i = 0; i < report->count; i++) left += !report->findings[i].is_left_out;
-    return left;
-}
-
 /* Prints a piece of a report, in which no description moves anything on a terminal. */
 static void print_piece(FILE *to, const struct report *report, const struct piece *piece) {
     if (report->is_json) print_json(to, piece->at, piece->size);
     else print_lines(to, piece->at, piece->size);
 }
 
-/* How many lines there are, and how many more findings follow from theirs, without those that are left out. If each that follows has a
-   line too, nobody knows which these are: then all lines are counted. */
-static void print_heading(FILE *to, const struct report *report) {
-    size_t left = findings_left(report), followers = report->said == report->count ? report->followers : 0;
-    if (left == report->count) {
-        print_piece(to, report, &report->heading);
-        return;
-    }
-    for (size_t i = 0; i < report->count; i++) {
-        const struct finding *finding = &report->findings[i];
-        if (finding->is_left_out) followers -= finding->followers < followers ? finding->followers : followers;
-    }
-    if (left == 0) fprintf(to, "findings: none\n");
-    else if (followers == 0) fprintf(to, "findings: %zu\n", left);
-    else fprintf(to, "findings: %zu, and %zu that follow\n", left, followers);
-}
-
 void print_report_text(FILE *to, const struct report *report, bool is_coloured) {
     const char *between = "\n";
     print_piece(to, report, &report->head);
     if (!report->has_findings) return;
-    if (!report->is_json) print_heading(to, report);
+    print_piece(to, report, &report->heading);
     for (size_t i = 0; i < report->count; i++) {
         const struct finding *finding = &report->findings[i];
-        if (finding->is_left_out) continue;
         if (report->is_json) fputs(between, to);
         if (is_coloured && !report->is_json) fputs(red, to);
         print_piece(to, report, &finding->whole);
@@ -582,12 +490,12 @@ static void print_change(FILE *to, const char *lead, char sign, const struct fin
    other ones each time. Of those that report a change it prints none that went. */
 static void print_lacking(FILE *to, const char *lead, char sign, const struct report *report, const struct report *other,
                           const char *colour) {
-    struct sorted keys = sort_findings(other, by_key, false), texts = sort_findings(other, by_text, false);
+    struct sorted keys = sort_findings(other, by_key), texts = sort_findings(other, by_text);
     for (size_t i = 0; i < report->count; i++) {
         const struct finding *finding = &report->findings[i];
         const struct sorted *same = row_of(finding)->is_moving ? &keys : &texts;
         bool is_in_other = has_finding(same, finding) || (row_of(finding)->is_change && sign == '-');
-        if (finding->is_left_out || finding->has_cause || is_in_other) continue;
+        if (finding->has_cause || is_in_other) continue;
         if (report->is_json) print_event(to, lead, sign, finding);
         else print_change(to, lead, sign, finding, colour);
     }

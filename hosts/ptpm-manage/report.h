@@ -9,8 +9,7 @@
 /* A piece of a report. */
 struct piece { const char *at; size_t size; };
 
-/* A finding: all of it; its domain, its clock and its name, which together are its key; and whether it is left out. A line of text says
-   how many others follow from it: `words` come before that, and the clock's description after it. An object of JSON has the description
+/* A finding: all of it; its domain, its clock and its name, which together are its key. A line of text says how many others follow from it: `words` come before that, and the clock's description after it. An object of JSON has the description
    between `words` and `more`. One may have a cause there, from which it follows. There the domain's sdoId is a part of its own, which is
    empty in a text. `line` is the line that a text has for it. */
 enum { DOMAIN_PART, CLOCK_PART, NAME_PART, TEXT_PARTS, SDO_PART = TEXT_PARTS, KEY_PARTS };
@@ -18,20 +17,20 @@ struct line { unsigned long number, sdo; struct piece clock, name; };
 struct finding {
     struct piece whole, key[KEY_PARTS], words, description, more;
     struct line line;
-    size_t followers;
-    bool has_cause, is_left_out;
+    bool has_cause;
     char *own;
 };
 
 /* A report. Its findings are between `head` and `tail`. If it has no place for findings, `head` is all of it. A text has a heading between
-   `head` and them: how many there are, and how many more follow from them. What a finding has `own` is no part of `text`. */
+   `head` and them. What a finding has `own` is no part of `text`. Beside the findings there may be some that are momentary, which it
+   leaves out. */
 struct report {
     char *text;
     size_t size;
     bool is_json, has_findings;
     struct piece head, heading, tail;
     struct finding *findings;
-    size_t count, said, followers;
+    size_t count, momentary;
 };
 
 /* Finds the findings in a report's text. */
@@ -43,28 +42,11 @@ void free_report(struct report *report);
 /* Whether a report has a finding of this name. */
 bool has_finding_named(const struct report *report, const char *name);
 
-/* Whether a report has a finding that may be only momentary, and whose key is not in an earlier one, if there is one. While a change
-   goes through a site its clocks do not agree. */
-bool has_passing_finding(const struct report *report, const struct report *earlier);
-
 /* Whether something is open that only time decides, or was found so. A later look shows it only beside the earlier ones. */
 bool is_over_time(const struct report *report);
 
 /* Whether something is open that only time decides. */
 bool has_open(const struct report *report);
-
-/* Leaves out of a report each such finding whose key is not in an earlier one. */
-void leave_out_passing(struct report *report, const struct report *earlier);
-
-/* Has each finding printed, also those that were left out. */
-void leave_none_out(struct report *report);
-
-/* Whether a line of a text was left out, and something followed from it, or from another one in the earlier report. */
-bool has_doubtful_line(const struct report *report, const struct report *earlier);
-
-/* Keeps of the lines that were left out those of the findings that are left in JSON, of the same look. Of the objects of JSON it keeps those
-   from which one that is left follows. */
-void keep_lines(struct report *report, const struct report *objects);
 
 /* The next finding of a clock that is gone, from this place on; NULL if there is none. */
 const struct finding *next_gone(const struct report *report, size_t *place);
@@ -72,10 +54,7 @@ const struct finding *next_gone(const struct report *report, size_t *place);
 /* Adds to each finding of a clock that is gone the description that the clock had in an earlier report. */
 void describe_gone(struct report *report, const struct report *earlier);
 
-/* How many findings are not left out. */
-size_t findings_left(const struct report *report);
-
-/* Prints it without what is left out, its findings in colour if that is wanted. */
+/* Prints it, its findings in colour if that is wanted. */
 void print_report_text(FILE *to, const struct report *report, bool is_coloured);
 
 /* Prints the findings that came since an earlier report, and those that went, but none that follows from another. Each is a line after

@@ -5,7 +5,7 @@
 #include <stdlib.h>
 
 /* The words of its command line, without those of names. */
-enum { MOST_ARGUMENTS = 23 };
+enum { MOST_ARGUMENTS = 25 };
 
 /* Adds an option with its value, if it was given; how many arguments there are then. */
 static size_t add_option(char **arguments, size_t count, const char *name, const char *value) {
@@ -15,7 +15,7 @@ static size_t add_option(char **arguments, size_t count, const char *name, const
     return count + 2;
 }
 
-static void name_arguments(char **arguments, const struct site_options *options, enum shown_as as) {
+static void name_arguments(char **arguments, const struct site_options *options, enum shown_as as, bool is_beside) {
     static const char *const forms[] = { NULL, "--json", "--draw", "--html", "--openmetrics", "--nagios" };
     size_t count = 1;
     arguments[count++] = (char *)"site";
@@ -29,17 +29,19 @@ static void name_arguments(char **arguments, const struct site_options *options,
     count = add_option(arguments, count, "--ignore", options->ignored);
     count = add_option(arguments, count, "--ignore", options->is_without_changes ? "changed,grandmaster_changed" : NULL);
     count = add_option(arguments, count, "--ignore", options->is_of_one_address ? "grandmaster_not_seen,parent_not_seen" : NULL);
+    count = add_option(arguments, count, "--before", is_beside ? FILE_BESIDE : NULL);
     if (options->is_all) arguments[count++] = (char *)"--all";
     for (size_t i = 0; i < clock_name_count(); i++) count = add_option(arguments, count, "--name", clock_name(i));
     arguments[count] = NULL;
 }
 
-int run_site_program(const struct site_options *options, enum shown_as as, const struct piece *lines, size_t count, struct report *report) {
+int run_site_program(const struct site_options *options, enum shown_as as, const struct shown_lines *lines, struct report *report) {
     char **arguments = calloc(MOST_ARGUMENTS + 2 * clock_name_count(), sizeof *arguments);
     struct printed printed;
     if (arguments == NULL) give_up("the names");
-    name_arguments(arguments, options, as);
-    int status = run_ptpm_program(arguments, lines, count, &printed);
+    name_arguments(arguments, options, as, lines->is_beside);
+    const struct given given = { lines->now, lines->is_beside ? lines->before : NULL, LINE_PARTS };
+    int status = run_ptpm_program(arguments, &given, &printed);
     free(arguments);
     *report = (struct report){ .text = printed.text, .size = printed.size };
     read_report(report);

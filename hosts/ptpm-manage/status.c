@@ -34,7 +34,7 @@
 enum { BETWEEN_OPEN = 2000, MOST_OPEN = 30000, TIME_TEXT = 32, NOTICE_TEXT = 160 };
 
 /* If this many looks each have what the one before lacks, the site is never at rest. */
-enum { MOST_MOMENTARY = 4 };
+enum { MOST_UNLIKE = 4 };
 
 /* The times of an earlier look are set too if the clock of this host was set by more than these nanoseconds. */
 enum { LEAST_STEP = 100000000 };
@@ -42,9 +42,9 @@ enum { LEAST_STEP = 100000000 };
 /* `ptpm site` found something, or failed, or it lacks the answers. */
 enum { FINDINGS = 1 };
 
-/* A look at the site: the answers as lines, and what they show. */
+/* A look at the site: the answers as lines, those of the look that was made just before it for it, if there is one, and what they show. */
 struct look {
-    struct lines lines;
+    struct lines lines, first;
     struct report report;
     int status;
 };
@@ -53,9 +53,16 @@ struct look {
 static struct seen_clock clocks_before[2 * MOST_CLOCKS];
 static size_t count_before;
 
-static void free_look(struct look *look) {
+/* The look has no answers of its own then. */
+static void forget_answers(struct look *look) {
     free(look->lines.at);
+    look->lines = (struct lines){ NULL, 0 };
     free_report(&look->report);
+}
+
+static void free_look(struct look *look) {
+    forget_answers(look);
+    free(look->first.at);
     *look = (struct look){ 0 };
 }
 
@@ -80,6 +87,18 @@ static struct piece lines_of(const struct look *look) {
     return look == NULL ? (struct piece){ NULL, 0 } : (struct piece){ look->lines.at, look->lines.size };
 }
 
+/* The lines by which a look is judged: its own, after those of an earlier look if there is one. What may be momentary counts if the look
+   before has it too: the first of the two that were made, or else that earlier one. */
+static struct shown_lines lines_beside(const struct look *look, const struct look *earlier) {
+    const struct piece first = { look->first.at, look->first.size };
+    return (struct shown_lines){ { lines_of(earlier), lines_of(look) }, { lines_of(earlier), first }, true };
+}
+
+/* The same, where each finding counts. */
+static struct shown_lines lines_alone(const struct look *look, const struct look *earlier) {
+    return (struct shown_lines){ { lines_of(earlier), lines_of(look) }, { { NULL, 0 }, { NULL, 0 } }, false };
+}
+
 /* Before a watch begins nobody asks what has changed. */
 static bool is_watching;
 
@@ -99,14 +118,23 @@ static void try_options(const struct task *task) {
     if (options.inventory != NULL && stat(options.inventory, &found) == 0 && !S_ISREG(found.st_mode)) {
         refuse("--expect %s: it is read at each look, so it has to be a file, and no pipe", options.inventory);
     }
-    int status = run_site_program(&options, AS_TEXT, NULL, 0, &dropped);
+    int status = run_site_program(&options, AS_TEXT, &(struct shown_lines){ 0 }, &dropped);
     free_report(&dropped);
     if (status == NOT_ASKED) refuse("nothing was asked: ptpm site refuses these options");
 }
 
-/* Collects, and has it shown after the lines of an earlier look, if there is one; the status. */
+/* Has a look shown after the lines of an earlier one, if there is one; the status. */
+static int show_look(struct look *look, const struct task *task, const struct look *earlier, bool is_beside) {
+    const struct shown_lines lines = is_beside ? lines_beside(look, earlier) : lines_alone(look, earlier);
+    const struct site_options options = as_looked_at(task);
+    free_report(&look->report);
+    look->status = run_site_program(&options, task->is_json ? AS_JSON : AS_TEXT, &lines, &look->report);
+    if (earlier != NULL) describe_gone(&look->report, &earlier->report);
+    return look->status;
+}
+
+/* Collects, and has it shown; the status. */
 static int look_once(struct look *look, const struct task *task, const struct domains *domains, struct look *earlier) {
-    *look = (struct look){ 0 };
     int64_t step = take_time();
     if (earlier != NULL) leave_out_single(&earlier->lines);
     if (earlier != NULL && llabs(step) > LEAST_STEP) shift_lines(&earlier->lines.at, &earlier->lines.size, step);
@@ -119,12 +147,7 @@ static int look_once(struct look *look, const struct task *task, const struct do
         return look->status = FINDINGS;
     }
     if (look->status != ANSWERED && look->status != NOT_ANSWERED) return look->status;
-    const struct piece parts[2] = { lines_of(earlier), lines_of(look) };
-    enum shown_as as = task->is_json ? AS_JSON : AS_TEXT;
-    const struct site_options options = as_looked_at(task);
-    look->status = run_site_program(&options, as, parts, 2, &look->report);
-    if (earlier != NULL) describe_gone(&look->report, &earlier->report);
-    return look->status;
+    return show_look(look, task, earlier, !task->site.is_once);
 }
 
 /* Looks at the site. If others name a clock of this host, it looks again, also at the socket of the ptp4l here. As long as a clock may have
@@ -133,13 +156,13 @@ static int look_at_site(struct look *look, const struct task *task, const struct
     look_once(look, task, domains, earlier);
     if (hops < task->settings.hops) hops = task->settings.hops;
     if (!stopped && has_finding_named(&look->report, "own_host") && may_write_beside(OWN_CLOCK) && ask_own_clock(OWN_CLOCK)) {
-        free_look(look);
+        forget_answers(look);
         look_once(look, task, domains, earlier);
     }
     while (!stopped && !task->site.is_as_far_as_named && hops < UINT8_MAX && has_finding_named(&look->report, "out_of_reach")) {
         hops = (uint8_t)(hops < UINT8_MAX / 2 ? 2 * hops + 1 : UINT8_MAX);
         show_progress("a clock is at the last of the boundary hops; a look with %d", hops);
-        free_look(look);
+        forget_answers(look);
         look_once(look, task, domains, earlier);
     }
     return look->status;
@@ -169,48 +192,21 @@ static void expect_more_clocks(void) {
     expect_clocks(clocks_before, count);
 }
 
-/* A look, and the earlier one after whose lines it was judged, if there was one. */
-struct judged { struct look *look; const struct look *after; };
-
-/* What a look found as JSON. There each finding is an object, also one that follows from another. */
-static void read_objects(struct report *objects, const struct judged *judged, const struct task *task) {
-    const struct piece parts[2] = { lines_of(judged->after), lines_of(judged->look) };
-    const struct site_options options = as_looked_at(task);
-    run_site_program(&options, AS_JSON, parts, 2, objects);
-}
-
-/* Leaves out of a look what may be momentary and is not in the one before. In a text the line of a cause stands for what follows from it.
-   That may have another cause in each look: a clock that is not heard is not `mute`. */
-static void leave_out_momentary(const struct judged *latest, const struct judged *before, const struct task *task) {
-    struct report *report = &latest->look->report, objects, objects_before;
-    leave_out_passing(report, &before->look->report);
-    if (task->is_json) keep_lines(report, report);
-    if (task->is_json || task->site.is_all || !has_doubtful_line(report, &before->look->report)) return;
-    read_objects(&objects, latest, task);
-    read_objects(&objects_before, before, task);
-    if (objects.is_json && objects_before.is_json) {
-        leave_out_passing(&objects, &objects_before);
-        keep_lines(report, &objects);
-    }
-    free_report(&objects);
-    free_report(&objects_before);
-}
-
 /* Looks at the site. If a change may be on its way through it, which the look before did not show, it looks a second time. Then of
-   such findings only those are left that both looks have. */
+   such findings only those are left that both looks have. If no clock answers, a second look would show no more. */
 static void look_twice(struct look *look, const struct task *task, struct domains *domains, struct look *earlier) {
+    *look = (struct look){ 0 };
     look_at_site(look, task, domains, earlier);
-    if (stopped || task->site.is_once || look->status != FINDINGS) return;
-    if (!has_passing_finding(&look->report, earlier == NULL ? NULL : &earlier->report)) return;
-    struct look second;
+    if (look->status == NOT_ANSWERED) show_look(look, task, earlier, false);
+    if (stopped || look->report.momentary == 0) return;
+    struct look second = { .first = look->lines };
     int64_t wait = change_time(&look->lines);
-    show_progress("findings: %zu; a second look in %d s", look->report.count, (int)(wait / 1000));
+    show_progress("findings: %zu; a second look in %d s", look->report.count + look->report.momentary, (int)(wait / 1000));
     listen_for_domains(domains, task, wait);
     if (stopped) return;
     expect_more_clocks();
+    look->lines = (struct lines){ NULL, 0 };
     look_at_site(&second, task, domains, earlier);
-    leave_out_momentary(&(struct judged){ &second, earlier }, &(struct judged){ look, earlier }, task);
-    if (second.status == FINDINGS && second.report.has_findings && findings_left(&second.report) == 0) second.status = 0;
     free_look(look);
     *look = second;
 }
@@ -222,32 +218,28 @@ static void follow_look(struct look *earlier, struct look *look, bool is_over_ti
     *earlier = *look;
 }
 
-static bool has_momentary(const struct look *look) { return findings_left(&look->report) < look->report.count; }
-
 /* Whether another look is to decide: on what is open, or on a finding that only the latest look has. */
-static bool is_undecided(const struct look *look, int64_t end, int momentary) {
-    return (has_open(&look->report) && milliseconds() < end) || (0 < momentary && momentary < MOST_MOMENTARY);
+static bool is_undecided(const struct look *look, int64_t end, int unlike) {
+    return (has_open(&look->report) && milliseconds() < end) || (0 < unlike && unlike < MOST_UNLIKE);
 }
 
 /* Looks at the site, and then again and again while something is undecided, over the lines of all these looks. */
 static void look_until_decided(struct look *look, const struct task *task, struct domains *domains) {
     int64_t end = milliseconds() + MOST_OPEN;
     look_twice(look, task, domains, NULL);
-    int momentary = has_momentary(look);
-    while (!stopped && !task->site.is_once && is_undecided(look, end, momentary)) {
-        struct look next;
-        int64_t wait = momentary > 0 ? change_time(&look->lines) : BETWEEN_OPEN;
+    int unlike = look->report.momentary > 0;
+    while (!stopped && !task->site.is_once && is_undecided(look, end, unlike)) {
+        struct look next = { 0 };
+        int64_t wait = unlike > 0 ? change_time(&look->lines) : BETWEEN_OPEN;
         show_progress("not all is decided; another look in %d s", (int)(wait / 1000));
         listen_for_domains(domains, task, wait);
         if (stopped) return;
         keep_clocks();
         look_at_site(&next, task, domains, look);
-        leave_out_momentary(&(struct judged){ &next, look }, &(struct judged){ look, NULL }, task);
         follow_look(look, &next, true);
-        momentary = has_momentary(look) ? momentary + 1 : 0;
+        unlike = look->report.momentary > 0 ? unlike + 1 : 0;
     }
-    if (momentary >= MOST_MOMENTARY) leave_none_out(&look->report);
-    if (look->status == FINDINGS && look->report.has_findings && findings_left(&look->report) == 0) look->status = 0;
+    if (unlike >= MOST_UNLIKE) show_look(look, task, NULL, false);
 }
 
 /* Whether colour is wanted: on a terminal, unless the environment says that it is not. */
@@ -302,12 +294,12 @@ static void print_page_again(FILE *to) {
    the program's own. */
 static int print_form(FILE *to, const struct look *look, const struct look *earlier, const struct task *task) {
     struct report shown;
-    const struct piece lines[2] = { lines_of(earlier), lines_of(look) };
+    const struct shown_lines lines = earlier == NULL ? lines_alone(look, NULL) : lines_beside(look, earlier);
     const struct site_options options = as_looked_at(task);
     enum shown_as form = options.form;
     size_t own_names = clock_name_count();
     name_gone(look, earlier);
-    int status = run_site_program(&options, form, lines, 2, &shown);
+    int status = run_site_program(&options, form, &lines, &shown);
     forget_clock_names(own_names);
     if (form == AS_PLUGIN && status == 0 && silent_way() != NULL) {
         fprintf(to, "PTP UNKNOWN - no clock answered at %s\n", silent_way());
@@ -410,7 +402,7 @@ static int watch(struct look *earlier, const struct task *task, struct domains *
         }
         print_difference(&look, earlier, task);
         keep_clocks();
-        follow_look(earlier, &look, is_over_time(&look.report));
+        follow_look(earlier, &look, look.report.momentary > 0 || is_over_time(&look.report));
     }
     return stopped ? BY_SIGNAL + stopped : NOT_WRITTEN;
 }

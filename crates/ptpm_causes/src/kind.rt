@@ -2,6 +2,7 @@
 
 ghost use Rattle.std.specs.Prelude.{◌≡◌};
 ghost use Rattle.ptpm_causes.specs.Kinds.{absence_kind, degradation_kind, kind_of, rank};
+ghost use Rattle.ptpm_causes.specs.Momentary.{is_sure};
 
 use ptpm_site::finding::What;
 use ptpm_site::leading::Degradation;
@@ -100,18 +101,9 @@ pub struct KindRow {
     /// The name, which scripts read.
     pub name: &'static str,
     pub severity: Severity,
-    /// How many looks after each other must have it. One that is there for a moment, while a change goes through a site, needs two.
+    /// How many looks after each other must have it: two, unless one look shows it.
     pub looks: u8,
     pub course: Course,
-}
-
-fn row(name: &'static str, severity: Severity, looks: u8, course: Course) -> KindRow {
-    KindRow {
-        name,
-        severity,
-        looks,
-        course,
-    }
 }
 
 impl Kind {
@@ -157,46 +149,79 @@ impl Kind {
 
     /// What programs know of it, which is said nowhere else.
     pub fn row(self) -> KindRow {
+        let (name, severity, course) = self.told();
+        KindRow {
+            name,
+            severity,
+            looks: if self.is_sure() { 1 } else { 2 },
+            course,
+        }
+    }
+
+    /// Whether one look shows it. What is not sure may be there for a moment, while a change goes from clock to clock.
+    pub(crate) fn is_sure(self) -> bool
+        ensures { result ≡ is_sure self }
+    {
+        use Kind::*;
+        matches!(
+            self,
+            OwnHost
+                | Absent
+                | Intervals
+                | PortState
+                | NotLocked
+                | GrandmasterChanged
+                | Changed
+                | NotAsExpected
+                | Unexpected
+                | Leap
+                | Profile
+                | OutOfReach
+                | NotAsked
+        )
+    }
+
+    fn told(self) -> (&'static str, Severity, Course) {
         use Course::{Change, Moving, MovingOverTime, OverTime, Steady};
         use Kind::*;
         use Severity::{Critical, Warning};
         match self {
-            Gone => row("gone", Critical, 2, Steady),
-            OwnHost => row("own_host", Warning, 1, Steady),
-            Mute => row("mute", Warning, 2, Steady),
-            Absent => row("absent", Critical, 1, Steady),
-            IdentityTwice => row("identity_twice", Critical, 2, MovingOverTime),
-            TwoGrandmasters => row("two_grandmasters", Critical, 2, Steady),
-            Holdover => row("gm_holdover", Warning, 2, Steady),
-            Degraded => row("gm_degraded", Critical, 2, Steady),
-            FreeRunning => row("gm_free_running", Warning, 2, Steady),
-            Intervals => row("intervals", Warning, 1, OverTime),
-            PortState => row("port_state", Critical, 1, MovingOverTime),
-            NotLocked => row("not_locked", Critical, 1, MovingOverTime),
-            GrandmasterNotSeen => row("grandmaster_not_seen", Critical, 2, Steady),
-            ParentNotSeen => row("parent_not_seen", Critical, 2, Steady),
-            NoMaster => row("no_master", Critical, 2, Steady),
-            GrandmasterChanged => row("grandmaster_changed", Warning, 1, Change),
-            Changed => row("changed", Warning, 1, Change),
-            Steps => row("steps", Warning, 2, Steady),
-            GrandmasterDiffers => row("grandmaster_differs", Warning, 2, Steady),
-            OffByUtc => row("off_by_utc", Critical, 2, Moving),
-            NotAsExpected => row("not_as_expected", Warning, 1, Steady),
-            Unexpected => row("unexpected", Warning, 1, Steady),
-            ParentNotMaster => row("parent_not_master", Critical, 2, Steady),
-            Loop => row("loop", Critical, 2, Steady),
-            Offset => row("offset", Critical, 2, Moving),
-            Delay => row("delay", Warning, 2, Moving),
-            Utc => row("utc", Warning, 2, Steady),
-            NotTraceable => row("not_traceable", Warning, 2, Steady),
-            UtcInvalid => row("utc_invalid", Warning, 2, Steady),
-            UtcOffset => row("utc_offset", Critical, 2, Steady),
-            Leap => row("leap", Warning, 1, Steady),
-            BetterClock => row("better_clock", Warning, 2, Steady),
-            Profile => row("profile", Warning, 1, Steady),
-            Incomplete => row("incomplete", Warning, 2, Steady),
-            OutOfReach => row("out_of_reach", Warning, 1, Steady),
-            NotAsked => row("not_asked", Warning, 1, Steady),
+            Gone => ("gone", Critical, Steady),
+            OwnHost => ("own_host", Warning, Steady),
+            Mute => ("mute", Warning, Steady),
+            Absent => ("absent", Critical, Steady),
+            IdentityTwice => ("identity_twice", Critical, MovingOverTime),
+            TwoGrandmasters => ("two_grandmasters", Critical, Steady),
+            Holdover => ("gm_holdover", Warning, Steady),
+            Degraded => ("gm_degraded", Critical, Steady),
+            FreeRunning => ("gm_free_running", Warning, Steady),
+            Intervals => ("intervals", Warning, OverTime),
+            PortState => ("port_state", Critical, MovingOverTime),
+            NotLocked => ("not_locked", Critical, MovingOverTime),
+            GrandmasterNotSeen => ("grandmaster_not_seen", Critical, Steady),
+            ParentNotSeen => ("parent_not_seen", Critical, Steady),
+            NoMaster => ("no_master", Critical, Steady),
+            GrandmasterChanged => ("grandmaster_changed", Warning, Change),
+            Changed => ("changed", Warning, Change),
+            Steps => ("steps", Warning, Steady),
+            GrandmasterDiffers => ("grandmaster_differs", Warning, Steady),
+            OffByUtc => ("off_by_utc", Critical, Moving),
+            NotAsExpected => ("not_as_expected", Warning, Steady),
+            Unexpected => ("unexpected", Warning, Steady),
+            ParentNotMaster => ("parent_not_master", Critical, Steady),
+            Loop => ("loop", Critical, Steady),
+            Offset => ("offset", Critical, Moving),
+            Delay => ("delay", Warning, Moving),
+            Utc => ("utc", Warning, Steady),
+            NotTraceable => ("not_traceable", Warning, Steady),
+            UtcInvalid => ("utc_invalid", Warning, Steady),
+            UtcOffset => ("utc_offset", Critical, Steady),
+            Leap => ("leap", Warning, Steady),
+            BetterClock => ("better_clock", Warning, Steady),
+            Profile => ("profile", Warning, Steady),
+            Incomplete => ("incomplete", Warning, Steady),
+            OutOfReach => ("out_of_reach", Warning, Steady),
+            NotAsked => ("not_asked", Warning, Steady),
         }
     }
 

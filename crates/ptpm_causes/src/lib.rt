@@ -7,8 +7,10 @@ mod chains;
 mod found;
 mod kind;
 mod members;
+mod momentary;
 mod reasons;
 
 pub use cause::{Cause, named};
 pub use causes::causes_of;
 pub use kind::{Kind, KindRow, Severity};
+pub use momentary::leave_out_momentary;

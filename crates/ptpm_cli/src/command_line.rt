@@ -156,7 +156,7 @@ static DRAW: [Argument; 2] = [
     ),
 ];
 
-static SITE: [Argument; 15] = [
+static SITE: [Argument; 16] = [
     JSON,
     Argument("draw", Nothing, "Draws the tree, as a picture in SVG"),
     Argument(
@@ -223,6 +223,11 @@ static SITE: [Argument; 15] = [
         "expect",
         Text("FILE"),
         "What is not as the inventory in FILE says is a finding",
+    ),
+    Argument(
+        "before",
+        Text("FILE"),
+        "What may be there only for a moment counts if the lines in FILE, of the look before, show it too",
     ),
 ];
 

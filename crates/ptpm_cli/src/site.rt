@@ -10,11 +10,13 @@ use ptpm_expected::profile::Profile;
 use ptpm_site::limits::Limits;
 use ptpm_site_report::ignored::Ignored;
 use ptpm_site_report::names::Names;
-use ptpm_site_report::{Form, Options, Viewing, report_standing, report_viewed, write_inventory};
+use ptpm_site_report::{
+    Before, Form, Options, Viewing, report_standing, report_viewed, write_inventory,
+};
 use std::alloc::Global;
-use std::io;
 use std::io::{Read, Write};
 use std::rt::Files;
+use std::{fs, io};
 
 /// What `site` is asked for.
 #[derive(Drop)]
@@ -24,6 +26,8 @@ pub(crate) struct SiteWords<'a> {
     pub(crate) profile: Option<Profile>,
     /// The path of an inventory.
     pub(crate) expect: Option<&'a str>,
+    /// The path of the lines of the look before.
+    pub(crate) before: Option<&'a str>,
     pub(crate) ignored: Ignored,
     /// Whether the text has all lines.
     pub(crate) is_all: bool,
@@ -39,7 +43,14 @@ pub(crate) enum Shown {
     Inventory,
 }
 
-/// Shows a site, and answers the exit status. If the inventory is refused that is 2, or 3 of a plugin, with a line on `err`.
+/// What a site is judged by beside its own lines.
+#[derive(Drop)]
+struct Known {
+    inventory: Option<Inventory>,
+    before: Option<Before>,
+}
+
+/// Shows a site, and answers the exit status. If a file that the words name is refused that is 2, or 3 of a plugin, with a line on `err`.
 pub(crate) fn show_site<F: Files, R: Read, O: Write, E: Write>(
     alloc: Global,
     files: &F,
@@ -48,13 +59,23 @@ pub(crate) fn show_site<F: Files, R: Read, O: Write, E: Write>(
     out: &mut O,
     err: &mut E,
 ) -> Result<u8, Fault> {
-    let Some(path) = words.expect else {
-        return show(alloc, words, None, reader, out);
+    let mut known = Known {
+        inventory: None,
+        before: None,
     };
-    match inventory_at(alloc, files, path, err)? {
-        Some(inventory) => show(alloc, words, Some(&inventory), reader, out),
-        None => end_refused(words.shown, out),
+    if let Some(path) = words.expect {
+        known.inventory = inventory_at(alloc, files, path, err)?;
+        if known.inventory.is_none() {
+            return end_refused(words.shown, "the inventory", out);
+        }
     }
+    if let Some(path) = words.before {
+        known.before = look_at(alloc, files, path, err)?;
+        if known.before.is_none() {
+            return end_refused(words.shown, "the look before", out);
+        }
+    }
+    show(alloc, words, &known, reader, out)
 }
 
 /// The inventory at a path. If there is none, `err` has a line that says why.
@@ -82,11 +103,35 @@ fn inventory_at<F: Files, E: Write>(
     }
 }
 
-/// Ends without a site. A plugin says so in its line.
-fn end_refused<O: Write>(shown: Shown, out: &mut O) -> Result<u8, Fault> {
+/// The look whose lines are at a path. If there is none, `err` has a line that says why.
+fn look_at<F: Files, E: Write>(
+    alloc: Global,
+    files: &F,
+    path: &str,
+    err: &mut E,
+) -> Result<Option<Before>, Fault> {
+    let file = match fs::open(files, path) {
+        Ok(file) => file,
+        Err(error) => {
+            let _ = writeln!(err, "{path}: {error}");
+            return Ok(None);
+        }
+    };
+    match Before::read(alloc, file) {
+        Ok(before) => Ok(Some(before)),
+        Err(Fault::OutOfMemory) => Err(Fault::OutOfMemory),
+        Err(fault) => {
+            let _ = writeln!(err, "{path}: {fault}");
+            Ok(None)
+        }
+    }
+}
+
+/// Ends without a site, since a file was refused. A plugin says so in its line.
+fn end_refused<O: Write>(shown: Shown, what: &str, out: &mut O) -> Result<u8, Fault> {
     match shown {
         Shown::ByPlugin(_) => {
-            writeln!(out, "PTP UNKNOWN - the inventory was refused")?;
+            writeln!(out, "PTP UNKNOWN - {what} was refused")?;
             Ok(3)
         }
         _ => Ok(2),
@@ -96,18 +141,19 @@ fn end_refused<O: Write>(shown: Shown, out: &mut O) -> Result<u8, Fault> {
 fn show<R: Read, O: Write>(
     alloc: Global,
     words: &SiteWords<'_>,
-    inventory: Option<&Inventory>,
+    known: &Known,
     reader: &mut R,
     out: &mut O,
 ) -> Result<u8, Fault> {
     let expectations = Expectations {
         profile: words.profile,
-        inventory,
+        inventory: known.inventory.as_ref(),
     };
     let viewing = Viewing {
         names: &words.names,
         ignored: &words.ignored,
         is_all: words.is_all,
+        before: known.before.as_ref(),
     };
     match words.shown {
         Shown::ByPlugin(limits) => {

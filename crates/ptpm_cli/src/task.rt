@@ -226,6 +226,7 @@ fn site_words<'a>(alloc: Global, values: &ArgMatches<'a>) -> Result<SiteWords<'a
         ignored: site_ignored(alloc, values)?,
         profile: site_profile(values)?,
         expect: values.get_str("expect"),
+        before: values.get_str("before"),
         is_all: values.get_flag("all"),
     })
 }

@@ -31,6 +31,9 @@ pub(crate) fn print_object<O: Write>(
     let picture = look.picture;
     print_head(look, out)?;
     print_domains(alloc, look, out)?;
+    if let Some(count) = look.beside.momentary {
+        writeln!(out, "\"momentary\":{count},")?;
+    }
     print_findings(alloc, look, "open", look.open.as_slice(), out)?;
     print_findings(alloc, look, "findings", look.found.as_slice(), out)?;
     let (clocks, ports) = (picture.left_out.clocks, picture.left_out.ports);

@@ -3,6 +3,7 @@
 #![tactic(auto)]
 
 mod asked_domains;
+mod before;
 mod columns;
 mod drawing;
 mod finding_json;
@@ -39,6 +40,7 @@ mod text;
 mod trees;
 mod utc_text;
 
+pub use before::Before;
 pub use finding_table::findings;
 pub use inventory_text::write_inventory;
 pub use nagios::Standing;

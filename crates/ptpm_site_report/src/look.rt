@@ -29,6 +29,8 @@ pub(crate) struct Beside<'a> {
     pub(crate) said: LinesSaid,
     /// Whether what follows from another finding is printed too, and each of many lines that are alike.
     pub(crate) is_all: bool,
+    /// How many findings the look before lacks, and so are left out. `None` if no look before was given.
+    pub(crate) momentary: Option<usize>,
 }
 
 impl Look<'_, '_> {

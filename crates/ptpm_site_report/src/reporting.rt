@@ -5,6 +5,7 @@ ghost use Rattle.ptpm_site.specs.Findings.{findings_of, reported};
 ghost use Rattle.ptpm_site.specs.Site.{site_answers};
 ghost use Rattle.ptpm_site_report.specs.Reporting.{outcome, status};
 
+use crate::before::Before;
 use crate::drawing::draw;
 use crate::ignored::Ignored;
 use crate::json::print_object;
@@ -86,6 +87,8 @@ pub struct Viewing<'a, 'b> {
     pub ignored: &'b Ignored,
     /// Whether the text has what follows from another finding too, and each of many lines that are alike.
     pub is_all: bool,
+    /// The look before. What may be there only for a moment counts if that has it too.
+    pub before: Option<&'b Before>,
 }
 
 /// How a picture is printed.
@@ -117,6 +120,7 @@ pub fn report<R: Read + Drop, O: Write>(
         names: &names,
         said,
         is_all: false,
+        momentary: None,
     };
     report_of(alloc, options.form, limits, beside, &shown, out)
 }
@@ -179,14 +183,21 @@ fn report_in_way<R: Read + Drop, O: Write>(
     out: &mut O,
 ) -> Result<Came, Fault> {
     let SiteLines { shown, said } = read_shown(alloc, reader)?;
-    let limits = limits.at_host(said.is_synchronised);
-    let beside = Beside {
+    let at_host = limits.at_host(said.is_synchronised);
+    let mut beside = Beside {
         names: viewing.names,
         said,
         is_all: viewing.is_all,
+        momentary: None,
     };
-    match judged(alloc, limits, expectations, viewing.ignored, &shown) {
-        Ok(picture) => print_picture(alloc, way, &picture, beside, out),
+    match judged(alloc, at_host, expectations, viewing.ignored, &shown) {
+        Ok(mut picture) => {
+            if let Some(before) = viewing.before {
+                let left_out = before.leave_out(alloc, limits, expectations, &mut picture)?;
+                beside.momentary = Some(left_out);
+            }
+            print_picture(alloc, way, &picture, beside, out)
+        }
         Err(_) => Err(Fault::OutOfMemory),
     }
 }

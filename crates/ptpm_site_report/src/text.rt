@@ -27,12 +27,21 @@ pub(crate) fn print_text<O: Write>(
         writeln!(out, "{}", report.sum)?;
         report.print(look, out)?;
     }
+    print_momentary(look, out)?;
     report.print_open(look, out)?;
     let notes = notes_of(alloc, look.picture)?;
     for note in notes.as_slice() {
         writeln!(out, "{note}")?;
     }
     Ok(())
+}
+
+/// Prints how many findings are left out, since the look before lacks them.
+fn print_momentary<O: Write>(look: &Look<'_, '_>, out: &mut O) -> io::Result<()> {
+    match look.beside.momentary {
+        None | Some(0) => Ok(()),
+        Some(count) => writeln!(out, "momentary: {count}"),
+    }
 }
 
 /// Prints the head of a tree, a line for each clock that leads, and its rows.

@@ -1,0 +1,40 @@
+//! The look before, which says what of a look may be there only for a moment.
+
+use crate::site_lines::{SiteLines, read_shown};
+use ptpm_causes::leave_out_momentary;
+use ptpm_commands::Fault;
+use ptpm_expected::expectations::{Expectations, picture_of};
+use ptpm_site::limits::Limits;
+use ptpm_site::picture::Picture;
+use std::alloc::{AllocError, Global};
+use std::io::Read;
+
+/// The site of the look before.
+#[derive(Drop)]
+pub struct Before {
+    lines: SiteLines,
+}
+
+impl Before {
+    /// The site of a reader's lines.
+    pub fn read<R: Read + Drop>(alloc: Global, reader: R) -> Result<Before, Fault> {
+        let lines = read_shown(alloc, reader)?;
+        Ok(Before { lines })
+    }
+
+    /// Leaves out of a picture the findings that do not count before a second look has them. Answers how many.
+    pub(crate) fn leave_out(
+        &self,
+        alloc: Global,
+        limits: Limits,
+        expectations: Expectations<'_>,
+        picture: &mut Picture<'_>,
+    ) -> Result<usize, AllocError> {
+        let SiteLines { shown, said } = &self.lines;
+        let limits = limits.at_host(said.is_synchronised);
+        let before = picture_of(alloc, &shown.site, shown.left_out, limits, expectations)?;
+        let all = picture.findings.len();
+        leave_out_momentary(alloc, before.findings.as_slice(), &mut picture.findings)?;
+        Ok(all.saturating_sub(picture.findings.len()))
+    }
+}
