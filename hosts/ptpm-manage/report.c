@@ -256,7 +256,6 @@ void read_report(struct report *report) {
 }
 
 void free_report(struct report *report) {
-    for (size_t i = 0; i < report->count; i++) free(report->findings[i].own);
     free(report->text);
     free(report->findings);
     *report = (struct report){ 0 };
@@ -396,110 +395,6 @@ void keep_lines(struct report *report, const struct report *objects) {
         if (finding->is_left_out && !finding->has_cause && has_finding(&left, finding)) finding->is_left_out = false;
     }
     free(left.at);
-}
-
-/* What `ptpm site` says of a clock that is gone has no description, since nothing that it answered counts any more. */
-
-static bool is_gone(const struct finding *finding) { return is_piece(&finding->key[NAME_PART], "gone"); }
-
-const struct finding *next_gone(const struct report *report, size_t *place) {
-    while (*place < report->count) {
-        const struct finding *finding = &report->findings[(*place)++];
-        if (is_gone(finding)) return finding;
-    }
-    return NULL;
-}
-
-static bool is_same_piece(const struct piece *one, const struct piece *other) { return compare_pieces(one, other) == 0; }
-
-/* The description in a line of the tree, in quotes, if it is that of the finding's clock; an empty one otherwise. */
-static struct piece description_in_line(const char *at, const char *end, const struct finding *finding) {
-    const struct piece *clock = &finding->key[CLOCK_PART];
-    at = after_spaces(at, end);
-    if ((size_t)(end - at) <= clock->size || memcmp(at, clock->at, clock->size) != 0) return (struct piece){ end, 0 };
-    at = after_spaces(at + clock->size, end);
-    return (struct piece){ at, at == end || *at != '"' ? 0 : (size_t)(after_string(at, end) - at) };
-}
-
-/* The tree of a domain is below a line `domain DOMAIN: ..`. */
-static struct piece description_in_text(const struct report *report, const struct finding *finding) {
-    static const char lead[] = "domain ";
-    const char *end = report->head.at + report->head.size;
-    bool is_in_domain = false;
-    for (const char *at = report->head.at, *next; at < end; at = next) {
-        next = end_of_line(at, end);
-        const char *colon = strncmp(at, lead, sizeof lead - 1) == 0 ? memchr(at, ':', (size_t)(next - at)) : NULL;
-        const char *domain = at + sizeof lead - 1;
-        if (colon != NULL) is_in_domain = is_same_piece(&(struct piece){ domain, (size_t)(colon - domain) }, &finding->key[DOMAIN_PART]);
-        struct piece found = is_in_domain ? description_in_line(at, next, finding) : (struct piece){ end, 0 };
-        if (found.size > 0) return found;
-    }
-    return (struct piece){ end, 0 };
-}
-
-/* Whether an object has a member with this value. */
-static bool has_value(const struct piece *object, const char *name, const struct piece *value) {
-    struct piece found;
-    return find_member(&found, object->at, object->at + object->size, name) && is_same_piece(&found, value);
-}
-
-/* Without its quotes. */
-static struct piece description_in_clocks(struct piece list, const struct finding *finding) {
-    struct piece clock, answer, found = { list.at, 0 };
-    while (take_object(&list, &clock)) {
-        if (!has_value(&clock, "clockIdentity", &finding->key[CLOCK_PART])) continue;
-        if (!find_member(&answer, clock.at, clock.at + clock.size, "USER_DESCRIPTION")) continue;
-        if (find_member(&found, answer.at, answer.at + answer.size, "userDescription")) break;
-    }
-    return found;
-}
-
-static struct piece description_in_json(const struct report *report, const struct finding *finding) {
-    const char *end = report->text + report->size;
-    struct piece list, domain, clocks, found = { end, 0 };
-    if (!find_list(&list, report->text, end, "domains")) return found;
-    while (found.size == 0 && take_object(&list, &domain)) {
-        if (!has_value(&domain, "domainNumber", &finding->key[DOMAIN_PART])) continue;
-        if (finding->key[SDO_PART].size > 0 && !has_value(&domain, "sdoId", &finding->key[SDO_PART])) continue;
-        if (find_list(&clocks, domain.at, domain.at + domain.size, "clocks")) found = description_in_clocks(clocks, finding);
-    }
-    return found;
-}
-
-/* The description in a finding, as the two above have it. */
-static struct piece own_description(const struct report *report, const struct finding *finding) {
-    size_t space = report->is_json || finding->description.size == 0 ? 0 : 1;
-    return (struct piece){ finding->description.at + space, finding->description.size - space };
-}
-
-/* The description of the finding's clock in a report: in its tree, or in a finding that the clock was gone by then. */
-static struct piece description_in(const struct report *report, const struct finding *finding) {
-    struct piece found = report->is_json ? description_in_json(report, finding) : description_in_text(report, finding);
-    for (size_t i = 0; i < report->count && found.size == 0; i++) {
-        const struct finding *other = &report->findings[i], *one = finding;
-        if (is_gone(other) && by_key(&one, &other) == 0) found = own_description(report, other);
-    }
-    return found;
-}
-
-/* Puts it at the end of a finding, which is then a text of its own. */
-static void add_description(struct finding *finding, const struct piece *description, bool is_json) {
-    int size = (int)finding->whole.size, more = (int)description->size;
-    int whole = is_json ? asprintf(&finding->own, "%.*s,\"userDescription\":\"%.*s\"}", size - 1, finding->whole.at, more, description->at)
-                        : asprintf(&finding->own, "%.*s %.*s", size, finding->whole.at, more, description->at);
-    if (whole < 0) give_up("the findings");
-    finding->whole = (struct piece){ finding->own, (size_t)whole };
-    if (is_json) finding->description = (struct piece){ finding->own + whole - more - 2, (size_t)more };
-    else finding->description = (struct piece){ finding->own + size, (size_t)(whole - size) };
-}
-
-void describe_gone(struct report *report, const struct report *earlier) {
-    for (size_t i = 0; i < report->count; i++) {
-        struct finding *finding = &report->findings[i];
-        if (!is_gone(finding) || own_description(report, finding).size > 0) continue;
-        struct piece found = description_in(earlier, finding);
-        if (found.size > 0) add_description(finding, &found, report->is_json);
-    }
 }
 
 size_t findings_left(const struct report *report) {

@@ -20,11 +20,10 @@ struct finding {
     struct line line;
     size_t followers;
     bool has_cause, is_left_out;
-    char *own;
 };
 
 /* A report. Its findings are between `head` and `tail`. If it has no place for findings, `head` is all of it. A text has a heading between
-   `head` and them: how many there are, and how many more follow from them. What a finding has `own` is no part of `text`. */
+   `head` and them: how many there are, and how many more follow from them. */
 struct report {
     char *text;
     size_t size;
@@ -65,12 +64,6 @@ bool has_doubtful_line(const struct report *report, const struct report *earlier
 /* Keeps of the lines that were left out those of the findings that are left in JSON, of the same look. Of the objects of JSON it keeps those
    from which one that is left follows. */
 void keep_lines(struct report *report, const struct report *objects);
-
-/* The next finding of a clock that is gone, from this place on; NULL if there is none. */
-const struct finding *next_gone(const struct report *report, size_t *place);
-
-/* Adds to each finding of a clock that is gone the description that the clock had in an earlier report. */
-void describe_gone(struct report *report, const struct report *earlier);
 
 /* How many findings are not left out. */
 size_t findings_left(const struct report *report);
