@@ -99,11 +99,7 @@ fn unseen_line(
     Ok(line)
 }
 
-fn silent_line(
-    alloc: Global,
-    look: &Look<'_, '_>,
-    source: Source,
-) -> Result<Line, AllocError> {
+fn silent_line(alloc: Global, look: &Look<'_, '_>, source: Source) -> Result<Line, AllocError> {
     let (clock, name) = (source.clock, Quoted(look.called(source)));
     let name = format!(in alloc; "not seen: {clock}{name}")?;
     let mut line = line_of(alloc, Frame::Dashed, name);

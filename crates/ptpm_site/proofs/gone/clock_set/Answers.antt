@@ -1,5 +1,5 @@
 -- The set has these, and nothing else.
-use Rattle.std.proofs.Common.{◌∙◌, [], ap}
+use Rattle.std.proofs.Common.{◌∙◌, ap}
 use Rattle.std.specs.BTreeSet.{insert_key, keys}
 use Rattle.std.specs.List.{fold}
 use Rattle.ptpm_site.specs.Answers.{source_cmp}
