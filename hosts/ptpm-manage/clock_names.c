@@ -58,15 +58,6 @@ static void take_line(const char *path, size_t number, const char *line) {
     put_name(place, identity, name);
 }
 
-void add_clock_name(const uint8_t identity[8], const char *name) {
-    size_t place = place_of(identity);
-    if (place == count && place < MOST_NAMES && *name != '\0' && is_utf8(name)) put_name(place, identity, name);
-}
-
-void forget_clock_names(size_t left) {
-    for (; count > left; names[count] = NULL) free(names[--count]);
-}
-
 /* Opens a file or a pipe that may be read to its end. */
 static FILE *open_names(const char *path) {
     struct stat found;

@@ -16,10 +16,6 @@ size_t clock_name_count(void);
 /* One of them as `ptpm site --name` takes it: aabbccfffeddee01=NAME. */
 const char *clock_name(size_t place);
 
-/* Gives a clock this name too, unless it has one, or a file could not give it. `forget_clock_names` takes all but the first `left` away. */
-void add_clock_name(const uint8_t identity[8], const char *name);
-void forget_clock_names(size_t left);
-
 /* The clock of a name; whether there is one. Ends the program with status 2 if several clocks have the name. */
 bool find_named_clock(const char *name, uint8_t identity[8]);
 

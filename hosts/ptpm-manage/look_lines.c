@@ -11,9 +11,6 @@
 /* In the dataField of PORT_DATA_SET (IEEE 1588-2019, 15.5.3.7.1): portIdentity, portState, two members more, and logAnnounceInterval. */
 enum { PORT_SIZE = 10, STATE_AT = FIELD_AT + PORT_SIZE, ANNOUNCE_AT = STATE_AT + 10, ANNOUNCE_END };
 
-/* In that of USER_DESCRIPTION (15.5.3.2.1) an octet says how many the text has, which follows. */
-enum { TEXT_AT = FIELD_AT + 1 };
-
 /* In that of CURRENT_DATA_SET (15.5.3.4.1) the first member is stepsRemoved. */
 enum { STEPS_END = FIELD_AT + 2 };
 
@@ -191,24 +188,6 @@ void leave_out_single(struct lines *lines) {
         to += next - at;
     }
     lines->size = (size_t)(to - lines->at);
-}
-
-bool find_description(const struct lines *lines, struct domain domain, const uint8_t identity[8], char text[DESCRIPTION_TEXT]) {
-    const char *end = lines->at + lines->size;
-    bool is_found = false;
-    for (const char *at = lines->at, *next; at < end; at = next) {
-        uint8_t answer[TEXT_AT + DESCRIPTION_TEXT];
-        next = end_of_line(at, end);
-        if (!read_answer_to(PTPM_ID_USER_DESCRIPTION, answer, TEXT_AT, at, next)) continue;
-        if (!is_same_domain(domain_of(answer), domain) || memcmp(answer + SOURCE_AT, identity, 8) != 0) continue;
-        const char *message = message_in_line(at, next);
-        size_t size = answer[FIELD_AT], whole = read_octets(&message, answer, sizeof answer);
-        if (size >= DESCRIPTION_TEXT || whole < TEXT_AT + size) continue;
-        memcpy(text, answer + TEXT_AT, size);
-        text[size] = '\0';
-        is_found = true;
-    }
-    return is_found;
 }
 
 static int64_t interval_of(int8_t log) {

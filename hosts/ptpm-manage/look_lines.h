@@ -19,10 +19,6 @@ void keep_lines_before(struct lines *look, const struct lines *earlier, bool is_
    after it. In a later look it does not. */
 void leave_out_single(struct lines *lines);
 
-/* The userDescription that a clock answered last among these lines, which ends at an octet 0 of it; whether there is one. */
-enum { DESCRIPTION_TEXT = 129 };
-bool find_description(const struct lines *lines, struct domain domain, const uint8_t identity[8], char text[DESCRIPTION_TEXT]);
-
 /* How long a change may take to go through the site, in milliseconds. That is the longest Announce interval times the most steps. */
 int64_t change_time(const struct lines *look);
 

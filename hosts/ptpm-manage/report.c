@@ -70,16 +70,6 @@ static void part_line(struct finding *finding) {
     finding->more = (struct piece){ end, 0 };
 }
 
-/* A domain is `4` or `4@0x100`. */
-static void read_own_line(struct finding *finding) {
-    struct line *line = &finding->line;
-    char *end;
-    line->number = strtoul(finding->key[DOMAIN_PART].at, &end, 10);
-    if (*end == '@') line->sdo = strtoul(end + 1, NULL, 16);
-    line->clock = finding->key[CLOCK_PART];
-    line->name = finding->key[NAME_PART];
-}
-
 static bool read_line(struct finding *finding, const char *at, const char *end) {
     const char *next = at;
     if (at == end || !isdigit((unsigned char)*at)) return false;
@@ -92,7 +82,6 @@ static bool read_line(struct finding *finding, const char *at, const char *end) 
         if (part + 1 < TEXT_PARTS && *next++ != ' ') return false;
     }
     finding->key[SDO_PART] = (struct piece){ next, 0 };
-    read_own_line(finding);
     part_line(finding);
     return true;
 }
@@ -160,19 +149,6 @@ static bool find_member(struct piece *member, const char *at, const char *end, c
     return false;
 }
 
-/* What follows from another finding has its line. A grandmaster that is not seen has one line, however many clocks name it. */
-static void find_line(struct finding *finding, const char *at, const char *end, const struct piece *cause) {
-    struct line *line = &finding->line;
-    line->number = strtoul(finding->key[DOMAIN_PART].at, NULL, 10);
-    if (finding->key[SDO_PART].size > 0) line->sdo = strtoul(finding->key[SDO_PART].at, NULL, 10);
-    line->clock = finding->key[CLOCK_PART];
-    line->name = finding->key[NAME_PART];
-    if (finding->has_cause) {
-        find_member(&line->clock, cause->at, cause->at + cause->size, "clockIdentity");
-        find_member(&line->name, cause->at, cause->at + cause->size, "finding");
-    } else if (is_piece(&line->name, "grandmaster_not_seen")) find_member(&line->clock, at, end, "grandmasterIdentity");
-}
-
 static bool read_object(struct finding *finding, const char *at, const char *end) {
     static const char *const names[TEXT_PARTS] = { "domainNumber", "clockIdentity", "finding" };
     struct piece cause;
@@ -189,7 +165,6 @@ static bool read_object(struct finding *finding, const char *at, const char *end
         if (!find_member(&finding->key[part], at, end, names[part])) return false;
     }
     if (!find_member(&finding->key[SDO_PART], at, end, "sdoId")) finding->key[SDO_PART] = (struct piece){ end, 0 };
-    find_line(finding, at, end, &cause);
     return true;
 }
 
@@ -248,7 +223,6 @@ void read_report(struct report *report) {
 }
 
 void free_report(struct report *report) {
-    for (size_t i = 0; i < report->count; i++) free(report->findings[i].own);
     free(report->text);
     free(report->findings);
     *report = (struct report){ 0 };
@@ -328,110 +302,6 @@ bool is_over_time(const struct report *report) {
         if (row_of(&report->findings[i])->is_over_time) return true;
     }
     return has_open(report);
-}
-
-/* What `ptpm site` says of a clock that is gone has no description, since nothing that it answered counts any more. */
-
-static bool is_gone(const struct finding *finding) { return is_piece(&finding->key[NAME_PART], "gone"); }
-
-const struct finding *next_gone(const struct report *report, size_t *place) {
-    while (*place < report->count) {
-        const struct finding *finding = &report->findings[(*place)++];
-        if (is_gone(finding)) return finding;
-    }
-    return NULL;
-}
-
-static bool is_same_piece(const struct piece *one, const struct piece *other) { return compare_pieces(one, other) == 0; }
-
-/* The description in a line of the tree, in quotes, if it is that of the finding's clock; an empty one otherwise. */
-static struct piece description_in_line(const char *at, const char *end, const struct finding *finding) {
-    const struct piece *clock = &finding->key[CLOCK_PART];
-    at = after_spaces(at, end);
-    if ((size_t)(end - at) <= clock->size || memcmp(at, clock->at, clock->size) != 0) return (struct piece){ end, 0 };
-    at = after_spaces(at + clock->size, end);
-    return (struct piece){ at, at == end || *at != '"' ? 0 : (size_t)(after_string(at, end) - at) };
-}
-
-/* The tree of a domain is below a line `domain DOMAIN: ..`. */
-static struct piece description_in_text(const struct report *report, const struct finding *finding) {
-    static const char lead[] = "domain ";
-    const char *end = report->head.at + report->head.size;
-    bool is_in_domain = false;
-    for (const char *at = report->head.at, *next; at < end; at = next) {
-        next = end_of_line(at, end);
-        const char *colon = strncmp(at, lead, sizeof lead - 1) == 0 ? memchr(at, ':', (size_t)(next - at)) : NULL;
-        const char *domain = at + sizeof lead - 1;
-        if (colon != NULL) is_in_domain = is_same_piece(&(struct piece){ domain, (size_t)(colon - domain) }, &finding->key[DOMAIN_PART]);
-        struct piece found = is_in_domain ? description_in_line(at, next, finding) : (struct piece){ end, 0 };
-        if (found.size > 0) return found;
-    }
-    return (struct piece){ end, 0 };
-}
-
-/* Whether an object has a member with this value. */
-static bool has_value(const struct piece *object, const char *name, const struct piece *value) {
-    struct piece found;
-    return find_member(&found, object->at, object->at + object->size, name) && is_same_piece(&found, value);
-}
-
-/* Without its quotes. */
-static struct piece description_in_clocks(struct piece list, const struct finding *finding) {
-    struct piece clock, answer, found = { list.at, 0 };
-    while (take_object(&list, &clock)) {
-        if (!has_value(&clock, "clockIdentity", &finding->key[CLOCK_PART])) continue;
-        if (!find_member(&answer, clock.at, clock.at + clock.size, "USER_DESCRIPTION")) continue;
-        if (find_member(&found, answer.at, answer.at + answer.size, "userDescription")) break;
-    }
-    return found;
-}
-
-static struct piece description_in_json(const struct report *report, const struct finding *finding) {
-    const char *end = report->text + report->size;
-    struct piece list, domain, clocks, found = { end, 0 };
-    if (!find_list(&list, report->text, end, "domains")) return found;
-    while (found.size == 0 && take_object(&list, &domain)) {
-        if (!has_value(&domain, "domainNumber", &finding->key[DOMAIN_PART])) continue;
-        if (finding->key[SDO_PART].size > 0 && !has_value(&domain, "sdoId", &finding->key[SDO_PART])) continue;
-        if (find_list(&clocks, domain.at, domain.at + domain.size, "clocks")) found = description_in_clocks(clocks, finding);
-    }
-    return found;
-}
-
-/* The description in a finding, as the two above have it. */
-static struct piece own_description(const struct report *report, const struct finding *finding) {
-    size_t space = report->is_json || finding->description.size == 0 ? 0 : 1;
-    return (struct piece){ finding->description.at + space, finding->description.size - space };
-}
-
-/* The description of the finding's clock in a report: in its tree, or in a finding that the clock was gone by then. */
-static struct piece description_in(const struct report *report, const struct finding *finding) {
-    struct piece found = report->is_json ? description_in_json(report, finding) : description_in_text(report, finding);
-    for (size_t i = 0; i < report->count && found.size == 0; i++) {
-        const struct finding *other = &report->findings[i], *one = finding;
-        if (is_gone(other) && by_key(&one, &other) == 0) found = own_description(report, other);
-    }
-    return found;
-}
-
-/* Puts it at the end of a finding, which is then a text of its own. */
-static void add_description(struct finding *finding, const struct piece *description, bool is_json) {
-    int size = (int)finding->whole.size, more = (int)description->size;
-    int whole = is_json ? asprintf(&finding->own, "%.*s,\"userDescription\":\"%.*s\"}", size - 1, finding->whole.at, more, description->at)
-                        : asprintf(&finding->own, "%.*s %.*s", size, finding->whole.at, more, description->at);
-    if (whole < 0) give_up("the findings");
-    finding->whole = (struct piece){ finding->own, (size_t)whole };
-    if (is_json) finding->description = (struct piece){ finding->own + whole - more - 2, (size_t)more };
-    else finding->description = (struct piece){ finding->own + size, (size_t)(whole - size) };
-}
-
-void describe_gone(struct report *report, const struct report *earlier) {
-    for (size_t i = 0; i < report->count; i++) {
-        struct finding *finding = &report->findings[i];
-        if (!is_gone(finding) || own_description(report, finding).size > 0) continue;
-        struct piece found = description_in(earlier, finding);
-        if (found.size > 0) add_description(finding, &found, report->is_json);
-    }
 }
 
 /* Prints a piece of a report, in which no description moves anything on a terminal. */

@@ -9,21 +9,17 @@
 /* A piece of a report. */
 struct piece { const char *at; size_t size; };
 
-/* A finding: all of it; its domain, its clock and its name, which together are its key. A line of text says how many others follow from it: `words` come before that, and the clock's description after it. An object of JSON has the description
-   between `words` and `more`. One may have a cause there, from which it follows. There the domain's sdoId is a part of its own, which is
-   empty in a text. `line` is the line that a text has for it. */
+/* A finding: all of it; its domain, its clock and its name, which together are its key. A line of text says how many others follow from it:
+   `words` come before that, and the clock's description after it. An object of JSON has the description between `words` and `more`. One may
+   have a cause there, from which it follows. There the domain's sdoId is a part of its own, which is empty in a text. */
 enum { DOMAIN_PART, CLOCK_PART, NAME_PART, TEXT_PARTS, SDO_PART = TEXT_PARTS, KEY_PARTS };
-struct line { unsigned long number, sdo; struct piece clock, name; };
 struct finding {
     struct piece whole, key[KEY_PARTS], words, description, more;
-    struct line line;
     bool has_cause;
-    char *own;
 };
 
 /* A report. Its findings are between `head` and `tail`. If it has no place for findings, `head` is all of it. A text has a heading between
-   `head` and them. What a finding has `own` is no part of `text`. Beside the findings there may be some that are momentary, which it
-   leaves out. */
+   `head` and them. It leaves out those that are momentary, and says how many. */
 struct report {
     char *text;
     size_t size;
@@ -47,12 +43,6 @@ bool is_over_time(const struct report *report);
 
 /* Whether something is open that only time decides. */
 bool has_open(const struct report *report);
-
-/* The next finding of a clock that is gone, from this place on; NULL if there is none. */
-const struct finding *next_gone(const struct report *report, size_t *place);
-
-/* Adds to each finding of a clock that is gone the description that the clock had in an earlier report. */
-void describe_gone(struct report *report, const struct report *earlier);
 
 /* Prints it, its findings in colour if that is wanted. */
 void print_report_text(FILE *to, const struct report *report, bool is_coloured);

@@ -1,7 +1,6 @@
 #define _GNU_SOURCE
 #include "status.h"
 #include "asking.h"
-#include "clock_names.h"
 #include "collect.h"
 #include "lines.h"
 #include "look_lines.h"
@@ -129,7 +128,6 @@ static int show_look(struct look *look, const struct task *task, const struct lo
     const struct site_options options = as_looked_at(task);
     free_report(&look->report);
     look->status = run_site_program(&options, task->is_json ? AS_JSON : AS_TEXT, &lines, &look->report);
-    if (earlier != NULL) describe_gone(&look->report, &earlier->report);
     return look->status;
 }
 
@@ -252,27 +250,6 @@ static bool is_coloured(void) {
 /* Whether a look shows the site, which may have no clock by now; otherwise something failed, and that is said. */
 static bool is_whole(const struct look *look) { return look->report.has_findings || look->status == NOT_ANSWERED; }
 
-static bool is_seen_anywhere(const uint8_t identity[8]) {
-    for (size_t i = 0; i < seen_count(); i++) {
-        if (memcmp(seen_clock(i)->identity, identity, 8) == 0) return true;
-    }
-    return false;
-}
-
-/* Only the text and JSON of a watch have the description that a clock had which is gone. In the other forms it is the clock's name. One
-   that answers in another domain gets none: it would be its name there too. */
-static void name_gone(const struct look *look, const struct look *earlier) {
-    const struct finding *gone;
-    for (size_t place = 0; (gone = next_gone(&look->report, &place)) != NULL;) {
-        uint8_t identity[8];
-        char text[DESCRIPTION_TEXT];
-        struct domain domain = { (uint8_t)gone->line.number, (uint16_t)gone->line.sdo };
-        if (!ptpm_identity_parse(gone->line.clock.at, gone->line.clock.size, identity) || is_seen_anywhere(identity)) continue;
-        bool is_found = find_description(&look->lines, domain, identity, text);
-        if (is_found || (earlier != NULL && find_description(&earlier->lines, domain, identity, text))) add_clock_name(identity, text);
-    }
-}
-
 /* Prints a page, with the interface or the socket at which no clock answered, if there is one. */
 static void print_page(FILE *to, const char *page) {
     char notice[NOTICE_TEXT];
@@ -297,10 +274,7 @@ static int print_form(FILE *to, const struct look *look, const struct look *earl
     const struct shown_lines lines = earlier == NULL ? lines_alone(look, NULL) : lines_beside(look, earlier);
     const struct site_options options = as_looked_at(task);
     enum shown_as form = options.form;
-    size_t own_names = clock_name_count();
-    name_gone(look, earlier);
     int status = run_site_program(&options, form, &lines, &shown);
-    forget_clock_names(own_names);
     if (form == AS_PLUGIN && status == 0 && silent_way() != NULL) {
         fprintf(to, "PTP UNKNOWN - no clock answered at %s\n", silent_way());
         status = NOT_ANSWERED;

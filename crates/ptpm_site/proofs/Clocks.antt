@@ -1,6 +1,6 @@
 -- What a map of clocks keeps after one of them got its place, or after an answer of one was added.
 use Rattle.std.proofs.Common.{◌≡◌, ℕ, Bool, true, false, cond, ◌||◌, List, [], ◌++◌, Option, Some, None, append-nil, refl, ap, sym, ◌∙◌}
-use Rattle.std.specs.Prelude.{Vec}
+use Rattle.std.specs.Prelude.{String, Vec}
 use Rattle.std.specs.declared.alloc.Global.{Global}
 use Rattle.std.specs.BTreeMap.{BTreeMap, get, insert_entry, is_at, keys}
 use Rattle.std.proofs.lemmas.Map.Views.{tells_apart}
@@ -82,14 +82,14 @@ tie_cond : {X : Type 0} → (source s : Source) (x y : X) → cond (is_at (sourc
 tie_cond source s x y = ap (λ t. cond t x y) (tied_sources source s)
 
 -- a clock without answers got its place
-pub placed : (heard : Vec Heard Global) (words : Words) (old new : BTreeMap Source Clock) (source : Source) (fresh : Clock)
+pub placed : (heard : Vec Heard Global) (words : Words) (described : BTreeMap Source (String Global)) (old new : BTreeMap Source Clock) (source : Source) (fresh : Clock)
     → HasNoAnswers fresh
     → is_some (get source_cmp old source) ≡ false
     → ((q : Source) → get source_cmp new q ≡ cond (is_at (source_cmp source) q) (Some fresh) (get source_cmp old q))
     → IsSome (get source_cmp new source)
     → new.entries ≡ insert_entry source_cmp old.entries source fresh
-    → Places (record { clocks = old; heard = heard; words = words }) (record { clocks = new; heard = heard; words = words }) source
-placed heard words old new source fresh silent absent updates there entries =
+    → Places (record { clocks = old; heard = heard; words = words; gone_descriptions = described }) (record { clocks = new; heard = heard; words = words; gone_descriptions = described }) source
+placed heard words described old new source fresh silent absent updates there entries =
     let at : Source → Bool = λ s. is_at (source_cmp source) s in
     let gone : (s : Source) → at s ≡ true → get source_cmp old s ≡ None =
     λ s h. moved (λ q. get source_cmp old q) source s None (none_from (get source_cmp old source) absent) h in
@@ -109,9 +109,9 @@ known_or None false h = refl
 known_or (Some x) b h = refl
 
 -- a clock that has its place keeps it
-pub known : (heard : Vec Heard Global) (words : Words) (old : BTreeMap Source Clock) (source : Source) → is_some (get source_cmp old source) ≡ true → IsSome (get source_cmp old source)
-    → Places (record { clocks = old; heard = heard; words = words }) (record { clocks = old; heard = heard; words = words }) source
-known heard words old source there is_there = record {
+pub known : (heard : Vec Heard Global) (words : Words) (described : BTreeMap Source (String Global)) (old : BTreeMap Source Clock) (source : Source) → is_some (get source_cmp old source) ≡ true → IsSome (get source_cmp old source)
+    → Places (record { clocks = old; heard = heard; words = words; gone_descriptions = described }) (record { clocks = old; heard = heard; words = words; gone_descriptions = described }) source
+known heard words described old source there is_there = record {
   clocks = sym (place-known source_cmp old.entries source there);
   there = is_there;
   seen = λ s. known_or (get source_cmp old s) (is_at (source_cmp source) s) (moved (λ q. is_some (get source_cmp old q)) source s true there)
@@ -123,13 +123,13 @@ known heard words old source there is_there = record {
 }
 
 -- an answer of a clock that has its place was added
-pub content_added : (heard : Vec Heard Global) (words : Words) (old new : BTreeMap Source Clock) (source : Source) (request : Request) (at : Option ℕ) (t : AnswerContent) (before after : Clock)
+pub content_added : (heard : Vec Heard Global) (words : Words) (described : BTreeMap Source (String Global)) (old new : BTreeMap Source Clock) (source : Source) (request : Request) (at : Option ℕ) (t : AnswerContent) (before after : Clock)
     → get source_cmp old source ≡ Some before
     → ((q : Source) → get source_cmp new q ≡ cond (is_at (source_cmp source) q) (Some after) (get source_cmp old q))
     → keys new ≡ keys old
     → Grows before after request at t
-    → AddsContent (record { clocks = old; heard = heard; words = words }) (record { clocks = new; heard = heard; words = words }) source request at t
-content_added heard words old new source request at t before after was updates same grows =
+    → AddsContent (record { clocks = old; heard = heard; words = words; gone_descriptions = described }) (record { clocks = new; heard = heard; words = words; gone_descriptions = described }) source request at t
+content_added heard words described old new source request at t before after was updates same grows =
     let at : Source → Bool = λ s. is_at (source_cmp source) s in
     let there : (s : Source) → at s ≡ true → get source_cmp old s ≡ Some before =
     λ s h. moved (λ q. get source_cmp old q) source s (Some before) was h in

@@ -7,6 +7,7 @@ pub mod Circles
 pub mod Clocks
 pub mod Counting
 pub mod DatagramLemmas
+pub mod Describing
 pub mod Dropped
 pub mod Filling
 pub mod Followed

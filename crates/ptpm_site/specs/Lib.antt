@@ -8,6 +8,7 @@ pub mod Changes
 pub mod Completeness
 pub mod Counted
 pub mod Datagrams
+pub mod Descriptions
 pub mod Differences
 pub mod Domains
 pub mod Evidence

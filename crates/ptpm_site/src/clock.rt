@@ -3,10 +3,11 @@
 ghost use Rattle.std.specs.Prelude.{◌≡◌, ◌≤◌, ℕ, ◌==◌, ◌++◌, [], ◌∷◌, OnOk, IsSome, if◌then◌else◌, length, take, option_and_then};
 ghost use Rattle.std.specs.BTreeMap.{get, keys};
 ghost use Rattle.std.specs.List.{list_any};
-ghost use Rattle.std.specs.Option.{option_to_list};
+ghost use Rattle.std.specs.Option.{option_copied, option_to_list};
 ghost use Rattle.std.specs.Ordering.{nat_cmp};
 ghost use Rattle.ptpm_site.specs.Answers.{answer_of_port, answer_to, current_said, default_said, last_of, named_grandmaster, newly_received, parent_said, place, place_number, port_number, port_said, refusal_in, state_said, time_said};
 ghost use Rattle.ptpm_site.specs.declared.asked.Asked.{Asked};
+ghost use Rattle.ptpm_site.specs.Descriptions.{text_said};
 ghost use Rattle.ptpm_site.specs.KeptAnswers.{HasNoAnswers};
 ghost use Rattle.ptpm_site.specs.PortStates.{is_port_of};
 ghost use Rattle.ptpm_site.specs.Site.{answers_for, answers_of_port, answers_to_id, is_among};
@@ -75,6 +76,16 @@ impl Received {
         ensures { result ≡ state_said self.now }
     {
         self.port()?.state()
+    }
+
+    /// The text of a USER_DESCRIPTION.
+    pub fn text(&self) -> Option<&str>
+        ensures { option_copied result ≡ text_said self.now }
+    {
+        match str::from_utf8(self.octets.as_slice()) {
+            Ok(text) => Some(text),
+            Err(_) => None,
+        }
     }
 
     /// The grandmaster that a PARENT_DATA_SET names.
@@ -167,12 +178,6 @@ impl Clock {
         ensures { result ≡ option_and_then port_said (last_of (answers_of_port self.now number)) }
     {
         self.port_answers(number).last()?.port()
-    }
-
-    /// The last userDescription that was answered, if there is one.
-    pub fn description(&self) -> Option<&str> {
-        let last = self.answers_to(Asked::UserDescription).last()?;
-        str::from_utf8(last.octets.as_slice()).ok()
     }
 
     /// Whether a port that answered is in a state of a group.

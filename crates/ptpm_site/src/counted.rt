@@ -9,12 +9,14 @@ ghost use Rattle.ptpm_site.specs.declared.source.Source.{Source};
 ghost use Rattle.ptpm_site.specs.Answers.{source_cmp};
 ghost use Rattle.ptpm_site.specs.Domains.{domain_cmp};
 ghost use Rattle.ptpm_site.specs.Counted.{begun_in, counted, counts, has_begun, if_counts};
+ghost use Rattle.ptpm_site.specs.Descriptions.{description_of, last_description};
 ghost use Rattle.ptpm_site.specs.Gone.{is_gone};
 ghost use Rattle.ptpm_site.specs.Looks.{AreLast};
 
 use crate::clock::Clock;
 use crate::domain::Domain;
-use crate::gone::gone_set;
+use crate::gone::{clock_set, gone_clocks};
+use crate::gone_descriptions::descriptions_of;
 use crate::heard::Heard;
 use crate::looks::{LastLooks, Look};
 use crate::site::Site;
@@ -111,15 +113,18 @@ fn keep_others(clocks: &mut BTreeMap<Source, Clock>, gone: &BTreeSet<Source>)
 }
 
 impl Site {
-    /// Drops what clocks said that are gone, and the messages that they sent before they were asked last. The site knows further
-    /// on that they are gone.
+    /// Drops what clocks said that are gone, except their descriptions, and the messages that they sent before they were asked
+    /// last. The site knows further on that they are gone.
     pub fn drop_gone(&mut self, alloc: Global) -> Result<(), AllocError>
         ensures clocks { OnOk result (self.new.clocks.entries ≡ filter (λ e. not (is_gone self.old.heard.items e.0)) self.old.clocks.entries) }
         ensures heard { OnOk result (self.new.heard.items ≡ counted self.old.heard.items) }
+        ensures descriptions { OnOk result ((s : Source) → description_of self.new s ≡ last_description self.old s) }
     {
         let last = LastLooks::of(alloc, self.heard.as_slice())?;
-        let gone = gone_set(alloc, self.heard.as_slice(), &last)?;
+        let clocks = gone_clocks(alloc, self.heard.as_slice(), &last)?;
+        let gone = clock_set(alloc, clocks.as_slice())?;
         let heard = counted(alloc, self.heard.as_slice(), &last, &gone)?;
+        self.gone_descriptions = descriptions_of(alloc, self, clocks.as_slice())?;
         keep_others(&mut self.clocks, &gone);
         self.heard = heard;
         Ok(())

@@ -2,10 +2,10 @@
 
 ghost use Rattle.std.specs.Prelude.{◌≡◌, IfOk};
 ghost use Rattle.std.specs.BTreeSet.{contains};
-ghost use Rattle.std.specs.List.{filter_map};
+ghost use Rattle.std.specs.List.{filter_map, list_any};
 ghost use Rattle.ptpm_site.specs.declared.answer.Request.{Request};
 ghost use Rattle.ptpm_site.specs.declared.source.Source.{Source};
-ghost use Rattle.ptpm_site.specs.Answers.{source_cmp};
+ghost use Rattle.ptpm_site.specs.Answers.{same_source, source_cmp};
 ghost use Rattle.ptpm_site.specs.Gone.{gone_clocks, gone_in, is_gone, is_present, is_single, present_in, single_in};
 ghost use Rattle.ptpm_site.specs.KeptStatements.{request_cmp};
 ghost use Rattle.ptpm_site.specs.Looks.{AreLast};
@@ -95,6 +95,15 @@ fn present(alloc: Global, heard: &[Heard], last: &LastLooks) -> Result<Vec<Sourc
     Ok(found)
 }
 
+/// These clocks, each once.
+pub fn clock_set(alloc: Global, clocks: &[Source]) -> Result<BTreeSet<Source>, AllocError>
+    ensures { IfOk result (λ set. (s : Source) → contains source_cmp set s ≡ list_any (same_source s) clocks.now) }
+{
+    let mut set = BTreeSet::new(alloc);
+    add_keys(&mut set, clocks)?;
+    Ok(set)
+}
+
 fn present_set(
     alloc: Global,
     heard: &[Heard],
@@ -103,10 +112,8 @@ fn present_set(
     requires { AreLast heard.now last.now }
     ensures { IfOk result (λ set. (s : Source) → contains source_cmp set s ≡ is_present heard.now s) }
 {
-    let mut set = BTreeSet::new(alloc);
     let all = present(alloc, heard, last)?;
-    add_keys(&mut set, all.as_slice())?;
-    Ok(set)
+    clock_set(alloc, all.as_slice())
 }
 
 /// The clock of an answer, if it is gone.
@@ -155,8 +162,6 @@ pub fn gone_set(
     requires { AreLast heard.now last.now }
     ensures { IfOk result (λ set. (s : Source) → contains source_cmp set s ≡ is_gone heard.now s) }
 {
-    let mut set = BTreeSet::new(alloc);
     let all = gone_clocks(alloc, heard, last)?;
-    add_keys(&mut set, all.as_slice())?;
-    Ok(set)
+    clock_set(alloc, all.as_slice())
 }

@@ -24,6 +24,7 @@ pub mod finding;
 mod following;
 pub mod forest;
 pub mod gone;
+mod gone_descriptions;
 pub mod grandmaster_changes;
 pub mod grandmasters;
 pub mod heard;

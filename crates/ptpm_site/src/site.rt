@@ -2,7 +2,9 @@
 
 ghost use Rattle.std.specs.Prelude.{◌≡◌, [], OnOk, IfOk, IsSome};
 ghost use Rattle.std.specs.List.Sorted.{IsStrictlySortedBy};
+ghost use Rattle.std.specs.Option.{option_copied};
 ghost use Rattle.ptpm_site.specs.Answers.{source_cmp};
+ghost use Rattle.ptpm_site.specs.Descriptions.{description_of, last_description};
 ghost use Rattle.ptpm_site.specs.KeptAnswers.{AddsContent, Keeps, Places, Takes};
 ghost use Rattle.ptpm_site.specs.Site.{clock_at, site_answers};
 ghost use Rattle.ptpm_site.specs.SiteAnswers.{current_of, default_of, has_port_of, has_ports_to, parent_of, port_of, time_of};
@@ -29,6 +31,8 @@ pub struct Site {
     pub heard: Vec<Heard>,
     /// The addresses and the interfaces of the lines.
     pub words: Words,
+    /// The last userDescription of each clock that is gone and answered one.
+    pub gone_descriptions: BTreeMap<Source, String>,
 }
 
 impl Site {
@@ -41,6 +45,7 @@ impl Site {
             clocks: BTreeMap::new(alloc),
             heard: Vec::new(alloc),
             words: Words::new(alloc),
+            gone_descriptions: BTreeMap::new(alloc),
         }
     }
 
@@ -157,9 +162,22 @@ impl Site {
         }
     }
 
-    /// The last userDescription that a clock answered, if there is one.
-    pub fn description(&self, source: Source) -> Option<&str> {
-        self.clocks.get(&source)?.description()
+    /// The last userDescription that a clock answered, if there is one, also of a clock that is gone.
+    pub fn description(&self, source: Source) -> Option<&str>
+        ensures { option_copied result ≡ description_of self.now source }
+    {
+        match self.last_description(source) {
+            Some(text) => Some(text),
+            None => Some(self.gone_descriptions.get(&source)?.as_str()),
+        }
+    }
+
+    /// The same, of a clock that is seen.
+    #[tactic(auto, unfolding(crate::specs::Site::site_answers))]
+    pub fn last_description(&self, source: Source) -> Option<&str>
+        ensures { option_copied result ≡ last_description self.now source }
+    {
+        self.answers(source, Asked::UserDescription).last()?.text()
     }
 
     /// Whether a clock refused an id.

@@ -1,11 +1,11 @@
 //! What a drawing of a site has in its rows.
 
 use crate::look::Look;
+use crate::names::Quoted;
 use crate::phrases::clock_of;
 use crate::ports_text::PortsText;
 use crate::remarks::{Remark, Weight, add_unseen, remarks_at};
 use crate::trees::{ClockRow, Row, notes_of, trees_of};
-use ptpm_codec::ClockIdentity;
 use ptpm_site::source::Source;
 use std::alloc::{AllocError, Global};
 
@@ -89,7 +89,7 @@ fn unseen_line(
     remark: &Remark<'_>,
 ) -> Result<Line, AllocError> {
     let mut line = match clock_of(remark.finding) {
-        Some(clock) => silent_line(alloc, look, clock)?,
+        Some(_) => silent_line(alloc, look, remark.source())?,
         None => said(
             alloc,
             format!(in alloc; "domain {}", remark.source().domain)?,
@@ -99,12 +99,8 @@ fn unseen_line(
     Ok(line)
 }
 
-fn silent_line(
-    alloc: Global,
-    look: &Look<'_, '_>,
-    clock: ClockIdentity,
-) -> Result<Line, AllocError> {
-    let name = look.beside.names.quoted(clock);
+fn silent_line(alloc: Global, look: &Look<'_, '_>, source: Source) -> Result<Line, AllocError> {
+    let (clock, name) = (source.clock, Quoted(look.called(source)));
     let name = format!(in alloc; "not seen: {clock}{name}")?;
     let mut line = line_of(alloc, Frame::Dashed, name);
     line.facts.push_str("did not answer")?;

@@ -11,5 +11,5 @@ returns-clause-clocks c =
 
 pub returns-clause-ports : goal.returns-clause-ports
 returns-clause-ports c =
-    kept-ports (λ f. (closure.captures f).room) _ (λ f k v b w g t. search rules) _ c.args.self.now (record { clocks = c.retain.new.self; heard = c.args.self.now.heard; words = c.args.self.now.words }) c.retain.ensures.filtered
+    kept-ports (λ f. (closure.captures f).room) _ (λ f k v b w g t. search rules) _ c.args.self.now (record { clocks = c.retain.new.self; heard = c.args.self.now.heard; words = c.args.self.now.words; gone_descriptions = c.args.self.now.gone_descriptions }) c.retain.ensures.filtered
     c.retain.ensures.was_ordered c.retain.ensures.ordered
