@@ -1,5 +1,5 @@
 -- A session knows the answer to its request by octets as the machine knows it by origins.
-use Rattle.ptpm_network.proofs.Common.{by_test, arith, ◌≡◌, ℕ, ◌<◌, ◌≤◌, ◌+◌, ◌==◌, not, List, Option, Some, None, Result, Ok, Err, true, false, refl, sym, ◌∙◌, ap, subst, and_from, and_parts, cond-true, cond-false, eq-eqb, eqb-true, ltb-false, not-true, or_left, or_right, true≢false, false≢true, is_some, DecodeError, Message, action_of, id_of, message_of, reading, same_identity-refl, same_identity-true, same_clock-refl, same_clock-true, message_of-reading, reading-message_of, Report, answer_by, answer_to, is_content, reason_of, received_of, outcome_in, SessionValue, is_waiting, number_of, IsOfOrigin, IsReached, is_answer, report_from, told_by, IsNetwork, Network, SessionStart, manager, Frame, NetworkState, Origin, RequestOf, ReplyTo, Neither, SessionState, accepted_at_target, is_idle, is_late, issued, session_value}
+use Rattle.ptpm_network.proofs.Common.{by_test, arith, ◌≡◌, ℕ, ◌<◌, ◌≤◌, ◌+◌, ◌==◌, List, Option, Some, None, Result, Ok, Err, true, false, refl, sym, ◌∙◌, ap, subst, and_from, and_parts, cond-true, cond-false, eq-eqb, eqb-true, ltb-false, not-true, or_left, or_right, true≢false, false≢true, is_some, DecodeError, Message, action_of, id_of, message_of, reading, same_identity-refl, same_identity-true, same_clock-refl, same_clock-true, message_of-reading, reading-message_of, Report, answer_by, answer_to, is_content, reason_of, received_of, outcome_in, SessionValue, is_waiting, number_of, IsOfOrigin, IsReached, is_answer, report_from, told_by, IsNetwork, Network, SessionStart, manager, Frame, NetworkState, Origin, RequestOf, ReplyTo, Neither, SessionState, accepted_at_target, is_idle, is_late, issued, session_value}
 use Rattle.ptpm_manager.specs.declared.receiving.Reason.{Reason}
 use Rattle.ptpm_manager.specs.declared.receiving.Received.TheVariants as received
 use Rattle.ptpm_manager.proofs.ReplyLaws.{IsAccepted, is_accepted, no_reason}
