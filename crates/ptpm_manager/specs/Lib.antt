@@ -1,6 +1,7 @@
 pub mod Ask
 pub mod Report
 pub mod Receiving
+pub mod Reply
 pub mod Setup
 pub mod Session
 pub mod Image

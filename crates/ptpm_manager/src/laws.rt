@@ -1,12 +1,17 @@
 //! Laws of the definitions, each the contract of a function that does nothing.
 
-ghost use Rattle.std.specs.Prelude.{◌≡◌, true, None, Some, ℕ, length, slice_set};
+ghost use Rattle.std.specs.Prelude.{◌≡◌, true, None, Some, ℕ, length, List, slice_set};
 ghost use Rattle.ptpm_codec.specs.declared.message.Message.{Message};
 ghost use Rattle.ptpm_codec.specs.Canonical.{canonical};
 ghost use Rattle.ptpm_codec.specs.declared.identity.ClockIdentity.{ClockIdentity};
 ghost use Rattle.ptpm_codec.specs.declared.identity.PortIdentity.{PortIdentity};
+ghost use Rattle.ptpm_manager.specs.declared.receiving.Reason.{Reason};
+ghost use Rattle.ptpm_manager.specs.declared.receiving.Received.TheVariants as received;
+ghost use Rattle.ptpm_manager.specs.declared.report.Report.{Report};
 ghost use Rattle.ptpm_manager.specs.Image.{SessionFits, SetupFits, UnansweredFits, session_image};
 ghost use Rattle.ptpm_manager.specs.ImageReading.{session_at};
+ghost use Rattle.ptpm_manager.specs.Receiving.{left_by, received_of};
+ghost use Rattle.ptpm_manager.specs.Reply.{HoldsReply};
 ghost use Rattle.ptpm_manager.specs.Restoring.{restore_refusal};
 ghost use Rattle.ptpm_manager.specs.Session.{IsConsistent, SessionValue, anew, due_message, resumed, retuned, sent};
 ghost use Rattle.ptpm_manager.specs.Setup.{is_setup_of};
@@ -23,6 +28,18 @@ pub fn sent_again()
         → due_message (resumed s attempts) ≡ due_message s }
     ensures retuned { (s : SessionValue) (domain : ℕ) (v w : Message) → due_message s ≡ Some v →
         due_message (retuned s domain) ≡ Some w → canonical w ≡ slice_set (canonical v) 4 domain }
+{}
+
+/// A session takes a datagram for its answer exactly if the datagram holds the reply to its request. That is from its target, for this
+/// session, in its domain, and of the request's sequenceId. Any other datagram is ignored, and changes nothing.
+pub fn answer_law()
+    ensures answered { (s : SessionValue) (datagram : List ℕ) → HoldsReply s datagram
+        → (report : Report) × (received_of s datagram ≡ received.Answered report) }
+    ensures only { (s : SessionValue) (datagram : List ℕ) (report : Report)
+        → received_of s datagram ≡ received.Answered report → HoldsReply s datagram }
+    ensures ignored { (s : SessionValue) (datagram : List ℕ) → (HoldsReply s datagram → ⊥)
+        → (reason : Reason) × ((received_of s datagram ≡ received.Ignored reason)
+        × (left_by s (received_of s datagram) ≡ s)) }
 {}
 
 /// A session's image restores it, with all attempts before it, for its own manager. No two sessions that differ in anything else

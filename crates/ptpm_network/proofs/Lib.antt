@@ -39,6 +39,7 @@ pub mod Ways
 pub mod Counting
 pub mod DueReplies
 pub mod Unchanged
+pub mod Ignoring
 pub mod Closing
 pub mod Reporting
 pub mod Resuming

@@ -72,15 +72,21 @@ message-source : (v : Message) (d : List ℕ)
     → v.source ≡ source_port_identity d
 message-source v d e = grind (arith, message_size, message_of-some, message_of-spells, port_identity-take)
 
-pub strange-message : (N : Network) (d : List ℕ) (v : Message)
-    → IsOctets d → is_forged N d ≡ false → message_of d ≡ Some v
-    → Fits v × IsForeign N v
-strange-message N d v octets honest e =
+pub strange-foreign : (N : Network) (d : List ℕ) (v : Message)
+    → is_forged N d ≡ false → message_of d ≡ Some v
+    → IsForeign N v
+strange-foreign N d v honest e =
     let size = message_size d (message_of-some d v e).0 in
     let low = size.0 in
     let inside = size.1 in
     let long : nat_le 30 (length d) ≡ true = le-leb 30 (length d) (omega arith) in
-    let free : is_taken N (source_port_identity d) ≡ false = grind (arith, true≢false, and_cases) in (
-      spelled-fits v (message_octets d) (octets-take (message_length d) d octets) (message_of-spells v d e),
-      untaken N v (source_port_identity d) (message-source v d e) free,
-    )
+    let free : is_taken N (source_port_identity d) ≡ false = grind (arith, true≢false, and_cases) in
+    untaken N v (source_port_identity d) (message-source v d e) free
+
+pub strange-message : (N : Network) (d : List ℕ) (v : Message)
+    → IsOctets d → is_forged N d ≡ false → message_of d ≡ Some v
+    → Fits v × IsForeign N v
+strange-message N d v octets honest e = (
+  spelled-fits v (message_octets d) (octets-take (message_length d) d octets) (message_of-spells v d e),
+  strange-foreign N d v honest e,
+)

@@ -10,10 +10,11 @@ ghost use Rattle.ptpm_agent.specs.CarriedOut.{after_requests};
 ghost use Rattle.ptpm_agent.specs.Laws.{due_messages};
 ghost use Rattle.ptpm_agent.specs.Once.{Accepted, Delivery, History, RequestCopy, after_copy, copy_of, due_reply, greatest, kept_reply};
 ghost use Rattle.ptpm_agent.specs.Turn.{Clock};
+ghost use Rattle.ptpm_manager.specs.Receiving.{received_of};
 ghost use Rattle.ptpm_network.specs.CarriedOut.{carried_by_event, carried_by_events};
 ghost use Rattle.ptpm_network.specs.Copies.{IsCopyAt};
-ghost use Rattle.ptpm_network.specs.Events.{Deliver, Event, IsInRange, Refusal, Stranger, refusal};
-ghost use Rattle.ptpm_network.specs.RunningNetwork.{Happened, RunningNetwork, initial_network, network_event, network_run};
+ghost use Rattle.ptpm_network.specs.Events.{Deliver, Event, IsInRange, Refusal, Stranger, is_forged, refusal};
+ghost use Rattle.ptpm_network.specs.RunningNetwork.{Happened, RunningNetwork, hears, initial_network, network_event, network_run};
 ghost use Rattle.ptpm_network.specs.Headline.{Headline};
 ghost use Rattle.ptpm_network.specs.Machine.{AreInTime, arrives, happens, is_late_delivery, reply_frames, reply_origin, state_after, step, taken};
 ghost use Rattle.ptpm_network.specs.Network.{IsNetwork, Network, ports};
@@ -82,6 +83,14 @@ pub fn strangers_change_nothing()
         IsNetwork N → AllByRecursion IsInRange es → IsInRange (Stranger c port datagram) →
         history N (step N (state_after N es) (Stranger c port datagram)) clock
         ≡ history N (state_after N es) clock }
+{}
+
+/// A stranger's datagram that comes in at a session is ignored, and the network stays as it was. So no event of a network has one
+/// come in there.
+pub fn sessions_ignore_strangers()
+    ensures { (N : Network) (events : List Event) (r : RunningNetwork) (s : ℕ) (datagram : List ℕ) →
+        StandsAfter N events r → s < N.sessions → is_forged N datagram ≡ false →
+        hears r s (received_of (r.session s) datagram) ≡ r }
 {}
 
 /// Refused SETs change no data set, nor does any other request with an error among its answers. What is no numbered copy of a

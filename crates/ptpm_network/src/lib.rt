@@ -14,8 +14,8 @@ mod worth_laws;
 
 pub use giving_up_laws::managers_that_give_up_are_served;
 pub use headline_laws::{
-    headline, one_reply_kept, refused_requests_change_no_data, requests_carried_out, stands_after,
-    strangers_change_nothing,
+    headline, one_reply_kept, refused_requests_change_no_data, requests_carried_out,
+    sessions_ignore_strangers, stands_after, strangers_change_nothing,
 };
 pub use laws::{
     answers_by_octets, at_most_225_frames, clocks_stand, events_appended, events_taken,
