@@ -6,7 +6,6 @@
 #include <arpa/inet.h>
 #include <errno.h>
 #include <linux/udp.h>
-#include <stdbool.h>
 #include <string.h>
 
 enum { PLACES = ROUND + PTPM_MOST_SENT, LEAST_JOINED = 8, MOST_JOINED = 64, MOST_OCTETS = 60000 };
