@@ -79,10 +79,12 @@ const struct ptpm_say *objection_of_limits(const struct ptpm_question *asked) {
 
 bool has_program(void) { return options->device_program != NULL; }
 
-bool is_manager_waiting(const struct heard *heard) {
+bool is_passed_over(const struct heard *heard) {
     for (size_t i = state == IS_TAKEN ? 1 : 0; i < count; i++) {
         const uint8_t *octets = waiting[(first + i) % MANAGERS].held.heard.octets;
-        if (memcmp(octets + SOURCE_AT, heard->octets + SOURCE_AT, SEQUENCE_AT - SOURCE_AT) == 0) return true;
+        if (memcmp(octets + SOURCE_AT, heard->octets + SOURCE_AT, SEQUENCE_AT - SOURCE_AT) != 0) continue;
+        counts.passed_over++;
+        return true;
     }
     return false;
 }
@@ -168,7 +170,5 @@ struct held *take_change(const struct ptpm_say **say) {
 void let_go_of_change(void) {
     if (count > 0 && state == IS_TAKEN) let_go_of_first();
 }
-
-void count_passed_over(void) { counts.passed_over++; }
 
 const struct device_counts *device_counts_so_far(void) { return &counts; }
