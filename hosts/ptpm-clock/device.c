@@ -98,11 +98,6 @@ static struct held *first_in(enum state wanted) { return count > 0 && state == w
 
 const struct held *change_to_ask(void) { return first_in(WAITS); }
 
-void ask_program(const struct ptpm_question *asked) {
-    start_run(asked);
-    state = IS_ASKED;
-}
-
 void decide_change(const struct ptpm_say *say) {
     is_said = say != NULL;
     if (is_said) said = *say;
@@ -128,6 +123,11 @@ static void drop_change(const char *why) {
     say_at_times("%s %s, and the change counts as lost", options->device_program, why);
     counts.silent++;
     let_go_of_first();
+}
+
+void ask_program(const struct ptpm_question *asked) {
+    if (start_run(asked)) state = IS_ASKED;
+    else drop_change("could not be asked");
 }
 
 /* It was asked, and could not answer. Nothing was done. */

@@ -38,7 +38,7 @@ void wait_for_program(const struct held *change);
 /* The change that the program is to be asked about; NULL if there is none, or one is being asked or decided. */
 const struct held *change_to_ask(void);
 
-/* Asks the program about it. */
+/* Asks the program about it, or drops it if that can't be done. */
 void ask_program(const struct ptpm_question *asked);
 
 /* Or it is decided without the program, by what the device says; NULL if the device is not asked. */
