@@ -37,9 +37,9 @@ int open_to_read(const char *path, struct stat *found) {
 
 /* What is watched of a folder is the same as before, or the folder that has its name by now. The one before may be another's too. */
 static void watch_folder(int polled, struct watch *watch, const struct watch *other, const char *whole) {
+    const char *slash = strrchr(whole, '/');
     if (strlen(whole) >= sizeof watch->folder) return;
-    strcpy(watch->name, whole);
-    strcpy(watch->name, basename(watch->name));
+    strcpy(watch->name, slash != NULL ? slash + 1 : whole);
     strcpy(watch->folder, whole);
     int number = inotify_add_watch(polled, dirname(watch->folder), IN_CLOSE_WRITE | IN_MOVED_TO);
     if (watch->number >= 0 && number != watch->number && watch->number != other->number) inotify_rm_watch(polled, watch->number);
