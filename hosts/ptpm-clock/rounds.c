@@ -55,6 +55,7 @@ static void take_head(struct heard *heard, const struct port *port, struct mmsgh
     heard->size = heard->whole < MOST_HEARD ? heard->whole : MOST_HEARD;
     heard->sender_size = message->msg_hdr.msg_namelen;
     if (heard->sender_size > sizeof heard->sender.peer) heard->sender_size = sizeof heard->sender.peer;     /* a path has no end */
+    if (heard->sender_size == 0) heard->sender.any.sa_family = AF_UNSPEC;       /* it has no address, and that of another is there */
     heard->station = NULL;
     heard->port = port;
     heard->is_of_owner = false;
