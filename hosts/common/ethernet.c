@@ -3,16 +3,13 @@
 #include "message_places.h"
 #include "socket_option.h"
 #include <arpa/inet.h>
-#include <errno.h>
 #include <linux/filter.h>
 #include <linux/if_packet.h>
 #include <net/if.h>
-#include <stdbool.h>
 #include <stdio.h>
 #include <string.h>
 #include <sys/ioctl.h>
 #include <sys/socket.h>
-#include <unistd.h>
 
 enum { PTP = 0x88f7, TAG = 0x8100, SERVICE_TAG = 0x88a8, TAG_SIZE = 4, TYPE = 12 };
 
@@ -46,10 +43,7 @@ static bool read_station(int socket, const char *interface, uint8_t own[STATION]
 }
 
 bool filter_ethernet(int socket, bool is_management_alone) {
-    struct sock_fprog filter = { .len = sizeof wanted / sizeof *wanted, .filter = (struct sock_filter *)wanted };
-    int none = 0;
-    return is_management_alone ? setsockopt(socket, SOL_SOCKET, SO_ATTACH_FILTER, &filter, sizeof filter) == 0
-                               : setsockopt(socket, SOL_SOCKET, SO_DETACH_FILTER, &none, sizeof none) == 0;
+    return set_filter(socket, is_management_alone ? wanted : NULL, sizeof wanted / sizeof *wanted);
 }
 
 static struct packet_mreq membership(unsigned index, const uint8_t group[STATION]) {
@@ -65,16 +59,15 @@ bool join_link_group(int socket, const char *interface) {
 
 /* The socket hears nothing until it is bound, and by then it has its filter. */
 static bool join_group(int socket, const char *interface, uint8_t own[STATION], const char **what) {
-    int one = 1;
+    const int one = 1;
     unsigned index = index_of(socket, interface);
     struct sockaddr_ll place = { .sll_family = AF_PACKET, .sll_protocol = htons(PTP), .sll_ifindex = (int)index };
     struct packet_mreq join = membership(index, group_station);
     *what = interface;
     if (index == 0 || !read_station(socket, interface, own)) return false;
     *what = "SO_ATTACH_FILTER";
-    if (!filter_ethernet(socket, true)
-        || !set_option(socket, SOL_PACKET, PACKET_IGNORE_OUTGOING, &one, sizeof one, what, "PACKET_IGNORE_OUTGOING")
-        || !set_option(socket, SOL_PACKET, PACKET_ADD_MEMBERSHIP, &join, sizeof join, what, "PACKET_ADD_MEMBERSHIP")) return false;
+    if (!filter_ethernet(socket, true) || !SET_OPTION(socket, SOL_PACKET, PACKET_IGNORE_OUTGOING, one, what)
+        || !SET_OPTION(socket, SOL_PACKET, PACKET_ADD_MEMBERSHIP, join, what)) return false;
     *what = "Ethertype 0x88F7";
     return bind(socket, (struct sockaddr *)&place, sizeof place) == 0;
 }
@@ -82,11 +75,7 @@ static bool join_group(int socket, const char *interface, uint8_t own[STATION], 
 int open_ethernet(const char *interface, uint8_t own[STATION], const char **what) {
     *what = "a socket of Ethernet";
     int opened = socket(AF_PACKET, SOCK_RAW | SOCK_CLOEXEC, 0);
-    if (opened < 0 || join_group(opened, interface, own, what)) return opened;
-    int failure = errno;
-    close(opened);
-    errno = failure;
-    return -1;
+    return opened < 0 || join_group(opened, interface, own, what) ? opened : closed(opened);
 }
 
 static unsigned type_at(const uint8_t *frame, size_t place) { return (unsigned)frame[place] << 8 | frame[place + 1]; }

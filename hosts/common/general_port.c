@@ -1,14 +1,13 @@
 #define _GNU_SOURCE
 #include "general_port.h"
 #include "message_places.h"
+#include "socket_option.h"
 #include "udp.h"
 #include <arpa/inet.h>
-#include <errno.h>
 #include <linux/filter.h>
 #include <linux/inet_diag.h>
 #include <linux/netlink.h>
 #include <linux/sock_diag.h>
-#include <netinet/ip.h>
 #include <netinet/udp.h>
 #include <string.h>
 #include <sys/stat.h>
@@ -47,11 +46,6 @@ static const struct sock_filter wanted_of_six[] = {
 /* Nothing at all. */
 static const struct sock_filter wanted_of_none[] = { BPF_STMT(BPF_RET | BPF_K, 0) };
 
-static bool attach(int socket, const struct sock_filter *filter, size_t size) {
-    const struct sock_fprog whole = { .len = (unsigned short)size, .filter = (struct sock_filter *)filter };
-    return setsockopt(socket, SOL_SOCKET, SO_ATTACH_FILTER, &whole, sizeof whole) == 0;
-}
-
 static bool set_number(int socket, int level, int option, int value) {
     return setsockopt(socket, level, option, &value, sizeof value) == 0;
 }
@@ -59,13 +53,6 @@ static bool set_number(int socket, int level, int option, int value) {
 /* The kernel is to report of each datagram where it came in, and which address it was sent to. */
 static bool tell_places(int socket, bool is_six) {
     return is_six ? set_number(socket, IPPROTO_IPV6, IPV6_RECVPKTINFO, 1) : set_number(socket, IPPROTO_IP, IP_PKTINFO, 1);
-}
-
-static int closed(int socket) {
-    int failure = errno;
-    close(socket);
-    errno = failure;
-    return -1;
 }
 
 /* Of the sockets at a port Linux prefers one of IPv4 for what comes by IPv4. Then it prefers one that is bound to an interface, and
@@ -86,15 +73,15 @@ int open_general_port(bool is_six, bool is_heard) {
     int opened = socket(family, SOCK_DGRAM | SOCK_CLOEXEC, 0);
     if (opened < 0 && !is_six) opened = socket(family = AF_INET, SOCK_DGRAM | SOCK_CLOEXEC, 0);      /* a kernel without IPv6 */
     if (opened < 0) return -1;
-    bool is_filtered = is_heard ? filter_udp(opened, true) : attach(opened, wanted_of_none, 1);
+    bool is_filtered = is_heard ? filter_udp(opened, true) : set_filter(opened, wanted_of_none, 1);
     return is_filtered && bind_last(opened, family, is_six) ? opened : closed(opened);
 }
 
 int open_copies(bool is_six) {
     int opened = socket(is_six ? AF_INET6 : AF_INET, SOCK_RAW | SOCK_CLOEXEC, IPPROTO_UDP);
     if (opened < 0) return -1;
-    bool is_filtered = is_six ? attach(opened, wanted_of_six, sizeof wanted_of_six / sizeof *wanted_of_six)
-                              : attach(opened, wanted_of_four, sizeof wanted_of_four / sizeof *wanted_of_four);
+    bool is_filtered = is_six ? set_filter(opened, wanted_of_six, sizeof wanted_of_six / sizeof *wanted_of_six)
+                              : set_filter(opened, wanted_of_four, sizeof wanted_of_four / sizeof *wanted_of_four);
     return is_filtered && tell_places(opened, is_six) ? opened : closed(opened);
 }
 

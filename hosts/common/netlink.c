@@ -9,10 +9,8 @@
 #include <linux/rtnetlink.h>
 #include <net/if.h>
 #include <netinet/in.h>
-#include <stdbool.h>
 #include <stdio.h>
 #include <string.h>
-#include <unistd.h>
 
 enum { MOST_NETWORKS = 1024, OCTETS = 16384, SECOND = 1000 };
 

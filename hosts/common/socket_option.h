@@ -1,19 +1,40 @@
-/* What a socket is asked for, for code that reports why it was refused. */
+/* What a socket is asked for, and its end if it is refused that. */
 #ifndef SOCKET_OPTION_H
 #define SOCKET_OPTION_H
 
+#include <errno.h>
+#include <linux/filter.h>
 #include <net/if.h>
 #include <stdbool.h>
 #include <stddef.h>
 #include <stdio.h>
 #include <sys/ioctl.h>
 #include <sys/socket.h>
+#include <unistd.h>
 
-/* Sets an option, and leaves its name in *what. Whether it was set. */
+/* Sets an option to the octets of a value, and leaves its name in *what. Whether it was set. */
+#define SET_OPTION(socket, level, option, value, what) set_option(socket, level, option, &(value), sizeof(value), what, #option)
+
 static inline bool set_option(int socket, int level, int option, const void *value, size_t size, const char **what,
-                             const char *name) {
+                              const char *name) {
     *what = name;
     return setsockopt(socket, level, option, value, (socklen_t)size) == 0;
+}
+
+/* Has a socket hear only what a filter of this many steps lets in, or all if it is NULL. Whether it does. */
+static inline bool set_filter(int socket, const struct sock_filter *filter, size_t count) {
+    const struct sock_fprog whole = { .len = (unsigned short)count, .filter = (struct sock_filter *)filter };
+    const int none = 0;
+    return filter != NULL ? setsockopt(socket, SOL_SOCKET, SO_ATTACH_FILTER, &whole, sizeof whole) == 0
+                          : setsockopt(socket, SOL_SOCKET, SO_DETACH_FILTER, &none, sizeof none) == 0;
+}
+
+/* Closes a socket that was refused something, and leaves errno as it says why; -1. */
+static inline int closed(int socket) {
+    int failure = errno;
+    close(socket);
+    errno = failure;
+    return -1;
 }
 
 /* The index of an interface; 0 if there is none, and then errno says why. That of if_nametoindex says something else if no descriptor is

@@ -5,9 +5,7 @@
 #include <arpa/inet.h>
 #include <errno.h>
 #include <linux/filter.h>
-#include <stdbool.h>
 #include <string.h>
-#include <unistd.h>
 
 /* The group at a port. */
 static socklen_t group_at(struct sockaddr_storage *to, bool is_six, uint16_t port) {
@@ -38,25 +36,21 @@ static const struct sock_filter wanted[] = {
 };
 
 bool filter_udp(int socket, bool is_management_alone) {
-    const struct sock_fprog filter = { .len = sizeof wanted / sizeof *wanted, .filter = (struct sock_filter *)wanted };
-    int none = 0;
-    return is_management_alone ? setsockopt(socket, SOL_SOCKET, SO_ATTACH_FILTER, &filter, sizeof filter) == 0
-                               : setsockopt(socket, SOL_SOCKET, SO_DETACH_FILTER, &none, sizeof none) == 0;
+    return set_filter(socket, is_management_alone ? wanted : NULL, sizeof wanted / sizeof *wanted);
 }
 
 /* From here on what is sent goes out at the interface, and doesn't come back to this host. */
 static bool send_at_four(int socket, unsigned interface, const char **what) {
-    int none = 0;
-    struct ip_mreqn at = { .imr_ifindex = (int)interface };
-    return set_option(socket, IPPROTO_IP, IP_MULTICAST_IF, &at, sizeof at, what, "IP_MULTICAST_IF")
-           && set_option(socket, IPPROTO_IP, IP_MULTICAST_LOOP, &none, sizeof none, what, "IP_MULTICAST_LOOP");
+    const int none = 0;
+    const struct ip_mreqn at = { .imr_ifindex = (int)interface };
+    return SET_OPTION(socket, IPPROTO_IP, IP_MULTICAST_IF, at, what) && SET_OPTION(socket, IPPROTO_IP, IP_MULTICAST_LOOP, none, what);
 }
 
 static bool send_at_six(int socket, unsigned interface, const char **what) {
-    int one = 1, none = 0;
-    return set_option(socket, IPPROTO_IPV6, IPV6_V6ONLY, &one, sizeof one, what, "IPV6_V6ONLY")
-           && set_option(socket, IPPROTO_IPV6, IPV6_MULTICAST_IF, &interface, sizeof interface, what, "IPV6_MULTICAST_IF")
-           && set_option(socket, IPPROTO_IPV6, IPV6_MULTICAST_LOOP, &none, sizeof none, what, "IPV6_MULTICAST_LOOP");
+    const int one = 1, none = 0;
+    return SET_OPTION(socket, IPPROTO_IPV6, IPV6_V6ONLY, one, what)
+           && SET_OPTION(socket, IPPROTO_IPV6, IPV6_MULTICAST_IF, interface, what)
+           && SET_OPTION(socket, IPPROTO_IPV6, IPV6_MULTICAST_LOOP, none, what);
 }
 
 /* Only management messages come in at the socket, which hears nothing until it is bound. */
@@ -69,33 +63,27 @@ static bool stay_at(int socket, const char *interface, bool is_six, const char *
            && (is_six ? send_at_six(socket, index, what) : send_at_four(socket, index, what));
 }
 
-/* At the address of the group nothing comes in that is sent to this host by unicast. Linux hands that to one socket, and a servo
-   may need it. */
-static bool bind_to_group(int socket, const struct sockaddr_storage *to, socklen_t size, const char **what) {
-    int one = 1;
-    const char *port = *what;
-    if (!set_option(socket, SOL_SOCKET, SO_REUSEADDR, &one, sizeof one, what, "SO_REUSEADDR")) return false;
-    *what = port;
-    return bind(socket, (const struct sockaddr *)to, size) == 0;
-}
-
-static bool join(int socket, const struct sockaddr_storage *to, unsigned interface) {
+/* Joins the group at an interface, or leaves it; whether it is done. */
+static bool set_membership(int socket, const struct sockaddr_storage *to, unsigned interface, bool is_joined) {
     if (to->ss_family == AF_INET6) {
-        struct ipv6_mreq six = { .ipv6mr_multiaddr = ((const struct sockaddr_in6 *)to)->sin6_addr, .ipv6mr_interface = interface };
-        return setsockopt(socket, IPPROTO_IPV6, IPV6_ADD_MEMBERSHIP, &six, sizeof six) == 0;
+        const struct ipv6_mreq six = { .ipv6mr_multiaddr = ((const struct sockaddr_in6 *)to)->sin6_addr, .ipv6mr_interface = interface };
+        return setsockopt(socket, IPPROTO_IPV6, is_joined ? IPV6_ADD_MEMBERSHIP : IPV6_DROP_MEMBERSHIP, &six, sizeof six) == 0;
     }
-    struct ip_mreqn four = { .imr_multiaddr = ((const struct sockaddr_in *)to)->sin_addr, .imr_ifindex = (int)interface };
-    return setsockopt(socket, IPPROTO_IP, IP_ADD_MEMBERSHIP, &four, sizeof four) == 0;
+    const struct ip_mreqn four = { .imr_multiaddr = ((const struct sockaddr_in *)to)->sin_addr, .imr_ifindex = (int)interface };
+    return setsockopt(socket, IPPROTO_IP, is_joined ? IP_ADD_MEMBERSHIP : IP_DROP_MEMBERSHIP, &four, sizeof four) == 0;
 }
 
+/* It is bound to the address of the group: nothing comes in there that is sent to this host by unicast. Linux hands that to one
+   socket, and a servo may need it. */
 static bool join_group_at(int socket, const char *interface, bool is_six, uint16_t port, const char **what) {
+    const int one = 1;
     struct sockaddr_storage to;
     socklen_t size = group_at(&to, is_six, port);
-    if (!stay_at(socket, interface, is_six, what)) return false;
+    if (!stay_at(socket, interface, is_six, what) || !SET_OPTION(socket, SOL_SOCKET, SO_REUSEADDR, one, what)) return false;
     *what = port == EVENT_PORT ? "UDP port 319" : "UDP port 320";
-    if (!bind_to_group(socket, &to, size, what)) return false;
+    if (bind(socket, (const struct sockaddr *)&to, size)) return false;
     *what = is_six ? "IPV6_ADD_MEMBERSHIP" : "IP_ADD_MEMBERSHIP";
-    return join(socket, &to, index_of(socket, interface));
+    return set_membership(socket, &to, index_of(socket, interface), true);
 }
 
 static bool join_group(int socket, const char *interface, bool is_six, const char **what) {
@@ -118,11 +106,7 @@ static bool bind_alone(int socket, const char *interface, bool is_six, const cha
 static int opened_by(bool (*step)(int, const char *, bool, const char **), const char *interface, bool is_six, const char **what) {
     *what = interface;
     int opened = socket(is_six ? AF_INET6 : AF_INET, SOCK_DGRAM | SOCK_CLOEXEC, 0);
-    if (opened < 0 || step(opened, interface, is_six, what)) return opened;
-    int failure = errno;
-    close(opened);
-    errno = failure;
-    return -1;
+    return opened < 0 || step(opened, interface, is_six, what) ? opened : closed(opened);
 }
 
 int open_udp(const char *interface, bool is_six, const char **what) { return opened_by(join_group, interface, is_six, what); }
@@ -143,12 +127,6 @@ const char *right_needed(bool is_ethernet) {
 bool join_again(int socket, unsigned interface, bool is_six) {
     struct sockaddr_storage to;
     group(&to, is_six);
-    if (is_six) {
-        struct ipv6_mreq six = { .ipv6mr_multiaddr = ((struct sockaddr_in6 *)&to)->sin6_addr, .ipv6mr_interface = interface };
-        setsockopt(socket, IPPROTO_IPV6, IPV6_DROP_MEMBERSHIP, &six, sizeof six);
-    } else {
-        struct ip_mreqn four = { .imr_multiaddr = ((struct sockaddr_in *)&to)->sin_addr, .imr_ifindex = (int)interface };
-        setsockopt(socket, IPPROTO_IP, IP_DROP_MEMBERSHIP, &four, sizeof four);
-    }
-    return join(socket, &to, interface);
+    set_membership(socket, &to, interface, false);
+    return set_membership(socket, &to, interface, true);
 }

@@ -21,6 +21,7 @@
 #include <string.h>
 #include <sys/socket.h>
 #include <sys/un.h>
+#include <unistd.h>
 
 enum {
     NEXT_SAVE = 10,             /* in how many milliseconds it is seen whether it is time for one */
@@ -53,24 +54,21 @@ static uint8_t domain(void) {
     return ptpm_clock_read(&clock_held, PTPM_ID_DOMAIN, 0, octets, sizeof octets, &size) == PTPM_READ ? *octets : 0;
 }
 
-/* Whether another clock of this machine with this identity and domain was started before this one, and still runs. From then on
-   one that is started later finds this one. The clock has an abstract name, which one program of a network namespace has at a
-   time, and which goes when that ends. Nobody is heard at it. Any user may take such a name, so it is no reason not to start. */
-static bool has_twin(void) {
+/* Another clock with this identity and domain may have been started before this one, and still run. From then on one that is started
+   later finds this one. The clock has an abstract name, which one program of a network namespace has at a time, and which goes when
+   that ends. Nobody is heard at it. Any user may take such a name, so it is no reason not to start. */
+void report_twin(void) {
     struct sockaddr_un address = { .sun_family = AF_UNIX };
     char identity[IDENTITY_TEXT];
     write_identity(identity, options->settings.identity);
     int size = snprintf(address.sun_path + 1, sizeof address.sun_path - 1, "ptpm-clock/%s/%u", identity, domain());
     int claim = socket(AF_UNIX, SOCK_STREAM | SOCK_CLOEXEC, 0);
     socklen_t whole = (socklen_t)(offsetof(struct sockaddr_un, sun_path) + 1 + (size_t)size);
-    return claim >= 0 && bind(claim, (const struct sockaddr *)&address, whole) != 0 && errno == EADDRINUSE;
-}
-
-void report_twin(void) {
-    char identity[IDENTITY_TEXT];
-    if (!has_twin()) return;
-    write_identity(identity, options->settings.identity);
-    say("another clock %s runs in domain %u of this machine: both answer, and a SET may change one of them alone", identity, domain());
+    if (claim < 0 || bind(claim, (const struct sockaddr *)&address, whole) == 0) return;
+    if (errno == EADDRINUSE) {
+        say("another clock %s runs in domain %u of this machine: both answer, and a SET may change one of them alone", identity, domain());
+    }
+    close(claim);
 }
 
 /* The portState that a GET of PORT_DATA_SET shows, by its name. */
@@ -110,10 +108,6 @@ static void print_changed(const char *where, uint32_t first, uint32_t members) {
     print_line("%s", line);
 }
 
-static void print_turn(uint16_t ingress, const struct heard *heard, uint32_t answer, size_t out, size_t count) {
-    print_line("port %u, %zu octets: %u %s, %zu of %zu sent", ingress, heard->whole, answer, answer_name(answer), out, count);
-}
-
 static void print_all_changed(const struct ptpm_changed *changed) {
     if (changed->clock != 0) print_changed("changed:", PTPM_BAD_IDENTITY, changed->clock);
     for (size_t i = 0; i < ports_of(options); i++) {
@@ -134,12 +128,8 @@ static unsigned long send_out(const struct ptpm_sent *message, const struct hear
     return 0;
 }
 
-/* Sends what is to go out once the change that it shows is saved. If that fails it drops it. For peers nothing waits unless
-   something is to be saved. How many messages were not taken. */
-static unsigned long send_saved(void) {
-    if (!is_unsaved) return send_round();
-    return save_changes(&clock_held) ? send_all() : drop_round();
-}
+/* Sends what is to go out once the change that it shows is saved. If that fails it drops it. How many messages were not taken. */
+static unsigned long send_saved(void) { return end_round(save_changes(&clock_held)); }
 
 /* Sends what a turn sends, or has it wait, except what is kept from the network. `left` is how many messages that leaves. How
    many of these were not taken. */
@@ -211,8 +201,8 @@ static unsigned long take_verbose_turn(const struct heard *heard, const struct p
     enum ptpm_handled answer = hand_in(&clock_held, ingress, heard, say, places, &count, &changed);
     unsigned long lost = hand_on(heard, port, ingress, answer, places, count, &left);
     bool is_done = save_changes(&clock_held);
-    lost += is_done ? send_all() : drop_round();
-    print_turn(ingress, heard, answer, left - lost, count);
+    lost += end_round(is_done);
+    print_line("port %u, %zu octets: %u %s, %zu of %zu sent", ingress, heard->whole, answer, answer_name(answer), left - lost, count);
     if (is_done) print_all_changed(&changed);
     return lost;
 }
@@ -300,10 +290,7 @@ static bool is_asked(const struct held *held, struct ptpm_question *asked) {
 static unsigned long take_request(struct held *held) {
     struct ptpm_question asked;
     if (held->heard.is_of_owner) return take_turn(&held->heard, NULL, NULL);
-    if (has_device && is_manager_waiting(&held->heard)) {
-        count_passed_over();
-        return 0;
-    }
+    if (has_device && is_passed_over(&held->heard)) return 0;
     if (!has_device || !is_asked(held, &asked)) return take_turn(&held->heard, held->port, NULL);
     const struct ptpm_say *objection = objection_of_limits(&asked);
     if (objection != NULL || !has_program()) return take_turn(&held->heard, held->port, objection);
@@ -349,7 +336,7 @@ static void take_held(void) {
 void take_saved(void) {
     bool is_done = end_save(&clock_held);
     swap_rounds();
-    send_taken(is_done ? send_all() : drop_round());
+    send_taken(end_round(is_done));
 }
 
 static bool is_waiting(void) { return held_count() > 0 || decided_change() != NULL; }

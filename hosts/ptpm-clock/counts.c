@@ -4,7 +4,6 @@
 #include "network_limits.h"
 #include "output.h"
 #include "saving.h"
-#include <stdbool.h>
 
 enum { ANSWERS = 128 };
 

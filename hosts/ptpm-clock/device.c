@@ -79,10 +79,12 @@ const struct ptpm_say *objection_of_limits(const struct ptpm_question *asked) {
 
 bool has_program(void) { return options->device_program != NULL; }
 
-bool is_manager_waiting(const struct heard *heard) {
+bool is_passed_over(const struct heard *heard) {
     for (size_t i = state == IS_TAKEN ? 1 : 0; i < count; i++) {
         const uint8_t *octets = waiting[(first + i) % MANAGERS].held.heard.octets;
-        if (memcmp(octets + SOURCE_AT, heard->octets + SOURCE_AT, SEQUENCE_AT - SOURCE_AT) == 0) return true;
+        if (memcmp(octets + SOURCE_AT, heard->octets + SOURCE_AT, SEQUENCE_AT - SOURCE_AT) != 0) continue;
+        counts.passed_over++;
+        return true;
     }
     return false;
 }
@@ -95,11 +97,6 @@ void wait_for_program(const struct held *change) {
 static struct held *first_in(enum state wanted) { return count > 0 && state == wanted ? &waiting[first].held : NULL; }
 
 const struct held *change_to_ask(void) { return first_in(WAITS); }
-
-void ask_program(const struct ptpm_question *asked) {
-    start_run(asked);
-    state = IS_ASKED;
-}
 
 void decide_change(const struct ptpm_say *say) {
     is_said = say != NULL;
@@ -126,6 +123,11 @@ static void drop_change(const char *why) {
     say_at_times("%s %s, and the change counts as lost", options->device_program, why);
     counts.silent++;
     let_go_of_first();
+}
+
+void ask_program(const struct ptpm_question *asked) {
+    if (start_run(asked)) state = IS_ASKED;
+    else drop_change("could not be asked");
 }
 
 /* It was asked, and could not answer. Nothing was done. */
@@ -168,7 +170,5 @@ struct held *take_change(const struct ptpm_say **say) {
 void let_go_of_change(void) {
     if (count > 0 && state == IS_TAKEN) let_go_of_first();
 }
-
-void count_passed_over(void) { counts.passed_over++; }
 
 const struct device_counts *device_counts_so_far(void) { return &counts; }

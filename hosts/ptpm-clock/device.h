@@ -29,8 +29,8 @@ const struct ptpm_say *objection_of_limits(const struct ptpm_question *asked);
 /* Whether the device has a program, which is asked after the limits. */
 bool has_program(void);
 
-/* Whether a change of the manager that sent this waits for the program. Then nothing else of it is taken. */
-bool is_manager_waiting(const struct heard *heard);
+/* Whether a change of the manager that sent this waits for the program. Then nothing else of it is taken, which is counted. */
+bool is_passed_over(const struct heard *heard);
 
 /* Copies a change of another manager after those that wait. */
 void wait_for_program(const struct held *change);
@@ -38,7 +38,7 @@ void wait_for_program(const struct held *change);
 /* The change that the program is to be asked about; NULL if there is none, or one is being asked or decided. */
 const struct held *change_to_ask(void);
 
-/* Asks the program about it. */
+/* Asks the program about it, or drops it if that can't be done. */
 void ask_program(const struct ptpm_question *asked);
 
 /* Or it is decided without the program, by what the device says; NULL if the device is not asked. */
@@ -56,9 +56,6 @@ struct held *take_change(const struct ptpm_say **say);
 
 /* A change that was taken waits no more. Does nothing if none was. */
 void let_go_of_change(void);
-
-/* Counts a datagram that was dropped, since a change of its manager waits. */
-void count_passed_over(void);
 
 /* How often the program agreed; how often it or the limits objected; how often it said nothing; what was dropped meanwhile. */
 struct device_counts { unsigned long long agreed, objected, silent, passed_over; };

@@ -213,7 +213,7 @@ static size_t put_members(char *words, size_t size, const struct ptpm_question *
     return size;
 }
 
-void start_run(const struct ptpm_question *asked) {
+bool start_run(const struct ptpm_question *asked) {
     char words[MOST_WORD_OCTETS], manager[IDENTITY_TEXT];
     const char *name = id_name(asked->id);
     write_identity(manager, asked->manager);
@@ -225,7 +225,7 @@ void start_run(const struct ptpm_question *asked) {
     size = put_word(words, size, "%s", name == NULL ? "-" : name);
     size = asked->port == EVERY_PORT ? put_word(words, size, "all") : put_word(words, size, "%u", asked->port);
     size = put_members(words, put_octets(words, size, asked), asked);
-    send(beside, words, size, MSG_DONTWAIT | MSG_NOSIGNAL);
+    return send(beside, words, size, MSG_DONTWAIT | MSG_NOSIGNAL) >= 0;
 }
 
 bool end_run(struct run *run) {

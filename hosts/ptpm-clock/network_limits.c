@@ -6,7 +6,6 @@
 #include "output.h"
 #include "program.h"
 #include "shares.h"
-#include <stdbool.h>
 #include <string.h>
 #include <sys/random.h>
 

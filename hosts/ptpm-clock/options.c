@@ -3,7 +3,6 @@
 #include "monotonic.h"
 #include "names.h"
 #include "output.h"
-#include "program.h"
 #include "words.h"
 #include <getopt.h>
 #include <grp.h>
@@ -11,7 +10,6 @@
 #include <net/if.h>
 #include <pwd.h>
 #include <stdarg.h>
-#include <stdbool.h>
 #include <stdio.h>
 #include <stdlib.h>
 #include <string.h>
@@ -110,12 +108,10 @@ static long number(const char *option, long least, long most) {
 
 /* Three octal digits, such as 660. */
 static mode_t mode(void) {
-    char *end;
-    long found = strtol(optarg, &end, 8);
-    if (strlen(optarg) != 3 || *end != '\0' || found < 0) {
+    if (strlen(optarg) != 3 || strspn(optarg, "01234567") != 3) {
         refuse_command_line("--unix-mode %s: it takes three octal digits, such as 660", optarg);
     }
-    return (mode_t)found;
+    return (mode_t)strtol(optarg, NULL, 8);
 }
 
 static gid_t group_named(void) {
@@ -166,6 +162,12 @@ static struct ptpm_manager_settings read_manager(const char *text) {
     return manager;
 }
 
+/* Over UDP and IPv4 if it is not given. */
+static void take_transport(struct options *options, enum transport given) {
+    if (options->transport != UDP_IPV4 && options->transport != given) refuse_command_line("-2 and -6 exclude each other");
+    options->transport = given;
+}
+
 static const char *program_path(void) {
     if (strlen(optarg) >= PATH_MAX) refuse_command_line("--ask: the path is too long");
     return optarg;
@@ -207,8 +209,8 @@ static void take_limit(struct options *options, int option) {
 static void take_option(struct options *options, int option, char *const *words) {
     switch (option) {
     case GIVE: take_value(options, words); break;
-    case '2': options->transport = ETHERNET; break;
-    case '6': options->transport = UDP_IPV6; break;
+    case '2': take_transport(options, ETHERNET); break;
+    case '6': take_transport(options, UDP_IPV6); break;
     case 'f': options->limits.is_passed_on_from_host = true; break;
     case 'v': options->is_verbose = true; break;
     case 'u': options->meeting.path = socket_path("-u"); break;
@@ -272,7 +274,7 @@ static void refuse_alone(const struct options *options) {
     }
 }
 
-static void judge(const struct options *options, bool has_two_ways) {
+static void judge(const struct options *options) {
     if (options->interface_count > PORTS) refuse_command_line("it takes eight interfaces at most");
     if (options->interface_count == 0 && options->meeting.path == NULL) {
         refuse_command_line("an interface is missing, or a Unix socket: -u PATH");
@@ -280,23 +282,17 @@ static void judge(const struct options *options, bool has_two_ways) {
     if (options->owner != NULL && options->meeting.path != NULL && strcmp(options->owner, options->meeting.path) == 0) {
         refuse_command_line("--owner %s: -u has this path", options->owner);
     }
-    if (has_two_ways) refuse_command_line("-2 and -6 exclude each other");
     refuse_long(options->interfaces, options->interface_count);
     refuse_twice(options->interfaces, options->interface_count);
     refuse_itself(options);
 }
 
 void read_options(struct options *options, int argc, char **argv) {
-    bool has_two = false, has_six = false;
     ptpm_clock_defaults(&options->settings);
     options->limits = (struct limits){ .hops = HOPS_AT_FIRST, .rate = RATE_AT_FIRST, .manager_rate = MANAGER_RATE_AT_FIRST, .is_passed_on = true };
     options->device_seconds = ASK_TIME_AT_FIRST;
     options->meeting = (struct meeting){ .mode = MODE_AT_FIRST, .group = (gid_t)-1 };
-    for (int option; (option = getopt_long(argc, argv, "26fu:m:d:s:o:n:vh", names, NULL)) != -1;) {
-        has_two |= option == '2';
-        has_six |= option == '6';
-        take_option(options, option, argv);
-    }
+    for (int option; (option = getopt_long(argc, argv, "26fu:m:d:s:o:n:vh", names, NULL)) != -1;) take_option(options, option, argv);
     if (optind == argc) refuse_command_line("the clock's identity is missing");
     if (!ptpm_identity_parse(argv[optind], strlen(argv[optind]), options->settings.identity)) {
         refuse_command_line("%s: it takes a clockIdentity, such as aabbccfffeddee01 or aabbcc.fffe.ddee01", argv[optind]);
@@ -311,5 +307,5 @@ void read_options(struct options *options, int argc, char **argv) {
     options->privileges.socket_group = options->meeting.group;
     options->limits.managers = options->managers;
     options->limits.manager_count = options->manager_count;
-    judge(options, has_two && has_six);
+    judge(options);
 }

@@ -4,7 +4,6 @@
 #include "unix_socket.h"
 #include <limits.h>
 #include <linux/sockios.h>
-#include <stdbool.h>
 #include <string.h>
 #include <sys/ioctl.h>
 #include <unistd.h>

@@ -6,7 +6,6 @@
 #include <arpa/inet.h>
 #include <errno.h>
 #include <linux/udp.h>
-#include <stdbool.h>
 #include <string.h>
 
 enum { PLACES = ROUND + PTPM_MOST_SENT, LEAST_JOINED = 8, MOST_JOINED = 64, MOST_OCTETS = 60000 };
@@ -56,6 +55,7 @@ static void take_head(struct heard *heard, const struct port *port, struct mmsgh
     heard->size = heard->whole < MOST_HEARD ? heard->whole : MOST_HEARD;
     heard->sender_size = message->msg_hdr.msg_namelen;
     if (heard->sender_size > sizeof heard->sender.peer) heard->sender_size = sizeof heard->sender.peer;     /* a path has no end */
+    if (heard->sender_size == 0) heard->sender.any.sa_family = AF_UNSPEC;       /* it has no address, and that of another is there */
     heard->station = NULL;
     heard->port = port;
     heard->is_of_owner = false;
@@ -84,15 +84,19 @@ static bool take_copy(struct heard *heard) {
     return true;
 }
 
-static bool take_of_host(struct heard *heard, bool is_copied, struct mmsghdr *message) {
-    take_head(heard, NULL, message);
+static bool take_of_host(struct heard *heard, const struct port *none, struct mmsghdr *message) {
+    take_head(heard, none, message);
     heard->own_four = (struct in_pktinfo){ 0 };
     heard->own_six = (struct in6_pktinfo){ 0 };
     take_control(heard, &message->msg_hdr);
     take_inner_address(heard);
     if (heard->sender.any.sa_family != (transport == UDP_IPV6 ? AF_INET6 : AF_INET)) return false;
     heard->port = port_at(transport == UDP_IPV6 ? heard->own_six.ipi6_ifindex : (unsigned)heard->own_four.ipi_ifindex);
-    return heard->port != NULL && (!is_copied || take_copy(heard));
+    return heard->port != NULL;
+}
+
+static bool take_copied(struct heard *heard, const struct port *none, struct mmsghdr *message) {
+    return take_of_host(heard, none, message) && take_copy(heard);
 }
 
 /* What one call of the kernel takes from a socket. */
@@ -118,26 +122,24 @@ static size_t receive_round(struct round *round, int socket, struct heard heard[
     return (size_t)used_before;
 }
 
-static struct round received;
+/* Takes what the kernel reports of a datagram; whether that is one for the clock. */
+typedef bool taker(struct heard *heard, const struct port *port, struct mmsghdr *message);
 
-size_t hear_round(const struct port *port, int socket, struct heard heard[ROUND]) {
+static size_t hear(taker *take, const struct port *port, int socket, struct heard heard[ROUND]) {
+    static struct round received;
     size_t count = 0, found = receive_round(&received, socket, heard);
     for (size_t i = 0; i < found; i++) {
-        if (!take_heard(&heard[i], port, &received.messages[i])) continue;
+        if (!take(&heard[i], port, &received.messages[i])) continue;
         if (count != i) heard[count] = heard[i];
         count++;
     }
     return count;
 }
 
+size_t hear_round(const struct port *port, int socket, struct heard heard[ROUND]) { return hear(take_heard, port, socket, heard); }
+
 size_t hear_host(int socket, bool is_copied, struct heard heard[ROUND]) {
-    size_t count = 0, found = receive_round(&received, socket, heard);
-    for (size_t i = 0; i < found; i++) {
-        if (!take_of_host(&heard[i], is_copied, &received.messages[i])) continue;
-        if (count != i) heard[count] = heard[i];
-        count++;
-    }
-    return count;
+    return hear(is_copied ? take_copied : take_of_host, NULL, socket, heard);
 }
 
 struct ptpm_sent *places_to_send(void) { return PLACES - box->used >= PTPM_MOST_SENT ? box->sent + box->used : NULL; }
@@ -300,21 +302,17 @@ static unsigned long send_to_peers(void) {
     for (size_t i = 0; i < box->peer_count; i++) {
         lost += !answer_peer(box->waiting_for_peers[i].message, box->waiting_for_peers[i].answered);
     }
-    box->peer_count = 0;
     return lost;
 }
 
-unsigned long send_round(void) {
+static unsigned long send_to_ports(void) {
     unsigned long lost = 0;
     for (size_t place = 0; place < port_count && box->waiting_count > 0; place++) lost += send_at(place);
-    box->used = box->waiting_count = 0;
     return lost;
 }
 
-unsigned long send_all(void) { return send_to_peers() + send_round(); }
-
-unsigned long drop_round(void) {
-    unsigned long lost = box->waiting_count + box->peer_count;
+unsigned long end_round(bool is_saved) {
+    unsigned long lost = is_saved ? send_to_peers() + send_to_ports() : box->peer_count + box->waiting_count;
     box->used = box->waiting_count = box->peer_count = 0;
     return lost;
 }

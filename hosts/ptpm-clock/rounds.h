@@ -57,14 +57,9 @@ void answer_later(const struct ptpm_sent *message, const struct heard *answered)
 /* The first `count` places are used. */
 void use_places(size_t count);
 
-/* Sends what is to go out at the ports; how many messages were not accepted. What a socket doesn't accept at once is dropped. */
-unsigned long send_round(void);
-
-/* The same, and before it what is for peers. */
-unsigned long send_all(void);
-
-/* Drops what is to go out; how many messages that are. */
-unsigned long drop_round(void);
+/* Sends what is to go out, first to peers, if what it shows is saved. Otherwise it is dropped, as is what a socket doesn't accept at
+   once. How many messages were dropped. */
+unsigned long end_round(bool is_saved);
 
 /* Sets aside what is to go out, and takes up what was set aside. One of the two is empty. */
 void swap_rounds(void);

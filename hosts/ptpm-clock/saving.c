@@ -8,7 +8,6 @@
 #include "seal.h"
 #include "words.h"
 #include <errno.h>
-#include <stdbool.h>
 #include <stdlib.h>
 #include <string.h>
 #include <unistd.h>

@@ -8,7 +8,6 @@
 #include <stdlib.h>
 #include <string.h>
 #include <sys/inotify.h>
-#include <sys/stat.h>
 #include <time.h>
 #include <unistd.h>
 
@@ -36,21 +35,21 @@ int open_to_read(const char *path, struct stat *found) {
     return -1;
 }
 
-/* What is watched of a folder is the same as before, or the folder that has its name by now. */
-static void watch_folder(int polled, struct watch *watch, const char *whole) {
+/* What is watched of a folder is the same as before, or the folder that has its name by now. The one before may be another's too. */
+static void watch_folder(int polled, struct watch *watch, const struct watch *other, const char *whole) {
+    const char *slash = strrchr(whole, '/');
     if (strlen(whole) >= sizeof watch->folder) return;
-    strcpy(watch->name, whole);
-    strcpy(watch->name, basename(watch->name));
+    strcpy(watch->name, slash != NULL ? slash + 1 : whole);
     strcpy(watch->folder, whole);
     int number = inotify_add_watch(polled, dirname(watch->folder), IN_CLOSE_WRITE | IN_MOVED_TO);
-    if (watch->number >= 0 && number != watch->number) inotify_rm_watch(polled, watch->number);
+    if (watch->number >= 0 && number != watch->number && watch->number != other->number) inotify_rm_watch(polled, watch->number);
     watch->number = number;
 }
 
 static void watch_folders(struct source *source) {
     char target[PATH_MAX];
-    watch_folder(source->polled, &source->of_path, source->path);
-    if (realpath(source->path, target) != NULL) watch_folder(source->polled, &source->of_target, target);
+    watch_folder(source->polled, &source->of_path, &source->of_target, source->path);
+    if (realpath(source->path, target) != NULL) watch_folder(source->polled, &source->of_target, &source->of_path, target);
 }
 
 _Noreturn static void refuse(const struct source *source, const char *what) {

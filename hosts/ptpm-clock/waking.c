@@ -2,7 +2,6 @@
 #include "waking.h"
 #include "program.h"
 #include <signal.h>
-#include <stdint.h>
 #include <sys/signalfd.h>
 #include <sys/timerfd.h>
 #include <unistd.h>

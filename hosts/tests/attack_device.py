@@ -7,7 +7,7 @@ import signal
 import time
 
 from attack_limits import set_of
-from attack_saves import FAILING, SLOWLY, Disk
+from attack_saves import FAILING, SLOWLY, Calls, Disk
 from attack_wire import STRANGER, Wire, message
 from attacking import MANAGER, ME, SLOW, TRACED, Clock, Peer, check, get, manage, pause, path, read, wait_until, work, write
 
@@ -319,6 +319,20 @@ def changes_that_are_not_saved():
     peer.close()
 
 
+def questions_that_are_not_taken():
+    """The question to the program can't be handed on: the change counts as lost, and the next one is asked about."""
+    words = ("-u", path, "-m", MANAGER + "/1", "-m", SECOND_MANAGER + "/1", "--ask", program("exit 0\n"), ME)
+    clock, peer = Clock(*words, env=TRACED), Peer("peer")
+    calls = Calls(clock, "sendto", "error=ENOBUFS:when=1")
+    check("a question that is not taken runs no program", asked(peer, set_of(7, 100), 0.5) is None and runs() == [])
+    check("which is said", f"ptpm-clock: {PROGRAM} could not be asked, and the change counts as lost\n" in clock.text())
+    check("the change comes again and is made", asked(peer, set_of(7, 100)) == (7, "value", 100) and len(runs()) == 1)
+    calls.mend()
+    check("so is another manager's", asked(peer, set_of(3, 60, SECOND_MANAGER)) == (3, "value", 60))
+    check("it ends in order", clock.end()[0] == 0 and "the device said nothing: 1\n" in clock.text())
+    peer.close()
+
+
 def is_child(process, parent):
     try:
         with open(f"/proc/{process}/stat") as file:
@@ -330,4 +344,4 @@ def is_child(process, parent):
 ATTACKS = [limits_of_hardware, limits_that_are_wrong, what_a_program_says, what_a_program_inherits, programs_that_say_nothing,
            changes_that_wait, floods_while_a_program_runs, kills_while_a_program_runs]
 if shutil.which("strace") is not None:
-    ATTACKS.append(changes_that_are_not_saved)
+    ATTACKS += [changes_that_are_not_saved, questions_that_are_not_taken]

@@ -2,6 +2,7 @@
 import os
 import re
 import signal
+import socket
 import time
 
 from attack_wire import STATION, STRANGER, Wire, frame_four, message
@@ -74,6 +75,22 @@ def rates():
     clock.end()
     check("that is counted", "not passed on again: 3\n" in clock.text())
     peer.close()
+    first.remove(), second.remove()
+
+
+def programs_without_a_path():
+    """What one of them sends is passed on by what all have together, and not by what is left of the neighbour that was heard before."""
+    first, second = Wire("clk0", 10), Wire("clk1", 11)
+    clock = Clock("-f", "--rate", "1", "-u", path, ME, first.name, second.name)
+    first.come_in(message(1, target=OTHER))
+    check("a neighbour's message is passed on", len(second.sent()) == 1)
+    time.sleep(1.1)
+    with socket.socket(socket.AF_UNIX, socket.SOCK_DGRAM) as nameless:
+        for number in (2, 3):
+            nameless.sendto(message(number, target=OTHER), path)
+            time.sleep(0.1)
+    check("of two messages of a program without a path one is passed on at a rate of one", len(second.sent()) == 1)
+    check("it ends in order", clock.end()[0] == 0)
     first.remove(), second.remove()
 
 
@@ -212,4 +229,4 @@ def answers_before_a_save():
     wire.remove()
 
 
-ATTACKS = [rates, strangers_beside_each_other, addresses_without_end, forged_managers, saves_without_end, answers_before_a_save]
+ATTACKS = [rates, programs_without_a_path, strangers_beside_each_other, addresses_without_end, forged_managers, saves_without_end, answers_before_a_save]

@@ -17,11 +17,11 @@ WORDS = ("-s", state, "-u", path, "-m", MANAGER + "/1", "--manager-rate", "1000"
 SLOWLY, FAILING = "delay_enter=200000", "delay_enter=200000:error=EIO"       # microseconds, of each of the two fsync of a save
 
 
-class Disk:
-    """What becomes of each fsync of a clock, in all of its threads; with a path, of that alone."""
+class Calls:
+    """What becomes of the calls of this name that a clock makes, in all of its threads; with further words of strace, of some."""
 
-    def __init__(self, clock, what, *words):
-        self.strace = subprocess.Popen(["strace", "-f", "-qq", "-o", "/dev/null", "-e", "trace=fsync", "-e", f"inject=fsync:{what}", *words,
+    def __init__(self, clock, name, what, *words):
+        self.strace = subprocess.Popen(["strace", "-f", "-qq", "-o", "/dev/null", "-e", f"trace={name}", "-e", f"inject={name}:{what}", *words,
                                         "-p", str(clock.process.pid)])
         started.append(self.strace)
         check("strace is at the clock", wait_until(lambda: all(self.is_traced(clock, one) for one in os.listdir(f"/proc/{clock.process.pid}/task"))))
@@ -34,6 +34,13 @@ class Disk:
     def mend(self):
         self.strace.terminate()
         self.strace.wait(10)
+
+
+class Disk(Calls):
+    """A disk that is slow or fails: what becomes of each fsync of a clock."""
+
+    def __init__(self, clock, what, *words):
+        super().__init__(clock, "fsync", what, *words)
 
 
 def asked(wire, number, about="2005"):

@@ -14,7 +14,6 @@
 #include "session_image.h"
 #include "stopping.h"
 #include "text.h"
-#include <stdbool.h>
 #include <stdlib.h>
 #include <string.h>
 #include <time.h>
@@ -56,12 +55,20 @@ static void buckets(void) {
     check(count == 3 + 29, "three a second, and no fraction is lost: the last token is whole at ten seconds");
 }
 
+/* A GET of PRIORITY1 whose other members are 0 (13.3, 15.4). */
+#define GET_MESSAGE { 0x0d, 0x12, 0, MESSAGE, [49] = 1, [51] = 2 }
+
+static void number_message(uint8_t *message, unsigned number) {
+    message[30] = (uint8_t)(number >> 8);
+    message[31] = (uint8_t)number;
+}
+
 /* Whether a message is passed on, and noted for a second. */
 static bool note_if_first(struct ptpm_passed_on *table, const uint8_t message[ERROR_STATUS], uint64_t now) {
     return ptpm_passed_on_is_first(table, message, (size_t)(message[2] << 8 | message[3]), now, TIME);
 }
 
-/* Fields of a GET of PRIORITY1 that distinguish one message from another, and the octets at which they are (13.3, 15.4). */
+/* Fields that distinguish one message from another, and the octets at which they are. */
 static void passing_on(void) {
     static struct ptpm_passed_on table;
     static const struct { int octet; const char *name; } fields[] = {
@@ -70,9 +77,7 @@ static void passing_on(void) {
         { 53, "managementId" },
     };
     static const int others[] = { 2, 6, 8, 32, 33, 44, 45, 47 };
-    uint8_t message[ERROR_STATUS] = { 0x0d, 0x12, 0, MESSAGE };
-    message[49] = 1;
-    message[51] = 2;
+    uint8_t message[ERROR_STATUS] = GET_MESSAGE;
     check(note_if_first(&table, message, NOW), "a message that was not passed on");
     check(!note_if_first(&table, message, NOW) && !note_if_first(&table, message, NOW + 999), "the same in the second after it");
     for (size_t i = 0; i < sizeof fields / sizeof *fields; i++) {
@@ -101,52 +106,47 @@ static void passing_on(void) {
     check(!note_if_first(&table, message, NOW), "another error of the same id");
 }
 
+/* How many of so many messages, one after the other, are passed on and noted. */
+static unsigned noted(struct ptpm_passed_on *table, uint8_t *message, unsigned count, uint64_t now) {
+    unsigned first = 0;
+    for (unsigned i = 0; i < count; i++) {
+        number_message(message, i);
+        first += (unsigned)note_if_first(table, message, now);
+    }
+    return first;
+}
+
 /* The table keeps a second's messages at the rates that there are, and passes on none that it can't note. */
 static void many_messages(void) {
     static struct ptpm_passed_on table = { .seed = 1588 };
-    uint8_t message[ERROR_STATUS] = { 0x0d, 0x12, 0, MESSAGE };
-    unsigned first = 0, again = 0, late = 0;
-    message[49] = 1;
-    message[51] = 2;
-    for (unsigned i = 0; i < 2000; i++) {
-        message[30] = (uint8_t)(i >> 8);
-        message[31] = (uint8_t)i;
-        first += (unsigned)note_if_first(&table, message, NOW);
-    }
-    for (unsigned i = 0; i < 2000; i++) {
-        message[30] = (uint8_t)(i >> 8);
-        message[31] = (uint8_t)i;
-        again += (unsigned)note_if_first(&table, message, NOW + 500);
-    }
+    uint8_t message[ERROR_STATUS] = GET_MESSAGE;
+    unsigned first = noted(&table, message, 2000, NOW), again = noted(&table, message, 2000, NOW + 500);
     check(first >= 1990 && again == 0, "2,000 messages in a second, and each again");
-    for (unsigned i = 0; i < 60000; i++) {
-        message[30] = (uint8_t)(i >> 8);
-        message[31] = (uint8_t)i;
-        message[20] = 1;
-        late += (unsigned)note_if_first(&table, message, NOW + 600);
-    }
+    message[20] = 1;
+    unsigned late = noted(&table, message, 60000, NOW + 600);
     check(late + first <= PLACES, "no more messages than there are places");
 }
 
-/* Tables of the host's own size. Sixteen messages have a place in the smallest. No message has one if the table is too small or too large. */
+/* The same by a table of the host's own. */
+static bool is_first_of(uint64_t (*places)[6], size_t count, const uint8_t message[MESSAGE], uint64_t now) {
+    return ptpm_passed_on_is_first_of(1588, places, count, message, MESSAGE, now, TIME);
+}
+
+/* Sixteen messages have a place in the smallest. No message has one if the table is too small or too large. */
 static void own_tables(void) {
     static uint64_t places[FEWEST][6], many[MOST + 1][6];
-    uint8_t message[MESSAGE] = { 0x0d, 0x12, 0, MESSAGE };
+    uint8_t message[MESSAGE] = GET_MESSAGE;
     unsigned first = 0;
-    message[49] = 1;
-    message[51] = 2;
     for (unsigned i = 0; i <= FEWEST; i++) {
-        message[31] = (uint8_t)i;
-        first += (unsigned)ptpm_passed_on_is_first_of(1588, places, FEWEST, message, sizeof message, NOW, TIME);
+        number_message(message, i);
+        first += (unsigned)is_first_of(places, FEWEST, message, NOW);
     }
     check(first == FEWEST, "as many messages as the smallest table has places");
-    message[31] = 0;
-    check(!ptpm_passed_on_is_first_of(1588, places, FEWEST, message, sizeof message, NOW + TIME - 1, TIME)
-          && ptpm_passed_on_is_first_of(1588, places, FEWEST, message, sizeof message, NOW + TIME, TIME), "one of them again");
-    check(ptpm_passed_on_is_first_of(1588, many, MOST, message, sizeof message, NOW, TIME), "the largest table");
-    check(!ptpm_passed_on_is_first_of(1588, many, MOST + 1, message, sizeof message, NOW + TIME, TIME)
-          && !ptpm_passed_on_is_first_of(1588, places, FEWEST - 1, message, sizeof message, NOW + 2 * TIME, TIME)
-          && !ptpm_passed_on_is_first_of(1588, places, 0, message, sizeof message, NOW + 2 * TIME, TIME), "no table of such a size");
+    number_message(message, 0);
+    check(!is_first_of(places, FEWEST, message, NOW + TIME - 1) && is_first_of(places, FEWEST, message, NOW + TIME), "one of them again");
+    check(is_first_of(many, MOST, message, NOW), "the largest table");
+    check(!is_first_of(many, MOST + 1, message, NOW + TIME) && !is_first_of(places, FEWEST - 1, message, NOW + 2 * TIME)
+          && !is_first_of(places, 0, message, NOW + 2 * TIME), "no table of such a size");
     check(!ptpm_passed_on_is_first_of(1588, places, FEWEST, message, 0, NOW + 2 * TIME, TIME), "no management message in such a table");
 }
 
@@ -154,16 +154,12 @@ static void own_tables(void) {
 static void same_tables(void) {
     static struct ptpm_passed_on table = { .seed = 1588 };
     static uint64_t places[PLACES][6];
-    uint8_t message[MESSAGE] = { 0x0d, 0x12, 0, MESSAGE };
+    uint8_t message[ERROR_STATUS] = GET_MESSAGE;
     bool is_same = true;
-    message[49] = 1;
-    message[51] = 2;
     for (unsigned i = 0; i < 3 * PLACES; i++) {
         uint64_t now = NOW + i / 8;
-        message[30] = (uint8_t)(i % 5000 >> 8);
-        message[31] = (uint8_t)(i % 5000);
-        is_same = is_same && ptpm_passed_on_is_first(&table, message, sizeof message, now, TIME)
-                             == ptpm_passed_on_is_first_of(1588, places, PLACES, message, sizeof message, now, TIME);
+        number_message(message, i % 5000);
+        is_same = is_same && note_if_first(&table, message, now) == is_first_of(places, PLACES, message, now);
     }
     check(is_same, "a table of 4,096 places of the host's own");
 }
