@@ -99,8 +99,8 @@ pub use observation::{ObservedClock, ObservedGrandmaster, ObservedPort};
 pub use outbox::{Messages, Outbox};
 pub use passing::{PassedOn, Rate};
 pub use refusals::{
-    BeginError, GiveUpError, HandleError, ObserveError, ParseError, ReadError, ReceiveError, ReportError, RestoreError,
-    ResumeError, RetuneError, SaveError, SendError, StartError, SurveyError,
+    AskError, AskerRestoreError, BeginError, GiveUpError, HandleError, ObserveError, ParseError, QuestionError, ReadError,
+    ReceiveError, ReportError, RestoreError, ResumeError, RetuneError, SaveError, SendError, SetError, StartError, SurveyError,
 };
 #[cfg(feature = "alloc")]
 pub use report::Answer;
