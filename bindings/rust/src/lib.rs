@@ -19,8 +19,9 @@
 //! # Ok::<(), Box<dyn std::error::Error>>(())
 //! ```
 //!
-//! A [`Session`] makes a manager's requests of one clock and judges what comes in, and a [`Survey`] asks every clock at once. None
-//! of the three opens a socket, reads a clock or starts a thread.
+//! A [`Session`] makes a manager's requests of one clock and judges what comes in, and a [`Survey`] asks every clock at once. An
+//! [`Asker`] is a session that says what is to be sent, saved and noted next. None of them opens a socket, reads a clock or starts
+//! a thread.
 //!
 //! # What this crate sees to, and what is left to its user
 //!
@@ -56,6 +57,7 @@
 extern crate alloc;
 
 mod answers;
+mod asker;
 mod changed;
 mod clock;
 #[cfg(feature = "alloc")]
@@ -83,6 +85,7 @@ pub mod sys;
 mod time_interval;
 
 pub use answers::{Handled, Received, Surveyed};
+pub use asker::{Asker, AskerSettings, Earlier, Handed, Request, DRAWN_OCTETS};
 pub use changed::{Changed, ClockMembers, PortMembers};
 pub use clock::{Clock, Ports, Turn, CLOCK_IMAGE_OCTETS, MOST_READ};
 #[cfg(feature = "alloc")]
