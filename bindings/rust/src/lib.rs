@@ -97,7 +97,7 @@ pub use id::{ManagementErrorId, ManagementId, UnknownId};
 pub use identity::{Identity, NoIdentity, PortIdentity};
 pub use members::Members;
 #[cfg(feature = "memory")]
-pub use memory::{clock_memory, give_memory, memory_taken, most_memory_taken, SESSION_MEMORY};
+pub use memory::{clock_memory, give_memory, memory_taken, most_memory_taken, ASKER_MEMORY, SESSION_MEMORY};
 pub use observation::{ObservedClock, ObservedGrandmaster, ObservedPort};
 pub use outbox::{Messages, Outbox};
 pub use passing::{PassedOn, Rate};
