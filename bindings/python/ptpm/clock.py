@@ -4,15 +4,17 @@ from __future__ import annotations
 
 import ctypes
 from dataclasses import dataclass
-from typing import Any, List, Optional, Sequence, Set, Tuple
+from typing import Any, List, Optional, Sequence, Set, Tuple, Type
 
 from . import _header as header
 from ._library import Handle, library, octets_of
 from .answers import HandleAnswer, done, judged, written
 from .changed import Changed
+from .data_sets import AnyDataSet, id_of_data_set, of_members
 from .device import Asked, ChangeRefused, Say, say_of
 from .identity import Identity, IdentityLike
 from .ids import Action, IdLike, id_of
+from .members import members
 from .observation import ObservedClock, ObservedPort
 from .settings import ClockSettings, Manager, PortSettings
 
@@ -166,3 +168,9 @@ class Clock(Handle):
         words = (id_of(named), port_number(port), room, len(room), ctypes.byref(size))
         done(self._call(library.ptpm_clock_read, *words))
         return bytes(room[: size.value])
+
+    def data_set(self, kind: Type[AnyDataSet], port: int = 0) -> AnyDataSet:
+        """Reads a data set of the clock itself: its members have their types, as in `clock.data_set(CurrentDataSet).steps_removed`. The
+        port matters only for that of a port."""
+        named = id_of_data_set(kind)
+        return of_members(kind, members(named, self.read(named, port)))

@@ -11,7 +11,7 @@ from typing import Any
 
 import ptpm
 from ptpm import ClockMembers, HandleAnswer, PortMembers, SessionAnswer, SurveyAnswer
-from ptpm import _header as header, seal
+from ptpm import _header as header
 from ptpm._library import library
 
 from . import CLOCK, MANAGER
@@ -193,15 +193,32 @@ class Clocks(unittest.TestCase):
             self.assertRaises(OverflowError, ptpm.PortIdentity, ptpm.Identity.of(CLOCK), port)
         self.assertRaises(OverflowError, ptpm.Rate, -1, 0)
 
+    def test_data_sets_have_their_types(self) -> None:
+        with ptpm.Clock(ptpm.ClockSettings(CLOCK, **PLACES), [PORT]) as asked:
+            default = asked.data_set(ptpm.DefaultDataSet)
+            self.assertEqual((default.number_ports, default.clock_quality.clock_class, default.domain_number), (1, 0x44, 0x2A))
+            self.assertEqual(asked.data_set(ptpm.CurrentDataSet).steps_removed, 0x4142)
+            self.assertEqual(asked.data_set(ptpm.ParentDataSet).grandmaster_clock_quality.clock_accuracy, 0x23)
+            self.assertEqual(asked.data_set(ptpm.TimePropertiesDataSet).time_source.name, "OTHER")
+            port = asked.data_set(ptpm.PortDataSet, 1)
+            self.assertEqual((port.port_state, port.delay_mechanism), (ptpm.PortState.PRE_MASTER, "P2P"))
+            answered = ptpm.Report(ptpm.ManagementId.PORT_DATA_SET, asked.read("PORT_DATA_SET", 1))
+        self.assertEqual(answered.data_set(ptpm.PortDataSet), port)
+        self.assertIsNone(answered.data_set(ptpm.DefaultDataSet))
+        for other in (ptpm.Report(answered.id, b"", error=6), ptpm.Report(answered.id, answered.octets[:-2])):
+            self.assertIsNone(other.data_set(ptpm.PortDataSet))
+        with ptpm.SavingClock(clock()) as saved:
+            self.assertEqual(saved.data_set(ptpm.DefaultDataSet).priority1, 128)
+
     def test_places_of_a_medium(self) -> None:
         with clock() as asked:
             image = asked.image()
-        place = len(image) + seal.OCTETS
-        octets = bytearray(place) + seal.sealed(image, 5)
-        self.assertEqual(seal.newest_image(octets, place), (1, image, 5))
-        self.assertEqual(seal.unsealed(octets[place:]), (image, 5))
+        place = len(image) + header.PTPM_SEAL_OCTETS
+        octets = bytearray(place) + ptpm.sealed(image, 5)
+        self.assertEqual(ptpm.newest_image(octets, place), (1, image, 5))
+        self.assertEqual(ptpm.unsealed(octets[place:]), (image, 5))
         for none in (0, -1, -place):
-            self.assertIsNone(seal.newest_image(octets, none))
+            self.assertIsNone(ptpm.newest_image(octets, none))
 
     def test_an_offset_is_no_number_of_nanoseconds(self) -> None:
         """CURRENT_DATA_SET has it times 2^16 (15.5.3.4.1). What a data set gives back in nanoseconds is not taken for that."""
