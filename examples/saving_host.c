@@ -10,9 +10,6 @@
 #include <string.h>
 #include <unistd.h>
 
-/* What comes after the image in the file: a mark, how often it was saved, and the CRC-32 of all before it. So damage is found. */
-enum { MARK = 4, SAVES = 8, SEAL = 16 };
-
 static const uint8_t identity[8] = { 0xaa, 0xbb, 0xcc, 0xff, 0xfe, 0xdd, 0xee, 0x01 };
 static const struct ptpm_manager_settings manager = { { 0x00, 0x11, 0x22, 0x33, 0x44, 0x55, 0x66, 0x77 }, 1, PTPM_CLOCK_SET };
 static const uint8_t datagram[56] = {           /* from this manager to every port of the clock, number 7: PRIORITY1 is to be 100 */
@@ -21,46 +18,8 @@ static const uint8_t datagram[56] = {           /* from this manager to every po
 };
 static struct ptpm_sent sent[PTPM_MOST_SENT];
 static struct ptpm_clock device;                /* all zeros: no clock is held yet */
-static uint8_t image[PTPM_CLOCK_IMAGE_OCTETS + SEAL + 1];
+static uint8_t image[PTPM_CLOCK_IMAGE_OCTETS + PTPM_SEAL_OCTETS];
 static uint64_t saves;
-
-/* The CRC-32 of IEEE 802.3, with its bits in reverse order. */
-static uint32_t crc_of(const uint8_t *octets, size_t size) {
-    uint32_t crc = UINT32_MAX;
-    for (size_t place = 0; place < size; place++) {
-        crc ^= octets[place];
-        for (int bit = 0; bit < 8; bit++) crc = (crc >> 1) ^ (0xedb88320 & -(crc & 1));
-    }
-    return ~crc;
-}
-
-/* A number with its highest octet first. */
-static void write_number(uint8_t *at, size_t size, uint64_t number) {
-    for (size_t place = size; place > 0; place--, number >>= 8) at[place - 1] = (uint8_t)number;
-}
-
-static uint64_t read_number(const uint8_t *at, size_t size) {
-    uint64_t number = 0;
-    for (size_t place = 0; place < size; place++) number = number << 8 | at[place];
-    return number;
-}
-
-/* Writes the seal after the image; how many octets there are then. */
-static size_t seal(size_t size) {
-    memcpy(image + size, "ptps", MARK);
-    write_number(image + size + MARK, SAVES, ++saves);
-    write_number(image + size + MARK + SAVES, SEAL - MARK - SAVES, crc_of(image, size + MARK + SAVES));
-    return size + SEAL;
-}
-
-/* How many octets are before the seal; 0 if these octets are not those that were sealed. A file without a seal is an image. */
-static size_t unseal(size_t size) {
-    size_t before = size < SEAL ? 0 : size - SEAL, crc = before + MARK + SAVES;
-    if (size < SEAL || memcmp(image + before, "ptps", MARK) != 0) return size;
-    if (read_number(image + crc, SEAL - MARK - SAVES) != crc_of(image, crc)) return 0;
-    saves = read_number(image + before + MARK, SAVES);
-    return before;
-}
 
 /* Whether the octets are in the file, whatever happens to the power from now on. A new file replaces the old one, and each step
    is on the disk before the next. The file is in the folder that the program runs in. */
@@ -73,11 +32,12 @@ static int store(const char *file, size_t size) {
     return is_saved;
 }
 
-/* Saves the clock, and gets the messages that waited for that. */
+/* Saves the clock with its seal, by which damage is found, and gets the messages that waited for that. */
 static int save(const char *file, size_t *count) {
-    size_t size;
+    size_t size, sealed;
     uint64_t token;
-    return ptpm_clock_image_of(&device, image, sizeof image - SEAL, &size, &token) == PTPM_SAVED && store(file, seal(size))
+    return ptpm_clock_image_of(&device, image, sizeof image, &size, &token) == PTPM_SAVED
+           && ptpm_image_seal(image, size, sizeof image, ++saves, &sealed) == PTPM_SAVED && store(file, sealed)
            && ptpm_clock_saved(&device, token, sent, PTPM_MOST_SENT, count) == PTPM_SAVED;
 }
 
@@ -95,13 +55,13 @@ static int start(const char *file) {
 /* Whether the device has its clock: that of the file, or a fresh one if there is no file. A file that is refused is no reason for a
    fresh one, which would carry out old requests once more. */
 static int go_on(const char *file) {
-    size_t gone;
+    size_t gone, found;
     int at = open(file, O_RDONLY);
     if (at < 0) return errno == ENOENT && start(file);
     ssize_t size = read(at, image, sizeof image);
     close(at);
-    if (size < 0) return 0;
-    return ptpm_clock_restore(&device, identity, 1, &manager, 1, image, unseal((size_t)size), &gone) == PTPM_RESTORED
+    if (size < 0 || ptpm_image_unseal(image, (size_t)size, &saves, &found) != PTPM_RESTORED) return 0;
+    return ptpm_clock_restore(&device, identity, 1, &manager, 1, image, found, &gone) == PTPM_RESTORED
            && ptpm_clock_saving(&device) == PTPM_SAVING;
 }
 

@@ -738,7 +738,7 @@ __extension__ enum PTPM_FOUR_OCTETS(ptpm_restored) {
 __extension__ enum PTPM_FOUR_OCTETS(ptpm_parsed) {
     PTPM_PARSED = 0,
     PTPM_PARSE_NO_ROOM = PTPM_NO_ROOM,  /* for fewer octets than the dataField has */
-    PTPM_NOT_WORDS = 113,               /* the last octet is no zero, a word is no UTF-8, or there are over 20 words */
+    PTPM_NOT_WORDS = 113,               /* there are octets and the last is no zero, a word is no UTF-8, or there are over 20 words */
     PTPM_UNKNOWN_ID = 114,              /* this profile lacks the id */
     PTPM_WORD_COUNT = 115,              /* more or fewer words than a name and a value for each member */
     PTPM_OTHER_NAME = 116,              /* a word is not the name of the member that comes next */
@@ -797,6 +797,7 @@ PTPM_IS_WIDE(ptpm_parsed);
 PTPM_IS_WIDE(ptpm_asker_restored);
 PTPM_IS_WIDE(ptpm_asked);
 PTPM_IS_WIDE(ptpm_asking);
+PTPM_IS_WIDE(ptpm_set_here);
 #undef PTPM_IS_WIDE
 #undef PTPM_FOUR_OCTETS
 
@@ -1318,7 +1319,8 @@ enum ptpm_asked ptpm_asker_image(const struct ptpm_asker *asker, uint8_t *octets
    Takes:   the domain in which this run asks.
    Returns: PTPM_NOTHING_LEFT; PTPM_QUESTION_LEFT, which ptpm_asker_ask sends again; PTPM_GET_LEFT or PTPM_CHANGE_LEFT, which are
             settled or given up before anything is asked. PTPM_NOTHING_LEFT too if the handle holds no asker.
-   Writes:  *there: the domain in which a GET or a change that was left is settled (ptpm_asker_settle). */
+   Writes:  *there: the domain in which a GET or a change that was left is settled (ptpm_asker_settle). If none was left, it says
+            nothing. */
 uint32_t ptpm_asker_earlier(const struct ptpm_asker *asker, uint8_t domain, uint8_t *there);
 
 /* Gives what the answer says that was handed out last with PTPM_NOTE_ANSWER.
@@ -1373,7 +1375,7 @@ enum ptpm_restored ptpm_image_unseal(const uint8_t *octets, size_t size, uint64_
             of a medium its head is enough: as many octets as the largest image and its seal.
    Returns: the place of the image with the highest count, counted from 0; of as many, the first. The number of places if no place
             holds an image that ptpm_image_unseal takes.
-   Writes:  *count and *image, as ptpm_image_unseal does for that place. */
+   Writes:  *count and *image, as ptpm_image_unseal does for that place; both are 0 if no place holds one. */
 size_t ptpm_newest_image_in(const uint8_t *octets, size_t size, size_t place, uint64_t *count, size_t *image);
 
 static inline size_t ptpm_newest_image(const uint8_t *octets, size_t place, size_t places, uint64_t *count, size_t *image) {

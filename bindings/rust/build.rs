@@ -41,7 +41,11 @@ fn assembled() -> PathBuf {
     let own = PathBuf::from(variable("CARGO_MANIFEST_DIR"));
     let is_in_repository = own.join("../../bindings/rust/pack").exists();
     let top = own.join(if is_in_repository { "../.." } else { "library" });
-    assert!(top.join("hosts/ptpm.h").exists(), "{}: the library is not there. Run bindings/rust/pack before the crate is copied", own.display());
+    assert!(
+        top.join("hosts/ptpm.h").exists(),
+        "{}: the library is not there. Run bindings/rust/pack before the crate is copied",
+        own.display()
+    );
     let folder = PathBuf::from(variable("OUT_DIR"));
     let compiler = Compiler::of_target();
     let machine = compiler.machine();

@@ -1,4 +1,4 @@
-/* blocks: clocks, sessions and surveys in a block of the host's own (ptpm_memory.h). Each has the room that the header says, in any
+/* blocks: clocks, sessions, surveys and askers in a block of the host's own (ptpm_memory.h). Each has the room that the header says, in any
    order of calls. One octet less is refused by PTPM_NO_MEMORY, and changes nothing. What is stopped is given back whole. Prints what
    does not hold and `blocks: N passed, M failed`; its status is 1 if one failed. */
 #include "checking.h"
@@ -19,6 +19,7 @@ static uint8_t octets[PTPM_MOST_OCTETS], image[PTPM_CLOCK_IMAGE_OCTETS];
 static struct ptpm_clock clocks[CLOCKS];
 static struct ptpm_session session;
 static struct ptpm_survey survey;
+static struct ptpm_asker asker;
 static uint16_t next_number;            /* of the session's next request */
 
 static unsigned below(unsigned limit) { return (unsigned)rand() % limit; }
@@ -91,10 +92,49 @@ static enum ptpm_survey_received survey_receive(uint16_t source, size_t size) {
     return ptpm_survey_receive(&survey, octets, whole);
 }
 
+static enum ptpm_started start_asker(void) {
+    static const uint8_t drawn[26];
+    struct ptpm_asker_settings settings = { .session = { .port = 1, .target_ports = 1, .first = 7, .hops = 1, .attempts = 2 },
+                                            .nobody = 61440, .timeout = 200, .wait = 3000 };
+    memcpy(settings.session.clock, manager, 8);
+    memcpy(settings.session.target, target, 8);
+    return ptpm_asker_start(&asker, &settings, drawn);
+}
+
+/* Has the message that the asker handed out answered by this many octets of its id. */
+static enum ptpm_asked answer_it(size_t field_size, struct ptpm_handed *next) {
+    size_t size;
+    uint8_t id[2];
+    ptpm_asker_message(&asker, octets, sizeof octets, &size);
+    memcpy(id, octets + 52, 2);
+    size = answer_of((uint16_t)(octets[30] << 8 | octets[31]), 0xee01, field_size);
+    memcpy(octets + 52, id, 2);
+    return ptpm_asker_hear(&asker, octets, size, next);
+}
+
+/* Has the asker ask this many octets, and has what it sends answered by others. */
+static enum ptpm_asked ask(size_t size, uint64_t *now) {
+    struct ptpm_handed next;
+    bool is_answered = false;
+    enum ptpm_asked answer = ptpm_asker_ask(&asker, *now, 1, PTPM_SET, PTPM_ID_USER_DESCRIPTION, 0, field, size, 0, &next);
+    while (answer == PTPM_ASKED && !(is_answered && next.what == PTPM_NOTHING)) {
+        switch (next.what) {
+        case PTPM_NOTE_ANSWER: is_answered = true; /* fall through */
+        case PTPM_NOTE_BEGUN: answer = ptpm_asker_noted(&asker, &next); continue;
+        case PTPM_SAVE_IT: answer = ptpm_asker_saved(&asker, *now, &next); continue;
+        case PTPM_SEND_IT: answer = answer_it(2 * below(MOST_FIELD / 2 + 1), &next); continue;
+        default: *now += 3000;
+        }
+        answer = ptpm_asker_wake(&asker, *now, &next);
+    }
+    return answer;
+}
+
 static void stop_all(void) {
     for (int i = 0; i < CLOCKS; i++) ptpm_clock_stop(&clocks[i]);
     ptpm_session_stop(&session);
     ptpm_survey_stop(&survey);
+    ptpm_asker_stop(&asker);
     check(ptpm_memory_taken() == 0, "what is stopped is given back");
 }
 
@@ -178,6 +218,17 @@ static void exact_session(void) {
         else refused += begin(2 * below(MOST_FIELD / 2 + 1)) != PTPM_BEGUN || receive(2 * below(MOST_FIELD / 2 + 1)) != PTPM_ANSWERED;
     }
     check(refused == 0, "no request and no answer of a session is refused");
+    stop_all();
+}
+
+static void roomy_asker(void) {
+    unsigned refused = 0;
+    uint64_t now = 0;
+    ptpm_memory_give(block, PTPM_ASKER_MEMORY);
+    check(start_asker() == PTPM_STARTED, "an asker in its block");
+    for (int i = 0; i < TIMES; i++)
+        refused += (below(100) == 0 && start_asker() != PTPM_STARTED) || ask(2 * below(MOST_FIELD / 2 + 1), &now) != PTPM_ASKED;
+    check(refused == 0, "no request and no answer of an asker is refused");
     stop_all();
 }
 
@@ -277,6 +328,7 @@ int main(void) {
     }
     clock_managers = MANAGERS;
     exact_session();
+    roomy_asker();
     for (size_t i = 0; i < sizeof answers / sizeof *answers; i++)
         for (size_t k = 0; k < sizeof sizes / sizeof *sizes; k++)
             roomy_survey(answers[i], sizes[k], PTPM_SURVEY_MEMORY(answers[i], sizes[k]));

@@ -7,7 +7,7 @@ What does a ptp4l of this machine say?
 
     with ptpm.UnixTransport("/var/run/ptp4l") as way:
         for report in ptpm.survey(way, "DEFAULT_DATA_SET"):
-            print(report.source, report.members["priority1"])
+            print(report.source, report.members.get("priority1", report))
 
 The calls take no thread and no socket of their own. They are not made from a signal handler that comes in while one is made, nor
 in a forked child of a process with threads.
@@ -32,6 +32,7 @@ from .report import Report
 from .requests import Requests, SessionSettings
 from .saving_clock import SavingClock, Turn
 from .saving_session import SavingSession
+from .seal import newest_image, sealed, unsealed
 from .session import Session
 from .session_file import DamagedFileError, OpenApplyError, SessionFile, SessionFileError, usual_path
 from .settings import ClockSettings, DelayMechanism, Manager, PortSettings, PortState, Rights, TimeSource
@@ -45,10 +46,10 @@ __all__ = [
     "__version__", "Action", "answer_name", "ask_as_nobody", "Asked", "AskedDomain", "Changed", "ChangeRefused", "Clock",
     "ClockMembers", "ClockQuality", "ClockSettings", "CurrentDataSet", "DamagedFileError", "data_field", "DefaultDataSet",
     "DelayMechanism", "Domain", "DomainIdentity", "Error", "error_name", "Finding", "get", "Gives", "HandleAnswer", "Handled",
-    "id_name", "id_of", "Identity", "Limit", "ManagementId", "Manager", "members", "NoAnswer", "Objection", "ObservedClock",
+    "id_name", "id_of", "Identity", "Limit", "ManagementId", "Manager", "members", "newest_image", "NoAnswer", "Objection", "ObservedClock",
     "ObservedGrandmaster", "ObservedPort", "OpenApplyError", "ParentDataSet", "PassedOn", "PortDataSet", "PortIdentity",
     "PortMembers", "PortSettings", "PortState", "PtpmError", "Rate", "read_site", "Report", "Requests", "Rights", "SavingClock",
-    "SavingSession", "Say", "Session", "SessionAnswer", "SessionFile", "SessionFileError", "SessionSettings", "Site", "site",
+    "SavingSession", "Say", "sealed", "Session", "SessionAnswer", "SessionFile", "SessionFileError", "SessionSettings", "Site", "site",
     "SiteClock", "SiteError", "Survey", "survey", "SURVEY_PORT", "SurveyAnswer", "SurveySettings", "time_interval", "TimeInterval",
-    "TimePropertiesDataSet", "TimeSource", "Transport", "Turn", "UdpTransport", "UnixTransport", "usual_path",
+    "TimePropertiesDataSet", "TimeSource", "Transport", "Turn", "UdpTransport", "UnixTransport", "unsealed", "usual_path",
 ]

@@ -62,6 +62,11 @@ def typed(text: str) -> Tuple[bytes, int]:
     return octets, len(octets)
 
 
+def octets_of(given: bytes) -> bytes:
+    """Octets that a caller gives, as bytes or in another buffer. A number is none (TypeError): bytes(2) would be two zeros."""
+    return memoryview(given).tobytes()
+
+
 class Handle:
     """What owns a handle of the library. It is all zeros before its first call, and has one live copy. Only one thread at a
     time makes calls with it."""

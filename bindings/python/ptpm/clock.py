@@ -4,15 +4,17 @@ from __future__ import annotations
 
 import ctypes
 from dataclasses import dataclass
-from typing import Any, List, Optional, Sequence, Set, Tuple
+from typing import Any, List, Optional, Sequence, Set, Tuple, Type
 
 from . import _header as header
-from ._library import Handle, library
+from ._library import Handle, library, octets_of
 from .answers import HandleAnswer, done, judged, written
 from .changed import Changed
+from .data_sets import AnyDataSet, id_of_data_set, of_members
 from .device import Asked, ChangeRefused, Say, say_of
 from .identity import Identity, IdentityLike
 from .ids import Action, IdLike, id_of
+from .members import members
 from .observation import ObservedClock, ObservedPort
 from .settings import ClockSettings, Manager, PortSettings
 
@@ -77,7 +79,7 @@ class Clock(Handle):
         clock._begin()
         gone = ctypes.c_size_t()
         trusted = _trusted(identity, managers)
-        octets, own = bytes(image), Identity.of(identity).octets
+        octets, own = octets_of(image), Identity.of(identity).octets
         words = (own, ports, trusted, len(managers), octets, len(octets), ctypes.byref(gone))
         done(clock._call(library.ptpm_clock_restore, *words))
         return clock, gone.value
@@ -98,7 +100,7 @@ class Clock(Handle):
         manager, which the clock itself does not refuse. Or it is to give the value of an id that the clock lacks, to a GET that would
         be answered. It is nothing for any other datagram. Nothing changes."""
         question = header.ptpm_question()
-        datagram = bytes(octets)
+        datagram = octets_of(octets)
         came_in = (port_number(port), datagram, len(datagram))
         asked = judged(self._call(library.ptpm_clock_ask, *came_in, ctypes.byref(question)))
         return Asked.of_library(question) if asked in (header.PTPM_ASKED_CHANGE, header.PTPM_ASKED_VALUE) else None
@@ -110,7 +112,7 @@ class Clock(Handle):
         has 130 octets at most, since it is kept. A longer one is answered with RESPONSE_TOO_BIG, and that is kept."""
         count = ctypes.c_size_t()
         changed = header.ptpm_changed()
-        datagram = bytes(octets)
+        datagram = octets_of(octets)
         came_in = (port_number(port), datagram, len(datagram))
         with self._turn:
             room = (self._sent, len(self._sent), ctypes.byref(count), ctypes.byref(changed))
@@ -127,7 +129,7 @@ class Clock(Handle):
         answer of its time. The port 0xFFFF is every port. Returns the members that have another value since, or raises
         ChangeRefused."""
         changed, error = header.ptpm_changed(), ctypes.c_uint16()
-        field = bytes(octets)
+        field = octets_of(octets)
         words = (action, id_of(named), port_number(port), field, len(field), ctypes.byref(changed), ctypes.byref(error))
         if judged(self._call(library.ptpm_clock_set, *words)) == header.PTPM_SET_REFUSED:
             raise ChangeRefused(error.value)
@@ -166,3 +168,9 @@ class Clock(Handle):
         words = (id_of(named), port_number(port), room, len(room), ctypes.byref(size))
         done(self._call(library.ptpm_clock_read, *words))
         return bytes(room[: size.value])
+
+    def data_set(self, kind: Type[AnyDataSet], port: int = 0) -> AnyDataSet:
+        """Reads a data set of the clock itself: its members have their types, as in `clock.data_set(CurrentDataSet).steps_removed`. The
+        port matters only for that of a port."""
+        named = id_of_data_set(kind)
+        return of_members(kind, members(named, self.read(named, port)))

@@ -1,4 +1,5 @@
-"""The data sets of a clock (IEEE 1588-2019, 8.2 and 15.5.3), in the form of `ptpm site --json`. TimeIntervals are in nanoseconds."""
+"""The data sets of a clock (IEEE 1588-2019, 8.2 and 15.5.3), from the members of an answer or from `ptpm site --json`. TimeIntervals are
+in nanoseconds."""
 
 from __future__ import annotations
 
@@ -8,6 +9,7 @@ from decimal import Decimal
 from typing import Any, Callable, Dict, Mapping, Type, TypeVar
 
 from .identity import Identity, PortIdentity
+from .ids import ManagementId
 from .settings import PortState, TimeSource
 from .time_interval import TimeInterval
 
@@ -164,6 +166,36 @@ def read(kind: Type[_Read], value: Mapping[str, Any]) -> _Read:
     for member in fields(kind):
         members[member.name] = _READERS[str(member.type)](value[_name_in_json(member.name)])
     return kind(**members)
+
+
+# One of the five data sets, and the id that is asked for it.
+AnyDataSet = TypeVar("AnyDataSet", DefaultDataSet, CurrentDataSet, ParentDataSet, TimePropertiesDataSet, PortDataSet)
+_IDS: Dict[type, ManagementId] = {
+    DefaultDataSet: ManagementId.DEFAULT_DATA_SET,
+    CurrentDataSet: ManagementId.CURRENT_DATA_SET,
+    ParentDataSet: ManagementId.PARENT_DATA_SET,
+    TimePropertiesDataSet: ManagementId.TIME_PROPERTIES_DATA_SET,
+    PortDataSet: ManagementId.PORT_DATA_SET,
+}
+
+
+def id_of_data_set(kind: type) -> ManagementId:
+    """The id that is asked for a data set."""
+    if kind not in _IDS:
+        raise TypeError(f"{kind!r} is no data set")
+    return _IDS[kind]
+
+
+def of_members(kind: Type[_Read], members: Mapping[str, Any], head: str = "") -> _Read:
+    """A data set out of the members of its dataField; a clockQuality out of those whose names begin with its own."""
+    read: Dict[str, Any] = {}
+    for member in fields(kind):
+        name = head + _name_in_json(member.name)
+        if str(member.type) == "ClockQuality":
+            read[member.name] = of_members(ClockQuality, members, f"{name}.")
+        else:
+            read[member.name] = members[name].name if str(member.type) == "str" else members[name]
+    return kind(**read)
 
 
 # How a member of a data set is read, by its name.

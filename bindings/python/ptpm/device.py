@@ -8,7 +8,7 @@ from enum import IntEnum
 from typing import Any, Optional, Sequence, Tuple, Union
 
 from . import _header as header
-from ._library import library
+from ._library import library, octets_of
 from .errors import PtpmError
 from .identity import Identity, PortIdentity
 from .ids import Action, IdLike, error_name, id_of
@@ -99,7 +99,7 @@ def say_of(said: Optional[Say]) -> Any:
         return header.ptpm_say(kind=header.PTPM_AGREES)
     if not isinstance(said, Gives):
         return header.ptpm_say(kind=header.PTPM_OBJECTS, error=Objection(said))
-    octets = bytes(said.octets)
+    octets = octets_of(said.octets)
     say = header.ptpm_say(kind=header.PTPM_GIVES, size=min(len(octets), 0xFFFF))
     if len(octets) <= len(say.octets):
         say.octets[: len(octets)] = octets

@@ -59,6 +59,10 @@ class PortIdentity:
     clock: Identity
     port: int
 
+    def __post_init__(self) -> None:
+        if not 0 <= self.port <= 65535:
+            raise OverflowError(f"a port's number is 0 to 65535, not {self.port}")
+
     @classmethod
     def of(cls, identity: PortIdentityLike) -> PortIdentity:
         """A portIdentity, or the one that a text spells."""

@@ -3,14 +3,15 @@
 from __future__ import annotations
 
 import ctypes
+import operator
 import re
 from decimal import Decimal
 from typing import Callable, Dict, Iterable, List, Mapping, NoReturn, Sequence, Tuple, Union
 
 from . import _header as header
-from ._library import library, text_by
+from ._library import library, octets_of, text_by
 from .identity import Identity, PortIdentity
-from .ids import ManagementId
+from .ids import IdLike, ManagementId, id_of
 from .settings import DelayMechanism, PortState, TimeSource
 
 Member = Union[int, bool, str, bytes, Decimal, Identity, PortIdentity, Tuple[Identity, ...]]
@@ -75,12 +76,13 @@ def _kind(number: int, octets: bytes, place: int) -> int:
     return kind
 
 
-def members(number: int, octets: bytes) -> Dict[str, Member]:
+def members(named: IdLike, octets: bytes) -> Dict[str, Member]:
     """The members of a managementId's dataField: none if they are not known here, or if it has another length than the id's.
 
-    >>> members(ManagementId.CURRENT_DATA_SET, bytes.fromhex("0001ffffffffffff80000000000000000001"))
+    >>> members("CURRENT_DATA_SET", bytes.fromhex("0001ffffffffffff80000000000000000001"))
     {'stepsRemoved': 1, 'offsetFromMaster': Decimal('-0.5'), 'meanDelay': Decimal('0.0000152587890625')}
     """
+    number, octets = id_of(named), octets_of(octets)
     pairs = _pairs(number, octets)
     if not _has_members(pairs):
         return {}
@@ -171,7 +173,7 @@ def parse(number: int, words: Sequence[str]) -> bytes:
 
 def _word(value: Value) -> str:
     """The word for a value: of a text the one that means it as it is."""
-    return value.replace("\\", "\\x5c").replace("\0", "\\x00") if isinstance(value, str) else str(int(value))
+    return value.replace("\\", "\\x5c").replace("\0", "\\x00") if isinstance(value, str) else str(operator.index(value))
 
 
 def _in_order(number: int, values: Mapping[str, Value]) -> Iterable[str]:
@@ -185,16 +187,17 @@ def _in_order(number: int, values: Mapping[str, Value]) -> Iterable[str]:
         raise ValueError(f"it has no member {next(iter(given))}")
 
 
-def data_field(number: int, value: DataField) -> bytes:
+def data_field(named: IdLike, value: DataField) -> bytes:
     """The dataField of a SET: octets as they are, nothing as none, and else the one member of the id, or its text. Or the value
     of each member by its name in the standard.
 
-    >>> data_field(ManagementId.PRIORITY1, 100).hex(), data_field(ManagementId.USER_DESCRIPTION, "rack 4").hex()
+    >>> data_field("PRIORITY1", 100).hex(), data_field("USER_DESCRIPTION", "rack 4").hex()
     ('6400', '067261636b203400')
     >>> utc = {"currentUtcOffset": 37, "leap61": False, "leap59": False, "currentUtcOffsetValid": True}
-    >>> data_field(ManagementId.UTC_PROPERTIES, utc).hex()
+    >>> data_field("UTC_PROPERTIES", utc).hex()
     '00250400'
     """
+    number = id_of(named)
     if value is None or isinstance(value, bytes):
         return value or b""
     if isinstance(value, Mapping):

@@ -6,7 +6,7 @@ import ctypes
 import threading
 
 from . import _header as header
-from ._library import library
+from ._library import library, octets_of
 
 
 class PassedOn:
@@ -22,7 +22,7 @@ class PassedOn:
 
     def is_first(self, message: bytes, now: int, time: int) -> bool:
         """Whether a message is to be forwarded; it is then recorded for a time. The time now and that one are in the same unit."""
-        octets = bytes(message)
+        octets = octets_of(message)
         with self._turn:
             table = (self._seed, self._places, self._count)
             return bool(library.ptpm_passed_on_is_first_of(*table, octets, len(octets), now, time))
@@ -32,6 +32,8 @@ class Rate:
     """A bucket of tokens: N per second, at most 1,000,000, and at most those of one second at once. Times are in milliseconds."""
 
     def __init__(self, tokens: int, now: int) -> None:
+        if tokens < 0:
+            raise OverflowError(f"a rate is no {tokens}")
         self._rate = header.ptpm_rate()
         self._turn = threading.Lock()
         library.ptpm_rate_start(ctypes.byref(self._rate), tokens, now)

@@ -4,10 +4,11 @@ from __future__ import annotations
 
 import ctypes
 from dataclasses import dataclass
-from typing import Callable, Dict, Optional
+from typing import Callable, Dict, Optional, Type
 
 from . import _header as header
 from .answers import Error, judged
+from .data_sets import AnyDataSet, id_of_data_set, of_members
 from .identity import PortIdentity
 from .ids import error_name
 from .members import Member, lines, members
@@ -41,6 +42,13 @@ class Report:
     def members(self) -> Dict[str, Member]:
         """The members of the dataField by the standard's names: none if they are not known here."""
         return members(self.id, self.octets)
+
+    def data_set(self, kind: Type[AnyDataSet]) -> Optional[AnyDataSet]:
+        """The data set that was answered: its members have their types, as in `report.data_set(PortDataSet)`. None if it is no such
+        data set, or the clock refused."""
+        if self.id != id_of_data_set(kind) or self.error is not None or not self.members:
+            return None
+        return of_members(kind, self.members)
 
     def __str__(self) -> str:
         """As ptpm-manage prints it."""

@@ -7,7 +7,7 @@ from dataclasses import dataclass
 from typing import Callable, Optional
 
 from . import _header as header
-from ._library import Handle, library
+from ._library import Handle, library, octets_of
 from .answers import SessionAnswer, done, judged, written
 from .clock import port_number
 from .identity import Identity, IdentityLike, PortIdentity, PortIdentityLike
@@ -64,12 +64,12 @@ class Requests(Handle):
 
     def begin(self, action: int, named: IdLike, data: bytes = b"", port: int = 0) -> None:
         """Begins a request, and discards the answer to the one before. The port matters only for an id of a port."""
-        self._begin_by(library.ptpm_session_begin, action, named, port, bytes(data))
+        self._begin_by(library.ptpm_session_begin, action, named, port, octets_of(data))
 
     def begin_at(self, action: int, named: IdLike, port: int, data: bytes = b"") -> None:
         """Does what `begin` does, but names the port for any id. Some clocks answer only if one of their
         ports is named, for an id of the clock too. Any port of the clock may answer for such an id."""
-        self._begin_by(library.ptpm_session_begin_at, action, named, port, bytes(data))
+        self._begin_by(library.ptpm_session_begin_at, action, named, port, octets_of(data))
 
     def _begin_by(self, call: Callable[..., int], action: int, named: IdLike, port: int, octets: bytes) -> None:
         request, place = Request(Action(action), id_of(named), port, octets), NamedPort(port_number(port))
@@ -90,7 +90,7 @@ class Requests(Handle):
         """Judges a datagram that came in. After ANSWERED the next request can be begun. A clock that is not one of ptpm may refuse
         at the port where the request came in, not at the one that was named. So its error is judged as one of the named port."""
         answer = SessionAnswer.NOTHING_ASKED
-        for datagram in self._port.comes_in(bytes(octets)):
+        for datagram in self._port.comes_in(octets_of(octets)):
             answer = SessionAnswer(judged(self._call(library.ptpm_session_receive, datagram, len(datagram))))
             if answer == SessionAnswer.ANSWERED:
                 break
@@ -128,7 +128,7 @@ class Requests(Handle):
         """Continues as the session of an image of the same manager, clock, number of ports and first number, instead of this one.
         Its domain, hops and attempts are those of the image. A request that was not answered stays open: send it again. What is
         refused is no reason to start a fresh session: the clock would treat its requests as old, or as others."""
-        octets, struct = bytes(image), self.settings.as_in_c()
+        octets, struct = octets_of(image), self.settings.as_in_c()
         done(self._call(library.ptpm_session_restore, ctypes.byref(struct), octets, len(octets)))
         self._request, self._port = unanswered(octets), NamedPort()
 

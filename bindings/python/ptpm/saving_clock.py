@@ -4,13 +4,14 @@ from __future__ import annotations
 
 import ctypes
 from contextlib import contextmanager
-from typing import Iterator, List, Optional, Sequence, Set, Tuple
+from typing import Iterator, List, Optional, Sequence, Set, Tuple, Type
 
 from . import _header as header
 from ._library import library
 from .answers import HandleAnswer, done
 from .changed import Changed
 from .clock import Clock, Handled
+from .data_sets import AnyDataSet
 from .ids import Action, IdLike
 from .observation import ObservedClock, ObservedPort
 
@@ -115,3 +116,7 @@ class SavingClock:
     def read(self, named: IdLike, port: int = 0) -> bytes:
         """Does what Clock.read does."""
         return self._clock.read(named, port)
+
+    def data_set(self, kind: Type[AnyDataSet], port: int = 0) -> AnyDataSet:
+        """Does what Clock.data_set does."""
+        return self._clock.data_set(kind, port)

@@ -7,7 +7,7 @@ import ctypes
 from typing import Optional, Tuple
 
 from . import _header as header
-from ._library import library
+from ._library import library, octets_of
 from .answers import Error
 
 OCTETS = header.PTPM_SEAL_OCTETS
@@ -15,7 +15,7 @@ OCTETS = header.PTPM_SEAL_OCTETS
 
 def sealed(image: bytes, saves: int) -> bytes:
     """An image with its seal: how often it was saved, and the CRC-32 of all before it."""
-    room = (ctypes.c_uint8 * (len(image) + OCTETS)).from_buffer_copy(image + bytes(OCTETS))
+    room = (ctypes.c_uint8 * (len(image) + OCTETS)).from_buffer_copy(octets_of(image) + bytes(OCTETS))
     size = ctypes.c_size_t()
     library.ptpm_image_seal_in(room, len(room), len(image), saves % 2**64, ctypes.byref(size))
     return bytes(room)
@@ -24,6 +24,7 @@ def sealed(image: bytes, saves: int) -> bytes:
 def unsealed(octets: bytes) -> Tuple[bytes, int]:
     """The image that octets begin with, and how often it was saved: 0 times if it has no seal and nothing comes after it. Raises an
     Error if they hold no image that is whole."""
+    octets = octets_of(octets)
     count, size = ctypes.c_uint64(), ctypes.c_size_t()
     number = library.ptpm_image_unseal(octets, len(octets), ctypes.byref(count), ctypes.byref(size))
     if number != header.PTPM_RESTORED:
@@ -34,8 +35,9 @@ def unsealed(octets: bytes) -> Tuple[bytes, int]:
 def newest_image(octets: bytes, place: int) -> Optional[Tuple[int, bytes, int]]:
     """The newest whole image of several places, each of `place` octets: its place, counted from 0, the image, and how often it was
     saved. None if no place has one."""
-    if place == 0:
+    if place <= 0:
         return None
+    octets = octets_of(octets)
     count, size = ctypes.c_uint64(), ctypes.c_size_t()
     found = library.ptpm_newest_image_in(octets, len(octets), place, ctypes.byref(count), ctypes.byref(size))
     if found == len(octets) // place:

@@ -8,7 +8,7 @@ from dataclasses import dataclass
 from typing import Generator, Iterator, Optional
 
 from . import _header as header
-from ._library import Handle, library
+from ._library import Handle, library, octets_of
 from .answers import SurveyAnswer, done, judged, written
 from .asking import send_out
 from .identity import Identity, IdentityLike, PortIdentity, PortIdentityLike
@@ -76,7 +76,7 @@ class Survey(Handle):
 
     def receive(self, octets: bytes) -> SurveyAnswer:
         """Judges a datagram that came in, and keeps it if it is the first answer of its port."""
-        datagram = bytes(octets)
+        datagram = octets_of(octets)
         return SurveyAnswer(judged(self._call(library.ptpm_survey_receive, datagram, len(datagram))))
 
     def __len__(self) -> int:

@@ -7,6 +7,7 @@ import copy
 import doctest
 import unittest
 from decimal import Decimal
+from typing import Any
 
 import ptpm
 from ptpm import ClockMembers, HandleAnswer, PortMembers, SessionAnswer, SurveyAnswer
@@ -167,6 +168,57 @@ class Clocks(unittest.TestCase):
                 lambda: ptpm.SessionSettings(MANAGER, CLOCK, 65536).as_in_c(),
             ):
                 self.assertRaises(OverflowError, call)
+
+    def test_a_number_is_no_octets(self) -> None:
+        asking = ptpm.Requests(ptpm.SessionSettings(MANAGER, CLOCK, 7))
+        number: Any = 2  # bytes(2) would be two zeros, a priority1 of 0
+        with clock() as asked, ptpm.Survey(ptpm.SurveySettings("0a0b0c0d0e0f1011/9", 3, "PRIORITY1")) as survey:
+            for call in (
+                lambda: asked.set(ptpm.Action.SET, "PRIORITY1", 0xFFFF, number), lambda: asked.handle(1, number),
+                lambda: asked.ask(1, number), lambda: ptpm.Clock.restore(CLOCK, 2, [], number),
+                lambda: asking.begin(ptpm.Action.SET, "PRIORITY1", number),
+                lambda: asking.begin_at(ptpm.Action.SET, "PRIORITY1", 1, number),
+                lambda: asking.receive(number), lambda: asking.restore(number), lambda: survey.receive(number),
+                lambda: ptpm.PassedOn(1).is_first(number, 0, 1), lambda: asked.handle(1, b"", ptpm.Gives(number)),
+            ):
+                self.assertRaises(TypeError, call)
+            self.assertEqual((asked.read("PRIORITY1"), asking.is_busy()), (b"\x80\0", False))
+            self.assertEqual(asked.handle(1, bytearray(54)).answer, HandleAnswer.NOT_MANAGEMENT)
+        fraction: Any = 100.7
+        self.assertRaises(TypeError, ptpm.data_field, "PRIORITY1", fraction)
+        self.assertRaises(TypeError, ptpm.data_field, "PRIORITY1", {"priority1": fraction})
+
+    def test_numbers_of_ports_fit(self) -> None:
+        for port in (-1, 65536, 70000):
+            self.assertRaises(OverflowError, ptpm.PortIdentity, ptpm.Identity.of(CLOCK), port)
+        self.assertRaises(OverflowError, ptpm.Rate, -1, 0)
+
+    def test_data_sets_have_their_types(self) -> None:
+        with ptpm.Clock(ptpm.ClockSettings(CLOCK, **PLACES), [PORT]) as asked:
+            default = asked.data_set(ptpm.DefaultDataSet)
+            self.assertEqual((default.number_ports, default.clock_quality.clock_class, default.domain_number), (1, 0x44, 0x2A))
+            self.assertEqual(asked.data_set(ptpm.CurrentDataSet).steps_removed, 0x4142)
+            self.assertEqual(asked.data_set(ptpm.ParentDataSet).grandmaster_clock_quality.clock_accuracy, 0x23)
+            self.assertEqual(asked.data_set(ptpm.TimePropertiesDataSet).time_source.name, "OTHER")
+            port = asked.data_set(ptpm.PortDataSet, 1)
+            self.assertEqual((port.port_state, port.delay_mechanism), (ptpm.PortState.PRE_MASTER, "P2P"))
+            answered = ptpm.Report(ptpm.ManagementId.PORT_DATA_SET, asked.read("PORT_DATA_SET", 1))
+        self.assertEqual(answered.data_set(ptpm.PortDataSet), port)
+        self.assertIsNone(answered.data_set(ptpm.DefaultDataSet))
+        for other in (ptpm.Report(answered.id, b"", error=6), ptpm.Report(answered.id, answered.octets[:-2])):
+            self.assertIsNone(other.data_set(ptpm.PortDataSet))
+        with ptpm.SavingClock(clock()) as saved:
+            self.assertEqual(saved.data_set(ptpm.DefaultDataSet).priority1, 128)
+
+    def test_places_of_a_medium(self) -> None:
+        with clock() as asked:
+            image = asked.image()
+        place = len(image) + header.PTPM_SEAL_OCTETS
+        octets = bytearray(place) + ptpm.sealed(image, 5)
+        self.assertEqual(ptpm.newest_image(octets, place), (1, image, 5))
+        self.assertEqual(ptpm.unsealed(octets[place:]), (image, 5))
+        for none in (0, -1, -place):
+            self.assertIsNone(ptpm.newest_image(octets, none))
 
     def test_an_offset_is_no_number_of_nanoseconds(self) -> None:
         """CURRENT_DATA_SET has it times 2^16 (15.5.3.4.1). What a data set gives back in nanoseconds is not taken for that."""

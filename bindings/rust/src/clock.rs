@@ -77,7 +77,7 @@ impl Clock {
     /// # Errors
     ///
     /// The first reason why it does not start. It is [`Error::OtherSizes`], or one from [`Error::NoPorts`] to
-    /// [`Error::ManagerIsEvery`], or a member that is out of its range, or [`Error::NoMemory`].
+    /// [`Error::ManagerTwice`], or a member that is out of its range, or [`Error::IdentityIsZero`], or [`Error::NoMemory`].
     pub fn start(settings: &ClockSettings, ports: &[PortSettings], managers: &[Manager]) -> Result<Self, Error> {
         done(sys::ptpm_header_agrees())?;
         let mut clock = Self::none();

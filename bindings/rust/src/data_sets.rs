@@ -16,6 +16,7 @@ use crate::error::Error;
 use crate::id::ManagementId;
 use crate::identity::{Identity, PortIdentity};
 use crate::report::Report;
+use crate::saving_clock::SavingClock;
 use crate::settings::{DelayMechanism, PortState};
 use crate::time_interval::TimeInterval;
 
@@ -37,6 +38,17 @@ impl Clock {
     pub fn data_set<D: DataSet>(&self, port: u16) -> Result<D, Error> {
         let mut room = [0; MOST_READ];
         D::of(self.read(D::ID, port, &mut room)?).ok_or(Error::NotReadable)
+    }
+}
+
+impl SavingClock {
+    /// Does what [`Clock::data_set`] does.
+    ///
+    /// # Errors
+    ///
+    /// Those of [`Clock::data_set`].
+    pub fn data_set<D: DataSet>(&self, port: u16) -> Result<D, Error> {
+        self.clock().data_set(port)
     }
 }
 

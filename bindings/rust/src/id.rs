@@ -85,10 +85,11 @@ impl fmt::Display for ManagementId {
 }
 
 /// A managementErrorId (15.5.4.3, table 109): why a clock refused a request. It is written as the standard's name, or as its
-/// number if it has none.
+/// number if it has none. It is an error of Rust too, so `clock.set(..)??` hands it on.
 ///
 /// ```
 /// assert_eq!(ptpm::ManagementErrorId(4).to_string(), "WRONG_VALUE");
+/// assert_eq!(ptpm::ManagementErrorId(0xc001).to_string(), "0xc001");
 /// ```
 #[derive(Clone, Copy, Debug, PartialEq, Eq, PartialOrd, Ord, Hash)]
 #[repr(transparent)]
@@ -98,7 +99,9 @@ impl fmt::Display for ManagementErrorId {
     fn fmt(&self, to: &mut fmt::Formatter<'_>) -> fmt::Result {
         match Name::of_error(self.0) {
             Some(name) => to.pad(name.as_str()),
-            None => write!(to, "{}", self.0),
+            None => write!(to, "{:#06x}", self.0),
         }
     }
 }
+
+impl core::error::Error for ManagementErrorId {}

@@ -19,8 +19,9 @@
 //! # Ok::<(), Box<dyn std::error::Error>>(())
 //! ```
 //!
-//! A [`Session`] makes a manager's requests of one clock and judges what comes in, and a [`Survey`] asks every clock at once. None
-//! of the three opens a socket, reads a clock or starts a thread.
+//! A [`Session`] makes a manager's requests of one clock and judges what comes in, and a [`Survey`] asks every clock at once. An
+//! [`Asker`] is a session that says what is to be sent, saved and noted next. None of them opens a socket, reads a clock or starts
+//! a thread.
 //!
 //! # What this crate sees to, and what is left to its user
 //!
@@ -56,6 +57,7 @@
 extern crate alloc;
 
 mod answers;
+mod asker;
 mod changed;
 mod clock;
 #[cfg(feature = "alloc")]
@@ -83,6 +85,7 @@ pub mod sys;
 mod time_interval;
 
 pub use answers::{Handled, Received, Surveyed};
+pub use asker::{Asker, AskerSettings, Earlier, Handed, Request, DRAWN_OCTETS};
 pub use changed::{Changed, ClockMembers, PortMembers};
 pub use clock::{Clock, Ports, Turn, CLOCK_IMAGE_OCTETS, MOST_READ};
 #[cfg(feature = "alloc")]
@@ -94,13 +97,13 @@ pub use id::{ManagementErrorId, ManagementId, UnknownId};
 pub use identity::{Identity, NoIdentity, PortIdentity};
 pub use members::Members;
 #[cfg(feature = "memory")]
-pub use memory::{clock_memory, give_memory, memory_taken, most_memory_taken, SESSION_MEMORY};
+pub use memory::{clock_memory, give_memory, memory_taken, most_memory_taken, ASKER_MEMORY, SESSION_MEMORY};
 pub use observation::{ObservedClock, ObservedGrandmaster, ObservedPort};
 pub use outbox::{Messages, Outbox};
 pub use passing::{PassedOn, Rate};
 pub use refusals::{
-    BeginError, GiveUpError, HandleError, ObserveError, ParseError, ReadError, ReceiveError, ReportError, RestoreError,
-    ResumeError, RetuneError, SaveError, SendError, StartError, SurveyError,
+    AskError, AskerRestoreError, BeginError, GiveUpError, HandleError, ObserveError, ParseError, QuestionError, ReadError,
+    ReceiveError, ReportError, RestoreError, ResumeError, RetuneError, SaveError, SendError, SetError, StartError, SurveyError,
 };
 #[cfg(feature = "alloc")]
 pub use report::Answer;

@@ -40,7 +40,10 @@ mod block {
     /// The most that a session takes.
     pub const SESSION_MEMORY: usize = 5984;
 
-    /// Gives the library its memory, before the first clock, session or survey starts. Later it is refused while one is held. It
+    /// The most that an asker takes.
+    pub const ASKER_MEMORY: usize = 9104;
+
+    /// Gives the library its memory, before the first clock, session, survey or asker starts. Later it is refused while one is held. It
     /// counts from the first multiple of 16. Says whether the library has it.
     pub fn give_memory(block: &'static mut [MaybeUninit<u8>]) -> bool {
         // SAFETY: the block is lent for ever, and no other call that takes memory is made meanwhile.
@@ -61,4 +64,4 @@ mod block {
 }
 
 #[cfg(feature = "memory")]
-pub use block::{clock_memory, give_memory, memory_taken, most_memory_taken, SESSION_MEMORY};
+pub use block::{clock_memory, give_memory, memory_taken, most_memory_taken, ASKER_MEMORY, SESSION_MEMORY};

@@ -54,14 +54,18 @@ macro_rules! refusals {
 }
 
 refusals! {
-    /// Why a clock, a session or a survey does not start (`enum ptpm_started`).
+    /// Why a clock, a session, a survey or an asker does not start (`enum ptpm_started`).
     StartError {
         NoMemory OtherSizes NoPorts TooManyPorts GrandmasterDiffers TooManyManagers ManagerTwice ManagerIsEvery TargetIsEvery SameClock
         IdentityIsZero TargetIsZero BadIdentity BadUserDescription BadClockAccuracy BadLeap59 BadState BadLogAnnounce
         BadReceiptTimeout BadLogSync BadDelayMechanism BadLogMinPdelay
     }
     /// Why a datagram is not judged by a clock, or why a clock does not save (`enum ptpm_handled`).
-    HandleError { NoClock NoPort NoRoom NoMemory Unsaved }
+    HandleError { NoClock NoPort NoRoom NoMemory Unsaved BadSay CantObject }
+    /// Why a device is not asked (`enum ptpm_asking`).
+    QuestionError { NoClock NoPort }
+    /// Why nothing is set at the device itself (`enum ptpm_set_here`).
+    SetError { NoClock NoPort NotPermitted BadValue }
     /// Why nothing is observed (`enum ptpm_observed`).
     ObserveError { NoClock NoPort GrandmasterDiffers BadClockAccuracy BadLeap59 BadState }
     /// Why nothing is read (`enum ptpm_read`).
@@ -69,7 +73,7 @@ refusals! {
     /// Why no request is begun (`enum ptpm_begun`).
     BeginError { NoMemory NoSession Busy NeedsPort NotPermitted BadValue CountAtMaximum }
     /// Why there is no message to send (`enum ptpm_sending`).
-    SendError { NoRoom NoSession Idle GaveUp NoSurvey }
+    SendError { NoRoom NoSession Idle GaveUp NoSurvey Unsaved }
     /// Why a request gets no more attempts (`enum ptpm_resumed`).
     ResumeError { NoSession Idle }
     /// Why a request is not given up (`enum ptpm_given_up`).
@@ -81,13 +85,20 @@ refusals! {
     /// Why a datagram is not judged by a survey (`enum ptpm_survey_received`).
     SurveyError { NoMemory NoSurvey }
     /// Why nothing is reported (`enum ptpm_reported`).
-    ReportError { NoRoom NoSession NoReport NoSurvey }
+    ReportError { NoRoom NoSession NoReport NoSurvey NoAsker }
     /// Why there is no image, or nothing is saved by one (`enum ptpm_saved`).
     SaveError { NoClock NoRoom NoSession OtherImage }
     /// Why nothing is restored (`enum ptpm_restored`).
     RestoreError {
         NoMemory OtherSizes TooManyManagers ManagerTwice IdentityIsZero NotAnImage OtherVersion OtherKind Damaged OtherClock OtherPorts OtherSession
     }
+    /// Why an asker does not go on from an image (`enum ptpm_asker_restored`).
+    AskerRestoreError {
+        NoMemory OtherSizes NoPorts TooManyPorts ManagerIsEvery TargetIsEvery SameClock TargetIsZero NotAnImage OtherVersion OtherKind Damaged
+        OtherSession
+    }
+    /// Why a call of an asker is refused (`enum ptpm_asked`).
+    AskError { NoRoom NoMemory Busy NeedsPort NotPermitted BadValue CountAtMaximum Idle OutOfReach NoAsker }
     /// Why words are no dataField (`enum ptpm_parsed`).
     ParseError { NoRoom NotWords UnknownId WordCount OtherName NoValue }
 }

@@ -164,6 +164,11 @@ impl SavingClock {
         self.clock.read(id, port, room)
     }
 
+    /// The clock, for a call that changes nothing.
+    pub(crate) fn clock(&self) -> &Clock {
+        &self.clock
+    }
+
     /// The clock's identity, out of its DEFAULT_DATA_SET.
     pub fn identity(&self) -> Result<Identity, Error> {
         self.clock.identity()

@@ -30,7 +30,7 @@ pub enum Action {
 pub struct SessionSettings {
     /// The manager; its clock is not all ones.
     pub manager: PortIdentity,
-    /// The managed clock: another one, and not all ones.
+    /// The managed clock: another one, and neither all ones nor all zeros.
     pub target: Identity,
     /// How many ports the managed clock has, 1 to 8.
     pub target_ports: u16,
@@ -51,7 +51,7 @@ impl SessionSettings {
     }
 
     /// As the library takes them.
-    const fn as_in_c(&self) -> sys::ptpm_session_settings {
+    pub(crate) const fn as_in_c(&self) -> sys::ptpm_session_settings {
         sys::ptpm_session_settings {
             port: self.manager.port,
             target_ports: self.target_ports,
@@ -108,8 +108,8 @@ impl Session {
     ///
     /// # Errors
     ///
-    /// The first of [`Error::ManagerIsEvery`], [`Error::TargetIsEvery`], [`Error::SameClock`], [`Error::NoPorts`],
-    /// [`Error::TooManyPorts`] and [`Error::NoMemory`] that holds.
+    /// The first of [`Error::OtherSizes`], [`Error::ManagerIsEvery`], [`Error::TargetIsEvery`], [`Error::SameClock`],
+    /// [`Error::NoPorts`], [`Error::TooManyPorts`], [`Error::TargetIsZero`] and [`Error::NoMemory`] that holds.
     pub fn start(settings: &SessionSettings) -> Result<Self, Error> {
         done(sys::ptpm_header_agrees())?;
         let mut session = Self::none();

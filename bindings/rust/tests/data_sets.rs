@@ -2,7 +2,8 @@
 
 use ptpm::{
     Clock, ClockSettings, CurrentDataSet, DataSet, DefaultDataSet, DelayMechanism, Error, HandleError, Identity, Outbox,
-    ParentDataSet, PortDataSet, PortIdentity, PortSettings, PortState, StartError, TimeInterval, TimePropertiesDataSet,
+    ParentDataSet, PortDataSet, PortIdentity, PortSettings, PortState, SavingClock, StartError, TimeInterval,
+    TimePropertiesDataSet,
 };
 
 const CLOCK: Identity = Identity([0xaa, 0xbb, 0xcc, 0xff, 0xfe, 0xdd, 0xee, 0x01]);
@@ -16,6 +17,13 @@ fn only<D: DataSet>(text: &str) -> D {
     let field = octets(text);
     assert!(D::of(&field[1..]).is_none() && D::of(&[&*field, &[0]].concat()).is_none());
     D::of(&field).expect("it is a data set")
+}
+
+#[test]
+fn a_saving_clock_has_data_sets() {
+    let clock = Clock::start(&ClockSettings::new(CLOCK), &[PortSettings::new()], &[]).expect("it starts");
+    let clock = SavingClock::new(clock).expect("it saves");
+    assert_eq!(clock.data_set(0).map(|default: DefaultDataSet| default.clock_identity), Ok(CLOCK));
 }
 
 #[test]

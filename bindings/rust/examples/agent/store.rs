@@ -64,7 +64,8 @@ impl Store {
             Err(error) if error.kind() == ErrorKind::NotFound => return Ok(None),
             Err(error) => return Err(of(&self.path)(error)),
         };
-        let sealed = ptpm::unseal(&octets).map_err(|error| of(&self.path)(io::Error::new(ErrorKind::InvalidData, error.to_string())))?;
+        let sealed =
+            ptpm::unseal(&octets).map_err(|error| of(&self.path)(io::Error::new(ErrorKind::InvalidData, error.to_string())))?;
         let size = sealed.image.len();
         self.saves = sealed.count;
         octets.truncate(size);
