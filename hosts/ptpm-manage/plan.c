@@ -148,12 +148,11 @@ static void name_silent_domains(const struct domains *domains) {
     }
 }
 
-/* `ptpm plan` reads the file for each of its forms: of a pipe the second one would have nothing. */
+/* `ptpm plan` reads the file for each of its forms: of a pipe the second one would have nothing. Its standard input is not this program's. */
 static void refuse_pipe(const char *path) {
     struct stat found;
-    if (stat(path, &found) == 0 && S_ISFIFO(found.st_mode)) {
-        refuse("%s: it is read more than once, so it has to be a file, and no pipe", path);
-    }
+    bool is_pipe = stat(path, &found) == 0 && S_ISFIFO(found.st_mode);
+    if (is_pipe || strcmp(path, "/dev/stdin") == 0) refuse("%s: it is read more than once, so it has to be a file, and no pipe", path);
 }
 
 int make_plan(struct plan *plan, const struct task *task) {
