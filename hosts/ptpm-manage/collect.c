@@ -354,7 +354,7 @@ static void advise_on_sdo(const struct domains *domains, const char *verb) {
     }
 }
 
-/* Where else clocks may be. A plan names its domains itself: there these are options of another verb. */
+/* In what else clocks may be. A plan names its domains itself: there these are options of another verb. */
 static void advise_on_domains(const struct task *task, const struct domains *domains) {
     const char *verb = task->plan.verb == NO_PLAN ? "" : "status ";
     if (!task->site.is_every_domain) complain("%s--domain all asks in each domain in which a clock is heard", verb);
