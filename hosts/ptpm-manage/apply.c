@@ -34,7 +34,7 @@ static int show_plan(const struct task *task) {
     struct plan plan;
     int status = make_plan(&plan, task), probed = ANSWERED;
     if (task->plan.is_probed && !stopped) probed = probe_clocks(&plan, task);
-    print_plan(&plan);
+    print_plan(&plan, task->is_json);
     leave_plan(&plan);
     return probed == ANSWERED ? status : probed;
 }
@@ -107,7 +107,7 @@ static int apply(const struct task *task) {
     take_journals();
     if (find_open_journal(&open)) refuse("nothing was sent: %s is open: ptpm-manage resume or rollback comes first", open.name);
     int status = make_plan(&plan, task);
-    print_plan(&plan);
+    print_plan(&plan, task->is_json);
     if (fflush(stdout)) return NOT_WRITTEN;
     if (stopped || status == REFUSED || status == NOT_ANSWERED) complain("nothing was sent");
     if (status == ANSWERED) status = apply_plan(task, &plan);

@@ -8,6 +8,7 @@
 #include "reading.h"
 #include "seen.h"
 #include "stopping.h"
+#include "text.h"
 #include "transport.h"
 #include "words.h"
 #include <stdbool.h>
@@ -194,9 +195,11 @@ void add_warning(struct plan *plan, const char *text, bool is_json) {
     plan->text = (struct printed){ more, (size_t)size };
 }
 
-void print_plan(const struct plan *plan) {
+void print_plan(const struct plan *plan, bool is_json) {
     clear_progress();
-    if (plan->text.text != NULL) fputs(plan->text.text, stdout);
+    if (plan->text.text == NULL) return;
+    if (is_json) print_json(stdout, plan->text.text, plan->text.size);
+    else print_lines(stdout, plan->text.text, plan->text.size);
 }
 
 void leave_plan(struct plan *plan) {
