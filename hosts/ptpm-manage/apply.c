@@ -34,7 +34,7 @@ static int show_plan(const struct task *task) {
     struct plan plan;
     int status = make_plan(&plan, task), probed = ANSWERED;
     if (task->plan.is_probed && !stopped) probed = probe_clocks(&plan, task);
-    print_plan(&plan);
+    print_plan(&plan, task->is_json);
     leave_plan(&plan);
     return probed == ANSWERED ? status : probed;
 }
@@ -107,7 +107,7 @@ static int apply(const struct task *task) {
     take_journals();
     if (find_open_journal(&open)) refuse("nothing was sent: %s is open: ptpm-manage resume or rollback comes first", open.name);
     int status = make_plan(&plan, task);
-    print_plan(&plan);
+    print_plan(&plan, task->is_json);
     if (fflush(stdout)) return NOT_WRITTEN;
     if (stopped || status == REFUSED || status == NOT_ANSWERED) complain("nothing was sent");
     if (status == ANSWERED) status = apply_plan(task, &plan);
@@ -185,22 +185,22 @@ static struct step back_of(const struct step *step) {
     return back;
 }
 
-/* The steps that take back what is known to be done. Moves of DOMAIN come first, in the order of the apply: the farthest clock first again.
-   The others follow in reverse order. */
+/* Adds the step that takes this one back, if this one is known to be done. */
+static void take_one_back(struct journal *back, const struct journal *journal, size_t place) {
+    if (journal->told[place].outcome == DONE) back->steps[back->count++] = back_of(&journal->steps[place]);
+}
+
+/* The steps that take back what is known to be done. What was done before the moves of DOMAIN was asked in the earlier domain. So it comes
+   after their way back, and what was done after them before it. The moves keep their order: the farthest clock first again. */
 static void take_back(struct journal *back, const struct journal *journal) {
-    size_t count = 0;
-    struct step *steps = calloc(journal->count + 1, sizeof *steps);
-    if (steps == NULL) give_up("the steps");
-    for (size_t i = 0; i < journal->count; i++) {
-        const struct step *step = &journal->steps[i];
-        if (journal->told[i].outcome == DONE && step->id == PTPM_ID_DOMAIN) steps[count++] = back_of(step);
-    }
-    for (size_t i = journal->count; i > 0; i--) {
-        const struct step *step = &journal->steps[i - 1];
-        if (journal->told[i - 1].outcome == DONE && step->id != PTPM_ID_DOMAIN) steps[count++] = back_of(step);
-    }
-    give_steps(back, steps, count);
-    free(steps);
+    size_t first = 0, end = journal->count;
+    while (first < end && journal->steps[first].id != PTPM_ID_DOMAIN) first++;
+    while (end > first && journal->steps[end - 1].id != PTPM_ID_DOMAIN) end--;
+    give_steps(back, NULL, journal->count);
+    back->count = 0;
+    for (size_t i = journal->count; i > end; i--) take_one_back(back, journal, i - 1);
+    for (size_t i = first; i < end; i++) take_one_back(back, journal, i);
+    for (size_t i = first; i > 0; i--) take_one_back(back, journal, i - 1);
 }
 
 /* The journal of the rollback is there before the apply has its end. So wherever a run ends, one of the two is open. */

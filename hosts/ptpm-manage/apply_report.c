@@ -96,19 +96,20 @@ static void print_text_of(const struct journal *journal, const char *end) {
 
 /* ---- JSON */
 
+static void print_value_as_json(const char *name, uint16_t id, const struct value *value) {
+    putchar(',');
+    print_members_as_json(stdout, name, id, value->octets, value->size);
+}
+
 static void print_state_as_json(const struct journal *journal, size_t place) {
     static const char *const names[] = { "notAsked", "done", "refused", "answered" };
     const struct told *told = &journal->told[place];
     const char *error = error_name(told->error);
     printf(",\"state\":\"%s\"", is_uncertain(journal, place) ? "mayBe" : names[told->outcome]);
+    if (told->outcome == OTHER_VALUE) print_value_as_json("answer", journal->steps[place].id, &told->answer);
     if (told->outcome != IS_REFUSED) return;
     if (error != NULL) printf(",\"managementErrorId\":\"%s\"", error);
     else printf(",\"managementErrorId\":\"0x%04x\"", told->error);
-}
-
-static void print_value_as_json(const char *name, uint16_t id, const struct value *value) {
-    putchar(',');
-    print_members_as_json(stdout, name, id, value->octets, value->size);
 }
 
 static void print_step_as_json(const struct journal *journal, size_t place) {

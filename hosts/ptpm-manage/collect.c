@@ -345,13 +345,20 @@ static bool ask_in(const struct task *task, const struct domain *domains, size_t
 }
 
 /* Says in which sdoId a clock is heard, if it is asked in no domain of it. */
-static void advise_on_sdo(const struct domains *domains) {
+static void advise_on_sdo(const struct domains *domains, const char *verb) {
     struct domain domain;
     for (size_t place = 0; heard_domain(place, &domain); place++) {
         if (is_sdo_asked(domains, domain.sdo)) continue;
-        complain("a clock is heard in sdoId 0x%03x: --sdo 0x%03x asks there", domain.sdo, domain.sdo);
+        complain("a clock is heard in sdoId 0x%03x: %s--sdo 0x%03x asks there", domain.sdo, verb, domain.sdo);
         return;
     }
+}
+
+/* In what else clocks may be. A plan names its domains itself: there these are options of another verb. */
+static void advise_on_domains(const struct task *task, const struct domains *domains) {
+    const char *verb = task->plan.verb == NO_PLAN ? "" : "status ";
+    if (!task->site.is_every_domain) complain("%s--domain all asks in each domain in which a clock is heard", verb);
+    if (!task->site.is_every_sdo) advise_on_sdo(domains, verb);
 }
 
 /* Clocks lower the hops of what they pass on, and no answer shows it. So clocks past the last one may be there, and were not asked. */
@@ -381,8 +388,7 @@ static int end_of_collection(const struct task *task, const struct domains *doma
     if (seen_count() > 0) return ANSWERED;
     complain("no answer at %s in %s to %ld message%s", transport_name(), domains_text(domains), sent, sent == 1 ? "" : "s");
     tell_missing_addresses();
-    if (!task->site.is_every_domain) complain("--domain all asks in each domain in which a clock is heard");
-    if (!task->site.is_every_sdo) advise_on_sdo(domains);
+    advise_on_domains(task, domains);
     advise_on_every(task);
     return NOT_ANSWERED;
 }

@@ -28,7 +28,8 @@ void leave_desk(struct desk *desk) { ptpm_asker_stop(&desk->session.asker); }
 /* ---- what is noted */
 
 static int not_noted(const struct journal *journal) {
-    complain("%s: %s: the apply stays open", journal->path, strerror(errno));
+    const char *why = strerror(errno);
+    complain("%s: %s: %s", journal->path, why, journal_rest(journal));
     return NOT_WRITTEN;
 }
 
@@ -85,15 +86,16 @@ static int no_answer_to(struct desk *desk, struct journal *journal, long step, b
         return BY_SIGNAL + stopped;
     }
     if (driver->is_way_said) return NOT_ANSWERED;
-    complain("no answer of %s at %s to %ld message%s: %s", clock, transport_name(), driver->sent, driver->sent == 1 ? "" : "s",
-             is_begun ? "the step may have been carried out" : "the next step was not sent");
+    complain("no answer of %s at %s in domain %u to %ld message%s: %s", clock, transport_name(), desk->domain, driver->sent,
+             driver->sent == 1 ? "" : "s", is_begun ? "the step may have been carried out" : "the next step was not sent");
     if (is_anothers) say_before_steps(&desk->session.earlier, &desk->task);
     if (step != NO_STEP) say_silence_at(desk, &journal->steps[step]);
     return stopped ? BY_SIGNAL + stopped : NOT_ANSWERED;
 }
 
-static int not_saved(const struct desk *desk) {
-    complain("%s: %s: the apply stays open", desk->session.file->path, strerror(errno));
+static int not_saved(const struct desk *desk, const struct journal *journal) {
+    const char *why = strerror(errno);
+    complain("%s: %s: %s", desk->session.file->path, why, journal_rest(journal));
     return NOT_WRITTEN;
 }
 
@@ -114,7 +116,7 @@ static int carry_out(struct desk *desk, struct journal *journal, long step, bool
         case PTPM_SAVE_IT:
             if (!save_session(&desk->session)) {
                 journal->is_unsent = is_begun && desk->driver.sent == 0;
-                return not_saved(desk);
+                return not_saved(desk, journal);
             }
             if (say_saved(&desk->driver)) return ANSWERED;
             break;
@@ -124,6 +126,7 @@ static int carry_out(struct desk *desk, struct journal *journal, long step, bool
 }
 
 static int settle(struct desk *desk, struct journal *journal, long step, uint8_t domain, bool is_anothers) {
+    desk->domain = is_anothers ? desk->session.earlier.task.settings.domain : domain;
     begin_driving(&desk->driver);
     settle_request(&desk->driver, 0, domain);
     return carry_out(desk, journal, step, is_anothers);
@@ -152,6 +155,7 @@ int ask_step(struct desk *desk, struct journal *journal, long step) {
     request.settings.domain = asked->domain;
     request.size = asked->after.size;
     memcpy(request.octets, asked->after.octets, asked->after.size);
+    desk->domain = asked->domain;
     begin_driving(&desk->driver);
     ask_request(&desk->driver, (uint64_t)step, &request);
     return settle_move(desk, journal, step, carry_out(desk, journal, step, false));
@@ -202,7 +206,7 @@ int let_go_at_desk(struct desk *desk, const struct journal *journal) {
     if (standing != UNDER_WAY && standing != IS_TOLD) return ANSWERED;
     enum ptpm_asked refusal = ptpm_asker_let_go(&desk->session.asker, &desk->driver.handed);
     if (refusal != PTPM_ASKED) refuse_to_let_go(refusal, &desk->session.earlier, &desk->task);
-    if (!save_session(&desk->session)) return not_saved(desk);
+    if (!save_session(&desk->session)) return not_saved(desk, journal);
     say_saved(&desk->driver);
     return ANSWERED;
 }

@@ -13,6 +13,7 @@ struct desk {
     struct task task;                   /* what is asked of all clocks, with this one as the target */
     struct kept_session session;
     struct driver driver;
+    uint8_t domain;                     /* in which the latest request was asked */
     bool is_seen_to;                    /* what an earlier run left there is, */
     bool is_changed;                    /* and that was a SET or a COMMAND of another program */
 };

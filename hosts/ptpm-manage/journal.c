@@ -155,12 +155,24 @@ bool may_be_open(const char *path) {
 
 /* ---- notes */
 
+/* Whether the file still has a name. If not, errno says so. */
+static bool is_there(const struct journal *journal) {
+    struct stat found;
+    if (fstat(journal->file, &found) == 0 && found.st_nlink > 0) return true;
+    errno = ENOENT;
+    return false;
+}
+
+const char *journal_rest(const struct journal *journal) {
+    return is_there(journal) ? "the apply stays open" : "the journal is gone, and no resume finds this apply";
+}
+
 /* Appends a line, and synchronizes it. If it can't be, what there is of it is cut off. */
 static bool append(struct journal *journal, struct line *line) {
     end_line(line);
     ssize_t written = write(journal->file, line->text, line->size);
     if (written >= 0 && (size_t)written < line->size) errno = ENOSPC;
-    bool is_noted = written == (ssize_t)line->size && fsync(journal->file) == 0;
+    bool is_noted = written == (ssize_t)line->size && fsync(journal->file) == 0 && is_there(journal);
     int failure = errno;
     if (is_noted) journal->size += line->size;
     else if (ftruncate(journal->file, (off_t)journal->size)) failure = errno;

@@ -74,6 +74,9 @@ long next_step(const struct journal *journal);
 /* The step that was answered and is not done, or NO_STEP. */
 long failed_step(const struct journal *journal);
 
+/* What becomes of an apply that ends before its end is noted: it stays open. Without its file no later run finds it. */
+const char *journal_rest(const struct journal *journal);
+
 const char *ending_name(enum ending ending);
 
 /* Closes its file, and frees what it holds. */

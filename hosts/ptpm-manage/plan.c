@@ -8,6 +8,7 @@
 #include "reading.h"
 #include "seen.h"
 #include "stopping.h"
+#include "text.h"
 #include "transport.h"
 #include "words.h"
 #include <stdbool.h>
@@ -148,12 +149,11 @@ static void name_silent_domains(const struct domains *domains) {
     }
 }
 
-/* `ptpm plan` reads the file for each of its forms: of a pipe the second one would have nothing. */
+/* `ptpm plan` reads the file for each of its forms: of a pipe the second one would have nothing. Its standard input is not this program's. */
 static void refuse_pipe(const char *path) {
     struct stat found;
-    if (stat(path, &found) == 0 && S_ISFIFO(found.st_mode)) {
-        refuse("%s: it is read more than once, so it has to be a file, and no pipe", path);
-    }
+    bool is_pipe = stat(path, &found) == 0 && S_ISFIFO(found.st_mode);
+    if (is_pipe || strcmp(path, "/dev/stdin") == 0) refuse("%s: it is read more than once, so it has to be a file, and no pipe", path);
 }
 
 int make_plan(struct plan *plan, const struct task *task) {
@@ -195,9 +195,11 @@ void add_warning(struct plan *plan, const char *text, bool is_json) {
     plan->text = (struct printed){ more, (size_t)size };
 }
 
-void print_plan(const struct plan *plan) {
+void print_plan(const struct plan *plan, bool is_json) {
     clear_progress();
-    if (plan->text.text != NULL) fputs(plan->text.text, stdout);
+    if (plan->text.text == NULL) return;
+    if (is_json) print_json(stdout, plan->text.text, plan->text.size);
+    else print_lines(stdout, plan->text.text, plan->text.size);
 }
 
 void leave_plan(struct plan *plan) {

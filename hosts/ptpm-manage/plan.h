@@ -25,7 +25,7 @@ int make_plan(struct plan *plan, const struct task *task);
 void add_warning(struct plan *plan, const char *text, bool is_json);
 
 /* Prints it. */
-void print_plan(const struct plan *plan);
+void print_plan(const struct plan *plan, bool is_json);
 
 /* Frees what it holds. */
 void leave_plan(struct plan *plan);

@@ -8,6 +8,7 @@
 #include "marks.h"
 #include "notices.h"
 #include "program.h"
+#include "telling.h"
 #include <errno.h>
 #include <stdlib.h>
 #include <string.h>
@@ -76,7 +77,8 @@ void leave_sessions(void) {
 
 bool end_journal(struct journal *journal, enum ending ending, long step) {
     if (!note_end(journal, ending, step)) {
-        complain("%s: %s: the apply stays open", journal->path, strerror(errno));
+        const char *why = strerror(errno);
+        complain("%s: %s: %s", journal->path, why, journal_rest(journal));
         return false;
     }
     for (size_t i = 0; i < desk_count; i++) remove_mark(desks[i]->session.file->path);
@@ -305,6 +307,7 @@ int carry_out_steps(const struct task *task, struct journal *journal) {
     long failed = failed_step(journal);
     if (failed == NO_STEP) return verify(task, journal);
     bool is_refused = journal->told[failed].outcome == IS_REFUSED;
+    if (is_refused) say_right(task, journal->told[failed].error);
     if (is_refused) say_value_of_refused(task, journal, failed);
     return end_with(journal, is_refused ? ENDED_REFUSED : ENDED_ANSWERED, failed);
 }

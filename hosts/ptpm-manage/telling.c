@@ -17,9 +17,10 @@ static void print_own_answer(const struct task *task, const struct answer *answe
     else print_answer(stdout, task, "", answer);
 }
 
-/* Names the manager in the form with which a clock is started. Without a file its port is another one in each run. */
-static void say_not_supported(const struct task *task) {
+/* Without a file the port of the manager is another one in each run. */
+void say_right(const struct task *task, uint16_t error) {
     char identity[IDENTITY_TEXT], manager[IDENTITY_TEXT + 16] = "whoever gives no --manager";
+    if (error != NOT_SUPPORTED) return;
     write_identity(identity, task->settings.clock);
     if (task->is_kept) snprintf(manager, sizeof manager, "manager %s/%u", identity, task->settings.port);
     complain("the clock lacks that id, or takes no change of it from %s: a ptp4l takes some at its Unix socket alone", manager);
@@ -32,7 +33,7 @@ int print_report(const struct task *task, const struct answer *answer) {
         say_other(task, answer);
         return NOT_AS_ASKED;
     }
-    if (answer->outcome == PTPM_REFUSED && answer->error == NOT_SUPPORTED && task->action != PTPM_GET) say_not_supported(task);
+    if (answer->outcome == PTPM_REFUSED && task->action != PTPM_GET) say_right(task, answer->error);
     return answer->outcome == PTPM_REFUSED ? REFUSED : ANSWERED;
 }
 

@@ -8,6 +8,10 @@
 /* Prints what the answer to the task's request says; the program's status. */
 int print_report(const struct task *task, const struct answer *answer);
 
+/* Says why a clock may have refused a change as NOT_SUPPORTED, and names the manager in the form with which a clock is started. Any other
+   error says nothing of the manager. */
+void say_right(const struct task *task, uint16_t error);
+
 /* Prints how many requests there were, and messages of them. */
 void print_count(long requests, long sent);
 
