@@ -1,6 +1,6 @@
 //! A session back from its image (this project's profile).
 
-ghost use Rattle.std.specs.Prelude.{◌≡◌, ◌≢◌, ◌≤◌, ◌⊎◌, false, true, length, None, Some, Ok, Err, IfErr, IfNone, IfOk, IfSome, IsOk, OnErr, OnOk, MatchResult};
+ghost use Rattle.std.specs.Prelude.{◌≡◌, ◌≢◌, ◌≤◌, ◌⊎◌, false, true, length, None, Some, Ok, Err, IfErr, IfNone, IfOk, IfSome, IsOk, IsSome, OnErr, OnOk, MatchResult};
 ghost use Rattle.ptpm_manager.specs.declared.error.RestoreError.{RestoreError};
 ghost use Rattle.ptpm_manager.specs.Image.{SessionFits, session_image};
 ghost use Rattle.ptpm_manager.specs.ImageReading.{request_action, request_at, session_at, setup_at, unanswered_at};
@@ -48,6 +48,8 @@ impl Session {
             (λ e.
             e ≢ RestoreError.OutOfMemory
             → restore_refusal me target ports first image.now ≡ Some e) }
+        ensures memory { IfErr result
+            (λ e. e ≡ RestoreError.OutOfMemory → IsSome (session_at image.now).unanswered) }
     {
         judge_head(image)?;
         let Some(saved) = read_image(image) else {

@@ -1,6 +1,6 @@
 //! A session: one manager's requests to one clock, one at a time.
 
-ghost use Rattle.std.specs.Prelude.{◌≡◌, ◌≢◌, ◌≤◌, ◌↔◌, true, false, Ok, Err, None, Some, IfErr, IfOk, IsErrOf, MatchResult, OnErr, OnOk, nat_lt};
+ghost use Rattle.std.specs.Prelude.{◌≡◌, ◌≢◌, ◌≤◌, ◌↔◌, true, false, Ok, Err, None, Some, IfErr, IfOk, IsErrOf, IsSome, MatchResult, OnErr, OnOk, nat_lt};
 ghost use Rattle.ptpm_codec.specs.declared.message.Message.{Message};
 ghost use Rattle.ptpm_codec.specs.Canonical.{canonical};
 ghost use Rattle.ptpm_codec.specs.Message.{Fits, IsValid};
@@ -378,7 +378,8 @@ impl Session {
     /// The session that was saved. Memory is asked only for the dataField of its request.
     pub(crate) fn of_saved(alloc: Global, saved: &Saved<'_>) -> Result<Session, OutOfMemory>
         requires { IsConsistent saved.now }
-        ensures { IfOk result (λ s. s ≡ saved.now) }
+        ensures session { IfOk result (λ s. s ≡ saved.now) }
+        ensures memory { OnErr result (IsSome saved.now.unanswered) }
     {
         Ok(Session {
             alloc,
@@ -434,7 +435,8 @@ impl State {
 
     /// The state in which this request is not answered.
     fn of_saved(alloc: Global, unanswered: &Option<Request<'_>>) -> Result<State, OutOfMemory>
-        ensures { IfOk result (λ state. unanswered_of state ≡ unanswered.now) }
+        ensures state { IfOk result (λ state. unanswered_of state ≡ unanswered.now) }
+        ensures memory { OnErr result (IsSome unanswered.now) }
     {
         match unanswered {
             None => Ok(State::Idle),
