@@ -195,7 +195,7 @@ static void expect_more_clocks(void) {
 static void look_twice(struct look *look, const struct task *task, struct domains *domains, struct look *earlier) {
     *look = (struct look){ 0 };
     look_at_site(look, task, domains, earlier);
-    if (look->status == NOT_ANSWERED) show_look(look, task, earlier, false);
+    if (look->status == NOT_ANSWERED && look->report.momentary > 0) show_look(look, task, earlier, false);
     if (stopped || look->report.momentary == 0) return;
     struct look second = { .first = look->lines };
     int64_t wait = change_time(&look->lines);
@@ -271,7 +271,8 @@ static void print_page_again(FILE *to) {
    the program's own. */
 static int print_form(FILE *to, const struct look *look, const struct look *earlier, const struct task *task) {
     struct report shown;
-    const struct shown_lines lines = earlier == NULL ? lines_alone(look, NULL) : lines_beside(look, earlier);
+    bool is_beside = earlier != NULL && !task->site.is_once;
+    const struct shown_lines lines = is_beside ? lines_beside(look, earlier) : lines_alone(look, earlier);
     const struct site_options options = as_looked_at(task);
     enum shown_as form = options.form;
     int status = run_site_program(&options, form, &lines, &shown);
