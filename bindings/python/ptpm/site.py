@@ -8,15 +8,15 @@ import ipaddress
 import os
 import shutil
 import subprocess
+import tempfile
 import time
 from pathlib import Path
-from typing import Iterable, List, Optional, Sequence, Set, Tuple, Union
+from typing import Iterable, List, Optional, Sequence, Tuple, Union
 
 from .domain_identity import DomainIdentity
 from .errors import PtpmError
-from .identity import Identity
 from .settings import PortState
-from .site_tree import Finding, Site, read_site
+from .site_tree import Site, read_site
 
 _FOUND, _NO_CLOCK = 1, 3
 _LEAST_CHANGE, _MOST_CHANGE = 2.0, 10.0       # in seconds
@@ -77,17 +77,12 @@ def _shown(lines: Iterable[str], notes: Sequence[str], limits: Sequence[str]) ->
     return dataclasses.replace(site, lines=kept, notes=(*notes, *said))
 
 
-_Key = Tuple[DomainIdentity, Optional[Identity], str]
-
-
-def _momentary(findings: Sequence[Finding]) -> Set[_Key]:
-    """The domain, the clock and the name of each finding that may be there for a moment, while a change goes from clock to clock. Two
-    looks have the same one if they agree in these."""
-    if not findings:
-        return set()
-    printed, _, _ = _run([_program("ptpm", "ptpm"), "findings"], "", (0,), None)
-    looks = {name: looks for name, _, looks, _ in (line.split(" ", 3) for line in printed.splitlines())}
-    return {(found.domain_identity, found.clock, found.name) for found in findings if looks.get(found.name) == "2"}
+def _beside(before: Iterable[str], lines: Iterable[str], notes: Sequence[str], limits: Sequence[str]) -> Site:
+    """The site of these answers. A finding that may be there only for a moment counts if the answers of the look before show it too."""
+    with tempfile.NamedTemporaryFile("w", encoding="utf-8") as file:
+        file.writelines(f"{line}\n" for line in before)
+        file.flush()
+        return _shown(lines, notes, [*limits, "--before", file.name])
 
 
 def _change_time(site: Site) -> float:
@@ -101,16 +96,16 @@ def _change_time(site: Site) -> float:
 def _looked(words: Sequence[str], limits: Sequence[str], once: bool, limit: Optional[float]) -> Site:
     """A look at the site, and more as long as it has a finding that may be only momentary, and that the look before lacks. After some
     such looks the site is never at rest, and the last one counts."""
-    latest = _shown(*_collected(words, limit), limits)
-    before: Set[_Key] = set()
+    lines, notes = _collected(words, limit)
+    before: List[str] = []
     for _ in range(0 if once else _MOST_LOOKS - 1):
-        found = _momentary(latest.findings)
-        if found <= before:
-            break
-        before = found
+        latest = _beside(before, lines, notes, limits)
+        if latest.momentary == 0:
+            return latest
+        before = lines
         time.sleep(_change_time(latest))
-        latest = _shown(*_collected(words, limit), limits)
-    return latest
+        lines, notes = _collected(words, limit)
+    return _shown(lines, notes, limits)
 
 
 def _words(options: Iterable[Tuple[str, Union[str, int, float, None]]]) -> List[str]:

@@ -141,7 +141,8 @@ class AskedDomain(NamedTuple):
 class Site:
     """A site at a glance. `left_out` is how many clocks and ports are not shown, since there are too many. `lines` are the answers
     that it was made of, in hexadecimal, and `notes` what the programs said beside it. `open` is what these answers don't decide, and
-    `asked` the domains that were asked, as far as the lines have the requests."""
+    `asked` the domains that were asked, as far as the lines have the requests. `momentary` is how many findings are left out, since
+    a look before, if one was given, has none like them."""
 
     domains: Tuple[Domain, ...]
     findings: Tuple[Finding, ...]
@@ -150,6 +151,7 @@ class Site:
     notes: Tuple[str, ...] = ()
     open: Tuple[Finding, ...] = ()
     asked: Tuple[AskedDomain, ...] = ()
+    momentary: int = 0
 
     @property
     def clocks(self) -> Tuple[SiteClock, ...]:
@@ -271,6 +273,7 @@ def read_site(text: str) -> Site:
             tuple(map(_domain, told["domains"])), tuple(map(_finding, told["findings"])),
             (number_of(left_out["clocks"]), number_of(left_out["ports"])),
             open=tuple(map(_finding, told.get("open", ()))), asked=tuple(map(_asked, told.get("asked", ()))),
+            momentary=number_of(told.get("momentary", 0)),
         )
     except (KeyError, TypeError, AttributeError) as error:
         raise ValueError(f"it lacks or has another form of {error}") from error

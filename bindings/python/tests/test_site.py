@@ -285,13 +285,6 @@ class Programs(Folder):
         self.assertEqual(len(ptpm.site("eth0").findings), 12)
         self.assertEqual(len(self.asked()), 5)
 
-    def test_what_holds_in_another_domain_has_not_held_twice(self) -> None:
-        self.collects("a_chain", "a_chain", "a_chain")
-        for look, sdo_ids in enumerate(((0, 0x100), (0x100, 0x101), (0x100,)), 1):
-            Path(self.folder, f"look{look}").write_text(told([told_finding("mute", sdo_id) for sdo_id in sdo_ids]), encoding="ascii")
-        self.write("ptpm", f'[ "$1" != findings ] || exec {TOP}/ptpm findings; cd {self.folder}; cat look$(($(wc -l < words)))')
-        self.assertEqual([found.sdo_id for found in ptpm.site("eth0", sdo="all").findings], [0x100])
-
     def test_what_does_not_pass_needs_no_second_look(self) -> None:
         self.collects("p_st2059_wrong")
         self.assertEqual([found.name for found in ptpm.site(unix="/run/ptp4l", profile="st2059-2").findings], ["profile", "profile"])
