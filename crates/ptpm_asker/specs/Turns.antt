@@ -335,6 +335,23 @@ wakes_at stages.Over a now = idle a
 abbrev pub wakes : AskerValue → ℕ → Turn
 wakes a now = if nat_lt now a.wake_at then idle a else wakes_at a.stage a now
 
+-- whether a read by nobody, or a question under another number, is then begun
+abbrev pub begins_asking : AskerValue → Bool
+begins_asking a = a.is_read_due || (is_over a && has_more_numbers a)
+
+-- whether a question or a read by nobody is then begun: memory is asked for nothing else
+abbrev pub begins_at : Stage → AskerValue → Bool
+begins_at stages.Resting a = false
+begins_at stages.Waiting a = true
+begins_at stages.Noting a = false
+begins_at stages.Saving a = false
+begins_at stages.Asking a = begins_asking a
+begins_at stages.Telling a = false
+begins_at stages.Over a = false
+
+abbrev pub begins_waking : AskerValue → ℕ → Bool
+begins_waking a now = not (nat_lt now a.wake_at) && begins_at a.stage a
+
 -- ---- unsent
 
 -- the request is taken back: its number is that of the next one

@@ -83,7 +83,7 @@ impl Model for Asker {
 
 impl Asker {
     ghost use Rattle.ptpm_asker.specs.Asker.{AreSettings, at_rest};
-    ghost use Rattle.ptpm_asker.specs.Turns.{IsMessage, announces, asks, asks_refusal, asked_of, begins_wanted, can_settle, fails, goes_on, goes_on_begun, goes_on_saved, has_enough, has_no_way, has_sent, hears, is_answered, is_busy, is_new_session, is_resting, is_used_up, later, latest, lets_go, lets_go_refusal, next, next_wake, noted, reads_next, reads_wanted, renewed_for, resumes, saved, saves, sends, sends_or_tests, settled, settles, takes_back, tests_wanted, unsents, wakes};
+    ghost use Rattle.ptpm_asker.specs.Turns.{IsMessage, announces, asks, asks_refusal, asked_of, begins_asking, begins_waking, begins_wanted, can_settle, fails, goes_on, goes_on_begun, goes_on_saved, has_enough, has_no_way, has_sent, hears, is_answered, is_busy, is_new_session, is_resting, is_used_up, later, latest, lets_go, lets_go_refusal, next, next_wake, noted, reads_next, reads_wanted, renewed_for, resumes, saved, saves, sends, sends_or_tests, settled, settles, takes_back, tests_wanted, unsents, wakes};
 
     /// What it does, or what it waits for.
     pub fn stage(&self) -> Stage
@@ -199,6 +199,7 @@ impl Asker {
         ensures memory { OnErr result
             (NeedsMemory (received_of self.old.session datagram.now)
             ⊎ NeedsMemory (received_of self.old.reader datagram.now)) }
+        ensures asking { OnErr result (self.old.stage ≡ Stage.Asking) }
         ensures unchanged { OnErr result (self.new ≡ self.old) }
     {
         match self.stage {
@@ -215,11 +216,13 @@ impl Asker {
         }
     }
 
-    /// Time has come. Earlier than the time that was handed out, nothing changes. What was heard before is handed in first.
+    /// Time has come. Earlier than the time that was handed out, nothing changes. What was heard before is handed in first. It can be
+    /// refused only if a question or a read by nobody is begun. Then the asker stays as it was.
     pub fn wake(&mut self, buffer: &mut Buffer, now: u64) -> Result<Output, BeginError>
         ensures asker { OnOk result (self.new ≡ (wakes self.old now).asker) }
         ensures output { IfOk result (λ o. o ≡ (wakes self.old now).output) }
         ensures message { IfOk result (λ o. IsMessage o self.new buffer.new.items) }
+        ensures begins { OnErr result (begins_waking self.old now ≡ true) }
         ensures unchanged { OnErr result (self.new ≡ self.old) }
     {
         if now < self.wake_at {
@@ -265,6 +268,8 @@ impl Asker {
     pub fn noted(&mut self) -> Result<Output, BeginError>
         ensures asker { OnOk result (self.new ≡ (noted self.old).asker) }
         ensures output { IfOk result (λ o. o ≡ (noted self.old).output) }
+        ensures begins { OnErr result
+            ((self.old.stage ≡ Stage.Noting) × IsSome self.old.wanted) }
         ensures unchanged { OnErr result (self.new ≡ self.old) }
     {
         match self.stage {
@@ -590,6 +595,7 @@ impl Asker {
         ensures asker { OnOk result (self.new ≡ (sends_or_tests self.old now).asker) }
         ensures output { IfOk result (λ o. o ≡ (sends_or_tests self.old now).output) }
         ensures message { IfOk result (λ o. IsMessage o self.new buffer.new.items) }
+        ensures begins { OnErr result (begins_asking self.old ≡ true) }
         ensures unchanged { OnErr result (self.new ≡ self.old) }
     {
         if self.is_read_due {
@@ -744,6 +750,7 @@ impl Asker {
     fn begin_wanted(&mut self) -> Result<Output, BeginError>
         ensures asker { OnOk result (self.new ≡ (begins_wanted self.old self.old.wanted).asker) }
         ensures output { IfOk result (λ o. o ≡ (begins_wanted self.old self.old.wanted).output) }
+        ensures begins { OnErr result (IsSome self.old.wanted) }
         ensures unchanged { OnErr result (self.new ≡ self.old) }
     {
         let Some(wanted) = &self.wanted else {

@@ -5,3 +5,4 @@ pub mod Decisions
 pub mod Judged
 pub mod Refused
 pub mod Said
+pub mod KeptSince

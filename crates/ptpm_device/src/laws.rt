@@ -14,10 +14,11 @@ ghost use Rattle.ptpm_table.specs.Rendering.{rendered};
 ghost use Rattle.ptpm_agent.specs.declared.verdict.Verdict.TheVariants as verdicts;
 ghost use Rattle.ptpm_agent.specs.Addressing.{heard_of, request_of};
 ghost use Rattle.ptpm_agent.specs.Laws.{StandsAt, due_messages, initial_clock_state};
-ghost use Rattle.ptpm_agent.specs.Once.{Delivery, History, RequestCopy, copy_of, initial_history, joins};
+ghost use Rattle.ptpm_agent.specs.Once.{Delivery, History, RequestCopy, copy_of, greatest, initial_history, joins};
+ghost use Rattle.ptpm_agent.specs.Observing.{AreOfOneRequest};
 ghost use Rattle.ptpm_agent.specs.Turn.{Clock, State, judged, numbered_from, outbox_of, turn};
 ghost use Rattle.ptpm_device.specs.Asking.{asked, is_asked, is_change, is_read, is_wanted, is_wanted_new, wanted};
-ghost use Rattle.ptpm_device.specs.Decided.{ComeInTime, Delivered, Happening, after_happenings, decided_in_place, due_decided};
+ghost use Rattle.ptpm_device.specs.Decided.{ComeInTime, Delivered, Happening, after_decision, after_happenings, decided_in_place, due_decided};
 ghost use Rattle.ptpm_device.specs.Saying.{Agrees, Gives, Objects, Say, after_reply, most_given, reply_given, turn_said};
 
 /// At-most-once execution at a clock whose device has a say. Let any list of datagrams come in at a fresh clock, with whatever
@@ -53,6 +54,11 @@ pub fn at_most_once_decided()
         StandsAt first s h → ComeInTime first c (length h.sets.ports) h xs →
         StandsAt first (after_happenings c s xs)
         (decided_in_place c (length h.sets.ports) h xs) }
+    ensures kept { (c : Clock) (ports : ℕ) (h : History) (k j : RequestCopy) (say later : Say)
+        (xs : List Happening) →
+        let since = decided_in_place c ports (after_decision c h k say) xs in
+        joins h k ≡ true → AreOfOneRequest k j → greatest k.heard.source since.accepted ≡ k.index →
+        due_decided c since j later ≡ due_decided c h k say }
 {}
 
 /// The device is asked to carry out nothing but a new SET or COMMAND that the clock itself does not refuse. It is asked for the

@@ -1,9 +1,12 @@
 //! A plan: what becomes of each member that a file asks for, and the changes in the order in which they are asked.
 
-ghost use Rattle.std.specs.Prelude.{◌≡◌, ◌++◌, [], IfOk, OnOk, fold};
+ghost use Rattle.std.specs.Prelude.{◌≡◌, ◌++◌, [], IfOk, OnOk, fold, map};
 ghost use Rattle.std.specs.List.{filter_map};
+ghost use Rattle.std.specs.List.Sorted.{IsSortedByKey};
 ghost use Rattle.std.specs.Option.{option_to_list};
 ghost use Rattle.ptpm_plan.specs.Asking.{rows_of_file, unnamed_of};
+ghost use Rattle.ptpm_plan.specs.BestClock.{best_clocks, ranks_of, shown};
+ghost use Rattle.ptpm_plan.specs.Order.{order_key};
 ghost use Rattle.ptpm_plan.specs.Plans.{change_of};
 ghost use Rattle.ptpm_plan.specs.Rows.{with_row};
 
@@ -13,7 +16,7 @@ use crate::asking::{Known, Unnamed, unnamed_of};
 use crate::best_clock::{BestClocks, best_clocks};
 use crate::change::Change;
 use crate::file_fault::FileFault;
-use crate::order::in_order;
+use crate::order::{OrderKey, in_order};
 use crate::rows::Row;
 use crate::surveyed::{Surveyed, SurveyedClock};
 use crate::verdict::Verdict;
@@ -41,7 +44,11 @@ impl Plan {
 
     /// The plan of a file, by the answers of a survey.
     pub fn of(alloc: Global, file: &PlanFile, answers: &Answers) -> Result<Plan, FileFault>
-        ensures { IfOk result (IsPlanOf file.now answers.now.list.items) }
+        ensures plan { IfOk result (IsPlanOf file.now answers.now.list.items) }
+        ensures sorted { IfOk result
+            (λ p. IsSortedByKey (order_key p.surveyed (filter_map change_of p.rows.items)) ⟦<OrderKey as Ord>⟧.cmp p.changes.items) }
+        ensures best { IfOk result
+            (λ p. map shown p.best.items ≡ best_clocks p.changes.items (ranks_of p.surveyed.clocks.items) 256) }
     {
         let surveyed = answers.surveyed(alloc)?;
         let rows = rows_of_file(alloc, file, answers, &surveyed)?;

@@ -11,6 +11,8 @@ use Rattle.ptpm_site.specs.KeptAnswers.{Takes}
 use Rattle.ptpm_site.specs.Messages.{Answered, answer_of, answered}
 use Rattle.ptpm_site.specs.Origins.{origin_in}
 use Rattle.ptpm_site.specs.Announces.{announced_in}
+use Rattle.ptpm_site.specs.declared.arrival.Way.{Way}
+use Rattle.ptpm_site.specs.Arrivals.{arrival_in}
 
 -- the answer that a datagram is, if it is one
 unfoldable pub answer_in : List ℕ → Option Answered
@@ -38,3 +40,8 @@ pub record TakesDatagram (old new : Site) (at : Option ℕ) (datagram : List ℕ
   pub answer : TakesAny old between at (answer_in datagram)
   pub clocks : new.clocks ≡ between.clocks
   pub heard : new.heard.items ≡ old.heard.items ++ all_heard_in at datagram
+
+-- after all that was shown before, it is kept from which address an answer came and at which interface, by some numbers
+pub record KeepsArrival (old new : Site) (datagram : List ℕ) : Type 0 where
+  pub way : Way
+  pub heard : new.heard.items ≡ old.heard.items ++ option_to_list (option_map heard.Came (arrival_in way datagram))

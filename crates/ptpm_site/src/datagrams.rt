@@ -3,7 +3,7 @@
 ghost use Rattle.std.specs.Prelude.{◌≡◌, ◌++◌, None, OnOk};
 ghost use Rattle.std.specs.Option.{option_map, option_to_list};
 ghost use Rattle.ptpm_site.specs.Arrivals.{arrival_in};
-ghost use Rattle.ptpm_site.specs.Datagrams.{TakesAny, TakesDatagram, all_heard_in, answer_in};
+ghost use Rattle.ptpm_site.specs.Datagrams.{KeepsArrival, TakesAny, TakesDatagram, all_heard_in, answer_in};
 
 use crate::announces::announced_in;
 use crate::answer::Answer;
@@ -56,6 +56,7 @@ impl Site {
         datagram: &[u8],
     ) -> Result<(), AllocError>
         ensures clocks { OnOk result (self.new.clocks ≡ self.old.clocks) }
+        ensures heard { OnOk result (KeepsArrival self.old self.new datagram.now) }
     {
         let from = self.words.number_of(alloc, from)?;
         let on = self.words.number_of(alloc, on)?;
