@@ -1,4 +1,3 @@
-pub mod Heard
 pub mod InTurn
 pub mod Requests
 pub mod Resumed

@@ -1,16 +1,16 @@
 -- What holds at a desk and of what left it, along allowed moves.
-use Rattle.std.proofs.Common.{◌≡◌, ◌∙◌, ℕ, Bool, true, false, ◌||◌, List, [], ◌∷◌, ◌++◌, Option, Some, None, inl, inr, refl, sym, ap, subst, is_some, ◌⊎◌}
+use Rattle.std.proofs.Common.{◌≡◌, ◌∙◌, ℕ, Bool, true, false, ◌||◌, List, [], ◌∷◌, ◌++◌, Option, Some, None, inl, inr, refl, sym, ap, subst, ◌⊎◌}
 use Rattle.std.specs.List.{AllByRecursion}
 use Rattle.ptpm_data.specs.Request.{RequestValue}
 use Rattle.ptpm_manager.specs.declared.receiving.Received.{Received}
 use Rattle.ptpm_manager.specs.declared.receiving.Received.TheVariants as received
 use Rattle.ptpm_manager.specs.Receiving.{left_by, received_of}
 use Rattle.ptpm_manager.specs.Session.{SessionValue}
+use Rattle.ptpm_manager.proofs.ReplyLaws.{only_reply}
 use Rattle.ptpm_asker.specs.Desk.{Begins, Continues, Crashes, Desk, HasIt, HasRequest, Heard, Hears, AreAllowed, IsAllowed, IsBegun, IsFree, IsFreeOf, IsHeard, IsKnownNew, IsLetGo, IsTakenBack, IsTold, LeavesTold, LetsGo, MayLeave, Move, Note, Notes, Resumes, Retunes, Returns, Run, Saves, SaysBegun, SaysTold, Sends, Starts, TakesBack, heard_after, latest_number, moved, moved_by, reopened}
 use Rattle.ptpm_asker.specs.Question.{asks_question, is_question}
 use Rattle.ptpm_apply.specs.Watching.{Sent, Watch, answered_after, before_latest, nothing_seen, sent_by, watched, watched_by, without_first}
 use Rattle.ptpm_apply.specs.Resuming.{opened_desk}
-use Rattle.ptpm_apply.proofs.Heard.{answered-waits}
 
 -- ---- what holds
 
@@ -147,10 +147,6 @@ waits_so Crashes d w here may q e = opened_waits d.file d.live q e
 
 -- ---- answers
 
-waiting : (o : Option RequestValue) → is_some o ≡ true → (q : RequestValue) × (o ≡ Some q)
-waiting None e = cc
-waiting (Some q) e = (q, refl)
-
 -- what is answered was under way
 hears_answers : (r : Received) (s : SessionValue) (datagram : List ℕ) (file : Option SessionValue) (answered : Option RequestValue)
     (before : Option Heard) (h : Heard)
@@ -160,10 +156,10 @@ hears_answers : (r : Received) (s : SessionValue) (datagram : List ℕ) (file : 
     → heard_after s before r ≡ Some h
     → FreeOr file (answered_after s.unanswered answered r) h.number
 hears_answers (received.Answered report) s datagram file answered before h is so wait e =
-    let q = waiting s.unanswered (answered-waits s datagram report is) in
+    let own = only_reply s datagram report is in
     let k : Heard = record { number = latest_number s; outcome = report.outcome } in
     let same : k ≡ h = cc in
-    subst (λ (n : ℕ). FreeOr file s.unanswered n) (ap (λ (x : Heard). x.number) same) (wait q.0 q.1)
+    subst (λ (n : ℕ). FreeOr file s.unanswered n) (ap (λ (x : Heard). x.number) same) (wait own.request own.unanswered)
 hears_answers (received.Ignored reason) s datagram file answered before h is so wait e = so h e
 
 pub answers_so : (m : Move) (d : Desk) (w : Watch) → Holds d w → Answers (moved d m) (watched d w m)

@@ -1,45 +1,14 @@
 -- A session knows the answer to its request by octets as the machine knows it by origins.
-use Rattle.ptpm_network.proofs.Common.{by_test, arith, ◌≡◌, ℕ, ◌<◌, ◌≤◌, ◌+◌, ◌==◌, not, List, [], ◌∷◌, Option, Some, None, Result, Ok, Err, Bool, true, false, refl, sym, ◌∙◌, ap, subst, and_from, and_parts, cond-true, cond-false, eq-eqb, eqb-true, ltb-false, not-false, not-true, or_left, or_right, true≢false, false≢true, is_some, first_of-none, DecodeError, Message, same_identity, action_of, id_of, is_reply, message_of, reading, same_identity-refl, same_identity-true, same_clock-refl, same_clock-true, message_of-reading, reading-message_of, Report, first_of, answer_by, answer_to, is_content, is_from_target, is_in_domain, reason_of, received_of, outcome_in, SessionValue, is_waiting, number_of, IsOfOrigin, IsReached, is_answer, report_from, told_by, IsNetwork, Network, SessionStart, manager, Frame, NetworkState, Origin, RequestOf, ReplyTo, Neither, SessionState, accepted_at_target, is_idle, is_late, issued, session_value, AllByRecursion}
+use Rattle.ptpm_network.proofs.Common.{by_test, arith, ◌≡◌, ℕ, ◌<◌, ◌≤◌, ◌+◌, ◌==◌, List, Option, Some, None, Result, Ok, Err, true, false, refl, sym, ◌∙◌, ap, subst, and_from, and_parts, cond-true, cond-false, eq-eqb, eqb-true, ltb-false, not-true, or_left, or_right, true≢false, false≢true, is_some, DecodeError, Message, action_of, id_of, message_of, reading, same_identity-refl, same_identity-true, same_clock-refl, same_clock-true, message_of-reading, reading-message_of, Report, answer_by, answer_to, is_content, reason_of, received_of, outcome_in, SessionValue, is_waiting, number_of, IsOfOrigin, IsReached, is_answer, report_from, told_by, IsNetwork, Network, SessionStart, manager, Frame, NetworkState, Origin, RequestOf, ReplyTo, Neither, SessionState, accepted_at_target, is_idle, is_late, issued, session_value}
 use Rattle.ptpm_manager.specs.declared.receiving.Reason.{Reason}
-use Rattle.ptpm_manager.specs.declared.receiving.Reason.TheVariants as reasons
 use Rattle.ptpm_manager.specs.declared.receiving.Received.TheVariants as received
+use Rattle.ptpm_manager.proofs.ReplyLaws.{IsAccepted, is_accepted, no_reason}
 use Rattle.ptpm_network.proofs.Frames.{SaysReply, heard-frame, same_read, says_reply}
 use Rattle.ptpm_network.proofs.Messages.{action_of-answer_body, answer_body-is_reply, reply_at}
 use Rattle.ptpm_network.proofs.Origins.{IsTrueTo, heard-true}
 use Rattle.ptpm_network.proofs.Reaching.{no_report, told-message}
 use Rattle.ptpm_network.proofs.Schedule.{reached}
 use Rattle.ptpm_network.proofs.Tests.{and_first, and_rest}
-
--- ---- the tests of a session, one by one
-
--- none of the reasons to ignore a message holds
-pub record IsAccepted (s : SessionValue) (v : Message) : Type 0 where
-  pub domain : is_in_domain s.domain v ≡ true
-  pub reply : is_reply (action_of v.body) ≡ true
-  pub target : same_identity v.target s.setup.me ≡ true
-  pub source : is_from_target s v.source ≡ true
-  pub waiting : is_waiting s ≡ true
-  pub number : v.number == number_of s.setup.first s.issued ≡ true
-  pub content : is_content s.unanswered (action_of v.body) (id_of v.body) ≡ true
-
-no_reason : (s : SessionValue) (v : Message) → IsAccepted s v → reason_of s v ≡ None
-unfolding reason_of
-no_reason s v a = rw (a.domain, a.reply, a.target, a.source, a.waiting, a.number, a.content)
-
--- if no reason is found, each test of the list fails
-none_holds : {A : Type 0} (tests : List (Bool × A)) → first_of tests ≡ None → AllByRecursion (λ (t : Bool × A). t.0 ≡ false) tests
-none_holds [] e = tt
-none_holds (t ∷ ts) e = let p = first_of-none t.0 t.1 ts e in (p.0, none_holds ts p.1)
-
-is_accepted : (s : SessionValue) (v : Message) → reason_of s v ≡ None → IsAccepted s v
-unfolding reason_of
-is_accepted s v e =
-    let tests : List (Bool × Reason) =
-    (not (is_in_domain s.domain v), reasons.OtherDomain) ∷ (not (is_reply (action_of v.body)), reasons.NotAReply)
-    ∷ (not (same_identity v.target s.setup.me), reasons.OtherTarget) ∷ (not (is_from_target s v.source), reasons.OtherSource)
-    ∷ (not (is_waiting s), reasons.NothingAsked) ∷ (not (v.number == number_of s.setup.first s.issued), reasons.OtherNumber)
-    ∷ (not (is_content s.unanswered (action_of v.body) (id_of v.body)), reasons.OtherContent) ∷ [] in
-    let p = none_holds tests e in grind (arith, not-false)
 
 -- ---- the reply to the unanswered request passes them
 
