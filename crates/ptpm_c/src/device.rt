@@ -35,6 +35,7 @@ pub extern "C" fn ptpm_clock_ask(
     asked: &mut Question,
 ) -> u32
     ensures kept { held handle.new.keeping ≡ held handle.old.keeping }
+    ensures restored { handle.new.restored ≡ handle.old.restored }
     ensures asks { (c : HostedClock)
         → clock_held handle.old.keeping ≡ Some c
         → IsTrue (has_port port c.agent.sets)

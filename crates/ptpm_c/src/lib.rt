@@ -278,6 +278,7 @@ pub extern "C" fn ptpm_clock_read(
     size: &mut usize,
 ) -> u32
     ensures kept { held handle.new.keeping ≡ held handle.old.keeping }
+    ensures restored { handle.new.restored ≡ handle.old.restored }
     ensures field { (c : HostedClock) → any_clock_held handle.old.keeping ≡ Some c →
         read_refusal id port (length octets.old) c.agent.sets ≡ None →
         (result ≡ 0) × (take size.new octets.new ≡ data_field_of_id id port c.agent.sets) }
@@ -309,6 +310,7 @@ pub extern "C" fn ptpm_clock_read(
 #[unsafe(no_mangle)]
 pub extern "C" fn ptpm_clock_most_sent(handle: &mut Handle) -> usize
     ensures kept { held handle.new.keeping ≡ held handle.old.keeping }
+    ensures restored { handle.new.restored ≡ handle.old.restored }
     ensures most { (c : HostedClock)
         → any_clock_held handle.old.keeping ≡ Some c
         → result ≡ most_sent (state_in c) }

@@ -19,6 +19,7 @@ use std::alloc::Global;
 #[unsafe(no_mangle)]
 pub extern "C" fn ptpm_clock_image(handle: &mut Handle, octets: &mut [u8], size: &mut usize) -> u32
     ensures kept { held handle.new.keeping ≡ held handle.old.keeping }
+    ensures restored { handle.new.restored ≡ handle.old.restored }
     ensures image { (c : HostedClock)
         → any_clock_held handle.old.keeping ≡ Some c
         → length (clock_image (state_in c)) ≤ length octets.old

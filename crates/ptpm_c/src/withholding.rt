@@ -237,6 +237,7 @@ pub extern "C" fn ptpm_clock_image_of(
     token: &mut u64,
 ) -> u32
     ensures kept { held handle.new.keeping ≡ held handle.old.keeping }
+    ensures restored { handle.new.restored ≡ handle.old.restored }
     ensures image { (w : SavingClock)
         → saving_clock_held handle.old.keeping ≡ Some w
         → length (clock_image (state_in w.clock.value)) ≤ length octets.old
