@@ -3,7 +3,6 @@
 #include "commands.h"
 #include "refusing.h"
 #include "words.h"
-#include <stdio.h>
 #include <string.h>
 
 struct ptpm_clock clock_of_page;

@@ -2,7 +2,6 @@
 #include "commands.h"
 #include "refusing.h"
 #include "words.h"
-#include <stdio.h>
 #include <string.h>
 
 static struct ptpm_session session;
