@@ -190,7 +190,7 @@ static enum ptpm_handled hand_in(struct ptpm_clock *clock, uint16_t ingress, con
                                  struct ptpm_sent *places, size_t *count, struct ptpm_changed *changed) {
     if (heard->is_of_owner) return hand_in_of_owner(heard, say, places, count, changed);
     if (say != NULL) return hand_in_said(clock, ingress, heard, say, places, count, changed);
-    return ptpm_clock_handle_changed(&clock_held, ingress, heard->octets, heard->size, places, PTPM_MOST_SENT, count, changed);
+    return ptpm_clock_handle_changed(clock, ingress, heard->octets, heard->size, places, PTPM_MOST_SENT, count, changed);
 }
 
 /* A turn with lines of what became of it and what it changed. To find that costs more than the turn does. */

@@ -60,11 +60,11 @@ struct ptpm_manager_settings sender_of(const struct heard *heard) {
 }
 
 bool is_of_manager(const struct heard *heard, const uint8_t own[8]) {
-    const uint8_t *source = heard->octets + SOURCE_AT, *port = heard->octets + SOURCE_PORT_AT;
     if (heard->size < LEAST_MESSAGE || memcmp(heard->octets + TARGET_AT, own, 8) != 0) return false;
+    const struct ptpm_manager_settings sender = sender_of(heard);
     for (size_t i = 0; i < limits.manager_count; i++) {
         const struct ptpm_manager_settings *manager = &limits.managers[i];
-        if (memcmp(manager->clock, source, 8) == 0 && manager->port == (port[0] << 8 | port[1])) return true;
+        if (memcmp(manager->clock, sender.clock, sizeof sender.clock) == 0 && manager->port == sender.port) return true;
     }
     return false;
 }

@@ -30,18 +30,23 @@ static unsigned mtu_at(int socket, unsigned index) {
     return (unsigned)request.ifr_mtu;
 }
 
+static void take_socket(struct port *port, int opened, unsigned index) {
+    port->socket = opened;
+    port->index = index;
+    port->openings++;
+    port->mtu = mtu_at(opened, index);
+}
+
 void open_port(const char *interface) {
     struct port *port = &ports[port_count++];
     const char *what;
     port->name = interface;
-    port->index = if_nametoindex(interface);
-    port->socket = open_socket(port, &what);
-    if (port->socket < 0) {
+    int opened = open_socket(port, &what);
+    if (opened < 0) {
         say("%s: %s%s", what, strerror(errno), right_needed(transport == ETHERNET));
         exit(2);
     }
-    port->openings = 1;
-    port->mtu = mtu_at(port->socket, port->index);
+    take_socket(port, opened, if_nametoindex(interface));
 }
 
 /* Two ports at one interface would forward to its link what comes from there. */
@@ -69,10 +74,7 @@ static void open_other(struct port *port, unsigned index) {
     if (opened >= 0) {
         say("%s: the interface was made anew", port->name);
         close_port(port);
-        port->socket = opened;
-        port->index = index;
-        port->openings++;
-        port->mtu = mtu_at(opened, index);
+        take_socket(port, opened, index);
         port->refused = 0;
     } else if (port->refused != index) {
         const char *why = other == NULL ? strerror(errno) : "";

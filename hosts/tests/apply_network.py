@@ -10,17 +10,13 @@ import time
 
 from apply_link import Middle
 from apply_observer import Observer
+from trying import HOME, run
 
-HOME = os.path.dirname(os.path.dirname(os.path.abspath(__file__)))
 MANAGER, OTHER = "020000fffe000010/1", "0a0000fffe000099/1"
 MANAGERS_STATION = "02:00:00:00:00:10"
 TUNSETIFF, IFF_TAP, IFF_NO_PI = 0x400454CA, 2, 0x1000
 ANSWERED_NEW = "5"
 NUMBERED = "5678"                   # answers of a clock to what a manager of it asks it by itself
-
-
-def run(*words, **more):
-    return subprocess.run(words, stdout=subprocess.PIPE, stderr=subprocess.PIPE, text=True, timeout=120, **more)
 
 
 def within(namespace):
@@ -144,10 +140,6 @@ class Network:
         clock.process.wait()
         self.start(clock)
 
-    def stop(self, clock):
-        clock.process.terminate()
-        clock.process.wait(10)
-
     def manage(self, *words, state="state", namespace=None, **more):
         """A run of the manager's program."""
         where = self.near if namespace is None else namespace
@@ -174,17 +166,20 @@ class Network:
         os.close(ours)
         return process.wait(60), shown.decode()
 
+    def target(self, name, number):
+        """A clock, or one of its ports if the number is not 0."""
+        return self.clocks[name].identity + (f"/{number}" if number else "")
+
     def set(self, name, number, *words):
-        """Another manager has the clock carry a SET out. `number` is the port, 0 if it is none."""
-        target = self.clocks[name].identity + (f"/{number}" if number else "")
-        done = self.manage("-m", OTHER, "-w", "10", "-b", "7", "--target", target, "set", *words, state="others", namespace=self.beside)
+        """Another manager has the clock carry a SET out."""
+        done = self.manage("-m", OTHER, "-w", "10", "-b", "7", "--target", self.target(name, number), "set", *words, state="others",
+                           namespace=self.beside)
         if done.returncode:
             raise OSError(f"{name} {words}: {done.stdout}{done.stderr}")
 
-    def get(self, name, number, id, domain=0):
+    def get(self, name, number, id):
         """What the clock has, or None if it answers nothing there."""
-        target = self.clocks[name].identity + (f"/{number}" if number else "")
-        done = self.manage("-a", "3", "-b", "7", "-d", str(domain), "--target", target, "get", id, namespace=self.beside)
+        done = self.manage("-a", "3", "-b", "7", "--target", self.target(name, number), "get", id, namespace=self.beside)
         return ", ".join(done.stdout.splitlines()) if done.returncode == 0 else None
 
     def end(self):

@@ -6,11 +6,11 @@ import subprocess
 import time
 
 from apply_kills import PATIENCE, Kills
-from apply_network import HOME, must, run, within
+from apply_network import must, within
 from apply_runs import Broken, Runs
+from trying import HOME, run
 
-NAMES = {0x2005: "priority1", 0x2006: "priority2"}
-REFUSED_ID = 0x2010                     # CLOCK_ACCURACY: a ptp4l takes no SET of it
+NAMES = {0x2005: "priority1", 0x2006: "priority2"}         # a ptp4l takes no SET of another id, such as CLOCK_ACCURACY
 IDENTITY = "020000fffe000022"
 
 
@@ -66,9 +66,8 @@ class AtPtp4l(Runs):
         return self.write_plan(lines + ["CLOCK_ACCURACY = 0x21"] * (self.chance.random() < 0.25))
 
     def check(self, journal):
-        """The steps that are told are the first ones. Each value is the last one that is told, or that of the step that is begun."""
-        if sorted(journal.told) != list(range(len(journal.told))):
-            raise Broken(f"told {sorted(journal.told)} of {len(journal.steps)}")
+        """Each value is the last one that is told, or that of the step that is begun."""
+        super().check(journal)
         possible = {name: {value} for name, value in self.before.items()}
         for place, step in enumerate(journal.steps):
             name, value = NAMES.get(step["id"]), int(step["after"][:2], 16)
@@ -83,11 +82,7 @@ class AtPtp4l(Runs):
             raise Broken(f"it has {has}, and may have {possible}; journal {journal.place()}")
 
     def check_end(self, journal):
-        is_refused = any(step["id"] == REFUSED_ID for step in journal.steps)
-        if journal.begun is not None or journal.end != ("refused" if is_refused else "complete") or len(journal.told) != len(journal.steps):
-            raise Broken(f"it ended as {journal.end}, with {len(journal.told)} of {len(journal.steps)} told")
-        self.check_marks()
-        self.count_end(journal)
+        super().check_end(journal)
         self.before = self.read()
 
 

@@ -83,6 +83,11 @@ class Runs:
     def crash(self):
         """What is changed crashes, if it keeps what it has."""
 
+    def check(self, journal):
+        """The steps that are told are the first ones."""
+        if sorted(journal.told) != list(range(len(journal.told))):
+            raise Broken(f"told {sorted(journal.told)} of {len(journal.steps)}")
+
     def check_report(self, journal):
         """What the latest run printed of steps, if it came to that, is what the journal has. It may know that a step which is begun there was
         not sent."""
@@ -100,7 +105,13 @@ class Runs:
                 if not Journal(mark.read().strip()).end:
                     raise Broken(f"{path} names an apply that is open")
 
-    def count_end(self, journal):
+    def check_end(self, journal):
+        """It ends after its last step, or at the first that is refused."""
+        is_refused = any(note["outcome"] != "done" for note in journal.told.values())
+        is_over = is_refused or len(journal.told) == len(journal.steps)
+        if journal.begun is not None or journal.end != ("refused" if is_refused else "complete") or not is_over:
+            raise Broken(f"it ended as {journal.end}, with {len(journal.told)} of {len(journal.steps)} told")
+        self.check_marks()
         self.counts[journal.end] += 1
         self.counts["steps told"] += len(journal.told)
 

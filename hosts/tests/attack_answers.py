@@ -5,7 +5,7 @@ import shutil
 import subprocess
 import time
 
-from attack_collect import Site
+from attack_collect import Site, changed
 from attacking import MANAGER, ME, SLOW, check, response, start, work
 
 NOT_AS_ASKED = 5
@@ -114,18 +114,15 @@ def copies_at_once(port):
 
 def errors_of_other_ports():
     """A boundary clock that refuses at the port where the request came in: it is the answer, and an earlier run's too."""
-    def reply(request, place=1, status=b"\x00\x06"):
-        octets = bytearray(response(request, status + request[52:54] + bytes(4), 2))
-        octets[28:30] = place.to_bytes(2, "big")
-        return bytes(octets)
+    def reply(request):
+        return response(request, b"\0\6" + request[52:54] + bytes(4), 2)
     site = Site(lambda request: [reply(request)], "--target", ME + "-2", "set", "LOG_SYNC_INTERVAL", "1")
     check("an error from port 1 answers what port 2 was asked", site.status == 1 and site.lines() == ["refused NOT_SUPPORTED"]
           and site.took < 2 * SLOW and len(site.requests) == 1)
     for what, change in [("to another number", (30, b"\x12\x34")), ("of another clock", (20, bytes(7) + b"\1")),
                          ("for another manager", (34, bytes(7) + b"\1")), ("of another domain", (4, b"\1")),
                          ("of another id", (54, b"\x20\x09"))]:
-        site = Site(lambda request: [reply(request)[:change[0]] + change[1] + reply(request)[change[0] + len(change[1]):]],
-                    "--target", ME + "-2", "-a", "2", "-t", "50", "set", "LOG_SYNC_INTERVAL", "1")
+        site = Site(lambda request: [changed(reply(request), *change)], "--target", ME + "-2", "-a", "2", "-t", "50", "set", "LOG_SYNC_INTERVAL", "1")
         check(f"an error {what} from there is none", site.status == 3)
     site = Site(lambda request: [response(request, request[52:54] + b"\1\0")], "--target", ME + "-2", "-a", "2", "-t", "50", "set",
                 "LOG_SYNC_INTERVAL", "1")
@@ -135,9 +132,7 @@ def errors_of_other_ports():
 def ports_above_eight():
     """A switch with 24 ports: one of them is named, answers, and refuses."""
     def reply(request, port):
-        octets = bytearray(response(request, request[52:54] + (request[54:] or b"\x03\0")))
-        octets[28:30] = port.to_bytes(2, "big")
-        return [bytes(octets)]
+        return [response(request, request[52:54] + (request[54:] or b"\x03\0"), port=port)]
     for words, printed in [(("-T", ME + "-20", "get", "LOG_SYNC_INTERVAL"), "logSyncInterval 3"), (("--target", ME, "-p", "20", "set",
                             "LOG_SYNC_INTERVAL", "-2"), "logSyncInterval -2"), (("--target", ME + "-65534", "set", "LOG_SYNC_INTERVAL", "1"), "logSyncInterval 1")]:
         site = Site(lambda request: reply(request, int.from_bytes(request[42:44], "big")), *words)

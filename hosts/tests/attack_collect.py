@@ -7,7 +7,7 @@ import signal
 import subprocess
 import time
 
-from attacking import HOME, ME, OTHER, SLOW, Peer, check, has_own_socket, is_sanitized, path, start, work, write
+from attacking import HOME, ME, OTHER, SLOW, Peer, check, has_own_socket, is_sanitized, path, response, start, work, write
 
 # The dataFields of the six ids, of a clock with one port (IEEE 1588-2019, 15.5.3).
 DEFAULT, CURRENT, PARENT, TIMES, PORT, TEXT = 0x2000, 0x2001, 0x2002, 0x2003, 0x2004, 0x0002
@@ -26,12 +26,7 @@ def field(name, clock, priority=128, ports=1):
 
 def answer(request, clock, **members):
     """The answer of a clock's port 1 to a request for one of the six."""
-    name = int.from_bytes(request[52:54], "big")
-    content = field(name, clock, **members)
-    head = bytearray(request[:48])
-    head[2:4] = (54 + len(content)).to_bytes(2, "big")
-    head[20:30], head[34:44], head[46] = clock + bytes([0, 1]), request[20:30], 2
-    return bytes(head) + (1).to_bytes(2, "big") + (2 + len(content)).to_bytes(2, "big") + request[52:54] + content
+    return response(request, request[52:54] + field(int.from_bytes(request[52:54], "big"), clock, **members), clock=clock)
 
 
 def changed(message, place, octets):

@@ -6,23 +6,15 @@ import shutil
 import signal
 import time
 
-from attack_limits import set_of
 from attack_saves import FAILING, SLOWLY, Calls, Disk
-from attack_wire import STRANGER, Wire, message
-from attacking import MANAGER, ME, SLOW, TRACED, Clock, Peer, check, get, manage, pause, path, read, wait_until, work, write
+from attack_wire import Wire
+from attacking import (MANAGER, ME, SLOW, STRANGER, TRACED, Clock, Peer, check, field_set, get, manage, message, pause, path, read, set_of,
+                       wait_until, work, write)
 
 SECOND_MANAGER = "0011223344556688"
 PROGRAM = os.path.join(work, "program")
 LONG = f"300.{os.getpid()}"               # seconds, and a word that no other process has
 WRONG_VALUE, NOT_SETABLE, NOT_SUPPORTED, GENERAL_ERROR = 4, 5, 6, 0xFFFE
-
-
-def field_set(number, about, field, source=MANAGER, action=1, port=0xFFFF):
-    """A SET or a COMMAND of an id at a port (IEEE 1588-2019, 15.4 and 15.5)."""
-    octets = bytearray(message(number, source, ME))
-    octets[2:4], octets[42:44], octets[46] = (54 + len(field)).to_bytes(2, "big"), port.to_bytes(2, "big"), action
-    octets[50:54] = (2 + len(field)).to_bytes(2, "big") + bytes.fromhex(about)
-    return bytes(octets) + field
 
 
 def answer_at(peer, wait=2):
@@ -204,7 +196,8 @@ def programs_that_say_nothing():
     check("after a second", 0.9 < time.monotonic() - began < 2 * SLOW)
     check("with what it has started", wait_until(lambda: processes_with(LONG) == 0, 1) and answer_at(peer, 0.2) is None)
     write("says", f"sleep {LONG} & exit 5\n")
-    check("so is what it leaves when it exits", asked(peer, set_of(2, 50)) == (2, "error", NOT_SETABLE) and processes_with(LONG) == 0)
+    check("so is what it leaves when it exits", asked(peer, set_of(2, 50)) == (2, "error", NOT_SETABLE)
+          and wait_until(lambda: processes_with(LONG) == 0, 1))
     write("says", "sleep 0.8\n")
     status, said, _ = manage("-u", path, "-k", os.path.join(work, "numbers"), "-t", "40", "-a", "4", "set", "PRIORITY1", "60")
     check("its manager is told that this may be why", status == 3 and "or its device has not agreed yet" in said)

@@ -5,8 +5,8 @@ import signal
 import socket
 import time
 
-from attack_wire import STATION, STRANGER, Wire, frame_four, message
-from attacking import MANAGER, ME, OTHER, Clock, Peer, check, path, run, wait_until, work, write
+from attack_wire import STATION, Wire, frame_four
+from attacking import MANAGER, ME, OTHER, STRANGER, Clock, Peer, check, message, path, run, set_of, wait_until, work, write
 
 TOOL = "0a0b0c0d0e0f10aa"
 # The latest addresses that have tokens of their own: of those who ask, and of those who claim to be a manager.
@@ -28,13 +28,6 @@ class Watch:
 
     def seconds(self):
         return time.monotonic() - self.began
-
-
-def set_of(number, value, source=MANAGER):
-    """A SET of PRIORITY1 (IEEE 1588-2019, 15.4 and 15.5)."""
-    octets = bytearray(message(number, source, ME))
-    octets[2:4], octets[46], octets[50:52] = b"\0\x38", 1, b"\0\4"
-    return bytes(octets) + bytes([value, 0])
 
 
 def rates():

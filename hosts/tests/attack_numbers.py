@@ -10,8 +10,8 @@ import subprocess
 import tempfile
 import time
 
-from attacking import (HOME, MANAGER, ME, OTHER, SLOW, Clock, Peer, asks, check, fill_disk, flips, image_in, manage, path, read, response, run,
-                       saves_in, sealed, start, wait_until, work, write)
+from attacking import (HOME, MANAGER, ME, OTHER, SLOW, Clock, Peer, asks, check, fill_disk, flips, image_in, manage, octets, path, read, response,
+                       run, saves_in, sealed, start, wait_until, work, write, write_octets)
 
 PROGRAM = os.path.join(HOME, "manage")
 
@@ -27,17 +27,6 @@ def image(first, begun, request=b"", manager=MANAGER + "0001", clock=ME, ports=8
 def set_of(value):
     """A SET of PRIORITY2, which is an id of no port, in an image."""
     return bytes.fromhex("012006ffff0002") + bytes([value, 0])
-
-
-def octets(name):
-    with open(os.path.join(work, name), "rb") as file:
-        return file.read()
-
-
-def write_octets(name, content):
-    with open(os.path.join(work, name), "wb") as file:
-        file.write(content)
-    return os.path.join(work, name)
 
 
 def next_number(name):

@@ -8,9 +8,8 @@ import subprocess
 import threading
 import time
 
-from attack_limits import set_of
-from attack_wire import STRANGER, Wire, message
-from attacking import MANAGER, ME, SLOW, TRACED, Clock, Peer, check, get, path, started, wait_until, work, write
+from attack_wire import Wire
+from attacking import (MANAGER, ME, SLOW, STRANGER, TRACED, Clock, Peer, check, get, message, path, set_of, started, wait_until, work, write)
 
 state = os.path.join(work, "slow")
 WORDS = ("-s", state, "-u", path, "-m", MANAGER + "/1", "--manager-rate", "1000")

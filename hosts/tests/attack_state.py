@@ -9,24 +9,14 @@ import subprocess
 import time
 
 from attack_numbers import next_number
-from attacking import (HOME, MANAGER, ME, OTHER, TRACED, Clock, Peer, check, clear, fill_disk, flips, get, image_in, manage, path, read, run, saves_in,
-                       sealed, started, work)
+from attacking import (HOME, MANAGER, ME, OTHER, TRACED, Clock, Peer, check, clear, fill_disk, flips, get, image_in, manage, octets, path, read, run,
+                       saves_in, sealed, started, wait_until, work, write_octets)
 
 PROGRAM = os.path.join(HOME, "clock")
 NOBODY = 65534
 state, session = (os.path.join(work, name) for name in ("state", "session"))
 UNIX = ("-m", MANAGER + "/1", "-u", path, ME)
 WORDS = ("-s", state, *UNIX)
-
-
-def octets(name=state):
-    with open(name, "rb") as file:
-        return file.read()
-
-
-def put(content, name=state):
-    with open(name, "wb") as file:
-        file.write(content)
 
 
 def begins(*words, user=None):
@@ -66,15 +56,15 @@ def saved_state():
     clock = Clock(*WORDS)
     check("a clock that saves is asked", sets(100) and stat.S_IMODE(os.stat(state).st_mode) == 0o600)
     check("a clock that saves ends in order", clock.end()[0] == 0)
-    return octets()
+    return octets(state)
 
 
 def states():
     """A state outlasts its clock, and not only where that ends in order."""
     whole = saved_state()
     clock = Clock(*WORDS)
-    check("the state is as it was", value() == 100 and image_in(octets()) == image_in(whole) and "PRIORITY1" not in clock.text())
-    check("and has one save more", saves_in(octets()) == saves_in(whole) + 1)
+    check("the state is as it was", value() == 100 and image_in(octets(state)) == image_in(whole) and "PRIORITY1" not in clock.text())
+    check("and has one save more", saves_in(octets(state)) == saves_in(whole) + 1)
     check("it goes on from there", sets(50))
     clock.end(signal.SIGKILL)
     clock = Clock("-v", *WORDS)
@@ -111,17 +101,17 @@ def configurations():
     gone = f"{state}: 1 manager of it is not configured any more, and what was kept of its requests is let go\n"
     check("a manager that is gone loses its entry", gone in begins("-s", state, "-u", path, ME)[1])
     check("which is said once", "configured any more" not in begins("-s", state, "-u", path, ME)[1])
-    whole = octets()
+    whole = octets(state)
     for why, words in [("OTHER_CLOCK: " + state + ": it has the state of clock " + ME, (OTHER,)), ("OTHER_PORTS", (ME, "lo", "attack0"))]:
-        check(f"it does not start: {why}", is_refused(1, why, "-s", state, "-u", path, *words) and octets() == whole)
+        check(f"it does not start: {why}", is_refused(1, why, "-s", state, "-u", path, *words) and octets(state) == whole)
 
 
 def name_of(content):
     """The name by which the clock refuses a file with these octets, before it has made its socket; None if it does not, or changes it."""
-    put(content)
+    write_octets(state, content)
     status, said = begins(*WORDS)
     named = re.search(f"^ptpm-clock: it does not start: ([A-Z_]+): {re.escape(state)}: ", said, re.M)
-    return named[1] if status == 1 and named and not os.path.exists(path) and octets() == content else None
+    return named[1] if status == 1 and named and not os.path.exists(path) and octets(state) == content else None
 
 
 def damages():
@@ -139,15 +129,15 @@ def damages():
     print(f"a state of {len(whole)} octets: {len(cut)} beginnings and {len(bits)} other bits, and {bits.count(None)} of these are not refused")
     for name, content in [("NOT_AN_IMAGE", b"7\n"), ("OTHER_VERSION", image[:5] + b"\2" + image[6:]), ("OTHER_KIND", image[:4] + b"\2" + image[5:])]:
         check(f"a seal makes no state of {name}", name_of(sealed(content)) == name)
-    put(whole)
-    check("the whole one is not refused", begins(*WORDS)[0] == 0 and octets() == sealed(image, count + 1))
+    write_octets(state, whole)
+    check("the whole one is not refused", begins(*WORDS)[0] == 0 and octets(state) == sealed(image, count + 1))
 
 
 def states_without_seal():
     """What a former version saved: it is taken if it is an image, and gets its seal."""
     image = image_in(saved_state())
-    put(image)
-    check("a state without a seal is taken, and sealed", begins(*WORDS)[0] == 0 and octets() == sealed(image, 1))
+    write_octets(state, image)
+    check("a state without a seal is taken, and sealed", begins(*WORDS)[0] == 0 and octets(state) == sealed(image, 1))
     wrong = [content.hex() for content in [image[:-1], image + b"\0", image + b"ptps", image + image] if name_of(content) != "DAMAGED"]
     check(f"if it is an image: {wrong}", wrong == [])
 
@@ -171,10 +161,10 @@ def files_in_the_way():
     check("a folder in the way of a new file is", is_refused(2, f"{inner}.new: File exists", "-s", inner, *UNIX))
     check("and no lock is left without a state", os.listdir(folder) == ["state.new"])
     os.rmdir(inner + ".new")
-    put(b"left over", inner + ".new")
+    write_octets(inner + ".new", b"left over")
     status, _ = begins("-s", inner, *UNIX)
     check("a file that a killed save left is not", status == 0 and sorted(os.listdir(folder)) == ["state", "state.lock"])
-    put(b"7\n", inner)
+    write_octets(inner, b"7\n")
     check("what is no state is refused", is_refused(1, f"NOT_AN_IMAGE: {inner}", "-s", inner, *UNIX) and octets(inner) == b"7\n")
 
 
@@ -261,10 +251,7 @@ def calls_that_fail():
                                       f"inject={name}:error=EIO:when={at}", PROGRAM, "--user", "root", "-v", *WORDS], stdout=output, stderr=subprocess.STDOUT,
                                      env=TRACED)
         started.append(clock)
-        for _ in range(200):
-            if "in domain" in read("output"):
-                break
-            time.sleep(0.02)
+        wait_until(lambda: "in domain" in read("output"))
         check(f"{name} {at} fails, and the manager is answered all the same", sets(50))
         time.sleep(0.3)
         said = read("output")

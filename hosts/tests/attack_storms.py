@@ -7,8 +7,8 @@ import subprocess
 import time
 
 import attacking
-from attack_wire import EVERY, message, message_of
-from attacking import HOME, MANAGER, OTHER, check, run, work
+from attack_wire import message_of
+from attacking import EVERY, HOME, MANAGER, OTHER, check, message, run, work
 
 TOP = os.path.dirname(HOME)
 AGENT_IN_RUST = os.path.join(TOP, "bindings/rust/target/debug/examples/agent")

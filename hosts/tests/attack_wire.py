@@ -1,21 +1,14 @@
-"""A link to a clock of the attacks: frames that come in over it and go out, and the messages in them."""
+"""Links and devices of the attacks: frames that come in over them and go out, and the messages in them."""
+import fcntl
+import os
 import select
 import socket
 import struct
 import time
 
-from attacking import get, run
+from attacking import run
 
-STRANGER = "0a0b0c0d0e0f1011"
-EVERY = "ff" * 8
 GROUP, STATION = bytes.fromhex("011b19000000"), bytes.fromhex("020000000099")
-
-
-def message(number, source=STRANGER, target=EVERY, starting=1, hops=1):
-    """A GET of PRIORITY1 (IEEE 1588-2019, clauses 13.3 and 15.4)."""
-    octets = bytearray(get(number, target))
-    octets[20:30], octets[44], octets[45] = bytes.fromhex(source + "0001"), starting, hops
-    return bytes(octets)
 
 
 def sum_of(octets):
@@ -41,6 +34,43 @@ def frame_six(octets, source, to="ff0e::181"):
     total = sum_of(addresses + struct.pack("!II", size, 17) + udp + octets)
     udp = struct.pack("!HHHH", 320, 320, size, total)
     return bytes.fromhex("333300000181") + STATION + b"\x86\xdd" + struct.pack("!IHBB", 0x60000000, size, 17, 1) + addresses + udp + octets
+
+
+def message_of(frame):
+    kind = frame[12:14]
+    if kind == b"\x08\x00" and frame[23] == 17 and frame[36:38] == b"\x01\x40":
+        return frame[42:]
+    if kind == b"\x86\xdd" and frame[20] == 17 and frame[56:58] == b"\x01\x40":
+        return frame[62:]
+    return frame[14:] if kind == b"\x88\xf7" else None
+
+
+class Port:
+    """A network device whose frames are read and written here."""
+
+    def __init__(self, name):
+        self.file = os.open("/dev/net/tun", os.O_RDWR | os.O_NONBLOCK)
+        fcntl.ioctl(self.file, 0x400454CA, struct.pack("16sH22x", name.encode(), 0x1002))
+        self.name = name
+        self.address = len(name) + int(name[-1])
+        run("ip", "addr", "add", f"10.8.{self.address}.1/24", "dev", name)
+        run("ip", "link", "set", name, "up")
+
+    def come_in(self, octets):
+        """A datagram to the group of IPv4 (annex C), from a neighbour."""
+        try:
+            os.write(self.file, frame_four(octets, f"10.8.{self.address}.9"))
+        except BlockingIOError:
+            time.sleep(0.01)
+
+    def sent(self):
+        """The datagrams to UDP port 320 that went out here."""
+        found = []
+        try:
+            while True:
+                found.append(message_of(os.read(self.file, 2048)))
+        except BlockingIOError:
+            return [octets for octets in found if octets is not None]
 
 
 class Wire:
@@ -96,12 +126,3 @@ class Wire:
     def remove(self):
         self.socket.close()
         run("ip", "link", "del", self.name)
-
-
-def message_of(frame):
-    kind = frame[12:14]
-    if kind == b"\x08\x00" and frame[23] == 17 and frame[36:38] == b"\x01\x40":
-        return frame[42:]
-    if kind == b"\x86\xdd" and frame[20] == 17 and frame[56:58] == b"\x01\x40":
-        return frame[62:]
-    return frame[14:] if kind == b"\x88\xf7" else None

@@ -1,19 +1,21 @@
-"""What the attacks of hosts/tests/attack share: the programs that they start, who asks a clock and what comes in at its ports, and the
-count of what holds."""
+"""What the attacks of hosts/tests/attack and attack_clock share: the programs that they start, who asks a clock, the messages, and the count
+of what holds."""
 import ctypes
-import fcntl
 import os
 import shutil
 import signal
 import socket
-import struct
 import subprocess
+import sys
 import tempfile
 import time
 import zlib
 
-HOME = os.path.dirname(os.path.dirname(os.path.abspath(__file__)))
+import trying
+from trying import HOME, check, print_checks
+
 ME, OTHER, MANAGER = "aabbccfffeddee01", "aabbccfffeddee99", "0011223344556677"
+STRANGER, EVERY = "0a0b0c0d0e0f1011", "ff" * 8
 LIBC = ctypes.CDLL(None, use_errno=True)
 
 
@@ -33,20 +35,10 @@ TRACED = sanitizer_with("detect_leaks=0")
 
 # Programs that were built with a sanitizer take longer for all that they do.
 SLOW = 5 if is_sanitized("clock") or is_sanitized("manage") else 1
-passed, failed = 0, 0
 started = []            # the programs that may still run: none outlives its attack
 work = tempfile.mkdtemp()
 path = os.path.join(work, "socket")
 os.environ["XDG_STATE_HOME"] = os.path.join(work, "state")
-
-
-def check(what, holds):
-    global passed, failed
-    if holds:
-        passed += 1
-    else:
-        failed += 1
-        print("attack: failed:", what)
 
 
 def start(name, *words, **streams):
@@ -57,10 +49,36 @@ def start(name, *words, **streams):
     return process
 
 
-def get(number, target=ME, hops=1):
-    """A GET of PRIORITY1 by the manager (IEEE 1588-2019, clauses 13.3 and 15.4)."""
-    return (bytes.fromhex("0d120036") + bytes(16) + bytes.fromhex(MANAGER + "0001") + number.to_bytes(2, "big")
-            + bytes.fromhex("047f" + target + "ffff") + bytes([hops, hops, 0, 0]) + bytes.fromhex("000100022005"))
+def message(number, source=STRANGER, target=EVERY, starting=1, hops=1):
+    """A GET of PRIORITY1 (IEEE 1588-2019, clauses 13.3 and 15.4)."""
+    return (bytes.fromhex("0d120036") + bytes(16) + bytes.fromhex(source + "0001") + number.to_bytes(2, "big")
+            + bytes.fromhex("047f" + target + "ffff") + bytes([starting, hops, 0, 0]) + bytes.fromhex("000100022005"))
+
+
+def get(number, target=ME):
+    """Such a GET by the manager."""
+    return message(number, MANAGER, target)
+
+
+def field_set(number, about, field, source=MANAGER, action=1, port=0xFFFF):
+    """A SET or a COMMAND of an id at a port (15.4 and 15.5)."""
+    octets = bytearray(message(number, source, ME))
+    octets[2:4], octets[42:44], octets[46] = (54 + len(field)).to_bytes(2, "big"), port.to_bytes(2, "big"), action
+    octets[50:54] = (2 + len(field)).to_bytes(2, "big") + bytes.fromhex(about)
+    return bytes(octets) + field
+
+
+def set_of(number, value, source=MANAGER):
+    """A SET of PRIORITY1."""
+    return field_set(number, "2005", bytes([value, 0]), source)
+
+
+def response(request, tlv, kind=1, clock=bytes.fromhex(ME), port=1):
+    """A message by which a port of a clock answers a request, and what is in its TLV after the length."""
+    head = bytearray(request[:48])
+    head[2:4] = (52 + len(tlv)).to_bytes(2, "big")
+    head[20:30], head[34:44], head[46] = clock + port.to_bytes(2, "big"), request[20:30], 2
+    return bytes(head) + kind.to_bytes(2, "big") + len(tlv).to_bytes(2, "big") + tlv
 
 
 def sealed(image, saves=1):
@@ -93,11 +111,8 @@ def pause(seconds):
 
 
 def wait_until(holds, most=4):
-    """Whether it comes to hold in time."""
-    end = time.monotonic() + most * SLOW
-    while not holds() and time.monotonic() < end:
-        time.sleep(0.05)
-    return holds()
+    """Whether it comes to hold in time, or later where SLOW says so."""
+    return trying.wait_until(holds, most * SLOW)
 
 
 class Clock:
@@ -130,13 +145,10 @@ class Clock:
             return output.read()
 
 
-def is_listened_at(words):
+def is_listened_at():
+    """Whether a program listens at the path."""
     with socket.socket(socket.AF_UNIX, socket.SOCK_DGRAM) as probe:
-        try:
-            probe.connect(words[words.index("-u") + 1])
-            return True
-        except OSError:
-            return False
+        return probe.connect_ex(path) == 0
 
 
 class Peer:
@@ -163,41 +175,6 @@ class Peer:
     def close(self):
         self.socket.close()
         os.unlink(self.path)
-
-
-class Port:
-    """A network device whose frames are read and written here."""
-
-    def __init__(self, name):
-        self.file = os.open("/dev/net/tun", os.O_RDWR | os.O_NONBLOCK)
-        fcntl.ioctl(self.file, 0x400454CA, struct.pack("16sH22x", name.encode(), 0x1002))
-        self.name = name
-        self.address = len(name) + int(name[-1])
-        run("ip", "addr", "add", f"10.8.{self.address}.1/24", "dev", name)
-        run("ip", "link", "set", name, "up")
-
-    def come_in(self, octets):
-        """A datagram for UDP port 320 at the group of IPv4 (annex C), from a neighbour."""
-        head = struct.pack("!BBHHHBBH4s4s", 0x45, 0, 28 + len(octets), 0, 0, 1, 17, 0,
-                           bytes([10, 8, self.address, 9]), bytes([224, 0, 1, 129]))
-        total = sum(struct.unpack("!10H", head))
-        head = head[:10] + struct.pack("!H", 0xFFFF - (total % 0xFFFF)) + head[12:]
-        frame = bytes.fromhex("01005e000181 020000000099 0800") + head + struct.pack("!HHHH", 320, 320, 8 + len(octets), 0)
-        try:
-            os.write(self.file, frame + octets)
-        except BlockingIOError:
-            time.sleep(0.01)
-
-    def sent(self):
-        """The datagrams to UDP port 320 that went out here."""
-        found = []
-        try:
-            while True:
-                frame = os.read(self.file, 2048)
-                if frame[12:14] == b"\x08\x00" and frame[23] == 17 and frame[14 + 4 * (frame[14] & 15) + 2:][:2] == b"\x01\x40":
-                    found.append(frame[14 + 4 * (frame[14] & 15) + 8:])
-        except BlockingIOError:
-            return found
 
 
 def clear():
@@ -234,13 +211,24 @@ def left_over():
 
 
 def write(name, text):
-    with open(os.path.join(work, name), "w") as file:
-        file.write(text)
+    """Writes a text into a file of this folder; its whole name."""
+    return write_octets(name, text.encode())
+
+
+def write_octets(name, content):
+    with open(os.path.join(work, name), "wb") as file:
+        file.write(content)
     return os.path.join(work, name)
 
 
 def read(name):
+    """The text of a file of this folder, or of one by its whole name."""
     with open(os.path.join(work, name)) as file:
+        return file.read()
+
+
+def octets(name):
+    with open(os.path.join(work, name), "rb") as file:
         return file.read()
 
 
@@ -259,9 +247,39 @@ def has_own_socket():
     return any(name.startswith("socket.") for name in os.listdir(work))
 
 
-def response(request, tlv, kind=1):
-    """A message that answers a request by what is in a TLV after its length."""
-    head = bytearray(request[:48])
-    head[2:4] = (52 + len(tlv)).to_bytes(2, "big")
-    head[20:30], head[34:44], head[46] = bytes.fromhex(ME + "0001"), request[20:30], 2
-    return bytes(head) + kind.to_bytes(2, "big") + len(tlv).to_bytes(2, "big") + tlv
+def asked_of(liar, id, field, kind=1):
+    """What manage prints of a clock that answers its GET by this dataField, or by the error status of this managementErrorId."""
+    asking = start("manage", "-u", path, "--target", ME + "-1", "get", id, stdout=subprocess.PIPE)
+    request, peer = liar.socket.recvfrom(2048)
+    tlv = bytes.fromhex(id) + field if kind == 1 else field + bytes.fromhex(id) + bytes(4)
+    liar.socket.sendto(response(request, tlv, kind), peer)
+    return asking.communicate(timeout=20)[0]
+
+
+def try_each(attacks, wanted):
+    """Tries each of these attacks, with the ports after it, or those alone whose names are wanted."""
+    for attack, *ports in attacks:
+        if wanted and attack.__name__ not in wanted:
+            continue
+        try:
+            attack(*ports)
+        except (OSError, IndexError, subprocess.SubprocessError) as error:
+            check(f"{attack.__name__} comes to its end: {error}", False)
+        clear()
+
+
+def run_all(name, try_all):
+    """The status of a program of attacks, which tries those that its words name in a network and mounts of its own. A signal that is
+    ignored here, such as SIGINT after `&` in a script, would be ignored by the programs too."""
+    for number in [signal.SIGINT, signal.SIGTERM, signal.SIGHUP]:
+        signal.signal(number, lambda *_: sys.exit(1))
+    try:
+        if os.geteuid() != 0 or LIBC.unshare(0x40000000 | 0x20000) != 0:
+            sys.exit(f"{name}: a network and mounts of its own need root")
+        run("mount", "--make-rprivate", "/")
+        run("ip", "link", "set", "lo", "up")
+        try_all(sys.argv[1:])
+        return print_checks(name)
+    finally:
+        clear()
+        shutil.rmtree(work)

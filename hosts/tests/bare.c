@@ -9,7 +9,6 @@
 #include "program.h"
 #include "ptpm.h"
 #include "udp.h"
-#include <errno.h>
 #include <linux/io_uring.h>
 #include <stdbool.h>
 #include <stdio.h>

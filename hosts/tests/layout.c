@@ -20,6 +20,11 @@ static struct ptpm_session session;
 static struct ptpm_survey survey;
 static struct ptpm_sent sent[PTPM_MOST_SENT];
 static size_t count;
+
+/* The place of a member, and its name. */
+#define SETTING(member) offsetof(struct ptpm_clock_settings, member), #member
+#define OBSERVED(member) offsetof(struct ptpm_observed_clock, member), #member
+
 /* The octets of a text of two hexadecimal digits each; how many they are. */
 static size_t octets_of(const char *text, uint8_t *octets) {
     size_t size = 0;
@@ -121,14 +126,14 @@ static void numbers_and_identities(void) {
 /* If one flag is set, and no other, one bit of the three flag octets is. */
 static void flags(void) {
     static const struct { size_t place; const char *name; unsigned two_step, parent_stats, times; } cases[] = {
-        { offsetof(struct ptpm_clock_settings, two_step), "two_step", 1, 0, 0 },
-        { offsetof(struct ptpm_clock_settings, parent_stats), "parent_stats", 0, 1, 0 },
-        { offsetof(struct ptpm_clock_settings, leap61), "leap61", 0, 0, 0x01 },
-        { offsetof(struct ptpm_clock_settings, leap59), "leap59", 0, 0, 0x02 },
-        { offsetof(struct ptpm_clock_settings, utc_valid), "utc_valid", 0, 0, 0x04 },
-        { offsetof(struct ptpm_clock_settings, ptp_timescale), "ptp_timescale", 0, 0, 0x08 },
-        { offsetof(struct ptpm_clock_settings, time_traceable), "time_traceable", 0, 0, 0x10 },
-        { offsetof(struct ptpm_clock_settings, frequency_traceable), "frequency_traceable", 0, 0, 0x20 },
+        { SETTING(two_step), 1, 0, 0 },
+        { SETTING(parent_stats), 0, 1, 0 },
+        { SETTING(leap61), 0, 0, 0x01 },
+        { SETTING(leap59), 0, 0, 0x02 },
+        { SETTING(utc_valid), 0, 0, 0x04 },
+        { SETTING(ptp_timescale), 0, 0, 0x08 },
+        { SETTING(time_traceable), 0, 0, 0x10 },
+        { SETTING(frequency_traceable), 0, 0, 0x20 },
     };
     for (size_t i = 0; i < sizeof cases / sizeof *cases; i++) {
         struct ptpm_clock_settings s = own_values();
@@ -144,21 +149,14 @@ static void flags(void) {
 
 /* Which value of the parent data set is given, and which is the clock's own. */
 static void given_values(void) {
-    static const struct { size_t place; bool has_grandmaster; const char *name, *wanted; } cases[] = {
-        { offsetof(struct ptpm_clock_settings, has_parent_port), 0, "has_parent_port",
-          PARENT "7172" "0000" "5152" "21222324" "434422313246" ME },
-        { offsetof(struct ptpm_clock_settings, has_grandmaster), 1, "has_grandmaster",
-          ME "0000" "0000" "5152" "21222324" "434422313246" GRANDMASTER },
-        { offsetof(struct ptpm_clock_settings, has_grandmaster_priority1), 1, "has_grandmaster_priority1",
-          ME "0000" "0000" "5152" "21222324" "534422313246" GRANDMASTER },
-        { offsetof(struct ptpm_clock_settings, has_grandmaster_class), 1, "has_grandmaster_class",
-          ME "0000" "0000" "5152" "21222324" "435422313246" GRANDMASTER },
-        { offsetof(struct ptpm_clock_settings, has_grandmaster_accuracy), 1, "has_grandmaster_accuracy",
-          ME "0000" "0000" "5152" "21222324" "434423313246" GRANDMASTER },
-        { offsetof(struct ptpm_clock_settings, has_grandmaster_variance), 1, "has_grandmaster_variance",
-          ME "0000" "0000" "5152" "21222324" "434422616246" GRANDMASTER },
-        { offsetof(struct ptpm_clock_settings, has_grandmaster_priority2), 1, "has_grandmaster_priority2",
-          ME "0000" "0000" "5152" "21222324" "434422313256" GRANDMASTER },
+    static const struct { size_t place; const char *name; bool has_grandmaster; const char *wanted; } cases[] = {
+        { SETTING(has_parent_port), 0, PARENT "7172" "0000" "5152" "21222324" "434422313246" ME },
+        { SETTING(has_grandmaster), 1, ME "0000" "0000" "5152" "21222324" "434422313246" GRANDMASTER },
+        { SETTING(has_grandmaster_priority1), 1, ME "0000" "0000" "5152" "21222324" "534422313246" GRANDMASTER },
+        { SETTING(has_grandmaster_class), 1, ME "0000" "0000" "5152" "21222324" "435422313246" GRANDMASTER },
+        { SETTING(has_grandmaster_accuracy), 1, ME "0000" "0000" "5152" "21222324" "434423313246" GRANDMASTER },
+        { SETTING(has_grandmaster_variance), 1, ME "0000" "0000" "5152" "21222324" "434422616246" GRANDMASTER },
+        { SETTING(has_grandmaster_priority2), 1, ME "0000" "0000" "5152" "21222324" "434422313256" GRANDMASTER },
     };
     for (size_t i = 0; i < sizeof cases / sizeof *cases; i++) {
         struct ptpm_clock_settings s = own_values();
@@ -255,31 +253,24 @@ static struct ptpm_observed_clock observed_values(void) {
 /* If one member of a clock is observed, and no other, it moves. */
 static void observed_of_a_clock(void) {
     static const struct { size_t place; const char *name; uint16_t id; const char *wanted; } cases[] = {
-        { offsetof(struct ptpm_observed_clock, has_clock_class), "has_clock_class", 0x2000, "00000002436422313246" ME "2a00" },
-        { offsetof(struct ptpm_observed_clock, has_clock_accuracy), "has_clock_accuracy", 0x2000, "00000002434424313246" ME "2a00" },
-        { offsetof(struct ptpm_observed_clock, has_variance), "has_variance", 0x2000, "00000002434422333446" ME "2a00" },
-        { offsetof(struct ptpm_observed_clock, has_steps_removed), "has_steps_removed", 0x2001,
-          "4445" "0102030405060708" "1112131415161718" },
-        { offsetof(struct ptpm_observed_clock, has_offset_from_master), "has_offset_from_master", 0x2001,
-          "4142" "0203040506070809" "1112131415161718" },
-        { offsetof(struct ptpm_observed_clock, has_mean_path_delay), "has_mean_path_delay", 0x2001,
-          "4142" "0102030405060708" "1213141516171819" },
-        { offsetof(struct ptpm_observed_clock, has_parent_stats), "has_parent_stats", 0x2002,
-          ME "0000" "0100" "5152" "21222324" "434422313246" ME },
-        { offsetof(struct ptpm_observed_clock, has_observed_variance), "has_observed_variance", 0x2002,
-          ME "0000" "0000" "5455" "21222324" "434422313246" ME },
-        { offsetof(struct ptpm_observed_clock, has_observed_rate), "has_observed_rate", 0x2002,
-          ME "0000" "0000" "5152" "25262728" "434422313246" ME },
-        { offsetof(struct ptpm_observed_clock, has_grandmaster), "has_grandmaster", 0x2002,
-          PARENT "7475" "0000" "5152" "21222324" "636525646566" GRANDMASTER },
-        { offsetof(struct ptpm_observed_clock, has_utc_offset), "has_utc_offset", 0x2003, "21220090" },
-        { offsetof(struct ptpm_observed_clock, has_leap61), "has_leap61", 0x2003, "19200190" },
-        { offsetof(struct ptpm_observed_clock, has_leap59), "has_leap59", 0x2003, "19200290" },
-        { offsetof(struct ptpm_observed_clock, has_utc_valid), "has_utc_valid", 0x2003, "19200490" },
-        { offsetof(struct ptpm_observed_clock, has_ptp_timescale), "has_ptp_timescale", 0x2003, "19200890" },
-        { offsetof(struct ptpm_observed_clock, has_time_traceable), "has_time_traceable", 0x2003, "19201090" },
-        { offsetof(struct ptpm_observed_clock, has_frequency_traceable), "has_frequency_traceable", 0x2003, "19202090" },
-        { offsetof(struct ptpm_observed_clock, has_time_source), "has_time_source", 0x2003, "19200040" },
+        { OBSERVED(has_clock_class), 0x2000, "00000002436422313246" ME "2a00" },
+        { OBSERVED(has_clock_accuracy), 0x2000, "00000002434424313246" ME "2a00" },
+        { OBSERVED(has_variance), 0x2000, "00000002434422333446" ME "2a00" },
+        { OBSERVED(has_steps_removed), 0x2001, "4445" "0102030405060708" "1112131415161718" },
+        { OBSERVED(has_offset_from_master), 0x2001, "4142" "0203040506070809" "1112131415161718" },
+        { OBSERVED(has_mean_path_delay), 0x2001, "4142" "0102030405060708" "1213141516171819" },
+        { OBSERVED(has_parent_stats), 0x2002, ME "0000" "0100" "5152" "21222324" "434422313246" ME },
+        { OBSERVED(has_observed_variance), 0x2002, ME "0000" "0000" "5455" "21222324" "434422313246" ME },
+        { OBSERVED(has_observed_rate), 0x2002, ME "0000" "0000" "5152" "25262728" "434422313246" ME },
+        { OBSERVED(has_grandmaster), 0x2002, PARENT "7475" "0000" "5152" "21222324" "636525646566" GRANDMASTER },
+        { OBSERVED(has_utc_offset), 0x2003, "21220090" },
+        { OBSERVED(has_leap61), 0x2003, "19200190" },
+        { OBSERVED(has_leap59), 0x2003, "19200290" },
+        { OBSERVED(has_utc_valid), 0x2003, "19200490" },
+        { OBSERVED(has_ptp_timescale), 0x2003, "19200890" },
+        { OBSERVED(has_time_traceable), 0x2003, "19201090" },
+        { OBSERVED(has_frequency_traceable), 0x2003, "19202090" },
+        { OBSERVED(has_time_source), 0x2003, "19200040" },
     };
     const struct ptpm_observed_port none = { .peer_delay = 0 };
     struct ptpm_clock_settings s = own_values();

@@ -10,7 +10,7 @@
 #include <stdlib.h>
 #include <string.h>
 
-enum { HEAD = 54, MOST = PTPM_MOST_OCTETS, TWO = 2, EIGHT = 8, SIXTEEN = 16 };
+enum { HEAD = 54, MOST = PTPM_MOST_OCTETS, MOST_PORTS = 8, MOST_MANAGERS = 16 };
 enum {
     GET = PTPM_GET, SET = PTPM_SET, RESPONSE = 2, PRIORITY1 = PTPM_ID_PRIORITY1, PORT_DATA_SET = PTPM_ID_PORT_DATA_SET,
     LOG_ANNOUNCE_INTERVAL = PTPM_ID_LOG_ANNOUNCE_INTERVAL, USER_DESCRIPTION = PTPM_ID_USER_DESCRIPTION
@@ -35,22 +35,22 @@ struct list {
 };
 
 static const struct list lists[] = {
-    { "get", TWO, 1, MANAGER, CLOCK, GET, PRIORITY1, 0, 0, 1, PLAIN },
-    { "last_manager", TWO, SIXTEEN, MANAGER, CLOCK, GET, PRIORITY1, 0, 0, 1, PLAIN },
-    { "set", TWO, 1, MANAGER, CLOCK, SET, PRIORITY1, 2, 100, 1, PLAIN },
-    { "set_text", TWO, 1, MANAGER, CLOCK, SET, USER_DESCRIPTION, 130, 128, 1, PLAIN },
-    { "stranger", TWO, 1, STRANGER, CLOCK, GET, PRIORITY1, 0, 0, 0, PLAIN },
-    { "repeat", TWO, 1, MANAGER, CLOCK, GET, PRIORITY1, 0, 0, 0, PLAIN },
-    { "other_domain", TWO, 1, MANAGER, CLOCK, GET, PRIORITY1, 0, 0, 0, IN_ANOTHER_DOMAIN },
-    { "ports_get", EIGHT, 1, MANAGER, CLOCK, GET, PORT_DATA_SET, 0, 0, 1, PLAIN },
-    { "ports_set", EIGHT, 1, MANAGER, CLOCK, SET, LOG_ANNOUNCE_INTERVAL, 2, 2, 1, PLAIN },
-    { "ports_repeat", EIGHT, 1, MANAGER, CLOCK, GET, PORT_DATA_SET, 0, 0, 0, PLAIN },
-    { "ports_stranger", EIGHT, 1, STRANGER, EVERY, GET, PORT_DATA_SET, 0, 0, 0, PLAIN },
-    { "forward", TWO, 1, MANAGER, ANOTHER, GET, PRIORITY1, 0, 0, 0, PLAIN },
-    { "forward_seven", EIGHT, 1, MANAGER, ANOTHER, GET, PRIORITY1, 0, 0, 0, PLAIN },
-    { "forward_long", EIGHT, 1, MANAGER, ANOTHER, SET, PRIORITY1, MOST - HEAD, 0, 0, PLAIN },
-    { "other_clock", TWO, 1, MANAGER, ANOTHER, GET, PRIORITY1, 0, 0, 0, WITHOUT_HOPS },
-    { "old", TWO, 1, MANAGER, CLOCK, GET, PRIORITY1, 0, 0, 0, OLDER },
+    { "get", 2, 1, MANAGER, CLOCK, GET, PRIORITY1, 0, 0, 1, PLAIN },
+    { "last_manager", 2, MOST_MANAGERS, MANAGER, CLOCK, GET, PRIORITY1, 0, 0, 1, PLAIN },
+    { "set", 2, 1, MANAGER, CLOCK, SET, PRIORITY1, 2, 100, 1, PLAIN },
+    { "set_text", 2, 1, MANAGER, CLOCK, SET, USER_DESCRIPTION, 130, 128, 1, PLAIN },
+    { "stranger", 2, 1, STRANGER, CLOCK, GET, PRIORITY1, 0, 0, 0, PLAIN },
+    { "repeat", 2, 1, MANAGER, CLOCK, GET, PRIORITY1, 0, 0, 0, PLAIN },
+    { "other_domain", 2, 1, MANAGER, CLOCK, GET, PRIORITY1, 0, 0, 0, IN_ANOTHER_DOMAIN },
+    { "ports_get", MOST_PORTS, 1, MANAGER, CLOCK, GET, PORT_DATA_SET, 0, 0, 1, PLAIN },
+    { "ports_set", MOST_PORTS, 1, MANAGER, CLOCK, SET, LOG_ANNOUNCE_INTERVAL, 2, 2, 1, PLAIN },
+    { "ports_repeat", MOST_PORTS, 1, MANAGER, CLOCK, GET, PORT_DATA_SET, 0, 0, 0, PLAIN },
+    { "ports_stranger", MOST_PORTS, 1, STRANGER, EVERY, GET, PORT_DATA_SET, 0, 0, 0, PLAIN },
+    { "forward", 2, 1, MANAGER, ANOTHER, GET, PRIORITY1, 0, 0, 0, PLAIN },
+    { "forward_seven", MOST_PORTS, 1, MANAGER, ANOTHER, GET, PRIORITY1, 0, 0, 0, PLAIN },
+    { "forward_long", MOST_PORTS, 1, MANAGER, ANOTHER, SET, PRIORITY1, MOST - HEAD, 0, 0, PLAIN },
+    { "other_clock", 2, 1, MANAGER, ANOTHER, GET, PRIORITY1, 0, 0, 0, WITHOUT_HOPS },
+    { "old", 2, 1, MANAGER, CLOCK, GET, PRIORITY1, 0, 0, 0, OLDER },
 };
 
 static const uint8_t manager[8] = { 0x00, 0x11, 0x22, 0x33, 0x44, 0x55, 0x66, 0x77 };
@@ -90,8 +90,8 @@ static size_t request(const struct list *list, uint8_t octets[MOST]) {
 /* The clock of the list: ports that are MASTER, and managers that may change everything. The last is `manager`. */
 static bool start(const struct list *list, struct ptpm_clock *clock) {
     struct ptpm_clock_settings settings;
-    struct ptpm_port_settings ports[EIGHT];
-    struct ptpm_manager_settings managers[SIXTEEN];
+    struct ptpm_port_settings ports[MOST_PORTS];
+    struct ptpm_manager_settings managers[MOST_MANAGERS];
     ptpm_clock_defaults(&settings);
     memcpy(settings.identity, identity, 8);
     for (size_t i = 0; i < list->ports; i++) ptpm_port_defaults(&ports[i]);
@@ -106,8 +106,7 @@ static bool start(const struct list *list, struct ptpm_clock *clock) {
 /* A GET under number 7, and then the datagram again and again, in two places that take turns. The answer to the last one. */
 static enum ptpm_handled repeat(struct ptpm_clock *clock, const struct list *list, unsigned long count, size_t *messages) {
     static uint8_t places[2][MOST];
-    struct list first = *list;
-    first.from = MANAGER, first.to = CLOCK, first.action = GET, first.data = 0, first.how = PLAIN;
+    struct list first = { .from = MANAGER, .to = CLOCK, .action = GET, .id = list->id, .how = PLAIN };
     size_t size = request(&first, places[0]);
     enum ptpm_handled answer = ptpm_clock_handle(clock, 1, places[0], size, sent, PTPM_MOST_SENT, messages);
     size = request(list, places[0]);
@@ -147,7 +146,7 @@ static int start_each(unsigned long count) {
 
 /* A session of the manager, whose requests are numbered from 1. */
 static bool open_session(struct ptpm_session *session) {
-    struct ptpm_session_settings settings = { .port = 1, .target_ports = TWO, .first = 1, .hops = 1, .attempts = 1 };
+    struct ptpm_session_settings settings = { .port = 1, .target_ports = 2, .first = 1, .hops = 1, .attempts = 1 };
     memcpy(settings.clock, manager, 8);
     memcpy(settings.target, identity, 8);
     return ptpm_session_start(session, &settings) == PTPM_STARTED;
@@ -155,7 +154,7 @@ static bool open_session(struct ptpm_session *session) {
 
 /* Writes the clock's answer to a GET of PRIORITY1 under number 0, which is 128. */
 static size_t reply(uint8_t octets[MOST]) {
-    static const struct list answer = { "", TWO, 1, MANAGER, CLOCK, RESPONSE, PRIORITY1, 2, 128, 0, PLAIN };
+    static const struct list answer = { "", 2, 1, MANAGER, CLOCK, RESPONSE, PRIORITY1, 2, 128, 0, PLAIN };
     size_t size = request(&answer, octets);
     memcpy(octets + 20, identity, 8);
     memcpy(octets + 34, manager, 8);
@@ -203,19 +202,25 @@ static int call(size_t place, unsigned long count) {
     return 0;
 }
 
+static bool is_asked(const char *word, const char *name) { return strcmp(word, name) == 0 || strcmp(word, "all") == 0; }
+
 int main(int argc, char **argv) {
     char *end = "";
     unsigned long count = argc == 3 ? strtoul(argv[2], &end, 10) : 0;
-    bool all = argc == 3 && strcmp(argv[1], "all") == 0, known = false;
+    bool is_count = argc == 3 && argv[2][0] >= '0' && argv[2][0] <= '9' && *end == '\0', is_known = false;
     int status = 0;
-    if (argc == 3 && argv[2][0] >= '0' && argv[2][0] <= '9' && *end == '\0') {
-        for (size_t i = 0; i < sizeof lists / sizeof *lists && status == 0; i++)
-            if (all || strcmp(argv[1], lists[i].name) == 0) known = true, status = measure(&lists[i], count);
-        for (size_t i = 0; i < sizeof calls / sizeof *calls && status == 0; i++)
-            if (all || strcmp(argv[1], calls[i].name) == 0) known = true, status = call(i, count);
-        if (status == 0 && (all || strcmp(argv[1], "start") == 0)) known = true, status = start_each(count);
+    for (size_t i = 0; is_count && i < sizeof lists / sizeof *lists; i++) {
+        if (!is_asked(argv[1], lists[i].name)) continue;
+        is_known = true;
+        status |= measure(&lists[i], count);
     }
-    if (known) return status;
+    for (size_t i = 0; is_count && i < sizeof calls / sizeof *calls; i++) {
+        if (!is_asked(argv[1], calls[i].name)) continue;
+        is_known = true;
+        status |= call(i, count);
+    }
+    if (is_count && is_asked(argv[1], "start")) return status | start_each(count);
+    if (is_known) return status;
     fprintf(stderr, "usage: measure LIST|all COUNT\n");
     return 2;
 }

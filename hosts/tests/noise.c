@@ -36,7 +36,7 @@ static const struct message messages[KINDS] = {
     [ALL] = { LEAST_MESSAGE, { GET, [TARGET_AT] = 0xff, 0xff, 0xff, 0xff, 0xff, 0xff, 0xff, 0xff, OF_PRIORITY1 } },
 };
 
-_Noreturn void usage(void) {
+_Noreturn static void usage(void) {
     fputs("noise INTERFACE junk|announce|foreign|all RATE SECONDS [ADDRESS]\n", stderr);
     exit(2);
 }

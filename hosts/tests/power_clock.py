@@ -1,9 +1,8 @@
 """A clock that saves (clock.c -s) and loses its power, under the runs of three managers whose sessions are kept. It is killed as it
 makes a call of the system, most often one of a save, or at any moment, also after a call of a save that failed. What it had not
 synchronized may be lost with it. Then it is started again from its file. With -v it waits for the disk itself, and otherwise a
-thread does. Each run sets USER_DESCRIPTION to a greater number, or
-reads it; between them copies of earlier requests come in again. What the clock has is compared with what was reported, and every
-reply with those before it."""
+thread does. Each run sets USER_DESCRIPTION to a greater number, or reads it; between them copies of earlier requests come in again.
+What the clock has is compared with what was reported, and every reply with those before it."""
 import ctypes
 import os
 import random
@@ -14,10 +13,10 @@ import subprocess
 import threading
 import time
 
-from power_cuts import CLOCK, MANAGE, ME, WIDTH, Link, Seen, lose, read, run_apart, socket_path, value, work
+from power_cuts import CLOCK, FAR, MANAGE, ME, NEAR, WIDTH, Cut, Seen, lose, read, socket_path, value, work
+from trying import run
 
 MANAGERS = [f"020000fffe0000{number}/1" for number in ("10", "11", "12")]
-NEAR, FAR = f"ptpm-cuts-{os.getpid()}", f"ptpm-cut-{os.getpid()}"
 # Calls of a save, and how often a start makes them, which looks for room and saves; and further calls of the clock.
 OF_SAVES = {"openat": 12, "write": 3, "fsync": 3, "renameat": 1, "unlinkat": 4, "sendmmsg": 0}
 SAVE_FAILS = ["write", "fsync", "renameat"]
@@ -189,7 +188,7 @@ class Trial:
         manager = self.chance.choice(MANAGERS)
         is_set = self.chance.random() < 0.8
         words = ["set", "USER_DESCRIPTION", "--text", f"{self.asked:0{WIDTH}}"] if is_set else ["get", "USER_DESCRIPTION"]
-        done = run_apart(*RUN, NEAR, MANAGE, "-i", "near0", "-m", manager, "-k", os.path.join(work, manager[:16]), "-w", "0", "-t",
+        done = run(*RUN, NEAR, MANAGE, "-i", "near0", "-m", manager, "-k", os.path.join(work, manager[:16]), "-w", "0", "-t",
                          "30", "-a", "250", "--target", ME, *words)
         self.wire.hear()
         own = [int(number) for number in re.findall(r"^userDescription (\d+)$", done.stdout, re.M)]
@@ -206,7 +205,7 @@ class Trial:
 
 def cut_clocks(kills, seed):
     """Whether all holds of that many kills of a clock."""
-    link = Link(NEAR, FAR, seed)
+    link = Cut(seed)
     trial = Trial(seed)
     clock = trial.clock
     try:

@@ -3,24 +3,16 @@ what is on the disk after a loss of power, and the count of what was seen and of
 import collections
 import os
 import re
-import subprocess
 import tempfile
-import time
 
-HOME = os.path.dirname(os.path.dirname(os.path.abspath(__file__)))
+from trying import HOME, Link, run
+
 CLOCK, MANAGE = (os.path.join(HOME, name) for name in ("clock", "manage"))
 ME = "aabbccfffeddee01"
 WIDTH = 7                                   # digits of a number, so that each SET has the same size
 work = tempfile.mkdtemp(dir="/dev/shm" if os.path.isdir("/dev/shm") else None)
 socket_path = os.path.join(work, "socket")
-
-
-def run(*words):
-    return subprocess.run(words, stdout=subprocess.PIPE, stderr=subprocess.STDOUT, text=True, timeout=60)
-
-
-def run_apart(*words):
-    return subprocess.run(words, stdout=subprocess.PIPE, stderr=subprocess.PIPE, text=True, timeout=60)
+NEAR, FAR = f"ptpm-cuts-{os.getpid()}", f"ptpm-cut-{os.getpid()}"
 
 
 def read(path):
@@ -47,27 +39,17 @@ class Seen:
             print(f"{what}: {count}")
 
 
-class Link:
-    """Two network namespaces with the link between them."""
+class Cut(Link):
+    """Two network namespaces, and the link between them, which goes by this seed."""
 
-    def __init__(self, near, far, seed):
-        self.near, self.far = near, far
-        for name in (near, far):
+    def __init__(self, seed):
+        for name in (NEAR, FAR):
             run("ip", "netns", "add", name)
-        self.process = subprocess.Popen([os.path.join(HOME, "link"), "-l", "20", "-r", "30", "-o", "10", "-s", str(seed % 65536),
-                                         near + "/near0", far + "/far0"], stdout=subprocess.PIPE, text=True)
-        for name, device, end in ((near, "near0", "10"), (far, "far0", "20")):
-            while run("ip", "-n", name, "link", "show", device).returncode != 0 and self.process.poll() is None:
-                time.sleep(0.05)
-            run("ip", "-n", name, "link", "set", device, "address", f"02:00:00:00:00:{end}", "up")
-            run("ip", "-n", name, "addr", "add", f"10.9.7.{end}/24", "dev", device)
-            run("ip", "-n", name, "route", "add", "224.0.0.0/4", "dev", device)
+        super().__init__(NEAR, FAR, "-l", "20", "-r", "30", "-o", "10", "-s", str(seed % 65536))
 
     def end(self):
-        """What it has counted."""
-        self.process.terminate()
-        told = self.process.communicate(timeout=10)[0]
-        for name in (self.near, self.far):
+        told = super().end()
+        for name in (NEAR, FAR):
             run("ip", "netns", "del", name)
         return told
 

@@ -106,7 +106,7 @@ static void passing_on(void) {
     check(!note_if_first(&table, message, NOW), "another error of the same id");
 }
 
-/* How many of so many messages, one after the other, are passed on and noted. */
+/* Of this many messages, one after the other, how many are passed on and noted. */
 static unsigned noted(struct ptpm_passed_on *table, uint8_t *message, unsigned count, uint64_t now) {
     unsigned first = 0;
     for (unsigned i = 0; i < count; i++) {

@@ -56,7 +56,7 @@ static void say_handed(void) {
 }
 
 static void say_answer(uint32_t answer) {
-    if (answer != PTPM_ASKED) say("%s\n", answer_name(answer, "ASKED"));
+    if (answer != PTPM_ASKED) say_outcome(answer, "ASKED");
     if (answer == PTPM_ASKED || handed.what != PTPM_NOTHING) say_handed();
 }
 
@@ -84,7 +84,7 @@ static uint32_t start(void *given) {
 static void run_asker(char *words) {
     static struct opening opening;
     read_opening(&words, &opening);
-    say("%s\n", answer_name(refusing(start, &opening, NULL), "STARTED"));
+    say_outcome(refusing(start, &opening, NULL), "STARTED");
 }
 
 static uint32_t restore(void *given) {
@@ -98,7 +98,7 @@ static void run_restore(char *words) {
     read_opening(&words, &from);
     if (!takes_word(&words, "from")) say_misspelt(words);
     read_octets(&words, &from.image);
-    say("%s\n", answer_name(refusing(restore, &from, state), "RESTORED"));
+    say_outcome(refusing(restore, &from, state), "RESTORED");
 }
 
 struct asked { uint64_t now, tag; uint8_t action, domain; uint16_t id, port; struct octets field; };

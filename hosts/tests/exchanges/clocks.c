@@ -3,7 +3,6 @@
 #include "commands.h"
 #include "refusing.h"
 #include "words.h"
-#include <stdio.h>
 #include <string.h>
 
 struct ptpm_clock clock_of_page;
@@ -28,7 +27,7 @@ static uint32_t start(void *given) {
 static void run_start(char *words) {
     read_start(&words, &start_of_page);
     is_saving = false;
-    say("%s\n", answer_name(refusing(start, &start_of_page, NULL), "STARTED"));
+    say_outcome(refusing(start, &start_of_page, NULL), "STARTED");
 }
 
 static size_t image_of(const struct ptpm_clock *clock, uint8_t *octets) {
@@ -116,7 +115,7 @@ static void run_datagram(char *words, uint16_t port, const struct ptpm_say *said
     read_octets(&words, &datagram);
     handle(port, &datagram, said, places);
     note_message(datagram.at, datagram.size);
-    say("%s\n", answer_name(turn.answer, "0"));
+    say_outcome(turn.answer, "0");
     say_turn();
 }
 
@@ -190,7 +189,7 @@ static void run_observe(char *words) {
     uint8_t left = 0xee;
     read_observation(&words, &seen);
     uint32_t answer = ptpm_clock_observe(&clock_of_page, &seen.clock, seen.ports, seen.port_count, &left);
-    say("%s\n", answer_name(answer, "OBSERVED"));
+    say_outcome(answer, "OBSERVED");
     if (left != 0) say("left: %u\n", left);
 }
 
@@ -219,7 +218,7 @@ static void run_saving(char *words) {
     (void)words;
     uint32_t answer = refusing(begin_saving, NULL, state);
     if (answer == PTPM_SAVING) is_saving = true;
-    say("%s\n", answer_name(answer, "SAVING"));
+    say_outcome(answer, "SAVING");
 }
 
 /* The image is what `image` shows, so only its token is shown, and whether it is another. */
@@ -240,7 +239,7 @@ static void run_saved(char *words) {
     uint64_t token = (uint64_t)next_number(&words, 0);
     turn.count = 1;
     turn.answer = ptpm_clock_saved(&clock_of_page, token, turn.sent, places, &turn.count);
-    say("%s\n", answer_name(turn.answer, "SAVED"));
+    say_outcome(turn.answer, "SAVED");
     say_turn();
 }
 
@@ -264,7 +263,7 @@ static void run_restore(char *words) {
     if (!takes_word(&words, "from")) say_misspelt(words);
     read_octets(&words, &from.image);
     uint32_t answer = refusing(restore, &from, state);
-    say("%s\n", answer_name(answer, "RESTORED"));
+    say_outcome(answer, "RESTORED");
     if (answer != PTPM_RESTORED) return;
     is_saving = false;
     if (from.gone != 0) say("gone: %zu\n", from.gone);

@@ -17,7 +17,7 @@ static void run_ask_device(char *words) {
     read_octets(&words, &datagram);
     memset(&asked, 0xee, sizeof asked);
     uint32_t answer = ptpm_clock_ask(&clock_of_page, port, datagram.at, datagram.size, &asked);
-    say("%s\n", answer_name(answer, "ASKED_NOTHING"));
+    say_outcome(answer, "ASKED_NOTHING");
     if (answer != PTPM_ASKED_CHANGE && answer != PTPM_ASKED_VALUE) {
         if (memcmp(&asked, &nothing, offsetof(struct ptpm_question, octets) + sizeof asked.octets) != 0) say("it writes what is not asked\n");
         return;

@@ -1,7 +1,6 @@
 #include "refusing.h"
 #include "words.h"
 #include "ptpm.h"
-#include <stdlib.h>
 #include <string.h>
 
 /* The linker has the library and this program call these (--wrap). */

@@ -2,7 +2,6 @@
 #include "commands.h"
 #include "refusing.h"
 #include "words.h"
-#include <stdio.h>
 #include <string.h>
 
 static struct ptpm_session session;
@@ -14,7 +13,7 @@ static uint32_t start(void *given) { return ptpm_session_start_sized(&session, g
 
 static void run_session(char *words) {
     read_session(&words, &settings);
-    say("%s\n", answer_name(refusing(start, &settings, NULL), "STARTED"));
+    say_outcome(refusing(start, &settings, NULL), "STARTED");
 }
 
 /* The image, and whether there is a report. */
@@ -43,7 +42,7 @@ static void begin_request(char *words, bool is_at) {
     request.id = next_hex(&words);
     request.port = (uint16_t)next_number(&words, 0);
     read_octets(&words, &request.field);
-    say("%s\n", answer_name(refusing(begin, &request, state), "BEGUN"));
+    say_outcome(refusing(begin, &request, state), "BEGUN");
 }
 
 static void run_begin(char *words) { begin_request(words, false); }
@@ -57,16 +56,16 @@ static void run_send(char *words) {
 }
 
 static void run_resume(char *words) {
-    say("%s\n", answer_name(ptpm_session_resume(&session, (uint8_t)next_number(&words, 0)), "RESUMED"));
+    say_outcome(ptpm_session_resume(&session, (uint8_t)next_number(&words, 0)), "RESUMED");
 }
 
 static void run_give_up(char *words) {
     (void)words;
-    say("%s\n", answer_name(ptpm_session_give_up(&session), "GIVEN_UP"));
+    say_outcome(ptpm_session_give_up(&session), "GIVEN_UP");
 }
 
 static void run_retune(char *words) {
-    say("%s\n", answer_name(ptpm_session_retune(&session, (uint8_t)next_number(&words, 0)), "RETUNED"));
+    say_outcome(ptpm_session_retune(&session, (uint8_t)next_number(&words, 0)), "RETUNED");
 }
 
 static uint32_t receive(void *given) {
@@ -77,7 +76,7 @@ static uint32_t receive(void *given) {
 static void run_receive(char *words) {
     static struct octets datagram;
     read_octets(&words, &datagram);
-    say("%s\n", answer_name(refusing(receive, &datagram, state), "ANSWERED"));
+    say_outcome(refusing(receive, &datagram, state), "ANSWERED");
 }
 
 static void run_issued(char *words) {
@@ -104,7 +103,7 @@ static void run_image(char *words) {
 
 static void run_saving(char *words) {
     (void)words;
-    say("%s\n", answer_name(ptpm_session_saving(&session), "SAVING"));
+    say_outcome(ptpm_session_saving(&session), "SAVING");
 }
 
 /* The image is what `session-image` shows, so only its token is shown, and whether it is another. */
@@ -122,7 +121,7 @@ static void run_image_of(char *words) {
 
 /* `session-saved TOKEN`. */
 static void run_saved(char *words) {
-    say("%s\n", answer_name(ptpm_session_saved(&session, (uint64_t)next_number(&words, 0)), "SAVED"));
+    say_outcome(ptpm_session_saved(&session, (uint64_t)next_number(&words, 0)), "SAVED");
 }
 
 struct restore { struct ptpm_session_settings settings; struct octets image; };
@@ -138,7 +137,7 @@ static void run_restore(char *words) {
     read_session(&words, &from.settings);
     if (!takes_word(&words, "from")) say_misspelt(words);
     read_octets(&words, &from.image);
-    say("%s\n", answer_name(refusing(restore, &from, state), "RESTORED"));
+    say_outcome(refusing(restore, &from, state), "RESTORED");
 }
 
 static void run_stop(char *words) {

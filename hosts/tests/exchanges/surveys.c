@@ -19,7 +19,7 @@ static uint32_t start(void *given) {
 static void run_survey(char *words) {
     struct start_of_survey as;
     as.is_at = read_survey(&words, &as.settings, as.target);
-    say("%s\n", answer_name(refusing(start, &as, NULL), "STARTED"));
+    say_outcome(refusing(start, &as, NULL), "STARTED");
 }
 
 static void run_ask(char *words) {
@@ -55,7 +55,7 @@ static uint32_t receive(void *given) {
 static void run_take(char *words) {
     static struct octets datagram;
     read_octets(&words, &datagram);
-    say("%s\n", answer_name(refusing(receive, &datagram, state), "TAKEN"));
+    say_outcome(refusing(receive, &datagram, state), "TAKEN");
 }
 
 static void run_count(char *words) {

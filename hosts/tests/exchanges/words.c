@@ -165,6 +165,8 @@ const char *answer_name(uint32_t answer, const char *done) {
     return name;
 }
 
+void say_outcome(uint32_t answer, const char *done) { say("%s\n", answer_name(answer, done)); }
+
 /* How many octets from here on have the value of the first. */
 static size_t run_of(const uint8_t *octets, size_t size) {
     size_t run = 0;

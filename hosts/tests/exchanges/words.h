@@ -49,6 +49,9 @@ void clear_said(void);
 /* The name of a call's answer; that of 0 is given. */
 const char *answer_name(uint32_t answer, const char *done);
 
+/* Says that name, as a line. */
+void say_outcome(uint32_t answer, const char *done);
+
 /* Octets in hexadecimal. Eight or more of one value are N*HH. None are a minus sign. */
 void say_octets(const uint8_t *octets, size_t size);
 

@@ -1,0 +1,59 @@
+"""What the trials in Python share: where the programs are, one that is run, a wait, a link between two network namespaces, and the count of
+what holds."""
+import os
+import subprocess
+import threading
+import time
+
+HOME = os.path.dirname(os.path.dirname(os.path.abspath(__file__)))
+passed, failed = 0, 0
+counting = threading.Lock()
+
+
+def check(what, holds):
+    global passed, failed
+    with counting:
+        passed, failed = passed + bool(holds), failed + (not holds)
+        if not holds:
+            print("failed:", what, flush=True)
+
+
+def print_checks(name):
+    """The last line of a trial, and its status."""
+    print(f"{name}: {passed} passed, {failed} failed")
+    return failed > 0
+
+
+def run(*words, **more):
+    return subprocess.run(words, stdout=subprocess.PIPE, stderr=subprocess.PIPE, text=True, timeout=120, **more)
+
+
+def wait_until(holds, most=30):
+    """Whether it comes to hold in so many seconds."""
+    end = time.monotonic() + most
+    while not holds() and time.monotonic() < end:
+        time.sleep(0.05)
+    return holds()
+
+
+def bring_up(name, device, station, address):
+    """A device of a network namespace, with its station and its address of IPv4."""
+    run("ip", "-n", name, "link", "set", device, "address", station, "up")
+    run("ip", "-n", name, "addr", "add", address + "/24", "dev", device)
+    run("ip", "-n", name, "route", "add", "224.0.0.0/4", "dev", device)
+
+
+class Link:
+    """The link of link.c with these options, near0 and far0, between two namespaces that are there."""
+
+    def __init__(self, near, far, *options):
+        self.process = subprocess.Popen([os.path.join(HOME, "link"), *options, near + "/near0", far + "/far0"], stdout=subprocess.PIPE, text=True)
+        for name, device, end in ((near, "near0", "10"), (far, "far0", "20")):
+            while run("ip", "-n", name, "link", "show", device).returncode != 0 and self.process.poll() is None:
+                time.sleep(0.05)
+            bring_up(name, device, f"02:00:00:00:00:{end}", f"10.9.9.{end}")
+
+    def end(self):
+        """What it has counted."""
+        self.process.terminate()
+        return self.process.communicate(timeout=10)[0]
