@@ -946,7 +946,8 @@ enum ptpm_observed ptpm_clock_observe(struct ptpm_clock *clock, const struct ptp
 /* Reads the answer that a GET of a managementId would get.
    Takes:   the id; a port of the clock, which matters only for an id of a port; and room octets, PTPM_MOST_READ or more.
    Returns: PTPM_READ, or why not.
-   Writes:  *size, and as many octets from octets on: the dataField. *size is 0 if the call is refused. */
+   Writes:  *size, and as many octets from octets on: the dataField, whose members are where docs/protocol.md says ("dataFields"). *size
+            is 0 if the call is refused. */
 enum ptpm_read ptpm_clock_read(const struct ptpm_clock *clock, uint16_t id, uint16_t port, uint8_t *octets, size_t room,
                                size_t *size);
 
