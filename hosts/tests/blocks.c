@@ -230,8 +230,8 @@ static void endless_clocks(void) {
     stop_all();
 }
 
-/* The order of requests and answers that leaves the least room: after a restart with one of 1,408 octets, an answer of as many, and then
-   the largest of both. The places of the first two are too small for these. */
+/* The order of requests and answers that leaves the least room. A restart has a request of 1,408 octets, and an answer of as many comes.
+   Then come the largest of both, for which the places of the first two are too small. */
 static uint32_t worst_order(void) {
     if (start_session() != PTPM_STARTED || begin(1408) != PTPM_BEGUN || restart_session() != PTPM_RESTORED) return PTPM_OTHER_SIZES;
     if (receive(1408) != PTPM_ANSWERED || begin(MOST_FIELD) != PTPM_BEGUN) return PTPM_OTHER_SIZES;
