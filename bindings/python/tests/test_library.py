@@ -303,6 +303,10 @@ class Managers(unittest.TestCase):
             session.receive(octets)
             self.assertEqual((session.report().members, session.issued), ({"priority1": 100}, 2))
 
+    def test_a_path_that_is_too_long_for_a_socket_is_named(self) -> None:
+        with self.assertRaisesRegex(OSError, "File name too long: '/tmp/a{200}"):
+            ptpm.UnixTransport("/tmp/" + "a" * 200)
+
     def test_a_survey_of_one_clock_hears_no_other(self) -> None:
         settings = ptpm.SurveySettings("0a0b0c0d0e0f1011/9", 3, "PRIORITY1")
         self.assertRaisesRegex(ptpm.Error, "TARGET_IS_EVERY", ptpm.Survey, settings, "ff" * 8)
