@@ -1,6 +1,6 @@
 /* A manager that survives a loss of power. It begins a SET of PRIORITY1, and prints the request. Run again, it prints the same request,
    until it is given the answer, in hexadecimal. Then it prints what that says. The next run begins the next request. The session hands no
-   request out before the host says that it is saved. The state is in session.state. A product also seals it, as saving_host.c does:
+   request out before the host says that it is saved. The state is in session.state, with a seal, by which damage is found:
        cc saving_manager.c $(pkg-config --cflags --libs ptpm) && ./a.out && ./a.out [ANSWER] */
 #define _POSIX_C_SOURCE 200809L
 #include <errno.h>
@@ -16,11 +16,12 @@ static const struct ptpm_session_settings settings = {
 };
 static const uint8_t priority1[2] = { 100, 0 };
 static struct ptpm_session session;             /* all zeros: no session is held yet */
-static uint8_t octets[PTPM_MOST_OCTETS];
+static uint8_t octets[PTPM_MOST_OCTETS], image[PTPM_SESSION_IMAGE_OCTETS + PTPM_SEAL_OCTETS];
+static uint64_t saves;
 
 /* Whether the octets are in the file, whatever happens to the power from now on. A new file replaces the old one, and each step is on the
    disk before the next. The file is in the folder that the program runs in. */
-static int store(const uint8_t *image, size_t size) {
+static int store(size_t size) {
     int at = open("session.new", O_WRONLY | O_CREAT | O_TRUNC, 0600), folder = open(".", O_RDONLY);
     int is_whole = at >= 0 && write(at, image, size) == (ssize_t)size && fsync(at) == 0;
     int is_saved = is_whole && folder >= 0 && rename("session.new", "session.state") == 0 && fsync(folder) == 0;
@@ -31,22 +32,23 @@ static int store(const uint8_t *image, size_t size) {
 
 /* Saves the session, so that it hands requests out again. */
 static int save(void) {
-    static uint8_t image[PTPM_SESSION_IMAGE_OCTETS];
-    size_t size;
+    size_t size, sealed;
     uint64_t token;
-    return ptpm_session_image_of(&session, image, sizeof image, &size, &token) == PTPM_SAVED && store(image, size)
+    return ptpm_session_image_of(&session, image, sizeof image, &size, &token) == PTPM_SAVED
+           && ptpm_image_seal(image, size, sizeof image, ++saves, &sealed) == PTPM_SAVED && store(sealed)
            && ptpm_session_saved(&session, token) == PTPM_SAVED;
 }
 
 /* Whether there is a session: that of the file, or a fresh one if there is no file. A file that is refused is no reason for a fresh one,
    whose requests the clock would take for old ones. */
 static int go_on(void) {
-    static uint8_t image[PTPM_SESSION_IMAGE_OCTETS + 1];
+    size_t found;
     int at = open("session.state", O_RDONLY);
     if (at < 0) return errno == ENOENT && ptpm_session_start(&session, &settings) == PTPM_STARTED;
     ssize_t size = read(at, image, sizeof image);
     close(at);
-    return size >= 0 && ptpm_session_restore(&session, &settings, image, (size_t)size) == PTPM_RESTORED;
+    return size >= 0 && ptpm_image_unseal(image, (size_t)size, &saves, &found) == PTPM_RESTORED
+           && ptpm_session_restore(&session, &settings, image, found) == PTPM_RESTORED;
 }
 
 /* Prints the request that is due: the one of an earlier run, or one that is begun. */

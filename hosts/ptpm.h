@@ -946,7 +946,8 @@ enum ptpm_observed ptpm_clock_observe(struct ptpm_clock *clock, const struct ptp
 /* Reads the answer that a GET of a managementId would get.
    Takes:   the id; a port of the clock, which matters only for an id of a port; and room octets, PTPM_MOST_READ or more.
    Returns: PTPM_READ, or why not.
-   Writes:  *size, and as many octets from octets on: the dataField. *size is 0 if the call is refused. */
+   Writes:  *size, and as many octets from octets on: the dataField, whose members are where docs/protocol.md says ("dataFields"). *size
+            is 0 if the call is refused. */
 enum ptpm_read ptpm_clock_read(const struct ptpm_clock *clock, uint16_t id, uint16_t port, uint8_t *octets, size_t room,
                                size_t *size);
 
@@ -1015,7 +1016,7 @@ size_t ptpm_clock_most_sent(const struct ptpm_clock *clock);
 void ptpm_clock_stop(struct ptpm_clock *clock);
 
 static inline void ptpm_clock_stop_any(struct ptpm_clock *clock) {
-    if (clock != NULL) ptpm_clock_stop(clock);
+    if (clock) ptpm_clock_stop(clock);
 }
 
 #define ptpm_clock_stop(clock) ptpm_clock_stop_any(clock)
@@ -1146,7 +1147,7 @@ enum ptpm_reported ptpm_session_report(const struct ptpm_session *session, uint8
 void ptpm_session_stop(struct ptpm_session *session);
 
 static inline void ptpm_session_stop_any(struct ptpm_session *session) {
-    if (session != NULL) ptpm_session_stop(session);
+    if (session) ptpm_session_stop(session);
 }
 
 #define ptpm_session_stop(session) ptpm_session_stop_any(session)
@@ -1217,7 +1218,7 @@ enum ptpm_reported ptpm_survey_answer(const struct ptpm_survey *survey, size_t p
 void ptpm_survey_stop(struct ptpm_survey *survey);
 
 static inline void ptpm_survey_stop_any(struct ptpm_survey *survey) {
-    if (survey != NULL) ptpm_survey_stop(survey);
+    if (survey) ptpm_survey_stop(survey);
 }
 
 #define ptpm_survey_stop(survey) ptpm_survey_stop_any(survey)
@@ -1335,7 +1336,7 @@ enum ptpm_reported ptpm_asker_report(const struct ptpm_asker *asker, uint8_t *oc
 void ptpm_asker_stop(struct ptpm_asker *asker);
 
 static inline void ptpm_asker_stop_any(struct ptpm_asker *asker) {
-    if (asker != NULL) ptpm_asker_stop(asker);
+    if (asker) ptpm_asker_stop(asker);
 }
 
 #define ptpm_asker_stop(asker) ptpm_asker_stop_any(asker)

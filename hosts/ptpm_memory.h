@@ -29,10 +29,10 @@ extern "C" {
 
 /* The most that a session takes, whatever its requests and their answers are. A restore in a live handle has both sessions for a
    moment. */
-#define PTPM_SESSION_MEMORY 5984
+#define PTPM_SESSION_MEMORY 7408
 
-/* The most that an asker takes, whatever its requests and their answers are. */
-#define PTPM_ASKER_MEMORY 9104
+/* Enough for an asker, whatever its requests and their answers are. */
+#define PTPM_ASKER_MEMORY 13424
 
 /* The most that a survey takes that has kept a number of answers, 1 to 512, each with a number of octets of dataField. Its
    tables have room for a power of two of answers, and move as they grow. How much of the gaps is used again depends on the

@@ -61,12 +61,26 @@ static bool holds_clock(const struct ptpm_clock *clock) {
     return ptpm_clock_read(clock, PTPM_ID_PRIORITY1, 0, octets, sizeof octets, &size) == PTPM_READ && octets[0] == 128;
 }
 
-static enum ptpm_started start_session(void) {
+static struct ptpm_session_settings of_session(void) {
     struct ptpm_session_settings settings = { .port = 1, .target_ports = 1, .first = 7, .hops = 1, .attempts = 2 };
     memcpy(settings.clock, manager, 8);
     memcpy(settings.target, target, 8);
+    return settings;
+}
+
+static enum ptpm_started start_session(void) {
+    struct ptpm_session_settings settings = of_session();
     next_number = 7;
     return ptpm_session_start(&session, &settings);
+}
+
+/* The power fails, and the session goes on from its image. */
+static enum ptpm_restored restart_session(void) {
+    struct ptpm_session_settings settings = of_session();
+    size_t size;
+    if (ptpm_session_image(&session, image, sizeof image, &size) != PTPM_SAVED) return PTPM_NOT_AN_IMAGE;
+    ptpm_session_stop(&session);
+    return ptpm_session_restore(&session, &settings, image, size);
 }
 
 static enum ptpm_begun begin(size_t size) {
@@ -92,13 +106,27 @@ static enum ptpm_survey_received survey_receive(uint16_t source, size_t size) {
     return ptpm_survey_receive(&survey, octets, whole);
 }
 
+static const uint8_t drawn[26];
+
+static struct ptpm_asker_settings of_asker(void) {
+    return (struct ptpm_asker_settings){ .session = of_session(), .nobody = 61440, .timeout = 200, .wait = 3000 };
+}
+
 static enum ptpm_started start_asker(void) {
-    static const uint8_t drawn[26];
-    struct ptpm_asker_settings settings = { .session = { .port = 1, .target_ports = 1, .first = 7, .hops = 1, .attempts = 2 },
-                                            .nobody = 61440, .timeout = 200, .wait = 3000 };
-    memcpy(settings.session.clock, manager, 8);
-    memcpy(settings.session.target, target, 8);
+    struct ptpm_asker_settings settings = of_asker();
     return ptpm_asker_start(&asker, &settings, drawn);
+}
+
+/* The power fails, and the asker goes on from its image: with the request that it has, if there is one. */
+static enum ptpm_asked restart_asker(uint64_t now, struct ptpm_handed *next) {
+    struct ptpm_asker_settings settings = of_asker();
+    size_t size;
+    uint8_t there;
+    next->what = PTPM_NOTHING;
+    ptpm_asker_image(&asker, image, sizeof image, &size);
+    ptpm_asker_stop(&asker);
+    if (ptpm_asker_restore(&asker, &settings, drawn, image, size) != PTPM_ASKER_RESTORED) return PTPM_ASK_NO_MEMORY;
+    return ptpm_asker_earlier(&asker, 0, &there) < PTPM_GET_LEFT ? PTPM_ASKED : ptpm_asker_settle(&asker, now, 1, 0, next);
 }
 
 /* Has the message that the asker handed out answered by this many octets of its id. */
@@ -112,7 +140,7 @@ static enum ptpm_asked answer_it(size_t field_size, struct ptpm_handed *next) {
     return ptpm_asker_hear(&asker, octets, size, next);
 }
 
-/* Has the asker ask this many octets, and has what it sends answered by others. */
+/* Has the asker ask this many octets, and has what it sends answered by others. At some saves the power fails. */
 static enum ptpm_asked ask(size_t size, uint64_t *now) {
     struct ptpm_handed next;
     bool is_answered = false;
@@ -121,7 +149,10 @@ static enum ptpm_asked ask(size_t size, uint64_t *now) {
         switch (next.what) {
         case PTPM_NOTE_ANSWER: is_answered = true; /* fall through */
         case PTPM_NOTE_BEGUN: answer = ptpm_asker_noted(&asker, &next); continue;
-        case PTPM_SAVE_IT: answer = ptpm_asker_saved(&asker, *now, &next); continue;
+        case PTPM_SAVE_IT:
+            if (below(6) > 0) answer = ptpm_asker_saved(&asker, *now, &next);
+            else answer = restart_asker(*now, &next), is_answered = next.what == PTPM_NOTHING;
+            continue;
         case PTPM_SEND_IT: answer = answer_it(2 * below(MOST_FIELD / 2 + 1), &next); continue;
         default: *now += 3000;
         }
@@ -199,23 +230,26 @@ static void endless_clocks(void) {
     stop_all();
 }
 
-/* The order of requests and answers that leaves the least room: one of 1,408 octets, and then the largest. */
+/* The order of requests and answers that leaves the least room. A restart has a request of 1,408 octets, and an answer of as many comes.
+   Then come the largest of both, for which the places of the first two are too small. */
 static uint32_t worst_order(void) {
-    if (start_session() != PTPM_STARTED || begin(1408) != PTPM_BEGUN) return PTPM_OTHER_SIZES;
-    return receive(MOST_FIELD) != PTPM_ANSWERED ? PTPM_OTHER_SIZES : (uint32_t)begin(MOST_FIELD);
+    if (start_session() != PTPM_STARTED || begin(1408) != PTPM_BEGUN || restart_session() != PTPM_RESTORED) return PTPM_OTHER_SIZES;
+    if (receive(1408) != PTPM_ANSWERED || begin(MOST_FIELD) != PTPM_BEGUN) return PTPM_OTHER_SIZES;
+    return receive(MOST_FIELD);
 }
 
 static void exact_session(void) {
     unsigned refused = 0;
     ptpm_memory_give(block, PTPM_SESSION_MEMORY - 1);
-    check(worst_order() == PTPM_NO_MEMORY, "a request in one octet less than a session takes");
-    check(ptpm_session_issued(&session) == 1 && begin(1408) == PTPM_BEGUN, "a smaller request after it");
+    check(worst_order() == PTPM_NO_MEMORY, "an answer in one octet less than a session takes");
+    check(ptpm_session_issued(&session) == 2 && receive(1408) == PTPM_ANSWERED, "a smaller answer after it");
     stop_all();
     ptpm_memory_give(block, PTPM_SESSION_MEMORY);
-    check(worst_order() == PTPM_BEGUN && receive(MOST_FIELD) == PTPM_ANSWERED, "the largest requests of a session");
+    check(worst_order() == PTPM_ANSWERED, "the largest requests of a session");
     for (int i = 0; i < TIMES; i++) {
-        if (below(100) == 0) refused += start_session() != PTPM_STARTED;
-        else refused += begin(2 * below(MOST_FIELD / 2 + 1)) != PTPM_BEGUN || receive(2 * below(MOST_FIELD / 2 + 1)) != PTPM_ANSWERED;
+        refused += below(100) == 0 && start_session() != PTPM_STARTED;
+        refused += begin(2 * below(MOST_FIELD / 2 + 1)) != PTPM_BEGUN || (below(4) == 0 && restart_session() != PTPM_RESTORED)
+                   || receive(2 * below(MOST_FIELD / 2 + 1)) != PTPM_ANSWERED;
     }
     check(refused == 0, "no request and no answer of a session is refused");
     stop_all();

@@ -5,13 +5,14 @@ from __future__ import annotations
 import ctypes
 from dataclasses import dataclass
 from enum import IntEnum
-from typing import Any, Optional, Sequence, Tuple, Union
+from typing import AbstractSet, Any, Optional, Sequence, Tuple, Union
 
 from . import _header as header
 from ._library import library, octets_of
 from .errors import PtpmError
 from .identity import Identity, PortIdentity
 from .ids import Action, IdLike, error_name, id_of
+from .settings import DelayMechanism, write_number
 
 
 class Objection(IntEnum):
@@ -31,25 +32,41 @@ class ChangeRefused(PtpmError):
         self.error = error
 
 
-class Limit:
-    """The values that the hardware of a device has, of an id at a port: those of a range, which is within -128 to 255. They are
-    values of the first octet of the dataField of a SET. Without such a range it has none: the id can't be set there. The port
-    0xFFFF is every port."""
+def _is_value(number: int) -> bool:
+    """Whether an octet has this number, as an Integer8 or as a UInteger8."""
+    return -128 <= number <= 255
 
-    def __init__(self, id: IdLike, port: int = 0xFFFF, values: Optional[Tuple[int, int]] = None):
-        self._limit = header.ptpm_limit(id=id_of(id), port=port)
-        if values is not None and all(-128 <= number <= 255 for number in values):
+
+class Limit:
+    """The values that the hardware of a device has, of an id at a port. They are from one number to another, or those of a set. Each is
+    -128 to 255, a value of the first octet of the dataField of a SET; -4 is 0xFC. Without such values it has none: the id can't be set
+    there. The port 0xFFFF is every port.
+
+    >>> limit = Limit("DELAY_MECHANISM", 1, {DelayMechanism.E2E, DelayMechanism.NO_MECHANISM})
+    >>> DelayMechanism.E2E in limit, DelayMechanism.P2P in limit, -4 in Limit("LOG_SYNC_INTERVAL", values=(-4, 1))
+    (True, False, True)
+    """
+
+    def __init__(self, id: IdLike, port: int = 0xFFFF, values: Union[Tuple[int, int], AbstractSet[int], None] = None):
+        self._limit = header.ptpm_limit(id=id_of(id))
+        write_number(self._limit, "port", port)
+        if isinstance(values, AbstractSet):
+            for octet in values:
+                if not _is_value(octet):
+                    raise OverflowError(f"a value is -128 to 255, not {octet}")
+                self._limit.values[octet % 256 // 8] |= 1 << octet % 8
+        elif values is not None and all(map(_is_value, values)):
             library.ptpm_limit_range(ctypes.byref(self._limit), *values)
 
     def __contains__(self, octet: int) -> bool:
-        return bool(self._limit.values[octet // 8] >> octet % 8 & 1)
+        return _is_value(octet) and bool(self._limit.values[octet % 256 // 8] >> octet % 8 & 1)
 
     @staticmethod
     def objection(limits: Sequence[Limit], asked: Asked) -> Optional[Objection]:
         """The error with which a device objects that has these values, if it does. Only limits of the id count, and of a port that
         is named. If one of them has no value, a SET is NOT_SETABLE, and a COMMAND is NOT_SUPPORTED. If one lacks the value of a
         SET, that is a WRONG_VALUE."""
-        places = (header.ptpm_limit * len(limits))(*(limit._limit for limit in limits))
+        places = (header.ptpm_limit * max(len(limits), 1))(*(limit._limit for limit in limits))
         error = library.ptpm_limits_say(places, len(limits), ctypes.byref(asked.as_in_c()))
         return Objection(error) if error else None
 

@@ -4,6 +4,7 @@ a Unix socket of this machine, for example that of ptp4l."""
 from __future__ import annotations
 
 import contextlib
+import errno
 import ctypes
 import fcntl
 import ipaddress
@@ -343,8 +344,9 @@ def _bound_beside(opened: socket.socket, clock: str) -> str:
         try:
             opened.bind(own)
         except OSError as error:
-            if error.errno != 98 or number == 99:  # EADDRINUSE
-                raise OSError(error.errno, error.strerror, own) from None
+            if error.errno != errno.EADDRINUSE or number == 99:
+                why = error.errno or errno.ENAMETOOLONG  # Python gives that no number
+                raise OSError(why, os.strerror(why), own) from None
             continue
         try:
             os.chown(own, -1, os.stat(clock).st_gid)

@@ -29,7 +29,7 @@ PORT = ptpm.PortSettings(0x0A0B0C0D0E0F1A1B, ptpm.PortState.PRE_MASTER, -11, 3, 
 
 def load_tests(_loader: unittest.TestLoader, tests: unittest.TestSuite, _pattern: object) -> unittest.TestSuite:
     """The examples of the module too."""
-    for name in ("domain_identity", "identity", "members", "clock", "saving_clock", "saving_session", "time_interval"):
+    for name in ("device", "domain_identity", "identity", "members", "clock", "saving_clock", "saving_session", "time_interval"):
         tests.addTests(doctest.DocTestSuite(f"ptpm.{name}"))
     return tests
 
@@ -60,7 +60,10 @@ class Clocks(unittest.TestCase):
 
     def test_a_device_objects_to_a_value_that_it_lacks(self) -> None:
         limits = [ptpm.Limit("LOG_SYNC_INTERVAL", values=(-4, 1)), ptpm.Limit("DOMAIN", 1)]
-        self.assertEqual([octet for octet in range(256) if octet in limits[0]], [0, 1, 0xFC, 0xFD, 0xFE, 0xFF])
+        self.assertEqual([octet for octet in range(-300, 300) if octet in limits[0]], [-4, -3, -2, -1, 0, 1, 0xFC, 0xFD, 0xFE, 0xFF])
+        self.assertRaises(OverflowError, ptpm.Limit, "DOMAIN", 70000)
+        self.assertRaises(OverflowError, ptpm.Limit, "DOMAIN", 1, {256})
+        self.assertIsNone(ptpm.Limit.objection([], ptpm.Asked(ptpm.PortIdentity.of(MANAGER), 7, ptpm.Action.SET, 1, 0x200B, b"\xf8\0")))
         with clock() as asked:
             set_interval = request(7, "aabbccfffeddee010001", 1, 1, "200bf800")
             change = asked.ask(1, set_interval)
@@ -302,6 +305,10 @@ class Managers(unittest.TestCase):
             [(_, octets)] = asked.handle(1, session.send()).messages
             session.receive(octets)
             self.assertEqual((session.report().members, session.issued), ({"priority1": 100}, 2))
+
+    def test_a_path_that_is_too_long_for_a_socket_is_named(self) -> None:
+        with self.assertRaisesRegex(OSError, "File name too long: '/tmp/a{200}"):
+            ptpm.UnixTransport("/tmp/" + "a" * 200)
 
     def test_a_survey_of_one_clock_hears_no_other(self) -> None:
         settings = ptpm.SurveySettings("0a0b0c0d0e0f1011/9", 3, "PRIORITY1")

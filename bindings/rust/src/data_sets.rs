@@ -15,6 +15,8 @@ use crate::clock::{Clock, MOST_READ};
 use crate::error::Error;
 use crate::id::ManagementId;
 use crate::identity::{Identity, PortIdentity};
+#[cfg(feature = "alloc")]
+use crate::report::Answer;
 use crate::report::Report;
 use crate::saving_clock::SavingClock;
 use crate::settings::{DelayMechanism, PortState};
@@ -59,6 +61,14 @@ impl Report<'_> {
             Self::Value(field) => D::of(field),
             _ => None,
         }
+    }
+}
+
+#[cfg(feature = "alloc")]
+impl Answer {
+    /// The data set that was answered, if it was one.
+    pub fn data_set<D: DataSet>(&self) -> Option<D> {
+        self.value.as_ref().ok().and_then(|field| D::of(field))
     }
 }
 

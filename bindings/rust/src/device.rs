@@ -117,6 +117,23 @@ impl Limit {
         limit
     }
 
+    /// Exactly these values, each as its octet: -4 is 0xFC.
+    ///
+    /// ```
+    /// use ptpm::{DelayMechanism, Limit, ManagementId};
+    ///
+    /// let mechanisms = [DelayMechanism::EndToEnd as u8, DelayMechanism::None as u8];
+    /// let limit = Limit::of_values(ManagementId::DELAY_MECHANISM, 1, &mechanisms);
+    /// assert!(limit.has(1) && limit.has(0xfe) && !limit.has(2));
+    /// ```
+    pub fn of_values(id: ManagementId, port: u16, values: &[u8]) -> Self {
+        let mut limit = Self::none(id, port);
+        for octet in values {
+            limit.limit.values[usize::from(octet / 8)] |= 1 << (octet % 8);
+        }
+        limit
+    }
+
     /// Whether it has this octet among its values.
     pub const fn has(&self, octet: u8) -> bool {
         self.limit.values[octet as usize / 8] >> (octet % 8) & 1 == 1

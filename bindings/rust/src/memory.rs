@@ -38,10 +38,10 @@ mod block {
     }
 
     /// The most that a session takes.
-    pub const SESSION_MEMORY: usize = 5984;
+    pub const SESSION_MEMORY: usize = 7408;
 
-    /// The most that an asker takes.
-    pub const ASKER_MEMORY: usize = 9104;
+    /// Enough for an asker.
+    pub const ASKER_MEMORY: usize = 13424;
 
     /// Gives the library its memory, before the first clock, session, survey or asker starts. Later it is refused while one is held. It
     /// counts from the first multiple of 16. Says whether the library has it.

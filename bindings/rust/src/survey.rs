@@ -54,11 +54,11 @@ impl SurveySettings {
 /// What a survey asks, and its answers: the first of each port, of 512 ports at most.
 ///
 /// ```
-/// use ptpm::{ManagementId, Survey, SurveySettings, MOST_OCTETS};
+/// use ptpm::{DefaultDataSet, ManagementId, Survey, SurveySettings, MOST_OCTETS};
 /// # fn send(_octets: &[u8]) {}
 /// # fn next_datagram() -> Option<&'static [u8]> { None }
 ///
-/// let settings = SurveySettings::new("0011223344556677/2".parse()?, 7, ManagementId::PRIORITY1);
+/// let settings = SurveySettings::new("0011223344556677/2".parse()?, 7, ManagementId::DEFAULT_DATA_SET);
 /// let mut survey = Survey::start(&settings)?;
 /// let mut room = [0; MOST_OCTETS];
 /// send(survey.send(&mut room)?);
@@ -66,7 +66,9 @@ impl SurveySettings {
 ///     survey.receive(datagram)?;
 /// }
 /// for answer in survey.answers() {
-///     println!("{} {:?}", answer.source, answer.value);
+///     if let Some(default) = answer.data_set::<DefaultDataSet>() {
+///         println!("{} {}", answer.source, default.priority1);
+///     }
 /// }
 /// # Ok::<(), Box<dyn std::error::Error>>(())
 /// ```

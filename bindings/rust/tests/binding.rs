@@ -3,9 +3,9 @@
 
 use ptpm::{
     Action, Clock, ClockMembers, ClockSettings, DelayMechanism, Error, Handled, Identity, Limit, ManagementErrorId, ManagementId,
-    Manager, Objection, ObservedClock, ObservedGrandmaster, ObservedPort, Outbox, PortIdentity, PortMembers, PortSettings,
-    PortState, Received, Report, Rights, SavingSession, Say, Session, SessionSettings, Survey, SurveySettings, Surveyed,
-    TimeInterval, MOST_DATA, MOST_OCTETS, MOST_READ, SESSION_IMAGE_OCTETS,
+    Manager, Objection, ObservedClock, ObservedGrandmaster, ObservedPort, Outbox, PortDataSet, PortIdentity, PortMembers,
+    PortSettings, PortState, Received, Report, Rights, SavingSession, Say, Session, SessionSettings, Survey, SurveySettings,
+    Surveyed, TimeInterval, MOST_DATA, MOST_OCTETS, MOST_READ, SESSION_IMAGE_OCTETS,
 };
 
 const CLOCK: &str = "aabbccfffeddee01";
@@ -343,6 +343,8 @@ fn a_survey_keeps_first_answers() {
     let answers: Vec<_> =
         survey.answers().map(|answer| (answer.source.to_string(), answer.value.map(|field| field[10]))).collect();
     assert_eq!(answers, [("aabbccfffeddee01/1".into(), Ok(6)), ("aabbccfffeddee01/2".into(), Ok(6))]);
+    let states: Vec<_> = survey.answers().filter_map(|answer| answer.data_set::<PortDataSet>()?.port_state).collect();
+    assert_eq!(states, [PortState::Master; 2]);
     assert_eq!(survey.answer(2, &mut room), Err(Error::NoReport));
 }
 
