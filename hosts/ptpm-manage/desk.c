@@ -211,6 +211,9 @@ int let_go_at_desk(struct desk *desk, const struct journal *journal) {
     return ANSWERED;
 }
 
+/* A SET of NULL_PTP_MANAGEMENT has no member to change (15.5.3.1). `plan --probe` leaves one if it has no answer. */
+static bool may_change(const struct task *request) { return request->action != PTPM_GET && request->id != PTPM_ID_NULL_PTP_MANAGEMENT; }
+
 int see_to_desk(struct desk *desk, struct journal *journal) {
     if (desk->is_seen_to) return ANSWERED;
     desk->is_seen_to = true;
@@ -225,7 +228,7 @@ int see_to_desk(struct desk *desk, struct journal *journal) {
     case NUMBER_TAKEN: if (!note_not_begun(journal)) return not_noted(journal); break;
     case OF_ANOTHER: break;
     }
-    desk->is_changed = desk->session.earlier.task.action != PTPM_GET;
+    desk->is_changed = may_change(&desk->session.earlier.task);
     return settle(desk, journal, NO_STEP, domain, true);
 }
 

@@ -60,6 +60,7 @@ static int probe(struct plan *plan, const struct task *task, const struct step *
     memcpy(request.settings.target, first->clock, 8);
     int status = ask_and_report(&request, take_answer);
     if (status == ANSWERED && refusal != 0) add_refusal(plan, task, clock);
+    if (status == NOT_ANSWERED) complain("%s gave no answer: whether it takes SETs of this manager is not known", clock);
     return status;
 }
 
