@@ -212,9 +212,6 @@ int let_go_at_desk(struct desk *desk, const struct journal *journal) {
     return ANSWERED;
 }
 
-/* A SET of NULL_PTP_MANAGEMENT has no member to change (15.5.3.1). `plan --probe` leaves one if it has no answer. */
-static bool may_change(const struct task *request) { return request->action != PTPM_GET && request->id != PTPM_ID_NULL_PTP_MANAGEMENT; }
-
 int see_to_desk(struct desk *desk, struct journal *journal) {
     if (desk->is_seen_to) return ANSWERED;
     desk->is_seen_to = true;
