@@ -30,17 +30,6 @@ static int status_of(enum ending ending) {
 
 /* ---- plan */
 
-static int show_plan(const struct task *task) {
-    struct plan plan;
-    int status = make_plan(&plan, task), probed = ANSWERED;
-    if (task->plan.is_probed && !stopped) probed = probe_clocks(&plan, task);
-    print_plan(&plan, task->is_json);
-    leave_plan(&plan);
-    return probed == ANSWERED ? status : probed;
-}
-
-/* ---- a journal is carried out */
-
 /* No session is kept of a port that no clock of ptpm has. */
 static void judge_ports(const struct step *steps, size_t count) {
     for (size_t i = 0; i < count; i++) {
@@ -48,6 +37,18 @@ static void judge_ports(const struct step *steps, size_t count) {
         refuse("nothing was sent: change %zu: no session is kept of a port above %d", i + 1, SESSION_PORTS);
     }
 }
+
+static int show_plan(const struct task *task) {
+    struct plan plan;
+    int status = make_plan(&plan, task), probed = ANSWERED;
+    if (task->plan.is_probed && !stopped) probed = probe_clocks(&plan, task);
+    print_plan(&plan, task->is_json);
+    if (status == ANSWERED) judge_ports(plan.steps, plan.count);
+    leave_plan(&plan);
+    return probed == ANSWERED ? status : probed;
+}
+
+/* ---- a journal is carried out */
 
 /* Whether a rollback that is complete left nothing out, as far as the journal of the apply is there. */
 static int judge_left_out(const struct task *task, const struct journal *back) {

@@ -60,14 +60,15 @@ static bool note_answer(struct desk *desk, struct journal *journal, long step, b
 /* ---- what is asked */
 
 /* What is known of a clock that gave this step no answer. One that moves may be in either domain: nothing is said of it. */
-static void say_silence_at(const struct desk *desk, const struct step *step) {
+static void say_silence_at(const struct desk *desk, const struct step *step, bool is_begun) {
     static struct task asked;
+    enum unanswered what = is_begun ? REQUEST : desk->session.has_file ? NUMBER : FIRST_NUMBER;
     if (step->id == PTPM_ID_DOMAIN) return;
     asked = desk->task;
     asked.id = step->id;
     asked.port = step->port;
     asked.settings.domain = step->domain;
-    say_silence(&asked);
+    say_silence(&asked, what, desk->driver.number, desk->session.file->path);
 }
 
 /* No answer came. If no message of a step left that was begun now, it was not begun: the session was saved without it. One that an earlier
@@ -89,7 +90,7 @@ static int no_answer_to(struct desk *desk, struct journal *journal, long step, b
     complain("no answer of %s at %s in domain %u to %ld message%s: %s", clock, transport_name(), desk->domain, driver->sent,
              driver->sent == 1 ? "" : "s", is_begun ? "the step may have been carried out" : "the next step was not sent");
     if (is_anothers) say_before_steps(&desk->session.earlier, &desk->task);
-    if (step != NO_STEP) say_silence_at(desk, &journal->steps[step]);
+    if (step != NO_STEP) say_silence_at(desk, &journal->steps[step], is_begun);
     return stopped ? BY_SIGNAL + stopped : NOT_ANSWERED;
 }
 
@@ -225,7 +226,7 @@ int see_to_desk(struct desk *desk, struct journal *journal) {
     case NUMBER_TAKEN: if (!note_not_begun(journal)) return not_noted(journal); break;
     case OF_ANOTHER: break;
     }
-    desk->is_changed = desk->session.earlier.task.action != PTPM_GET;
+    desk->is_changed = may_change(&desk->session.earlier.task);
     return settle(desk, journal, NO_STEP, domain, true);
 }
 

@@ -15,7 +15,7 @@ struct desk {
     struct driver driver;
     uint8_t domain;                     /* in which the latest request was asked */
     bool is_seen_to;                    /* what an earlier run left there is, */
-    bool is_changed;                    /* and that was a SET or a COMMAND of another program */
+    bool is_changed;                    /* and that was a request of another program that may have changed the clock */
 };
 
 /* Takes the session of a task with the clock of its first step. A question that an earlier run left at another port than that step's is

@@ -62,7 +62,8 @@ static void see_to_mark(const char *session, bool may_remove) {
     if (is_past && may_remove) unlinkat(mark.folder, mark.name, 0);
     if (mark.folder >= 0) close(mark.folder);
     if (is_past || found == KEPT_NONE || (found == KEPT_FILE && is_own(journal))) return;
-    if (found != KEPT_FILE) refuse("nothing was asked: %s.apply: it can't be read: an apply may be open", session);
+    const char *why = found == KEPT_UNREADABLE ? strerror(errno) : "it can't be read";
+    if (found != KEPT_FILE) refuse("nothing was asked: %s.apply: %s: an apply may be open", session, why);
     refuse("nothing was asked: the apply of %s is open: ptpm-manage resume goes on with it", journal);
 }
 

@@ -5,6 +5,7 @@
 #include "in_session.h"
 #include "names.h"
 #include "notices.h"
+#include "telling.h"
 #include "words.h"
 #include <stdbool.h>
 #include <stdio.h>
@@ -60,13 +61,17 @@ static int probe(struct plan *plan, const struct task *task, const struct step *
     memcpy(request.settings.target, first->clock, 8);
     int status = ask_and_report(&request, take_answer);
     if (status == ANSWERED && refusal != 0) add_refusal(plan, task, clock);
+    if (status == NOT_ANSWERED) complain("%s gave no answer: whether it takes SETs of this manager is not known", clock);
     return status;
 }
 
 int probe_clocks(struct plan *plan, const struct task *task) {
-    for (size_t i = 0; i < plan->count; i++) {
-        int status = is_first_of_clock(plan, i) ? probe(plan, task, &plan->steps[i]) : ANSWERED;
-        if (status != ANSWERED) return status;
+    int status = ANSWERED;
+    for (size_t i = 0; i < plan->count && status == ANSWERED; i++) {
+        if (is_first_of_clock(plan, i)) status = probe(plan, task, &plan->steps[i]);
     }
-    return ANSWERED;
+    if (has_settled_change()) {
+        add_warning(plan, "a request of an earlier run was carried out after the clocks were read: plan again", task->is_json);
+    }
+    return status;
 }

@@ -48,7 +48,16 @@ static const char *earlier_words(const struct earlier *earlier, const struct tas
     return text;
 }
 
+/* A SET of NULL_PTP_MANAGEMENT has no member to change (15.5.3.1). `plan --probe` leaves one if it has no answer. */
+bool may_change(const struct task *request) { return request->action != PTPM_GET && request->id != PTPM_ID_NULL_PTP_MANAGEMENT; }
+
+/* Whether a request that may change the clock was settled. */
+static bool is_change_settled;
+
+bool has_settled_change(void) { return is_change_settled; }
+
 int say_settled(const struct earlier *earlier, const struct task *task, const struct answer *answer) {
+    is_change_settled |= may_change(&earlier->task);
     complain("%s, had no answer yet, and was sent again:", earlier_words(earlier, task));
     print_answer(stderr, &earlier->task, "ptpm-manage: ", answer);
     if (is_other(&earlier->task, answer)) say_other(&earlier->task, answer);

@@ -15,6 +15,12 @@ void say_right(const struct task *task, uint16_t error);
 /* Prints how many requests there were, and messages of them. */
 void print_count(long requests, long sent);
 
+/* Whether a request may change the clock. */
+bool may_change(const struct task *request);
+
+/* Whether a request of an earlier run that may have changed a clock was settled. */
+bool has_settled_change(void);
+
 /* Says what the answer to the request of an earlier run is; NOT_WRITTEN if that can't be said. */
 int say_settled(const struct earlier *earlier, const struct task *task, const struct answer *answer);
 

@@ -25,8 +25,8 @@ static bool say_value(const struct task *task) {
     return is_answered;
 }
 
-/* Why a clock that answers reads may drop what this manager asks. */
-static void say_reason(const struct task *task, enum unanswered what, uint16_t number) {
+/* Why a clock that answers reads may drop what this manager asks. The path is that of the session's file. */
+static void say_reason(const struct task *task, enum unanswered what, uint16_t number, const char *path) {
     static const char unsaved[] = ", or the clock can't save its state, for example since its disk is full, or its device has not agreed yet";
     char manager[IDENTITY_TEXT];
     unsigned port = task->settings.port;
@@ -40,7 +40,7 @@ static void say_reason(const struct task *task, enum unanswered what, uint16_t n
     case NUMBER:
         complain("it dropped number %u of manager %s/%u, since another file or a copy of the manager is ahead, or each answer was "
                  "lost%s", number, manager, port, unsaved);
-        complain("if it does so each time: once %s is removed, the next run begins a new session", session_path());
+        complain("if it does so each time: once %s is removed, the next run begins a new session", path);
         break;
     case FIRST_NUMBER:
         complain("it answers no GET of manager %s/%u under any of four numbers: each answer was lost%s", manager, port, unsaved);
@@ -107,10 +107,10 @@ static const char *request_clause(const struct task *task, enum unanswered what)
     return ": the request itself was not sent";
 }
 
-void say_silence(const struct task *task) {
+void say_silence(const struct task *task, enum unanswered what, uint16_t number, const char *path) {
     tell_missing_addresses();
     tell_deaf_port();
-    if (say_value(task)) say_reason(task, REQUEST, 0);
+    if (say_value(task)) say_reason(task, what, number, path);
 }
 
 int no_answer(const struct task *task, enum unanswered what, uint16_t number, long sent) {
@@ -132,6 +132,6 @@ int no_answer(const struct task *task, enum unanswered what, uint16_t number, lo
     bool is_answered = (task->is_kept || task->action != PTPM_GET) && say_value(task);
     if (stopped) return BY_SIGNAL + stopped;
     if (!is_answered) advise(task, what);
-    else if (task->is_kept) say_reason(task, what, number);
+    else if (task->is_kept) say_reason(task, what, number, session_path());
     return NOT_ANSWERED;
 }

@@ -16,8 +16,8 @@ int no_answer(const struct task *task, enum unanswered what, uint16_t number, lo
 /* Says once which clocks a survey, or a collection, did not ask, and how it hears answers that take longer. */
 void advise_on_every(const struct task *task);
 
-/* Says what is known of a clock that gave a step of an apply no answer. If it answers reads, that is what it has, and why it may drop
-   the step. */
-void say_silence(const struct task *task);
+/* Says what is known of a clock that gave a step of an apply no answer, or a question before it. If it answers reads, that is what it
+   has, and why it may drop these. The path is that of the session's file. */
+void say_silence(const struct task *task, enum unanswered what, uint16_t number, const char *path);
 
 #endif
