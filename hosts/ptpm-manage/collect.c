@@ -380,7 +380,7 @@ static int end_of_collection(const struct task *task, const struct domains *doma
     if (seen_count() > 0) tell_silent_ways();
     if (seen_count() > 0) return ANSWERED;
     complain("no answer at %s in %s to %ld message%s", transport_name(), domains_text(domains), sent, sent == 1 ? "" : "s");
-    tell_missing_addresses();
+    tell_unfit_interfaces();
     if (!task->site.is_every_domain) complain("--domain all asks in each domain in which a clock is heard");
     if (!task->site.is_every_sdo) advise_on_sdo(domains);
     advise_on_every(task);

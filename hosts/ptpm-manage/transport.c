@@ -16,6 +16,7 @@
 #include <arpa/inet.h>
 #include <errno.h>
 #include <ifaddrs.h>
+#include <limits.h>
 #include <linux/if_packet.h>
 #include <net/if.h>
 #include <netdb.h>
@@ -200,10 +201,34 @@ static void open_at_interface(struct end *end) {
 
 static sa_family_t family(void) { return is_six ? AF_INET6 : AF_INET; }
 
-void tell_missing_addresses(void) {
+/* What comes in at an interface of a bridge or a bond goes to that one; whether it is one of these, and then its name. */
+static bool find_bridge(char bridge[IFNAMSIZ], const char *interface) {
+    static const char *const marks[] = { "brport", "bonding_slave" };
+    char path[IFNAMSIZ + 64], found[PATH_MAX];
+    bool is_part = false;
+    for (size_t i = 0; i < sizeof marks / sizeof *marks; i++) {
+        snprintf(path, sizeof path, "/sys/class/net/%s/%s", interface, marks[i]);
+        is_part |= access(path, F_OK) == 0;
+    }
+    snprintf(path, sizeof path, "/sys/class/net/%s/master", interface);
+    ssize_t size = is_part ? readlink(path, found, sizeof found - 1) : -1;
+    if (size < 0) return false;
+    found[size] = '\0';
+    snprintf(bridge, IFNAMSIZ, "%s", basename(found));
+    return true;
+}
+
+static void tell_bridge(const char *interface) {
+    char bridge[IFNAMSIZ];
+    if (!find_bridge(bridge, interface)) return;
+    complain("%s is a part of %s, which takes what comes in there: --interface %s asks there", interface, bridge, bridge);
+}
+
+void tell_unfit_interfaces(void) {
     forget_networks();
     for (size_t i = 0; i < end_count; i++) {
         const char *interface = ends[i].interface;
+        if (interface != NULL) tell_bridge(interface);
         if (interface == NULL || is_ethernet) continue;
         unsigned index = index_of(ends[i].socket, interface);
         if (index == 0) complain("%s is gone", interface);
