@@ -201,7 +201,7 @@ static void open_at_interface(struct end *end) {
 
 static sa_family_t family(void) { return is_six ? AF_INET6 : AF_INET; }
 
-/* What comes in at an interface of a bridge or a bond goes to that one; whether it is one of these, and then its name. */
+/* The bridge or the bond to which an interface hands what comes in there; whether there is one. */
 static bool find_bridge(char bridge[IFNAMSIZ], const char *interface) {
     static const char *const marks[] = { "brport", "bonding_slave" };
     char path[IFNAMSIZ + 64], found[PATH_MAX];
