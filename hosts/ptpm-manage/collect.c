@@ -387,7 +387,7 @@ static int end_of_collection(const struct task *task, const struct domains *doma
     if (seen_count() > 0) tell_silent_ways();
     if (seen_count() > 0) return ANSWERED;
     complain("no answer at %s in %s to %ld message%s", transport_name(), domains_text(domains), sent, sent == 1 ? "" : "s");
-    tell_missing_addresses();
+    tell_unfit_interfaces();
     advise_on_domains(task, domains);
     advise_on_every(task);
     return NOT_ANSWERED;

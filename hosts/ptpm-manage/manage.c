@@ -40,6 +40,7 @@ int main(int argc, char **argv) {
     read_task(&task, argc, argv);
     catch_signals();
     int status = ask(&task);
+    clear_progress();
     if (fflush(stdout) || ferror(stdout)) {
         complain("standard output could not be written: %s", strerror(errno));
         status = NOT_WRITTEN;

@@ -3,6 +3,7 @@
 #include <stdbool.h>
 #include <stdio.h>
 #include <stdlib.h>
+#include <string.h>
 #include <sys/ioctl.h>
 #include <unistd.h>
 
@@ -54,10 +55,16 @@ static int room_for_progress(void) {
     return ioctl(STDERR_FILENO, TIOCGWINSZ, &size) == 0 && size.ws_col > 1 ? size.ws_col - 1 : MOST_PROGRESS;
 }
 
+/* A dumb terminal takes no line away again. */
+static bool takes_progress(void) {
+    const char *terminal = getenv("TERM");
+    return isatty(STDERR_FILENO) && (terminal == NULL || strcmp(terminal, "dumb") != 0);
+}
+
 /* Shows a line of two parts. */
 static void show(const char *first, const char *between, const char *second) {
     char line[2 * MOST_PROGRESS + 2];
-    if (is_quiet || !isatty(STDERR_FILENO)) return;
+    if (is_quiet || !takes_progress()) return;
     clear_progress();
     snprintf(line, sizeof line, "%s%s%s", first, between, second);
     fprintf(stderr, "%.*s", room_for_progress(), line);

@@ -16,6 +16,7 @@
 #include <arpa/inet.h>
 #include <errno.h>
 #include <ifaddrs.h>
+#include <limits.h>
 #include <linux/if_packet.h>
 #include <net/if.h>
 #include <netdb.h>
@@ -200,10 +201,34 @@ static void open_at_interface(struct end *end) {
 
 static sa_family_t family(void) { return is_six ? AF_INET6 : AF_INET; }
 
-void tell_missing_addresses(void) {
+/* The bridge or the bond to which an interface hands what comes in there; whether there is one. */
+static bool find_bridge(char bridge[IFNAMSIZ], const char *interface) {
+    static const char *const marks[] = { "brport", "bonding_slave" };
+    char path[IFNAMSIZ + 64], found[PATH_MAX];
+    bool is_part = false;
+    for (size_t i = 0; i < sizeof marks / sizeof *marks; i++) {
+        snprintf(path, sizeof path, "/sys/class/net/%s/%s", interface, marks[i]);
+        is_part |= access(path, F_OK) == 0;
+    }
+    snprintf(path, sizeof path, "/sys/class/net/%s/master", interface);
+    ssize_t size = is_part ? readlink(path, found, sizeof found - 1) : -1;
+    if (size < 0) return false;
+    found[size] = '\0';
+    snprintf(bridge, IFNAMSIZ, "%s", basename(found));
+    return true;
+}
+
+static void tell_bridge(const char *interface) {
+    char bridge[IFNAMSIZ];
+    if (!find_bridge(bridge, interface)) return;
+    complain("%s is a part of %s, which takes what comes in there: --interface %s asks there", interface, bridge, bridge);
+}
+
+void tell_unfit_interfaces(void) {
     forget_networks();
     for (size_t i = 0; i < end_count; i++) {
         const char *interface = ends[i].interface;
+        if (interface != NULL) tell_bridge(interface);
         if (interface == NULL || is_ethernet) continue;
         unsigned index = index_of(ends[i].socket, interface);
         if (index == 0) complain("%s is gone", interface);
@@ -430,15 +455,21 @@ static const struct end *end_at(unsigned index) {
     return NULL;
 }
 
-/* What is not taken is said once. */
+/* What is not taken is said once of each address, and of as many addresses as this. */
+enum { MOST_STRANGERS = 8 };
+
 static void tell_stranger(const struct end *end, const struct sockaddr *sender) {
-    static bool is_told;
+    static char told[MOST_STRANGERS][INET6_ADDRSTRLEN];
+    static size_t count;
     char address[INET6_ADDRSTRLEN] = "";
     const void *octets = is_six ? (const void *)&((const struct sockaddr_in6 *)sender)->sin6_addr
                                 : (const void *)&((const struct sockaddr_in *)sender)->sin_addr;
-    if (is_told) return;
-    is_told = true;
     inet_ntop(sender->sa_family, octets, address, sizeof address);
+    for (size_t i = 0; i < count; i++) {
+        if (strcmp(told[i], address) == 0) return;
+    }
+    if (count == MOST_STRANGERS) return;
+    strcpy(told[count++], address);
     complain("%s: what came from %s is not taken, which is not on the link: --any-source takes it", end->interface, address);
 }
 
@@ -449,6 +480,12 @@ static bool is_from_here(const struct end *end, const struct sockaddr *sender) {
     if ((is_to_one && is_same(sender, &clock_address)) || !has_address(end->index, family())) return true;
     tell_stranger(end, sender);
     return false;
+}
+
+/* What a clock sends by itself comes to the group, and so over this link, whatever the clock's address is. */
+static bool is_sent_by_itself(const struct arrival *arrival, const uint8_t *octets, size_t found) {
+    bool is_to_group = arrival->end != NULL && arrival->socket != arrival->end->asking;
+    return is_to_group && found > TYPE_AT && (octets[TYPE_AT] & LOWER_HALF) != MANAGEMENT_TYPE;
 }
 
 /* The sender of the message that came in last, and the end that it came in at. */
@@ -541,7 +578,7 @@ static const uint8_t *message_of(const struct arrival *arrival, const uint8_t *o
     struct sockaddr *sender = (struct sockaddr *)&from->sender;
     const struct end *end = arrival->end != NULL ? arrival->end : end_at(from->index);
     *size = found;
-    if (end == NULL || !is_from_here(end, sender)) return NULL;
+    if (end == NULL || !(is_sent_by_itself(arrival, octets, found) || is_from_here(end, sender))) return NULL;
     latest_place = *from;
     latest_end = end;
     if (arrival->end == NULL) {

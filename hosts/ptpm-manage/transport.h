@@ -33,8 +33,8 @@ void receive_every_type(bool is_every);
 /* Says what clock isn't heard, if the program may hear no copies of what comes by unicast to UDP port 320 of this host. */
 void tell_deaf_port(void);
 
-/* Says which of its interfaces are gone, or have no address to ask from. */
-void tell_missing_addresses(void);
+/* Says which of its interfaces are gone, are a part of a bridge or a bond, or have no address to ask from. */
+void tell_unfit_interfaces(void);
 
 /* What it is called in a notice. */
 const char *transport_name(void);

@@ -108,7 +108,7 @@ static const char *request_clause(const struct task *task, enum unanswered what)
 }
 
 void say_silence(const struct task *task, enum unanswered what, uint16_t number, const char *path) {
-    tell_missing_addresses();
+    tell_unfit_interfaces();
     tell_deaf_port();
     if (say_value(task)) say_reason(task, what, number, path);
 }
@@ -123,7 +123,7 @@ int no_answer(const struct task *task, enum unanswered what, uint16_t number, lo
              sent == 1 ? "" : "s", request_clause(task, what));
     say_rest(task, what, number);
     if (stopped) return BY_SIGNAL + stopped;
-    tell_missing_addresses();
+    tell_unfit_interfaces();
     tell_deaf_port();
     if (task->is_survey && !task->is_of_clock) {
         advise_on_every(task);

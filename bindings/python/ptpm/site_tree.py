@@ -21,6 +21,7 @@ _TEXTS = {"profile": ("expected",), "not_as_expected": ("value", "expected")}
 
 # What is written for the clock if a finding is of a whole domain.
 _NO_CLOCK = "-"
+_SILENT_WAY = "ptpm-manage: no clock answered at "
 
 
 @dataclass(frozen=True)
@@ -157,6 +158,12 @@ class Site:
     def clocks(self) -> Tuple[SiteClock, ...]:
         """All clocks, by domain and identity."""
         return tuple(clock for domain in self.domains for clock in domain.clocks)
+
+    @property
+    def silent_ways(self) -> Tuple[str, ...]:
+        """The interfaces at which no clock answered, if several were asked, or the socket that was asked beside one."""
+        ways = [note[len(_SILENT_WAY):] for note in self.notes if note.startswith(_SILENT_WAY)]
+        return tuple(way.partition(": nothing was sent: ")[0] for way in ways)
 
     def __str__(self) -> str:
         head = f"findings: {len(self.findings) or 'none'}"

@@ -262,6 +262,16 @@ class Programs(Folder):
         self.assertEqual(self.asked(), [f"--interface eth0 --domain {words} collect" for words in domains])
         self.assertRaises(ValueError, ptpm.site, "eth0", domains=ptpm.DomainIdentity(4, 0x100), sdo=0x100)
 
+    def test_no_clock_at_one_of_two_interfaces(self) -> None:
+        self.collects("a_chain", "a_chain")
+        words = [sys.executable, "-m", "ptpm", "site", "-i", "eth0", "-i", "eth1"]
+        self.assertEqual(subprocess.run(words, capture_output=True, check=False).returncode, 0)
+        said = ("eth1", "eth2: nothing was sent: Network is unreachable")
+        notes = "".join(f"ptpm-manage: no clock answered at {way}\n" for way in said)
+        self.write("ptpm-manage", f"cat {self.folder}/0; printf '{notes}' >&2")
+        self.assertEqual(ptpm.site(["eth0", "eth1", "eth2"]).silent_ways, ("eth1", "eth2"))
+        self.assertEqual(subprocess.run(words, capture_output=True, check=False).returncode, 3)
+
     def test_a_second_look(self) -> None:
         self.collects("a_changing", "a_chain", "a_chain", "a_changing", "a_changing", "b_lonely", "a_chain")
         self.assertEqual(ptpm.site("eth0").findings, ())
