@@ -9,8 +9,8 @@ import subprocess
 import time
 
 from attack_numbers import next_number
-from attacking import (HOME, MANAGER, ME, OTHER, TRACED, Clock, Peer, check, clear, fill_disk, flips, get, image_in, manage, octets, path, read, run,
-                       saves_in, sealed, started, wait_until, work, write_octets)
+from attacking import (HAS_STRACE, HOME, MANAGER, ME, OTHER, TRACED, Clock, Peer, check, clear, fill_disk, flips, get, image_in, manage, octets, path,
+                       read, run, saves_in, sealed, started, wait_until, work, write_octets)
 
 PROGRAM = os.path.join(HOME, "clock")
 NOBODY = 65534
@@ -241,8 +241,7 @@ def full_disks():
 
 def calls_that_fail():
     """Each call of a save that fails once, as the third one of this clock: nothing leaves before a later save, and all is well after it."""
-    if shutil.which("strace") is None:
-        print("attack_clock: strace is missing")
+    if not HAS_STRACE:
         return
     for name, at in [("write", 4), ("fsync", 4), ("renameat", 2), ("fsync", 5)]:
         clear()

@@ -33,6 +33,11 @@ def sanitizer_with(option):
 # Where strace is at a program no leaks can be found, and the runtime would end it with a status of its own.
 TRACED = sanitizer_with("detect_leaks=0")
 
+# What needs it is left out without it.
+HAS_STRACE = shutil.which("strace") is not None
+if not HAS_STRACE:
+    print("strace is missing")
+
 # Programs that were built with a sanitizer take longer for all that they do.
 SLOW = 5 if is_sanitized("clock") or is_sanitized("manage") else 1
 started = []            # the programs that may still run: none outlives its attack
