@@ -10,15 +10,13 @@ import subprocess
 import tempfile
 import time
 
-from attacking import (HAS_STRACE, HOME, MANAGER, ME, OTHER, SLOW, Clock, Peer, asks, check, fill_disk, flips, image_in, manage, octets, path, read,
-                       response, run, saves_in, sealed, start, wait_until, work, write, write_octets)
-
-PROGRAM = os.path.join(HOME, "manage")
+from attacking import (HAS_STRACE, MANAGE, MANAGER, ME, OTHER, SLOW, Clock, Peer, asks, check, fill_disk, flips, image_in, manage, octets, path,
+                       read, response, run, saves_in, sealed, start, wait_until, work, write, write_octets)
 
 
 def words_of(number, *words):
     """A run of the manager, whose session is kept in this file."""
-    return [PROGRAM, "-m", MANAGER + "/1", "-u", path, "-k", number, "--target", ME, *words]
+    return [MANAGE, "-m", MANAGER + "/1", "-u", path, "-k", number, "--target", ME, *words]
 
 
 def image(first, begun, request=b"", manager=MANAGER + "0001", clock=ME, ports=8, hops=1, attempts=30, domain=0):
@@ -264,13 +262,13 @@ class TwoManagers:
     def value(self):
         """What the clock has, read by nobody."""
         began = time.monotonic()
-        found = run(PROGRAM, "-u", path, "--target", ME, "get", "PRIORITY2").stdout.strip()
+        found = run(MANAGE, "-u", path, "--target", ME, "get", "PRIORITY2").stdout.strip()
         if found:
             self.wait = max(self.wait, round(2000 * (time.monotonic() - began)))
         return found
 
     def other_sets(self):
-        done = run(PROGRAM, "-m", OTHER + "/1", "-w", "0", "-u", path, "--target", ME, "set", "PRIORITY2", "60")
+        done = run(MANAGE, "-m", OTHER + "/1", "-w", "0", "-u", path, "--target", ME, "set", "PRIORITY2", "60")
         return done.returncode == 0 and self.value() == "priority2 60"
 
     def sets(self, *words):
@@ -411,7 +409,7 @@ def users():
     os.chmod(folder, 0o755)
     os.mkdir(home)
     os.chown(home, 65534, 65534)
-    program = shutil.copy(PROGRAM, folder)
+    program = shutil.copy(MANAGE, folder)
 
     def run_by_user(*words):
         return subprocess.run([program, "-i", "attack0", "-m", MANAGER + "/1", "--target", ME, *words, "set", "PRIORITY1", "100"],
