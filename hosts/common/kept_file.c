@@ -62,11 +62,10 @@ enum kept_found read_kept(const struct kept_file *file, uint8_t *octets, size_t 
     int opened = openat(file->folder, file->name, O_RDONLY | O_NOFOLLOW | O_NONBLOCK | O_CLOEXEC);
     if (opened < 0) return errno == ENOENT ? KEPT_NONE : errno == ELOOP ? KEPT_LINK : KEPT_UNREADABLE;
     enum kept_found what = fstat(opened, found) ? KEPT_UNREADABLE : S_ISREG(found->st_mode) ? KEPT_FILE : KEPT_OTHER;
-    for (ssize_t count = 1; what == KEPT_FILE && count > 0 && *size < most; *size += (size_t)count) {
+    for (ssize_t count = 1; what == KEPT_FILE && count > 0 && *size < most;) {
         count = read(opened, octets + *size, most - *size);
-        if (count >= 0) continue;
-        what = KEPT_UNREADABLE;
-        break;
+        if (count < 0) what = KEPT_UNREADABLE;
+        else *size += (size_t)count;
     }
     int failure = errno;
     close(opened);

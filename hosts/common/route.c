@@ -31,7 +31,7 @@ static bool may_ask(void) {
         begun = now;
         asked = 0;
     }
-    return asked < MOST_QUESTIONS && ++asked > 0;
+    return asked++ < MOST_QUESTIONS;
 }
 
 /* The route itself is asked for (RTM_F_FIB_MATCH). Otherwise the kernel treats an address to which no route leads as one of the

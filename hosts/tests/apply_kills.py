@@ -10,7 +10,7 @@ import time
 import zlib
 
 from apply_link import SET, Troubles
-from apply_network import ANSWERED_NEW, MANAGER, Clock, Network, within
+from apply_network import ANSWERED_NEW, MANAGER, Clock, Network
 from apply_runs import Broken, Journal, Runs
 from trying import HOME
 
@@ -70,7 +70,7 @@ class Changes(Runs):
         self.observed = [Observed(self.network, clock) for clock in self.network.clocks.values()]
 
     def words(self):
-        return [*within(self.network.near), os.path.join(HOME, "manage"), "-i", "e1"]
+        return self.network.words()
 
     def end(self):
         self.network.end()

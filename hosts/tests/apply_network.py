@@ -10,7 +10,7 @@ import time
 
 from apply_link import Middle
 from apply_observer import Observer
-from trying import HOME, run
+from trying import CLOCK, HOME, MANAGE, run
 
 MANAGER, OTHER = "020000fffe000010/1", "0a0000fffe000099/1"
 MANAGERS_STATION = "02:00:00:00:00:10"
@@ -122,9 +122,8 @@ class Network:
         with open(clock.log, "a") as log:
             before = log.tell()
             clock.process = subprocess.Popen(
-                [*within(clock.namespace), os.path.join(HOME, "clock"), "-v", "--user", "root", "-s", lead + ".state", "-o",
-                 lead + ".observed", *managers, clock.identity] + [f"e{port}" for port in range(1, clock.ports + 1)],
-                stdout=log, stderr=log)
+                [*within(clock.namespace), CLOCK, "-v", "--user", "root", "-s", lead + ".state", "-o", lead + ".observed", *managers, clock.identity]
+                + [f"e{port}" for port in range(1, clock.ports + 1)], stdout=log, stderr=log)
         said = ""
         while "managers" not in said and "1 manager" not in said:
             if clock.process.poll() is not None:
@@ -140,22 +139,26 @@ class Network:
         clock.process.wait()
         self.start(clock)
 
+    def words(self, *words, namespace=None):
+        """The command line of the manager's program, there or at another end."""
+        return [*within(namespace or self.near), MANAGE, "-i", "e1", *words]
+
+    def environment(self, state="state"):
+        return environment(os.path.join(self.work, state))
+
     def manage(self, *words, state="state", namespace=None, **more):
         """A run of the manager's program."""
-        where = self.near if namespace is None else namespace
-        return run(*within(where), os.path.join(HOME, "manage"), "-i", "e1", *words, env=environment(os.path.join(self.work, state)), **more)
+        return run(*self.words(*words, namespace=namespace), env=self.environment(state), **more)
 
     def begin(self, *words, **variables):
         """A run that goes on, with these variables of its environment."""
-        env = {**environment(os.path.join(self.work, "state")), **variables}
-        return subprocess.Popen([*within(self.near), os.path.join(HOME, "manage"), "-i", "e1", *words], stdout=subprocess.PIPE,
-                                stderr=subprocess.PIPE, text=True, env=env)
+        return subprocess.Popen(self.words(*words), stdout=subprocess.PIPE, stderr=subprocess.PIPE, text=True,
+                                env={**self.environment(), **variables})
 
     def manage_at_terminal(self, *words):
         """Such a run whose standard error is a terminal: its status, and what is shown there."""
         ours, theirs = pty.openpty()
-        process = subprocess.Popen([*within(self.near), os.path.join(HOME, "manage"), "-i", "e1", *words], stdout=subprocess.DEVNULL,
-                                   stderr=theirs, env=environment(os.path.join(self.work, "state")))
+        process = subprocess.Popen(self.words(*words), stdout=subprocess.DEVNULL, stderr=theirs, env=self.environment())
         os.close(theirs)
         shown = b""
         try:

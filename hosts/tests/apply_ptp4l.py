@@ -8,7 +8,7 @@ import time
 from apply_kills import PATIENCE, Kills
 from apply_network import must, within
 from apply_runs import Broken, Runs
-from trying import HOME, run
+from trying import MANAGE, run
 
 NAMES = {0x2005: "priority1", 0x2006: "priority2"}         # a ptp4l takes no SET of another id, such as CLOCK_ACCURACY
 IDENTITY = "020000fffe000022"
@@ -47,7 +47,7 @@ class AtPtp4l(Runs):
         run("ip", "netns", "del", self.namespace)
 
     def words(self):
-        return [os.path.join(HOME, "manage"), "-u", self.socket]
+        return [MANAGE, "-u", self.socket]
 
     def read(self):
         """What it has. On a busy machine an answer may come too late for one `pmc`."""

@@ -7,7 +7,7 @@ import signal
 import subprocess
 import time
 
-from attacking import HOME, ME, OTHER, SLOW, Peer, check, has_own_socket, is_sanitized, path, response, start, work, write
+from attacking import HOME, MANAGE, ME, OTHER, SLOW, Peer, check, has_own_socket, is_sanitized, path, response, start, work, write
 
 # The dataFields of the six ids, of a clock with one port (IEEE 1588-2019, 15.5.3).
 DEFAULT, CURRENT, PARENT, TIMES, PORT, TEXT = 0x2000, 0x2001, 0x2002, 0x2003, 0x2004, 0x0002
@@ -221,7 +221,7 @@ def programs_that_show():
 def refusals_of_memory():
     """Each request for memory is refused, with all later ones: what is shown is the whole site, or a failure with its reason. The
     program that shows it here needs none: it prints three findings if it is handed a line, and a table with their name."""
-    if is_sanitized("manage"):
+    if is_sanitized(MANAGE):
         return                                                              # its memory is the sanitizer's
     me = bytes.fromhex(ME)
     folder = os.path.join(work, "shown")

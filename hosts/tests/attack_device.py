@@ -2,14 +2,13 @@
 answered meanwhile, and what becomes of a change if the clock, the program or the process between them is killed."""
 import ast
 import os
-import shutil
 import signal
 import time
 
 from attack_saves import FAILING, SLOWLY, Calls, Disk
 from attack_wire import Wire
-from attacking import (MANAGER, ME, SLOW, STRANGER, TRACED, Clock, Peer, check, field_set, get, manage, message, pause, path, read, set_of,
-                       wait_until, work, write)
+from attacking import (HAS_STRACE, MANAGER, ME, SLOW, STRANGER, TRACED, Clock, Peer, check, field_set, get, manage, message, pause, path, read,
+                       set_of, wait_until, work, write)
 
 SECOND_MANAGER = "0011223344556688"
 PROGRAM = os.path.join(work, "program")
@@ -336,5 +335,5 @@ def is_child(process, parent):
 
 ATTACKS = [limits_of_hardware, limits_that_are_wrong, what_a_program_says, what_a_program_inherits, programs_that_say_nothing,
            changes_that_wait, floods_while_a_program_runs, kills_while_a_program_runs]
-if shutil.which("strace") is not None:
+if HAS_STRACE:
     ATTACKS += [changes_that_are_not_saved, questions_that_are_not_taken]

@@ -10,10 +10,13 @@ import subprocess
 import tempfile
 import time
 
-from attacking import (HOME, MANAGER, ME, OTHER, SLOW, Clock, Peer, asks, check, fill_disk, flips, image_in, manage, octets, path, read, response,
-                       run, saves_in, sealed, start, wait_until, work, write, write_octets)
+from attacking import (HAS_STRACE, MANAGE, MANAGER, ME, OTHER, SLOW, Clock, Peer, asks, check, fill_disk, flips, image_in, manage, octets, path,
+                       read, response, run, saves_in, sealed, start, wait_until, work, write, write_octets)
 
-PROGRAM = os.path.join(HOME, "manage")
+
+def words_of(number, *words):
+    """A run of the manager, whose session is kept in this file."""
+    return [MANAGE, "-m", MANAGER + "/1", "-u", path, "-k", number, "--target", ME, *words]
 
 
 def image(first, begun, request=b"", manager=MANAGER + "0001", clock=ME, ports=8, hops=1, attempts=30, domain=0):
@@ -132,19 +135,16 @@ def reports_that_are_lost():
     two = TwoManagers()
     write_octets("number", image(7, 0))
     with open("/dev/full", "w") as full:
-        lost = subprocess.run([PROGRAM, "-m", MANAGER + "/1", "-u", path, "-k", two.number, "--target", ME, "set", "PRIORITY2", "70"],
-                              stdout=full, stderr=subprocess.DEVNULL)
+        lost = subprocess.run(words_of(two.number, "set", "PRIORITY2", "70"), stdout=full, stderr=subprocess.DEVNULL)
     check("an answer is not printed", lost.returncode == 4 and two.value() == "priority2 70")
     check("the next run prints it", two.is_honest() and two.last == 0 and "ptpm-manage: priority2 70\n" in two.said)
     write_octets("number", image(20, 1, set_of(71)))
     with open("/dev/full", "w") as full:
-        lost = subprocess.run([PROGRAM, "-m", MANAGER + "/1", "-u", path, "-k", two.number, "--target", ME, "get", "DOMAIN"],
-                              stdout=subprocess.PIPE, stderr=full)
+        lost = subprocess.run(words_of(two.number, "get", "DOMAIN"), stdout=subprocess.PIPE, stderr=full)
     check("nor is one of an earlier run", (lost.returncode, lost.stdout) == (4, b"") and two.value() == "priority2 71")
     check("and the next run prints that", two.is_honest() and two.last == 0 and "ptpm-manage: priority2 71\n" in two.said)
     write_octets("number", image(40, 0))
-    lost = subprocess.run(["sh", "-c", 'exec "$@" <&- >&- 2>&-', "sh", PROGRAM, "-m", MANAGER + "/1", "-u", path, "-k", two.number,
-                           "--target", ME, "set", "PRIORITY2", "72"])
+    lost = subprocess.run(["sh", "-c", 'exec "$@" <&- >&- 2>&-', "sh", *words_of(two.number, "set", "PRIORITY2", "72")])
     check("where the streams are closed it is in no file", lost.returncode == 4 and b"priority2" not in octets("number.lock"))
     check("and the next run prints it", two.is_honest() and two.last == 0 and "ptpm-manage: priority2 72\n" in two.said)
     two.clock.end()
@@ -206,13 +206,11 @@ def clocks_that_are_not_there():
 def losses_of_power():
     """A session is on the disk before it is in place of the old one, and the folder after that: before a request goes out, and
     after its answer is reported."""
-    if shutil.which("strace") is None:
-        print("attack: strace is missing")
+    if not HAS_STRACE:
         return
     clock = Clock("-m", MANAGER + "/1", "-u", path, ME)
     kept = ["fsync", "rename", "fsync"]
-    words = [PROGRAM, "-m", MANAGER + "/1", "-w", "0", "-u", path, "-k", os.path.join(work, "number"), "get", "PRIORITY1",
-             "--target", ME]
+    words = words_of(os.path.join(work, "number"), "-w", "0", "get", "PRIORITY1")
     for what, wanted in [("a new session", ["fsync", "sendmsg", *kept, *kept, "sendmsg", "write", *kept]),
                          ("a session", [*kept, "sendmsg", *kept, "sendmsg", "write", *kept])]:
         traced = run("strace", "-e", "trace=fsync,renameat,renameat2,sendmsg,write", *words)
@@ -264,13 +262,13 @@ class TwoManagers:
     def value(self):
         """What the clock has, read by nobody."""
         began = time.monotonic()
-        found = run(PROGRAM, "-u", path, "--target", ME, "get", "PRIORITY2").stdout.strip()
+        found = run(MANAGE, "-u", path, "--target", ME, "get", "PRIORITY2").stdout.strip()
         if found:
             self.wait = max(self.wait, round(2000 * (time.monotonic() - began)))
         return found
 
     def other_sets(self):
-        done = run(PROGRAM, "-m", OTHER + "/1", "-w", "0", "-u", path, "--target", ME, "set", "PRIORITY2", "60")
+        done = run(MANAGE, "-m", OTHER + "/1", "-w", "0", "-u", path, "--target", ME, "set", "PRIORITY2", "60")
         return done.returncode == 0 and self.value() == "priority2 60"
 
     def sets(self, *words):
@@ -383,12 +381,10 @@ def calls_of(trace):
 
 def kills():
     """A run that is killed at any of its system calls, with a file of its session and without one, and the command again."""
-    if shutil.which("strace") is None:
-        print("attack: strace is missing")
+    if not HAS_STRACE:
         return
     two = TwoManagers()
-    words = [PROGRAM, "-k", two.number, "-m", MANAGER + "/1", "-w", "0", "-u", path, "-a", "3", "-t", str(two.wait),
-             "--target", ME, "set", "PRIORITY2", "50"]
+    words = words_of(two.number, "-w", "0", "-a", "3", "-t", str(two.wait), "set", "PRIORITY2", "50")
     for is_new in [True, False]:
         run("strace", "-qq", "-o", os.path.join(work, "trace"), *words)
         calls = calls_of(read("trace"))
@@ -413,7 +409,7 @@ def users():
     os.chmod(folder, 0o755)
     os.mkdir(home)
     os.chown(home, 65534, 65534)
-    program = shutil.copy(PROGRAM, folder)
+    program = shutil.copy(MANAGE, folder)
 
     def run_by_user(*words):
         return subprocess.run([program, "-i", "attack0", "-m", MANAGER + "/1", "--target", ME, *words, "set", "PRIORITY1", "100"],
@@ -433,7 +429,7 @@ def hung_runs():
     """A run that holds its lock and hangs, and one that waits a minute for it: they begin at the first step and end at the second."""
     folder = tempfile.mkdtemp()
     number = os.path.join(folder, "number")
-    words = [PROGRAM, "-m", MANAGER + "/1", "-u", path, "-k", number, "-w", "100000", "--target", ME, "get", "DOMAIN"]
+    words = words_of(number, "-w", "100000", "get", "DOMAIN")
     hung = subprocess.Popen(words, stderr=subprocess.DEVNULL)
     try:
         time.sleep(0.5 * SLOW)

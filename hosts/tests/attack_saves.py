@@ -2,14 +2,14 @@
 what waits, and how the clock ends then."""
 import os
 import re
-import shutil
 import signal
 import subprocess
 import threading
 import time
 
 from attack_wire import Wire
-from attacking import (MANAGER, ME, SLOW, STRANGER, TRACED, Clock, Peer, check, get, message, path, set_of, started, wait_until, work, write)
+from attacking import (HAS_STRACE, MANAGER, ME, SLOW, STRANGER, TRACED, Clock, Peer, check, get, message, path, set_of, started, wait_until, work,
+                       write)
 
 state = os.path.join(work, "slow")
 WORDS = ("-s", state, "-u", path, "-m", MANAGER + "/1", "--manager-rate", "1000")
@@ -161,7 +161,6 @@ def askers_without_end_during_a_save():
     wire.remove()
 
 
-ATTACKS = [strangers_during_a_save, ends_during_a_save, saves_that_fail_beside_strangers, askers_without_end_during_a_save]
-if shutil.which("strace") is None:
-    print("attack_clock: strace is missing")
-    ATTACKS = []
+ATTACKS = []
+if HAS_STRACE:
+    ATTACKS = [strangers_during_a_save, ends_during_a_save, saves_that_fail_beside_strangers, askers_without_end_during_a_save]

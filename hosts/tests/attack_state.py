@@ -9,10 +9,9 @@ import subprocess
 import time
 
 from attack_numbers import next_number
-from attacking import (HOME, MANAGER, ME, OTHER, TRACED, Clock, Peer, check, clear, fill_disk, flips, get, image_in, manage, octets, path, read, run,
-                       saves_in, sealed, started, wait_until, work, write_octets)
+from attacking import (CLOCK, HAS_STRACE, MANAGE, MANAGER, ME, OTHER, TRACED, Clock, Peer, check, clear, fill_disk, flips, get, image_in, manage,
+                       octets, path, read, run, saves_in, sealed, started, wait_until, work, write_octets)
 
-PROGRAM = os.path.join(HOME, "clock")
 NOBODY = 65534
 state, session = (os.path.join(work, name) for name in ("state", "session"))
 UNIX = ("-m", MANAGER + "/1", "-u", path, ME)
@@ -23,7 +22,7 @@ def begins(*words, user=None):
     """A clock that ends as soon as it has started: its status, and what it says."""
     who = {} if user is None else {"user": user, "group": user, "extra_groups": []}
     stays = ["--user", "root"] if user is None and "--user" not in words else []
-    done = subprocess.run([PROGRAM, "-n", "0", *stays, *words], stdout=subprocess.PIPE, stderr=subprocess.STDOUT, text=True, timeout=60, **who)
+    done = subprocess.run([CLOCK, "-n", "0", *stays, *words], stdout=subprocess.PIPE, stderr=subprocess.STDOUT, text=True, timeout=60, **who)
     return done.returncode, done.stdout
 
 
@@ -41,7 +40,7 @@ def sets(number, *words):
 
 def value():
     """What the clock has, read by nobody; None where it does not answer."""
-    said = run(os.path.join(HOME, "manage"), "-u", path, "-a", "10", "--target", ME, "get", "PRIORITY1").stdout
+    said = run(MANAGE, "-u", path, "-a", "10", "--target", ME, "get", "PRIORITY1").stdout
     return int(said.split()[1]) if said.startswith("priority1 ") else None
 
 
@@ -241,14 +240,13 @@ def full_disks():
 
 def calls_that_fail():
     """Each call of a save that fails once, as the third one of this clock: nothing leaves before a later save, and all is well after it."""
-    if shutil.which("strace") is None:
-        print("attack_clock: strace is missing")
+    if not HAS_STRACE:
         return
     for name, at in [("write", 4), ("fsync", 4), ("renameat", 2), ("fsync", 5)]:
         clear()
         with open(os.path.join(work, "output"), "w") as output:
             clock = subprocess.Popen(["strace", "-D", "-qq", "-o", "/dev/null", "-e", f"trace={name}", "-e",
-                                      f"inject={name}:error=EIO:when={at}", PROGRAM, "--user", "root", "-v", *WORDS], stdout=output, stderr=subprocess.STDOUT,
+                                      f"inject={name}:error=EIO:when={at}", CLOCK, "--user", "root", "-v", *WORDS], stdout=output, stderr=subprocess.STDOUT,
                                      env=TRACED)
         started.append(clock)
         wait_until(lambda: "in domain" in read("output"))

@@ -8,7 +8,7 @@ import time
 
 import attacking
 from attack_wire import message_of
-from attacking import EVERY, HOME, MANAGER, OTHER, check, message, run, work
+from attacking import CLOCK, EVERY, HOME, MANAGER, OTHER, check, message, run, work
 
 TOP = os.path.dirname(HOME)
 AGENT_IN_RUST = os.path.join(TOP, "bindings/rust/target/debug/examples/agent")
@@ -16,7 +16,7 @@ AGENT_IN_RUST = os.path.join(TOP, "bindings/rust/target/debug/examples/agent")
 
 def clock_with(*words):
     """How ptpm-clock is called, for an identity and its interfaces."""
-    return lambda identity, interfaces: [os.path.join(HOME, "clock"), *words, identity, *interfaces]
+    return lambda identity, interfaces: [CLOCK, *words, identity, *interfaces]
 
 
 class Site:

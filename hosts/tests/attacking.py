@@ -12,15 +12,15 @@ import time
 import zlib
 
 import trying
-from trying import HOME, check, print_checks
+from trying import CLOCK, HOME, MANAGE, check, print_checks
 
 ME, OTHER, MANAGER = "aabbccfffeddee01", "aabbccfffeddee99", "0011223344556677"
 STRANGER, EVERY = "0a0b0c0d0e0f1011", "ff" * 8
 LIBC = ctypes.CDLL(None, use_errno=True)
 
 
-def is_sanitized(name):
-    with open(os.path.join(HOME, name), "rb") as built:
+def is_sanitized(program):
+    with open(program, "rb") as built:
         octets = built.read()
     return b"__asan_" in octets or b"__ubsan_" in octets
 
@@ -33,8 +33,13 @@ def sanitizer_with(option):
 # Where strace is at a program no leaks can be found, and the runtime would end it with a status of its own.
 TRACED = sanitizer_with("detect_leaks=0")
 
+# What needs it is left out without it.
+HAS_STRACE = shutil.which("strace") is not None
+if not HAS_STRACE:
+    print("strace is missing")
+
 # Programs that were built with a sanitizer take longer for all that they do.
-SLOW = 5 if is_sanitized("clock") or is_sanitized("manage") else 1
+SLOW = 5 if is_sanitized(CLOCK) or is_sanitized(MANAGE) else 1
 started = []            # the programs that may still run: none outlives its attack
 work = tempfile.mkdtemp()
 path = os.path.join(work, "socket")
@@ -196,7 +201,7 @@ def run(*words):
 def manage(*words):
     """Its status, what it writes, and how long it takes. A new session waits for nothing."""
     began = time.monotonic()
-    done = run(os.path.join(HOME, "manage"), "-m", MANAGER + "/1", "-w", "0", *words, "--target", ME)
+    done = run(MANAGE, "-m", MANAGER + "/1", "-w", "0", *words, "--target", ME)
     return done.returncode, done.stdout, time.monotonic() - began
 
 

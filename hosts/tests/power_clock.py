@@ -13,8 +13,8 @@ import subprocess
 import threading
 import time
 
-from power_cuts import CLOCK, FAR, MANAGE, ME, NEAR, WIDTH, Cut, Seen, lose, read, socket_path, value, work
-from trying import run
+from power_cuts import FAR, ME, NEAR, WIDTH, Cut, Seen, lose, read, socket_path, value, work
+from trying import CLOCK, MANAGE, run
 
 MANAGERS = [f"020000fffe0000{number}/1" for number in ("10", "11", "12")]
 # Calls of a save, and how often a start makes them, which looks for room and saves; and further calls of the clock.

@@ -5,9 +5,8 @@ import os
 import re
 import tempfile
 
-from trying import HOME, Link, run
+from trying import MANAGE, Link, run
 
-CLOCK, MANAGE = (os.path.join(HOME, name) for name in ("clock", "manage"))
 ME = "aabbccfffeddee01"
 WIDTH = 7                                   # digits of a number, so that each SET has the same size
 work = tempfile.mkdtemp(dir="/dev/shm" if os.path.isdir("/dev/shm") else None)

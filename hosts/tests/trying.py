@@ -6,6 +6,7 @@ import threading
 import time
 
 HOME = os.path.dirname(os.path.dirname(os.path.abspath(__file__)))
+CLOCK, MANAGE = (os.path.join(HOME, name) for name in ("clock", "manage"))
 passed, failed = 0, 0
 counting = threading.Lock()
 
