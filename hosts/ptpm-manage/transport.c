@@ -22,6 +22,7 @@
 #include <netdb.h>
 #include <stdbool.h>
 #include <stdio.h>
+#include <stdlib.h>
 #include <string.h>
 #include <sys/ioctl.h>
 #include <sys/un.h>
@@ -237,11 +238,14 @@ void tell_unfit_interfaces(void) {
     }
 }
 
-/* A socket beside the one at a path, from which that one is asked. */
+/* A socket beside the one at a path, from which that one is asked. The clock answers to its path, and may run in another folder. So that
+   begins at the root, if there is room. */
 static int open_beside(const char *path) {
-    char own_path[sizeof ((struct sockaddr_un *)0)->sun_path + 32];
-    int size = snprintf(own_path, sizeof own_path, "%s.%ld", path, (long)getpid());
-    if ((size_t)size >= sizeof ((struct sockaddr_un *)0)->sun_path) refuse("--unix %s: the path is too long", path);
+    enum { MOST = sizeof ((struct sockaddr_un *)0)->sun_path, PROCESS = 12 };
+    char own_path[MOST + PROCESS], whole[PATH_MAX];
+    bool has_room = path[0] != '/' && realpath(path, whole) != NULL && strlen(whole) + PROCESS <= MOST;
+    int size = snprintf(own_path, sizeof own_path, "%s.%ld", has_room ? whole : path, (long)getpid());
+    if (size >= MOST) refuse("--unix %s: the path is too long", path);
     return open_unix(own_path);
 }
 

@@ -313,6 +313,10 @@ def _opened(interface: str, family: socket.AddressFamily) -> Tuple[socket.socket
     return group, asking, copies
 
 
+# The most octets of a path that has room for what is put after it.
+_MOST_BESIDE = 107 - len(".4194304.99")
+
+
 class UnixTransport(Transport):
     """The Unix socket of a clock on this machine. Its own socket is next to it in the meantime: the path, a dot, and the number
     of the process. Another number follows if that name is taken."""
@@ -338,9 +342,12 @@ class UnixTransport(Transport):
 
 
 def _bound_beside(opened: socket.socket, clock: str) -> str:
-    """Binds a socket next to a clock's, and returns its path. It has the group of the clock's, so that the clock may write to it."""
+    """Binds a socket next to a clock's, and returns its path. It has the group of the clock's, so that the clock may write to it. The
+    clock may run in another folder, so the path begins at the root, if there is room."""
+    whole = clock if os.path.isabs(clock) else os.path.realpath(clock)
+    beside = whole if len(os.fsencode(whole)) <= _MOST_BESIDE else clock
     for number in itertools.count():
-        own = f"{clock}.{os.getpid()}" + (f".{number}" if number else "")
+        own = f"{beside}.{os.getpid()}" + (f".{number}" if number else "")
         try:
             opened.bind(own)
         except OSError as error:

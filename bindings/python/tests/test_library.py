@@ -5,6 +5,9 @@ from __future__ import annotations
 
 import copy
 import doctest
+import os
+import socket
+import tempfile
 import unittest
 from decimal import Decimal
 from typing import Any
@@ -305,6 +308,14 @@ class Managers(unittest.TestCase):
             [(_, octets)] = asked.handle(1, session.send()).messages
             session.receive(octets)
             self.assertEqual((session.report().members, session.issued), ({"priority1": 100}, 2))
+
+    def test_a_clock_in_another_folder_can_answer(self) -> None:
+        with tempfile.TemporaryDirectory() as folder, socket.socket(socket.AF_UNIX, socket.SOCK_DGRAM) as of_clock:
+            of_clock.bind(f"{folder}/clock")
+            with ptpm.UnixTransport(os.path.relpath(f"{folder}/clock")) as way:
+                self.assertTrue(way.send(b"asked"))
+                octets, sender = of_clock.recvfrom(100)
+                self.assertEqual((octets, os.path.dirname(sender)), (b"asked", os.path.realpath(folder)))
 
     def test_a_path_that_is_too_long_for_a_socket_is_named(self) -> None:
         with self.assertRaisesRegex(OSError, "File name too long: '/tmp/a{200}"):

@@ -38,8 +38,9 @@ struct Way {
 
 impl Way {
     fn open(peer: &Path) -> io::Result<Self> {
+        let peer = fs::canonicalize(peer)?; // the clock answers to the path beside it, and may run in another folder
         let own = peer.with_extension(format!("manager.{}", process::id()));
-        Ok(Self { socket: UnixDatagram::bind(&own)?, own, peer: peer.into() })
+        Ok(Self { socket: UnixDatagram::bind(&own)?, own, peer })
     }
 
     /// The next datagram, if one comes in time.

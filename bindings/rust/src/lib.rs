@@ -85,7 +85,7 @@ pub mod sys;
 mod time_interval;
 
 pub use answers::{Handled, Received, Surveyed};
-pub use asker::{Asker, AskerSettings, Earlier, Handed, Request, DRAWN_OCTETS};
+pub use asker::{Asker, AskerSettings, Earlier, Handed, Request, Standing, Step, DRAWN_OCTETS};
 pub use changed::{Changed, ClockMembers, PortMembers};
 pub use clock::{Clock, Ports, Turn, CLOCK_IMAGE_OCTETS, MOST_READ};
 #[cfg(feature = "alloc")]
