@@ -71,7 +71,8 @@ static void read_address(const char *text) {
 /* An address of IPv6 that each link may have, without the link that is meant. */
 static bool lacks_link(void) {
     const struct sockaddr_in6 *six = (const struct sockaddr_in6 *)&clock_address;
-    return is_six && IN6_IS_ADDR_LINKLOCAL(&six->sin6_addr) && six->sin6_scope_id == 0;
+    bool is_of_link = IN6_IS_ADDR_LINKLOCAL(&six->sin6_addr) || IN6_IS_ADDR_MC_LINKLOCAL(&six->sin6_addr);
+    return is_six && is_of_link && six->sin6_scope_id == 0;
 }
 
 /* Interfaces with one MAC have the same address of IPv6 for their links: then the scope says which one it is. */
@@ -122,12 +123,22 @@ bool own_identity(size_t place, uint8_t identity[8]) {
     return place < end_count && ends[place].interface != NULL && write_own_identity(identity, ends[place].interface);
 }
 
+static bool is_to_group(void) {
+    const struct sockaddr_in *four = (const struct sockaddr_in *)&clock_address;
+    const struct sockaddr_in6 *six = (const struct sockaddr_in6 *)&clock_address;
+    return is_six ? IN6_IS_ADDR_MULTICAST(&six->sin6_addr) : IN_MULTICAST(ntohl(four->sin_addr.s_addr));
+}
+
 static void find_udp(const struct task *task) {
     is_six = task->is_six;
     is_to_one = task->address != NULL;
     is_any_source = task->is_any_source;
-    if (task->address != NULL) read_address(task->address);
-    else clock_size = group(&clock_address, is_six);
+    if (task->address == NULL) {
+        clock_size = group(&clock_address, is_six);
+        return;
+    }
+    read_address(task->address);
+    if (is_six && is_to_group()) use_group(&((const struct sockaddr_in6 *)&clock_address)->sin6_addr);
 }
 
 static void add_end(const char *interface) {
@@ -491,12 +502,6 @@ static bool is_sent_by_itself(const struct arrival *arrival, const uint8_t *octe
 /* The sender of the message that came in last, and the end that it came in at. */
 static struct place latest_place;
 static const struct end *latest_end;
-
-static bool is_to_group(void) {
-    const struct sockaddr_in *four = (const struct sockaddr_in *)&clock_address;
-    const struct sockaddr_in6 *six = (const struct sockaddr_in6 *)&clock_address;
-    return is_six ? IN6_IS_ADDR_MULTICAST(&six->sin6_addr) : IN_MULTICAST(ntohl(four->sin_addr.s_addr));
-}
 
 bool asks_one_address(void) { return is_to_one && !is_to_group(); }
 
