@@ -263,10 +263,14 @@ static bool is_answered_at(const struct sockaddr_un *address) {
     return is_there;
 }
 
-bool ask_own_clock(const char *path) {
+bool is_own_clock_left_out(const char *path) {
     if (own_clock.socket >= 0 || strlen(path) >= sizeof own_clock_address.sun_path) return false;
     strcpy(own_clock_address.sun_path, path);
-    if (!is_answered_at(&own_clock_address)) return false;
+    return is_answered_at(&own_clock_address);
+}
+
+bool ask_own_clock(const char *path) {
+    if (!is_own_clock_left_out(path)) return false;
     own_clock.socket = open_beside(path);
     return true;
 }
