@@ -581,6 +581,13 @@ const char *sender_text(void) {
     return text;
 }
 
+/* What a clock sends by itself with the tag of a VLAN, other than 0, is of another network: no request has a tag. The kernel marks the
+   frame if this host has no interface for that VLAN. */
+static bool is_of_other_network(const uint8_t *message, const struct sockaddr *sender) {
+    bool is_of_other_vlan = ((const struct sockaddr_ll *)sender)->sll_pkttype == PACKET_OTHERHOST;
+    return is_of_other_vlan && (message[TYPE_AT] & LOWER_HALF) != MANAGEMENT_TYPE;
+}
+
 /* The message in what an arrival is, of `found` octets; NULL if it is none for this program. */
 static const uint8_t *message_of(const struct arrival *arrival, const uint8_t *octets, size_t found, struct place *from,
                                  size_t *size) {
@@ -598,7 +605,7 @@ static const uint8_t *message_of(const struct arrival *arrival, const uint8_t *o
     size_t place = is_frame ? message_in(octets, found, end->station) : 0;
     if (is_frame && place == 0 && has_link_group) place = message_to_link(octets, found);
     *size -= place;
-    return is_frame && place == 0 ? NULL : octets + place;
+    return is_frame && (place == 0 || is_of_other_network(octets + place, sender)) ? NULL : octets + place;
 }
 
 const uint8_t *receive_message(size_t *size, int64_t end) {
