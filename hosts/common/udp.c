@@ -7,12 +7,15 @@
 #include <linux/filter.h>
 #include <string.h>
 
+static struct in6_addr group_of_six = { .s6_addr = { 0xff, 0x0e, [14] = 0x01, 0x81 } };        /* ff0e::181 */
+
+void use_group(const struct in6_addr *other) { group_of_six = *other; }
+
 /* The group at a port. */
 static socklen_t group_at(struct sockaddr_storage *to, bool is_six, uint16_t port) {
     if (is_six) {
-        static const struct in6_addr address = { .s6_addr = { 0xff, 0x0e, [14] = 0x01, 0x81 } };        /* ff0e::181 */
         struct sockaddr_in6 *six = (struct sockaddr_in6 *)to;
-        *six = (struct sockaddr_in6){ .sin6_family = AF_INET6, .sin6_port = htons(port), .sin6_addr = address };
+        *six = (struct sockaddr_in6){ .sin6_family = AF_INET6, .sin6_port = htons(port), .sin6_addr = group_of_six };
         return sizeof *six;
     }
     struct sockaddr_in *four = (struct sockaddr_in *)to;

@@ -2,6 +2,7 @@
 #ifndef UDP_H
 #define UDP_H
 
+#include <netinet/in.h>
 #include <stdbool.h>
 #include <sys/socket.h>
 
@@ -28,6 +29,9 @@ bool filter_udp(int socket, bool is_management_alone);
 /* Which right is needed to open such a socket, or one for Ethernet, as a text that follows that of errno. It is empty if errno is
    about no right. */
 const char *right_needed(bool is_ethernet);
+
+/* From now on the group of PTP over IPv6 is another one than ff0e::181, for example ff02::181, whose scope is the link. */
+void use_group(const struct in6_addr *other);
 
 /* The address of that group, and its size. */
 socklen_t group(struct sockaddr_storage *to, bool is_six);

@@ -250,6 +250,22 @@ static bool is_coloured(void) {
 /* Whether a look shows the site, which may have no clock by now; otherwise something failed, and that is said. */
 static bool is_whole(const struct look *look) { return look->report.has_findings || look->status == NOT_ANSWERED; }
 
+static bool is_seen_anywhere(const uint8_t identity[8]) {
+    for (size_t i = 0; i < seen_count(); i++) {
+        if (memcmp(seen_clock(i)->identity, identity, 8) == 0) return true;
+    }
+    return false;
+}
+
+/* Says that a clock of this host is not asked, if none has the identity of an interface at which it would not be heard. */
+static void tell_own_clock(void) {
+    uint8_t identity[8];
+    bool is_missing = false;
+    for (size_t i = 0; own_identity(i, identity); i++) is_missing |= !is_seen_anywhere(identity);
+    if (!is_missing || asks_one_address() || !is_own_clock_left_out(OWN_CLOCK)) return;
+    complain("a ptp4l of this host is not asked: with --unix %s it is asked too", OWN_CLOCK);
+}
+
 /* Prints a page, with the interface or the socket at which no clock answered, if there is one. */
 static void print_page(FILE *to, const char *page) {
     char notice[NOTICE_TEXT];
@@ -392,6 +408,7 @@ int show_status(const struct task *task) {
     find_domains(&domains, task);
     look_until_decided(&look, task, &domains);
     int status = stopped ? BY_SIGNAL + stopped : print_look(&look, NULL, task);
+    if (!stopped) tell_own_clock();
     if (status == 0 && task->site.form != AS_NUMBERS && silent_way() != NULL) status = NOT_ANSWERED;
     bool is_asked = status != NOT_ASKED || task->site.form == AS_PLUGIN;
     if (!stopped && task->site.watch > 0 && is_asked) status = watch(&look, task, &domains);

@@ -72,7 +72,8 @@ static void read_address(const char *text) {
 /* An address of IPv6 that each link may have, without the link that is meant. */
 static bool lacks_link(void) {
     const struct sockaddr_in6 *six = (const struct sockaddr_in6 *)&clock_address;
-    return is_six && IN6_IS_ADDR_LINKLOCAL(&six->sin6_addr) && six->sin6_scope_id == 0;
+    bool is_of_link = IN6_IS_ADDR_LINKLOCAL(&six->sin6_addr) || IN6_IS_ADDR_MC_LINKLOCAL(&six->sin6_addr);
+    return is_six && is_of_link && six->sin6_scope_id == 0;
 }
 
 /* Interfaces with one MAC have the same address of IPv6 for their links: then the scope says which one it is. */
@@ -123,12 +124,22 @@ bool own_identity(size_t place, uint8_t identity[8]) {
     return place < end_count && ends[place].interface != NULL && write_own_identity(identity, ends[place].interface);
 }
 
+static bool is_to_group(void) {
+    const struct sockaddr_in *four = (const struct sockaddr_in *)&clock_address;
+    const struct sockaddr_in6 *six = (const struct sockaddr_in6 *)&clock_address;
+    return is_six ? IN6_IS_ADDR_MULTICAST(&six->sin6_addr) : IN_MULTICAST(ntohl(four->sin_addr.s_addr));
+}
+
 static void find_udp(const struct task *task) {
     is_six = task->is_six;
     is_to_one = task->address != NULL;
     is_any_source = task->is_any_source;
-    if (task->address != NULL) read_address(task->address);
-    else clock_size = group(&clock_address, is_six);
+    if (task->address == NULL) {
+        clock_size = group(&clock_address, is_six);
+        return;
+    }
+    read_address(task->address);
+    if (is_six && is_to_group()) use_group(&((const struct sockaddr_in6 *)&clock_address)->sin6_addr);
 }
 
 static void add_end(const char *interface) {
@@ -256,10 +267,14 @@ static bool is_answered_at(const struct sockaddr_un *address) {
     return is_there;
 }
 
-bool ask_own_clock(const char *path) {
+bool is_own_clock_left_out(const char *path) {
     if (own_clock.socket >= 0 || strlen(path) >= sizeof own_clock_address.sun_path) return false;
     strcpy(own_clock_address.sun_path, path);
-    if (!is_answered_at(&own_clock_address)) return false;
+    return is_answered_at(&own_clock_address);
+}
+
+bool ask_own_clock(const char *path) {
+    if (!is_own_clock_left_out(path)) return false;
     own_clock.socket = open_beside(path);
     return true;
 }
@@ -496,12 +511,6 @@ static bool is_sent_by_itself(const struct arrival *arrival, const uint8_t *octe
 static struct place latest_place;
 static const struct end *latest_end;
 
-static bool is_to_group(void) {
-    const struct sockaddr_in *four = (const struct sockaddr_in *)&clock_address;
-    const struct sockaddr_in6 *six = (const struct sockaddr_in6 *)&clock_address;
-    return is_six ? IN6_IS_ADDR_MULTICAST(&six->sin6_addr) : IN_MULTICAST(ntohl(four->sin_addr.s_addr));
-}
-
 bool asks_one_address(void) { return is_to_one && !is_to_group(); }
 
 bool came_from_asked(void) {
@@ -576,6 +585,13 @@ const char *sender_text(void) {
     return text;
 }
 
+/* What a clock sends by itself with the tag of a VLAN, other than 0, is of another network: no request has a tag. The kernel marks the
+   frame if this host has no interface for that VLAN. */
+static bool is_of_other_network(const uint8_t *message, const struct sockaddr *sender) {
+    bool is_of_other_vlan = ((const struct sockaddr_ll *)sender)->sll_pkttype == PACKET_OTHERHOST;
+    return is_of_other_vlan && (message[TYPE_AT] & LOWER_HALF) != MANAGEMENT_TYPE;
+}
+
 /* The message in what an arrival is, of `found` octets; NULL if it is none for this program. */
 static const uint8_t *message_of(const struct arrival *arrival, const uint8_t *octets, size_t found, struct place *from,
                                  size_t *size) {
@@ -593,7 +609,7 @@ static const uint8_t *message_of(const struct arrival *arrival, const uint8_t *o
     size_t place = is_frame ? message_in(octets, found, end->station) : 0;
     if (is_frame && place == 0 && has_link_group) place = message_to_link(octets, found);
     *size -= place;
-    return is_frame && place == 0 ? NULL : octets + place;
+    return is_frame && (place == 0 || is_of_other_network(octets + place, sender)) ? NULL : octets + place;
 }
 
 const uint8_t *receive_message(size_t *size, int64_t end) {

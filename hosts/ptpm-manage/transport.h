@@ -17,6 +17,9 @@ void find_transport(struct task *task);
 /* Opens it. Ends the program with status 2 if it can't be opened. */
 void open_transport(const struct task *task);
 
+/* Whether a clock of this host has a Unix socket, and is not asked there. */
+bool is_own_clock_left_out(const char *path);
+
 /* Asks a clock of this host too, from now on, on its Unix socket. Whether it can. */
 bool ask_own_clock(const char *path);
 
