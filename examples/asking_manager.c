@@ -99,11 +99,13 @@ static bool receive(size_t *size, uint64_t until) {
 
 static void print_report(void) {
     static char text[PTPM_MOST_FIELD_TEXT];
-    size_t size;
+    size_t size, named;
     uint16_t error;
     enum ptpm_reported answer = ptpm_asker_report(&asker, octets, sizeof octets, &size, &error);
+    named = ptpm_error_name(error, text, sizeof text);
     if (next.tag == EARLIER) printf("an earlier run: ");
-    if (answer == PTPM_REFUSED) printf("refused %.*s\n", (int)ptpm_error_name(error, text, sizeof text), text);
+    if (answer == PTPM_REFUSED && named == 0) printf("refused 0x%04x\n", (unsigned)error);
+    else if (answer == PTPM_REFUSED) printf("refused %.*s\n", (int)named, text);
     else if (next.tag == EARLIER || answer == PTPM_DONE) printf("done\n");
     else printf("%.*s", (int)ptpm_field_text(id, octets, size, text, sizeof text), text);
     fflush(stdout);

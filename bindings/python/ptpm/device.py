@@ -12,7 +12,7 @@ from ._library import library, octets_of
 from .errors import PtpmError
 from .identity import Identity, PortIdentity
 from .ids import Action, IdLike, error_name, id_of
-from .settings import DelayMechanism, write_number
+from .settings import write_number
 
 
 class Objection(IntEnum):
@@ -42,6 +42,7 @@ class Limit:
     -128 to 255, a value of the first octet of the dataField of a SET; -4 is 0xFC. Without such values it has none: the id can't be set
     there. The port 0xFFFF is every port.
 
+    >>> from ptpm import DelayMechanism
     >>> limit = Limit("DELAY_MECHANISM", 1, {DelayMechanism.E2E, DelayMechanism.NO_MECHANISM})
     >>> DelayMechanism.E2E in limit, DelayMechanism.P2P in limit, -4 in Limit("LOG_SYNC_INTERVAL", values=(-4, 1))
     (True, False, True)
