@@ -2,6 +2,7 @@
 #include "ports.h"
 #include "netlink.h"
 #include "output.h"
+#include "socket_option.h"
 #include "udp.h"
 #include <errno.h>
 #include <net/if.h>
@@ -46,7 +47,7 @@ void open_port(const char *interface) {
         say("%s: %s%s", what, strerror(errno), right_needed(transport == ETHERNET));
         exit(2);
     }
-    take_socket(port, opened, if_nametoindex(interface));
+    take_socket(port, opened, index_of(opened, interface));
 }
 
 /* Two ports at one interface would forward to its link what comes from there. */
