@@ -11,7 +11,7 @@ struct printed { char *text; size_t size; };
 /* Finds the program: beside this one, or else in the PATH. Ends the program with status 2 if it is nowhere. */
 void find_ptpm_program(void);
 
-/* What it is given to read, in as many parts each: lines on standard input, and others in a file of this name, if they are not NULL. */
+/* What it is given to read: lines on standard input, and others in a file of this name, unless they are NULL. Both have as many parts. */
 #define FILE_BESIDE "/proc/self/fd/3"
 struct given { const struct piece *lines, *beside; size_t count; };
 

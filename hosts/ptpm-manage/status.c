@@ -41,7 +41,7 @@ enum { LEAST_STEP = 100000000 };
 /* `ptpm site` found something, or failed, or it lacks the answers. */
 enum { FINDINGS = 1 };
 
-/* A look at the site: the answers as lines, those of the look that was made just before it for it, if there is one, and what they show. */
+/* A look at the site: the answers as lines, and what they show. If it is the second of two, it has the lines of the first too. */
 struct look {
     struct lines lines, first;
     struct report report;
@@ -93,7 +93,7 @@ static struct shown_lines lines_beside(const struct look *look, const struct loo
     return (struct shown_lines){ { lines_of(earlier), lines_of(look) }, { lines_of(earlier), first }, true };
 }
 
-/* The same, where each finding counts. */
+/* The same lines. Each finding of them counts. */
 static struct shown_lines lines_alone(const struct look *look, const struct look *earlier) {
     return (struct shown_lines){ { lines_of(earlier), lines_of(look) }, { { NULL, 0 }, { NULL, 0 } }, false };
 }
