@@ -13,6 +13,7 @@
 #include <stdio.h>
 #include <stdlib.h>
 #include <string.h>
+#include <sys/resource.h>
 #include <sys/stat.h>
 #include <time.h>
 #include <unistd.h>
@@ -110,9 +111,18 @@ static struct session_file *new_file(const char *path, bool is_named) {
     return file;
 }
 
+/* A session has two files open: as many as the system allows. */
+static void allow_files(void) {
+    struct rlimit files;
+    if (getrlimit(RLIMIT_NOFILE, &files)) return;
+    files.rlim_cur = files.rlim_max;
+    setrlimit(RLIMIT_NOFILE, &files);
+}
+
 enum found_session open_session_file(struct session_file **opened_file, const char *path, bool is_named,
                                      uint8_t octets[MOST_SESSION_OCTETS], size_t *size) {
     struct session_file *file = *opened_file = new_file(path, is_named);
+    allow_files();
     open_folder(file);
     take_turn(file);
     refuse_mark(path);
