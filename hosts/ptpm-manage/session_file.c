@@ -23,7 +23,11 @@ enum { TURN = 60000, TRY_AGAIN = 10 };     /* the times in milliseconds */
 /* The files that were opened, the latest one first. */
 static struct session_file *opened;
 
-const char *session_path(void) { return opened->path; }
+static const struct session_file *named;
+
+const char *session_path(void) { return named->path; }
+
+void name_session_file(const struct session_file *file) { named = file; }
 
 _Noreturn static void refuse_session_file(const struct session_file *file, const char *why) {
     if (file->is_named) refuse("--numbers %s: %s", file->path, why);
@@ -92,7 +96,7 @@ static void take_turn(struct session_file *file) {
     futimens(lock, NULL);
     if (opened == NULL && atexit(leave_nothing)) refuse_place(file);
     file->next = opened;
-    opened = file;
+    named = opened = file;
 }
 
 /* Whether there is room for a session. */
