@@ -6,6 +6,7 @@
 #include "names.h"
 #include "notices.h"
 #include "program.h"
+#include "session_file.h"
 #include "telling.h"
 #include "words.h"
 #include <stdbool.h>
@@ -78,6 +79,7 @@ int probe_clocks(struct plan *plan, const struct task *task) {
     size_t count = 0;
     struct probe *probes = calloc(plan->count + 1, sizeof *probes);
     if (probes == NULL) give_up("the probes");
+    if (plan->count > 0) state_folder();
     for (size_t i = 0; i < plan->count; i++) {
         if (is_first_of_clock(plan, i)) take_probe(&probes[count++], plan, task, &plan->steps[i]);
     }

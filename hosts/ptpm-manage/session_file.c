@@ -34,11 +34,18 @@ _Noreturn static void refuse_session_file(const struct session_file *file, const
     refuse("nothing was sent: %s: %s", file->path, why);
 }
 
+/* Whether the folder is that of a plan. No option names its file, but a variable its folder. */
+static bool is_of_plan;
+
+static const char *elsewhere(void) {
+    return is_of_plan ? "XDG_STATE_HOME names another folder" : "--numbers FILE keeps the session elsewhere";
+}
+
 _Noreturn void refuse_place(const struct session_file *file) {
     const char *fault = kept_fault();
     if (file->is_named) refuse("the request was not sent: --numbers %s%s: %s", file->path, fault, strerror(errno));
     if (has_own_marks()) refuse("nothing was sent: %s%s: %s", file->path, fault, strerror(errno));
-    refuse("the request was not sent: %s%s: %s; --numbers FILE keeps the session elsewhere", file->path, fault, strerror(errno));
+    refuse("the request was not sent: %s%s: %s; %s", file->path, fault, strerror(errno), elsewhere());
 }
 
 static void open_folder(struct session_file *file) {
@@ -150,13 +157,6 @@ bool write_session_file(struct session_file *file, uint8_t octets[MOST_SESSION_O
 /* The path of the file that is taken if the command line names none. */
 static char usual_path[PATH_MAX];
 
-/* Whether the folder is that of an apply. No option names its file, but a variable its folder. */
-static bool is_of_apply;
-
-static const char *elsewhere(void) {
-    return is_of_apply ? "XDG_STATE_HOME names another folder" : "--numbers FILE keeps the session elsewhere";
-}
-
 /* A variable of the environment that names a folder; NULL if it is not set, or is no absolute path. */
 static const char *folder_in(const char *variable) {
     const char *folder = getenv(variable);
@@ -207,7 +207,7 @@ static void make_parents(void) {
 }
 
 const char *state_folder(void) {
-    is_of_apply = true;
+    is_of_plan = true;
     if (write_folder() >= sizeof usual_path) refuse_long_path();
     make_parents();
     return usual_path;
