@@ -104,9 +104,9 @@ class Network:
         self.middle = Middle(*ends, troubles, seed)
         self.middle.start()
 
-    def link_manager(self, state):
+    def link_manager(self, state, *more):
         """Its end goes up or down."""
-        must("ip", "-n", self.near, "link", "set", "e1", state)
+        must("ip", "-n", self.near, "link", "set", "e1", state, *more)
         if state == "up":
             must("ip", "-n", self.near, "route", "add", "224.0.0.0/4", "dev", "e1")
 
