@@ -169,7 +169,7 @@ static int resume(const struct task *task) {
     if (!find_open_journal(&journal)) refuse("nothing was sent: no apply is open in %s", journals_folder());
     task = as_manager(task, &journal);
     take_up(task, &journal);
-    open_transport(task);
+    if (!task->is_letting_go) open_transport(task);
     int status = task->is_letting_go ? give_up_apply(task, &journal) : carry_out(task, &journal);
     leave_journal(&journal);
     return status;

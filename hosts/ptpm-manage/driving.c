@@ -104,6 +104,7 @@ static void hear(struct driver *driver, const uint8_t *datagram, size_t size) {
     size = copy_datagram(copy, datagram, size);
     ptpm_asker_hear(driver->asker, copy, size, &driver->handed);
     if (driver->handed.what == PTPM_NOTHING && is_error_of_clock(copy, size)) ptpm_asker_hear(driver->asker, copy, size, &driver->handed);
+    if (driver->handed.what == PTPM_NOTHING) judge_unheard(driver->task, copy, size);
 }
 
 /* Hears what comes in before the asker is woken; whether it goes on. */

@@ -70,6 +70,13 @@ static bool is_answered(struct ptpm_session *session, const uint8_t *datagram, s
     return is_error_of_clock(copy, size) && ptpm_session_receive(session, copy, size) == PTPM_ANSWERED;
 }
 
+void judge_unheard(const struct task *task, const uint8_t *copy, size_t size) {
+    static struct ptpm_session judge;
+    static bool is_started;
+    if (!is_started) is_started = ptpm_session_start(&judge, &task->settings) == PTPM_STARTED;
+    if (is_started) tell_unreadable(ptpm_session_receive(&judge, copy, size), source, copy, size);
+}
+
 bool is_answered_before(struct ptpm_session *session, int64_t end) {
     size_t size;
     for (const uint8_t *datagram; (datagram = receive_message(&size, end)) != NULL;) {

@@ -34,4 +34,7 @@ size_t copy_datagram(uint8_t copy[PTPM_MOST_OCTETS], const uint8_t *datagram, si
 /* Whether a copy is an error of the clock that was asked. It is one of the port that was asked from now on. */
 bool is_error_of_clock(uint8_t *copy, size_t size);
 
+/* Says of a copy that answered nothing if it is no message by the rules: the library's asker does not say why. */
+void judge_unheard(const struct task *task, const uint8_t *copy, size_t size);
+
 #endif

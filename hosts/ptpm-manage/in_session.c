@@ -1,7 +1,9 @@
 #include "in_session.h"
 #include "asking.h"
 #include "driving.h"
+#include "monotonic.h"
 #include "notices.h"
+#include "program.h"
 #include "session.h"
 #include "session_file.h"
 #include "telling.h"
@@ -9,6 +11,7 @@
 #include "unanswered.h"
 #include <errno.h>
 #include <stdbool.h>
+#include <stdlib.h>
 #include <string.h>
 
 /* While the asker has more to do, and otherwise the program's status. */
@@ -40,7 +43,7 @@ static void begin(struct run *run, enum unanswered what) {
     begin_driving(&run->driver);
 }
 
-static int give_up(struct run *run) {
+static int end_unanswered(struct run *run) {
     const struct driver *driver = &run->driver;
     return driver->is_way_said ? NOT_ASKED : no_answer(task_of(run), run->what, driver->number, driver->sent);
 }
@@ -49,7 +52,7 @@ static int give_up(struct run *run) {
 
 /* The request of this run is begun. */
 static int note_begun(struct run *run) {
-    if (!run->session.has_file) complain("%s is new: the session begins at number %u", session_path(), run->driver.handed.number);
+    if (!run->session.has_file) complain("%s is new: the session begins at number %u", run->session.file->path, run->driver.handed.number);
     run->session.has_file = true;
     begin(run, REQUEST);
     say_noted(&run->driver);
@@ -73,8 +76,8 @@ static int save(struct run *run) {
     bool is_unsent = run->driver.is_unsent;
     if (save_session(&run->session)) return say_saved(&run->driver) ? run->status : GOES_ON;
     if (!run->is_reported && !is_unsent) refuse_place(run->session.file);
-    complain("%s: %s: the next run asks this again", session_path(), strerror(errno));
-    return is_unsent ? give_up(run) : run->status;
+    complain("%s: %s: the next run asks this again", run->session.file->path, strerror(errno));
+    return is_unsent ? end_unanswered(run) : run->status;
 }
 
 /* ---- a request */
@@ -85,7 +88,7 @@ static int do_handed(struct run *run) {
     case PTPM_NOTE_BEGUN: return note_begun(run);
     case PTPM_NOTE_ANSWER: return note_answer(run);
     case PTPM_SAVE_IT: return save(run);
-    default: return give_up(run);
+    default: return end_unanswered(run);
     }
 }
 
@@ -150,8 +153,17 @@ int ask_in_session(const struct task *task) {
     return finish_run(&run);
 }
 
-int ask_and_report(const struct task *task, reporting *report) {
-    static struct run run;
-    open_run(&run, task, report);
-    return finish_run(&run);
+struct run *take_run(const struct task *task, reporting *report) {
+    struct run *run = malloc(sizeof *run);
+    if (run == NULL) give_up("a session");
+    open_run(run, task, report);
+    if (!run->session.has_file) run->driver.opened = milliseconds();
+    return run;
+}
+
+int end_run(struct run *run) {
+    name_session_file(run->session.file);
+    int status = finish_run(run);
+    free(run);
+    return status;
 }

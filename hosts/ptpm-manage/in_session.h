@@ -14,7 +14,12 @@ typedef int reporting(const struct task *task, const struct answer *answer);
    after the other. Prints what each answer says; the program's status. */
 int ask_in_session(const struct task *task);
 
-/* The same, over a transport that is open, and the answers are given to `report`. */
-int ask_and_report(const struct task *task, reporting *report);
+/* A run of the same over a transport that is open, in parts. The answer is given to `report`. New sessions that were taken before any was
+   asked in wait at the same time. */
+struct run;
+struct run *take_run(const struct task *task, reporting *report);
+
+/* Asks, and leaves the session; the program's status. */
+int end_run(struct run *run);
 
 #endif

@@ -15,6 +15,7 @@
 #include "stopping.h"
 #include "transport.h"
 #include <errno.h>
+#include <stdbool.h>
 #include <stdio.h>
 #include <string.h>
 
@@ -22,7 +23,8 @@ const char program[] = "ptpm-manage";
 
 /* Asks it. */
 static int ask(struct task *task) {
-    find_transport(task);
+    bool sends_nothing = task->plan.verb == RESUME && task->is_letting_go;
+    if (!sends_nothing) find_transport(task);
     if (task->plan.verb != NO_PLAN) return change_site(task);
     int status = task->is_survey ? ANSWERED : judge_request(task);
     if (status != ANSWERED) return status;

@@ -5,10 +5,13 @@
 #include "in_session.h"
 #include "names.h"
 #include "notices.h"
+#include "program.h"
+#include "session_file.h"
 #include "telling.h"
 #include "words.h"
 #include <stdbool.h>
 #include <stdio.h>
+#include <stdlib.h>
 #include <string.h>
 
 /* Of the plan that is probed, the latest refusal; 0 if the clock did not refuse. */
@@ -48,18 +51,24 @@ static void add_refusal(struct plan *plan, const struct task *task, const char *
     add_warning(plan, text, task->is_json);
 }
 
-static int probe(struct plan *plan, const struct task *task, const struct step *first) {
-    static struct task request;
+/* What a clock is asked, and the session for it. */
+struct probe { struct task request; struct run *run; };
+
+static void take_probe(struct probe *probe, const struct plan *plan, const struct task *task, const struct step *first) {
+    probe->request = *task;
+    probe->request.action = PTPM_SET;
+    probe->request.id = PTPM_ID_NULL_PTP_MANAGEMENT;
+    probe->request.port = port_of(plan, first);
+    probe->request.settings.domain = first->domain;
+    memcpy(probe->request.settings.target, first->clock, 8);
+    probe->run = take_run(&probe->request, take_answer);
+}
+
+static int end_probe(struct plan *plan, const struct probe *probe, const struct task *task) {
     char clock[IDENTITY_TEXT];
-    write_identity(clock, first->clock);
+    write_identity(clock, probe->request.settings.target);
     show_progress("%s: does it take SETs of this manager?", clock);
-    request = *task;
-    request.action = PTPM_SET;
-    request.id = PTPM_ID_NULL_PTP_MANAGEMENT;
-    request.port = port_of(plan, first);
-    request.settings.domain = first->domain;
-    memcpy(request.settings.target, first->clock, 8);
-    int status = ask_and_report(&request, take_answer);
+    int status = end_run(probe->run);
     if (status == ANSWERED && refusal != 0) add_refusal(plan, task, clock);
     if (status == NOT_ANSWERED) complain("%s gave no answer: whether it takes SETs of this manager is not known", clock);
     return status;
@@ -67,9 +76,15 @@ static int probe(struct plan *plan, const struct task *task, const struct step *
 
 int probe_clocks(struct plan *plan, const struct task *task) {
     int status = ANSWERED;
-    for (size_t i = 0; i < plan->count && status == ANSWERED; i++) {
-        if (is_first_of_clock(plan, i)) status = probe(plan, task, &plan->steps[i]);
+    size_t count = 0;
+    struct probe *probes = calloc(plan->count + 1, sizeof *probes);
+    if (probes == NULL) give_up("the probes");
+    if (plan->count > 0) state_folder();
+    for (size_t i = 0; i < plan->count; i++) {
+        if (is_first_of_clock(plan, i)) take_probe(&probes[count++], plan, task, &plan->steps[i]);
     }
+    for (size_t i = 0; i < count && status == ANSWERED; i++) status = end_probe(plan, &probes[i], task);
+    free(probes);
     if (has_settled_change()) {
         add_warning(plan, "a request of an earlier run was carried out after the clocks were read: plan again", task->is_json);
     }

@@ -18,4 +18,7 @@ uint16_t port_of_nobody(uint8_t action);
    and each other one is the next. */
 bool read_by_nobody(const struct task *task, uint16_t id, uint8_t attempts, struct answer *answer);
 
+/* Why the latest read had no way, after a colon and a space; empty if it had one. The text is there until the next call. */
+const char *why_unread(void);
+
 #endif

@@ -13,6 +13,7 @@
 #include <stdio.h>
 #include <stdlib.h>
 #include <string.h>
+#include <sys/resource.h>
 #include <sys/stat.h>
 #include <time.h>
 #include <unistd.h>
@@ -22,18 +23,29 @@ enum { TURN = 60000, TRY_AGAIN = 10 };     /* the times in milliseconds */
 /* The files that were opened, the latest one first. */
 static struct session_file *opened;
 
-const char *session_path(void) { return opened->path; }
+static const struct session_file *named;
+
+const char *session_path(void) { return named->path; }
+
+void name_session_file(const struct session_file *file) { named = file; }
 
 _Noreturn static void refuse_session_file(const struct session_file *file, const char *why) {
     if (file->is_named) refuse("--numbers %s: %s", file->path, why);
     refuse("nothing was sent: %s: %s", file->path, why);
 }
 
+/* Whether the folder is that of a plan. No option names its file, but a variable its folder. */
+static bool is_of_plan;
+
+static const char *elsewhere(void) {
+    return is_of_plan ? "XDG_STATE_HOME names another folder" : "--numbers FILE keeps the session elsewhere";
+}
+
 _Noreturn void refuse_place(const struct session_file *file) {
     const char *fault = kept_fault();
     if (file->is_named) refuse("the request was not sent: --numbers %s%s: %s", file->path, fault, strerror(errno));
     if (has_own_marks()) refuse("nothing was sent: %s%s: %s", file->path, fault, strerror(errno));
-    refuse("the request was not sent: %s%s: %s; --numbers FILE keeps the session elsewhere", file->path, fault, strerror(errno));
+    refuse("the request was not sent: %s%s: %s; %s", file->path, fault, strerror(errno), elsewhere());
 }
 
 static void open_folder(struct session_file *file) {
@@ -91,7 +103,7 @@ static void take_turn(struct session_file *file) {
     futimens(lock, NULL);
     if (opened == NULL && atexit(leave_nothing)) refuse_place(file);
     file->next = opened;
-    opened = file;
+    named = opened = file;
 }
 
 /* Whether there is room for a session. */
@@ -110,9 +122,18 @@ static struct session_file *new_file(const char *path, bool is_named) {
     return file;
 }
 
+/* A session has two files open: as many as the system allows. */
+static void allow_files(void) {
+    struct rlimit files;
+    if (getrlimit(RLIMIT_NOFILE, &files)) return;
+    files.rlim_cur = files.rlim_max;
+    setrlimit(RLIMIT_NOFILE, &files);
+}
+
 enum found_session open_session_file(struct session_file **opened_file, const char *path, bool is_named,
                                      uint8_t octets[MOST_SESSION_OCTETS], size_t *size) {
     struct session_file *file = *opened_file = new_file(path, is_named);
+    allow_files();
     open_folder(file);
     take_turn(file);
     refuse_mark(path);
@@ -135,13 +156,6 @@ bool write_session_file(struct session_file *file, uint8_t octets[MOST_SESSION_O
 
 /* The path of the file that is taken if the command line names none. */
 static char usual_path[PATH_MAX];
-
-/* Whether the folder is that of an apply. No option names its file, but a variable its folder. */
-static bool is_of_apply;
-
-static const char *elsewhere(void) {
-    return is_of_apply ? "XDG_STATE_HOME names another folder" : "--numbers FILE keeps the session elsewhere";
-}
 
 /* A variable of the environment that names a folder; NULL if it is not set, or is no absolute path. */
 static const char *folder_in(const char *variable) {
@@ -193,7 +207,7 @@ static void make_parents(void) {
 }
 
 const char *state_folder(void) {
-    is_of_apply = true;
+    is_of_plan = true;
     if (write_folder() >= sizeof usual_path) refuse_long_path();
     make_parents();
     return usual_path;

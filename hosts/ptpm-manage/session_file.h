@@ -40,8 +40,9 @@ bool write_session_file(struct session_file *file, uint8_t octets[MOST_SESSION_O
 /* Ends the program, status 2: nothing can be kept there, as errno says, so the request was not sent. */
 _Noreturn void refuse_place(const struct session_file *file);
 
-/* The path of the file that was opened last. */
+/* The path of the file that was opened or named last. */
 const char *session_path(void);
+void name_session_file(const struct session_file *file);
 
 /* The folder of the files that no command line names, and it is made with the first of them. Those above it are made if they are
    missing. Ends the program with status 2 if there is no such folder. The text is there until the next call of this or the next. */

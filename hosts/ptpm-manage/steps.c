@@ -12,7 +12,6 @@
 #include <errno.h>
 #include <stdlib.h>
 #include <string.h>
-#include <sys/resource.h>
 #include <time.h>
 
 static struct desk **desks;
@@ -35,17 +34,8 @@ static void take_session(const struct task *task, const struct step *first) {
     desks[desk_count++] = desk;
 }
 
-/* A session has two files open: as many as the system allows. */
-static void allow_files(void) {
-    struct rlimit files;
-    if (getrlimit(RLIMIT_NOFILE, &files)) return;
-    files.rlim_cur = files.rlim_max;
-    setrlimit(RLIMIT_NOFILE, &files);
-}
-
 /* The first step of each clock without an answer counts: its port is asked first. */
 void take_sessions(const struct task *task, const struct journal *journal) {
-    allow_files();
     for (size_t i = 0; i < journal->count; i++) {
         if (journal->told[i].outcome == NOT_TOLD && desk_of(&journal->steps[i]) == NULL) take_session(task, &journal->steps[i]);
     }

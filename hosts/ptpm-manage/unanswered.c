@@ -20,7 +20,7 @@ static bool say_value(const struct task *task) {
         complain("the clock answers reads%s", answer.outcome == PTPM_VALUE ? ", and has by now" : "");
         if (answer.outcome == PTPM_VALUE) print_answer(stderr, task, "ptpm-manage: ", &answer);
     } else if (!stopped) {
-        complain("it answers no read either");
+        complain("it answers no read either%s", why_unread());
     }
     return is_answered;
 }

@@ -57,15 +57,21 @@ class Way:
         copies = 1 + self.happens(self.troubles.repeat, "repeated")
         is_held = self.held is None and self.happens(self.troubles.swap, "swapped")
         for _ in range(copies - is_held):
-            os.write(self.end, frame)
+            self.write(frame)
         if is_held:
             self.held, self.held_until = frame, time.monotonic() + LONGEST_HELD
         else:
             self.release()
 
+    def write(self, frame):
+        try:
+            os.write(self.end, frame)
+        except OSError:                     # the end is down
+            self.counts["lost"] += 1
+
     def release(self):
         if self.held is not None:
-            os.write(self.end, self.held)
+            self.write(self.held)
         self.held = None
 
     def release_late(self):

@@ -93,12 +93,18 @@ class Network:
     def connect_manager(self, troubles, seed):
         near, far = f"pn{os.getpid()}", f"pf{os.getpid()}"
         ends = tap(near, self.near), tap(far, self.hub)
-        must("ip", "-n", self.near, "link", "set", near, "name", "e1", "address", MANAGERS_STATION, "up")
+        must("ip", "-n", self.near, "link", "set", near, "name", "e1", "address", MANAGERS_STATION)
         must("ip", "-n", self.near, "addr", "add", "10.9.0.10/24", "dev", "e1")
-        must("ip", "-n", self.near, "route", "add", "224.0.0.0/4", "dev", "e1")
+        self.link_manager("up")
         must("ip", "-n", self.hub, "link", "set", far, "master", "link0", "up")
         self.middle = Middle(*ends, troubles, seed)
         self.middle.start()
+
+    def link_manager(self, state, *more):
+        """Its end goes up or down."""
+        must("ip", "-n", self.near, "link", "set", "e1", state, *more)
+        if state == "up":
+            must("ip", "-n", self.near, "route", "add", "224.0.0.0/4", "dev", "e1")
 
     def connect(self, namespace, device, name, link, address):
         """A device of a namespace, at a link or, if that is None, at nothing."""
