@@ -76,7 +76,6 @@ impl Run {
 
     /// Does what is handed out until there is an answer.
     fn carry_out(&mut self, mut next: Handed) -> Result<(), Box<dyn Error>> {
-        let (mut room, mut image, mut datagram) = ([0; MOST_OCTETS], [0; SESSION_IMAGE_OCTETS], [0; 65536]);
         let mut wake = None;
         loop {
             next = match next {
@@ -87,37 +86,42 @@ impl Run {
                     self.asker.noted()?
                 }
                 Handed::SaveIt => {
-                    self.file.save(self.asker.image(&mut image)?)?;
+                    self.file.save(self.asker.image(&mut [0; SESSION_IMAGE_OCTETS])?)?;
                     self.asker.saved(self.now())?
                 }
                 Handed::SendIt { wake: time } | Handed::SendRead { wake: time } => {
                     wake = Some(time);
-                    let is_out = self.way.socket.send_to(self.asker.message(&mut room)?, &self.way.peer).is_ok();
-                    let is_read = matches!(next, Handed::SendRead { .. });
-                    if is_out || is_read {
-                        Handed::Nothing
-                    } else {
-                        self.asker.unsent()?
-                    }
+                    self.send(matches!(next, Handed::SendRead { .. }))?
                 }
                 Handed::Wait { wake: time } => {
                     wake = Some(time);
                     Handed::Nothing
                 }
-                Handed::Nothing => {
-                    let Some(time) = wake else { return Ok(()) };
-                    let time = Duration::from_millis(time.saturating_sub(self.now()));
-                    match self.way.receive(&mut datagram, time)? {
-                        Some(datagram) => self.asker.hear(datagram)?,
-                        None => self.asker.wake(self.now())?,
-                    }
-                }
+                Handed::Nothing => match wake {
+                    Some(time) => self.hear(time)?,
+                    None => return Ok(()),
+                },
                 Handed::Failed { was_sent: true, .. } => {
                     return Err("no answer: a SET may have been carried out, and the next run asks again".into())
                 }
                 _ => return Err("no answer, and nothing was sent".into()),
             };
         }
+    }
+
+    /// Sends a message. A read that did not leave is as good as lost.
+    fn send(&mut self, is_read: bool) -> Result<Handed, Box<dyn Error>> {
+        let is_out = self.way.socket.send_to(self.asker.message(&mut [0; MOST_OCTETS])?, &self.way.peer).is_ok();
+        Ok(if is_out || is_read { Handed::Nothing } else { self.asker.unsent()? })
+    }
+
+    /// Waits for a datagram, until it is time for the asker to go on.
+    fn hear(&mut self, time: u64) -> Result<Handed, Box<dyn Error>> {
+        let time = Duration::from_millis(time.saturating_sub(self.now()));
+        Ok(match self.way.receive(&mut [0; 65536], time)? {
+            Some(datagram) => self.asker.hear(datagram)?,
+            None => self.asker.wake(self.now())?,
+        })
     }
 
     fn print(&self, tag: u64) -> Result<(), Box<dyn Error>> {

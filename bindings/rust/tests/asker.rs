@@ -73,13 +73,8 @@ impl Host {
                     Handed::Nothing
                 }
                 Handed::NoteAnswer { tag, number } => {
-                    (self.begun, self.told) = (None, Some(number));
-                    let mut room = [0; MOST_DATA];
-                    if let Report::Value(field) = asker.report(&mut room)? {
-                        self.answers.push((tag, field.to_vec()));
-                    }
                     due = None;
-                    asker.noted()?
+                    self.note_answer(asker, tag, number)?
                 }
                 Handed::Nothing => match due {
                     Some(wake) => {
@@ -91,6 +86,14 @@ impl Host {
                 other => panic!("{other:?}"),
             };
         }
+    }
+
+    fn note_answer(&mut self, asker: &mut Asker, tag: u64, number: u16) -> Result<Handed, Error> {
+        (self.begun, self.told) = (None, Some(number));
+        if let Report::Value(field) = asker.report(&mut [0; MOST_DATA])? {
+            self.answers.push((tag, field.to_vec()));
+        }
+        asker.noted()
     }
 
     fn exchange(&mut self, asker: &mut Asker) -> Result<Handed, Error> {

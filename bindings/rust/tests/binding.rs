@@ -122,9 +122,9 @@ fn messages_are_lent_from_the_outbox() {
     assert_eq!((nothing.handled(), nothing.messages.len()), (Handled::TooShort, 0));
 }
 
-#[test]
-fn settings_have_their_places() {
-    let settings = ClockSettings {
+/// Settings of which each has a value of its own.
+fn marked_settings() -> ClockSettings {
+    ClockSettings {
         domain: 0x2a,
         user_description: "Rack 4".into(),
         two_step: true,
@@ -152,18 +152,23 @@ fn settings_have_their_places() {
         frequency_traceable: true,
         time_source: 0x90,
         ..ClockSettings::new(identity(CLOCK))
-    };
-    let port = PortSettings {
-        peer_delay: TimeInterval(0x0a0b_0c0d_0e0f_1a1b),
-        state: PortState::PreMaster,
-        log_min_delay_req: -11,
-        log_announce: 3,
-        receipt_timeout: 7,
-        log_sync: -6,
-        delay_mechanism: DelayMechanism::PeerToPeer,
-        log_min_pdelay: 4,
-    };
-    let mut clock = Clock::start(&settings, &[port], &[]).expect("it starts");
+    }
+}
+
+const MARKED_PORT: PortSettings = PortSettings {
+    peer_delay: TimeInterval(0x0a0b_0c0d_0e0f_1a1b),
+    state: PortState::PreMaster,
+    log_min_delay_req: -11,
+    log_announce: 3,
+    receipt_timeout: 7,
+    log_sync: -6,
+    delay_mechanism: DelayMechanism::PeerToPeer,
+    log_min_pdelay: 4,
+};
+
+#[test]
+fn settings_have_their_places() {
+    let mut clock = Clock::start(&marked_settings(), &[MARKED_PORT], &[]).expect("it starts");
     assert_eq!(clock.identity(), Ok(identity(CLOCK)));
     reads(&mut clock, ManagementId::USER_DESCRIPTION, 0, "065261636b203400");
     reads(&mut clock, ManagementId::DEFAULT_DATA_SET, 0, "01000001434422313246aabbccfffeddee012a00");
