@@ -87,8 +87,8 @@ def files_in_the_way():
     clock.end()
 
 
-def sessions():
-    """Images of sessions that were written by hand: those that are refused, and how those of this manager go on."""
+def files_without_a_session():
+    """Images of sessions that were written by hand, and are refused."""
     whole = image(7, 2)
     refused = [(whole[:size], "NOT_AN_IMAGE" if size < 12 else "DAMAGED") for size in range(len(whole))] + [
         (b"ptpn" + whole[4:], "NOT_AN_IMAGE"), (whole[:5] + b"\2" + whole[6:], "OTHER_VERSION"),
@@ -105,6 +105,12 @@ def sessions():
             wrong.append((content.hex(), two.said))
     check(f"{len(refused)} files without a session are refused by name, and stay, except {wrong}", wrong == [])
     check("nothing was sent then", two.value() == "priority2 128")
+    two.clock.end()
+
+
+def sessions():
+    """How sessions of this manager go on whose images were written by hand."""
+    two = TwoManagers()
     for content, words, after in [
             (image(7, 2), (), image(7, 4)),
             (image(100, 2, set_of(77)), (), image(100, 4)),
@@ -481,5 +487,5 @@ def places_without_room():
     two.clock.end()
 
 
-ATTACKS = [number_files, files_in_the_way, sessions, seals, reports_that_are_lost, runs_at_once, runs_beside_each_other,
+ATTACKS = [number_files, files_in_the_way, files_without_a_session, sessions, seals, reports_that_are_lost, runs_at_once, runs_beside_each_other,
            clocks_that_are_not_there, losses_of_power, damages, old_files, latest_numbers, kills, places_without_room, users]
