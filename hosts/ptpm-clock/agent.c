@@ -117,13 +117,21 @@ static void print_all_changed(const struct ptpm_changed *changed) {
     }
 }
 
+/* What the clock makes of a datagram. */
+struct turn {
+    const struct heard *heard;
+    const struct ptpm_say *say;         /* what the device says of it, or NULL */
+    struct ptpm_sent *places;           /* the messages that are to go out, */
+    size_t count;                       /* and how many these are */
+    struct ptpm_changed changed;        /* found only if the device or the owner has a say, or with -v */
+};
+
 /* A message to a program that asked on the Unix socket goes back there, at once if nothing is to be saved. Any other goes out
    with the round. How many messages were not taken. */
-static unsigned long send_out(const struct ptpm_sent *message, const struct heard *heard, const struct port *port,
-                              uint16_t ingress) {
-    if (message->port != ingress) send_later(message, NULL);
-    else if (port == NULL && !is_unsaved) return !answer_peer(message, heard);
-    else if (port == NULL) answer_later(message, heard);
+static unsigned long send_out(const struct ptpm_sent *message, const struct heard *heard) {
+    if (message->port != ingress_of(heard)) send_later(message, NULL);
+    else if (heard->port == NULL && !is_unsaved) return !answer_peer(message, heard);
+    else if (heard->port == NULL) answer_later(message, heard);
     else send_later(message, heard->is_unicast ? heard : NULL);
     return 0;
 }
@@ -133,25 +141,29 @@ static unsigned long send_saved(void) { return end_round(save_changes(&clock_hel
 
 /* Sends what a turn sends, or has it wait, except what is kept from the network. `left` is how many messages that leaves. How
    many of these were not taken. */
-static inline unsigned long hand_on(const struct heard *heard, const struct port *port, uint16_t ingress, enum ptpm_handled answer,
-                                    const struct ptpm_sent *places, size_t count, size_t *left) {
+static inline unsigned long hand_on(const struct turn *turn, enum ptpm_handled answer, size_t *left) {
     const struct ptpm_sent *kept[PTPM_MOST_SENT];
     unsigned long lost = 0;
     count_answer(answer);
     if (answer == PTPM_ANSWERED_NEW) note_change();
-    *left = keep_back(heard, port, ingress, answer, places, count, kept);
-    for (size_t i = 0; i < *left; i++) lost += send_out(kept[i], heard, port, ingress);
-    use_places(count);
+    *left = keep_back(turn->heard, answer, turn->places, turn->count, kept);
+    for (size_t i = 0; i < *left; i++) lost += send_out(kept[i], turn->heard);
+    use_places(turn->count);
     return lost;
 }
 
+static enum ptpm_handled handle_said(struct ptpm_clock *clock, struct turn *turn, const struct ptpm_say *say) {
+    const struct heard *heard = turn->heard;
+    return ptpm_clock_handle_said(clock, ingress_of(heard), heard->octets, heard->size, say, turn->places, PTPM_MOST_SENT, &turn->count,
+                                  &turn->changed);
+}
+
 /* A turn with what the device says. A change that its program agreed to is not overtaken, since no other is taken meanwhile. */
-static enum ptpm_handled hand_in_said(struct ptpm_clock *clock, uint16_t ingress, const struct heard *heard,
-                                      const struct ptpm_say *say, struct ptpm_sent *places, size_t *count,
-                                      struct ptpm_changed *changed) {
-    enum ptpm_handled answer = ptpm_clock_handle_said(clock, ingress, heard->octets, heard->size, say, places, PTPM_MOST_SENT, count,
-                                                      changed);
-    if (say->kind != PTPM_GIVES && answer != PTPM_ANSWERED_NEW) say_at_times("a change that the device has decided is not made: %s", answer_name(answer));
+static enum ptpm_handled hand_in_said(struct ptpm_clock *clock, struct turn *turn) {
+    enum ptpm_handled answer = handle_said(clock, turn, turn->say);
+    if (turn->say->kind != PTPM_GIVES && answer != PTPM_ANSWERED_NEW) {
+        say_at_times("a change that the device has decided is not made: %s", answer_name(answer));
+    }
     return answer;
 }
 
@@ -165,70 +177,64 @@ static bool copy_clock(struct ptpm_clock *copy, const struct ptpm_manager_settin
 }
 
 /* What the device's owner asks has no manager. A copy of the clock whose one manager is its sender judges it, and makes the answers.
-   What that one carries out is carried out here. `say` has a value that the device gives, or is NULL. */
-static enum ptpm_handled hand_in_of_owner(const struct heard *heard, const struct ptpm_say *say, struct ptpm_sent *places,
-                                          size_t *count, struct ptpm_changed *changed) {
+   What that one carries out is carried out here. */
+static enum ptpm_handled hand_in_of_owner(struct turn *turn) {
     static const struct ptpm_say nothing;
     static struct ptpm_clock copy;
+    const struct heard *heard = turn->heard;
     struct ptpm_manager_settings owner = sender_of(heard);
     struct ptpm_question asked;
     uint16_t error;
-    *changed = (struct ptpm_changed){ 0 };
-    *count = 0;
     if (!copy_clock(&copy, &owner, 1)) return PTPM_HANDLE_NO_CLOCK;
     bool is_change = ptpm_clock_ask(&copy, 1, heard->octets, heard->size, &asked) == PTPM_ASKED_CHANGE;
-    enum ptpm_handled answer = ptpm_clock_handle_said(&copy, 1, heard->octets, heard->size, say != NULL ? say : &nothing, places,
-                                                      PTPM_MOST_SENT, count, changed);
+    enum ptpm_handled answer = handle_said(&copy, turn, turn->say != NULL ? turn->say : &nothing);
     ptpm_clock_stop(&copy);
     if (!is_change) return answer == PTPM_ANSWERED_NEW ? PTPM_ANSWERED_UNNUMBERED : answer;     /* nothing is to be saved */
-    ptpm_clock_set(&clock_held, asked.action, asked.id, asked.port, asked.octets, asked.size, changed, &error);
+    ptpm_clock_set(&clock_held, asked.action, asked.id, asked.port, asked.octets, asked.size, &turn->changed, &error);
     return answer;
 }
 
 /* Hands in what may change the clock, for the device too if it says something. */
-static enum ptpm_handled hand_in(struct ptpm_clock *clock, uint16_t ingress, const struct heard *heard, const struct ptpm_say *say,
-                                 struct ptpm_sent *places, size_t *count, struct ptpm_changed *changed) {
-    if (heard->is_of_owner) return hand_in_of_owner(heard, say, places, count, changed);
-    if (say != NULL) return hand_in_said(clock, ingress, heard, say, places, count, changed);
-    return ptpm_clock_handle_changed(clock, ingress, heard->octets, heard->size, places, PTPM_MOST_SENT, count, changed);
+static enum ptpm_handled hand_in(struct ptpm_clock *clock, struct turn *turn) {
+    const struct heard *heard = turn->heard;
+    if (heard->is_of_owner) return hand_in_of_owner(turn);
+    if (turn->say != NULL) return hand_in_said(clock, turn);
+    return ptpm_clock_handle_changed(clock, ingress_of(heard), heard->octets, heard->size, turn->places, PTPM_MOST_SENT, &turn->count,
+                                     &turn->changed);
 }
 
 /* A turn with lines of what became of it and what it changed. To find that costs more than the turn does. */
-static unsigned long take_verbose_turn(const struct heard *heard, const struct port *port, uint16_t ingress,
-                                       const struct ptpm_say *say, struct ptpm_sent *places) {
-    struct ptpm_changed changed;
-    size_t count, left;
-    enum ptpm_handled answer = hand_in(&clock_held, ingress, heard, say, places, &count, &changed);
-    unsigned long lost = hand_on(heard, port, ingress, answer, places, count, &left);
+static unsigned long take_verbose_turn(struct turn *turn) {
+    size_t left;
+    enum ptpm_handled answer = hand_in(&clock_held, turn);
+    unsigned long lost = hand_on(turn, answer, &left);
     bool is_done = save_changes(&clock_held);
     lost += end_round(is_done);
-    print_line("port %u, %zu octets: %u %s, %zu of %zu sent", ingress, heard->whole, answer, answer_name(answer), left - lost, count);
-    if (is_done) print_all_changed(&changed);
+    print_line("port %u, %zu octets: %u %s, %zu of %zu sent", ingress_of(turn->heard), turn->heard->whole, answer, answer_name(answer),
+               left - lost, turn->count);
+    if (is_done) print_all_changed(&turn->changed);
     return lost;
 }
 
-static uint16_t ingress_of(const struct port *port) { return port == NULL ? 1 : (uint16_t)(port - ports + 1); }
-
-/* What becomes of a datagram, with what the device says of it, or NULL. Port is NULL for the Unix socket. How many messages were not
-   taken. During a save it is for the clock before the save, which only managers could change, and their requests wait. */
-static unsigned long take_turn(struct heard *heard, const struct port *port, const struct ptpm_say *say) {
-    struct ptpm_changed changed;
-    size_t count, left;
-    uint16_t ingress = ingress_of(port);
+/* What becomes of a datagram, with what the device says of it, or NULL. How many messages were not taken. During a save it is for the
+   clock before the save, which only managers could change, and their requests wait. */
+static unsigned long take_turn(struct heard *heard, const struct ptpm_say *say) {
     lower_hops(heard);
-    struct ptpm_sent *places = places_to_send();
-    if (places == NULL) {
+    struct turn turn = { .heard = heard, .say = say, .places = places_to_send() };
+    if (turn.places == NULL) {
         count_dropped(send_saved());
-        places = places_to_send();
+        turn.places = places_to_send();
     }
     struct ptpm_clock *clock = is_saving ? &clock_before : &clock_held;
-    if (has_values && say == NULL) say = value_to_give(clock, ingress, heard);
-    if (options->is_verbose) return take_verbose_turn(heard, port, ingress, say, places);
-    bool is_simple = say == NULL && !heard->is_of_owner;
-    enum ptpm_handled answer = is_simple ? ptpm_clock_handle(clock, ingress, heard->octets, heard->size, places, PTPM_MOST_SENT, &count)
-                                         : hand_in(clock, ingress, heard, say, places, &count, &changed);
-    if (is_saving && answer == PTPM_ANSWERED_NEW) return count;         /* nobody is shown what is not saved */
-    return hand_on(heard, port, ingress, answer, places, count, &left);
+    if (has_values && say == NULL) turn.say = value_to_give(clock, heard);
+    if (options->is_verbose) return take_verbose_turn(&turn);
+    bool is_simple = turn.say == NULL && !heard->is_of_owner;
+    enum ptpm_handled answer = is_simple ? ptpm_clock_handle(clock, ingress_of(heard), heard->octets, heard->size, turn.places,
+                                                             PTPM_MOST_SENT, &turn.count)
+                                         : hand_in(clock, &turn);
+    if (is_saving && answer == PTPM_ANSWERED_NEW) return turn.count;        /* nobody is shown what is not saved */
+    size_t left;
+    return hand_on(&turn, answer, &left);
 }
 
 /* Parts those that may change the clock from the others, each in their order; how many others there are. */
@@ -249,15 +255,13 @@ static void take_all(size_t count) {
     size_t left = 0;
     if (count == 0) return;
     for (size_t i = 0; i < count; i++) {
-        const struct port *port = heard_now[i].port;
-        if (port == NULL || admit_datagram(&heard_now[i], port)) admitted[left++] = &heard_now[i];
+        if (admit_datagram(&heard_now[i])) admitted[left++] = &heard_now[i];
     }
     size_t firsts = part_round(admitted, left, first, last);
-    for (size_t i = 0; i < firsts; i++) lost += take_turn(first[i], first[i]->port, NULL);
+    for (size_t i = 0; i < firsts; i++) lost += take_turn(first[i], NULL);
     lost += send_saved();
     for (size_t i = 0; i < left - firsts; i++) {
-        const struct port *port = last[i]->port;
-        if ((port == NULL || admit_manager(last[i], port)) && !hold(last[i], port)) count_manager_dropped();
+        if (admit_manager(last[i]) && !hold(last[i])) count_manager_dropped();
     }
     count_dropped(lost);
 }
@@ -281,19 +285,19 @@ static void send_taken(unsigned long lost) {
     let_go_of_change();
 }
 
-static bool is_asked(const struct held *held, struct ptpm_question *asked) {
-    return ptpm_clock_ask(&clock_held, ingress_of(held->port), held->heard.octets, held->heard.size, asked) == PTPM_ASKED_CHANGE;
+static bool is_asked(const struct heard *held, struct ptpm_question *asked) {
+    return ptpm_clock_ask(&clock_held, ingress_of(held), held->octets, held->size, asked) == PTPM_ASKED_CHANGE;
 }
 
 /* A manager's request. The device is asked about a change, which waits if its program is to be asked. Nothing else of its manager
    is taken then, so that no later request overtakes it. How many messages were not taken. */
-static unsigned long take_request(struct held *held) {
+static unsigned long take_request(struct heard *held) {
     struct ptpm_question asked;
-    if (held->heard.is_of_owner) return take_turn(&held->heard, NULL, NULL);
-    if (has_device && is_passed_over(&held->heard)) return 0;
-    if (!has_device || !is_asked(held, &asked)) return take_turn(&held->heard, held->port, NULL);
+    if (held->is_of_owner) return take_turn(held, NULL);
+    if (has_device && is_passed_over(held)) return 0;
+    if (!has_device || !is_asked(held, &asked)) return take_turn(held, NULL);
     const struct ptpm_say *objection = objection_of_limits(&asked);
-    if (objection != NULL || !has_program()) return take_turn(&held->heard, held->port, objection);
+    if (objection != NULL || !has_program()) return take_turn(held, objection);
     wait_for_program(held);
     return 0;
 }
@@ -301,14 +305,14 @@ static unsigned long take_request(struct held *held) {
 /* A change that the device has decided. */
 static unsigned long take_decided(void) {
     const struct ptpm_say *say;
-    struct held *held = take_change(&say);
-    return held == NULL ? 0 : take_turn(&held->heard, held->port, say);
+    struct heard *held = take_change(&say);
+    return held == NULL ? 0 : take_turn(held, say);
 }
 
 /* Asks the device's program about the change that is next. By now the clock, or a limit, may refuse it. */
 static void ask_about_next(void) {
     struct ptpm_question asked;
-    const struct held *held = change_to_ask();
+    const struct heard *held = change_to_ask();
     if (held == NULL) return;
     bool is_change = is_asked(held, &asked);
     const struct ptpm_say *objection = is_change ? objection_of_limits(&asked) : NULL;
@@ -342,7 +346,7 @@ void take_saved(void) {
 static bool is_waiting(void) { return held_count() > 0 || decided_change() != NULL; }
 
 static bool is_peer_waiting(void) {
-    const struct held *decided = decided_change();
+    const struct heard *decided = decided_change();
     return has_held_peer() || (decided != NULL && decided->port == NULL);
 }
 

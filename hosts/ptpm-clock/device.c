@@ -81,7 +81,7 @@ bool has_program(void) { return options->device_program != NULL; }
 
 bool is_passed_over(const struct heard *heard) {
     for (size_t i = state == IS_TAKEN ? 1 : 0; i < count; i++) {
-        const uint8_t *octets = waiting[(first + i) % MANAGERS].held.heard.octets;
+        const uint8_t *octets = waiting[(first + i) % MANAGERS].heard.octets;
         if (memcmp(octets + SOURCE_AT, heard->octets + SOURCE_AT, SEQUENCE_AT - SOURCE_AT) != 0) continue;
         counts.passed_over++;
         return true;
@@ -89,14 +89,14 @@ bool is_passed_over(const struct heard *heard) {
     return false;
 }
 
-void wait_for_program(const struct held *change) {
+void wait_for_program(const struct heard *change) {
     if (count == MANAGERS) counts.passed_over++;        /* the first is taken, and its manager has sent another */
-    else copy_held(&waiting[(first + count++) % MANAGERS], &change->heard, change->port);
+    else copy_heard(&waiting[(first + count++) % MANAGERS], change);
 }
 
-static struct held *first_in(enum state wanted) { return count > 0 && state == wanted ? &waiting[first].held : NULL; }
+static struct heard *first_in(enum state wanted) { return count > 0 && state == wanted ? &waiting[first].heard : NULL; }
 
-const struct held *change_to_ask(void) { return first_in(WAITS); }
+const struct heard *change_to_ask(void) { return first_in(WAITS); }
 
 void decide_change(const struct ptpm_say *say) {
     is_said = say != NULL;
@@ -157,10 +157,10 @@ void hear_program(void) {
     }
 }
 
-const struct held *decided_change(void) { return first_in(IS_DECIDED); }
+const struct heard *decided_change(void) { return first_in(IS_DECIDED); }
 
-struct held *take_change(const struct ptpm_say **say) {
-    struct held *change = first_in(IS_DECIDED);
+struct heard *take_change(const struct ptpm_say **say) {
+    struct heard *change = first_in(IS_DECIDED);
     if (change == NULL) return NULL;
     *say = is_said ? &said : NULL;
     state = IS_TAKEN;

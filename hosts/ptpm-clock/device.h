@@ -33,10 +33,10 @@ bool has_program(void);
 bool is_passed_over(const struct heard *heard);
 
 /* Copies a change of another manager after those that wait. */
-void wait_for_program(const struct held *change);
+void wait_for_program(const struct heard *change);
 
 /* The change that the program is to be asked about; NULL if there is none, or one is being asked or decided. */
-const struct held *change_to_ask(void);
+const struct heard *change_to_ask(void);
 
 /* Asks the program about it, or drops it if that can't be done. */
 void ask_program(const struct ptpm_question *asked);
@@ -48,11 +48,11 @@ void decide_change(const struct ptpm_say *say);
 void hear_program(void);
 
 /* Whether a change is decided and not taken yet; which one. */
-const struct held *decided_change(void);
+const struct heard *decided_change(void);
 
 /* Takes it, with what the device says; that is NULL if it was not asked. The change stays until it is let go of. NULL if there is
    none. */
-struct held *take_change(const struct ptpm_say **say);
+struct heard *take_change(const struct ptpm_say **say);
 
 /* A change that was taken waits no more. Does nothing if none was. */
 void let_go_of_change(void);

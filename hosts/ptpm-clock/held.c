@@ -8,18 +8,18 @@ enum { MOST_OF_PORTS = ROUND, MOST_HELD = MOST_OF_PORTS + ROUND };
 static struct copy copies[MOST_HELD];
 static size_t first, count;
 
-void copy_held(struct copy *copy, const struct heard *heard, const struct port *port) {
-    copy->held = (struct held){ *heard, port };
+void copy_heard(struct copy *copy, const struct heard *heard) {
+    copy->heard = *heard;
     memcpy(copy->octets, heard->octets, heard->size);
-    copy->held.heard.octets = copy->octets;
+    copy->heard.octets = copy->octets;
     if (heard->station == NULL) return;
     memcpy(copy->station, heard->station, STATION);
-    copy->held.heard.station = copy->station;
+    copy->heard.station = copy->station;
 }
 
-bool hold(const struct heard *heard, const struct port *port) {
-    if (count >= (port == NULL ? MOST_HELD : MOST_OF_PORTS)) return false;
-    copy_held(&copies[(first + count++) % MOST_HELD], heard, port);
+bool hold(const struct heard *heard) {
+    if (count >= (heard->port == NULL ? MOST_HELD : MOST_OF_PORTS)) return false;
+    copy_heard(&copies[(first + count++) % MOST_HELD], heard);
     return true;
 }
 
@@ -34,7 +34,7 @@ bool has_held_peer(void) {
 
 size_t held_count(void) { return count; }
 
-struct held *held_at(size_t place) { return &copies[(first + place) % MOST_HELD].held; }
+struct heard *held_at(size_t place) { return &copies[(first + place) % MOST_HELD].heard; }
 
 void let_go_of_held(size_t taken) {
     first = (first + taken) % MOST_HELD;

@@ -8,16 +8,13 @@
 #include "rounds.h"
 #include <stdbool.h>
 
-struct held { struct heard heard; const struct port *port; };
-
 /* What a datagram is copied to. */
-struct copy { struct held held; uint8_t octets[MOST_HEARD], station[STATION]; };
+struct copy { struct heard heard; uint8_t octets[MOST_HEARD], station[STATION]; };
 
-/* Copies a datagram there. `port` is NULL for the Unix socket. */
-void copy_held(struct copy *copy, const struct heard *heard, const struct port *port);
+void copy_heard(struct copy *copy, const struct heard *heard);
 
 /* Copies a datagram after those that wait; whether there is room. */
-bool hold(const struct heard *heard, const struct port *port);
+bool hold(const struct heard *heard);
 
 /* Whether there is room for a round of the Unix socket, to whose programs some room is kept. */
 bool has_room_for_peers(void);
@@ -27,7 +24,7 @@ bool has_held_peer(void);
 
 /* How many wait, and which, in the order in which they came. */
 size_t held_count(void);
-struct held *held_at(size_t place);
+struct heard *held_at(size_t place);
 
 /* The first `count` of them wait no more. */
 void let_go_of_held(size_t count);

@@ -37,8 +37,9 @@ void say_deaf_ports(void) {
     }
 }
 
-bool admit_datagram(const struct heard *heard, const struct port *port) {
-    if (limits.is_any_source || transport == ETHERNET || is_on_link(port->index, &heard->sender.any)) return true;
+bool admit_datagram(const struct heard *heard) {
+    if (heard->port == NULL || limits.is_any_source || transport == ETHERNET) return true;
+    if (is_on_link(heard->port->index, &heard->sender.any)) return true;
     kept_back.strangers++;
     return false;
 }
@@ -69,8 +70,8 @@ bool is_of_manager(const struct heard *heard, const uint8_t own[8]) {
     return false;
 }
 
-bool admit_manager(const struct heard *heard, const struct port *port) {
-    if (take_share(&requests[port - ports], heard, time_now())) return true;
+bool admit_manager(const struct heard *heard) {
+    if (heard->port == NULL || take_share(&requests[ingress_of(heard) - 1], heard, time_now())) return true;
     kept_back.managers++;
     return false;
 }
@@ -78,33 +79,34 @@ bool admit_manager(const struct heard *heard, const struct port *port) {
 void count_manager_dropped(void) { kept_back.managers++; }
 
 /* Whether a message is to be forwarded at all. It is asked once for each, since it is recorded. */
-static bool admit_copies(const struct heard *heard, const struct port *port, uint64_t now) {
+static bool admit_copies(const struct heard *heard, uint64_t now) {
     if (!limits.is_passed_on || limits.hops == 0) return false;
-    if (port == NULL && (heard->is_of_owner || !limits.is_passed_on_from_host)) return false;
+    if (heard->port == NULL && (heard->is_of_owner || !limits.is_passed_on_from_host)) return false;
     if (ptpm_passed_on_is_first(&passed_on, heard->octets, heard->size, now, NOTED)) return true;
     kept_back.again++;
     return false;
 }
 
 /* Answers to programs of this host are not counted, nor those to requests of managers, which were counted as they came in. */
-static bool admit_answer(const struct heard *heard, const struct port *port, uint16_t ingress, uint32_t answer, uint64_t now) {
-    if (port == NULL || answer != PTPM_ANSWERED_UNNUMBERED) return true;
-    if (take_share(&answers[ingress - 1], heard, now)) return true;
+static bool admit_answer(const struct heard *heard, uint32_t answer, uint64_t now) {
+    if (heard->port == NULL || answer != PTPM_ANSWERED_UNNUMBERED) return true;
+    if (take_share(&answers[ingress_of(heard) - 1], heard, now)) return true;
     kept_back.unanswered++;
     return false;
 }
 
-size_t keep_back(const struct heard *heard, const struct port *port, uint16_t ingress, uint32_t answer,
-                 const struct ptpm_sent *sent, size_t count, const struct ptpm_sent *kept[PTPM_MOST_SENT]) {
+size_t keep_back(const struct heard *heard, uint32_t answer, const struct ptpm_sent *sent, size_t count,
+                 const struct ptpm_sent *kept[PTPM_MOST_SENT]) {
+    uint16_t ingress = ingress_of(heard);
     size_t left = 0;
     bool is_asked = false, is_going_on = false;
     uint64_t now = count > 0 ? time_now() : 0;
     for (size_t i = 0; i < count; i++) {
         if (sent[i].port == ingress) {
-            if (admit_answer(heard, port, ingress, answer, now)) kept[left++] = &sent[i];
+            if (admit_answer(heard, answer, now)) kept[left++] = &sent[i];
             continue;
         }
-        if (!is_asked) is_going_on = admit_copies(heard, port, now);
+        if (!is_asked) is_going_on = admit_copies(heard, now);
         is_asked = true;
         if (!is_going_on) continue;
         if (take_share(&copies[sent[i].port - 1], heard, now)) kept[left++] = &sent[i];

@@ -28,8 +28,9 @@ void start_limits(const struct limits *given);
 /* Says at which interfaces nobody is heard, since they have no address whose network a sender could be in. */
 void say_deaf_ports(void);
 
-/* Whether a datagram from a port is heard at all: it comes from an address on the link, or any may. One that is not is counted. */
-bool admit_datagram(const struct heard *heard, const struct port *port);
+/* Whether a datagram is heard at all: it comes from an address on the link, or any may, or from a program of this host. One that is not
+   is counted. */
+bool admit_datagram(const struct heard *heard);
 
 /* Whether it is from a manager and only for this clock, so that it may be answered as a numbered request, and be saved. Nobody can
    know who sent it. */
@@ -38,8 +39,8 @@ bool is_of_manager(const struct heard *heard, const uint8_t own[8]);
 /* Its sender, as a manager with every right. */
 struct ptpm_manager_settings sender_of(const struct heard *heard);
 
-/* Whether such a datagram from a port is taken: its sender has not sent too many. One that is not is counted. */
-bool admit_manager(const struct heard *heard, const struct port *port);
+/* Whether such a datagram is taken: its sender has not sent too many, or is a program of this host. One that is not is counted. */
+bool admit_manager(const struct heard *heard);
 
 /* Counts one that finds no room. */
 void count_manager_dropped(void);
@@ -48,11 +49,10 @@ void count_manager_dropped(void);
    hops as it would have otherwise (15.4.1), and what is forwarded has fewer. */
 void lower_hops(struct heard *heard);
 
-/* Which of the messages that the agent made of a datagram are to go out. Those at `ingress` answer it, and the others forward
-   it. Keeps them in their order at the head of the places; how many there are. If the datagram is of a program of this host,
-   port is NULL. */
-size_t keep_back(const struct heard *heard, const struct port *port, uint16_t ingress, uint32_t answer,
-                 const struct ptpm_sent *sent, size_t count, const struct ptpm_sent *kept[PTPM_MOST_SENT]);
+/* Which of the messages that the agent made of a datagram are to go out. Those at the port that it came in at answer it, and the
+   others forward it. Keeps them in their order at the head of the places; how many there are. */
+size_t keep_back(const struct heard *heard, uint32_t answer, const struct ptpm_sent *sent, size_t count,
+                 const struct ptpm_sent *kept[PTPM_MOST_SENT]);
 
 const struct kept_back *kept_back_so_far(void);
 

@@ -36,6 +36,9 @@ struct heard {
     struct in6_pktinfo own_six;
 };
 
+/* The number of the port that it came in at, which is 1 on the Unix socket. */
+static inline uint16_t ingress_of(const struct heard *heard) { return heard->port == NULL ? 1 : (uint16_t)(heard->port - ports + 1); }
+
 /* Takes what has come in at a port, or, if there is none, on the Unix socket; how many datagrams. They stay until the next
    round. */
 size_t hear_round(const struct port *port, int socket, struct heard heard[ROUND]);

@@ -13,8 +13,8 @@ extern bool has_values;
 
 void start_values(const struct options *given);
 
-/* What the device says of a datagram that comes in at a port of this clock. That is the value that it is asked for, as its file has
+/* What the device says of a datagram that came in at this clock. That is the value that it is asked for, as its file has
    it now. NULL if it says nothing. A file without a value is said once. What is returned stays until the next call. */
-const struct ptpm_say *value_to_give(const struct ptpm_clock *clock, uint16_t ingress, const struct heard *heard);
+const struct ptpm_say *value_to_give(const struct ptpm_clock *clock, const struct heard *heard);
 
 #endif
