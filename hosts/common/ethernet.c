@@ -27,10 +27,7 @@ static const struct sock_filter wanted[] = {
     BPF_STMT(BPF_LD | BPF_B | BPF_ABS, ETHERNET_HEAD + TAG_SIZE + TYPE_AT),
     BPF_JUMP(BPF_JMP | BPF_JA, 1, 0, 0),
     BPF_STMT(BPF_LD | BPF_B | BPF_ABS, ETHERNET_HEAD + TYPE_AT),
-    BPF_STMT(BPF_ALU | BPF_AND | BPF_K, LOWER_HALF),
-    BPF_JUMP(BPF_JMP | BPF_JEQ | BPF_K, MANAGEMENT_TYPE, 1, 0),
-    BPF_STMT(BPF_RET | BPF_K, 0),
-    BPF_STMT(BPF_RET | BPF_K, 65535),
+    LETS_IN_MANAGEMENT,
 };
 
 /* Reads the interface's own address; whether it could. */

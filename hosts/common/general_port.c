@@ -24,10 +24,7 @@ static const struct sock_filter wanted_of_four[] = {
     BPF_STMT(BPF_ALU | BPF_AND | BPF_K, UPPER_HALF),
     BPF_JUMP(BPF_JMP | BPF_JEQ | BPF_K, GROUPS_FOUR, 3, 0),
     BPF_STMT(BPF_LD | BPF_B | BPF_IND, sizeof(struct udphdr) + TYPE_AT),
-    BPF_STMT(BPF_ALU | BPF_AND | BPF_K, LOWER_HALF),
-    BPF_JUMP(BPF_JMP | BPF_JEQ | BPF_K, MANAGEMENT_TYPE, 1, 0),
-    BPF_STMT(BPF_RET | BPF_K, 0),
-    BPF_STMT(BPF_RET | BPF_K, 65535),
+    LETS_IN_MANAGEMENT,
 };
 
 /* The same over IPv6, where they begin with their UDP header. */
@@ -37,10 +34,7 @@ static const struct sock_filter wanted_of_six[] = {
     BPF_STMT(BPF_LD | BPF_B | BPF_ABS, (uint32_t)SKF_NET_OFF + SIX_TO_AT),
     BPF_JUMP(BPF_JMP | BPF_JEQ | BPF_K, GROUPS_SIX, 3, 0),
     BPF_STMT(BPF_LD | BPF_B | BPF_ABS, sizeof(struct udphdr) + TYPE_AT),
-    BPF_STMT(BPF_ALU | BPF_AND | BPF_K, LOWER_HALF),
-    BPF_JUMP(BPF_JMP | BPF_JEQ | BPF_K, MANAGEMENT_TYPE, 1, 0),
-    BPF_STMT(BPF_RET | BPF_K, 0),
-    BPF_STMT(BPF_RET | BPF_K, 65535),
+    LETS_IN_MANAGEMENT,
 };
 
 /* Nothing at all. */

@@ -2,6 +2,7 @@
 #ifndef SOCKET_OPTION_H
 #define SOCKET_OPTION_H
 
+#include "message_places.h"
 #include <errno.h>
 #include <linux/filter.h>
 #include <net/if.h>
@@ -20,6 +21,13 @@ static inline bool set_option(int socket, int level, int option, const void *val
     *what = name;
     return setsockopt(socket, level, option, value, (socklen_t)size) == 0;
 }
+
+/* The last steps of a filter that has loaded the octet with the messageType: management messages are let in, and nothing else. */
+#define LETS_IN_MANAGEMENT \
+    BPF_STMT(BPF_ALU | BPF_AND | BPF_K, LOWER_HALF), \
+    BPF_JUMP(BPF_JMP | BPF_JEQ | BPF_K, MANAGEMENT_TYPE, 1, 0), \
+    BPF_STMT(BPF_RET | BPF_K, 0), \
+    BPF_STMT(BPF_RET | BPF_K, 65535)
 
 /* Has a socket hear only what a filter of this many steps lets in, or all if it is NULL. Whether it does. */
 static inline bool set_filter(int socket, const struct sock_filter *filter, size_t count) {

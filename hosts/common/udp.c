@@ -32,10 +32,7 @@ enum { UDP_HEAD = 8 };
 /* Of datagrams, which begin with their UDP header here, those whose messageType is 0xD. An empty one has none. */
 static const struct sock_filter wanted[] = {
     BPF_STMT(BPF_LD | BPF_B | BPF_ABS, UDP_HEAD + TYPE_AT),
-    BPF_STMT(BPF_ALU | BPF_AND | BPF_K, LOWER_HALF),
-    BPF_JUMP(BPF_JMP | BPF_JEQ | BPF_K, MANAGEMENT_TYPE, 1, 0),
-    BPF_STMT(BPF_RET | BPF_K, 0),
-    BPF_STMT(BPF_RET | BPF_K, 65535),
+    LETS_IN_MANAGEMENT,
 };
 
 bool filter_udp(int socket, bool is_management_alone) {
