@@ -5,7 +5,6 @@
 #include "names.h"
 #include "notices.h"
 #include "reading.h"
-#include "standing.h"
 #include "stopping.h"
 #include "telling.h"
 #include "unanswered.h"
@@ -164,26 +163,23 @@ int ask_step(struct desk *desk, struct journal *journal, long step) {
 
 /* ---- what an earlier run left */
 
-static struct noted noted_of(const struct desk *desk, const struct journal *journal) {
-    struct noted noted = { 0 };
-    for (size_t i = 0; i < journal->count; i++) {
-        if (!is_step_of(desk, journal, (long)i) || journal->told[i].outcome == NOT_TOLD) continue;
-        noted.is_any_told = true;
-        noted.told_number = journal->numbers[i];
-    }
-    if (journal->begun == NO_STEP || !is_step_of(desk, journal, journal->begun)) return noted;
-    noted.begun = &journal->steps[journal->begun];
-    noted.number = journal->numbers[journal->begun];
-    return noted;
-}
-
-/* What the file has, the asker has: nothing was asked there since it was opened. */
-static enum standing find_standing(const struct desk *desk, const struct journal *journal) {
+/* What became of the step that was begun last here, by what the journal and the file of the session have: PTPM_STEP_NONE_LEFT and on.
+   What the file has, the asker has: nothing was asked there since it was opened. */
+static uint32_t find_standing(const struct desk *desk, const struct journal *journal) {
+    static const struct step none;
     static uint8_t image[PTPM_SESSION_IMAGE_OCTETS];
+    const struct step *step = &none;
+    uint32_t begun = PTPM_NO_NUMBER, told = PTPM_NO_NUMBER;
     size_t size = 0;
-    struct noted noted = noted_of(desk, journal);
+    for (size_t i = 0; i < journal->count; i++) {
+        if (is_step_of(desk, journal, (long)i) && journal->told[i].outcome != NOT_TOLD) told = journal->numbers[i];
+    }
+    if (journal->begun != NO_STEP && is_step_of(desk, journal, journal->begun)) {
+        step = &journal->steps[journal->begun];
+        begun = journal->numbers[journal->begun];
+    }
     if (desk->session.has_file) ptpm_asker_image(&desk->session.asker, image, sizeof image, &size);
-    return standing_of(&noted, image, size);
+    return ptpm_step_standing(begun, step->id, step->port, step->after.octets, step->after.size, told, image, size);
 }
 
 static int stop_at_stranger(const struct desk *desk, const struct journal *journal) {
@@ -195,16 +191,16 @@ static int stop_at_stranger(const struct desk *desk, const struct journal *journ
 }
 
 bool note_standing(struct desk *desk, struct journal *journal) {
-    enum standing standing = find_standing(desk, journal);
-    if ((standing != NEVER_BEGUN && standing != NUMBER_TAKEN) || note_not_begun(journal)) return true;
+    uint32_t standing = find_standing(desk, journal);
+    if ((standing != PTPM_STEP_NEVER_BEGUN && standing != PTPM_STEP_NUMBER_TAKEN) || note_not_begun(journal)) return true;
     not_noted(journal);
     return false;
 }
 
-/* The session is saved before the journal gets its end. Should a crash come in between, the step is UNKNOWN, and nothing is sent. */
+/* The session is saved before the journal gets its end. Should a crash come in between, the step is unknown, and nothing is sent. */
 int let_go_at_desk(struct desk *desk, const struct journal *journal) {
-    enum standing standing = find_standing(desk, journal);
-    if (standing != UNDER_WAY && standing != IS_TOLD) return ANSWERED;
+    uint32_t standing = find_standing(desk, journal);
+    if (standing != PTPM_STEP_UNDER_WAY && standing != PTPM_STEP_TOLD) return ANSWERED;
     enum ptpm_asked refusal = ptpm_asker_let_go(&desk->session.asker, &desk->driver.handed);
     if (refusal != PTPM_ASKED) refuse_to_let_go(refusal, &desk->session.earlier, &desk->task);
     if (!save_session(&desk->session)) return not_saved(desk, journal);
@@ -215,19 +211,17 @@ int let_go_at_desk(struct desk *desk, const struct journal *journal) {
 int see_to_desk(struct desk *desk, struct journal *journal) {
     if (desk->is_seen_to) return ANSWERED;
     desk->is_seen_to = true;
-    enum standing standing = find_standing(desk, journal);
-    uint8_t domain = desk->task.settings.domain;
-    switch (standing) {
-    case NOTHING_LEFT: return ANSWERED;
-    case UNKNOWN: return stop_at_stranger(desk, journal);
-    case UNDER_WAY: return settle_step(desk, journal, journal->begun);
-    case NEVER_BEGUN: return note_not_begun(journal) ? ANSWERED : not_noted(journal);
-    case IS_TOLD: return let_go_at_desk(desk, journal);
-    case NUMBER_TAKEN: if (!note_not_begun(journal)) return not_noted(journal); break;
-    case OF_ANOTHER: break;
+    switch (find_standing(desk, journal)) {
+    case PTPM_STEP_NONE_LEFT: return ANSWERED;
+    case PTPM_STEP_UNKNOWN: return stop_at_stranger(desk, journal);
+    case PTPM_STEP_UNDER_WAY: return settle_step(desk, journal, journal->begun);
+    case PTPM_STEP_NEVER_BEGUN: return note_not_begun(journal) ? ANSWERED : not_noted(journal);
+    case PTPM_STEP_TOLD: return let_go_at_desk(desk, journal);
+    case PTPM_STEP_NUMBER_TAKEN: if (!note_not_begun(journal)) return not_noted(journal); break;
+    case PTPM_STEP_OF_ANOTHER: break;
     }
     desk->is_changed = may_change(&desk->session.earlier.task);
-    return settle(desk, journal, NO_STEP, domain, true);
+    return settle(desk, journal, NO_STEP, desk->task.settings.domain, true);
 }
 
 /* ---- what a member is */
