@@ -80,13 +80,9 @@ static unsigned two_octets(const uint8_t *at) { return (unsigned)at[0] << 8 | at
 
 /* Starts the request of an id; whether the library would ask it. If not, that is said. */
 static bool start_request(const struct task *task, struct domain domain, unsigned id) {
-    static uint16_t number;
-    static bool is_drawn;
-    if (!is_drawn) number = draw_number();
-    is_drawn = true;
     struct request *request = &requests[request_count];
     struct ptpm_survey_settings settings = {
-        .port = task->settings.port, .number = ++number, .id = collected->ids[id], .domain = domain.number, .hops = task->settings.hops,
+        .port = task->settings.port, .number = next_number(), .id = collected->ids[id], .domain = domain.number, .hops = task->settings.hops,
     };
     memcpy(settings.clock, task->settings.clock, sizeof settings.clock);
     uint32_t refusal = ptpm_survey_start(&request->survey, &settings);
@@ -99,7 +95,7 @@ static bool start_request(const struct task *task, struct domain domain, unsigne
     }
     write_sdo(request->message, domain.sdo);
     ask_as(request->message + SOURCE_AT);
-    request->number = number;
+    request->number = settings.number;
     request->domain = domain;
     request->id = id;
     request_count++;

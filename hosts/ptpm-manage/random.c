@@ -1,6 +1,7 @@
 #include "random.h"
 #include "notices.h"
 #include <errno.h>
+#include <stdbool.h>
 #include <string.h>
 #include <sys/random.h>
 
@@ -12,4 +13,12 @@ uint16_t draw_number(void) {
     uint8_t octets[2];
     draw_octets(octets, sizeof octets);
     return (uint16_t)(octets[0] << 8 | octets[1]);
+}
+
+uint16_t next_number(void) {
+    static uint16_t number;
+    static bool is_drawn;
+    if (!is_drawn) number = draw_number();
+    is_drawn = true;
+    return ++number;
 }

@@ -19,16 +19,12 @@ uint16_t port_of_nobody(uint8_t action) {
 /* Begins a GET; whether it is begun. */
 static bool begin_reading(struct ptpm_session *session, const struct task *task, uint16_t id, uint8_t attempts) {
     static struct task reading;
-    static uint16_t number;
-    static bool is_drawn;
-    if (!is_drawn) number = draw_number();
-    is_drawn = true;
     reading = *task;
     reading.action = PTPM_GET;
     reading.id = id;
     reading.size = 0;
     reading.settings.port = port_of_nobody(PTPM_GET);
-    reading.settings.first = ++number;
+    reading.settings.first = next_number();
     reading.settings.attempts = attempts;
     return ptpm_session_start(session, &reading.settings) == PTPM_STARTED && begin_of_task(session, &reading) == PTPM_BEGUN;
 }

@@ -156,18 +156,21 @@ void open_session(struct kept_session *session, const struct task *task) {
     }
 }
 
-void renew_session(struct kept_session *session, const struct task *task) {
-    static uint8_t octets[MOST_SESSION_OCTETS];
+/* The image of the session; how many octets it has. */
+static size_t image_of(const struct kept_session *session, uint8_t *octets) {
     size_t size;
     enum ptpm_asked answer = ptpm_asker_image(&session->asker, octets, PTPM_SESSION_IMAGE_OCTETS, &size);
     if (answer != PTPM_ASKED) refuse("nothing was asked: %s", answer_name(answer));
-    open_octets(session, task, octets, size);
+    return size;
+}
+
+void renew_session(struct kept_session *session, const struct task *task) {
+    static uint8_t octets[MOST_SESSION_OCTETS];
+    open_octets(session, task, octets, image_of(session, octets));
 }
 
 bool save_session(struct kept_session *session) {
     static uint8_t octets[MOST_SESSION_OCTETS];
-    size_t size;
-    enum ptpm_asked answer = ptpm_asker_image(&session->asker, octets, PTPM_SESSION_IMAGE_OCTETS, &size);
-    if (answer != PTPM_ASKED) refuse("nothing was asked: %s", answer_name(answer));
+    size_t size = image_of(session, octets);
     return write_session_file(session->file, octets, size);
 }
