@@ -23,7 +23,12 @@ struct step {
 
 /* What the clock answered to a step. */
 enum outcome { NOT_TOLD, DONE, IS_REFUSED, OTHER_VALUE };
-struct told { enum outcome outcome; uint16_t error; struct value answer; };
+struct told {
+    enum outcome outcome;
+    uint16_t error;
+    struct value answer;
+    bool is_left_out;           /* by a rollback, and the member is not as before */
+};
 
 /* How it ended. */
 enum ending { IS_OPEN, COMPLETE, ENDED_REFUSED, ENDED_ANSWERED, ENDED_CHANGED, GIVEN_UP, ROLLED_BACK, ENDINGS };

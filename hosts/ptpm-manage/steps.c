@@ -210,7 +210,7 @@ static const char *why_left_out(const struct journal *journal, size_t place) {
     }
 }
 
-int find_left_out(const struct task *task, const struct journal *journal) {
+int find_left_out(const struct task *task, struct journal *journal) {
     static struct answer answer;
     int found = ANSWERED;
     for (size_t i = 0; i < journal->count; i++) {
@@ -221,6 +221,7 @@ int find_left_out(const struct task *task, const struct journal *journal) {
         show_step("read", journal, (long)i);
         int status = read_moved(task, step, domain_at_begin(journal, step), &answer);
         if (status == ANSWERED && has(&answer, step, &step->before)) continue;
+        journal->told[i].is_left_out = true;
         snprintf(lead, sizeof lead, "step %zu of %s %s, and is left out", i + 1, journal->name, why);
         if (status == ANSWERED) say_value(lead, step, &answer, &step->before);
         else complain("%s", lead);
