@@ -41,8 +41,8 @@ static void remove_unheard(const char *path) {
     if (is_unheard(path)) unlink(path);
 }
 
-/* The number of the process whose socket beside `base` has this name: after a dot, and of its further sockets with a dot and another
-   number after it. -1 if it is no such name. */
+/* The number of the process whose socket beside `base` has this name; -1 if it is no such name. It comes after a dot. Further sockets of the
+   process have a dot and another number after it. */
 static long owner_of(const char *name, const char *base) {
     enum { NUMBER = 16 };
     char process[NUMBER];

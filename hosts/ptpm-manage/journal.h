@@ -53,8 +53,8 @@ struct journal {
 /* Makes the steps' places. Ends the program with status 2 if there is no memory. */
 void give_steps(struct journal *journal, const struct step *steps, size_t count);
 
-/* The first step of the clock whose identity comes next after that of a step, or first of all after NULL; NULL after the last. Whoever takes
-   sessions of several clocks takes them in this order: then no two runs each hold one that the other waits for. */
+/* The first step of the clock whose identity comes next after that of a step, or first of all after NULL; NULL after the last. Sessions
+   of several clocks are taken in this order: then no two runs each hold one that the other waits for. */
 const struct step *next_clock(const struct step *steps, size_t count, const struct step *before);
 
 /* Makes the file whole, with only the steps; whether it could. If not, errno says why. */
