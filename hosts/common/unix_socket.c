@@ -41,11 +41,22 @@ static void remove_unheard(const char *path) {
     if (is_unheard(path)) unlink(path);
 }
 
-/* Whether a name is another with a dot and the number of a process after it, and there is no such process. */
-static bool is_of_gone_process(const char *name, const char *base) {
+/* The number of the process whose socket beside `base` has this name; -1 if it is no such name. It comes after a dot. Further sockets of the
+   process have a dot and another number after it. */
+static long owner_of(const char *name, const char *base) {
+    enum { NUMBER = 16 };
+    char process[NUMBER];
     size_t size = strlen(base);
-    if (strncmp(name, base, size) != 0 || name[size] != '.') return false;
-    long process = decimal(name + size + 1, INT_MAX);
+    if (strncmp(name, base, size) != 0 || name[size] != '.') return -1;
+    const char *first = name + size + 1, *dot = strchrnul(first, '.');
+    if (dot - first >= NUMBER || (*dot == '.' && decimal(dot + 1, INT_MAX) < 0)) return -1;
+    snprintf(process, sizeof process, "%.*s", (int)(dot - first), first);
+    return decimal(process, INT_MAX);
+}
+
+/* Whether it is the socket of a process that is gone. */
+static bool is_of_gone_process(const char *name, const char *base) {
+    long process = owner_of(name, base);
     return process > 0 && kill((pid_t)process, 0) != 0 && errno == ESRCH;
 }
 

@@ -144,18 +144,21 @@ static void read_file(struct source *source) {
     watch_folders(source);
 }
 
-/* If another thing, or nothing, is at the path by now, there is nothing to poll any more. */
+/* If another thing, or nothing, is at the path by now, there is nothing to poll any more. If no other descriptor is left, that of the pipe
+   is used once more. */
 static void open_again(struct source *source) {
     struct stat found;
     int again = open_to_read(source->path, &found);
+    bool has_no_other = again < 0 && (errno == EMFILE || errno == ENFILE);
+    close(source->polled);
+    if (has_no_other) again = open_to_read(source->path, &found);
     bool is_there = again >= 0 && S_ISFIFO(found.st_mode);
     if (!is_there) complain(source, "the pipe is gone, and nothing more is observed");
     if (!is_there && again >= 0) close(again);
-    close(source->polled);
     source->polled = is_there ? again : -1;
 }
 
-/* The pipe is opened again for the next program that writes to it, and is never without a reader. */
+/* The pipe is opened again for the next program that writes to it. If a descriptor is left for that, it is never without a reader. */
 static void read_pipe(struct source *source) {
     memmove(source->held, source->held + source->first, source->size);
     source->first = 0;

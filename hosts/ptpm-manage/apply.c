@@ -50,21 +50,15 @@ static int show_plan(const struct task *task) {
 
 /* ---- a journal is carried out */
 
-/* Whether a rollback that is complete left nothing out, as far as the journal of the apply is there. */
-static int judge_left_out(const struct task *task, const struct journal *back) {
-    struct journal journal;
-    if (!find_rolled_back(&journal, back)) return ANSWERED;
-    int status = find_left_out(task, &journal);
-    leave_journal(&journal);
-    return status;
-}
-
-/* Goes on with a journal whose sessions are taken and marked, and says what became of it. */
+/* Goes on with a journal whose sessions are taken and marked, and says what became of it. If it is a rollback that is complete, and the journal
+   of the apply is there, it also says what was left out. */
 static int carry_out(const struct task *task, struct journal *journal) {
+    struct journal back_of = { 0 };
     int status = carry_out_steps(task, journal);
     if (status == ANSWERED) status = status_of(journal->ending);
-    if (status == ANSWERED) status = judge_left_out(task, journal);
-    print_apply(journal, status == NOT_ANSWERED, task->is_json);
+    if (status == ANSWERED && find_rolled_back(&back_of, journal)) status = find_left_out(task, &back_of);
+    print_apply(journal, &back_of, status == NOT_ANSWERED, task->is_json);
+    leave_journal(&back_of);
     leave_sessions();
     return status;
 }
@@ -159,7 +153,7 @@ static int give_up_apply(const struct task *task, struct journal *journal) {
     if (status != ANSWERED) return status;
     if (!end_journal(journal, GIVEN_UP, journal->begun)) return NOT_WRITTEN;
     if (journal->begun != NO_STEP) complain("step %ld may have been carried out", journal->begun + 1);
-    print_apply(journal, true, task->is_json);
+    print_apply(journal, &(struct journal){ 0 }, true, task->is_json);
     return NOT_ANSWERED;
 }
 
@@ -213,16 +207,25 @@ static int go_over_to(const struct task *task, struct journal *journal, struct j
     return mark_sessions() ? carry_out(task, back) : NOT_WRITTEN;
 }
 
+/* Says that no step is to be taken back, and what is left out. It is no apply, and has no name. */
+static int end_without_steps(const struct task *task, struct journal *journal, struct journal *back) {
+    complain("%s: no step is to be rolled back", journal->name);
+    int status = find_left_out(task, journal);
+    back->ending = COMPLETE;
+    if (task->is_json) print_apply(back, journal, false, true);
+    return status;
+}
+
 /* Begins the rollback, if there is a step to take back. */
 static int begin_back(const struct task *task, struct journal *journal, struct journal *back) {
     bool is_open = journal->ending == IS_OPEN;
     snprintf(back->rolls_back, sizeof back->rolls_back, "%s", journal->name);
-    name_journal(back, "rollback");
-    if (back->count > 0 && is_open) return go_over_to(task, journal, back);
-    if (back->count > 0) return begin(task, back);
+    if (back->count > 0) {
+        name_journal(back, "rollback");
+        return is_open ? go_over_to(task, journal, back) : begin(task, back);
+    }
     if (is_open && !end_journal(journal, ROLLED_BACK, NO_STEP)) return NOT_WRITTEN;
-    complain("%s: no step is to be rolled back", journal->name);
-    return find_left_out(task, journal);
+    return end_without_steps(task, journal, back);
 }
 
 /* The uncertain step of an apply that is open is settled first. */

@@ -127,20 +127,32 @@ static void print_step_as_json(const struct journal *journal, size_t place) {
     putchar('}');
 }
 
-static void print_json_of(const struct journal *journal, const char *end) {
-    printf("{\"apply\":\"%s\"", journal->name);
-    if (*journal->rolls_back != '\0') printf(",\"rollsBack\":\"%s\"", journal->rolls_back);
-    printf(",\"end\":\"%s\",\"steps\":[", end);
+/* Its steps, or only those that a rollback of it left out. */
+static void print_steps_as_json(const char *name, const struct journal *journal, bool is_of_left_out) {
+    bool is_first = true;
+    printf(",\"%s\":[", name);
     for (size_t i = 0; i < journal->count; i++) {
-        if (i > 0) putchar(',');
+        if (is_of_left_out && !journal->told[i].is_left_out) continue;
+        if (!is_first) putchar(',');
+        is_first = false;
         print_step_as_json(journal, i);
     }
-    puts("]}");
+    putchar(']');
 }
 
-void print_apply(const struct journal *journal, bool is_silent, bool is_json) {
+static void print_json_of(const struct journal *journal, const struct journal *back_of, const char *end) {
+    if (*journal->name == '\0') fputs("{\"apply\":null", stdout);
+    else printf("{\"apply\":\"%s\"", journal->name);
+    if (*journal->rolls_back != '\0') printf(",\"rollsBack\":\"%s\"", journal->rolls_back);
+    printf(",\"end\":\"%s\"", end);
+    print_steps_as_json("steps", journal, false);
+    if (*journal->rolls_back != '\0') print_steps_as_json("leftOut", back_of, true);
+    puts("}");
+}
+
+void print_apply(const struct journal *journal, const struct journal *back_of, bool is_silent, bool is_json) {
     const char *end = journal->ending == IS_OPEN && is_silent ? "silent" : ending_name(journal->ending);
     clear_progress();
-    if (is_json) print_json_of(journal, end);
+    if (is_json) print_json_of(journal, back_of, end);
     else print_text_of(journal, end);
 }

@@ -6,8 +6,9 @@
 #include <stdbool.h>
 #include <stdio.h>
 
-/* Prints it on standard output. An apply without an end is `silent` if an answer is missing, and otherwise `open`. */
-void print_apply(const struct journal *journal, bool is_silent, bool is_json);
+/* Prints it on standard output. An apply without an end is `silent` if an answer is missing, and otherwise `open`. `back_of` is the apply
+   that it takes back, if it is a rollback: JSON names the steps of that one that are left out. */
+void print_apply(const struct journal *journal, const struct journal *back_of, bool is_silent, bool is_json);
 
 /* Writes whose member a step sets: `aabbccfffeddee01/1 LOG_SYNC_INTERVAL`. */
 void write_member_name(FILE *to, const struct step *step);

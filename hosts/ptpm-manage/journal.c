@@ -34,6 +34,15 @@ void give_steps(struct journal *journal, const struct step *steps, size_t count)
     if (steps != NULL) memcpy(journal->steps, steps, count * sizeof *steps);
 }
 
+const struct step *next_clock(const struct step *steps, size_t count, const struct step *before) {
+    const struct step *next = NULL;
+    for (size_t i = 0; i < count; i++) {
+        bool is_after = before == NULL || memcmp(steps[i].clock, before->clock, 8) > 0;
+        if (is_after && (next == NULL || memcmp(steps[i].clock, next->clock, 8) < 0)) next = &steps[i];
+    }
+    return next;
+}
+
 void leave_journal(struct journal *journal) {
     if (journal->file > 0) close(journal->file);
     free(journal->steps);

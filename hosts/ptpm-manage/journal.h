@@ -23,7 +23,12 @@ struct step {
 
 /* What the clock answered to a step. */
 enum outcome { NOT_TOLD, DONE, IS_REFUSED, OTHER_VALUE };
-struct told { enum outcome outcome; uint16_t error; struct value answer; };
+struct told {
+    enum outcome outcome;
+    uint16_t error;
+    struct value answer;
+    bool is_left_out;           /* by a rollback, and the member is not as before */
+};
 
 /* How it ended. */
 enum ending { IS_OPEN, COMPLETE, ENDED_REFUSED, ENDED_ANSWERED, ENDED_CHANGED, GIVEN_UP, ROLLED_BACK, ENDINGS };
@@ -47,6 +52,10 @@ struct journal {
 
 /* Makes the steps' places. Ends the program with status 2 if there is no memory. */
 void give_steps(struct journal *journal, const struct step *steps, size_t count);
+
+/* The first step of the clock whose identity comes next after that of a step, or first of all after NULL; NULL after the last. Sessions
+   of several clocks are taken in this order: then no two runs each hold one that the other waits for. */
+const struct step *next_clock(const struct step *steps, size_t count, const struct step *before);
 
 /* Makes the file whole, with only the steps; whether it could. If not, errno says why. */
 bool make_journal(struct journal *journal);

@@ -11,11 +11,13 @@ static const char without_site[] =
 /* The page that was written last, without a line. */
 static char *latest;
 
+/* The name of an interface may have any octets, and a page takes only UTF-8. */
 static void write_escaped(FILE *to, const char *text) {
     for (; *text != '\0'; text++) {
         if (*text == '&') fputs("&amp;", to);
         else if (*text == '<') fputs("&lt;", to);
-        else fputc(*text, to);
+        else if (*text >= ' ' && *text < 0x7f) fputc(*text, to);
+        else fprintf(to, "\\x%02x", (unsigned char)*text);
     }
 }
 

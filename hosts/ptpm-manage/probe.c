@@ -25,14 +25,6 @@ static int take_answer(const struct task *task, const struct answer *answer) {
 
 static bool is_same_clock(const struct step *one, const struct step *other) { return memcmp(one->clock, other->clock, 8) == 0; }
 
-/* Whether no step before this one is at its clock. */
-static bool is_first_of_clock(const struct plan *plan, size_t place) {
-    for (size_t i = 0; i < place; i++) {
-        if (is_same_clock(&plan->steps[i], &plan->steps[place])) return false;
-    }
-    return true;
-}
-
 /* A port that a step at this clock changes, or else its first one. */
 static uint16_t port_of(const struct plan *plan, const struct step *first) {
     for (size_t i = 0; i < plan->count; i++) {
@@ -80,8 +72,8 @@ int probe_clocks(struct plan *plan, const struct task *task) {
     struct probe *probes = calloc(plan->count + 1, sizeof *probes);
     if (probes == NULL) give_up("the probes");
     if (plan->count > 0) state_folder();
-    for (size_t i = 0; i < plan->count; i++) {
-        if (is_first_of_clock(plan, i)) take_probe(&probes[count++], plan, task, &plan->steps[i]);
+    for (const struct step *first = NULL; (first = next_clock(plan->steps, plan->count, first)) != NULL;) {
+        take_probe(&probes[count++], plan, task, first);
     }
     for (size_t i = 0; i < count && status == ANSWERED; i++) status = end_probe(plan, &probes[i], task);
     free(probes);

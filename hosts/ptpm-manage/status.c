@@ -6,6 +6,7 @@
 #include "look_lines.h"
 #include "monotonic.h"
 #include "notices.h"
+#include "numbers.h"
 #include "output_file.h"
 #include "page.h"
 #include "ptpm_program.h"
@@ -297,6 +298,8 @@ static int print_form(FILE *to, const struct look *look, const struct look *earl
         status = NOT_ANSWERED;
     } else if (form == AS_PAGE && shown.size > 0) {
         print_page(to, shown.text);
+    } else if (form == AS_NUMBERS && shown.size > 0) {
+        write_numbers(to, shown.text);
     } else if (shown.size > 0) fwrite(shown.text, 1, shown.size, to);
     free_report(&shown);
     return status > FINDINGS || form == AS_NUMBERS || form == AS_PLUGIN ? status : look->status;

@@ -34,13 +34,19 @@ static void take_session(const struct task *task, const struct step *first) {
     desks[desk_count++] = desk;
 }
 
-/* The first step of each clock without an answer counts: its port is asked first. */
-void take_sessions(const struct task *task, const struct journal *journal) {
+/* The first step of a clock without an answer, or else its first one. */
+static const struct step *first_to_ask(const struct journal *journal, const struct step *first) {
     for (size_t i = 0; i < journal->count; i++) {
-        if (journal->told[i].outcome == NOT_TOLD && desk_of(&journal->steps[i]) == NULL) take_session(task, &journal->steps[i]);
+        bool is_of_clock = memcmp(journal->steps[i].clock, first->clock, 8) == 0;
+        if (is_of_clock && journal->told[i].outcome == NOT_TOLD) return &journal->steps[i];
     }
-    for (size_t i = 0; i < journal->count; i++) {
-        if (desk_of(&journal->steps[i]) == NULL) take_session(task, &journal->steps[i]);
+    return first;
+}
+
+/* The port of the step that is asked first counts. */
+void take_sessions(const struct task *task, const struct journal *journal) {
+    for (const struct step *first = NULL; (first = next_clock(journal->steps, journal->count, first)) != NULL;) {
+        take_session(task, first_to_ask(journal, first));
     }
 }
 
@@ -204,7 +210,7 @@ static const char *why_left_out(const struct journal *journal, size_t place) {
     }
 }
 
-int find_left_out(const struct task *task, const struct journal *journal) {
+int find_left_out(const struct task *task, struct journal *journal) {
     static struct answer answer;
     int found = ANSWERED;
     for (size_t i = 0; i < journal->count; i++) {
@@ -215,6 +221,7 @@ int find_left_out(const struct task *task, const struct journal *journal) {
         show_step("read", journal, (long)i);
         int status = read_moved(task, step, domain_at_begin(journal, step), &answer);
         if (status == ANSWERED && has(&answer, step, &step->before)) continue;
+        journal->told[i].is_left_out = true;
         snprintf(lead, sizeof lead, "step %zu of %s %s, and is left out", i + 1, journal->name, why);
         if (status == ANSWERED) say_value(lead, step, &answer, &step->before);
         else complain("%s", lead);

@@ -32,9 +32,9 @@ bool end_journal(struct journal *journal, enum ending ending, long step);
    already is said, and so is one that has neither value. ANSWERED, NOT_AS_ASKED if one has neither, or the program's status. */
 int leave_needed_steps(const struct task *task, struct journal *back);
 
-/* After the rollback of a journal: whether each member that it left out is as before the apply; each that is not is said. ANSWERED,
-   NOT_ANSWERED if one is not, or the program's status. */
-int find_left_out(const struct task *task, const struct journal *journal);
+/* After the rollback of a journal: whether each member that it left out is as before the apply. Each that is not is said, and noted in
+   `told`. ANSWERED, NOT_ANSWERED if one is not, or the program's status. */
+int find_left_out(const struct task *task, struct journal *journal);
 
 void leave_sessions(void);
 

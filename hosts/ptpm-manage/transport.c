@@ -538,10 +538,18 @@ void note_way(void) {
     for (size_t i = 0; (end = end_in_turn(i)) != NULL; i++) end->has_answer |= latest_end == end;
 }
 
+const char *named_way(size_t place, bool *has_answer) {
+    const struct end *end = end_in_turn(place);
+    if (end == NULL) return NULL;
+    *has_answer = end->has_answer;
+    return end_name(end);
+}
+
 const char *silent_way(void) {
-    const struct end *end;
-    for (size_t i = 0; (end = end_in_turn(i)) != NULL; i++) {
-        if (!end->has_answer) return end_name(end);
+    bool has_answer;
+    const char *way;
+    for (size_t i = 0; (way = named_way(i, &has_answer)) != NULL; i++) {
+        if (!has_answer) return way;
     }
     return NULL;
 }

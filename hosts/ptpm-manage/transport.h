@@ -70,6 +70,9 @@ void forget_ways(void);
 void note_way(void);
 const char *silent_way(void);
 
+/* The first of these ways, the second and so on, and whether an answer came at it; NULL after the last. */
+const char *named_way(size_t place, bool *has_answer);
+
 /* Says at which of them no answer came, though one did the time before. */
 void tell_silent_ways(void);
 

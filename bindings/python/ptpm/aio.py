@@ -24,6 +24,7 @@ import weakref
 from typing import Any, AsyncIterator, Callable, MutableMapping, Optional, Tuple, TypeVar
 
 from . import nobody
+from .asking import judge_seconds
 from .identity import IdentityLike
 from .ids import IdLike
 from .members import DataField
@@ -109,6 +110,7 @@ async def _ask(way: Transport, call: Callable[[Transport], _Result], keep: Calla
 
 async def receive(way: Transport, timeout: Optional[float] = None) -> Optional[bytes]:
     """The next datagram, or None if none comes in within a time, in seconds. No thread waits for it."""
+    judge_seconds("timeout", 0 if timeout is None else timeout)
     loop, is_there = asyncio.get_running_loop(), asyncio.Event()
     found = way.take()
     if found is not None:

@@ -21,6 +21,12 @@ class NoAnswer(PtpmError, TimeoutError):
         self.was_sent = was_sent
 
 
+def judge_seconds(name: str, seconds: float) -> None:
+    """Refuses a time below 0, or one that is no number, as the sockets of Python do."""
+    if not seconds >= 0:
+        raise ValueError(f"{name} {seconds}: it takes seconds, not below 0")
+
+
 def no_answer(sent: int) -> NoAnswer:
     """There is no answer to a request that was sent this often."""
     return NoAnswer(f"no answer to {sent} messages", was_sent=sent > 0)
@@ -46,6 +52,7 @@ def _is_answered(session: Requests, way: Transport, until: float) -> bool:
 
 def carry_out(session: Requests, way: Transport, timeout: float) -> Report:
     """Sends the unanswered request until it is answered, or its attempts are used."""
+    judge_seconds("timeout", timeout)
     sent = 0
     while True:
         try:

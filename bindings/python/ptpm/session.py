@@ -11,7 +11,7 @@ from typing import Iterator, Optional, Type
 from . import _header as header
 from .answers import Error, SessionAnswer
 from .asker import Asker
-from .asking import NoAnswer, no_answer
+from .asking import NoAnswer, judge_seconds, no_answer
 from .clock import port_number
 from .driver import Driver
 from .identity import Identity, PortIdentity
@@ -41,6 +41,7 @@ class Session(Requests):
         """`wait` is how many seconds a session without a number waits before it asks, until no copy of an earlier one is on its
         way. A manager has a port below 61440: at those from there on processes ask in no session, as `get` and `survey` do."""
         refuse_nobody(PortIdentity.of(settings.manager))
+        judge_seconds("wait", wait)
         octets = None if file is None else file.octets
         self._asking = threading.RLock()
         self._asker: Optional[Asker] = None  # it has the session, unless calls of Requests changed that one
@@ -249,6 +250,7 @@ class Session(Requests):
         value of an id's one member, or the value of each member by its name. A port that is not 0 is named to the clock, whatever
         the id. One above 8 is asked only without a file, else it is a ValueError. If no answer came, NoAnswer says whether the
         request itself was sent; if it was, `go_on` asks the same again."""
+        judge_seconds("timeout", timeout)
         number = id_of(named)
         request = Request(Action(action), number, port_number(port), data_field(number, value))
         place = NamedPort(0 if port == EVERY_PORT else port)
@@ -265,6 +267,7 @@ class Session(Requests):
 
     def _settle(self, way: Transport, timeout: float, attempts: Optional[int] = None) -> Report:
         """Sends the unanswered request again."""
+        judge_seconds("timeout", timeout)
         if not self.is_busy():
             raise Error(header.PTPM_IDLE)
         asker, image = self._holder(attempts), self._image()

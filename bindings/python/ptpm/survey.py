@@ -10,7 +10,7 @@ from typing import Generator, Iterator, Optional
 from . import _header as header
 from ._library import Handle, library, octets_of
 from .answers import SurveyAnswer, done, judged, written
-from .asking import send_out
+from .asking import judge_seconds, send_out
 from .identity import Identity, IdentityLike, PortIdentity, PortIdentityLike
 from .ids import IdLike, id_of
 from .nobody import draw, nobody
@@ -111,6 +111,7 @@ def survey(
     """Asks every clock, and yields the answers as they come. It asks again until two rounds bring no new answer, or five if nobody
     has answered, and `attempts` times at most. `manager` is who asks, and has no session: a session of the same portIdentity may
     treat an answer as its own. By default it is a port of this process that no session has."""
+    judge_seconds("timeout", timeout)
     who = PortIdentity.of(manager) if manager is not None else nobody(PortIdentity(way.identity, 1))
     with Survey(SurveySettings(who, draw(), named, domain, hops)) as asked:
         message = asked.send()

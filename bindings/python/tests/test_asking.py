@@ -2,6 +2,7 @@
 
 from __future__ import annotations
 
+import asyncio
 import os
 import socket
 import subprocess
@@ -16,6 +17,7 @@ from io import StringIO
 from typing import List, Optional
 
 import ptpm
+import ptpm.aio
 from ptpm.__main__ import Task
 from ptpm.__main__ import _parser as command_line
 from ptpm.session_file import usual_path
@@ -136,6 +138,25 @@ class Asking(Folder):
             with self.session(first) as session, self.assertRaises(ptpm.NoAnswer) as caught:
                 session.ask(Losing(self.way, noted.answers), ptpm.Action.SET, "PRIORITY1", 128, timeout=0.05)
             self.assertEqual((caught.exception.was_sent, noted.answers), (True, []))
+
+    def test_a_time_below_0_is_refused(self) -> None:
+        """Nothing is sent, and the session stays as it was."""
+        way = Failing(self.way, 0)
+        with self.session(700) as session:
+            for seconds in (-1, -0.001, float("nan")):
+                self.assertRaises(ValueError, self.session_that_waits, seconds)
+                for call in (
+                    lambda: ptpm.get(way, CLOCK, "PRIORITY1", timeout=seconds),
+                    lambda: list(ptpm.survey(way, "PRIORITY1", timeout=seconds)),
+                    lambda: session.ask(way, ptpm.Action.GET, "PRIORITY1", timeout=seconds),
+                    lambda: asyncio.run(ptpm.aio.receive(way, seconds)),
+                ):
+                    self.assertRaisesRegex(ValueError, f"timeout {seconds}: it takes seconds, not below 0", call)
+            self.assertFalse(session.is_busy())
+
+    @staticmethod
+    def session_that_waits(seconds: float) -> ptpm.Session:
+        return ptpm.Session(ptpm.SessionSettings(MANAGER, CLOCK), wait=seconds)
 
     def test_a_session_has_a_port_of_a_manager(self) -> None:
         settings = ptpm.SessionSettings("0011223344556677/61440", CLOCK)
