@@ -1,5 +1,5 @@
 -- Where a device is asked, and that what it says moves neither the verdict nor what is passed on.
-use Rattle.std.proofs.Common.{◌≡◌, ℕ, is_none, ◌&&◌, if◌then◌else◌, List, Option, Some, None, true, refl, sym, ◌∙◌, ap}
+use Rattle.std.proofs.Common.{arith, ◌≡◌, ℕ, is_none, ◌&&◌, if◌then◌else◌, List, Option, Some, None, true, refl, sym, ◌∙◌, ap}
 use Rattle.std.proofs.lemmas.Bool.{and_from, and_parts, cond-true, false≢true, true≢false}
 use Rattle.std.proofs.lemmas.Option.{cond_some, none-some}
 use Rattle.ptpm_codec.specs.declared.error.ErrorId.{ErrorId}
@@ -56,6 +56,22 @@ wanted-parts c s v y =
     let p = and_parts _ _ y in
     let q = and_parts _ _ p.1 in
     (p.0, (is_get-true (request_of v).action q.0, from_is_none (row_of (request_of v).id) q.1))
+
+pub asked-whole : (c : Clock) (s : State) (v : Message)
+    → judged c s v ≡ verdicts.AnsweredNew
+    → is_change (request_of v).action ≡ true
+    → refusal_of (request_of v) (c.rights v.source) ≡ None
+    → is_asked c s v ≡ true
+unfolding is_asked
+asked-whole c s v new change none = grind arith
+
+pub wanted-whole : (c : Clock) (s : State) (v : Message)
+    → is_read (judged c s v) ≡ true
+    → (request_of v).action ≡ actions.Get
+    → row_of (request_of v).id ≡ None
+    → is_wanted c s v ≡ true
+unfolding is_wanted
+wanted-whole c s v read get lacks = grind arith
 
 -- ---- where it is not asked
 

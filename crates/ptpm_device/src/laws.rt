@@ -61,17 +61,23 @@ pub fn at_most_once_decided()
         due_decided c since j later ≡ due_decided c h k say }
 {}
 
-/// The device is asked to carry out nothing but a new SET or COMMAND that the clock itself does not refuse. It is asked for the
-/// value of nothing but a GET that is answered, of an id that the clock lacks. An objection to anything else doesn't
+/// The device is asked to carry out each new SET or COMMAND that the clock itself does not refuse, and nothing else. It is asked for
+/// the value of each GET that is answered, of an id that the clock lacks, and of nothing else. An objection to anything else doesn't
 /// count, nor does a value of anything else. Whatever it says, the verdict and what
 /// is passed on are those of the clock without a device.
 pub fn device_judged_last()
     ensures asked { (c : Clock) (s : State) (v : Message) → is_asked c s v ≡ true →
         (judged c s v ≡ verdicts.AnsweredNew) × ((is_change (request_of v).action ≡ true)
         × (refusal_of (request_of v) (c.rights v.source) ≡ None)) }
+    ensures asked_each { (c : Clock) (s : State) (v : Message) → judged c s v ≡ verdicts.AnsweredNew →
+        is_change (request_of v).action ≡ true → refusal_of (request_of v) (c.rights v.source) ≡ None →
+        is_asked c s v ≡ true }
     ensures wanted { (c : Clock) (s : State) (v : Message) → is_wanted c s v ≡ true →
         (is_read (judged c s v) ≡ true) × (((request_of v).action ≡ actions.Get)
         × (row_of (request_of v).id ≡ None)) }
+    ensures wanted_each { (c : Clock) (s : State) (v : Message) → is_read (judged c s v) ≡ true →
+        (request_of v).action ≡ actions.Get → row_of (request_of v).id ≡ None →
+        is_wanted c s v ≡ true }
     ensures not_asked { (c : Clock) (s : State) (error : ErrorId) (ingress : ℕ)
         (datagram : List ℕ) → asked c s datagram ≡ None →
         turn_said c s (Objects error) ingress datagram ≡ turn c s ingress datagram }

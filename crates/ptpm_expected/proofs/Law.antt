@@ -27,7 +27,7 @@ use Rattle.ptpm_expected.specs.declared.inventory.Rule.TheVariants as rule
 use Rattle.ptpm_expected.specs.declared.named.Naming.{Naming}
 use Rattle.ptpm_expected.specs.declared.named.Naming.TheVariants as naming
 use Rattle.ptpm_expected.specs.InventoryFindings.{absent_at, absent_told, are_leading, entry_told, rule_told, told_by_inventory, unexpected_at, unexpected_sender, unexpected_told}
-use Rattle.ptpm_expected.specs.Leaders.{leaders_among}
+use Rattle.ptpm_expected.specs.Leaders.{leaders_in}
 use Rattle.ptpm_expected.specs.Naming.{all_named_as, closed_by, closed_in, in_domain_of, is_closed, is_named, is_named_as, named_by, named_by_rule}
 use Rattle.ptpm_expected.specs.Profiles.{port_members}
 use Rattle.ptpm_expected.specs.Senders.{announcing}
@@ -83,7 +83,7 @@ module _ (t : SiteAnswers) where
   -- ---- nothing is found by a line that holds, and it demands only what is seen
 
   fits : Line → Bool
-  fits (Leads d choices) = are_leading (leaders_among t d t.clocks) choices
+  fits (Leads d choices) = are_leading (leaders_in t d) choices
   fits (Closes d) = true
   fits (Wants s) = t.seen s
   fits (Excuses s) = true
@@ -186,7 +186,7 @@ module _ (t : SiteAnswers) where
   domain_closes : (d : Domain) → flat_map line_closes (domain_lines t d) ≡ d ∷ []
   unfolding domain_lines line_closes
   domain_closes d =
-      let L : List Line = leader_lines d (leaders_among t d t.clocks) in
+      let L : List Line = leader_lines d (leaders_in t d) in
       let E : List Line = flat_map (excuse_in t d) (announcing t) in
       let W : List Line = flat_map (clock_lines_in t d) t.clocks in
       let excuses : flat_map line_closes E ≡ [] =
@@ -199,7 +199,7 @@ module _ (t : SiteAnswers) where
       ∙ ap (λ ys. ys ++ flat_map line_closes W)
       (flat_append line_closes (L ++ Closes d ∷ []) E
       ∙ ap (λ ys. ys ++ flat_map line_closes E)
-      (flat_append line_closes L (Closes d ∷ []) ∙ ap (λ ys. ys ++ d ∷ []) (leaders_close_none d (leaders_among t d t.clocks))))
+      (flat_append line_closes L (Closes d ∷ []) ∙ ap (λ ys. ys ++ d ∷ []) (leaders_close_none d (leaders_in t d))))
       ∙ ap (λ ys. d ∷ (ys ++ flat_map line_closes W)) excuses
       ∙ ap (λ ys. d ∷ ys) clocks
 
@@ -213,7 +213,7 @@ module _ (t : SiteAnswers) where
   seen_in_domain s d e among =
       let p : Line → Bool = names_it naming.Demanded s in
       let here : Source → Type 0 = λ y. list_any p (clock_lines_in t d y) ≡ true in
-      any_right p (leader_lines d (leaders_among t d t.clocks) ++ Closes d ∷ [] ++ flat_map (excuse_in t d) (announcing t)) (flat_map (clock_lines_in t d) t.clocks)
+      any_right p (leader_lines d (leaders_in t d) ++ Closes d ∷ [] ++ flat_map (excuse_in t d) (announcing t)) (flat_map (clock_lines_in t d) t.clocks)
       (any_flat p (clock_lines_in t d) t.clocks
       ∙ any_weaker (same_source s) (λ y. list_any p (clock_lines_in t d y))
       (λ y same. subst here (same_is s y same) (any_if p (same_domain s.domain d) (clock_lines t s) e (wanted_itself s))) t.clocks among)
@@ -228,7 +228,7 @@ module _ (t : SiteAnswers) where
   heard_in_domain s d e unseen among =
       let p : Line → Bool = names_it naming.Excused s in
       let here : Source → Type 0 = λ y. list_any p (excuse_in t d y) ≡ true in
-      let L : List Line = leader_lines d (leaders_among t d t.clocks) in
+      let L : List Line = leader_lines d (leaders_in t d) in
       let E : List Line = flat_map (excuse_in t d) (announcing t) in
       any_left p (L ++ Closes d ∷ [] ++ E) (flat_map (clock_lines_in t d) t.clocks)
       (any_right p (L ++ Closes d ∷ []) E
@@ -239,7 +239,7 @@ module _ (t : SiteAnswers) where
       (announcing t) among))
 
 module _ (t : SiteAnswers) (known : (s : Source) → t.seen s ≡ list_any (same_source s) t.clocks) where
-  leaders_fit : (d : Domain) (xs : List ClockIdentity) → xs ≡ leaders_among t d t.clocks → list_all (fits t) (leader_lines d xs) ≡ true
+  leaders_fit : (d : Domain) (xs : List ClockIdentity) → xs ≡ leaders_in t d → list_all (fits t) (leader_lines d xs) ≡ true
   unfolding fits
   leaders_fit d [] e = refl
   leaders_fit d (c ∷ xs) e =
@@ -270,12 +270,12 @@ module _ (t : SiteAnswers) (known : (s : Source) → t.seen s ≡ list_any (same
   domain_fits : (d : Domain) → list_all (fits t) (domain_lines t d) ≡ true
   unfolding domain_lines fits
   domain_fits d =
-      let L : List Line = leader_lines d (leaders_among t d t.clocks) in
+      let L : List Line = leader_lines d (leaders_in t d) in
       let E : List Line = flat_map (excuse_in t d) (announcing t) in
       let W : List Line = flat_map (clock_lines_in t d) t.clocks in
       all_append (fits t) (L ++ Closes d ∷ [] ++ E) W
       (all_append (fits t) (L ++ Closes d ∷ []) E
-      (all_append (fits t) L (Closes d ∷ []) (leaders_fit d (leaders_among t d t.clocks) refl) refl)
+      (all_append (fits t) L (Closes d ∷ []) (leaders_fit d (leaders_in t d) refl) refl)
       (all_made (fits t) (excuse_in t d) (λ s. all_if (fits t) _ (Excuses s ∷ []) (λ k. refl)) (announcing t)))
       (all_flat t.seen (fits t) (clock_lines_in t d) (λ s h. all_if (fits t) _ (clock_lines t s) (λ k. clock_fits s h)) t.clocks all_seen)
 

@@ -13,7 +13,7 @@ use Rattle.ptpm_expected.specs.declared.inventory.MemberRule.{MemberRule}
 use Rattle.ptpm_expected.specs.declared.inventory.Rule.{Rule}
 use Rattle.ptpm_expected.specs.declared.inventory.Rule.TheVariants as rule
 use Rattle.ptpm_expected.specs.declared.named.Naming.TheVariants as naming
-use Rattle.ptpm_expected.specs.Leaders.{leaders_among}
+use Rattle.ptpm_expected.specs.Leaders.{leaders_in}
 use Rattle.ptpm_expected.specs.Meeting.{is_as_wanted, rule_says}
 use Rattle.ptpm_expected.specs.Naming.{all_named_as, in_domain_of, is_closed, is_named, is_named_as}
 use Rattle.ptpm_expected.specs.Senders.{announcing}
@@ -66,7 +66,7 @@ leaders_told domain choices leading =
     if are_leading leading choices then [] else told (in_domain_of domain (first_of leading)) (OtherLeaders leading choices) ∷ []
 
 abbrev pub rule_told : SiteAnswers → Domain → Rule → List Told
-rule_told site domain (rule.Leaders choices) = leaders_told domain (map (λ clocks. clocks.items) choices.items) (leaders_among site domain site.clocks)
+rule_told site domain (rule.Leaders choices) = leaders_told domain (map (λ clocks. clocks.items) choices.items) (leaders_in site domain)
 rule_told site domain (rule.Member clock wanted) = member_told site wanted (in_domain_of domain clock)
 rule_told site domain (rule.EachMember wanted) = flat_map (member_told_in site domain wanted) site.clocks
 rule_told site domain _ = []

@@ -22,7 +22,7 @@ use Rattle.ptpm_site.specs.declared.source.Source.{Source}
 use Rattle.ptpm_site.specs.Announces.{is_by_unicast}
 use Rattle.ptpm_site.specs.Announcing.{port_above}
 use Rattle.ptpm_site.specs.Following.{beside}
-use Rattle.ptpm_site.specs.Grandmasters.{leads}
+use Rattle.ptpm_site.specs.Grandmasters.{leads_by_answers}
 use Rattle.ptpm_site.specs.Leading.{has_source}
 use Rattle.ptpm_site.specs.PortStates.{is_following}
 use Rattle.ptpm_site.specs.SiteAnswers.{SiteAnswers, default_of, parent_of, port_of, time_of}
@@ -47,9 +47,9 @@ clock_outside profile domain d =
     ∷ member_outside None (members.DataSet sets.Domain) (values.Unsigned d.domain) domain_range
     ∷ member_outside None (members.DataSet sets.Priority1) (values.Unsigned d.priority1) (priority_range profile) ∷ []
 
--- a clock of class 6 or 7 that leads gives TAI
+-- a clock of class 6 or 7 that is seen and leads gives TAI
 abbrev pub timescale_outside : SiteAnswers → Source → Option Outside
-timescale_outside site s = if leads site s then option_and_then (λ d. option_and_then (λ t.
+timescale_outside site s = if leads_by_answers site s then option_and_then (λ d. option_and_then (λ t.
     if has_source d.quality.class && not t.ptp_timescale
     then Some (record { port = None; member = members.DataSet sets.PtpTimescale; value = values.Flag false; allowed = allowed.Set }) else None)
     (time_of site s)) (default_of site s) else None

@@ -15,7 +15,7 @@ use Rattle.ptpm_expected.specs.declared.inventory.Entry.{Entry}
 use Rattle.ptpm_expected.specs.declared.inventory.Presence.TheVariants as presence
 use Rattle.ptpm_expected.specs.declared.inventory.Rule.{Rule}
 use Rattle.ptpm_expected.specs.declared.inventory.Rule.TheVariants as rule
-use Rattle.ptpm_expected.specs.Leaders.{leaders_among}
+use Rattle.ptpm_expected.specs.Leaders.{leaders_in}
 use Rattle.ptpm_expected.specs.Meeting.{is_as_wanted, rule_says}
 use Rattle.ptpm_expected.specs.Naming.{in_domain_of}
 use Rattle.ptpm_expected.specs.Profiles.{port_members}
@@ -93,7 +93,7 @@ leader_lines domain (clock ∷ others) = Leads domain ((clock ∷ others) ∷ []
 
 unfoldable pub domain_lines : SiteAnswers → Domain → List Line
 domain_lines site domain =
-    leader_lines domain (leaders_among site domain site.clocks)
+    leader_lines domain (leaders_in site domain)
     ++ Closes domain ∷ []
     ++ flat_map (excuse_in site domain) (announcing site)
     ++ flat_map (clock_lines_in site domain) site.clocks

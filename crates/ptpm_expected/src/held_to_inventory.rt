@@ -16,6 +16,7 @@ use crate::judging_inventory::judge_entries;
 use crate::judging_named::{judge_absent, judge_unexpected};
 use crate::order::{FindingKey, put_in_order};
 use ptpm_site::finding::Finding;
+use ptpm_site::leaders::leaders_of;
 use ptpm_site::site::Site;
 use ptpm_site::source::Source;
 use std::alloc::{AllocError, Global};
@@ -77,7 +78,8 @@ fn judge<'a>(
         ≡ told_all findings.old.items ++ told_by_inventory (site_answers held.now.site.now) held.now.entries.now) }
 {
     let (site, entries) = (held.site, held.entries);
-    judge_entries(alloc, site, entries, sources, findings)?;
+    let leaders = leaders_of(alloc, site)?;
+    judge_entries(alloc, site, entries, sources, leaders.as_slice(), findings)?;
     judge_absent(alloc, site, entries, &held.named, findings)?;
     judge_unexpected(alloc, site, entries, &held.named, sources, findings)?;
     Ok(())

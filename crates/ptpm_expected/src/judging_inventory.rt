@@ -4,9 +4,10 @@ ghost use Rattle.std.specs.Prelude.{◌≡◌, ◌++◌, IfOk, OnOk, map};
 ghost use Rattle.std.specs.Cmp.Lexicographic.{pointwise};
 ghost use Rattle.std.specs.List.{flat_map, list_any};
 ghost use Rattle.ptpm_codec.specs.Identity.{same_clock};
+ghost use Rattle.ptpm_site.specs.Leaders.{all_leaders};
 ghost use Rattle.ptpm_site.specs.Site.{site_answers};
 ghost use Rattle.ptpm_expected.specs.InventoryFindings.{are_leading, entry_told, first_of, leaders_told, member_told, member_told_in};
-ghost use Rattle.ptpm_expected.specs.Leaders.{leaders_among};
+ghost use Rattle.ptpm_expected.specs.Leaders.{identities_in};
 ghost use Rattle.ptpm_expected.specs.Telling.{told_all};
 
 use crate::inventory::{Entry, MemberRule, Rule};
@@ -16,23 +17,27 @@ use ptpm_codec::ClockIdentity;
 use ptpm_site::domain::Domain;
 use ptpm_site::expected::OtherLeaders;
 use ptpm_site::finding::{Finding, What};
+use ptpm_site::leaders::Leader;
 use ptpm_site::site::Site;
 use ptpm_site::source::Source;
 use std::alloc::{AllocError, Global};
 
-/// Adds what is not as the entries of an inventory want it, one entry after another. `sources` has all clocks.
+/// Adds what is not as the entries of an inventory want it, one entry after another. `sources` has all clocks, and `leaders` all
+/// grandmasters that lead.
 pub(crate) fn judge_entries<'a>(
     alloc: Global,
     site: &'a Site,
     entries: &'a [Entry],
     sources: &[Source],
+    leaders: &[Leader],
     findings: &mut Vec<Finding<'a>>,
 ) -> Added
-    requires { sources.now ≡ (site_answers site.now).clocks }
+    requires sources { sources.now ≡ (site_answers site.now).clocks }
+    requires leaders { leaders.now ≡ all_leaders (site_answers site.now) }
     ensures { OnOk result (told_all findings.new.items ≡ told_all findings.old.items ++ flat_map (entry_told (site_answers site.now)) entries.now) }
 {
     for entry in entries {
-        judge_entry(alloc, site, entry, sources, findings)?;
+        judge_entry(alloc, site, entry, sources, leaders, findings)?;
     }
     Ok(())
 }
@@ -42,15 +47,17 @@ fn judge_entry<'a>(
     site: &'a Site,
     entry: &'a Entry,
     sources: &[Source],
+    leaders: &[Leader],
     findings: &mut Vec<Finding<'a>>,
 ) -> Added
-    requires { sources.now ≡ (site_answers site.now).clocks }
+    requires sources { sources.now ≡ (site_answers site.now).clocks }
+    requires leaders { leaders.now ≡ all_leaders (site_answers site.now) }
     ensures { OnOk result (told_all findings.new.items ≡ told_all findings.old.items ++ entry_told (site_answers site.now) entry.now) }
 {
     let domain = entry.domain;
     match &entry.rule {
         Rule::Leaders(wanted) => {
-            let leading = leading_in(alloc, site, domain, sources)?;
+            let leading = leading_in(alloc, domain, leaders)?;
             judge_leaders(domain, wanted.as_slice(), leading, findings)
         }
         Rule::Only | Rule::Clock(..) => Ok(()),
@@ -137,19 +144,18 @@ fn first_of(leading: &[ClockIdentity]) -> ClockIdentity
     leading.first().copied().unwrap_or(ClockIdentity([0; 8]))
 }
 
-/// The clocks of a domain that lead, ascending.
+/// Those of these grandmasters that lead a domain.
 pub(crate) fn leading_in(
     alloc: Global,
-    site: &Site,
     domain: Domain,
-    sources: &[Source],
+    leaders: &[Leader],
 ) -> Result<Vec<ClockIdentity>, AllocError>
-    ensures { IfOk result (λ leading. leading.items ≡ leaders_among (site_answers site.now) domain sources.now) }
+    ensures { IfOk result (λ leading. leading.items ≡ identities_in domain leaders.now) }
 {
     let mut leading = Vec::new(alloc);
-    for source in sources {
-        if source.domain == domain && site.leads(*source) {
-            leading.push(source.clock)?;
+    for leader in leaders {
+        if leader.source.domain == domain {
+            leading.push(leader.source.clock)?;
         }
     }
     Ok(leading)

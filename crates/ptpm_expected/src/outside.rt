@@ -63,11 +63,11 @@ pub fn clock_outside(
     ]
 }
 
-/// ptpTimescale of a clock that leads and has, or had, a primary source of time, if it is false.
+/// ptpTimescale of a clock that is seen, leads, and has, or had, a primary source of time, if it is false.
 pub fn timescale_outside(site: &Site, source: Source) -> Option<Outside>
     ensures { result ≡ timescale_outside (site_answers site.now) source }
 {
-    if !site.leads(source) {
+    if !site.leads_by_answers(source) {
         return None;
     }
     let class = site.default(source)?.quality.class;

@@ -1,11 +1,12 @@
 //! The inventory of a site as it is.
 
-ghost use Rattle.std.specs.Prelude.{◌≡◌, ◌++◌, [], ◌∷◌, IfOk, OnOk, true};
+ghost use Rattle.std.specs.Prelude.{◌≡◌, [], ◌∷◌, IfOk, OnOk, true};
 ghost use Rattle.std.specs.BTreeSet.{insert_key, keys};
 ghost use Rattle.std.specs.List.{flat_map, fold};
 ghost use Rattle.std.specs.Str.{IsUtf8};
 ghost use Rattle.std.specs.String.{string_bytes};
 ghost use Rattle.ptpm_members.specs.Values.{said};
+ghost use Rattle.ptpm_site.specs.Leaders.{all_leaders};
 ghost use Rattle.ptpm_site.specs.Site.{site_answers};
 ghost use Rattle.ptpm_expected.specs.InventoryFindings.{told_by_inventory};
 ghost use Rattle.ptpm_expected.specs.Meeting.{is_met, meets};
@@ -25,6 +26,7 @@ use ptpm_members::Member::DataSet;
 use ptpm_members::{Member, MemberValue};
 use ptpm_site::domain::Domain;
 use ptpm_site::expected::Wanted;
+use ptpm_site::leaders::{Leader, leaders_of};
 use ptpm_site::site::Site;
 use ptpm_site::source::Source;
 use std::alloc::{AllocError, Global};
@@ -59,6 +61,7 @@ fn entries_of(alloc: Global, site: &Site) -> Result<Vec<Entry>, AllocError>
     let sources = site.sources(alloc)?;
     let senders = announcing(alloc, site)?;
     let domains = domains_of(alloc, sources.as_slice())?;
+    let leaders = leaders_of(alloc, site)?;
     let (sources, senders) = (sources.as_slice(), senders.as_slice());
     let mut entries = Vec::new(alloc);
     add_domains(
@@ -67,6 +70,7 @@ fn entries_of(alloc: Global, site: &Site) -> Result<Vec<Entry>, AllocError>
         domains.as_slice(),
         sources,
         senders,
+        leaders.as_slice(),
         &mut entries,
     )?;
     Ok(entries)
@@ -104,27 +108,30 @@ fn add_domain_of(source: Source, set: &mut BTreeSet<Domain>) -> Result<(), Alloc
     Ok(())
 }
 
-/// Adds the lines of these domains. `sources` has all clocks, and `senders` those that announce.
+/// Adds the lines of these domains. `sources` has all clocks, `senders` those that announce, and `leaders` all grandmasters that
+/// lead.
 fn add_domains(
     alloc: Global,
     site: &Site,
     domains: &[Domain],
     sources: &[Source],
     senders: &[Source],
+    leaders: &[Leader],
     entries: &mut Vec<Entry>,
 ) -> Added
     requires sources { sources.now ≡ (site_answers site.now).clocks }
     requires senders { senders.now ≡ announcing (site_answers site.now) }
+    requires leaders { leaders.now ≡ all_leaders (site_answers site.now) }
     ensures { Writes (site_answers site.now) result entries.old.items entries.new.items (flat_map (domain_lines (site_answers site.now)) domains.now) }
 {
     for domain in domains {
-        add_domain(alloc, site, *domain, sources, senders, entries)?;
+        add_domain(alloc, site, *domain, sources, senders, leaders, entries)?;
     }
     Ok(())
 }
 
-/// Adds the lines of a domain: who leads, if anyone does, that each clock is named, and its clocks. `sources` has all clocks, and
-/// `senders` those that announce.
+/// Adds the lines of a domain: who leads, if anyone does, that each clock is named, and its clocks. `sources` has all clocks,
+/// `senders` those that announce, and `leaders` all grandmasters that lead.
 #[tactic(auto, unfolding(crate::specs::Writing::domain_lines))]
 fn add_domain(
     alloc: Global,
@@ -132,13 +139,15 @@ fn add_domain(
     domain: Domain,
     sources: &[Source],
     senders: &[Source],
+    leaders: &[Leader],
     entries: &mut Vec<Entry>,
 ) -> Added
     requires sources { sources.now ≡ (site_answers site.now).clocks }
     requires senders { senders.now ≡ announcing (site_answers site.now) }
+    requires leaders { leaders.now ≡ all_leaders (site_answers site.now) }
     ensures { Writes (site_answers site.now) result entries.old.items entries.new.items (domain_lines (site_answers site.now) domain) }
 {
-    let leading = leading_in(alloc, site, domain, sources)?;
+    let leading = leading_in(alloc, domain, leaders)?;
     add_leaders(alloc, site, domain, leading, entries)?;
     add_entry(site, domain, Rule::Only, entries)?;
     add_excused(site, domain, senders, entries)?;

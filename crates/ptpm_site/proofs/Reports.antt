@@ -13,9 +13,9 @@ use Rattle.ptpm_site.specs.declared.source.Source.{Source}
 use Rattle.ptpm_site.specs.Findings.{Said, answers_reported, contradictions_reported, finding, found_above, found_here, found_of, is_of_state, leader_found, loop_reported, reported, said, says, twice_reported}
 use Rattle.ptpm_site.specs.SiteAnswers.{SiteAnswers}
 
-pub reported-append : (xs ys : List Finding) → reported (xs ++ ys) ≡ reported xs ++ reported ys
+pub reported_append : (xs ys : List Finding) → reported (xs ++ ys) ≡ reported xs ++ reported ys
 unfolding reported
-reported-append xs ys = map-append (λ f. said f.source (says f.what)) xs ys
+reported_append xs ys = map-append (λ f. said f.source (says f.what)) xs ys
 
 -- one more finding
 pub reported_more : (findings : List Finding) (s : Source) (w : What) → reported (findings ++ finding s w ∷ []) ≡ reported findings ++ said s (says w) ∷ []
@@ -36,12 +36,12 @@ one_clock t limits s old above loop here led all a l h g e =
     let H : List Said = reported (found_here t limits s) in
     let L : List Said = loop_reported t s in
     let G : List Said = reported (leader_found t limits s) in
-    let first : reported above ≡ reported old ++ A = ap reported a ∙ reported-append old (found_above t s) in
+    let first : reported above ≡ reported old ++ A = ap reported a ∙ reported_append old (found_above t s) in
     let then_loop : reported loop ≡ reported old ++ (A ++ L) = l ∙ ap (λ xs. xs ++ L) first ∙ append_assoc (reported old) A L in
     let then_here : reported here ≡ reported old ++ (A ++ L ++ H) =
-    ap reported h ∙ reported-append loop (found_here t limits s) ∙ ap (λ xs. xs ++ H) then_loop ∙ append_assoc (reported old) (A ++ L) H in
+    ap reported h ∙ reported_append loop (found_here t limits s) ∙ ap (λ xs. xs ++ H) then_loop ∙ append_assoc (reported old) (A ++ L) H in
     let then_led : reported led ≡ reported old ++ (A ++ L ++ H ++ G) =
-    ap reported g ∙ reported-append here (leader_found t limits s) ∙ ap (λ xs. xs ++ G) then_here ∙ append_assoc (reported old) (A ++ L ++ H) G in
+    ap reported g ∙ reported_append here (leader_found t limits s) ∙ ap (λ xs. xs ++ G) then_here ∙ append_assoc (reported old) (A ++ L ++ H) G in
     e ∙ ap (λ xs. xs ++ answers_reported t s) then_led ∙ append_assoc (reported old) (A ++ L ++ H ++ G) (answers_reported t s)
 
 -- ---- what is reported behind what was reported before

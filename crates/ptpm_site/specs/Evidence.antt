@@ -18,7 +18,7 @@ use Rattle.ptpm_site.specs.declared.domain.Domain.{Domain}
 use Rattle.ptpm_site.specs.Domains.{domain_cmp, same_domain}
 use Rattle.std.specs.BTreeMap.{get}
 use Rattle.ptpm_site.specs.declared.arrival.SourcePort.{SourcePort}
-use Rattle.ptpm_site.specs.Announces.{announced_by_port}
+use Rattle.ptpm_site.specs.Announces.{announced_by_clock, announced_by_port}
 use Rattle.ptpm_site.specs.TwoAddresses.{port_cmp}
 
 -- the clock to which an answer goes is that of the host that asks
@@ -62,3 +62,4 @@ pub record IsOf (all : List Heard) (e : Evidence) : Type 0 where
   pub senders : (s : Sender) → contains sender_cmp e.senders s ≡ is_sent all s
   pub gone : (s : Source) → contains source_cmp e.gone s ≡ is_gone all s
   pub announced : (p : SourcePort) → get port_cmp e.announced p ≡ announced_by_port all p
+  pub announcers : (s : Source) → get source_cmp e.announcers s ≡ announced_by_clock all s

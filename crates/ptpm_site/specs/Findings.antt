@@ -8,6 +8,7 @@ use Rattle.ptpm_data.specs.PortState.{state_of}
 use Rattle.ptpm_members.specs.declared.names.Member.{Member}
 use Rattle.ptpm_members.specs.declared.number_names.Enumeration.TheVariants as enumerations
 use Rattle.ptpm_members.specs.Values.{Said as MemberSaid, Named}
+use Rattle.ptpm_members.specs.declared.values.ClockQuality.{ClockQuality}
 use Rattle.ptpm_site.specs.declared.asked.Asked.{Asked}
 use Rattle.ptpm_site.specs.declared.asked.Asked.TheVariants as id
 use Rattle.ptpm_site.specs.declared.changes.Contradiction.{Contradiction}
@@ -15,7 +16,6 @@ use Rattle.ptpm_site.specs.declared.changes.Contradiction.TheVariants as sort
 use Rattle.ptpm_site.specs.declared.clock.Received.{Received}
 use Rattle.ptpm_site.specs.declared.comparing.Compared.{Compared}
 use Rattle.ptpm_site.specs.declared.comparing.Compared.TheVariants as compared
-use Rattle.ptpm_site.specs.declared.data_sets.DefaultDataSet.{DefaultDataSet}
 use Rattle.ptpm_site.specs.declared.data_sets.ParentDataSet.{ParentDataSet}
 use Rattle.ptpm_site.specs.declared.data_sets.TimePropertiesDataSet.{TimePropertiesDataSet}
 use Rattle.ptpm_site.specs.declared.differences.Differs.{Differs}
@@ -23,6 +23,7 @@ use Rattle.ptpm_site.specs.declared.finding.Finding.{Finding}
 use Rattle.ptpm_site.specs.declared.finding.What.{What}
 use Rattle.ptpm_site.specs.declared.finding.What.TheVariants as what
 use Rattle.ptpm_site.specs.declared.grandmaster_changes.GrandmasterChange.{GrandmasterChange}
+use Rattle.ptpm_site.specs.declared.leaders.Leader.{Leader}
 use Rattle.ptpm_site.specs.declared.limits.Limits.{Limits}
 use Rattle.ptpm_site.specs.declared.source.Source.{Source}
 use Rattle.ptpm_site.specs.declared.tai_and_utc.OffByUtc.TheVariants as shows
@@ -35,7 +36,8 @@ use Rattle.ptpm_site.specs.Differences.{grandmaster_differs, mechanism_differs, 
 use Rattle.ptpm_site.specs.Following.{beside, followed, is_own_grandmaster}
 use Rattle.ptpm_site.specs.Gone.{is_gone}
 use Rattle.ptpm_site.specs.GrandmasterChanges.{grandmaster_changes}
-use Rattle.ptpm_site.specs.Grandmasters.{is_one_of_two, leads, masterless_reason, unseen_grandmaster}
+use Rattle.ptpm_site.specs.Grandmasters.{masterless_reason, unseen_grandmaster}
+use Rattle.ptpm_site.specs.Leaders.{is_one_of_two, leader_of, quality_of}
 use Rattle.ptpm_site.specs.Leading.{better_clock, without_source, invalid_offset, announced_leap, not_traceable, wrong_offset}
 use Rattle.ptpm_site.specs.Loops.{loop_of}
 use Rattle.ptpm_site.specs.Members.{is_moving, is_of_grandmaster, members_of}
@@ -109,8 +111,8 @@ interval_found site s n = mechanism_found site s n ++ found (what.Announces n) s
 -- ---- of a clock that leads
 
 -- by its clockClass
-abbrev pub class_found : Source → Option DefaultDataSet → List Finding
-class_found s default = found what.Degraded s (option_and_then without_source default)
+abbrev pub class_found : Source → Option ClockQuality → List Finding
+class_found s quality = found what.Degraded s (option_and_then without_source quality)
 
 -- by its TIME_PROPERTIES_DATA_SET
 abbrev pub validity_found : Source → TimePropertiesDataSet → List Finding
@@ -122,30 +124,29 @@ offset_found limits s t = found what.UtcOffset s (wrong_offset limits.tai_utc t)
 abbrev pub leap_found : Source → TimePropertiesDataSet → List Finding
 leap_found s t = found what.Leap s (announced_leap t)
 
-abbrev pub traceability_found : Source → Option DefaultDataSet → TimePropertiesDataSet → List Finding
-traceability_found s default t = found what.NotTraceable s (option_and_then (λ d. not_traceable d t) default)
+abbrev pub traceability_found : Source → Option ClockQuality → TimePropertiesDataSet → List Finding
+traceability_found s quality t = found what.NotTraceable s (option_and_then (λ q. not_traceable q t) quality)
 
-unfoldable pub properties_found : Limits → Source → Option DefaultDataSet → TimePropertiesDataSet → List Finding
-properties_found limits s default t =
-    traceability_found s default t ++ validity_found s t ++ offset_found limits s t ++ leap_found s t
+unfoldable pub properties_found : Limits → Source → Option ClockQuality → TimePropertiesDataSet → List Finding
+properties_found limits s quality t =
+    traceability_found s quality t ++ validity_found s t ++ offset_found limits s t ++ leap_found s t
 
 -- by the other clocks of its domain
-abbrev pub better_found : SiteAnswers → Source → Option DefaultDataSet → List Finding
-better_found site s default = found what.BetterClock s (option_and_then (better_clock site s) default)
+abbrev pub better_found : SiteAnswers → Source → Option ClockQuality → List Finding
+better_found site s quality = found what.BetterClock s (option_and_then (better_clock site s) quality)
 
-unfoldable pub quality_found : SiteAnswers → Limits → Source → List Finding
-quality_found site limits s =
-    class_found s (default_of site s)
-    ++ option_map_or (properties_found limits s (default_of site s)) (time_of site s) []
-    ++ better_found site s (default_of site s)
+-- by what is said of it
+unfoldable pub told_found : SiteAnswers → Limits → Source → Leader → List Finding
+told_found site limits s l =
+    class_found s (quality_of l) ++ option_map_or (properties_found limits s (quality_of l)) l.time [] ++ better_found site s (quality_of l)
 
 unfoldable pub leader_found : SiteAnswers → Limits → Source → List Finding
-leader_found site limits s = if leads site s then quality_found site limits s else []
+leader_found site limits s = option_map_or (told_found site limits s) (leader_of site s) []
 
 -- ---- of a clock, in the order of the table
 
 unfoldable pub grandmaster_found : SiteAnswers → Source → List Finding
-grandmaster_found site s = two_found site s ++ found what.NoMaster s (masterless_reason site s) ++ found what.GrandmasterNotSeen s (unseen_grandmaster site s)
+grandmaster_found site s = found what.NoMaster s (masterless_reason site s) ++ found what.GrandmasterNotSeen s (unseen_grandmaster site s)
 
 unfoldable pub parent_found : SiteAnswers → Source → List Finding
 parent_found site s =
@@ -166,6 +167,10 @@ followers_found site limits s = found (λ n. what.OffByUtc (shows.Followers n)) 
 abbrev pub origin_found : SiteAnswers → Limits → Source → List Finding
 origin_found site limits s = found (λ o. what.OffByUtc (shows.Origin o)) s (utc_by_host site limits s)
 
+-- what is wrong with a clock that leads, and is not seen
+unfoldable pub lead_found : SiteAnswers → Limits → Source → List Finding
+lead_found site limits s = two_found site s ++ followers_found site limits s ++ origin_found site limits s ++ leader_found site limits s
+
 unfoldable pub amounts_found : SiteAnswers → Limits → Source → List Finding
 amounts_found site limits s =
     off_found site limits s
@@ -176,7 +181,7 @@ amounts_found site limits s =
     ++ link_delays_found site limits s
 
 unfoldable pub found_above : SiteAnswers → Source → List Finding
-found_above site s = grandmaster_found site s ++ parent_found site s
+found_above site s = two_found site s ++ grandmaster_found site s ++ parent_found site s
 
 unfoldable pub found_here : SiteAnswers → Limits → Source → List Finding
 found_here site limits s =
@@ -307,11 +312,11 @@ unseen_reported site s = option_to_list (option_map (λ why. said s (says (what.
 unfoldable pub gone_reported : SiteAnswers → Source → List Said
 gone_reported site s = if is_gone site.heard s then said s (says what.Gone) ∷ [] else []
 
-abbrev pub absent_reported : SiteAnswers → Source → List Said
-absent_reported site s = gone_reported site s ++ unseen_reported site s ++ changes_reported site s
+abbrev pub absent_reported : SiteAnswers → Limits → Source → List Said
+absent_reported site limits s = gone_reported site s ++ unseen_reported site s ++ reported (lead_found site limits s) ++ changes_reported site s
 
 abbrev pub found_at : SiteAnswers → Limits → Source → List Said
-found_at site limits s = if site.seen s then found_of site limits s else absent_reported site s
+found_at site limits s = if site.seen s then found_of site limits s else absent_reported site limits s
 
 -- the findings of all clocks
 abbrev pub findings_of : SiteAnswers → Limits → List Said

@@ -1,6 +1,6 @@
 -- Grandmasters of a domain: `two_grandmasters`, `no_master`, `grandmaster_not_seen`.
-use Rattle.std.specs.Prelude.{◌&&◌, Bool, not, nat_le, nat_lt, List, Option, Some, None, if◌then◌else◌, option_and_then}
-use Rattle.std.specs.List.{count_by, filter}
+use Rattle.std.specs.Prelude.{◌&&◌, Bool, false, not, nat_lt, Option, Some, None, if◌then◌else◌, option_and_then}
+use Rattle.std.specs.Option.{option_map_or}
 use Rattle.ptpm_codec.specs.Identity.{same_clock}
 use Rattle.ptpm_codec.specs.declared.identity.ClockIdentity.{ClockIdentity}
 use Rattle.ptpm_site.specs.declared.data_sets.DefaultDataSet.{DefaultDataSet}
@@ -13,19 +13,16 @@ use Rattle.ptpm_site.specs.SiteAnswers.{SiteAnswers, default_of, has_port_of, ha
 use Rattle.ptpm_site.specs.declared.domain.Domain.{Domain}
 use Rattle.ptpm_site.specs.Domains.{same_domain}
 
--- a clock leads if it is its own grandmaster and has a port in MASTER
-abbrev pub leads : SiteAnswers → Source → Bool
-leads site s = is_own_grandmaster site s && has_port_of site s groups.Master
-
-abbrev pub leading_clocks : SiteAnswers → List Source
-leading_clocks site = filter (leads site) site.clocks
+-- a clock that is seen leads if it is its own grandmaster and has a port in MASTER
+abbrev pub leads_by_answers : SiteAnswers → Source → Bool
+leads_by_answers site s = is_own_grandmaster site s && has_port_of site s groups.Master
 
 abbrev pub in_domain : Domain → Source → Bool
 in_domain domain s = same_domain s.domain domain
 
--- a clock that leads is one of two or more of its domain
-abbrev pub is_one_of_two : SiteAnswers → Source → Bool
-is_one_of_two site s = leads site s && nat_le 2 (count_by (in_domain s.domain) (leading_clocks site))
+-- another clock of the domain names it as its grandmaster
+abbrev pub names : SiteAnswers → Source → Source → Bool
+names site s other = in_domain s.domain other && option_map_or (λ p. same_clock p.grandmaster s.clock) (parent_of site other) false
 
 -- A clock that is its own grandmaster has no master if it is slaveOnly. Nor has it one if no port gives time, is about to,
 -- or is on standby.

@@ -4,6 +4,7 @@ use Rattle.std.specs.Prelude.{ℕ, ℤ, ◌==◌, ◌&&◌, ◌||◌, Bool, fals
 use Rattle.std.specs.List.{filter}
 use Rattle.std.specs.Option.{option_map, option_map_or}
 use Rattle.std.specs.Ordering.{int_eq}
+use Rattle.ptpm_members.specs.declared.values.ClockQuality.{ClockQuality}
 use Rattle.ptpm_site.specs.declared.data_sets.DefaultDataSet.{DefaultDataSet}
 use Rattle.ptpm_site.specs.declared.data_sets.TimePropertiesDataSet.{TimePropertiesDataSet}
 use Rattle.ptpm_site.specs.declared.leading.Better.{Better}
@@ -14,7 +15,7 @@ use Rattle.ptpm_site.specs.declared.leading.Leap.{Leap}
 use Rattle.ptpm_site.specs.declared.leading.Untraceable.{Untraceable}
 use Rattle.ptpm_site.specs.declared.leading.WrongOffset.{WrongOffset}
 use Rattle.ptpm_site.specs.declared.source.Source.{Source}
-use Rattle.ptpm_site.specs.Grandmasters.{in_domain, leads}
+use Rattle.ptpm_site.specs.Grandmasters.{in_domain, leads_by_answers}
 use Rattle.ptpm_site.specs.SiteAnswers.{SiteAnswers, default_of}
 
 -- ---- clockClass (IEEE 1588-2019, 7.6.2.5, table 4)
@@ -29,15 +30,15 @@ degradation_of class =
 abbrev pub has_source : ℕ → Bool
 has_source class = class == 6 || class == 7
 
-abbrev pub without_source : DefaultDataSet → Option Degraded
-without_source d = option_map (λ k. record { degradation = k; quality = d.quality }) (degradation_of d.quality.class)
+abbrev pub without_source : ClockQuality → Option Degraded
+without_source q = option_map (λ k. record { degradation = k; quality = q }) (degradation_of q.class)
 
 -- ---- TIME_PROPERTIES_DATA_SET (8.2.4)
 
-abbrev pub not_traceable : DefaultDataSet → TimePropertiesDataSet → Option Untraceable
-not_traceable d t =
-    if has_source d.quality.class && t.ptp_timescale && not (t.time_traceable && t.frequency_traceable)
-    then Some (record { class = d.quality.class; time = t.time_traceable; frequency = t.frequency_traceable }) else None
+abbrev pub not_traceable : ClockQuality → TimePropertiesDataSet → Option Untraceable
+not_traceable q t =
+    if has_source q.class && t.ptp_timescale && not (t.time_traceable && t.frequency_traceable)
+    then Some (record { class = q.class; time = t.time_traceable; frequency = t.frequency_traceable }) else None
 
 -- currentUtcOffset, if it is not said to be valid
 abbrev pub invalid_offset : TimePropertiesDataSet → Option ℤ
@@ -59,7 +60,7 @@ abbrev pub may_lead : DefaultDataSet → Bool
 may_lead d = not d.slave_only && nat_lt d.quality.class 128
 
 abbrev pub stands_by : SiteAnswers → Source → Bool
-stands_by site s = option_map_or may_lead (default_of site s) false && not (leads site s)
+stands_by site s = option_map_or may_lead (default_of site s) false && not (leads_by_answers site s)
 
 abbrev pub all_standing_by : SiteAnswers → List Source
 all_standing_by site = filter (stands_by site) site.clocks
@@ -69,7 +70,7 @@ abbrev pub is_better : SiteAnswers → Source → ℕ → Source → Bool
 is_better site s class other = in_domain s.domain other && option_map_or (λ d. nat_lt d.quality.class class) (default_of site other) false
 
 -- the first of these clocks
-abbrev pub better_clock : SiteAnswers → Source → DefaultDataSet → Option Better
-better_clock site s d = option_and_then (λ other. option_map
-    (λ o. record { class = d.quality.class; clock = other.clock; quality = o.quality; priority1 = o.priority1 }) (default_of site other))
-    (find (is_better site s d.quality.class) (all_standing_by site))
+abbrev pub better_clock : SiteAnswers → Source → ClockQuality → Option Better
+better_clock site s q = option_and_then (λ other. option_map
+    (λ o. record { class = q.class; clock = other.clock; quality = o.quality; priority1 = o.priority1 }) (default_of site other))
+    (find (is_better site s q.class) (all_standing_by site))

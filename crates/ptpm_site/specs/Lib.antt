@@ -24,6 +24,7 @@ pub mod Ids
 pub mod Judging
 pub mod KeptAnswers
 pub mod KeptStatements
+pub mod Leaders
 pub mod Leading
 pub mod LeftOut
 pub mod Looks

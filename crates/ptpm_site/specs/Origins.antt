@@ -9,10 +9,11 @@ use Rattle.ptpm_site.specs.declared.limits.Limits.{Limits}
 use Rattle.ptpm_site.specs.declared.origin.Origin.{Origin}
 use Rattle.ptpm_site.specs.declared.source.Source.{Source}
 use Rattle.ptpm_site.specs.Answers.{same_source}
-use Rattle.ptpm_site.specs.Grandmasters.{leads}
 use Rattle.ptpm_site.specs.Heard.{sender_in}
+use Rattle.ptpm_site.specs.declared.leaders.Leader.{Leader}
+use Rattle.ptpm_site.specs.Leaders.{leader_of}
 use Rattle.ptpm_site.specs.Octets.{flag_at}
-use Rattle.ptpm_site.specs.SiteAnswers.{SiteAnswers, time_of}
+use Rattle.ptpm_site.specs.SiteAnswers.{SiteAnswers}
 use Rattle.ptpm_site.specs.Stay.{apart}
 
 -- a Timestamp (5.3.3) before the year 2514, in nanoseconds: six octets of seconds, and four of nanoseconds
@@ -55,11 +56,11 @@ is_as_here o = nat_le (apart o.time o.at) 500000000
 abbrev pub as_here : Origin → Option Origin
 as_here o = if is_as_here o then Some o else None
 
-abbrev pub says_tai : SiteAnswers → Source → Bool
-says_tai site s = option_map_or (λ t. t.ptp_timescale) (time_of site s) false
+abbrev pub says_tai : Leader → Bool
+says_tai l = option_map_or (λ t. t.ptp_timescale) l.time false
 
 -- the last origin of a clock that leads, if it is the time of the host that asks, which has UTC
 unfoldable pub utc_by_host : SiteAnswers → Limits → Source → Option Origin
 utc_by_host site limits s =
-    if limits.is_synchronised && says_tai site s && leads site s
+    if limits.is_synchronised && option_map_or says_tai (leader_of site s) false
     then option_and_then (λ h. option_and_then as_here (origin_heard h)) (find (is_origin_of s) (reverse site.heard)) else None

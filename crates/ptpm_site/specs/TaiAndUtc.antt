@@ -3,12 +3,12 @@ use Rattle.std.specs.Prelude.{ℕ, ℤ, ◌+◌, ◌-◌, ◌*◌, ◌==◌, ◌
 use Rattle.std.specs.Int.{is_negative}
 use Rattle.std.specs.List.{count_by, filter}
 use Rattle.std.specs.Option.{option_map_or}
-use Rattle.ptpm_codec.specs.Identity.{same_clock}
 use Rattle.ptpm_codec.specs.declared.identity.ClockIdentity.{ClockIdentity}
 use Rattle.ptpm_site.specs.declared.port_groups.PortGroup.TheVariants as groups
 use Rattle.ptpm_site.specs.declared.source.Source.{Source}
 use Rattle.ptpm_site.specs.Following.{beside, followed}
-use Rattle.ptpm_site.specs.Grandmasters.{in_domain, leads}
+use Rattle.ptpm_site.specs.Grandmasters.{names}
+use Rattle.ptpm_site.specs.Leaders.{leads}
 use Rattle.ptpm_site.specs.SiteAnswers.{SiteAnswers, current_of, has_port_of, parent_of, time_of}
 
 -- a TimeInterval of either sign is within 10 ms of this many seconds
@@ -49,10 +49,6 @@ is_follower site s = is_some (followed site s) && has_port_of site s groups.Slav
 
 abbrev pub all_followers : SiteAnswers → List Source
 all_followers site = filter (is_follower site) site.clocks
-
--- another clock of the domain names it as its grandmaster
-abbrev pub names : SiteAnswers → Source → Source → Bool
-names site s other = in_domain s.domain other && option_map_or (λ p. same_clock p.grandmaster s.clock) (parent_of site other) false
 
 abbrev pub names_well : SiteAnswers → ℤ → Source → Source → Bool
 names_well site tai_utc s other = names site s other && not (is_off_by_utc site tai_utc other)

@@ -51,6 +51,10 @@ open_mute site s =
 abbrev pub unseen : SiteAnswers → Source → Option Absence
 unseen site s = if is_own_host site s then own_host site s else mute site s
 
+-- it has the finding `mute`
+abbrev pub is_mute : SiteAnswers → Source → Bool
+is_mute site s = not (is_own_host site s) && is_some (mute site s)
+
 -- ---- the clocks that may have findings
 
 -- those that a clock names

@@ -1,18 +1,34 @@
-//! Announce messages: which ports send them, and how often (IEEE 1588-2019, 13.5).
+//! Announce messages: which ports send them, how often, and what they say of the grandmaster (IEEE 1588-2019, 13.5).
 
-ghost use Rattle.std.specs.Prelude.{◌≡◌, IfOk};
+ghost use Rattle.std.specs.Prelude.{◌≡◌, ◌≤◌, IfOk, length};
 ghost use Rattle.std.specs.BTreeMap.{get};
 ghost use Rattle.std.specs.List.{filter_map};
 ghost use Rattle.ptpm_site.specs.declared.arrival.SourcePort.{SourcePort};
-ghost use Rattle.ptpm_site.specs.Announces.{announced_by, announced_in, announces_in, is_unicast, last_announced};
+ghost use Rattle.ptpm_site.specs.declared.source.Source.{Source};
+ghost use Rattle.ptpm_site.specs.Announces.{announced_attributes, announced_by, announced_in, announced_time, announces_in, grandmaster_in, is_unicast, last_announced, last_of_clock};
+ghost use Rattle.ptpm_site.specs.Answers.{source_cmp};
 ghost use Rattle.ptpm_site.specs.TwoAddresses.{port_cmp};
 
 use crate::arrival::SourcePort;
+use crate::data_sets::{TimePropertiesDataSet, quality_at};
 use crate::heard::{ANNOUNCE, Heard, Sender, sender_in};
-use crate::numbers::i8_at;
-use ptpm_codec::port_identity_at;
+use crate::leaders::Attributes;
+use crate::numbers::{flag_at, i8_at, i16_at};
+use crate::source::Source;
+use ptpm_codec::{ClockIdentity, clock_identity_at, port_identity_at, u16_at};
 use std::alloc::{AllocError, Global};
 use std::collections::BTreeMap;
+
+/// What an Announce says of the grandmaster.
+#[derive(Clone, Copy)]
+pub struct AnnouncedGrandmaster {
+    /// grandmasterIdentity.
+    pub clock: ClockIdentity,
+    pub attributes: Attributes,
+    pub steps_removed: u16,
+    /// What it says of the members of TIME_PROPERTIES_DATA_SET.
+    pub time: TimePropertiesDataSet,
+}
 
 /// A port that announces.
 #[derive(Clone, Copy)]
@@ -20,6 +36,8 @@ pub struct Announced {
     pub port: SourcePort,
     /// logMessageInterval. 0x7F is said by unicast.
     pub log: i8,
+    /// `None` if the message is cut short.
+    pub grandmaster: Option<AnnouncedGrandmaster>,
 }
 
 /// logMessageInterval of an Announce by unicast (table 42).
@@ -34,6 +52,52 @@ impl Announced {
     }
 }
 
+/// The second octet of flagField has the flags of TIME_PROPERTIES_DATA_SET (table 37).
+#[tactic(auto, unfolding(crate::specs::Announces::announced_time))]
+fn announced_time(datagram: &[u8]) -> TimePropertiesDataSet
+    requires { 64 ≤ length datagram.now }
+    ensures { result ≡ announced_time datagram.now }
+{
+    TimePropertiesDataSet {
+        utc_offset: i16_at(datagram, 44),
+        leap61: flag_at(datagram, 7, 0),
+        leap59: flag_at(datagram, 7, 1),
+        utc_valid: flag_at(datagram, 7, 2),
+        ptp_timescale: flag_at(datagram, 7, 3),
+        time_traceable: flag_at(datagram, 7, 4),
+        frequency_traceable: flag_at(datagram, 7, 5),
+        time_source: datagram[63],
+    }
+}
+
+#[tactic(auto, unfolding(crate::specs::Announces::announced_attributes))]
+fn announced_attributes(datagram: &[u8]) -> Attributes
+    requires { 64 ≤ length datagram.now }
+    ensures { result ≡ announced_attributes datagram.now }
+{
+    Attributes {
+        quality: quality_at(datagram, 48),
+        priority1: datagram[47],
+        priority2: datagram[52],
+    }
+}
+
+/// What an Announce says of the grandmaster. `None` if it is cut short.
+#[tactic(auto, unfolding(crate::specs::Announces::grandmaster_in))]
+fn grandmaster_in(datagram: &[u8]) -> Option<AnnouncedGrandmaster>
+    ensures { result ≡ grandmaster_in datagram.now }
+{
+    if datagram.len() < 64 {
+        return None;
+    }
+    Some(AnnouncedGrandmaster {
+        clock: clock_identity_at(datagram, 53),
+        attributes: announced_attributes(datagram),
+        steps_removed: u16_at(datagram, 61),
+        time: announced_time(datagram),
+    })
+}
+
 fn announced_by(datagram: &[u8], sender: Sender) -> Option<Announced>
     ensures { result ≡ announced_by datagram.now sender }
 {
@@ -46,6 +110,7 @@ fn announced_by(datagram: &[u8], sender: Sender) -> Option<Announced>
             port: port_identity_at(datagram, 20).port,
         },
         log: i8_at(datagram, 33),
+        grandmaster: grandmaster_in(datagram),
     })
 }
 
@@ -90,6 +155,20 @@ fn last_of(alloc: Global, all: &[Announced]) -> Result<BTreeMap<SourcePort, Anno
     Ok(last)
 }
 
+/// For each clock the last of these, whichever port sent it.
+fn last_of_clocks(
+    alloc: Global,
+    all: &[Announced],
+) -> Result<BTreeMap<Source, Announced>, AllocError>
+    ensures { IfOk result (λ last. (s : Source) → get source_cmp last s ≡ last_of_clock all.now s) }
+{
+    let mut last = BTreeMap::new(alloc);
+    for announced in all {
+        last.insert(announced.port.source, *announced)?;
+    }
+    Ok(last)
+}
+
 /// For each port that announces its last Announce.
 pub fn last_announces(
     alloc: Global,
@@ -99,4 +178,15 @@ pub fn last_announces(
 {
     let all = all_announces(alloc, heard)?;
     last_of(alloc, all.as_slice())
+}
+
+/// For each clock that announces its last Announce.
+pub fn last_announcers(
+    alloc: Global,
+    heard: &[Heard],
+) -> Result<BTreeMap<Source, Announced>, AllocError>
+    ensures { IfOk result (λ last. (s : Source) → get source_cmp last s ≡ last_of_clock (filter_map announces_in heard.now) s) }
+{
+    let all = all_announces(alloc, heard)?;
+    last_of_clocks(alloc, all.as_slice())
 }

@@ -8,7 +8,7 @@ ghost use Rattle.ptpm_site.specs.declared.heard.Heard.{Heard};
 ghost use Rattle.ptpm_site.specs.declared.source.Source.{Source};
 ghost use Rattle.ptpm_site.specs.Answers.{source_cmp};
 ghost use Rattle.ptpm_site.specs.Domains.{domain_cmp};
-ghost use Rattle.ptpm_site.specs.Counted.{begun_in, counted, counts, has_begun, if_counts};
+ghost use Rattle.ptpm_site.specs.Counted.{begun_in, counted, counts, has_begun, if_counts, sent_by};
 ghost use Rattle.ptpm_site.specs.Descriptions.{description_of, last_description};
 ghost use Rattle.ptpm_site.specs.Gone.{is_gone};
 ghost use Rattle.ptpm_site.specs.Looks.{AreLast};
@@ -54,16 +54,26 @@ fn begin(
     Ok(())
 }
 
+/// The clock that sent a message by itself.
+fn sent_by(one: &Heard) -> Option<Source>
+    ensures { result ≡ sent_by one.now }
+{
+    match one {
+        Heard::Sent(sender) => Some(sender.source),
+        Heard::Timed(origin) => Some(origin.source),
+        Heard::Announces(announced) => Some(announced.port.source),
+        _ => None,
+    }
+}
+
 /// Whether a datagram counts. `begun` has the domains of the last looks before it.
 fn counts(heard: &[Heard], gone: &BTreeSet<Source>, begun: &BTreeSet<Domain>, one: &Heard) -> bool
     requires { (s : Source) → contains source_cmp gone.now s ≡ is_gone heard.now s }
     ensures { (before : List Heard) → ((d : Domain) → contains domain_cmp begun.now d ≡ has_begun heard.now before d) → result ≡ counts heard.now before one.now }
 {
-    match one {
-        Heard::Sent(sender) => {
-            !gone.contains(&sender.source) || begun.contains(&sender.source.domain)
-        }
-        _ => true,
+    match sent_by(one) {
+        Some(source) => !gone.contains(&source) || begun.contains(&source.domain),
+        None => true,
     }
 }
 

@@ -82,7 +82,7 @@ pub struct PortDataSet {
 
 /// The ClockQuality in the four octets from a place.
 #[tactic(auto, unfolding(crate::specs::Octets::quality_at))]
-fn quality_at(octets: &[u8], place: usize) -> ClockQuality
+pub fn quality_at(octets: &[u8], place: usize) -> ClockQuality
     requires { place + 4 ≤ length octets.now }
     ensures { result ≡ quality_at place octets.now }
 {

@@ -11,7 +11,7 @@ ghost use Rattle.ptpm_site.specs.Announces.{is_by_unicast};
 ghost use Rattle.ptpm_site.specs.Domains.{domain_cmp};
 ghost use Rattle.ptpm_site.specs.Evidence.{IsOf, clock_cmp, domain_in, host_in, is_asked, is_host_of, is_sent, sender_cmp, sent_in};
 
-use crate::announces::{Announced, last_announces};
+use crate::announces::{Announced, last_announcers, last_announces};
 use crate::arrival::SourcePort;
 use crate::domain::Domain;
 use crate::gone::gone_set;
@@ -36,6 +36,8 @@ pub struct Evidence {
     pub gone: BTreeSet<Source>,
     /// The last Announce of each port that announces.
     pub announced: BTreeMap<SourcePort, Announced>,
+    /// The same of each clock.
+    pub announcers: BTreeMap<Source, Announced>,
 }
 
 impl Evidence {
@@ -49,6 +51,7 @@ impl Evidence {
             senders: sender_set(alloc, heard)?,
             gone: gone_set(alloc, heard, &last)?,
             announced: last_announces(alloc, heard)?,
+            announcers: last_announcers(alloc, heard)?,
         })
     }
 

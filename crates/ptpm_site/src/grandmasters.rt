@@ -1,46 +1,35 @@
 //! Grandmasters: whether there are two, none, or one that was not seen.
 
-ghost use Rattle.std.specs.Prelude.{◌≡◌, ◌==◌, IfOk, filter};
-ghost use Rattle.std.specs.List.{count_by};
-ghost use Rattle.ptpm_site.specs.Grandmasters.{in_domain, leads, masterless_follower, masterless_grandmaster, masterless_reason, unseen_grandmaster};
+ghost use Rattle.std.specs.Prelude.{◌≡◌};
+ghost use Rattle.ptpm_site.specs.Grandmasters.{leads_by_answers, names, masterless_follower, masterless_grandmaster, masterless_reason, unseen_grandmaster};
 ghost use Rattle.ptpm_site.specs.Site.{site_answers};
 
 use crate::data_sets::DefaultDataSet;
-use crate::domain::Domain;
 use crate::port_groups::PortGroup;
 use crate::site::Site;
 use crate::source::Source;
 use ptpm_codec::ClockIdentity;
-use std::alloc::{AllocError, Global};
 
 impl Site {
-    /// Whether a clock is its own grandmaster and has a port in MASTER.
-    pub fn leads(&self, source: Source) -> bool
-        ensures { result ≡ leads (site_answers self.now) source }
+    /// Whether a clock that is seen leads: it is its own grandmaster and has a port in MASTER.
+    pub fn leads_by_answers(&self, source: Source) -> bool
+        ensures { result ≡ leads_by_answers (site_answers self.now) source }
     {
         self.is_own_grandmaster(source) && self.has_port_of(source, PortGroup::Master)
     }
 }
 
-/// Those of all clocks that are their own grandmasters and have a port in MASTER.
-pub fn leading(alloc: Global, site: &Site, sources: &[Source]) -> Result<Vec<Source>, AllocError>
-    ensures { IfOk result (λ found. found.items ≡ filter (leads (site_answers site.now)) sources.now) }
+/// Whether another clock of the domain names this one as its grandmaster.
+pub fn names(site: &Site, source: Source, other: Source) -> bool
+    ensures { result ≡ names (site_answers site.now) source other }
 {
-    sources
-        .iter()
-        .copied()
-        .filter(|source| site.leads(*source))
-        .collect(alloc)
-}
-
-/// How many of these clocks a domain has.
-pub fn count_in(sources: &[Source], domain: Domain) -> usize
-    ensures { result ≡ count_by (in_domain domain) sources.now }
-{
-    sources
-        .iter()
-        .filter(|source| source.domain == domain)
-        .count()
+    if source.domain != other.domain {
+        return false;
+    }
+    match site.parent(other) {
+        Some(parent) => parent.grandmaster == source.clock,
+        None => false,
+    }
 }
 
 /// Why a clock has no master.

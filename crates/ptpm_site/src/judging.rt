@@ -1,27 +1,29 @@
 //! What is wrong with the clocks of a site. Findings are in order of the domain, the clock, the table of
 //! findings, and the port.
 
-ghost use Rattle.std.specs.Prelude.{◌≡◌, ◌++◌, OnOk, IfOk, is_some, length, true};
+ghost use Rattle.std.specs.Prelude.{◌≡◌, ◌++◌, OnOk, IfOk, is_some, true};
 ghost use Rattle.std.specs.List.{flat_map};
-ghost use Rattle.ptpm_site.specs.Findings.{absent_reported, findings_of, found_above, found_at, found_here, found_of, leader_found, reported};
+ghost use Rattle.ptpm_site.specs.Findings.{absent_reported, findings_of, found_above, found_at, found_here, found_of, lead_found, reported, two_found};
 ghost use Rattle.ptpm_site.specs.GrandmasterChanges.{grandmaster_changes};
-ghost use Rattle.ptpm_site.specs.Grandmasters.{leading_clocks};
 ghost use Rattle.ptpm_site.specs.Judging.{IsGiven};
+ghost use Rattle.ptpm_site.specs.Leaders.{leader_of};
 ghost use Rattle.ptpm_site.specs.Loops.{AreLeast, loop_of};
 ghost use Rattle.ptpm_site.specs.Site.{site_answers};
 ghost use Rattle.ptpm_site.specs.TwoAddresses.{all_twins};
 
 use crate::evidence::Evidence;
-use crate::finding::{Added, Finding, What, report};
+use crate::finding::{Added, Finding, What, add_finding, report};
 use crate::forest::place_among;
 use crate::grandmaster_changes::{GrandmasterChange, grandmaster_changes};
-use crate::grandmasters::leading;
-use crate::judging_amounts::{judge_amounts, judge_utc};
+use crate::judging_amounts::{judge_amounts, judge_lead_off, judge_utc};
 use crate::judging_answers::{judge_answers, judge_changes};
 use crate::judging_grandmasters::{judge_grandmaster, judge_parent};
 use crate::judging_leading::judge_leader;
 use crate::judging_loops::judge_loop;
 use crate::judging_ports::{judge_intervals, judge_locks, judge_ports};
+use crate::leaders::{
+    Leader, Witness, all_witnesses, count_in, is_present, leader_of, present_leaders,
+};
 use crate::leading::all_standing_by;
 use crate::limits::Limits;
 use crate::marks::is_marked;
@@ -51,7 +53,8 @@ pub fn findings_of<'a>(
     let reach = Reach::of(alloc, site.all_heard())?;
     let changes = grandmaster_changes(alloc, site, sources.as_slice())?;
     let twins = all_twins(alloc, site.all_heard())?;
-    let leading = leading(alloc, site, sources.as_slice())?;
+    let witnesses = all_witnesses(alloc, site, sources.as_slice())?;
+    let leaders = present_leaders(alloc, site, &evidence, sources.as_slice())?;
     let standing_by = all_standing_by(alloc, site, sources.as_slice())?;
     let followers = all_followers(alloc, site, sources.as_slice())?;
     let given = Given {
@@ -61,7 +64,8 @@ pub fn findings_of<'a>(
         reach: &reach,
         changes: changes.as_slice(),
         twins: twins.as_slice(),
-        leading: leading.as_slice(),
+        witnesses: witnesses.as_slice(),
+        leaders: leaders.as_slice(),
         standing_by: standing_by.as_slice(),
         followers: followers.as_slice(),
         least,
@@ -86,8 +90,10 @@ struct Given<'a> {
     changes: &'a [GrandmasterChange],
     /// Which answers came from two addresses.
     twins: &'a [Twins],
-    /// The clocks that lead.
-    leading: &'a [Source],
+    /// Those that speak for the grandmaster that they name.
+    witnesses: &'a [Witness],
+    /// Those that lead, and are seen or mute.
+    leaders: &'a [Leader],
     /// Those that may lead, are of a class below 128, and do not lead.
     standing_by: &'a [Source],
     /// Those that follow another, and have a port in SLAVE.
@@ -125,25 +131,29 @@ fn judge_one<'a>(
     ensures { OnOk result (reported findings.new.items
         ≡ reported findings.old.items ++ found_at (site_answers site.now) given.now.limits subject) }
 {
+    let leader = leader_of(site, given.evidence, subject, given.witnesses);
     if site.is_seen(subject) {
         let is_least = is_least(site, subject, given);
-        judge(site, subject, is_least, given, findings)
+        judge(site, subject, leader, is_least, given, findings)
     } else {
-        judge_absent(site, subject, given, findings)
+        judge_absent(site, subject, leader, given, findings)
     }
 }
 
-/// What is wrong with one clock that is not seen: `gone`, `own_host` and `mute`, and `grandmaster_changed`.
+/// What is wrong with one clock that is not seen: `gone`, `own_host` and `mute`, what is wrong with it if it leads, and
+/// `grandmaster_changed`.
 #[tactic(auto, unfolding(crate::specs::Findings::gone_reported, crate::specs::Findings::unseen_reported))]
 fn judge_absent(
     site: &Site,
     subject: Source,
+    leader: Option<Leader>,
     given: &Given<'_>,
     findings: &mut Vec<Finding<'_>>,
 ) -> Added
-    requires { IsGiven (site_answers site.now) given.now }
+    requires leader { leader ≡ leader_of (site_answers site.now) subject }
+    requires given { IsGiven (site_answers site.now) given.now }
     ensures { OnOk result (reported findings.new.items
-        ≡ reported findings.old.items ++ absent_reported (site_answers site.now) subject) }
+        ≡ reported findings.old.items ++ absent_reported (site_answers site.now) given.now.limits subject) }
 {
     if given.evidence.gone.contains(&subject) {
         report(findings, subject, What::Gone)?;
@@ -151,7 +161,44 @@ fn judge_absent(
     if let Some(why) = unseen(site, given.evidence, subject, given.sources) {
         report(findings, subject, What::Unseen(why))?;
     }
+    report_lead(site, subject, leader, given, findings)?;
     judge_changes(given.changes, subject, findings)
+}
+
+/// The same as `judge_lead`, with a contract by what the findings say.
+#[tactic(auto, using(crate::proofs::Reports::reported_append))]
+fn report_lead(
+    site: &Site,
+    subject: Source,
+    leader: Option<Leader>,
+    given: &Given<'_>,
+    findings: &mut Vec<Finding<'_>>,
+) -> Added
+    requires leader { leader ≡ leader_of (site_answers site.now) subject }
+    requires given { IsGiven (site_answers site.now) given.now }
+    ensures { OnOk result (reported findings.new.items
+        ≡ reported findings.old.items ++ reported (lead_found (site_answers site.now) given.now.limits subject)) }
+{
+    judge_lead(site, subject, leader, given, findings)
+}
+
+/// What is wrong with one clock that leads, and is not seen.
+#[tactic(auto, unfolding(crate::specs::Findings::lead_found))]
+fn judge_lead(
+    site: &Site,
+    subject: Source,
+    leader: Option<Leader>,
+    given: &Given<'_>,
+    findings: &mut Vec<Finding<'_>>,
+) -> Added
+    requires leader { leader ≡ leader_of (site_answers site.now) subject }
+    requires given { IsGiven (site_answers site.now) given.now }
+    ensures { OnOk result (findings.new.items ≡ findings.old.items ++ lead_found (site_answers site.now) given.now.limits subject) }
+{
+    let limits = given.limits;
+    judge_two(site, subject, leader, given, findings)?;
+    judge_lead_off(site, subject, leader, given.followers, limits, findings)?;
+    judge_leader(site, subject, leader, given.standing_by, limits, findings)
 }
 
 /// Whether a clock that is seen is the least of a loop.
@@ -169,21 +216,30 @@ fn is_least(site: &Site, subject: Source, given: &Given<'_>) -> bool
 fn judge<'a>(
     site: &'a Site,
     source: Source,
+    leader: Option<Leader>,
     is_least: bool,
     given: &Given<'_>,
     findings: &mut Vec<Finding<'a>>,
 ) -> Added
+    requires leader { leader ≡ leader_of (site_answers site.now) source }
     requires given { IsGiven (site_answers site.now) given.now }
     requires least { is_least ≡ is_some (loop_of (site_answers site.now) source) }
     ensures { OnOk result (reported findings.new.items
         ≡ reported findings.old.items ++ found_of (site_answers site.now) given.now.limits source) }
 {
     let ports = site.ports(given.alloc, source)?;
-    judge_above(site, source, given.leading, findings)?;
+    judge_above(site, source, leader, given, findings)?;
     let count = given.sources.len();
     judge_loop(given.alloc, site, source, is_least, count, findings)?;
-    judge_here(site, source, ports.as_slice(), given, findings)?;
-    judge_leader(site, source, given.standing_by, given.limits, findings)?;
+    judge_here(site, source, leader, ports.as_slice(), given, findings)?;
+    judge_leader(
+        site,
+        source,
+        leader,
+        given.standing_by,
+        given.limits,
+        findings,
+    )?;
     judge_answers(
         given.alloc,
         site,
@@ -197,20 +253,46 @@ fn judge<'a>(
     Ok(())
 }
 
-/// What is wrong with a clock's grandmaster, and with the clock that it follows. `leading` has all clocks that
-/// lead.
+/// What is wrong with a clock's grandmaster, and with the clock that it follows.
 #[tactic(auto, unfolding(crate::specs::Findings::found_above))]
 fn judge_above(
     site: &Site,
     source: Source,
-    leading: &[Source],
+    leader: Option<Leader>,
+    given: &Given<'_>,
     findings: &mut Vec<Finding<'_>>,
 ) -> Added
-    requires { leading.now ≡ leading_clocks (site_answers site.now) }
+    requires leader { leader ≡ leader_of (site_answers site.now) source }
+    requires given { IsGiven (site_answers site.now) given.now }
     ensures { OnOk result (findings.new.items ≡ findings.old.items ++ found_above (site_answers site.now) source) }
 {
-    judge_grandmaster(site, source, leading, findings)?;
+    judge_two(site, source, leader, given, findings)?;
+    judge_grandmaster(site, source, findings)?;
     judge_parent(site, source, findings)
+}
+
+/// `two_grandmasters`.
+#[tactic(auto, unfolding(crate::specs::Findings::two_found))]
+fn judge_two(
+    site: &Site,
+    source: Source,
+    leader: Option<Leader>,
+    given: &Given<'_>,
+    findings: &mut Vec<Finding<'_>>,
+) -> Added
+    requires leader { leader ≡ leader_of (site_answers site.now) source }
+    requires given { IsGiven (site_answers site.now) given.now }
+    ensures { OnOk result (findings.new.items ≡ findings.old.items ++ two_found (site_answers site.now) source) }
+{
+    let Some(leader) = leader else {
+        return Ok(());
+    };
+    if is_present(site, given.evidence, &leader, given.sources)
+        && 2 <= count_in(given.leaders, source.domain)
+    {
+        add_finding(findings, source, What::TwoGrandmasters)?;
+    }
+    Ok(())
 }
 
 /// What else is wrong with a clock whose ports are these.
@@ -218,10 +300,12 @@ fn judge_above(
 fn judge_here(
     site: &Site,
     source: Source,
+    leader: Option<Leader>,
     ports: &[u16],
     given: &Given<'_>,
     findings: &mut Vec<Finding<'_>>,
 ) -> Added
+    requires leader { leader ≡ leader_of (site_answers site.now) source }
     requires ports { ports.now ≡ (site_answers site.now).ports source }
     requires given { IsGiven (site_answers site.now) given.now }
     ensures { OnOk result (findings.new.items ≡ findings.old.items ++ found_here (site_answers site.now) given.now.limits source) }
@@ -229,7 +313,15 @@ fn judge_here(
     let limits = given.limits;
     judge_ports(site, source, ports, limits, findings)?;
     judge_locks(site, source, ports, limits, findings)?;
-    judge_amounts(site, source, ports, given.followers, limits, findings)?;
+    judge_amounts(
+        site,
+        source,
+        leader,
+        ports,
+        given.followers,
+        limits,
+        findings,
+    )?;
     judge_utc(site, source, findings)?;
     judge_intervals(site, given.evidence, source, ports, findings)
 }

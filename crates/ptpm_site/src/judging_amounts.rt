@@ -3,6 +3,7 @@
 ghost use Rattle.std.specs.Prelude.{◌≡◌, ◌++◌, OnOk};
 ghost use Rattle.ptpm_site.specs.Amounts.{large_delay, large_offset};
 ghost use Rattle.ptpm_site.specs.Findings.{amounts_found, followers_found, found, found_each, off_found, origin_found, utc_said};
+ghost use Rattle.ptpm_site.specs.Leaders.{leader_of};
 ghost use Rattle.ptpm_site.specs.Site.{site_answers};
 ghost use Rattle.ptpm_site.specs.TaiAndUtc.{all_followers};
 
@@ -11,6 +12,7 @@ use crate::comparing::{Compared, add_differences};
 use crate::differences::utc_differs;
 use crate::finding::{Added, Finding, What, add_finding};
 use crate::judging_ports::judge_links;
+use crate::leaders::Leader;
 use crate::limits::Limits;
 use crate::origin::utc_by_host;
 use crate::site::Site;
@@ -22,39 +24,56 @@ use crate::tai_and_utc::{OffByUtc, followers_off, offset_by_utc};
 pub fn judge_amounts(
     site: &Site,
     source: Source,
+    leader: Option<Leader>,
     ports: &[u16],
     followers: &[Source],
     limits: Limits,
     findings: &mut Vec<Finding<'_>>,
 ) -> Added
+    requires leader { leader ≡ leader_of (site_answers site.now) source }
     requires ports { ports.now ≡ (site_answers site.now).ports source }
     requires followers { followers.now ≡ all_followers (site_answers site.now) }
     ensures { OnOk result (findings.new.items ≡ findings.old.items ++ amounts_found (site_answers site.now) limits source) }
 {
-    judge_off_by_utc(site, source, followers, limits, findings)?;
+    judge_off_by_utc(site, source, limits, findings)?;
+    judge_lead_off(site, source, leader, followers, limits, findings)?;
     judge_own(site, source, limits, findings)?;
     judge_links(site, source, ports, limits, findings)
 }
 
-/// `off_by_utc`: by its own offsetFromMaster, by all clocks that follow it, and by the clock of the host that asks.
+/// `off_by_utc`, by its own offsetFromMaster.
 fn judge_off_by_utc(
     site: &Site,
     source: Source,
-    followers: &[Source],
     limits: Limits,
     findings: &mut Vec<Finding<'_>>,
 ) -> Added
-    requires { followers.now ≡ all_followers (site_answers site.now) }
-    ensures { OnOk result (findings.new.items ≡ findings.old.items
-        ++ off_found (site_answers site.now) limits source ++ followers_found (site_answers site.now) limits source ++ origin_found (site_answers site.now) limits source) }
+    ensures { OnOk result (findings.new.items ≡ findings.old.items ++ off_found (site_answers site.now) limits source) }
 {
     if let Some(offset) = offset_by_utc(site, limits.tai_utc, source) {
         add_finding(findings, source, What::OffByUtc(OffByUtc::Offset(offset)))?;
     }
-    if let Some(count) = followers_off(site, limits.tai_utc, source, followers) {
+    Ok(())
+}
+
+/// `off_by_utc` of a clock that leads: by all clocks that follow it, and by the clock of the host that asks.
+pub fn judge_lead_off(
+    site: &Site,
+    source: Source,
+    leader: Option<Leader>,
+    followers: &[Source],
+    limits: Limits,
+    findings: &mut Vec<Finding<'_>>,
+) -> Added
+    requires leader { leader ≡ leader_of (site_answers site.now) source }
+    requires followers { followers.now ≡ all_followers (site_answers site.now) }
+    ensures { OnOk result (findings.new.items ≡ findings.old.items
+        ++ followers_found (site_answers site.now) limits source ++ origin_found (site_answers site.now) limits source) }
+{
+    if let Some(count) = followers_off(site, limits.tai_utc, source, leader, followers) {
         add_finding(findings, source, What::OffByUtc(OffByUtc::Followers(count)))?;
     }
-    if let Some(origin) = utc_by_host(site, limits, source) {
+    if let Some(origin) = utc_by_host(site, limits, source, leader) {
         add_finding(findings, source, What::OffByUtc(OffByUtc::Origin(origin)))?;
     }
     Ok(())

@@ -2,31 +2,21 @@
 
 ghost use Rattle.std.specs.Prelude.{◌≡◌, ◌++◌, OnOk};
 ghost use Rattle.ptpm_site.specs.Findings.{found_each, grandmaster_found, grandmaster_said, parent_found};
-ghost use Rattle.ptpm_site.specs.Grandmasters.{leading_clocks};
 ghost use Rattle.ptpm_site.specs.Site.{site_answers};
 
 use crate::comparing::{Compared, add_differences};
 use crate::differences::{grandmaster_differs, other_grandmaster};
 use crate::finding::{Added, Finding, What, add_finding};
-use crate::grandmasters::{count_in, masterless_reason, unseen_grandmaster};
+use crate::grandmasters::{masterless_reason, unseen_grandmaster};
 use crate::parents::{no_master_port, unseen_parent, wrong_steps};
 use crate::site::Site;
 use crate::source::Source;
 
-/// `two_grandmasters`, `no_master`, `grandmaster_not_seen`. `leading` has all clocks that lead.
-#[tactic(auto, unfolding(crate::specs::Findings::grandmaster_found, crate::specs::Findings::two_found))]
-pub fn judge_grandmaster(
-    site: &Site,
-    source: Source,
-    leading: &[Source],
-    findings: &mut Vec<Finding<'_>>,
-) -> Added
-    requires { leading.now ≡ leading_clocks (site_answers site.now) }
+/// `no_master`, `grandmaster_not_seen`.
+#[tactic(auto, unfolding(crate::specs::Findings::grandmaster_found))]
+pub fn judge_grandmaster(site: &Site, source: Source, findings: &mut Vec<Finding<'_>>) -> Added
     ensures { OnOk result (findings.new.items ≡ findings.old.items ++ grandmaster_found (site_answers site.now) source) }
 {
-    if site.leads(source) && 2 <= count_in(leading, source.domain) {
-        add_finding(findings, source, What::TwoGrandmasters)?;
-    }
     if let Some(why) = masterless_reason(site, source) {
         add_finding(findings, source, What::NoMaster(why))?;
     }

@@ -1,47 +1,67 @@
 //! What is wrong with the time of a clock that leads.
 
 ghost use Rattle.std.specs.Prelude.{◌≡◌, ◌++◌, OnOk};
-ghost use Rattle.std.specs.Option.{option_copied};
-ghost use Rattle.ptpm_site.specs.Findings.{leader_found, leap_found, offset_found, properties_found, traceability_found, validity_found};
+ghost use Rattle.ptpm_site.specs.Findings.{leader_found, leap_found, offset_found, properties_found, told_found, traceability_found, validity_found};
+ghost use Rattle.ptpm_site.specs.Leaders.{leader_of};
 ghost use Rattle.ptpm_site.specs.Leading.{all_standing_by};
 ghost use Rattle.ptpm_site.specs.Site.{site_answers};
 
-use crate::data_sets::{DefaultDataSet, TimePropertiesDataSet};
+use crate::data_sets::TimePropertiesDataSet;
 use crate::finding::{Added, Finding, What, add_finding};
+use crate::leaders::Leader;
 use crate::leading::{
     announced_leap, better_clock, invalid_offset, not_traceable, without_source, wrong_offset,
 };
 use crate::limits::Limits;
 use crate::site::Site;
 use crate::source::Source;
+use ptpm_members::ClockQuality;
 
 /// `gm_holdover`, `gm_degraded`, `gm_free_running`, `not_traceable`, `utc_invalid`, `utc_offset`, `leap`, `better_clock`: all of a
 /// clock that leads. `others` has all clocks that stand by.
-#[tactic(auto, unfolding(crate::specs::Findings::leader_found, crate::specs::Findings::quality_found))]
+#[tactic(auto, unfolding(crate::specs::Findings::leader_found))]
 pub fn judge_leader(
     site: &Site,
     source: Source,
+    leader: Option<Leader>,
+    others: &[Source],
+    limits: Limits,
+    findings: &mut Vec<Finding<'_>>,
+) -> Added
+    requires leader { leader ≡ leader_of (site_answers site.now) source }
+    requires others { others.now ≡ all_standing_by (site_answers site.now) }
+    ensures { OnOk result (findings.new.items ≡ findings.old.items ++ leader_found (site_answers site.now) limits source) }
+{
+    match leader {
+        Some(leader) => judge_told(site, source, &leader, others, limits, findings),
+        None => Ok(()),
+    }
+}
+
+/// The same by what is said of it.
+#[tactic(auto, unfolding(crate::specs::Findings::told_found))]
+fn judge_told(
+    site: &Site,
+    source: Source,
+    leader: &Leader,
     others: &[Source],
     limits: Limits,
     findings: &mut Vec<Finding<'_>>,
 ) -> Added
     requires { others.now ≡ all_standing_by (site_answers site.now) }
-    ensures { OnOk result (findings.new.items ≡ findings.old.items ++ leader_found (site_answers site.now) limits source) }
+    ensures { OnOk result (findings.new.items ≡ findings.old.items ++ told_found (site_answers site.now) limits source leader.now) }
 {
-    if !site.leads(source) {
-        return Ok(());
-    }
-    let default = site.default(source);
-    if let Some(default) = &default {
-        if let Some(degraded) = without_source(default) {
+    let quality = leader.quality();
+    if let Some(quality) = quality {
+        if let Some(degraded) = without_source(quality) {
             add_finding(findings, source, What::Degraded(degraded))?;
         }
     }
-    if let Some(time) = site.time(source) {
-        judge_properties(source, &default, &time, limits, findings)?;
+    if let Some(time) = &leader.time {
+        judge_properties(source, quality, time, limits, findings)?;
     }
-    if let Some(default) = &default {
-        if let Some(better) = better_clock(site, source, default, others) {
+    if let Some(quality) = quality {
+        if let Some(better) = better_clock(site, source, quality, others) {
             add_finding(findings, source, What::BetterClock(better))?;
         }
     }
@@ -52,14 +72,14 @@ pub fn judge_leader(
 #[tactic(auto, unfolding(crate::specs::Findings::properties_found))]
 fn judge_properties(
     source: Source,
-    default: &Option<DefaultDataSet>,
+    quality: Option<ClockQuality>,
     time: &TimePropertiesDataSet,
     limits: Limits,
     findings: &mut Vec<Finding<'_>>,
 ) -> Added
-    ensures { OnOk result (findings.new.items ≡ findings.old.items ++ properties_found limits source default.now time.now) }
+    ensures { OnOk result (findings.new.items ≡ findings.old.items ++ properties_found limits source quality time.now) }
 {
-    judge_traceability(source, default, time, findings)?;
+    judge_traceability(source, quality, time, findings)?;
     judge_validity(source, time, findings)?;
     judge_utc_offset(source, time, limits, findings)?;
     judge_leap(source, time, findings)
@@ -111,16 +131,16 @@ fn judge_leap(
 /// `not_traceable`.
 fn judge_traceability(
     source: Source,
-    default: &Option<DefaultDataSet>,
+    quality: Option<ClockQuality>,
     time: &TimePropertiesDataSet,
     findings: &mut Vec<Finding<'_>>,
 ) -> Added
-    ensures { OnOk result (findings.new.items ≡ findings.old.items ++ traceability_found source default.now time.now) }
+    ensures { OnOk result (findings.new.items ≡ findings.old.items ++ traceability_found source quality time.now) }
 {
-    let Some(default) = default else {
+    let Some(quality) = quality else {
         return Ok(());
     };
-    match not_traceable(default, time) {
+    match not_traceable(quality, time) {
         Some(untraceable) => add_finding(findings, source, What::NotTraceable(untraceable)),
         None => Ok(()),
     }

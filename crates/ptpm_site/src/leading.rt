@@ -80,12 +80,12 @@ fn degradation_of(class: u8) -> Option<Degradation>
 }
 
 /// A clock's quality, if it is without its source of time.
-pub fn without_source(default: &DefaultDataSet) -> Option<Degraded>
-    ensures { result ≡ without_source default.now }
+pub fn without_source(quality: ClockQuality) -> Option<Degraded>
+    ensures { result ≡ without_source quality }
 {
     Some(Degraded {
-        degradation: degradation_of(default.quality.class)?,
-        quality: default.quality,
+        degradation: degradation_of(quality.class)?,
+        quality,
     })
 }
 
@@ -97,10 +97,10 @@ fn has_source(class: u8) -> bool
 }
 
 /// What a clock of class 6 or 7 says, if it isn't that its time and its frequency are traceable.
-pub fn not_traceable(default: &DefaultDataSet, time: &TimePropertiesDataSet) -> Option<Untraceable>
-    ensures { result ≡ not_traceable default.now time.now }
+pub fn not_traceable(quality: ClockQuality, time: &TimePropertiesDataSet) -> Option<Untraceable>
+    ensures { result ≡ not_traceable quality time.now }
 {
-    let class = default.quality.class;
+    let class = quality.class;
     if has_source(class)
         && time.ptp_timescale
         && !(time.time_traceable && time.frequency_traceable)
@@ -166,7 +166,7 @@ fn stands_by(site: &Site, source: Source) -> bool
     ensures { result ≡ stands_by (site_answers site.now) source }
 {
     match site.default(source) {
-        Some(default) => may_lead(&default) && !site.leads(source),
+        Some(default) => may_lead(&default) && !site.leads_by_answers(source),
         None => false,
     }
 }
@@ -217,13 +217,13 @@ fn first_better<'a>(
 pub fn better_clock(
     site: &Site,
     source: Source,
-    default: &DefaultDataSet,
+    quality: ClockQuality,
     others: &[Source],
 ) -> Option<Better>
     requires { others.now ≡ all_standing_by (site_answers site.now) }
-    ensures { result ≡ better_clock (site_answers site.now) source default.now }
+    ensures { result ≡ better_clock (site_answers site.now) source quality }
 {
-    let class = default.quality.class;
+    let class = quality.class;
     let other = first_better(site, source, class, others)?;
     let better = site.default(*other)?;
     Some(Better {

@@ -37,6 +37,7 @@ mod judging_loops;
 pub mod judging_open;
 mod judging_ports;
 pub mod laws;
+pub mod leaders;
 pub mod leading;
 pub mod left_out;
 pub mod limits;

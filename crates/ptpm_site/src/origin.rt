@@ -2,10 +2,12 @@
 
 ghost use Rattle.std.specs.Prelude.{◌≡◌, ◌+◌, ◌≤◌, find, length, reverse};
 ghost use Rattle.std.specs.Option.{option_copied};
+ghost use Rattle.ptpm_site.specs.Leaders.{leader_of};
 ghost use Rattle.ptpm_site.specs.Origins.{as_here, is_as_here, is_origin_of, origin_at, origin_heard, origin_in, origin_of, says_origin, says_tai, timestamp_at, utc_by_host};
 ghost use Rattle.ptpm_site.specs.Site.{site_answers};
 
 use crate::heard::{FOLLOW_UP, Heard, SYNC, Sender, sender_in};
+use crate::leaders::Leader;
 use crate::limits::Limits;
 use crate::numbers::flag_at;
 use crate::site::Site;
@@ -112,11 +114,11 @@ fn as_here(origin: Origin) -> Option<Origin>
     }
 }
 
-/// Whether a clock says that it has the timescale PTP, which is TAI.
-fn says_tai(site: &Site, source: Source) -> bool
-    ensures { result ≡ says_tai (site_answers site.now) source }
+/// Whether a clock that leads is said to have the timescale PTP, which is TAI.
+fn says_tai(leader: &Leader) -> bool
+    ensures { result ≡ says_tai leader.now }
 {
-    match site.time(source) {
+    match leader.time {
         Some(time) => time.ptp_timescale,
         None => false,
     }
@@ -132,10 +134,19 @@ fn last_origin(heard: &[Heard], source: Source) -> Option<&Heard>
 /// What a clock that leads said last of its time, if that is the time of the host that asks. That has UTC, and the clock says that
 /// it gives TAI.
 #[tactic(auto, unfolding(crate::specs::Origins::utc_by_host))]
-pub fn utc_by_host(site: &Site, limits: Limits, source: Source) -> Option<Origin>
+pub fn utc_by_host(
+    site: &Site,
+    limits: Limits,
+    source: Source,
+    leader: Option<Leader>,
+) -> Option<Origin>
+    requires { leader ≡ leader_of (site_answers site.now) source }
     ensures { result ≡ utc_by_host (site_answers site.now) limits source }
 {
-    if !(limits.is_synchronised && says_tai(site, source) && site.leads(source)) {
+    if !limits.is_synchronised {
+        return None;
+    }
+    if !says_tai(&leader?) {
         return None;
     }
     let heard = last_origin(site.all_heard(), source)?;

@@ -2,9 +2,13 @@
 
 ghost use Rattle.std.specs.Prelude.{◌≡◌, IfOk, filter};
 ghost use Rattle.std.specs.List.{count_by};
+ghost use Rattle.ptpm_site.specs.Grandmasters.{names};
+ghost use Rattle.ptpm_site.specs.Leaders.{leader_of};
 ghost use Rattle.ptpm_site.specs.Site.{site_answers};
-ghost use Rattle.ptpm_site.specs.TaiAndUtc.{all_of, all_off, all_followers, followers_off, is_about, is_about_utc, is_about_utc_of, is_off_by_utc, names, names_well, offset_by_utc, is_follower, takes_utc_for_tai};
+ghost use Rattle.ptpm_site.specs.TaiAndUtc.{all_of, all_off, all_followers, followers_off, is_about, is_about_utc, is_about_utc_of, is_off_by_utc, names_well, offset_by_utc, is_follower, takes_utc_for_tai};
 
+use crate::grandmasters::names;
+use crate::leaders::Leader;
 use crate::origin::Origin;
 use crate::port_groups::PortGroup;
 use crate::site::Site;
@@ -122,19 +126,6 @@ pub fn all_followers(
         .collect(alloc)
 }
 
-/// Whether another clock of the domain names this one as its grandmaster.
-fn names(site: &Site, source: Source, other: Source) -> bool
-    ensures { result ≡ names (site_answers site.now) source other }
-{
-    if source.domain != other.domain {
-        return false;
-    }
-    match site.parent(other) {
-        Some(parent) => parent.grandmaster == source.clock,
-        None => false,
-    }
-}
-
 /// How many of these clocks name a clock.
 fn count_naming(site: &Site, source: Source, followers: &[Source]) -> usize
     ensures { result ≡ count_by (names (site_answers site.now) source) followers.now }
@@ -181,12 +172,14 @@ pub fn followers_off(
     site: &Site,
     tai_utc: i16,
     source: Source,
+    leader: Option<Leader>,
     followers: &[Source],
 ) -> Option<usize>
-    requires { followers.now ≡ all_followers (site_answers site.now) }
+    requires leader { leader ≡ leader_of (site_answers site.now) source }
+    requires followers { followers.now ≡ all_followers (site_answers site.now) }
     ensures { result ≡ followers_off (site_answers site.now) tai_utc source }
 {
-    if site.leads(source) {
+    if leader.is_some() {
         all_off(site, tai_utc, source, followers)
     } else {
         None

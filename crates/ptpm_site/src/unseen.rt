@@ -5,7 +5,7 @@ ghost use Rattle.std.specs.List.{list_any};
 ghost use Rattle.ptpm_site.specs.Evidence.{IsOf};
 ghost use Rattle.ptpm_site.specs.Grandmasters.{in_domain};
 ghost use Rattle.ptpm_site.specs.Site.{site_answers};
-ghost use Rattle.ptpm_site.specs.Unseen.{is_own_host, mute, names, open_mute, own_host, sends, sent_kind, unseen, was_asked};
+ghost use Rattle.ptpm_site.specs.Unseen.{is_mute, mute, names, open_mute, own_host, sends, sent_kind, unseen, was_asked};
 
 use crate::domain::Domain;
 use crate::evidence::Evidence;
@@ -106,6 +106,15 @@ fn mute(site: &Site, evidence: &Evidence, source: Source, sources: &[Source]) ->
     } else {
         None
     }
+}
+
+/// Whether a clock that is not seen has the finding `mute`. `sources` has all clocks that are seen.
+pub fn is_mute(site: &Site, evidence: &Evidence, source: Source, sources: &[Source]) -> bool
+    requires of { IsOf (site_answers site.now).heard evidence.now }
+    requires sources { sources.now ≡ (site_answers site.now).clocks }
+    ensures { result ≡ is_mute (site_answers site.now) source }
+{
+    !evidence.hosts.contains(&source.clock) && mute(site, evidence, source, sources).is_some()
 }
 
 /// That a clock that is not seen sends Delay_Req alone, and answers nothing in a domain that was asked: a slave, or a transparent

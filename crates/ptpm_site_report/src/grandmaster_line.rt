@@ -1,32 +1,35 @@
-//! What a clock that leads says of its time, in a line.
+//! What is said of a grandmaster that leads, in a line.
 
 use ptpm_members::Enumeration;
 use ptpm_site::data_sets::TimePropertiesDataSet;
-use ptpm_site::site::Site;
-use ptpm_site::source::Source;
+use ptpm_site::leaders::Leader;
 use std::fmt;
 
-/// A clock that leads. What it did not say is left out.
+/// A grandmaster that leads. What is not said of it is left out.
 #[derive(Clone, Copy)]
-pub(crate) struct GrandmasterLine<'a>(pub(crate) &'a Site, pub(crate) Source);
+pub(crate) struct GrandmasterLine<'a>(pub(crate) &'a Leader);
 
 impl fmt::Display for GrandmasterLine<'_> {
     fn fmt<W: fmt::Write>(&self, f: &mut fmt::Formatter<W>) -> fmt::Result {
-        let (site, source) = (self.0, self.1);
+        let Leader {
+            source,
+            attributes,
+            time,
+            ..
+        } = *self.0;
         write!(f, "grandmaster {}", source.clock)?;
-        let default = site.default(source);
         let mut between = ":";
-        if let Some(set) = default {
-            let (class, accuracy) = (set.quality.class, set.quality.accuracy);
+        if let Some(told) = attributes {
+            let (class, accuracy) = (told.quality.class, told.quality.accuracy);
             write!(f, ": class {class}, accuracy 0x{accuracy:02x}")?;
             between = ",";
         }
-        if let Some(set) = site.time(source) {
+        if let Some(set) = time {
             f.write_str(between)?;
             write_time(&set, f)?;
         }
-        match default {
-            Some(set) => write!(f, ", priorities {} and {}", set.priority1, set.priority2),
+        match attributes {
+            Some(told) => write!(f, ", priorities {} and {}", told.priority1, told.priority2),
             None => Ok(()),
         }
     }

@@ -7,13 +7,21 @@ use crate::members::Members;
 use crate::names::Names;
 use crate::remarks::Remark;
 use crate::span::Span;
+use crate::trees::leaders_in;
 use crate::utc_text::UtcText;
 use ptpm_codec::{ClockIdentity, PortIdentity};
 use ptpm_commands::Fault;
-use ptpm_members::MemberValue;
+use ptpm_data::Member::{
+    FrequencyTraceable, Leap59, Leap61, PtpTimescale, TimeSource, TimeTraceable, UtcOffset,
+    UtcValid,
+};
+use ptpm_members::Member::DataSet;
+use ptpm_members::{Enumeration, MemberValue};
 use ptpm_site::asked::{Asked, OF_CLOCK};
 use ptpm_site::clock::{Clock, Received};
+use ptpm_site::data_sets::TimePropertiesDataSet;
 use ptpm_site::domain::Domain;
+use ptpm_site::leaders::{HeardBy, Leader};
 use ptpm_site::member::{members_of, value_of};
 use ptpm_site::source::Source;
 use serde_json::Value;
@@ -111,38 +119,57 @@ impl fmt::Display for DomainMembers {
     }
 }
 
-/// The clocks that lead a domain.
+/// The grandmasters that lead a domain.
 fn grandmasters_value(
     alloc: Global,
     look: &Look<'_, '_>,
     domain: Domain,
 ) -> Result<Value, AllocError> {
     let mut values = Vec::new(alloc);
-    for source in look.picture.forest.sources.as_slice() {
-        if source.domain == domain && look.picture.site.leads(*source) {
-            values.push(grandmaster_value(alloc, look, *source)?)?;
-        }
+    for leader in leaders_in(look.picture, domain) {
+        values.push(grandmaster_value(alloc, leader)?)?;
     }
     Ok(Value::Array(values))
 }
 
-/// A clock that leads: its identity, its quality, and what it says of its time. It said so itself.
-fn grandmaster_value(
-    alloc: Global,
-    look: &Look<'_, '_>,
-    source: Source,
-) -> Result<Value, AllocError> {
+/// A grandmaster that leads: its identity, its quality, what is said of its time, and by what it is known.
+fn grandmaster_value(alloc: Global, leader: &Leader) -> Result<Value, AllocError> {
     let mut members = Members::none(alloc);
-    let asked = Asked::TimePropertiesDataSet;
-    if let Some(time) = look.picture.site.answers(source, asked).last() {
-        put_set(&mut members, asked, time)?;
+    if let Some(time) = &leader.time {
+        put_time(&mut members, time)?;
     }
-    if let Some(default) = look.picture.site.default(source) {
-        members.put("clockQuality", MemberValue::Quality(default.quality))?;
+    if let Some(told) = leader.attributes {
+        members.put("clockQuality", MemberValue::Quality(told.quality))?;
     }
-    members.put_clock("clockIdentity", source.clock)?;
-    members.put_text("heard", "answer")?;
+    members.put_clock("clockIdentity", leader.source.clock)?;
+    members.put_text("heard", heard_word(leader.heard))?;
     Ok(members.object())
+}
+
+fn heard_word(heard: HeardBy) -> &'static str {
+    match heard {
+        HeardBy::Answer => "answer",
+        HeardBy::Announce => "announce",
+        HeardBy::Followers => "followers",
+    }
+}
+
+/// Puts the members of TIME_PROPERTIES_DATA_SET.
+fn put_time(members: &mut Members, time: &TimePropertiesDataSet) -> Result<(), AllocError> {
+    let offset = MemberValue::Signed(i64::from(time.utc_offset));
+    members.put(DataSet(UtcOffset).name(), offset)?;
+    for (member, flag) in [
+        (UtcValid, time.utc_valid),
+        (Leap59, time.leap59),
+        (Leap61, time.leap61),
+        (TimeTraceable, time.time_traceable),
+        (FrequencyTraceable, time.frequency_traceable),
+        (PtpTimescale, time.ptp_timescale),
+    ] {
+        members.put(DataSet(member).name(), MemberValue::Flag(flag))?;
+    }
+    let source = MemberValue::Named(Enumeration::TimeSource, time.time_source);
+    members.put(DataSet(TimeSource).name(), source)
 }
 
 /// Prints the member with the findings, or with what is open.

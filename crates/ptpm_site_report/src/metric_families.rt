@@ -2,6 +2,7 @@
 
 use crate::seconds::IntervalSeconds;
 use ptpm_site::data_sets::{PortDataSet, TimePropertiesDataSet};
+use ptpm_site::leaders::Leader;
 use ptpm_site::port_groups::PortGroup;
 use ptpm_site::site::Site;
 use ptpm_site::source::Source;
@@ -36,18 +37,12 @@ impl fmt::Display for Amount {
     }
 }
 
-/// What is said of a clock; from `Class` on, of a grandmaster.
+/// What is said of a clock.
 #[derive(Clone, Copy)]
 pub(crate) enum OfClock {
     Offset,
     Delay,
     Steps,
-    Class,
-    Accuracy,
-    UtcOffsetValid,
-    TimeTraceable,
-    Leap,
-    UtcOffset,
 }
 
 impl OfClock {
@@ -56,12 +51,6 @@ impl OfClock {
             OfClock::Offset => "ptp_offset_from_master_seconds",
             OfClock::Delay => "ptp_mean_delay_seconds",
             OfClock::Steps => "ptp_steps_removed",
-            OfClock::Class => "ptp_grandmaster_clock_class",
-            OfClock::Accuracy => "ptp_grandmaster_clock_accuracy",
-            OfClock::UtcOffsetValid => "ptp_grandmaster_utc_offset_valid",
-            OfClock::TimeTraceable => "ptp_grandmaster_time_traceable",
-            OfClock::Leap => "ptp_grandmaster_leap",
-            OfClock::UtcOffset => "ptp_grandmaster_utc_offset_seconds",
         }
     }
 
@@ -70,12 +59,6 @@ impl OfClock {
             OfClock::Offset => "offsetFromMaster of a clock with a port in SLAVE.",
             OfClock::Delay => "meanDelay of a clock with a port in SLAVE.",
             OfClock::Steps => "stepsRemoved.",
-            OfClock::Class => "clockClass of the grandmaster.",
-            OfClock::Accuracy => "clockAccuracy of the grandmaster, as its number.",
-            OfClock::UtcOffsetValid => "currentUtcOffsetValid.",
-            OfClock::TimeTraceable => "timeTraceable.",
-            OfClock::Leap => "1 if leap61, -1 if leap59, else 0.",
-            OfClock::UtcOffset => "currentUtcOffset: TAI minus UTC.",
         }
     }
 
@@ -90,12 +73,53 @@ impl OfClock {
             }
             OfClock::Offset | OfClock::Delay => return None,
             OfClock::Steps => Amount::Number(site.current(source)?.steps_removed as i64),
-            OfClock::Class => Amount::Number(site.default(source)?.quality.class as i64),
-            OfClock::Accuracy => Amount::Number(site.default(source)?.quality.accuracy as i64),
-            OfClock::UtcOffsetValid => Amount::Number(site.time(source)?.utc_valid as i64),
-            OfClock::TimeTraceable => Amount::Number(site.time(source)?.time_traceable as i64),
-            OfClock::Leap => Amount::Number(leap_number(&site.time(source)?)),
-            OfClock::UtcOffset => Amount::Number(site.time(source)?.utc_offset as i64),
+        })
+    }
+}
+
+/// What is said of a grandmaster that leads.
+#[derive(Clone, Copy)]
+pub(crate) enum OfGrandmaster {
+    Class,
+    Accuracy,
+    UtcOffsetValid,
+    TimeTraceable,
+    Leap,
+    UtcOffset,
+}
+
+impl OfGrandmaster {
+    pub(crate) fn name(self) -> &'static str {
+        match self {
+            OfGrandmaster::Class => "ptp_grandmaster_clock_class",
+            OfGrandmaster::Accuracy => "ptp_grandmaster_clock_accuracy",
+            OfGrandmaster::UtcOffsetValid => "ptp_grandmaster_utc_offset_valid",
+            OfGrandmaster::TimeTraceable => "ptp_grandmaster_time_traceable",
+            OfGrandmaster::Leap => "ptp_grandmaster_leap",
+            OfGrandmaster::UtcOffset => "ptp_grandmaster_utc_offset_seconds",
+        }
+    }
+
+    pub(crate) fn help(self) -> &'static str {
+        match self {
+            OfGrandmaster::Class => "clockClass of the grandmaster.",
+            OfGrandmaster::Accuracy => "clockAccuracy of the grandmaster, as its number.",
+            OfGrandmaster::UtcOffsetValid => "currentUtcOffsetValid.",
+            OfGrandmaster::TimeTraceable => "timeTraceable.",
+            OfGrandmaster::Leap => "1 if leap61, -1 if leap59, else 0.",
+            OfGrandmaster::UtcOffset => "currentUtcOffset: TAI minus UTC.",
+        }
+    }
+
+    /// The number of a grandmaster, if it is said.
+    pub(crate) fn amount(self, leader: &Leader) -> Option<i64> {
+        Some(match self {
+            OfGrandmaster::Class => leader.attributes?.quality.class as i64,
+            OfGrandmaster::Accuracy => leader.attributes?.quality.accuracy as i64,
+            OfGrandmaster::UtcOffsetValid => leader.time?.utc_valid as i64,
+            OfGrandmaster::TimeTraceable => leader.time?.time_traceable as i64,
+            OfGrandmaster::Leap => leap_number(&leader.time?),
+            OfGrandmaster::UtcOffset => leader.time?.utc_offset as i64,
         })
     }
 }

@@ -102,14 +102,12 @@ fn print_head<O: Write>(
 fn print_grandmasters<O: Write>(picture: &Picture<'_>, out: &mut O) -> io::Result<()> {
     write!(out, "{}", Clocks(picture.forest.sources.len()))?;
     let mut word = "grandmaster";
-    for source in picture.forest.sources.as_slice() {
-        if picture.site.leads(*source) {
-            write!(out, ", {word} {}", source.clock)?;
-            if let Some(default) = picture.site.default(*source) {
-                write!(out, " of class {}", default.quality.class)?;
-            }
-            word = "and";
+    for leader in picture.leaders.as_slice() {
+        write!(out, ", {word} {}", leader.source.clock)?;
+        if let Some(told) = leader.attributes {
+            write!(out, " of class {}", told.quality.class)?;
         }
+        word = "and";
     }
     Ok(())
 }

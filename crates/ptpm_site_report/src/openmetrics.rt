@@ -2,13 +2,14 @@
 
 use crate::label::Label;
 use crate::look::Look;
-use crate::metric_families::{OfClock, OfPort, write_head};
+use crate::metric_families::{OfClock, OfGrandmaster, OfPort, write_head};
 use crate::remarks::Remark;
 use crate::seconds::NanosecondSeconds;
 use crate::span::Span;
 use ptpm_causes::Kind;
 use ptpm_commands::Fault;
 use ptpm_members::{Enumeration, MemberValue};
+use ptpm_site::data_sets::TimePropertiesDataSet;
 use ptpm_site::domain::Domain;
 use ptpm_site::picture::Picture;
 use ptpm_site::site::Site;
@@ -32,21 +33,21 @@ pub(crate) fn print_metrics<O: Write>(
     print_counts_of_open(look, &domains, out)?;
     print_clocks(look, out)?;
     for family in [OfClock::Offset, OfClock::Delay, OfClock::Steps] {
-        print_of_clocks(picture, family, Role::Clock, out)?;
+        print_of_clocks(picture, family, out)?;
     }
     for family in [OfPort::State, OfPort::LinkDelay] {
         print_of_ports(picture, family, out)?;
     }
     print_grandmasters(picture, out)?;
     for family in [
-        OfClock::Class,
-        OfClock::Accuracy,
-        OfClock::UtcOffsetValid,
-        OfClock::TimeTraceable,
-        OfClock::Leap,
-        OfClock::UtcOffset,
+        OfGrandmaster::Class,
+        OfGrandmaster::Accuracy,
+        OfGrandmaster::UtcOffsetValid,
+        OfGrandmaster::TimeTraceable,
+        OfGrandmaster::Leap,
+        OfGrandmaster::UtcOffset,
     ] {
-        print_of_clocks(picture, family, Role::Grandmaster, out)?;
+        print_of_grandmasters(picture, family, out)?;
     }
     writeln!(out, "# EOF")?;
     Ok(())
@@ -56,7 +57,7 @@ pub(crate) fn print_metrics<O: Write>(
 #[derive(Clone, Copy)]
 enum Role {
     Clock,
-    /// It leads.
+    /// It leads, whether it is seen or not.
     Grandmaster,
 }
 
@@ -228,21 +229,35 @@ fn write_follows<O: Write>(site: &Site, source: Source, out: &mut O) -> io::Resu
     }
 }
 
-/// Prints a number of each clock that has one, or of each that leads.
+/// Prints a number of each clock that has one.
 fn print_of_clocks<O: Write>(
     picture: &Picture<'_>,
     family: OfClock,
-    role: Role,
     out: &mut O,
 ) -> io::Result<()> {
     let name = family.name();
     write_head(name, family.help(), out)?;
     for source in picture.site.clocks.keys() {
-        if matches!(role, Role::Grandmaster) && !picture.site.leads(*source) {
-            continue;
-        }
         if let Some(amount) = family.amount(&picture.site, *source) {
-            writeln!(out, "{name}{{{}}} {amount}", OfSource(*source, role))?;
+            let labels = OfSource(*source, Role::Clock);
+            writeln!(out, "{name}{{{labels}}} {amount}")?;
+        }
+    }
+    Ok(())
+}
+
+/// Prints a number of each grandmaster that leads, if it is said.
+fn print_of_grandmasters<O: Write>(
+    picture: &Picture<'_>,
+    family: OfGrandmaster,
+    out: &mut O,
+) -> io::Result<()> {
+    let name = family.name();
+    write_head(name, family.help(), out)?;
+    for leader in picture.leaders.as_slice() {
+        if let Some(amount) = family.amount(leader) {
+            let labels = OfSource(leader.source, Role::Grandmaster);
+            writeln!(out, "{name}{{{labels}}} {amount}")?;
         }
     }
     Ok(())
@@ -265,29 +280,26 @@ fn print_of_ports<O: Write>(picture: &Picture<'_>, family: OfPort, out: &mut O) 
     Ok(())
 }
 
-/// Prints what each clock that leads says in words.
+/// Prints what is said of each grandmaster that leads, in words.
 fn print_grandmasters<O: Write>(picture: &Picture<'_>, out: &mut O) -> io::Result<()> {
     write_head(
         "ptp_grandmaster_info",
         "Whom clocks follow, and where it has its time from.",
         out,
     )?;
-    for source in picture.site.clocks.keys() {
-        if picture.site.leads(*source) {
-            let labels = OfSource(*source, Role::Grandmaster);
-            write!(out, "ptp_grandmaster_info{{{labels}")?;
-            write_time(&picture.site, *source, out)?;
-            writeln!(out, "}} 1")?;
+    for leader in picture.leaders.as_slice() {
+        let labels = OfSource(leader.source, Role::Grandmaster);
+        write!(out, "ptp_grandmaster_info{{{labels}")?;
+        if let Some(time) = &leader.time {
+            write_time(time, out)?;
         }
+        writeln!(out, "}} 1")?;
     }
     Ok(())
 }
 
-/// Writes the labels that say what time a clock gives.
-fn write_time<O: Write>(site: &Site, source: Source, out: &mut O) -> io::Result<()> {
-    let Some(set) = site.time(source) else {
-        return Ok(());
-    };
+/// Writes the labels that say what time a grandmaster gives.
+fn write_time<O: Write>(set: &TimePropertiesDataSet, out: &mut O) -> io::Result<()> {
     let timescale = if set.ptp_timescale { "PTP" } else { "ARB" };
     let source = MemberValue::Named(Enumeration::TimeSource, set.time_source);
     write!(out, ",time_source=\"{source}\",timescale=\"{timescale}\"")

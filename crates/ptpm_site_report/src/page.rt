@@ -192,7 +192,7 @@ fn called(alloc: Global, look: &Look<'_, '_>, source: Source) -> Result<String, 
     }
 }
 
-/// Prints the tree of a domain, below what each of its clocks that leads says of its time.
+/// Prints the tree of a domain, below what is said of each grandmaster that leads.
 fn print_tree<O: Write>(
     alloc: Global,
     look: &Look<'_, '_>,
@@ -200,16 +200,8 @@ fn print_tree<O: Write>(
     out: &mut O,
 ) -> Result<(), Fault> {
     writeln!(out, "<h2>{tree}</h2>")?;
-    for row in tree.rows.as_slice() {
-        if let Row::Clock(row) = row {
-            if row.leads {
-                writeln!(
-                    out,
-                    "<p class=\"faint\">{}</p>",
-                    GrandmasterLine(&look.picture.site, row.source)
-                )?;
-            }
-        }
+    for leader in tree.leaders {
+        writeln!(out, "<p class=\"faint\">{}</p>", GrandmasterLine(leader))?;
     }
     writeln!(
         out,

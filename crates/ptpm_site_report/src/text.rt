@@ -44,17 +44,17 @@ fn print_momentary<O: Write>(look: &Look<'_, '_>, out: &mut O) -> io::Result<()>
     }
 }
 
-/// Prints the head of a tree, a line for each clock that leads, and its rows.
+/// Prints the head of a tree, a line for each grandmaster that leads, and its rows.
 fn print_tree<O: Write>(tree: &Tree<'_>, look: &Look<'_, '_>, out: &mut O) -> io::Result<()> {
     writeln!(out, "{tree}")?;
     let mut widths = Widths::of_none();
     for row in tree.rows.as_slice() {
         if let Row::Clock(row) = row {
             widths.widen(indent(row), &row.columns);
-            if row.leads {
-                writeln!(out, "  {}", GrandmasterLine(&look.picture.site, row.source))?;
-            }
         }
+    }
+    for leader in tree.leaders {
+        writeln!(out, "  {}", GrandmasterLine(leader))?;
     }
     for row in tree.rows.as_slice() {
         print_row(row, look, &widths, out)?;

@@ -7,6 +7,7 @@ use crate::look::Look;
 use ptpm_codec::PortIdentity;
 use ptpm_site::clock::Clock;
 use ptpm_site::domain::Domain;
+use ptpm_site::leaders::Leader;
 use ptpm_site::left_out::{CLOCKS, PORTS};
 use ptpm_site::picture::Picture;
 use ptpm_site::source::Source;
@@ -18,6 +19,8 @@ use std::fmt;
 #[derive(Drop)]
 pub(crate) struct Tree<'a> {
     domain: Domain,
+    /// The grandmasters that lead, whether they are seen or not.
+    pub(crate) leaders: &'a [Leader],
     pub(crate) rows: Vec<Row<'a>>,
 }
 
@@ -39,7 +42,7 @@ pub(crate) struct ClockRow<'a> {
     pub(crate) depth: u32,
     /// Whether a loop is cut at it.
     is_cut: bool,
-    /// Whether it is a grandmaster.
+    /// Whether it is a grandmaster that leads.
     pub(crate) leads: bool,
 }
 
@@ -54,23 +57,19 @@ impl fmt::Display for Clocks {
     }
 }
 
-/// The head of a tree: the domain, how many clocks it has, and which are grandmasters.
+/// The head of a tree: the domain, how many clocks it has, and which grandmasters lead.
 impl fmt::Display for Tree<'_> {
     fn fmt<W: fmt::Write>(&self, f: &mut fmt::Formatter<W>) -> fmt::Result {
         write!(f, "domain {}: {}", self.domain, Clocks(self.count()))?;
         let mut word = ", grandmaster";
-        for row in self.rows.as_slice() {
-            if let Row::Clock(clock) = row {
-                if clock.leads {
-                    write!(f, "{word} {}", clock.source.clock)?;
-                    word = ", and";
-                }
-            }
+        for leader in self.leaders {
+            write!(f, "{word} {}", leader.source.clock)?;
+            word = ", and";
         }
-        if word == ", and" {
-            Ok(())
-        } else {
+        if self.leaders.is_empty() {
             f.write_str(", no grandmaster")
+        } else {
+            Ok(())
         }
     }
 }
@@ -99,10 +98,23 @@ pub(crate) fn trees_of<'a>(
         let domain = domain_of(look.picture, first);
         let (own, others) = rest.split_at(count_of(look.picture, domain, rest));
         let rows = rows_of(alloc, look, own)?;
-        trees.push(Tree { domain, rows })?;
+        let leaders = leaders_in(look.picture, domain);
+        trees.push(Tree {
+            domain,
+            leaders,
+            rows,
+        })?;
         rest = others;
     }
     Ok(trees)
+}
+
+/// The grandmasters that lead a domain. All are in the order of their domains.
+pub(crate) fn leaders_in<'a>(picture: &'a Picture<'_>, domain: Domain) -> &'a [Leader] {
+    let all = picture.leaders.as_slice();
+    let from = all.partition_point(|leader| leader.source.domain < domain);
+    let to = all.partition_point(|leader| leader.source.domain <= domain);
+    all.get(from..to).unwrap_or(&[])
 }
 
 fn domain_of(picture: &Picture<'_>, row: &TreeRow) -> Domain {
@@ -166,7 +178,7 @@ fn clock_row<'a>(
         columns: Columns::of(alloc, look.name_of(*source), &picture.site, *source)?,
         depth,
         is_cut: is_cut(picture, place, depth),
-        leads: picture.site.leads(*source),
+        leads: picture.site.leads_by_answers(*source),
     }))
 }
 

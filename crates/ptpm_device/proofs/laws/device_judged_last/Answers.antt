@@ -18,3 +18,9 @@ returns-clause-verdict c = law.turn_said-verdict
 
 pub returns-clause-forwards : goal.returns-clause-forwards
 returns-clause-forwards c = law.turn_said-forwards
+
+pub returns-clause-asked_each : goal.returns-clause-asked_each
+returns-clause-asked_each c = law.asked-whole
+
+pub returns-clause-wanted_each : goal.returns-clause-wanted_each
+returns-clause-wanted_each c = law.wanted-whole

@@ -4,7 +4,8 @@ use Rattle.std.specs.List.{count_by}
 use Rattle.ptpm_site.specs.declared.source.Source.{Source}
 use Rattle.ptpm_site.specs.Site.{site_answers}
 use Rattle.ptpm_site.specs.SiteAnswers.{SiteAnswers}
-use Rattle.ptpm_site.specs.TaiAndUtc.{all_of, all_off, names_well, names}
+use Rattle.ptpm_site.specs.Grandmasters.{names}
+use Rattle.ptpm_site.specs.TaiAndUtc.{all_of, all_off, names_well}
 use Rattle.ptpm_site.proofs.tai_and_utc.all_off.Goals as goal
 
 by_counts : (t : SiteAnswers) (u : ℤ) (s : Source) (clocks : List Source)

@@ -1,0 +1,346 @@
+//! The grandmasters that lead, and what is said of each: by itself, by its Announce, or by a clock that follows it.
+
+ghost use Rattle.std.specs.Prelude.{◌≡◌, IfOk, find};
+ghost use Rattle.std.specs.List.{count_by, filter_map};
+ghost use Rattle.std.specs.Option.{option_copied};
+ghost use Rattle.ptpm_site.specs.Evidence.{IsOf};
+ghost use Rattle.ptpm_site.specs.Leaders.{all_leaders, all_witnesses, is_agreed, is_of, is_present, leader_announced, leader_by_announce, leader_by_answers, leader_by_followers, leader_of, leader_told, leader_unseen, leads_in, own_attributes, present_leaders, quality_of, told_attributes, witness_of};
+ghost use Rattle.ptpm_site.specs.Site.{site_answers};
+
+use crate::announces::AnnouncedGrandmaster;
+use crate::data_sets::{DefaultDataSet, ParentDataSet, TimePropertiesDataSet};
+use crate::domain::Domain;
+use crate::evidence::Evidence;
+use crate::grandmasters::names;
+use crate::port_groups::PortGroup;
+use crate::site::Site;
+use crate::source::Source;
+use crate::subjects::subjects_of;
+use crate::unseen::is_mute;
+use ptpm_members::ClockQuality;
+use std::alloc::{AllocError, Global};
+
+/// By what a grandmaster is known.
+#[derive(Clone, Copy)]
+pub enum HeardBy {
+    /// It answers.
+    Answer,
+    /// It is not seen, and its last Announce says that it is the grandmaster.
+    Announce,
+    /// It is not seen, and a clock that follows it names it.
+    Followers,
+}
+
+/// What the best master clock algorithm compares of a grandmaster, beside its identity (9.3.4).
+#[derive(Clone, Copy)]
+pub struct Attributes {
+    pub quality: ClockQuality,
+    pub priority1: u8,
+    pub priority2: u8,
+}
+
+/// A grandmaster that leads, with what is said of it.
+#[derive(Clone, Copy)]
+pub struct Leader {
+    pub source: Source,
+    pub heard: HeardBy,
+    pub attributes: Option<Attributes>,
+    /// The members of TIME_PROPERTIES_DATA_SET.
+    pub time: Option<TimePropertiesDataSet>,
+}
+
+/// A clock that follows the grandmaster that it names.
+#[derive(Clone, Copy)]
+pub struct Witness {
+    pub grandmaster: Source,
+    pub follower: Source,
+}
+
+impl Leader {
+    /// Its clockQuality.
+    pub fn quality(&self) -> Option<ClockQuality>
+        ensures { result ≡ quality_of self.now }
+    {
+        match self.attributes {
+            Some(attributes) => Some(attributes.quality),
+            None => None,
+        }
+    }
+}
+
+fn own_attributes(default: &DefaultDataSet) -> Attributes
+    ensures { result ≡ own_attributes default.now }
+{
+    Attributes {
+        quality: default.quality,
+        priority1: default.priority1,
+        priority2: default.priority2,
+    }
+}
+
+/// A clock that is seen and leads, by its own data sets.
+fn leader_by_answers(site: &Site, source: Source) -> Option<Leader>
+    ensures { result ≡ leader_by_answers (site_answers site.now) source }
+{
+    if !site.leads_by_answers(source) {
+        return None;
+    }
+    let attributes = match site.default(source) {
+        Some(default) => Some(own_attributes(&default)),
+        None => None,
+    };
+    Some(Leader {
+        source,
+        heard: HeardBy::Answer,
+        attributes,
+        time: site.time(source),
+    })
+}
+
+/// The sender of an Announce, if that says that its sender is the grandmaster.
+fn leader_announced(source: Source, announced: &AnnouncedGrandmaster) -> Option<Leader>
+    ensures { result ≡ leader_announced source announced.now }
+{
+    if announced.clock == source.clock && announced.steps_removed == 0 {
+        Some(Leader {
+            source,
+            heard: HeardBy::Announce,
+            attributes: Some(announced.attributes),
+            time: Some(announced.time),
+        })
+    } else {
+        None
+    }
+}
+
+/// A clock that leads by its last Announce.
+fn leader_by_announce(site: &Site, evidence: &Evidence, source: Source) -> Option<Leader>
+    requires { IsOf (site_answers site.now).heard evidence.now }
+    ensures { result ≡ leader_by_announce (site_answers site.now) source }
+{
+    let announced = evidence.announcers.get(&source)?;
+    leader_announced(source, &announced.grandmaster?)
+}
+
+/// Whether the parent of a clock names this grandmaster too, if it is seen.
+fn is_agreed(site: &Site, source: Source, parent: Source) -> bool
+    ensures { result ≡ is_agreed (site_answers site.now) source parent }
+{
+    !site.is_seen(parent) || names(site, source, parent)
+}
+
+/// A clock with a port in SLAVE or UNCALIBRATED, and the grandmaster that it names, if its parent does so too or is not seen.
+#[tactic(auto, unfolding(crate::specs::Leaders::witness_of))]
+fn witness_of(site: &Site, source: Source) -> Option<Witness>
+    ensures { result ≡ witness_of (site_answers site.now) source }
+{
+    let set = site.parent(source)?;
+    let grandmaster = source.beside(set.grandmaster);
+    let parent = source.beside(set.parent.clock);
+    if site.has_port_of(source, PortGroup::Taking) && is_agreed(site, grandmaster, parent) {
+        Some(Witness {
+            grandmaster,
+            follower: source,
+        })
+    } else {
+        None
+    }
+}
+
+/// Those of these clocks that speak for the grandmaster that they name.
+fn witnesses_among(
+    alloc: Global,
+    site: &Site,
+    sources: &[Source],
+) -> Result<Vec<Witness>, AllocError>
+    ensures { IfOk result (λ found. found.items ≡ filter_map (witness_of (site_answers site.now)) sources.now) }
+{
+    let mut found = Vec::new(alloc);
+    for source in sources {
+        let Some(witness) = witness_of(site, *source) else {
+            continue;
+        };
+        found.push(witness)?;
+    }
+    Ok(found)
+}
+
+/// All clocks that speak for the grandmaster that they name. `sources` has all clocks that are seen.
+pub fn all_witnesses(
+    alloc: Global,
+    site: &Site,
+    sources: &[Source],
+) -> Result<Vec<Witness>, AllocError>
+    requires { sources.now ≡ (site_answers site.now).clocks }
+    ensures { IfOk result (λ found. found.items ≡ all_witnesses (site_answers site.now)) }
+{
+    witnesses_among(alloc, site, sources)
+}
+
+/// The first of these that speaks for a grandmaster.
+fn first_of(source: Source, witnesses: &[Witness]) -> Option<&Witness>
+    ensures { option_copied result ≡ find (is_of source) witnesses.now }
+{
+    witnesses
+        .iter()
+        .find(|witness| witness.grandmaster == source)
+}
+
+fn told_attributes(set: &ParentDataSet) -> Attributes
+    ensures { result ≡ told_attributes set.now }
+{
+    Attributes {
+        quality: set.quality,
+        priority1: set.priority1,
+        priority2: set.priority2,
+    }
+}
+
+/// A grandmaster by what a clock says of it.
+fn leader_told(site: &Site, source: Source, other: Source) -> Option<Leader>
+    ensures { result ≡ leader_told (site_answers site.now) source other }
+{
+    let set = site.parent(other)?;
+    Some(Leader {
+        source,
+        heard: HeardBy::Followers,
+        attributes: Some(told_attributes(&set)),
+        time: site.time(other),
+    })
+}
+
+/// A clock that leads by the least of those that follow it.
+fn leader_by_followers(site: &Site, source: Source, witnesses: &[Witness]) -> Option<Leader>
+    requires { witnesses.now ≡ all_witnesses (site_answers site.now) }
+    ensures { result ≡ leader_by_followers (site_answers site.now) source }
+{
+    let witness = first_of(source, witnesses)?;
+    leader_told(site, source, witness.follower)
+}
+
+fn leader_unseen(
+    site: &Site,
+    evidence: &Evidence,
+    source: Source,
+    witnesses: &[Witness],
+) -> Option<Leader>
+    requires of { IsOf (site_answers site.now).heard evidence.now }
+    requires witnesses { witnesses.now ≡ all_witnesses (site_answers site.now) }
+    ensures { result ≡ leader_unseen (site_answers site.now) source }
+{
+    match leader_by_announce(site, evidence, source) {
+        Some(leader) => Some(leader),
+        None => leader_by_followers(site, source, witnesses),
+    }
+}
+
+/// A clock, if it leads, with what is said of it.
+#[tactic(auto, unfolding(crate::specs::Leaders::leader_of))]
+pub fn leader_of(
+    site: &Site,
+    evidence: &Evidence,
+    source: Source,
+    witnesses: &[Witness],
+) -> Option<Leader>
+    requires of { IsOf (site_answers site.now).heard evidence.now }
+    requires witnesses { witnesses.now ≡ all_witnesses (site_answers site.now) }
+    ensures { result ≡ leader_of (site_answers site.now) source }
+{
+    if site.is_seen(source) {
+        leader_by_answers(site, source)
+    } else {
+        leader_unseen(site, evidence, source, witnesses)
+    }
+}
+
+/// Those of these clocks that lead.
+fn leaders_among(
+    alloc: Global,
+    site: &Site,
+    evidence: &Evidence,
+    subjects: &[Source],
+    witnesses: &[Witness],
+) -> Result<Vec<Leader>, AllocError>
+    requires of { IsOf (site_answers site.now).heard evidence.now }
+    requires witnesses { witnesses.now ≡ all_witnesses (site_answers site.now) }
+    ensures { IfOk result (λ found. found.items ≡ filter_map (leader_of (site_answers site.now)) subjects.now) }
+{
+    let mut found = Vec::new(alloc);
+    for subject in subjects {
+        let Some(leader) = leader_of(site, evidence, *subject, witnesses) else {
+            continue;
+        };
+        found.push(leader)?;
+    }
+    Ok(found)
+}
+
+/// All grandmasters that lead, by domain and identity.
+pub fn leaders_of(alloc: Global, site: &Site) -> Result<Vec<Leader>, AllocError>
+    ensures { IfOk result (λ found. found.items ≡ all_leaders (site_answers site.now)) }
+{
+    let sources = site.sources(alloc)?;
+    let subjects = subjects_of(alloc, site, sources.as_slice())?;
+    let evidence = Evidence::of(alloc, site.all_heard())?;
+    let witnesses = all_witnesses(alloc, site, sources.as_slice())?;
+    leaders_among(
+        alloc,
+        site,
+        &evidence,
+        subjects.as_slice(),
+        witnesses.as_slice(),
+    )
+}
+
+/// Whether one that leads is seen, or mute. `sources` has all clocks that are seen.
+pub fn is_present(site: &Site, evidence: &Evidence, leader: &Leader, sources: &[Source]) -> bool
+    requires of { IsOf (site_answers site.now).heard evidence.now }
+    requires sources { sources.now ≡ (site_answers site.now).clocks }
+    ensures { result ≡ is_present (site_answers site.now) leader.now }
+{
+    site.is_seen(leader.source) || is_mute(site, evidence, leader.source, sources)
+}
+
+fn present_among(
+    alloc: Global,
+    site: &Site,
+    evidence: &Evidence,
+    leaders: &[Leader],
+    sources: &[Source],
+) -> Result<Vec<Leader>, AllocError>
+    requires of { IsOf (site_answers site.now).heard evidence.now }
+    requires sources { sources.now ≡ (site_answers site.now).clocks }
+    requires leaders { leaders.now ≡ all_leaders (site_answers site.now) }
+    ensures { IfOk result (λ found. found.items ≡ present_leaders (site_answers site.now)) }
+{
+    leaders
+        .iter()
+        .copied()
+        .filter(|leader| is_present(site, evidence, leader, sources))
+        .collect(alloc)
+}
+
+/// Those of all that lead that are seen, or mute. `sources` has all clocks that are seen.
+pub fn present_leaders(
+    alloc: Global,
+    site: &Site,
+    evidence: &Evidence,
+    sources: &[Source],
+) -> Result<Vec<Leader>, AllocError>
+    requires of { IsOf (site_answers site.now).heard evidence.now }
+    requires sources { sources.now ≡ (site_answers site.now).clocks }
+    ensures { IfOk result (λ found. found.items ≡ present_leaders (site_answers site.now)) }
+{
+    let all = leaders_of(alloc, site)?;
+    present_among(alloc, site, evidence, all.as_slice(), sources)
+}
+
+/// How many of these lead in a domain.
+pub fn count_in(leaders: &[Leader], domain: Domain) -> usize
+    ensures { result ≡ count_by (leads_in domain) leaders.now }
+{
+    leaders
+        .iter()
+        .filter(|leader| leader.source.domain == domain)
+        .count()
+}
