@@ -4,12 +4,12 @@
 #include "message_places.h"
 #include "monotonic.h"
 #include "names.h"
+#include "not_taken.h"
 #include "notices.h"
 #include "stopping.h"
 #include "telling.h"
 #include "transport.h"
 #include "unanswered.h"
-#include "unreadable.h"
 #include "words.h"
 #include <errno.h>
 #include <stdbool.h>

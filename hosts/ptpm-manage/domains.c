@@ -2,8 +2,8 @@
 #include "domains.h"
 #include "collect.h"
 #include "heard.h"
-#include "late.h"
 #include "monotonic.h"
+#include "not_taken.h"
 #include "notices.h"
 #include "transport.h"
 #include <stdio.h>

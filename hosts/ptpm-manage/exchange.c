@@ -1,6 +1,6 @@
 #include "exchange.h"
 #include "message_places.h"
-#include "unreadable.h"
+#include "not_taken.h"
 #include <string.h>
 
 enum { ERROR_TLV = 2 };             /* a tlvType (14.1.1): a MANAGEMENT_ERROR_STATUS (15.5.4) */

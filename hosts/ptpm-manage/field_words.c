@@ -65,37 +65,40 @@ size_t most_words(uint16_t id, const char *first) {
     return is_one_word ? 1 : 2 * members;
 }
 
+/* What an operator types: an id as it is named, and the words after it. */
+struct typed { uint16_t id; const char *named, *const *words; size_t count; };
+
 /* Says which value is none of its member. */
-static _Noreturn void refuse_value(uint16_t id, const char *named, const char *const *words, size_t count, size_t place) {
+static _Noreturn void refuse_value(const struct typed *typed, size_t place) {
+    const char *const *words = typed->words + 2 * place;
     char taken[PTPM_MOST_TAKES];
-    int size = (int)ptpm_field_takes(id, place, taken, sizeof taken);
-    if (count == 1) refuse("set %s %s: it takes %.*s", named, words[0], size, taken);
-    refuse("set %s %s %s: it takes %.*s", named, words[2 * place], words[2 * place + 1], size, taken);
+    int size = (int)ptpm_field_takes(typed->id, place, taken, sizeof taken);
+    if (typed->count == 1) refuse("set %s %s: it takes %.*s", typed->named, typed->words[0], size, taken);
+    refuse("set %s %s %s: it takes %.*s", typed->named, words[0], words[1], size, taken);
 }
 
 /* Says which members a SET of the id takes, each with its value. */
-static _Noreturn void refuse_count(uint16_t id, const char *named) {
+static _Noreturn void refuse_count(const struct typed *typed) {
     char names[PTPM_MOST_FIELD_TEXT + 1] = "";
     struct field_lines lines;
     struct member member;
     size_t size = 0;
-    for (start_members(&lines, id); next_member(&lines, &member);) {
+    for (start_members(&lines, typed->id); next_member(&lines, &member);) {
         size += (size_t)snprintf(names + size, sizeof names - size, " %s VALUE", member.name);
     }
-    refuse("set %s: it takes%s", named, names);
+    refuse("set %s: it takes%s", typed->named, names);
 }
 
 /* Says what is wrong with words that are no dataField. */
-static _Noreturn void refuse_words(uint16_t id, const char *named, const char *const *words, size_t count, enum ptpm_parsed why,
-                                   size_t place) {
+static _Noreturn void refuse_words(const struct typed *typed, enum ptpm_parsed why, size_t place) {
     struct field_lines lines;
     struct member member = { "", "" };
-    member_at(&lines, id, place, &member);
+    member_at(&lines, typed->id, place, &member);
     switch (why) {
-    case PTPM_NO_VALUE: refuse_value(id, named, words, count, place);
-    case PTPM_OTHER_NAME: refuse("set %s %s: the member that comes next is %s", named, words[2 * place], member.name);
-    case PTPM_WORD_COUNT: refuse_count(id, named);
-    default: refuse("%s: the value is no UTF-8", named);
+    case PTPM_NO_VALUE: refuse_value(typed, place);
+    case PTPM_OTHER_NAME: refuse("set %s %s: the member that comes next is %s", typed->named, typed->words[2 * place], member.name);
+    case PTPM_WORD_COUNT: refuse_count(typed);
+    default: refuse("%s: the value is no UTF-8", typed->named);
     }
 }
 
@@ -114,7 +117,7 @@ size_t read_field(uint16_t id, const char *named, const char *const *words, size
     size_t size = join(&joined, words, count), found, place;
     enum ptpm_parsed why = ptpm_field_parse(id, joined, size, octets, PTPM_MOST_READ, &found, &place);
     free(joined);
-    if (why != PTPM_PARSED) refuse_words(id, named, words, count, why, place);
+    if (why != PTPM_PARSED) refuse_words(&(struct typed){ id, named, words, count }, why, place);
     return found;
 }
 

@@ -329,51 +329,53 @@ void print_report_text(FILE *to, const struct report *report, bool is_coloured) 
 
 static bool is_new_grandmaster(const struct finding *finding) { return is_piece(&finding->key[NAME_PART], "grandmaster_changed"); }
 
+/* What the line of a change begins with, and its colour or NULL. */
+struct mark { const char *lead; char sign; const char *colour; };
+
 /* A new grandmaster is a line of its own: the domain, `grandmaster`, and the words after the finding's name. */
-static void print_grandmaster(FILE *to, const char *lead, const struct finding *finding, const char *colour) {
+static void print_grandmaster(FILE *to, const struct mark *mark, const struct finding *finding) {
     const struct piece *name = &finding->key[NAME_PART], *domain = &finding->key[DOMAIN_PART];
     const char *words = name->at + name->size;
-    fprintf(to, "%s%s= %.*s grandmaster", lead, colour == NULL ? "" : colour, (int)domain->size, domain->at);
+    fprintf(to, "%s%s= %.*s grandmaster", mark->lead, mark->colour == NULL ? "" : mark->colour, (int)domain->size, domain->at);
     print_lines(to, words, (size_t)(finding->whole.at + finding->whole.size - words));
-    fprintf(to, "%s\n", colour == NULL ? "" : plain);
+    fprintf(to, "%s\n", mark->colour == NULL ? "" : plain);
 }
 
 /* In JSON it is an object after others: when, what happened to the finding, and its members. */
-static void print_event(FILE *to, const char *lead, char sign, const struct finding *finding) {
-    const char *event = is_new_grandmaster(finding) ? "grandmaster" : sign == '+' ? "came" : "went";
-    fprintf(to, "{%s\"event\":\"%s\",", lead, event);
+static void print_event(FILE *to, const struct mark *mark, const struct finding *finding) {
+    const char *event = is_new_grandmaster(finding) ? "grandmaster" : mark->sign == '+' ? "came" : "went";
+    fprintf(to, "{%s\"event\":\"%s\",", mark->lead, event);
     print_json(to, finding->whole.at + 1, finding->whole.size - 1);
     fputc('\n', to);
 }
 
-static void print_change(FILE *to, const char *lead, char sign, const struct finding *finding, const char *colour) {
+static void print_change(FILE *to, const struct mark *mark, const struct finding *finding) {
     if (is_new_grandmaster(finding)) {
-        print_grandmaster(to, lead, finding, colour);
+        print_grandmaster(to, mark, finding);
         return;
     }
-    fprintf(to, "%s%s%c ", lead, colour == NULL ? "" : colour, sign);
+    fprintf(to, "%s%s%c ", mark->lead, mark->colour == NULL ? "" : mark->colour, mark->sign);
     print_lines(to, finding->whole.at, finding->whole.size);
-    fprintf(to, "%s\n", colour == NULL ? "" : plain);
+    fprintf(to, "%s\n", mark->colour == NULL ? "" : plain);
 }
 
 /* Prints the findings of a report that another lacks. A finding with other values counts as another, unless its values are
    other ones each time. Of those that report a change it prints none that went. */
-static void print_lacking(FILE *to, const char *lead, char sign, const struct report *report, const struct report *other,
-                          const char *colour) {
+static void print_lacking(FILE *to, const struct mark *mark, const struct report *report, const struct report *other) {
     struct sorted keys = sort_findings(other, by_key), texts = sort_findings(other, by_text);
     for (size_t i = 0; i < report->count; i++) {
         const struct finding *finding = &report->findings[i];
         const struct sorted *same = row_of(finding)->is_moving ? &keys : &texts;
-        bool is_in_other = has_finding(same, finding) || (row_of(finding)->is_change && sign == '-');
+        bool is_in_other = has_finding(same, finding) || (row_of(finding)->is_change && mark->sign == '-');
         if (finding->has_cause || is_in_other) continue;
-        if (report->is_json) print_event(to, lead, sign, finding);
-        else print_change(to, lead, sign, finding, colour);
+        if (report->is_json) print_event(to, mark, finding);
+        else print_change(to, mark, finding);
     }
     free(keys.at);
     free(texts.at);
 }
 
 void print_changes(FILE *to, const char *lead, const struct report *report, const struct report *earlier, bool is_coloured) {
-    print_lacking(to, lead, '-', earlier, report, is_coloured ? green : NULL);
-    print_lacking(to, lead, '+', report, earlier, is_coloured ? red : NULL);
+    print_lacking(to, &(struct mark){ lead, '-', is_coloured ? green : NULL }, earlier, report);
+    print_lacking(to, &(struct mark){ lead, '+', is_coloured ? red : NULL }, report, earlier);
 }
