@@ -132,6 +132,11 @@ static bool is_in(const struct network *network, const uint8_t *address, size_t 
     return true;
 }
 
+bool has_networks(void) {
+    renew_networks();
+    return !is_stale;
+}
+
 bool has_address(unsigned index, sa_family_t family) {
     renew_networks();
     for (size_t i = 0; i < network_count; i++) {

@@ -17,6 +17,9 @@ int open_netlink(void);
    interface may have changed: index 0. */
 void read_netlink(link_taker *take);
 
+/* Whether the kernel could be asked for the addresses of interfaces, as the next two calls do. If not, errno says why. */
+bool has_networks(void);
+
 /* Whether the interface has an address of that family. */
 bool has_address(unsigned index, sa_family_t family);
 

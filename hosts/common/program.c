@@ -6,10 +6,21 @@
 #include <string.h>
 #include <unistd.h>
 
-_Noreturn void give_up(const char *what) {
-    fprintf(stderr, "%s: %s: %s\n", program, what, strerror(errno));
-    exit(2);
+static int status_of_end = 2;
+static void (*say_too)(const char *what, const char *why);
+
+void end_otherwise(int status, void (*say)(const char *what, const char *why)) {
+    status_of_end = status;
+    say_too = say;
 }
+
+_Noreturn void end_program(const char *what, const char *why) {
+    fprintf(stderr, "%s: %s: %s\n", program, what, why);
+    if (say_too != NULL) say_too(what, why);
+    exit(status_of_end);
+}
+
+_Noreturn void give_up(const char *what) { end_program(what, strerror(errno)); }
 
 /* What is opened gets the lowest descriptor that is free. It is opened the wrong way round, so a read or a write there still
    fails. */

@@ -95,8 +95,7 @@ _Noreturn static void refuse_path(const char *path) {
     if (errno != EADDRINUSE) give_up(path);
     if (is_unheard(path)) what = "the socket of a program that has ended is there, and can't be removed";
     else if (is_socket(path)) what = "another program listens there";
-    fprintf(stderr, "%s: %s: %s\n", program, path, what);
-    exit(2);
+    end_program(path, what);
 }
 
 /* Binds a socket to a path, which is then in *address. */

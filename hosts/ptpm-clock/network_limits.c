@@ -6,6 +6,7 @@
 #include "output.h"
 #include "program.h"
 #include "shares.h"
+#include <errno.h>
 #include <string.h>
 #include <sys/random.h>
 
@@ -31,6 +32,10 @@ void start_limits(const struct limits *given) {
 
 void say_deaf_ports(void) {
     if (limits.is_any_source || transport != UDP_IPV4) return;
+    if (!has_networks()) {
+        say("the addresses of interfaces: %s: until they can be read, nobody is heard without --any-source", strerror(errno));
+        return;
+    }
     for (size_t i = 0; i < port_count; i++) {
         if (has_address(ports[i].index, AF_INET)) continue;
         say("%s has no address of IPv4: until it has one, nobody is heard there without --any-source", ports[i].name);

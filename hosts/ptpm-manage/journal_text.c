@@ -193,7 +193,7 @@ static void take_outcome(struct reader *reader, struct told *told) {
 }
 
 static void take_told(struct reader *reader, struct journal *journal) {
-    struct told told;
+    struct told told = { 0 };
     long step = take_step(reader, journal);
     take(reader, ",\"outcome\":");
     take_outcome(reader, &told);

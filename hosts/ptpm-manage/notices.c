@@ -1,4 +1,5 @@
 #include "notices.h"
+#include "program.h"
 #include <stdarg.h>
 #include <stdbool.h>
 #include <stdio.h>
@@ -45,7 +46,12 @@ _Noreturn void refuse(const char *format, ...) {
     exit(UNKNOWN);
 }
 
-void be_plugin(void) { is_plugin = true; }
+static void say_unknown(const char *what, const char *why) { printf("PTP UNKNOWN - %s: %s\n", what, why); }
+
+void be_plugin(void) {
+    is_plugin = true;
+    end_otherwise(UNKNOWN, say_unknown);
+}
 
 void be_quiet(void) { is_quiet = true; }
 

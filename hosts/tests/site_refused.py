@@ -93,6 +93,11 @@ def refused_by_site():
         words = [MANAGE, "-u", f"{work}/silent", "--nagios", "--once", "status"]
         done = subprocess.run(words, stdout=full, stderr=subprocess.DEVNULL, timeout=120, check=False, env=WITH_OWN)
     check("a plugin whose output is full ends as a plugin", done.returncode == 3)
+    write(f"{work}/file", "")
+    for path, said in ((f"{work}/file/ptp4l", "Not a directory"), (f"{work}/lacking/ptp4l", "No such file or directory")):
+        done = run(MANAGE, "-u", path, "--nagios", "status", env=WITH_OWN)
+        check(f"a plugin that has no socket ends as one: {said}", done.returncode == 3 and done.stdout.startswith(f"PTP UNKNOWN - {path}")
+              and done.stdout.endswith(f": {said}\n"))
     write(f"{work}/inventory", f"0 {identity(1)} clock\n")
     done, is_asked = at_silent_clock("--profile", "gptp", "--once", "--expect", "inventory")
     check("status asks, and then reads an inventory", done.returncode == 3 and f"0 {identity(1)} absent\n" in done.stdout and is_asked)
