@@ -9,11 +9,12 @@
 #include <linux/netlink.h>
 #include <linux/sock_diag.h>
 #include <netinet/udp.h>
+#include <stddef.h>
 #include <string.h>
 #include <sys/stat.h>
 #include <unistd.h>
 
-enum { FOUR_TO_AT = 16, SIX_TO_AT = 24, GROUPS_FOUR = 0xe0, GROUPS_SIX = 0xff, UPPER_HALF = 0xf0, PORT_AT = 2 };
+enum { FOUR_FROM_AT = 12, FOUR_TO_AT = 16, SIX_TO_AT = 24, GROUPS_FOUR = 0xe0, GROUPS_SIX = 0xff, UPPER_HALF = 0xf0, PORT_AT = 2 };
 
 /* Of copies over IPv4, which begin with their IP header: those to port 320 of no group whose messageType is 0xD. */
 static const struct sock_filter wanted_of_four[] = {
@@ -76,7 +77,24 @@ int open_copies(bool is_six) {
     if (opened < 0) return -1;
     bool is_filtered = is_six ? set_filter(opened, wanted_of_six, sizeof wanted_of_six / sizeof *wanted_of_six)
                               : set_filter(opened, wanted_of_four, sizeof wanted_of_four / sizeof *wanted_of_four);
-    return is_filtered && tell_places(opened, is_six) ? opened : closed(opened);
+    bool is_checked = !is_six || set_number(opened, IPPROTO_IPV6, IPV6_CHECKSUM, offsetof(struct udphdr, uh_sum));
+    return is_filtered && is_checked && tell_places(opened, is_six) ? opened : closed(opened);
+}
+
+/* The sum of the Internet protocols (RFC 1071), which goes on from `sum`. */
+static uint32_t summed(uint32_t sum, const uint8_t *octets, size_t size) {
+    for (size_t i = 0; i < size; i++) sum += i % 2 == 0 ? (uint32_t)octets[i] << 8 : octets[i];
+    while (sum >> 16 != 0) sum = (sum & UINT16_MAX) + (sum >> 16);
+    return sum;
+}
+
+/* Whether a datagram over IPv4 has the octets that its UDP checksum is of; it may have none. Of one that was sent on this machine only
+   the addresses may be summed yet: the kernel leaves the rest to the interface. Over IPv6 the kernel compares it. */
+static bool is_as_sent(const uint8_t *packet, const uint8_t *datagram, const struct udphdr *head) {
+    size_t size = ntohs(head->uh_ulen);
+    uint32_t addresses = summed(IPPROTO_UDP + (uint32_t)size, packet + FOUR_FROM_AT, 2 * sizeof(struct in_addr));
+    uint32_t checksum = ntohs(head->uh_sum);
+    return checksum == 0 || checksum == addresses || summed(addresses, datagram, size) == UINT16_MAX;
 }
 
 size_t message_in_copy(const uint8_t *octets, size_t *size, struct sockaddr *sender) {
@@ -86,6 +104,7 @@ size_t message_in_copy(const uint8_t *octets, size_t *size, struct sockaddr *sen
     memcpy(&head, octets + place, sizeof head);
     size_t whole = ntohs(head.uh_ulen);
     if (whole < sizeof head || whole > *size - place) return 0;
+    if (place != 0 && !is_as_sent(octets, octets + place, &head)) return 0;
     if (sender->sa_family == AF_INET) ((struct sockaddr_in *)sender)->sin_port = head.uh_sport;
     else ((struct sockaddr_in6 *)sender)->sin6_port = head.uh_sport;
     *size = whole - sizeof head;

@@ -15,11 +15,11 @@
 int open_general_port(bool is_six, bool is_heard);
 
 /* A socket that hears a copy of each management message that is sent by unicast to UDP port 320 of this host. It takes none away.
-   It needs the capability CAP_NET_RAW. -1 and errno if it can't be made. The UDP checksum is not checked. */
+   It needs the capability CAP_NET_RAW. -1 and errno if it can't be made. */
 int open_copies(bool is_six);
 
-/* The place of the message in such a copy, and its size in *size, which was that of the copy. 0 if there is none. The sender gets
-   the port that it was sent from. */
+/* The place of the message in such a copy, and its size in *size, which was that of the copy. 0 if there is none, or its UDP checksum is
+   wrong. The sender gets the port that it was sent from. */
 size_t message_in_copy(const uint8_t *octets, size_t *size, struct sockaddr *sender);
 
 /* Who gets what comes in by unicast at an interface for UDP port 320 of this host: our socket, another program, or nobody. The

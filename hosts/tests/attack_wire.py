@@ -20,20 +20,24 @@ def sum_of(octets):
     return 0xFFFF - total
 
 
-def frame_four(octets, source, to="224.0.1.129", station=None):
+def frame_four(octets, source, to="224.0.1.129", station=None, summed=None):
+    """One whose UDP checksum is of the message `summed`; it has none where that is None."""
     head = struct.pack("!BBHHHBBH4s4s", 0x45, 0, 28 + len(octets), 0, 0, 1, 17, 0, socket.inet_aton(source), socket.inet_aton(to))
     head = head[:10] + struct.pack("!H", sum_of(head)) + head[12:]
     udp = struct.pack("!HHHH", 320, 320, 8 + len(octets), 0)
+    if summed is not None:
+        udp = udp[:6] + struct.pack("!H", sum_of(head[12:] + struct.pack("!HH", 17, 8 + len(octets)) + udp + summed))
     return (station or bytes.fromhex("01005e000181")) + STATION + b"\x08\x00" + head + udp + octets
 
 
-def frame_six(octets, source, to="ff0e::181"):
+def frame_six(octets, source, to="ff0e::181", station=None, summed=None):
+    """One whose UDP checksum is of the message `summed`, or else right."""
     addresses = socket.inet_pton(socket.AF_INET6, source) + socket.inet_pton(socket.AF_INET6, to)
     size = 8 + len(octets)
     udp = struct.pack("!HHHH", 320, 320, size, 0)
-    total = sum_of(addresses + struct.pack("!II", size, 17) + udp + octets)
+    total = sum_of(addresses + struct.pack("!II", size, 17) + udp + (summed or octets))
     udp = struct.pack("!HHHH", 320, 320, size, total)
-    return bytes.fromhex("333300000181") + STATION + b"\x86\xdd" + struct.pack("!IHBB", 0x60000000, size, 17, 1) + addresses + udp + octets
+    return (station or bytes.fromhex("333300000181")) + STATION + b"\x86\xdd" + struct.pack("!IHBB", 0x60000000, size, 17, 1) + addresses + udp + octets
 
 
 def message_of(frame):
