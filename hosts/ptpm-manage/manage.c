@@ -13,6 +13,7 @@
 #include "random.h"
 #include "status.h"
 #include "stopping.h"
+#include "streams.h"
 #include "transport.h"
 #include <errno.h>
 #include <stdbool.h>
@@ -41,11 +42,12 @@ int main(int argc, char **argv) {
     setvbuf(stderr, NULL, _IOLBF, BUFSIZ);      /* so that lines of several runs stay whole */
     read_task(&task, argc, argv);
     catch_signals();
+    let_signals_end_writes();
     int status = ask(&task);
     clear_progress();
     if (fflush(stdout) || ferror(stdout)) {
         complain("standard output could not be written: %s", strerror(errno));
-        status = NOT_WRITTEN;
+        status = stopped ? BY_SIGNAL + stopped : NOT_WRITTEN;
     }
     return status == NOT_WRITTEN && task.site.form == AS_PLUGIN ? NOT_ANSWERED : status;
 }

@@ -267,12 +267,13 @@ static void tell_own_clock(void) {
     complain("a ptp4l of this host is not asked: with --unix %s it is asked too", OWN_CLOCK);
 }
 
-/* Prints a page, with the interface or the socket at which no clock answered, if there is one. */
-static void print_page(FILE *to, const char *page) {
+/* Prints a page, with the interface or the socket at which no clock answered, if there is one. If none answered anywhere, the page itself has
+   no finding, and so its title says. */
+static void print_page(FILE *to, const char *page, bool is_answered) {
     char notice[NOTICE_TEXT];
     const char *silent = silent_way();
-    snprintf(notice, sizeof notice, "No clock answered at %s.", silent == NULL ? "" : silent);
-    write_page(to, page, silent == NULL ? NULL : notice);
+    snprintf(notice, sizeof notice, "No clock answered%s%s.", silent == NULL ? "" : " at ", silent == NULL ? "" : silent);
+    write_page(to, page, silent == NULL && is_answered ? NULL : notice);
 }
 
 /* Prints the page of the look before, and that this one failed. */
@@ -297,7 +298,7 @@ static int print_form(FILE *to, const struct look *look, const struct look *earl
         fprintf(to, "PTP UNKNOWN - no clock answered at %s\n", silent_way());
         status = NOT_ANSWERED;
     } else if (form == AS_PAGE && shown.size > 0) {
-        print_page(to, shown.text);
+        print_page(to, shown.text, status != NOT_ANSWERED);
     } else if (form == AS_NUMBERS && shown.size > 0) {
         write_numbers(to, shown.text);
     } else if (shown.size > 0) fwrite(shown.text, 1, shown.size, to);

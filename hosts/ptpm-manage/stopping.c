@@ -3,7 +3,9 @@
 #undef _FORTIFY_SOURCE
 #define _GNU_SOURCE
 #include "stopping.h"
+#include <errno.h>
 #include <time.h>
+#include <unistd.h>
 
 volatile sig_atomic_t stopped;
 static sigset_t while_waiting;
@@ -36,4 +38,14 @@ int wait_for(struct pollfd *waits, nfds_t count, int64_t most) {
     int found = ppoll(waits, count, &time, &while_waiting);
     if (found > 0) let_signals_in();
     return found;
+}
+
+ssize_t write_until_signal(int to, const void *octets, size_t size) {
+    sigset_t held;
+    sigprocmask(SIG_SETMASK, &while_waiting, &held);
+    ssize_t count = write(to, octets, size);
+    int failure = errno;
+    sigprocmask(SIG_SETMASK, &held, NULL);
+    errno = failure;
+    return count;
 }

@@ -4,16 +4,21 @@
 
 #include <poll.h>
 #include <signal.h>
+#include <stddef.h>
 #include <stdint.h>
+#include <sys/types.h>
 
 /* The signal that asks the program to end, SIGHUP, SIGINT or SIGTERM; 0 before it. */
 extern volatile sig_atomic_t stopped;
 
-/* From now on these signals set `stopped`, and come in while `wait_for` waits and not elsewhere. One that was ignored when the
+/* From now on these signals set `stopped`, and come in while one of the two below waits and not elsewhere. One that was ignored when the
    program began stays so. If nobody reads what the program prints, a write fails, and no SIGPIPE ends it. */
 void catch_signals(void);
 
 /* poll, for this many milliseconds at most, and until a signal comes in. */
 int wait_for(struct pollfd *waits, nfds_t count, int64_t milliseconds);
+
+/* write, until a signal comes in. */
+ssize_t write_until_signal(int to, const void *octets, size_t size);
 
 #endif

@@ -1,9 +1,9 @@
 /* dies.so, for hosts/tests/apply: LD_PRELOAD of a program that saves and sends. With DIES_AT=N in the environment it is killed right
-   before the N-th call by which it writes, synchronizes, renames or sends. Calls are counted from the rename of a journal on, or from
-   its start if DIES_FROM is `start`. Of a write that counts, half is written first: so a line is torn. With LOSES=1 the machine loses its
-   power too. What was appended to a file and not synchronized is gone then. If a file was renamed and its folder not synchronized,
-   the file before it is there again. With FAILS=1 the call only fails, and nothing is killed: a write since the disk is full, and a
-   message since there is no way. */
+   before the N-th call by which it writes, synchronizes, renames or sends. What it prints does not count. Calls are counted from the
+   rename of a journal on, or from its start if DIES_FROM is `start`. Of a write that counts, half is written first: so a line is torn.
+   With LOSES=1 the machine loses its power too. What was appended to a file and not synchronized is gone then. If a file was renamed and
+   its folder not synchronized, the file before it is there again. With FAILS=1 the call only fails, and nothing is killed: a write since
+   the disk is full, and a message since there is no way. */
 #define _GNU_SOURCE
 #include <errno.h>
 #include <fcntl.h>
@@ -64,7 +64,7 @@ static int die(int error) {
 
 ssize_t write(int file, const void *octets, size_t size) {
     struct stat found;
-    bool is_file = fstat(file, &found) == 0 && S_ISREG(found.st_mode);
+    bool is_file = file > STDERR_FILENO && fstat(file, &found) == 0 && S_ISREG(found.st_mode);
     if (is_file && (fcntl(file, F_GETFL) & O_APPEND) != 0 && !appended.is_there) {
         appended.is_there = true;
         appended.file = file;

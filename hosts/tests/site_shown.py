@@ -233,6 +233,9 @@ def failing_looks():
     for looks, left in ([(0, text_of()), (0, page % ""), (2, ""), (2, "")], noted), ([(2, "")], ".*<body>\n<p class=.*</p>\n</body>\n</html>\n"):
         watched(looks, "--html", "--output", f"{work}/page")
         check("a page says that a look failed", re.fullmatch(left, text_in(f"{work}/page"), re.S) is not None)
+    silent = page.replace("PTP site: no", "not known, PTP site: no") % '<p class="sum critical">No clock answered.</p>\n'
+    shown = Shown([(3, "no clock answered\n"), (3, page % "")], "status", "--once", "--html")
+    check("a page of which no clock answered is none without findings", shown.done.stdout == silent and shown.done.returncode == 3)
     watched([(0, text_of()), (0, page % ""), (2, ""), (0, text_of()), (0, page % "")], "--html", "--output", f"{work}/page")
     check("and no more once one shows the site", text_in(f"{work}/page") == page % "")
 

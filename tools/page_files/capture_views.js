@@ -7,8 +7,9 @@ const SITE_SAYS = { 0: ['good', 'Nothing is wrong'], 3: ['bad', 'No clock answer
 
 /* The text of `site` ends with its findings, after how many they are. */
 function siteSays({ status, out, err }) {
-    const [, count] = /^findings: (\d+)$/m.exec(out) ?? [];
-    if (status === 1 && count !== undefined) return ['bad', count === '1' ? '1 finding' : `${count} findings`];
+    const [, count, more] = /^findings: (\d+)(?:, and (\d+) that follow)?$/m.exec(out) ?? [];
+    const following = more === undefined ? '' : `, and ${more} that ${more === '1' ? 'follows' : 'follow'}`;
+    if (status === 1 && count !== undefined) return ['bad', `${count} finding${count === '1' ? '' : 's'}${following}`];
     return SITE_SAYS[status] ?? ['bad', err];
 }
 
