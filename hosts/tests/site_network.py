@@ -2,6 +2,7 @@
 import os
 import shutil
 import subprocess
+import sys
 import tempfile
 import time
 
@@ -23,6 +24,15 @@ def start(namespace, *words):
 
 def start_clock(*words, namespace=FAR):
     return start(namespace, CLOCK, *words)
+
+
+def start_script(script, *words):
+    """A program in Python at the far end, once it has its sockets: then it prints a line."""
+    process = subprocess.Popen(["ip", "netns", "exec", FAR, sys.executable, "-c", script, *words], stdout=subprocess.PIPE,
+                               stderr=subprocess.DEVNULL)
+    started.append(process)
+    process.stdout.readline()
+    return process
 
 
 def stop(processes):
