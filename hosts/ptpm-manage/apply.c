@@ -103,7 +103,8 @@ static int apply(const struct task *task) {
     if (find_open_journal(&open)) refuse("nothing was sent: %s is open: ptpm-manage resume or rollback comes first", open.name);
     int status = make_plan(&plan, task);
     print_plan(&plan, task->is_json);
-    if (fflush(stdout)) return NOT_WRITTEN;
+    if (fflush(stdout) || ferror(stdout)) return NOT_WRITTEN;
+    if (stopped && status == ANSWERED) status = BY_SIGNAL + stopped;
     if (stopped || status == REFUSED || status == NOT_ANSWERED) complain("nothing was sent");
     if (status == ANSWERED) status = apply_plan(task, &plan);
     leave_plan(&plan);

@@ -28,7 +28,7 @@ void say_right(const struct task *task, uint16_t error) {
 
 int print_report(const struct task *task, const struct answer *answer) {
     print_own_answer(task, answer);
-    if (fflush(stdout)) return NOT_WRITTEN;
+    if (fflush(stdout) || ferror(stdout)) return NOT_WRITTEN;
     if (is_other(task, answer)) {
         say_other(task, answer);
         return NOT_AS_ASKED;
