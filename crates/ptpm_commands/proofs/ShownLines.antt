@@ -10,7 +10,7 @@ use Rattle.ptpm_commands.specs.declared.faults.Fault.{Fault}
 use Rattle.ptpm_commands.specs.declared.faults.Fault.TheVariants as faults
 use Rattle.ptpm_commands.specs.declared.show.Values.{Values}
 use Rattle.ptpm_commands.specs.Faults.{at_line, is_outside}
-use Rattle.ptpm_world.specs.Lines.{ReadsNext}
+use Rattle.ptpm_text.specs.Lines.{ReadsNext}
 use Rattle.ptpm_commands.specs.Lines.{row_in}
 use Rattle.ptpm_commands.specs.Show.{AreShown, IsShown, message_lines, read_as, row_lines}
 use Rattle.ptpm_commands.specs.Taken.{IsNext, ShowsNext, ShowsRow, line_message, message_of_row, with_columns}

@@ -3,7 +3,7 @@ use Rattle.std.proofs.Common.{◌≡◌, ◌⊎◌, inl, inr, ℕ, ◌+◌, ◌-
 use Rattle.std.proofs.lemmas.Bool.{cond-false, cond-true, false≢true}
 use Rattle.std.specs.Io.KnownBytes.{Appends}
 use Rattle.std.specs.Option.{option_to_list}
-use Rattle.ptpm_world.specs.Lines.{BothKnown, LeavesLong, ReadsNext, begins_long, whole_lines}
+use Rattle.ptpm_text.specs.Lines.{BothKnown, LeavesLong, ReadsNext, begins_long, whole_lines}
 use Rattle.ptpm_commands.specs.declared.faults.Fault.{Fault}
 use Rattle.ptpm_commands.specs.declared.faults.Fault.TheVariants as faults
 use Rattle.ptpm_commands.specs.Faults.{IsAtLine, is_of_line, is_outside}

@@ -16,7 +16,7 @@ use Rattle.ptpm_commands.specs.Answer.{answered, answered_each, sent_line, sent_
 use Rattle.ptpm_commands.specs.Ids.{id_line, letter, row_line, scope_text, table_lines}
 use Rattle.ptpm_commands.specs.declared.show.Values.{Values}
 use Rattle.ptpm_commands.specs.Show.{AreShown, message_lines, named_line, row_lines}
-use Rattle.ptpm_script.specs.OctetText.{text_of_octets}
+use Rattle.ptpm_text.specs.OctetText.{text_of_octets}
 use Rattle.ptpm_commands.specs.Taken.{IsNext, line_datagram}
 use Rattle.ptpm_commands.proofs.TakenLemmas.{Reaches, reaches-first, reaches-next}
 

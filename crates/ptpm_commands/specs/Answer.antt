@@ -9,7 +9,7 @@ use Rattle.ptpm_agent.specs.Laws.{initial_clock_state}
 use Rattle.ptpm_agent.specs.Turn.{Clock, State, outbox_of, turn}
 use Rattle.ptpm_table.specs.Tables.{OfSixteen, entries_of_sixteen, owner_of_sixteen}
 use Rattle.ptpm_table.specs.Managers.{clock_with}
-use Rattle.ptpm_script.specs.OctetText.{text_of_octets}
+use Rattle.ptpm_text.specs.OctetText.{text_of_octets}
 use Rattle.ptpm_commands.specs.FreshClock.{fresh_sets, managers, shown}
 
 -- its identity, and its managers with their rights: `ReplyTable`'s owner

@@ -6,9 +6,8 @@ use Rattle.std.specs.Option.{option_map_or}
 use Rattle.hex.specs.declared.error.FromHexError.{FromHexError}
 use Rattle.hex.specs.Hex.{decode_of}
 use Rattle.ptpm_codec.specs.Layout.{octet}
-use Rattle.ptpm_script.specs.Spellings.{cut_at}
-use Rattle.ptpm_script.specs.Words.{space}
-use Rattle.ptpm_script.specs.Numbers.{decimal_up_to}
+use Rattle.ptpm_text.specs.Numbers.{decimal_up_to}
+use Rattle.ptpm_text.specs.Words.{cut_at, space}
 
 abbrev pub behind : Option (List ℕ × List ℕ) → List ℕ → List ℕ
 behind None line = line

@@ -5,7 +5,7 @@ use Rattle.ptpm_codec.specs.declared.message.Action.TheVariants as actions
 use Rattle.ptpm_data.specs.declared.management_id.Scope.{Scope}
 use Rattle.ptpm_data.specs.declared.management_id.Scope.TheVariants.{Clock, Port}
 use Rattle.ptpm_data.specs.ManagementId.{RowValue, has_action, id_table, row_of}
-use Rattle.ptpm_script.specs.OctetText.{text_of_octets}
+use Rattle.ptpm_text.specs.OctetText.{text_of_octets}
 
 abbrev pub scope_text : Scope → List ℕ
 scope_text Clock = codes "clock"

@@ -2,7 +2,7 @@
 use Rattle.std.specs.Prelude.{◌≡◌, ◌⊎◌, ℕ, true, List, [], ◌∷◌, map, Option, Result, Ok, Err, if◌then◌else◌, option_map}
 use Rattle.std.specs.Str.{is_utf8}
 use Rattle.hex.specs.declared.error.FromHexError.{FromHexError}
-use Rattle.ptpm_world.specs.Lines.{LeavesLong, reader_left, reader_line}
+use Rattle.ptpm_text.specs.Lines.{LeavesLong, reader_left, reader_line}
 use Rattle.ptpm_commands.specs.declared.columns.Row.{Row}
 use Rattle.ptpm_commands.specs.declared.faults.Fault.{Fault}
 use Rattle.ptpm_commands.specs.declared.faults.Fault.TheVariants as faults

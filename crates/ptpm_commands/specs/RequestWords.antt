@@ -17,8 +17,8 @@ use Rattle.ptpm_members.specs.declared.parsing.ParseFault.{ParseFault}
 use Rattle.ptpm_members.specs.IdNames.{id_of}
 use Rattle.ptpm_members.specs.Identities.{port_identity_of}
 use Rattle.ptpm_members.specs.Parsed.{parsed}
-use Rattle.ptpm_script.specs.OctetText.{text_of_octets}
-use Rattle.ptpm_script.specs.RequestNames.{action_named}
+use Rattle.ptpm_text.specs.OctetText.{text_of_octets}
+use Rattle.ptpm_text.specs.RequestNames.{action_named}
 
 -- the request; both hop fields are the hops that were asked for
 abbrev pub request_between : RequestWords

@@ -13,7 +13,7 @@ use Rattle.ptpm_codec.specs.Reading.{reading}
 use Rattle.ptpm_members.specs.FieldText.{field_text}
 use Rattle.ptpm_members.specs.OtherIds.{name_of_id}
 use Rattle.ptpm_message_json.specs.MessageJson.{message_text, named_errors}
-use Rattle.ptpm_script.specs.OctetText.{text_of_octets}
+use Rattle.ptpm_text.specs.OctetText.{text_of_octets}
 use Rattle.ptpm_commands.specs.declared.faults.Fault.{Fault}
 use Rattle.ptpm_commands.specs.declared.faults.Fault.TheVariants as faults
 use Rattle.ptpm_commands.specs.declared.show.Values.{Values}

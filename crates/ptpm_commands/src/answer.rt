@@ -12,13 +12,13 @@ ghost use Rattle.ptpm_commands.specs.Lines.{left_in};
 ghost use Rattle.ptpm_commands.specs.Taken.{HasNumbers, HasTaken, line_datagram, taken};
 ghost use Rattle.ptpm_data.specs.Members.{HasPort};
 ghost use Rattle.ptpm_table.specs.Managers.{IsFresh, clock_with};
-ghost use Rattle.ptpm_world.specs.Lines.{whole_lines};
+ghost use Rattle.ptpm_text.specs.Lines.{whole_lines};
 
 use crate::clock::{admit_manager, fresh_clock};
 use crate::faults::{Done, Fault};
 use crate::lines::Lines;
 use ptpm_agent::Agent;
-use ptpm_script::Hexadecimal;
+use ptpm_text::Hexadecimal;
 use ptpm_table::{BoundTable, Outbox, ReplyTable};
 use std::alloc::Global;
 use std::io;

@@ -6,7 +6,7 @@ ghost use Rattle.ptpm_commands.specs.DatagramLine.{after_port, after_words, behi
 
 use crate::faults::Fault;
 use hex::FromHexError;
-use ptpm_script::decimal_u16;
+use ptpm_text::decimal_u16;
 use std::alloc::Global;
 
 /// The datagram; none in a note, and if the line is `nothing`, which is printed if no message is sent. Refused with BadHex if

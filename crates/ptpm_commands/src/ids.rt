@@ -8,7 +8,7 @@ ghost use Rattle.ptpm_commands.specs.Ids.{id_line, letter, row_line, scope_text,
 use crate::faults::Fault;
 use bitflags::Flags;
 use ptpm_data::{Actions, MANAGEMENT_IDS, ManagementIdRow, Scope, row};
-use ptpm_script::Hexadecimal;
+use ptpm_text::Hexadecimal;
 use std::io;
 use std::io::Write;
 

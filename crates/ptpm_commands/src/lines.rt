@@ -3,14 +3,14 @@
 ghost use Rattle.std.specs.Prelude.{◌≡◌, ◌⊎◌, Err, IfErr, IfOk, IfSome, Ok, OnErr, OnOk, Some, false, option_map, true};
 ghost use Rattle.std.specs.Io.KnownBytes.{Keeps};
 ghost use Rattle.std.specs.Str.{is_utf8};
-ghost use Rattle.ptpm_world.specs.Lines.{ReadsNext};
+ghost use Rattle.ptpm_text.specs.Lines.{ReadsNext};
 ghost use Rattle.ptpm_commands.specs.Faults.{IsAtLine, is_outside};
 ghost use Rattle.ptpm_commands.specs.Lines.{FailsNext, datagram_in, latest_line, left_in, row_in, row_value};
 
 use crate::columns::{Row, row_of};
 use crate::datagram_line::datagram_of;
 use crate::faults::{Fault, LineFault};
-use ptpm_world::{LineReadError, LineReader};
+use ptpm_text::{LineReadError, LineReader};
 use std::alloc::Global;
 use std::io::{Read, Write};
 

@@ -9,7 +9,7 @@ use crate::faults::Fault;
 use arrayvec::ArrayVec;
 use ptpm_codec::{Action, Draft, DraftBody, encode, is_data_field};
 use ptpm_members::{id_of, parse, port_identity_of};
-use ptpm_script::{Hexadecimal, action_named};
+use ptpm_text::{Hexadecimal, action_named};
 use std::alloc::{AllocError, Global};
 use std::io::Write;
 

@@ -12,7 +12,7 @@ use Rattle.ptpm_script.specs.declared.network.Network.{Network}
 use Rattle.ptpm_script.specs.NetworkText.{network_of}
 use Rattle.ptpm_script.specs.NetworkView.{network_value}
 use Rattle.ptpm_world.specs.declared.whole_script.EventLine.{EventLine}
-use Rattle.ptpm_world.specs.Lines.{whole_lines}
+use Rattle.ptpm_text.specs.Lines.{whole_lines}
 use Rattle.ptpm_world.specs.declared.script_error.ScriptError.{ScriptError}
 use Rattle.ptpm_world.specs.declared.script_error.ScriptError.TheVariants.{ReadFault}
 use Rattle.ptpm_world.specs.Script.{network_text, scripted}

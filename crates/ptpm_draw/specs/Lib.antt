@@ -4,5 +4,4 @@ pub mod Picture
 pub mod Chosen
 pub mod Parts
 pub mod Drawing
-pub mod Escaped
 pub mod MemberText

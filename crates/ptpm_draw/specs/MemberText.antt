@@ -18,7 +18,7 @@ use Rattle.ptpm_members.specs.declared.names.Member.TheVariants as names
 use Rattle.ptpm_members.specs.Values as values
 use Rattle.ptpm_members.specs.Values.{Said, said, said_in}
 use Rattle.ptpm_members.specs.ValueText.{said_text, shown_text}
-use Rattle.ptpm_script.specs.OctetText.{text_of_octets}
+use Rattle.ptpm_text.specs.OctetText.{text_of_octets}
 
 -- one that is a text itself is in quotation marks
 abbrev pub said_shown : Said → List ℕ

@@ -6,7 +6,6 @@ ghost use Rattle.ptpm_draw.specs.Parts.{AddsParts, ShowsLines, opening};
 ghost use Rattle.ptpm_world.specs.ScriptError.{is_of_writing};
 
 use crate::changes::{Change, Changes};
-use crate::escaped::Escaped;
 use crate::lifelines::{CHARACTER, Lifelines, kind_of};
 use crate::members::member_texts;
 use crate::party::Party;
@@ -18,6 +17,7 @@ use crate::strokes::{LOST, Stroke, stroke_of};
 use crate::words::{
     LabelText, LineText, ListText, LostText, OutcomeText, VerbText, Written, error_shown, spell,
 };
+use ptpm_text::Escaped;
 use ptpm_world::{Event, ScriptError};
 use std::alloc::{AllocError, Global};
 use std::io;

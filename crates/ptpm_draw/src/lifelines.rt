@@ -1,7 +1,7 @@
 //! The places of lifelines: the sessions and then the clocks, each in the file's order.
 
-use crate::escaped::Escaped;
 use crate::party::Party;
+use ptpm_text::Escaped;
 use ptpm_world::Network;
 
 /// How wide a character is, in the picture's units.

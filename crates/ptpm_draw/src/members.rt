@@ -11,7 +11,7 @@ ghost use Rattle.ptpm_members.specs.FieldText.{IsPlaced};
 use crate::changes::Change;
 use ptpm_data::{ChangedMembers, Member as DataSetMember, PortMembers, Value};
 use ptpm_members::{Field, Form, Member, MemberValue, members_in, value_in};
-use ptpm_script::Hexadecimal;
+use ptpm_text::Hexadecimal;
 use std::alloc::{AllocError, Global};
 use std::fmt;
 

@@ -1,12 +1,11 @@
 //! What is written at an arrow or a mark.
 
-use crate::escaped::Escaped;
 use crate::outcome::EventOutcome;
 use crate::picture::{EventRow, Picture, Says, Way, said_by};
 use ptpm_codec::ErrorId;
 use ptpm_data::row;
 use ptpm_manager::Ask;
-use ptpm_script::Hexadecimal;
+use ptpm_text::{Escaped, Hexadecimal};
 use ptpm_world::Event;
 use std::alloc::AllocError;
 use std::fmt;

@@ -20,7 +20,7 @@ use Rattle.ptpm_world.specs.declared.whole_script.EventLine.{EventLine}
 use Rattle.ptpm_world.specs.declared.whole_script.Script.{Script}
 use Rattle.ptpm_world.specs.declared.world.World.{World}
 use Rattle.ptpm_world.specs.Described.{described}
-use Rattle.ptpm_world.specs.Lines.{whole_lines}
+use Rattle.ptpm_text.specs.Lines.{whole_lines}
 use Rattle.ptpm_world.specs.Placed.{Names, names_in, names_of}
 use Rattle.ptpm_world.specs.Running.{IsOf, running}
 use Rattle.ptpm_world.specs.Script.{network_text, scripted}

@@ -7,7 +7,7 @@ use Rattle.ptpm_data.specs.ManagementId.{RowValue, row_of}
 use Rattle.ptpm_manager.specs.declared.ask.Ask.{Ask}
 use Rattle.ptpm_script.specs.declared.event.Event.{Event}
 use Rattle.ptpm_script.specs.declared.event.Event.TheVariants.{Begin, Send, Resume, Retune, Deliver, Stranger}
-use Rattle.ptpm_script.specs.OctetText.{text_of_octets}
+use Rattle.ptpm_text.specs.OctetText.{text_of_octets}
 
 -- no event that is read from a line has another action
 abbrev pub action_text : Action → List ℕ

@@ -19,7 +19,7 @@ use Rattle.ptpm_world.specs.declared.script_error.ScriptError.{ScriptError}
 use Rattle.ptpm_world.specs.declared.script_error.ScriptError.TheVariants.{BadLine, ReadFault, TooManyLines, WriteFault}
 use Rattle.ptpm_world.specs.declared.whole_script.EventLine.{EventLine}
 use Rattle.ptpm_world.specs.Described.{described}
-use Rattle.ptpm_world.specs.Lines.{whole_lines}
+use Rattle.ptpm_text.specs.Lines.{whole_lines}
 use Rattle.ptpm_world.specs.Placed.{Names, names_of, placed}
 use Rattle.ptpm_world.specs.Script.{network_text, scripted}
 use Rattle.ptpm_world.specs.ScriptError.{is_outside}

@@ -6,7 +6,8 @@ ghost use Rattle.ptpm_schedule.specs.EventText.{action_text};
 use ptpm_codec::Action;
 use ptpm_data::row;
 use ptpm_manager::Ask;
-use ptpm_script::{Event, Hexadecimal};
+use ptpm_script::Event;
+use ptpm_text::Hexadecimal;
 use std::fmt;
 
 /// An event that prints as its line, without an end.

@@ -1,5 +1,3 @@
-pub mod WordLemmas
-mod OctetTextLemmas
 pub mod Loops
 pub mod ItemLemmas
 pub mod Judged

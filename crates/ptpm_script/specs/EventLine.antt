@@ -15,9 +15,9 @@ use Rattle.ptpm_script.specs.declared.line_fault.LineError.{LineError}
 use Rattle.ptpm_script.specs.declared.line_fault.LineError.TheVariants as errors
 use Rattle.ptpm_script.specs.declared.line_fault.LineFault.{LineFault}
 use Rattle.ptpm_script.specs.declared.line_fault.Verb.TheVariants as verbs
-use Rattle.ptpm_script.specs.Numbers.{decimal_up_to}
-use Rattle.ptpm_script.specs.RequestNames.{action_named, id_named}
-use Rattle.ptpm_script.specs.Words.{words, one_word, two_words, three_words, first_words}
+use Rattle.ptpm_text.specs.Numbers.{decimal_up_to}
+use Rattle.ptpm_text.specs.RequestNames.{action_named, id_named}
+use Rattle.ptpm_text.specs.Words.{words, one_word, two_words, three_words, first_words}
 
 -- ---- single words
 

@@ -1,7 +1,3 @@
-pub mod Words
-pub mod OctetText
-pub mod Numbers
-pub mod RequestNames
 pub mod EventLine
 pub mod Spellings
 pub mod Rules

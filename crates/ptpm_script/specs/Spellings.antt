@@ -1,12 +1,13 @@
 -- The texts of a network file: names, identities and ends of links (this project's profile).
 use Rattle.std.specs.Prelude.{ℕ, ◌==◌, nat_le, Bool, false, ◌&&◌, ◌||◌, if◌then◌else◌, List, length, Option, Some, None, option_and_then}
-use Rattle.std.specs.List.{list_all, position_or_len, before_first, after_first}
+use Rattle.std.specs.List.{list_all}
 use Rattle.std.specs.Result.{result_ok}
 use Rattle.hex.specs.Hex.{decode_sized}
 use Rattle.ptpm_codec.specs.declared.identity.ClockIdentity.{ClockIdentity}
 use Rattle.ptpm_codec.specs.declared.identity.PortIdentity.{PortIdentity}
 use Rattle.ptpm_codec.specs.Identity.{every_clock, same_clock}
-use Rattle.ptpm_script.specs.Numbers.{decimal_up_to}
+use Rattle.ptpm_text.specs.Numbers.{decimal_up_to}
+use Rattle.ptpm_text.specs.Words.{cut_at}
 
 -- a test that what is there passes
 abbrev pub passes : {A : Type 0} → (A → Bool) → Option A → Bool
@@ -34,12 +35,6 @@ if_one_clock octets = if same_clock (record { 0 = octets }) every_clock then Non
 -- sixteen hexadecimal digits, of either case
 unfoldable pub clock_identity : List ℕ → Option ClockIdentity
 clock_identity text = option_and_then if_one_clock (result_ok (decode_sized text 8))
-
--- a text cut at the first of an octet; there is none if the octet is not in it
-abbrev pub cut_at : ℕ → List ℕ → Option (List ℕ × List ℕ)
-cut_at octet text =
-    if nat_le (length text) (position_or_len (λ b. b == octet) text) then None
-    else Some (before_first (λ b. b == octet) text, after_first (λ b. b == octet) text)
 
 abbrev pub port_of : Option ClockIdentity → Option ℕ → Option PortIdentity
 port_of (Some clock) (Some port) = Some (record { clock = clock; port = port })

@@ -2,17 +2,16 @@
 
 ghost use Rattle.std.specs.Prelude.{◌≡◌, [], Some, None, IfOk};
 ghost use Rattle.ptpm_script.specs.EventLine.{IsAnswer, IsRead, ask_of, begin_of, deliver_of, line_of, octets_of, port_named, reading, resume_of, retune_of, send_of, stranger_of};
-ghost use Rattle.ptpm_script.specs.Words.{words};
+ghost use Rattle.ptpm_text.specs.Numbers.{decimal_up_to};
+ghost use Rattle.ptpm_text.specs.Words.{words};
 
 use crate::event::{Event, EventError};
 use crate::line_fault::{Expected, LineError, LineFault, Verb};
 use crate::names::Name;
-use crate::numbers::{decimal_u8, decimal_u16, frame_number};
-use crate::request_names::{action_named, id_named};
-use crate::words::{one_word, split_two_words, split_word, three_words, two_words};
 use hex::FromHexError;
 use ptpm_codec::{Action, Octets, OutOfMemory};
 use ptpm_manager::Ask;
+use ptpm_text::{action_named, decimal_u8, decimal_u16, decimal_up_to, id_named, one_word, split_two_words, split_word, three_words, two_words};
 use std::alloc::Global;
 
 /// The word that stands for no value.
@@ -108,6 +107,13 @@ fn read_deliver(text: &str) -> Result<Event, LineError>
     let frame = one_word(text).ok_or(at(0, Expected::Words(Verb::Deliver)))?;
     let frame = frame_number(frame).ok_or(at(1, Expected::Number(400_000)))?;
     Ok(Event::Deliver(frame))
+}
+
+/// The number of a frame. A network holds 400,000 of them at most.
+fn frame_number(text: &str) -> Option<u32>
+    ensures { result ≡ decimal_up_to 400000 text.now }
+{
+    Some(decimal_up_to(400_000, text)? as u32)
 }
 
 fn read_stranger(alloc: Global, text: &str) -> Result<Event, LineError>

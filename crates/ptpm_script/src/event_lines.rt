@@ -3,16 +3,16 @@
 ghost use Rattle.std.specs.Prelude.{◌≡◌, IfOk, option_map, option_and_then, slice_get};
 ghost use Rattle.std.specs.Result.{result_err};
 ghost use Rattle.ptpm_script.specs.EventLine.{line_of, reading};
-ghost use Rattle.ptpm_script.specs.Words.{words};
+ghost use Rattle.ptpm_text.specs.Words.{words};
 
 use crate::event::EventError;
 use crate::event_line::read_line;
 use crate::line_fault::{Expected, LineError, Verb};
 use crate::nearest::nearest;
 use crate::value_text::Quoted;
-use crate::words::word_at;
 use ptpm_codec::OutOfMemory;
 use ptpm_data::{MANAGEMENT_IDS, row};
+use ptpm_text::word_at;
 use std::alloc::{AllocError, Global};
 use std::fmt;
 

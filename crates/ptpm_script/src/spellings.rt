@@ -6,8 +6,8 @@ ghost use Rattle.toml.specs.View.{view};
 ghost use Rattle.ptpm_script.specs.Spellings.{clock_identity, end_of, port_identity};
 
 use crate::names::is_name;
-use crate::numbers::decimal_u16;
 use ptpm_codec::{ClockIdentity, PortIdentity};
+use ptpm_text::decimal_u16;
 use toml::Value;
 
 /// A clockIdentity of sixteen hexadecimal digits, not all ones.

@@ -4,7 +4,7 @@ use crate::lines::{DrawnRemark, Frame, Line, lines_of};
 use crate::look::Look;
 use crate::remarks::Weight;
 use ptpm_commands::Fault;
-use ptpm_draw::Escaped;
+use ptpm_text::Escaped;
 use std::alloc::Global;
 use std::io;
 use std::io::Write;

@@ -6,7 +6,7 @@ use Rattle.std.specs.Int.{to_be_bytes, w16}
 use Rattle.ptpm_codec.specs.declared.error.ErrorId.{ErrorId}
 use Rattle.ptpm_codec.specs.declared.error.ErrorId.TheVariants as errors
 use Rattle.ptpm_codec.specs.Message.{error_name, error_number}
-use Rattle.ptpm_script.specs.OctetText.{text_of_octets}
+use Rattle.ptpm_text.specs.OctetText.{text_of_octets}
 use Rattle.ptpm_script.specs.declared.event.Event.{Event as EventOfScript}
 use Rattle.ptpm_world.specs.Trace.{is_late_event}
 

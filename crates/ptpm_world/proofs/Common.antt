@@ -42,7 +42,8 @@ pub use Rattle.ptpm_script.specs.declared.network.NetworkLink.{NetworkLink}
 pub use Rattle.ptpm_world.specs.Described.{clock_at, configured, described, described_end, described_session, no_clock, session_at, with_rights}
 pub use Rattle.ptpm_world.specs.Ends.{AreLinks, IsOfSession, IsStoredFrame, IsThere, port_counts}
 pub use Rattle.ptpm_world.specs.Frames.{HasRoom, ends_of, frame_in, frame_value, held_in, link_ends, origin_of}
-pub use Rattle.ptpm_world.specs.Lines.{BothKnown, given, left_in, whole_lines}
+pub use Rattle.ptpm_text.specs.Lines.{BothKnown, given, whole_lines}
+pub use Rattle.ptpm_world.specs.Lines.{left_in}
 pub use Rattle.ptpm_world.specs.Placed.{Names, names_in, names_of, place_in, placed, placed_all}
 pub use Rattle.ptpm_world.specs.Running.{IsClockOf, IsOf, agent_clock, agent_state, is_late_held, is_late_of, reports_of, running, session_of, sets_of, state_of, table_entries}
 pub use Rattle.ptpm_world.specs.Script.{HasPlayed, HasPrinted, HasStopped, Played, Prints, StandsFor, begins_comment, behind, closed, closing, ends, event_of, from_file, in_network, is_divider, is_skipped, last_lines, network_text, played, played_by, read_as, scripted, scripted_from, started, started_session, trace_of, unless_fault}

@@ -3,8 +3,8 @@ use Rattle.ptpm_world.proofs.Common.{◌≡◌, ℕ, ◌<◌, ◌≤◌, List, [
 use Rattle.std.proofs.lemmas.Bool.Decides.{nat_tests}
 use Rattle.ptpm_world.specs.declared.script_error.ScriptError.{ScriptError}
 use Rattle.ptpm_world.specs.declared.script_error.ScriptError.TheVariants as faults
-use Rattle.ptpm_world.specs.Lines.{LeavesLong, ReadsNext, begins_long, is_long}
-use Rattle.ptpm_world.proofs.NextLine.{some-whole}
+use Rattle.ptpm_text.specs.Lines.{LeavesLong, ReadsNext, begins_long, is_long}
+use Rattle.ptpm_text.proofs.NextLine.{some-whole}
 
 -- what fails outside the script is none of its faults
 pub outside : {P : Type 0} (e : ScriptError) → is_outside e ≡ true → is_outside e ≡ false → P

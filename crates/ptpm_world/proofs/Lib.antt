@@ -26,8 +26,6 @@ pub mod Taking
 pub mod TraceLemmas
 pub mod Answering
 pub mod Playing
-pub mod LineLemmas
-mod NextLine
 pub mod FaultLemmas
 pub mod StartedWorld
 pub mod Telling

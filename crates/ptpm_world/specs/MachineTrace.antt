@@ -19,7 +19,7 @@ use Rattle.ptpm_world.specs.declared.took.Took.{Took}
 use Rattle.ptpm_world.specs.declared.took.Took.TheVariants.{Answered}
 use Rattle.ptpm_world.specs.declared.whole_script.EventLine.{EventLine}
 use Rattle.ptpm_world.specs.Described.{described}
-use Rattle.ptpm_world.specs.Lines.{whole_lines}
+use Rattle.ptpm_text.specs.Lines.{whole_lines}
 use Rattle.ptpm_world.specs.Placed.{Names, names_of, placed, placed_all}
 use Rattle.ptpm_world.specs.Script.{network_text, scripted}
 use Rattle.ptpm_world.specs.Took.{error_of}

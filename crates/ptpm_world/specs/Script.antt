@@ -14,12 +14,12 @@ use Rattle.ptpm_script.specs.EventLine.{reading}
 use Rattle.ptpm_script.specs.NetworkText.{network_of}
 use Rattle.ptpm_script.specs.declared.network.NetworkSession.{NetworkSession}
 use Rattle.ptpm_script.specs.NetworkValue.{NetworkValue, first_sets}
-use Rattle.ptpm_script.specs.Words.{space}
+use Rattle.ptpm_text.specs.Words.{space}
 use Rattle.ptpm_world.specs.declared.script_error.ScriptError.{ScriptError}
 use Rattle.ptpm_world.specs.declared.script_error.ScriptError.TheVariants.{BadLine, BadNetwork}
 use Rattle.ptpm_world.specs.declared.whole_script.EventLine.{EventLine}
 use Rattle.ptpm_world.specs.Described.{clock_at, described, described_session}
-use Rattle.ptpm_world.specs.Lines.{whole_lines}
+use Rattle.ptpm_text.specs.Lines.{whole_lines}
 use Rattle.ptpm_world.specs.Placed.{Names, names_of, placed, placed_all}
 use Rattle.ptpm_world.specs.Running.{no_session}
 use Rattle.ptpm_world.specs.ScriptError.{is_outside, line_fault}

@@ -4,7 +4,7 @@ use Rattle.std.specs.Option.{option_or}
 use Rattle.std.specs.Str.{is_utf8}
 use Rattle.ptpm_world.specs.declared.script_error.ScriptError.{ScriptError}
 use Rattle.ptpm_world.specs.declared.script_error.ScriptError.TheVariants.{BadLine, BadNetwork, LineTooLong, NotText, OutOfMemory, ReadFault, TooManyLines, WriteFault}
-use Rattle.ptpm_world.specs.Lines.{BothKnown, IsNextWhole, whole_lines}
+use Rattle.ptpm_text.specs.Lines.{BothKnown, IsNextWhole, whole_lines}
 
 -- reading, writing or memory failed, which says nothing of the script
 abbrev pub is_outside : ScriptError → Bool

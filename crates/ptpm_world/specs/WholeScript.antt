@@ -8,7 +8,7 @@ use Rattle.ptpm_script.specs.NetworkView.{network_value}
 use Rattle.ptpm_world.specs.declared.script_error.ScriptError.{ScriptError}
 use Rattle.ptpm_world.specs.declared.whole_script.EventLine.{EventLine}
 use Rattle.ptpm_world.specs.declared.whole_script.Script.{Script}
-use Rattle.ptpm_world.specs.Lines.{whole_lines}
+use Rattle.ptpm_text.specs.Lines.{whole_lines}
 use Rattle.ptpm_world.specs.Placed.{Names}
 use Rattle.ptpm_world.specs.Script.{network_text, played, scripted}
 use Rattle.ptpm_world.specs.ScriptError.{is_outside}

@@ -6,7 +6,8 @@ ghost use Rattle.std.specs.Result.{result_err};
 ghost use Rattle.ptpm_world.specs.Findings.{IsCounted, events_fault};
 ghost use Rattle.ptpm_script.specs.NetworkText.{network_of};
 ghost use Rattle.ptpm_world.specs.declared.script_error.ScriptError.TheVariants.{BadNetwork};
-ghost use Rattle.ptpm_world.specs.Lines.{latest_line, left_in, line_count, whole_lines};
+ghost use Rattle.ptpm_text.specs.Lines.{whole_lines};
+ghost use Rattle.ptpm_world.specs.Lines.{latest_line, left_in, line_count};
 ghost use Rattle.ptpm_world.specs.Script.{event_of, scripted, scripted_from};
 ghost use Rattle.ptpm_world.specs.ScriptError.{ReadsWhole, is_of_reading, is_outside, text_fault};
 

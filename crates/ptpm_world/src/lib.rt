@@ -4,10 +4,8 @@
 
 mod findings;
 mod frames;
-mod line_reader;
 mod lines;
 mod network_laws;
-mod octets;
 mod script;
 mod script_error;
 mod starting;
@@ -20,7 +18,6 @@ mod writing;
 
 pub use findings::{Findings, check_script};
 pub use frames::Frame;
-pub use line_reader::{LineReadError, LineReader};
 pub use lines::{Lines, SCRIPT_LINES};
 pub use network_laws::{described_network, described_networks, every_world, placed_event};
 pub use ptpm_script::{End, Event, EventError, Name, NetError, Network, read_event};

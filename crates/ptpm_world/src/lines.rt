@@ -3,8 +3,8 @@
 ghost use Rattle.std.specs.Prelude.{◌≡◌, ◌≤◌, ◌+◌, IfErr, IfOk, IfSome, None, OnOk, Ok, Some, false, true};
 ghost use Rattle.std.specs.Io.KnownBytes.{Keeps};
 
-use crate::line_reader::{LineReadError, LineReader};
 use crate::script_error::ScriptError;
+use ptpm_text::{LineReadError, LineReader};
 use std::alloc::Global;
 use std::io::{Read, Write};
 

@@ -3,7 +3,7 @@ use Rattle.ptpm_agent.specs.Laws.{initial_clock_state}
 use Rattle.ptpm_table.specs.Managers.{clock_with}
 use Rattle.ptpm_commands.specs.Answer.{answered_each, clock_shown, state_shown}
 use Rattle.ptpm_commands.specs.FreshClock.{fresh_sets, managers, shown}
-use Rattle.ptpm_world.specs.Lines.{ReadsNext}
+use Rattle.ptpm_text.specs.Lines.{ReadsNext}
 use Rattle.ptpm_commands.specs.Lines.{datagram_in, latest_line, left_in}
 use Rattle.ptpm_commands.specs.Taken.{line_datagram}
 use Rattle.ptpm_commands.proofs.TakenLemmas.{all-taken, datagram-fault, first-fault, handed-on, known-itself, next-has, next-last}

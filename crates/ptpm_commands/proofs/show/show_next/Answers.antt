@@ -1,5 +1,5 @@
 use Rattle.std.proofs.Common.{refl, subst}
-use Rattle.ptpm_world.specs.Lines.{ReadsNext}
+use Rattle.ptpm_text.specs.Lines.{ReadsNext}
 use Rattle.ptpm_commands.specs.Lines.{latest_line, left_in, row_value}
 use Rattle.ptpm_commands.proofs.ShownLines.{shows-next}
 use Rattle.ptpm_commands.proofs.TakenLemmas.{next-last}

@@ -1,0 +1,4 @@
+mod WordLemmas
+mod OctetTextLemmas
+mod LineLemmas
+pub mod NextLine

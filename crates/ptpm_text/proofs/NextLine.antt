@@ -1,0 +1,208 @@
+-- The next line of what a reader has left.
+use Rattle.std.proofs.Common.{◌≡◌, ℕ, ◌<◌, ◌≤◌, ◌+◌, ◌++◌, List, [], ◌∷◌, suc, zero, length, length-append, Bool, true, false, None, Some, refl, sym, ap, subst, ◌∙◌, append_assoc, append-nil, arith, Option, cond, get_or, option_map, take, ◌==◌}
+use Rattle.std.proofs.lemmas.Bool.{cond-false, cond-true, eqb-true, lt-ltb}
+use Rattle.std.proofs.lemmas.List.{length-take, take_all, take-append-le, take_more}
+use Rattle.std.specs.Io.KnownBytes.{Consumes, IsAtEnd, Keeps, prepend_known}
+use Rattle.std.specs.Prelude.{IfSome, OnSome, zip}
+use Rattle.std.specs.Str.Lines.{strip_carriage_return}
+use Rattle.ptpm_text.specs.Lines.{whole_lines, LeavesLong, ReadsNext, begins_long, is_long, left_of}
+use Rattle.memchr.specs.Find.{IsFirstByte, is_byte}
+use Rattle.std.specs.Io.{StartsWith}
+use Rattle.std.specs.Io.BufRead.{DropsConsumable, DropsThrough, drop_through}
+use Rattle.std.proofs.BufReadLemmas.{Consumes_shown}
+use Rattle.std.proofs.lemmas.Bool.Decides.{nat_tests}
+use Rattle.ptpm_text.proofs.LineLemmas.{IsRead, NoFeed, last_line, line_ends, no_feed-more, one_part, part_ends}
+
+-- ---- whole lines
+
+whole_ends : (l bs : List ℕ)
+    → NoFeed l
+    → whole_lines (l ++ 10 ∷ bs) ≡ (strip_carriage_return l, l) ∷ whole_lines bs
+whole_ends l bs h = λ i. zip (line_ends l bs h i) (part_ends l bs h i)
+
+whole_last : (l : List ℕ) → NoFeed l → 0 < length l → whole_lines l ≡ (l, l) ∷ []
+whole_last l h some = λ i. zip (last_line l h some i) (one_part l h i)
+
+is_short : (l : List ℕ) → length l ≤ 4096 → is_long l ≡ false
+is_short l h = grind (arith, nat_tests)
+
+next_is : (xs ys line octets : List ℕ)
+    → whole_lines xs ≡ (line, octets) ∷ whole_lines ys
+    → length octets ≤ 4096
+    → ReadsNext (Some xs) true line (Some ys)
+next_is xs ys line octets is short = (ap begins_long is ∙ is_short octets short, (octets, is))
+
+-- ---- a line that is read octet by octet
+
+pub next-feed : (a b : Option (List ℕ)) (first octet : ℕ) (line stripped : List ℕ)
+    → IsRead a b first line (Some octet)
+    → octet ≡ 10
+    → NoFeed line
+    → stripped ≡ strip_carriage_return line
+    → length line ≤ 4096
+    → ReadsNext (option_map (λ octets. first ∷ octets) a) true stripped b
+next-feed None b first octet line stripped h e free s short = tt
+next-feed (Some xs) None first octet line stripped h e free s short = absurd h
+next-feed (Some xs) (Some ys) first octet line stripped h e free s short =
+    next_is (first ∷ xs) ys stripped line
+    (ap whole_lines (h ∙ ap (λ o. line ++ (o ∷ ys)) e) ∙ whole_ends line ys free ∙ ap (λ l. (l, line) ∷ whole_lines ys) (sym s)) short
+
+pub next-end : (a b : Option (List ℕ)) (first : ℕ) (line : List ℕ)
+    → IsRead a b first line None
+    → OnSome a (IsAtEnd b)
+    → NoFeed line
+    → 0 < length line
+    → length line ≤ 4096
+    → ReadsNext (option_map (λ octets. first ∷ octets) a) true line b
+next-end None b first line h e free some short = tt
+next-end (Some xs) None first line h e free some short = absurd h
+next-end (Some xs) (Some ys) first line h e free some short =
+    next_is (first ∷ xs) ys line line
+    (ap whole_lines (h ∙ ap (λ l. line ++ l) e ∙ append-nil line) ∙ whole_last line free some ∙ ap (λ l. (line, line) ∷ whole_lines l) (sym e)) short
+
+pub next-none : (a b : Option (List ℕ)) (line : List ℕ)
+    → Consumes a b []
+    → OnSome a (IsAtEnd b)
+    → ReadsNext a false line b
+next-none None b line h e = tt
+next-none (Some xs) None line h e = absurd h
+next-none (Some xs) (Some ys) line h e = (ap (λ o. begins_long (whole_lines o)) (h ∙ e), (ap whole_lines (h ∙ e), ap whole_lines e))
+
+-- ---- with its first octet
+
+pub next-line : (a b c : Option (List ℕ)) (first : ℕ) (line : List ℕ)
+    → Consumes a b (first ∷ [])
+    → ReadsNext (option_map (λ octets. first ∷ octets) b) true line c
+    → ReadsNext a true line c
+next-line None b c first line h k = tt
+next-line (Some xs) None c first line h k = absurd h
+next-line (Some xs) (Some ys) None first line h k = absurd k
+next-line (Some xs) (Some ys) (Some zs) first line h k = (ap (λ o. begins_long (whole_lines o)) h ∙ k.0, (k.1.0, ap whole_lines h ∙ k.1.1))
+
+pub long-line : (a b c : Option (List ℕ)) (first : ℕ)
+    → Consumes a b (first ∷ [])
+    → LeavesLong (option_map (λ octets. first ∷ octets) b) c
+    → LeavesLong a c
+long-line None b c first h k = tt
+long-line (Some xs) None c first h k = absurd h
+long-line (Some xs) (Some ys) None first h k = absurd k
+long-line (Some xs) (Some ys) (Some zs) first h k = (k.0, (ap whole_lines h ∙ k.1.0, k.1.1))
+
+-- ---- a line that is too long
+
+-- octets without a line feed are in the first line, and those behind the next line feed in the others
+abbrev IsBehind : List ℕ → List ℕ → Type 0
+IsBehind l ys = (o : List ℕ × List ℕ) × ((whole_lines (l ++ ys) ≡ o ∷ whole_lines (drop_through 10 ys)) × (length l ≤ length o.1))
+
+behind_more : (l : List ℕ) (y : ℕ) (ys : List ℕ) → (y == 10) ≡ false → IsBehind (l ++ y ∷ []) ys → IsBehind l (y ∷ ys)
+behind_more l y ys e h =
+    let rest : drop_through 10 (y ∷ ys) ≡ drop_through 10 ys = cond-false _ _ _ e in
+    (h.0, (ap whole_lines (sym (append_assoc l (y ∷ []) ys)) ∙ h.1.0 ∙ ap (λ o. h.0 ∷ whole_lines o) (sym rest), omega (arith, h.1.1, length-append l (y ∷ []))))
+
+behind_feed : (l : List ℕ) (y : ℕ) (ys : List ℕ) → (y == 10) ≡ true → NoFeed l → IsBehind l (y ∷ ys)
+behind_feed l y ys e free =
+    let feed : y ≡ 10 = eqb-true y 10 e in
+    let rest : drop_through 10 (y ∷ ys) ≡ ys = cond-true _ _ _ e in
+    ((strip_carriage_return l, l), (ap (λ o. whole_lines (l ++ (o ∷ ys))) feed ∙ whole_ends l ys free ∙ ap (λ o. (strip_carriage_return l, l) ∷ whole_lines o) (sym rest), omega arith))
+
+behind : (ys l : List ℕ) → NoFeed l → 0 < length l → IsBehind l ys
+behind [] l free some = ((l, l), (ap whole_lines (append-nil l) ∙ whole_last l free some, omega arith))
+behind (y ∷ ys) l free some =
+    elim (y == 10) as (λ b. (y == 10) ≡ b → IsBehind l (y ∷ ys)) [
+      | true ↦ λ e. behind_feed l y ys e free
+      | false ↦ λ e. behind_more l y ys e (behind ys (l ++ y ∷ []) (no_feed-more l y free e) (omega (arith, length-append l (y ∷ []))))
+    ] refl
+
+is_longer : (m n : List ℕ) → 4096 < length m → length m ≤ length n → is_long n ≡ true
+is_longer m n h k = lt-ltb _ _ (omega (arith, h, k))
+
+pub leaves-long : (a b : Option (List ℕ)) (first octet : ℕ) (line : List ℕ)
+    → IsRead a b first line (Some octet)
+    → (octet == 10) ≡ false
+    → NoFeed line
+    → 4096 ≤ length line
+    → LeavesLong (option_map (λ octets. first ∷ octets) a) (option_map (drop_through 10) b)
+leaves-long None b first octet line h e free long = tt
+leaves-long (Some xs) None first octet line h e free long = absurd h
+leaves-long (Some xs) (Some ys) first octet line h e free long =
+    let l = line ++ octet ∷ [] in
+    let over : 4096 < length l = omega (arith, length-append line (octet ∷ [])) in
+    let w = behind ys l (no_feed-more line octet free e) (omega arith) in
+    (w.0, (ap whole_lines (h ∙ sym (append_assoc line (octet ∷ []) ys)) ∙ w.1.0, is_longer l w.0.1 over w.1.1))
+
+-- octets are some line
+pub some-whole : (x : ℕ) (xs : List ℕ)
+    → (line : List ℕ × List ℕ) × ((rest : List (List ℕ × List ℕ)) × (whole_lines (x ∷ xs) ≡ line ∷ rest))
+some-whole x xs =
+    elim (x == 10) as (λ b. (x == 10) ≡ b → (line : List ℕ × List ℕ) × ((rest : List (List ℕ × List ℕ)) × (whole_lines (x ∷ xs) ≡ line ∷ rest))) [
+      | true ↦ λ e. let w = behind_feed [] x xs e tt in (w.0, (whole_lines (drop_through 10 (x ∷ xs)), w.1.0))
+      | false ↦ λ e. let w = behind xs (x ∷ []) (e, tt) (omega arith) in (w.0, (whole_lines (drop_through 10 xs), w.1.0))
+    ] refl
+
+-- ---- a reader that is not within a line that is too long
+
+pub left-whole : (cut : Bool) (known : Option (List ℕ)) → cut ≡ false → left_of cut known ≡ known
+left-whole true known h = absurd (cc)
+left-whole false known h = refl
+
+-- the rest of that line is read over
+pub left-over : (cut : Bool) (a b : Option (List ℕ)) → cut ≡ true → DropsThrough a b 10 → Keeps (left_of cut a) b
+left-over true None b h drops = tt
+left-over true (Some xs) b h drops = subst (λ o. Keeps (Some (drop_through 10 xs)) o) (sym drops) refl
+left-over false a b h drops = absurd (cc)
+
+-- ---- a line that a reader has at hand
+
+-- what is at hand is the first of what is left
+pub shown_first : (none : Bool) (shown : List ℕ) (known : Option (List ℕ))
+    → IfSome (cond none None (prepend_known shown known)) (λ xs. StartsWith xs shown)
+shown_first true shown known = tt
+shown_first false shown None = tt
+shown_first false shown (Some ys) = grind (arith, take-append-le, take_all)
+
+is_no_feed : (octet : ℕ) → ¬ ((octet == 10) ≡ true) → (octet == 10) ≡ false
+is_no_feed octet h =
+    elim (octet == 10) as (λ b. (octet == 10) ≡ b → (octet == 10) ≡ false) [
+      | true ↦ λ e. absurd (h e)
+      | false ↦ λ e. e
+    ] refl
+
+no_feed_before : (shown : List ℕ) (size : ℕ)
+    → size ≤ length shown
+    → ((k : ℕ) → k < size → ¬ ((get_or shown k 0 == 10) ≡ true))
+    → NoFeed (take size shown)
+no_feed_before shown zero h none = tt
+no_feed_before [] (suc size) h none = tt
+no_feed_before (x ∷ xs) (suc size) h none =
+    (is_no_feed x (none 0 (omega arith)), no_feed_before xs size (omega (arith, h)) (λ k below. none (suc k) (omega (arith, below))))
+
+feed_taken : (shown : List ℕ) (size : ℕ)
+    → size < length shown
+    → (get_or shown size 0 == 10) ≡ true
+    → take (size + 1) shown ≡ take size shown ++ 10 ∷ []
+feed_taken shown size h e = take_more shown size 0 h ∙ ap (λ octet. take size shown ++ octet ∷ []) (eqb-true (get_or shown size 0) 10 e)
+
+at_hand : (xs : List ℕ) (b : Option (List ℕ)) (shown : List ℕ) (size : ℕ) (stripped : List ℕ)
+    → Consumes (Some xs) b (take (size + 1) shown)
+    → NoFeed (take size shown)
+    → take (size + 1) shown ≡ take size shown ++ 10 ∷ []
+    → stripped ≡ strip_carriage_return (take size shown)
+    → length (take size shown) ≤ 4096
+    → ReadsNext (Some xs) true stripped b
+at_hand xs None shown size stripped taken free feed s short = absurd taken
+at_hand xs (Some ys) shown size stripped taken free feed s short =
+    let line = take size shown in
+    let is : whole_lines xs ≡ (stripped, line) ∷ whole_lines ys = grind (arith, append_assoc, whole_ends) in next_is xs ys stripped line is short
+
+-- the first line feed at hand ends the next line
+pub next-at-hand : (a b : Option (List ℕ)) (shown : List ℕ) (size : ℕ) (stripped : List ℕ)
+    → IfSome a (λ xs. StartsWith xs shown)
+    → IsFirstByte (is_byte 10) shown (Some size)
+    → DropsConsumable a b (Some (length shown)) (size + 1)
+    → stripped ≡ strip_carriage_return (take size shown)
+    → size ≤ 4096
+    → ReadsNext a true stripped b
+next-at-hand None b shown size stripped front first drops s short = tt
+next-at-hand (Some xs) b shown size stripped front first drops s short =
+    let inside : size < length shown = first.0.high in
+    let taken = (Consumes_shown (Some xs) (Some xs) b (Some (length shown)) shown (size + 1) (omega (arith, inside)) front (λ none. absurd (omega (arith, inside, none))) refl (omega arith) drops).0 in grind (arith, at_hand, no_feed_before, feed_taken, length-take)

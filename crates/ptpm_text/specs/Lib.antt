@@ -1,0 +1,6 @@
+pub mod Lines
+pub mod Words
+pub mod OctetText
+pub mod Numbers
+pub mod RequestNames
+pub mod Escaped
