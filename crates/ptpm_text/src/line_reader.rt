@@ -6,6 +6,8 @@ ghost use Rattle.std.specs.Io.Buffered.{reader_buffer};
 ghost use Rattle.std.specs.Str.{is_utf8};
 ghost use Rattle.std.specs.Str.Lines.{strip_carriage_return};
 ghost use Rattle.memchr.specs.Find.{IsFirstByte, is_byte};
+ghost use Rattle.ptpm_text.specs.Lines.{LeavesLong, ReadsNext, given, reader_left, reader_line};
+ghost use Rattle.ptpm_text.specs.declared.line_reader.LineReadError.TheVariants as errors;
 
 use memchr::memchr;
 use ptpm_codec::OutOfMemory;
@@ -37,9 +39,6 @@ pub struct LineReader<R> {
 }
 
 impl<R: Read + Drop> LineReader<R> {
-    ghost use Rattle.ptpm_text.specs.Lines.{LeavesLong, ReadsNext, given, reader_left, reader_line};
-    ghost use Rattle.ptpm_text.specs.declared.line_reader.LineReadError.TheVariants as errors;
-
     /// The lines of a reader. Takes the memory for one line and for the reader's buffer.
     pub fn new(alloc: Global, reader: R) -> Result<LineReader<R>, OutOfMemory>
         ensures octets { IfOk result

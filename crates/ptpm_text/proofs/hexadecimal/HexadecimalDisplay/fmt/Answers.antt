@@ -1,4 +1,4 @@
-use Rattle.std.proofs.Common.{arith, rules, false, ◌≡◌, ◌+◌, ◌++◌, ℕ, [], List, length, get_or, take, sym, ap, ◌∙◌}
+use Rattle.std.proofs.Common.{arith, rules, false, ◌≡◌, ◌+◌, ◌++◌, ℕ, [], List, get_or, take, sym, ap, ◌∙◌}
 use Rattle.std.proofs.Output.{has_written_append, has_written_of_eq}
 use Rattle.std.proofs.lemmas.Fmt.{hex_byte}
 use Rattle.std.proofs.lemmas.List.{flat_map_more, take_all, take_more}
