@@ -11,7 +11,10 @@ use crate::names::Name;
 use hex::FromHexError;
 use ptpm_codec::{Action, Octets, OutOfMemory};
 use ptpm_manager::Ask;
-use ptpm_text::{action_named, decimal_u8, decimal_u16, decimal_up_to, id_named, one_word, split_two_words, split_word, three_words, two_words};
+use ptpm_text::{
+    action_named, decimal_u8, decimal_u16, decimal_up_to, id_named, one_word, split_two_words,
+    split_word, three_words, two_words,
+};
 use std::alloc::Global;
 
 /// The word that stands for no value.
