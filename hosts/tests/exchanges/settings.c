@@ -24,7 +24,7 @@ static const struct member of_start[] = {
     START(clock_accuracy), START(priority2), START(parent_stats), FLAGGED_START(grandmaster_priority1),
     FLAGGED_START(grandmaster_class), FLAGGED_START(grandmaster_accuracy), FLAGGED_START(grandmaster_priority2), START(leap61),
     START(leap59), START(utc_valid), START(ptp_timescale), START(time_traceable), START(frequency_traceable), START(time_source),
-    START(has_parent_port), START(user_description_size), { 0 },
+    START(has_parent_port), START(user_description_size), OCTETS_OF(ptpm_clock_settings, user_description), { 0 },
 };
 
 #define PORT(name) NUMBER_OF(ptpm_port_settings, name)
