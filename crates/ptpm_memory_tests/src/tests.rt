@@ -1,5 +1,6 @@
 //! Memory that is refused, and readers and writers that hesitate.
 
+mod clocks;
 mod events;
 mod interrupted;
 mod networks;
