@@ -1,16 +1,47 @@
-//! Events of a network while memory is refused: nothing changes, and the same event then does what it would have done.
-//! `tools/refuse_memory` refuses each request for memory in turn. Whatever else a test needs is asked for again.
+//! Events of a network while memory is refused: the same event then does what it would have done. That a refused one changes nothing
+//! is in its contract. `tools/refuse_memory` refuses each request for memory in turn. Whatever else a test needs is asked for again.
 
-use super::ONE_CLOCK;
-use super::networks::{event_of, network_of};
 use ptpm_agent::Verdict;
-use ptpm_codec::{Action, Octets, OutOfMemory};
-use ptpm_manager::{Ask, BeginError, Outcome, Report};
-use ptpm_script::Event;
+use ptpm_codec::OutOfMemory;
+use ptpm_manager::{Outcome, Report};
+use ptpm_script::{Event, EventError, NetError, Network, read_event};
 use ptpm_world::{StepError, Took, World};
 use std::alloc::Global;
-use std::process::Abort;
 use std::test::Fail;
+
+/// A clock of two ports with one manager at port 1, and the divider.
+const ONE_CLOCK: &str = r#"version = 1
+[[clock]]
+name = "K"
+identity = "aabbccfffeddee01"
+domain = 0
+ports = 2
+[[session]]
+name = "m"
+identity = "0011223344556677/1"
+target = "K"
+first = 7
+hops = 1
+attempts = 2
+[[link]]
+ends = ["K.1", "m"]
+"#;
+
+/// The network of a text. This and the next promise nothing, so that a test that calls them stays quick to prove.
+fn network_of(alloc: Global, text: &str) -> Result<Network, NetError> {
+    match Network::from_toml(alloc, text) {
+        Err(NetError::OutOfMemory) => Network::from_toml(alloc, text),
+        answer => answer,
+    }
+}
+
+/// The event of a line.
+fn event_of(alloc: Global, line: &str) -> Result<Event, EventError> {
+    match read_event(alloc, line) {
+        Err(EventError::OutOfMemory) => read_event(alloc, line),
+        answer => answer,
+    }
+}
 
 /// The network before anything has happened.
 fn world(alloc: Global) -> Result<World, Fail> {
@@ -54,49 +85,15 @@ fn is_only_report(world: &World, value: &[u8]) -> bool {
     }
 }
 
-/// Whether a network is at its beginning.
-fn is_fresh(world: &World) -> bool {
-    let has_ports = matches!(world.sets("K"), Some(sets) if sets.port_count() == 2);
-    let is_silent = world.frames() == 0 && world.frame(1).is_none() && !world.is_late(1);
-    has_ports && is_silent && world.sets("m").is_none() && reports(world).is_empty()
-}
-
-#[test]
-fn world_new_after_refused_memory(rt: HostRuntime) -> Result<(), Fail> {
-    assert!(rt; is_fresh(&world(rt.alloc())?));
-    Ok(())
-}
-
-/// All members of the clock.
-fn members(alloc: Global, world: &World) -> Result<String, Fail> {
-    let sets = world.sets("K");
-    match format!(in alloc; "{sets:?}") {
-        Ok(text) => Ok(text),
-        Err(_) => Ok(format!(in alloc; "{sets:?}")?),
+/// Whether an event does this, or at once again if memory was refused.
+fn does(world: &mut World, event: &Event, wanted: Took) -> bool {
+    let mut took = happen(world, event);
+    if took == Err(StepError::OutOfMemory) {
+        took = happen(world, event);
     }
+    took == Ok(wanted)
 }
 
-/// Whether the event of a line does this. If memory is refused once, nothing may have changed, and the event happens again.
-fn does(
-    rt: &impl Abort,
-    alloc: Global,
-    world: &mut World,
-    line: &str,
-    wanted: Took,
-) -> Result<bool, Fail> {
-    let event = event_of(alloc, line)?;
-    let (sent, reported) = (frames(world), reports(world).len());
-    let before = members(alloc, world)?;
-    let took = happen(world, &event);
-    if took != Err(StepError::OutOfMemory) {
-        return Ok(took == Ok(wanted));
-    }
-    assert!(rt; frames(world) == sent && reports(world).len() == reported);
-    assert!(rt; members(alloc, world)?.as_str() == before.as_str());
-    Ok(happen(world, &event) == Ok(wanted))
-}
-
-/// If a refused delivery had reached the clock or the session, the same one would now be a repeat, or be ignored.
 #[test]
 fn step_after_refused_memory(rt: HostRuntime) -> Result<(), Fail> {
     let alloc = rt.alloc();
@@ -108,7 +105,8 @@ fn step_after_refused_memory(rt: HostRuntime) -> Result<(), Fail> {
         ("deliver 2", Took::Answered),
         ("deliver 1", Took::AtClock(Verdict::AnsweredRepeat)),
     ] {
-        assert!(rt; does(&rt, alloc, &mut world, line, wanted)?, "{line}");
+        let event = event_of(alloc, line)?;
+        assert!(rt; does(&mut world, &event, wanted), "{line}");
     }
     assert!(rt; frames(&world) == 3);
     assert!(rt; is_only_report(&world, &[0x64, 0]));
@@ -147,26 +145,5 @@ fn run_after_refused_memory(rt: HostRuntime) -> Result<(), Fail> {
         event_of(alloc, "deliver 9")?,
     ];
     assert!(rt; run(&mut world, &wrong) == Err((1, StepError::NoSuchFrame)));
-    Ok(())
-}
-
-/// A session does not begin with a reply, which no line of a script asks for.
-#[test]
-fn reply_is_not_permitted(rt: HostRuntime) -> Result<(), Fail> {
-    let alloc = rt.alloc();
-    let mut world = world(alloc)?;
-    let ask = Ask {
-        action: Action::Response,
-        id: 0x2005,
-        port: None,
-        octets: Octets::copy_of(alloc, &[0x80, 0])?,
-    };
-    match event_of(alloc, "send m")? {
-        Event::Send(name) => {
-            let refused = happen(&mut world, &Event::Begin(name, ask));
-            assert!(rt; refused == Err(StepError::Begin(BeginError::NotPermitted)));
-        }
-        _ => assert!(rt; false, "send is read as send"),
-    }
     Ok(())
 }
