@@ -4,24 +4,15 @@ from __future__ import annotations
 
 import ctypes
 from dataclasses import dataclass
-from enum import IntEnum
 from typing import AbstractSet, Any, Optional, Sequence, Tuple, Union
 
 from . import _header as header
+from ._header import Objection as Objection
 from ._library import library, octets_of
 from .errors import PtpmError
 from .identity import Identity, PortIdentity
 from .ids import Action, IdLike, error_name, id_of
 from .settings import write_number
-
-
-class Objection(IntEnum):
-    """The errors with which a device may object (15.5.4.3)."""
-
-    WRONG_VALUE = header.PTPM_ERROR_WRONG_VALUE
-    NOT_SETABLE = header.PTPM_ERROR_NOT_SETABLE
-    NOT_SUPPORTED = header.PTPM_ERROR_NOT_SUPPORTED
-    GENERAL_ERROR = header.PTPM_ERROR_GENERAL_ERROR
 
 
 class ChangeRefused(PtpmError):

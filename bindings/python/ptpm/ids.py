@@ -2,46 +2,11 @@
 
 from __future__ import annotations
 
-from enum import IntEnum
 from typing import Union
 
 from . import _header as header
+from ._header import Action as Action, ManagementId as ManagementId
 from ._library import library, text_by, typed
-
-
-class Action(IntEnum):
-    """What a clock may be asked for: the actionField of a request."""
-
-    GET = header.PTPM_GET
-    SET = header.PTPM_SET
-    COMMAND = header.PTPM_COMMAND
-
-
-class ManagementId(IntEnum):
-    """The managementIds of this profile (15.5.2.3, table 59). A clock may be asked for others, by their numbers."""
-
-    NULL_PTP_MANAGEMENT = header.PTPM_ID_NULL_PTP_MANAGEMENT
-    USER_DESCRIPTION = header.PTPM_ID_USER_DESCRIPTION
-    DEFAULT_DATA_SET = header.PTPM_ID_DEFAULT_DATA_SET
-    CURRENT_DATA_SET = header.PTPM_ID_CURRENT_DATA_SET
-    PARENT_DATA_SET = header.PTPM_ID_PARENT_DATA_SET
-    TIME_PROPERTIES_DATA_SET = header.PTPM_ID_TIME_PROPERTIES_DATA_SET
-    PORT_DATA_SET = header.PTPM_ID_PORT_DATA_SET
-    PRIORITY1 = header.PTPM_ID_PRIORITY1
-    PRIORITY2 = header.PTPM_ID_PRIORITY2
-    DOMAIN = header.PTPM_ID_DOMAIN
-    SLAVE_ONLY = header.PTPM_ID_SLAVE_ONLY
-    LOG_ANNOUNCE_INTERVAL = header.PTPM_ID_LOG_ANNOUNCE_INTERVAL
-    ANNOUNCE_RECEIPT_TIMEOUT = header.PTPM_ID_ANNOUNCE_RECEIPT_TIMEOUT
-    LOG_SYNC_INTERVAL = header.PTPM_ID_LOG_SYNC_INTERVAL
-    VERSION_NUMBER = header.PTPM_ID_VERSION_NUMBER
-    ENABLE_PORT = header.PTPM_ID_ENABLE_PORT
-    DISABLE_PORT = header.PTPM_ID_DISABLE_PORT
-    CLOCK_ACCURACY = header.PTPM_ID_CLOCK_ACCURACY
-    UTC_PROPERTIES = header.PTPM_ID_UTC_PROPERTIES
-    DELAY_MECHANISM = header.PTPM_ID_DELAY_MECHANISM
-    LOG_MIN_PDELAY_REQ_INTERVAL = header.PTPM_ID_LOG_MIN_PDELAY_REQ_INTERVAL
-
 
 IdLike = Union[int, str]
 

@@ -5,51 +5,18 @@ from __future__ import annotations
 import ctypes
 import operator
 from dataclasses import dataclass
-from enum import IntEnum, IntFlag
-from typing import Any, Optional, Type, TypeVar
+from enum import IntFlag
+from typing import Any, Optional
 
 from . import _header as header
+from ._header import PortState as PortState
 from ._library import library
+from .enumeration import Enumeration
 from .identity import Identity, IdentityLike, PortIdentity, PortIdentityLike
 from .time_interval import time_interval as time_interval
 
-_Enumeration = TypeVar("_Enumeration", bound="Enumeration")
-
 # The members that are TimeIntervals.
 TIME_INTERVALS = ("offset_from_master", "mean_path_delay", "peer_delay")
-
-
-class Enumeration(IntEnum):
-    """Numbers of an octet that the standard names. One without a name has its number for it, such as `0x11`, as every text and JSON
-    of ptpm has it."""
-
-    @classmethod
-    def _missing_(cls, value: object) -> Optional[Enumeration]:
-        if not isinstance(value, int) or not 0 <= value <= 0xFF:
-            return None
-        member = int.__new__(cls, value)
-        member._name_ = f"{value:#04x}"
-        member._value_ = value
-        return member
-
-    @classmethod
-    def of(cls: Type[_Enumeration], text: str) -> _Enumeration:
-        """That of a name, or of a number such as `0x11`."""
-        return cls(int(text, 0)) if text[:1].isdigit() else cls[text]
-
-
-class PortState(Enumeration):
-    """A portState (table 20)."""
-
-    INITIALIZING = header.PTPM_STATE_INITIALIZING
-    FAULTY = header.PTPM_STATE_FAULTY
-    DISABLED = header.PTPM_STATE_DISABLED
-    LISTENING = header.PTPM_STATE_LISTENING
-    PRE_MASTER = header.PTPM_STATE_PRE_MASTER
-    MASTER = header.PTPM_STATE_MASTER
-    PASSIVE = header.PTPM_STATE_PASSIVE
-    UNCALIBRATED = header.PTPM_STATE_UNCALIBRATED
-    SLAVE = header.PTPM_STATE_SLAVE
 
 
 class DelayMechanism(Enumeration):

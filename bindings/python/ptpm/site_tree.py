@@ -10,8 +10,9 @@ from .data_sets import (
     CurrentDataSet, DefaultDataSet, ParentDataSet, PortDataSet, TimePropertiesDataSet, identity_of, member_of, number_of, read, text_of,
 )
 from .domain_identity import DomainIdentity
+from .enumeration import Enumeration
 from .identity import Identity, PortIdentity
-from .settings import Enumeration, PortState
+from .settings import PortState
 
 _HEAD = ("domainNumber", "sdoId", "clockIdentity", "userDescription", "finding", "severity", "because")
 
