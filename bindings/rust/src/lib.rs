@@ -81,6 +81,7 @@ mod seal;
 mod session;
 mod settings;
 mod survey;
+#[rustfmt::skip] // tools/bindings writes it
 pub mod sys;
 mod time_interval;
 

@@ -247,6 +247,42 @@ pub struct ptpm_passed_on { pub seed: u64, pub places: [[u64; 6]; 4096] }
 #[repr(C)] #[derive(Clone, Copy)]
 pub struct ptpm_rate { pub rate: u64, pub left: u64, pub time: u64 }
 
+impl crate::ManagementId {
+    pub const NULL_PTP_MANAGEMENT: Self = Self(0x0000); pub const USER_DESCRIPTION: Self = Self(0x0002);
+    pub const DEFAULT_DATA_SET: Self = Self(0x2000); pub const CURRENT_DATA_SET: Self = Self(0x2001);
+    pub const PARENT_DATA_SET: Self = Self(0x2002); pub const TIME_PROPERTIES_DATA_SET: Self = Self(0x2003);
+    pub const PORT_DATA_SET: Self = Self(0x2004); pub const PRIORITY1: Self = Self(0x2005);
+    pub const PRIORITY2: Self = Self(0x2006); pub const DOMAIN: Self = Self(0x2007); pub const SLAVE_ONLY: Self = Self(0x2008);
+    pub const LOG_ANNOUNCE_INTERVAL: Self = Self(0x2009); pub const ANNOUNCE_RECEIPT_TIMEOUT: Self = Self(0x200a);
+    pub const LOG_SYNC_INTERVAL: Self = Self(0x200b); pub const VERSION_NUMBER: Self = Self(0x200c);
+    pub const ENABLE_PORT: Self = Self(0x200d); pub const DISABLE_PORT: Self = Self(0x200e);
+    pub const CLOCK_ACCURACY: Self = Self(0x2010); pub const UTC_PROPERTIES: Self = Self(0x2011);
+    pub const DELAY_MECHANISM: Self = Self(0x6000); pub const LOG_MIN_PDELAY_REQ_INTERVAL: Self = Self(0x6001);
+}
+impl crate::ClockMembers {
+    pub const IDENTITY: Self = Self(1 << 0); pub const DOMAIN: Self = Self(1 << 1);
+    pub const USER_DESCRIPTION: Self = Self(1 << 2); pub const TWO_STEP: Self = Self(1 << 3);
+    pub const PRIORITY1: Self = Self(1 << 4); pub const CLOCK_CLASS: Self = Self(1 << 5);
+    pub const CLOCK_ACCURACY: Self = Self(1 << 6); pub const VARIANCE: Self = Self(1 << 7);
+    pub const PRIORITY2: Self = Self(1 << 8); pub const STEPS_REMOVED: Self = Self(1 << 9);
+    pub const OFFSET_FROM_MASTER: Self = Self(1 << 10); pub const MEAN_PATH_DELAY: Self = Self(1 << 11);
+    pub const PARENT_PORT: Self = Self(1 << 12); pub const PARENT_STATS: Self = Self(1 << 13);
+    pub const OBSERVED_VARIANCE: Self = Self(1 << 14); pub const OBSERVED_RATE: Self = Self(1 << 15);
+    pub const GRANDMASTER_PRIORITY1: Self = Self(1 << 16); pub const GRANDMASTER_CLASS: Self = Self(1 << 17);
+    pub const GRANDMASTER_ACCURACY: Self = Self(1 << 18); pub const GRANDMASTER_VARIANCE: Self = Self(1 << 19);
+    pub const GRANDMASTER_PRIORITY2: Self = Self(1 << 20); pub const GRANDMASTER: Self = Self(1 << 21);
+    pub const UTC_OFFSET: Self = Self(1 << 22); pub const LEAP61: Self = Self(1 << 23); pub const LEAP59: Self = Self(1 << 24);
+    pub const UTC_VALID: Self = Self(1 << 25); pub const PTP_TIMESCALE: Self = Self(1 << 26);
+    pub const TIME_TRACEABLE: Self = Self(1 << 27); pub const FREQUENCY_TRACEABLE: Self = Self(1 << 28);
+    pub const TIME_SOURCE: Self = Self(1 << 29);
+}
+impl crate::PortMembers {
+    pub const STATE: Self = Self(1 << 0); pub const LOG_MIN_DELAY_REQ: Self = Self(1 << 1);
+    pub const PEER_DELAY: Self = Self(1 << 2); pub const LOG_ANNOUNCE: Self = Self(1 << 3);
+    pub const RECEIPT_TIMEOUT: Self = Self(1 << 4); pub const LOG_SYNC: Self = Self(1 << 5);
+    pub const DELAY_MECHANISM: Self = Self(1 << 6); pub const LOG_MIN_PDELAY: Self = Self(1 << 7);
+}
+
 extern "C" {
     pub fn ptpm_version() -> u32;
     pub fn ptpm_sizes_agree(sizes: *const usize, count: usize) -> ptpm_started;
