@@ -1,5 +1,6 @@
-"""The header ptpm.h as it is: its constants, its structs and its calls, by its names. The header says what each of them is, and
-what a caller has to do. tools/bindings -u of the repository writes this module."""
+"""The header ptpm.h as it is, by its names: its constants, its structs, in CALLS what a call answers and takes, and in STRUCTS the
+structs whose sizes the library compares. The header says what each of them is, and what a caller has to do. Some of its enums
+are classes, of which the package makes the names public."""
 
 import sys
 from ctypes import POINTER, Structure, c_bool, c_char, c_char_p, c_int8, c_int16, c_int32, c_int64
@@ -11,6 +12,8 @@ from .enumeration import Answer, Enumeration
 
 if sizeof(c_void_p) != 8 or sys.byteorder != "little":
     raise ImportError("ptpm is built for 64-bit little-endian processors alone")
+
+# tools/bindings -u writes all that follows from ptpm.h.
 
 PTPM_VERSION = "0.1.0"; PTPM_VERSION_NUMBER = 100
 PTPM_DELAY_E2E = 1; PTPM_DELAY_P2P = 2; PTPM_DELAY_NONE = 0xFE
@@ -283,7 +286,6 @@ class ptpm_rate(Structure):
     _fields_ = [("rate", c_uint64), ("left", c_uint64), ("time", c_uint64)]
 
 
-# What a call answers, and what it takes.
 CALLS: Dict[str, Tuple[Any, List[Any]]] = {
     "ptpm_version": (c_uint32, []),
     "ptpm_sizes_agree": (c_uint32, [POINTER(c_size_t), c_size_t]),
@@ -381,7 +383,6 @@ CALLS: Dict[str, Tuple[Any, List[Any]]] = {
     "ptpm_field_takes": (c_size_t, [c_uint16, c_size_t, POINTER(c_char), c_size_t]),
 }
 
-# The structs whose sizes the library compares with its own.
 STRUCTS: List[Type[Structure]] = [
     ptpm_clock, ptpm_clock_settings, ptpm_port_settings, ptpm_observed_clock, ptpm_observed_port, ptpm_manager_settings,
     ptpm_sent, ptpm_changed, ptpm_session, ptpm_session_settings, ptpm_survey, ptpm_survey_settings, ptpm_source, ptpm_passed_on,

@@ -4,6 +4,30 @@ use crate::sys;
 use core::ffi::c_char;
 use core::fmt;
 
+/// An enum of numbers that the standard names.
+macro_rules! standard_numbers {
+    ($(#[$about:meta])* $name:ident: $kind:ident { $($(#[$what:meta])* $variant:ident = $number:expr,)* }) => {
+        $(#[$about])*
+        #[derive(Clone, Copy, Debug, PartialEq, Eq, Hash)]
+        #[repr($kind)]
+        #[allow(missing_docs)] // the standard's names
+        pub enum $name {
+            $($(#[$what])* $variant = $number,)*
+        }
+
+        impl $name {
+            /// The one with this number, if there is one.
+            pub const fn of_number(number: $kind) -> Option<Self> {
+                $(if number == $number {
+                    return Some(Self::$variant);
+                })*
+                None
+            }
+        }
+    };
+}
+pub(crate) use standard_numbers;
+
 /// A name from the library, such as `NO_ROOM`.
 pub(crate) struct Name {
     text: [u8; sys::PTPM_MOST_NAME],

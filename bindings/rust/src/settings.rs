@@ -1,6 +1,7 @@
 //! The start values of a clock and of its ports, and who may change them.
 
 use crate::identity::{Identity, PortIdentity};
+use crate::names::standard_numbers;
 use crate::sys;
 use crate::time_interval::TimeInterval;
 #[cfg(feature = "alloc")]
@@ -8,69 +9,36 @@ use alloc::string::String;
 use core::mem::{align_of, offset_of, size_of, MaybeUninit};
 use core::ops::BitOr;
 
-/// A portState (table 20).
-#[derive(Clone, Copy, Debug, PartialEq, Eq, Hash)]
-#[repr(u8)]
-#[allow(missing_docs)] // the standard's names
-pub enum PortState {
-    Initializing = sys::PTPM_STATE_INITIALIZING,
-    Faulty = sys::PTPM_STATE_FAULTY,
-    Disabled = sys::PTPM_STATE_DISABLED,
-    Listening = sys::PTPM_STATE_LISTENING,
-    PreMaster = sys::PTPM_STATE_PRE_MASTER,
-    Master = sys::PTPM_STATE_MASTER,
-    Passive = sys::PTPM_STATE_PASSIVE,
-    Uncalibrated = sys::PTPM_STATE_UNCALIBRATED,
-    Slave = sys::PTPM_STATE_SLAVE,
-}
-
-impl PortState {
-    /// The state with this number as a portState, if there is one.
-    pub const fn of_number(number: u8) -> Option<Self> {
-        Some(match number {
-            sys::PTPM_STATE_INITIALIZING => Self::Initializing,
-            sys::PTPM_STATE_FAULTY => Self::Faulty,
-            sys::PTPM_STATE_DISABLED => Self::Disabled,
-            sys::PTPM_STATE_LISTENING => Self::Listening,
-            sys::PTPM_STATE_PRE_MASTER => Self::PreMaster,
-            sys::PTPM_STATE_MASTER => Self::Master,
-            sys::PTPM_STATE_PASSIVE => Self::Passive,
-            sys::PTPM_STATE_UNCALIBRATED => Self::Uncalibrated,
-            sys::PTPM_STATE_SLAVE => Self::Slave,
-            _ => return None,
-        })
+standard_numbers! {
+    /// A portState (table 20).
+    PortState: u8 {
+        Initializing = sys::PTPM_STATE_INITIALIZING,
+        Faulty = sys::PTPM_STATE_FAULTY,
+        Disabled = sys::PTPM_STATE_DISABLED,
+        Listening = sys::PTPM_STATE_LISTENING,
+        PreMaster = sys::PTPM_STATE_PRE_MASTER,
+        Master = sys::PTPM_STATE_MASTER,
+        Passive = sys::PTPM_STATE_PASSIVE,
+        Uncalibrated = sys::PTPM_STATE_UNCALIBRATED,
+        Slave = sys::PTPM_STATE_SLAVE,
     }
 }
 
-/// A delayMechanism (table 21). A clock of this library has no [`CommonP2p`](Self::CommonP2p) and no [`Special`](Self::Special): a
-/// start with one is refused by [`Error::BadDelayMechanism`](crate::Error::BadDelayMechanism). Other clocks may answer them.
-#[derive(Clone, Copy, Debug, PartialEq, Eq, Hash)]
-#[non_exhaustive]
-#[repr(u8)]
-pub enum DelayMechanism {
-    /// E2E: the delay request-response mechanism.
-    EndToEnd = sys::PTPM_DELAY_E2E,
-    /// P2P: the peer-to-peer delay mechanism.
-    PeerToPeer = sys::PTPM_DELAY_P2P,
-    /// COMMON_P2P: that of the Common Mean Link Delay Service.
-    CommonP2p = 3,
-    /// SPECIAL: that of a Special Port.
-    Special = 4,
-    /// NO_MECHANISM
-    None = sys::PTPM_DELAY_NONE,
-}
-
-impl DelayMechanism {
-    /// The mechanism with this number as a delayMechanism, if there is one.
-    pub const fn of_number(number: u8) -> Option<Self> {
-        Some(match number {
-            sys::PTPM_DELAY_E2E => Self::EndToEnd,
-            sys::PTPM_DELAY_P2P => Self::PeerToPeer,
-            3 => Self::CommonP2p,
-            4 => Self::Special,
-            sys::PTPM_DELAY_NONE => Self::None,
-            _ => return None,
-        })
+standard_numbers! {
+    /// A delayMechanism (table 21). A clock of this library has no [`CommonP2p`](Self::CommonP2p) and no [`Special`](Self::Special): a
+    /// start with one is refused by [`Error::BadDelayMechanism`](crate::Error::BadDelayMechanism). Other clocks may answer them.
+    #[non_exhaustive]
+    DelayMechanism: u8 {
+        /// E2E: the delay request-response mechanism.
+        EndToEnd = sys::PTPM_DELAY_E2E,
+        /// P2P: the peer-to-peer delay mechanism.
+        PeerToPeer = sys::PTPM_DELAY_P2P,
+        /// COMMON_P2P: that of the Common Mean Link Delay Service.
+        CommonP2p = 3,
+        /// SPECIAL: that of a Special Port.
+        Special = 4,
+        /// NO_MECHANISM
+        None = sys::PTPM_DELAY_NONE,
     }
 }
 

@@ -1,6 +1,6 @@
 //! The header `ptpm.h` as it is: its constants, its structs and its calls, by its names. The declarations have no comments here.
 //! `ptpm.h` documents each of them: what it is, what a call takes, answers and writes, and what a caller owes. It lies at
-//! `hosts/ptpm.h` of the repository, and is installed beside the library. `tools/bindings -u` of the repository writes this module.
+//! `hosts/ptpm.h` of the repository, and is installed beside the library.
 #![allow(missing_docs, non_camel_case_types)]
 
 use core::ffi::{c_char, c_void};
@@ -8,6 +8,20 @@ use core::mem::size_of;
 
 #[cfg(not(all(target_pointer_width = "64", target_endian = "little")))]
 compile_error!("ptpm is built for 64-bit little-endian processors alone");
+
+/// Says whether a call with this answer was refused.
+#[inline]
+pub const fn ptpm_is_refusal(answer: u32) -> bool {
+    answer >= 32
+}
+
+/// Compares these declarations with the library that is linked.
+pub fn ptpm_header_agrees() -> ptpm_started {
+    // SAFETY: the sizes may be read, and are as many as is said.
+    unsafe { ptpm_sizes_agree(SIZES.as_ptr(), SIZES.len()) }
+}
+
+// tools/bindings -u writes all that follows from ptpm.h.
 
 pub const PTPM_VERSION: &str = "0.1.0"; pub const PTPM_VERSION_NUMBER: u32 = 100;
 pub const PTPM_ID_NULL_PTP_MANAGEMENT: u16 = 0x0000; pub const PTPM_ID_USER_DESCRIPTION: u16 = 0x0002;
@@ -394,22 +408,11 @@ extern "C" {
     pub fn ptpm_field_takes(id: u16, place: usize, text: *mut c_char, room: usize) -> usize;
 }
 
-/// Says whether a call with this answer was refused.
-#[inline]
-pub const fn ptpm_is_refusal(answer: u32) -> bool {
-    answer >= 32
-}
-
-/// Compares these declarations with the library that is linked.
-pub fn ptpm_header_agrees() -> ptpm_started {
-    let sizes = [
-        size_of::<ptpm_clock>(), size_of::<ptpm_clock_settings>(), size_of::<ptpm_port_settings>(),
-        size_of::<ptpm_observed_clock>(), size_of::<ptpm_observed_port>(), size_of::<ptpm_manager_settings>(),
-        size_of::<ptpm_sent>(), size_of::<ptpm_changed>(), size_of::<ptpm_session>(), size_of::<ptpm_session_settings>(),
-        size_of::<ptpm_survey>(), size_of::<ptpm_survey_settings>(), size_of::<ptpm_source>(), size_of::<ptpm_passed_on>(),
-        size_of::<ptpm_rate>(), size_of::<ptpm_asker>(), size_of::<ptpm_asker_settings>(), size_of::<ptpm_handed>(),
-        size_of::<ptpm_question>(), size_of::<ptpm_say>(), size_of::<ptpm_limit>()
-    ];
-    // SAFETY: the sizes may be read, and are as many as is said.
-    unsafe { ptpm_sizes_agree(sizes.as_ptr(), sizes.len()) }
-}
+const SIZES: [usize; 21] = [
+    size_of::<ptpm_clock>(), size_of::<ptpm_clock_settings>(), size_of::<ptpm_port_settings>(), size_of::<ptpm_observed_clock>(),
+    size_of::<ptpm_observed_port>(), size_of::<ptpm_manager_settings>(), size_of::<ptpm_sent>(), size_of::<ptpm_changed>(),
+    size_of::<ptpm_session>(), size_of::<ptpm_session_settings>(), size_of::<ptpm_survey>(), size_of::<ptpm_survey_settings>(),
+    size_of::<ptpm_source>(), size_of::<ptpm_passed_on>(), size_of::<ptpm_rate>(), size_of::<ptpm_asker>(),
+    size_of::<ptpm_asker_settings>(), size_of::<ptpm_handed>(), size_of::<ptpm_question>(), size_of::<ptpm_say>(),
+    size_of::<ptpm_limit>()
+];
