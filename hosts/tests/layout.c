@@ -1,10 +1,8 @@
 /* layout: whether ptpm.h has its members in the library's places. Each member of each struct gets a value of its own. What the
    library then says must have that value at the place that the standard gives it (IEEE 1588-2019, clauses 13.3, 15.4 and 15.5).
-   Each constant of an answer must have its name, and ids and errors theirs. Prints what does not hold and `layout: N passed, M
-   failed`; its status is 1 if one failed. */
+   Prints what does not hold and `layout: N passed, M failed`; its status is 1 if one failed. */
 #include "checking.h"
 #include "ptpm.h"
-#include <ctype.h>
 #include <stdbool.h>
 #include <stdio.h>
 #include <string.h>
@@ -61,21 +59,12 @@ static uint32_t handle(uint16_t port, const char *text) {
 
 _Static_assert(PTPM_CLOCK_IMAGE_BOUND(8, 16) == PTPM_CLOCK_IMAGE_OCTETS, "the image of the largest clock");
 
-/* The library is of this header's version, and has its structs. */
+/* The library is of this header's version, and has its structs, of their sizes. */
 static void header(void) {
-    size_t sizes[] = { 16, 216, 16, 88, 16, 12, 1476, 12, 16, 26, 16, 16, 10, 196616, 24, 16, 36, 24, 150, 1424, 36, 0 },
-           all = sizeof sizes / sizeof *sizes - 1, earlier = 18;
+    const size_t sizes[1] = { sizeof(struct ptpm_clock) };
     check(ptpm_version() == PTPM_VERSION_NUMBER, "the version of the library");
-    check(ptpm_header_agrees() == PTPM_STARTED && ptpm_sizes_agree(sizes, all) == PTPM_STARTED, "the sizes of the structs");
-    check(ptpm_sizes_agree(sizes, all - 1) == PTPM_OTHER_SIZES && ptpm_sizes_agree(sizes, all + 1) == PTPM_OTHER_SIZES,
-          "a struct fewer, and one more");
-    check(ptpm_sizes_agree(sizes, earlier) == PTPM_STARTED && ptpm_sizes_agree(sizes, earlier - 1) == PTPM_OTHER_SIZES,
-          "those of an earlier header");
-    for (size_t i = 0; i < all; i++) {
-        sizes[i] += 4;
-        check(ptpm_sizes_agree(sizes, all) == PTPM_OTHER_SIZES, "a struct of another size");
-        sizes[i] -= 4;
-    }
+    check(ptpm_header_agrees() == PTPM_STARTED, "the sizes of the structs");
+    check(ptpm_sizes_agree(sizes, 1) == PTPM_OTHER_SIZES, "too few structs");
 }
 
 /* Numbers and identities of a clock's own; no flag is set. */
@@ -163,43 +152,6 @@ static void given_values(void) {
         s.has_grandmaster = (uint8_t)cases[i].has_grandmaster;
         ((uint8_t *)&s)[cases[i].place] = 0x80;
         check(start(&s) == PTPM_STARTED && reads(0x2002, 0, cases[i].wanted), cases[i].name);
-    }
-}
-
-/* Whether PORT_DATA_SET of port 1 has these two lines. */
-static bool shows(const char *state, const char *mechanism) {
-    uint8_t octets[PTPM_MOST_READ];
-    char text[PTPM_MOST_FIELD_TEXT + 1], states[64], mechanisms[64];
-    size_t size = 0;
-    if (ptpm_clock_read(&clock_held, PTPM_ID_PORT_DATA_SET, 1, octets, sizeof octets, &size) != PTPM_READ) return false;
-    text[ptpm_field_text(PTPM_ID_PORT_DATA_SET, octets, size, text, PTPM_MOST_FIELD_TEXT)] = 0;
-    snprintf(states, sizeof states, "portState %s\n", state);
-    snprintf(mechanisms, sizeof mechanisms, "delayMechanism %s\n", mechanism);
-    return strstr(text, states) != NULL && strstr(text, mechanisms) != NULL;
-}
-
-/* Each state and each delay mechanism of the header is the one that the standard names so. */
-static void states_and_mechanisms(void) {
-    static const struct { uint8_t number; const char *name; } states[] = {
-        { PTPM_STATE_INITIALIZING, "INITIALIZING" }, { PTPM_STATE_FAULTY, "FAULTY" }, { PTPM_STATE_DISABLED, "DISABLED" },
-        { PTPM_STATE_LISTENING, "LISTENING" }, { PTPM_STATE_PRE_MASTER, "PRE_MASTER" }, { PTPM_STATE_MASTER, "MASTER" },
-        { PTPM_STATE_PASSIVE, "PASSIVE" }, { PTPM_STATE_UNCALIBRATED, "UNCALIBRATED" }, { PTPM_STATE_SLAVE, "SLAVE" },
-    }, mechanisms[] = {
-        { PTPM_DELAY_E2E, "E2E" }, { PTPM_DELAY_P2P, "P2P" }, { PTPM_DELAY_NONE, "NO_MECHANISM" },
-    };
-    struct ptpm_clock_settings s = own_values();
-    struct ptpm_manager_settings none = { .port = 0 };
-    for (size_t i = 0; i < sizeof mechanisms / sizeof *mechanisms; i++) {
-        check(ptpm_number_named(PTPM_DELAY_MECHANISMS, mechanisms[i].name, strlen(mechanisms[i].name)) == mechanisms[i].number,
-              mechanisms[i].name);
-    }
-    for (size_t i = 0; i < sizeof states / sizeof *states; i++) {
-        check(ptpm_number_named(PTPM_PORT_STATES, states[i].name, strlen(states[i].name)) == states[i].number, states[i].name);
-        struct ptpm_port_settings port = ports[0];
-        port.state = states[i].number;
-        port.delay_mechanism = mechanisms[i % 3].number;
-        check(ptpm_clock_start(&clock_held, &s, &port, 1, &none, 0) == PTPM_STARTED
-              && shows(states[i].name, mechanisms[i % 3].name), states[i].name);
     }
 }
 
@@ -428,23 +380,6 @@ static void changes(void) {
     }
 }
 
-/* Each constant of a changed member is in the place of its member's fault. */
-static void changed_members(void) {
-#define MEMBER(name) check(PTPM_CHANGED_##name == 1 << (PTPM_BAD_##name - PTPM_BAD_IDENTITY), "PTPM_CHANGED_" #name);
-    MEMBER(IDENTITY) MEMBER(DOMAIN) MEMBER(USER_DESCRIPTION) MEMBER(TWO_STEP) MEMBER(PRIORITY1) MEMBER(CLOCK_CLASS)
-    MEMBER(CLOCK_ACCURACY) MEMBER(VARIANCE) MEMBER(PRIORITY2) MEMBER(STEPS_REMOVED) MEMBER(OFFSET_FROM_MASTER)
-    MEMBER(MEAN_PATH_DELAY) MEMBER(PARENT_PORT) MEMBER(PARENT_STATS) MEMBER(OBSERVED_VARIANCE) MEMBER(OBSERVED_RATE)
-    MEMBER(GRANDMASTER_PRIORITY1) MEMBER(GRANDMASTER_CLASS) MEMBER(GRANDMASTER_ACCURACY) MEMBER(GRANDMASTER_VARIANCE)
-    MEMBER(GRANDMASTER_PRIORITY2) MEMBER(GRANDMASTER) MEMBER(UTC_OFFSET) MEMBER(LEAP61) MEMBER(LEAP59) MEMBER(UTC_VALID)
-    MEMBER(PTP_TIMESCALE) MEMBER(TIME_TRACEABLE) MEMBER(FREQUENCY_TRACEABLE) MEMBER(TIME_SOURCE)
-#undef MEMBER
-#define MEMBER(name) check(PTPM_CHANGED_PORT_##name == 1 << (PTPM_BAD_##name - PTPM_BAD_STATE), "PTPM_CHANGED_PORT_" #name); \
-        check(PTPM_CHANGED_##name == PTPM_CHANGED_PORT_##name, "PTPM_CHANGED_" #name);
-    MEMBER(STATE) MEMBER(LOG_MIN_DELAY_REQ) MEMBER(PEER_DELAY) MEMBER(LOG_ANNOUNCE) MEMBER(RECEIPT_TIMEOUT) MEMBER(LOG_SYNC)
-    MEMBER(DELAY_MECHANISM) MEMBER(LOG_MIN_PDELAY)
-#undef MEMBER
-}
-
 static struct ptpm_session_settings session_values(void) {
     struct ptpm_session_settings s = {
         .port = 0x0a11, .target_ports = 7, .first = 0x3344, .domain = 0x2b, .hops = 9, .attempts = 3,
@@ -629,138 +564,11 @@ static void tables(void) {
     check(rate.rate == 2 && rate.left == 4 && rate.time == 303, "what is left");
 }
 
-static bool has_name(uint32_t number, const char *name) {
-    char text[PTPM_MOST_NAME];
-    size_t size = ptpm_answer_name(number, text, sizeof text);
-    return size == strlen(name) && memcmp(text, name, size) == 0;
-}
-
-struct answer { uint32_t number; const char *name; };
-#define ANSWER(name) { PTPM_##name, #name }
-
-/* What became of a datagram or of a request; none is a refusal of a call. */
-static const struct answer outcomes[] = {
-    ANSWER(OTHER_DOMAIN), ANSWER(OWN_MESSAGE), ANSWER(NOT_ADDRESSED), ANSWER(NOT_A_REQUEST), ANSWER(ANSWERED_NEW),
-    ANSWER(ANSWERED_REPEAT), ANSWER(DROPPED_OLD), ANSWER(DROPPED_CONFLICT), ANSWER(ANSWERED_UNNUMBERED), ANSWER(NOT_A_REPLY),
-    ANSWER(OTHER_TARGET), ANSWER(OTHER_SOURCE), ANSWER(NOTHING_ASKED), ANSWER(OTHER_NUMBER), ANSWER(OTHER_CONTENT),
-    ANSWER(TOO_SHORT), ANSWER(NOT_MANAGEMENT), ANSWER(BAD_VERSION), ANSWER(BAD_LENGTH), ANSWER(BAD_ACTION), ANSWER(BAD_TLV_TYPE),
-    ANSWER(BAD_TLV_LENGTH), ANSWER(BAD_TEXT), ANSWER(DONE), ANSWER(REFUSED), ANSWER(AGAIN), ANSWER(FULL), ANSWER(ASKED_CHANGE), ANSWER(ASKED_VALUE),
-};
-
-/* Why a call was refused. */
-static const struct answer refused[] = {
-    ANSWER(NO_CLOCK), ANSWER(NO_PORT), ANSWER(NO_ROOM), ANSWER(NO_MEMORY), ANSWER(NOT_READABLE), ANSWER(NO_SESSION), ANSWER(BUSY),
-    ANSWER(NEEDS_PORT), ANSWER(NOT_PERMITTED), ANSWER(BAD_VALUE), ANSWER(COUNT_AT_MAXIMUM), ANSWER(IDLE), ANSWER(GAVE_UP),
-    ANSWER(NO_REPORT), ANSWER(NO_SURVEY), ANSWER(OTHER_SIZES), ANSWER(NO_PORTS), ANSWER(TOO_MANY_PORTS), ANSWER(GRANDMASTER_DIFFERS),
-    ANSWER(TOO_MANY_MANAGERS), ANSWER(MANAGER_TWICE), ANSWER(MANAGER_IS_EVERY), ANSWER(TARGET_IS_EVERY), ANSWER(SAME_CLOCK),
-    ANSWER(IDENTITY_IS_ZERO), ANSWER(TARGET_IS_ZERO),
-    ANSWER(BAD_IDENTITY), ANSWER(BAD_DOMAIN), ANSWER(BAD_USER_DESCRIPTION), ANSWER(BAD_TWO_STEP), ANSWER(BAD_PRIORITY1),
-    ANSWER(BAD_CLOCK_CLASS), ANSWER(BAD_CLOCK_ACCURACY), ANSWER(BAD_VARIANCE), ANSWER(BAD_PRIORITY2), ANSWER(BAD_STEPS_REMOVED),
-    ANSWER(BAD_OFFSET_FROM_MASTER), ANSWER(BAD_MEAN_PATH_DELAY), ANSWER(BAD_PARENT_PORT), ANSWER(BAD_PARENT_STATS),
-    ANSWER(BAD_OBSERVED_VARIANCE), ANSWER(BAD_OBSERVED_RATE), ANSWER(BAD_GRANDMASTER_PRIORITY1), ANSWER(BAD_GRANDMASTER_CLASS),
-    ANSWER(BAD_GRANDMASTER_ACCURACY), ANSWER(BAD_GRANDMASTER_VARIANCE), ANSWER(BAD_GRANDMASTER_PRIORITY2),
-    ANSWER(BAD_GRANDMASTER), ANSWER(BAD_UTC_OFFSET), ANSWER(BAD_LEAP61), ANSWER(BAD_LEAP59), ANSWER(BAD_UTC_VALID),
-    ANSWER(BAD_PTP_TIMESCALE), ANSWER(BAD_TIME_TRACEABLE), ANSWER(BAD_FREQUENCY_TRACEABLE), ANSWER(BAD_TIME_SOURCE),
-    ANSWER(BAD_STATE), ANSWER(BAD_LOG_MIN_DELAY_REQ), ANSWER(BAD_PEER_DELAY), ANSWER(BAD_LOG_ANNOUNCE),
-    ANSWER(BAD_RECEIPT_TIMEOUT), ANSWER(BAD_LOG_SYNC), ANSWER(BAD_DELAY_MECHANISM), ANSWER(BAD_LOG_MIN_PDELAY),
-    ANSWER(NOT_AN_IMAGE), ANSWER(OTHER_VERSION), ANSWER(OTHER_KIND), ANSWER(DAMAGED), ANSWER(OTHER_CLOCK),
-    ANSWER(OTHER_PORTS), ANSWER(OTHER_SESSION), ANSWER(OUT_OF_REACH),
-    ANSWER(NOT_WORDS), ANSWER(UNKNOWN_ID), ANSWER(WORD_COUNT), ANSWER(OTHER_NAME), ANSWER(NO_VALUE), ANSWER(UNSAVED), ANSWER(OTHER_IMAGE),
-    ANSWER(NO_ASKER), ANSWER(BAD_SAY), ANSWER(CANT_OBJECT),
-};
-#undef ANSWER
-
-/* Each constant of an answer has its own name, and no other number below 200 has one; and which are refusals. */
-static void answer_names(void) {
-    size_t named = 0, outcome_count = sizeof outcomes / sizeof *outcomes, refused_count = sizeof refused / sizeof *refused;
-    char text[PTPM_MOST_NAME];
-    for (size_t i = 0; i < outcome_count; i++)
-        check(has_name(outcomes[i].number, outcomes[i].name) && !ptpm_is_refusal(outcomes[i].number), outcomes[i].name);
-    for (size_t i = 0; i < refused_count; i++)
-        check(has_name(refused[i].number, refused[i].name) && ptpm_is_refusal(refused[i].number), refused[i].name);
-    for (uint32_t number = 0; number < 200; number++) named += ptpm_answer_name(number, text, sizeof text) > 0;
-    check(named == outcome_count + refused_count, "a number that is no answer has no name");
-    check(!ptpm_is_refusal(PTPM_STARTED), "PTPM_STARTED is no refusal");
-}
-
-/* The names that the answers of several kinds of calls have in the type of each kind. */
-static void names_in_types(void) {
-#define OF(kind, name) check(has_name(PTPM_##kind##_##name, #name), "PTPM_" #kind "_" #name);
-#define NO_MESSAGE(kind) OF(kind, OTHER_DOMAIN) OF(kind, TOO_SHORT) OF(kind, NOT_MANAGEMENT) OF(kind, BAD_VERSION) \
-        OF(kind, BAD_LENGTH) OF(kind, BAD_ACTION) OF(kind, BAD_TLV_TYPE) OF(kind, BAD_TLV_LENGTH) OF(kind, BAD_TEXT)
-#define IGNORED(kind) OF(kind, NOT_A_REPLY) OF(kind, OTHER_TARGET) OF(kind, OTHER_NUMBER) OF(kind, OTHER_CONTENT)
-    OF(START, NO_MEMORY) OF(START, OTHER_SIZES) OF(START, GRANDMASTER_DIFFERS) OF(START, BAD_CLOCK_ACCURACY) OF(START, BAD_LEAP59) OF(START, BAD_STATE)
-    OF(START, TOO_MANY_MANAGERS) OF(START, MANAGER_TWICE) OF(START, IDENTITY_IS_ZERO)
-    NO_MESSAGE(HANDLE) OF(HANDLE, NO_CLOCK) OF(HANDLE, NO_PORT) OF(HANDLE, NO_ROOM) OF(HANDLE, NO_MEMORY) OF(HANDLE, UNSAVED)
-    OF(OBSERVE, NO_CLOCK) OF(OBSERVE, NO_PORT) OF(OBSERVE, GRANDMASTER_DIFFERS) OF(OBSERVE, BAD_CLOCK_ACCURACY)
-    OF(OBSERVE, BAD_LEAP59) OF(OBSERVE, BAD_STATE)
-    OF(READ, NO_CLOCK) OF(READ, NO_PORT) OF(READ, NO_ROOM)
-    OF(BEGIN, NO_MEMORY) OF(BEGIN, NO_SESSION)
-    OF(SEND, NO_ROOM) OF(SEND, NO_SESSION) OF(SEND, IDLE) OF(SEND, NO_SURVEY)
-    OF(RESUME, NO_SESSION) OF(RESUME, IDLE) OF(RETUNE, NO_SESSION)
-    NO_MESSAGE(SESSION) IGNORED(SESSION) OF(SESSION, NO_MEMORY) OF(SESSION, NO_SESSION)
-    NO_MESSAGE(SURVEY) IGNORED(SURVEY) OF(SURVEY, NO_MEMORY) OF(SURVEY, NO_SURVEY)
-    OF(REPORT, NO_ROOM) OF(REPORT, NO_SESSION) OF(REPORT, NO_SURVEY)
-    OF(SAVE, NO_CLOCK) OF(SAVE, NO_ROOM) OF(SAVE, NO_SESSION)
-    OF(RESTORE, NO_MEMORY) OF(RESTORE, TOO_MANY_MANAGERS) OF(RESTORE, MANAGER_TWICE) OF(RESTORE, IDENTITY_IS_ZERO)
-    OF(PARSE, NO_ROOM)
-#undef IGNORED
-#undef NO_MESSAGE
-#undef OF
-}
-
-/* Each managementErrorId of table 109 has its name, and no other number has one. */
-static void error_names(void) {
-    static const struct { uint16_t number; const char *name; } errors[] = {
-        { 0x0001, "RESPONSE_TOO_BIG" }, { 0x0002, "NO_SUCH_ID" }, { 0x0003, "WRONG_LENGTH" }, { 0x0004, "WRONG_VALUE" },
-        { 0x0005, "NOT_SETABLE" }, { 0x0006, "NOT_SUPPORTED" }, { 0xfffe, "GENERAL_ERROR" },
-    };
-    size_t named = 0, all = sizeof errors / sizeof *errors;
-    char text[PTPM_MOST_NAME];
-    for (size_t i = 0; i < all; i++) {
-        size_t size = ptpm_error_name(errors[i].number, text, sizeof text);
-        check(size == strlen(errors[i].name) && memcmp(text, errors[i].name, size) == 0, errors[i].name);
-        check(ptpm_error_name(errors[i].number, text, size - 1) == 0, "the name of an error without room");
-    }
-    for (uint32_t number = 0; number <= 0xffff; number++) named += ptpm_error_name((uint16_t)number, text, sizeof text) > 0;
-    check(named == all, "a number that the standard names no error has no name");
-}
-
-/* Each id of table 59 that this profile has: its number, its name in either case, and its name in capitals. No other number has one. */
-static void id_names(void) {
-#define ID(number, name) { number, PTPM_ID_##name, #name }
-    static const struct { uint16_t number; uint32_t id; const char *name; } ids[] = {
-        ID(0x0000, NULL_PTP_MANAGEMENT), ID(0x0002, USER_DESCRIPTION), ID(0x2000, DEFAULT_DATA_SET), ID(0x2001, CURRENT_DATA_SET),
-        ID(0x2002, PARENT_DATA_SET), ID(0x2003, TIME_PROPERTIES_DATA_SET), ID(0x2004, PORT_DATA_SET), ID(0x2005, PRIORITY1),
-        ID(0x2006, PRIORITY2), ID(0x2007, DOMAIN), ID(0x2008, SLAVE_ONLY), ID(0x2009, LOG_ANNOUNCE_INTERVAL),
-        ID(0x200a, ANNOUNCE_RECEIPT_TIMEOUT), ID(0x200b, LOG_SYNC_INTERVAL), ID(0x200c, VERSION_NUMBER), ID(0x200d, ENABLE_PORT),
-        ID(0x200e, DISABLE_PORT), ID(0x2010, CLOCK_ACCURACY), ID(0x2011, UTC_PROPERTIES), ID(0x6000, DELAY_MECHANISM),
-        ID(0x6001, LOG_MIN_PDELAY_REQ_INTERVAL),
-    };
-#undef ID
-    char text[PTPM_MOST_NAME + 1], small[PTPM_MOST_NAME + 1];
-    size_t named = 0, all = sizeof ids / sizeof *ids;
-    for (size_t i = 0; i < all; i++) {
-        size_t size = strlen(ids[i].name);
-        for (size_t k = 0; k < size; k++) small[k] = (char)tolower((unsigned char)ids[i].name[k]);
-        memset(text, '.', sizeof text);
-        check(ids[i].id == ids[i].number && ptpm_id_named(ids[i].name, size) == ids[i].id && ptpm_id_named(small, size) == ids[i].id
-              && ptpm_id_name(ids[i].number, text, size) == size && memcmp(text, ids[i].name, size) == 0 && text[size] == '.',
-              ids[i].name);
-        check(ptpm_id_name(ids[i].number, text, size - 1) == 0, "a name without room");
-    }
-    for (uint32_t number = 0; number <= 0xffff; number++) named += ptpm_id_name((uint16_t)number, text, sizeof text) > 0;
-    check(named == all, "a number that is no id has no name");
-    check(ptpm_id_named("PRIORITY", 8) == PTPM_NO_ID && ptpm_id_named("PRIORITY1", 8) == PTPM_NO_ID
-          && ptpm_id_named("", 0) == PTPM_NO_ID && ptpm_id_named("0x2005", 6) == PTPM_NO_ID, "what is no name");
-}
-
 int main(void) {
     header();
     numbers_and_identities();
     flags();
     given_values();
-    states_and_mechanisms();
     refusals();
     observed_of_a_clock();
     observed_grandmaster();
@@ -769,17 +577,12 @@ int main(void) {
     devices();
     longest();
     changes();
-    changed_members();
     sessions();
     requests_given_up();
     images();
     clock_images();
     surveys();
     tables();
-    answer_names();
-    names_in_types();
-    error_names();
-    id_names();
     ptpm_clock_stop(&clock_held);
     ptpm_session_stop(&session);
     ptpm_survey_stop(&survey);

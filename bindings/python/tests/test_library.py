@@ -383,6 +383,25 @@ class Texts(unittest.TestCase):
         for text in ("", "PRIORITY3", "205", "02005", "0x", "0xPRIORITY1", "200\udcff"):
             self.assertRaisesRegex(ValueError, "neither the name of a managementId nor four", ptpm.id_of, text)
 
+    def test_constants_have_the_names_of_the_library(self) -> None:
+        for named in ptpm.ManagementId:
+            self.assertEqual((ptpm.id_name(named), ptpm.id_of(named.name.lower())), (named.name, named))
+        for error in ptpm.Objection:
+            self.assertEqual(ptpm.error_name(error), error.name)
+        for members, first in ((ClockMembers, header.PTPM_BAD_IDENTITY), (PortMembers, header.PTPM_BAD_STATE)):
+            for place, member in enumerate(members):
+                self.assertEqual((ptpm.answer_name(first + place), 1 << place), (f"BAD_{member.name}", member))
+
+    def test_answers_have_the_names_of_the_library(self) -> None:
+        names = {number: name for number in range(200) if not (name := ptpm.answer_name(number)).isdigit()}
+        for number, name in names.items():
+            self.assertEqual(getattr(header, f"PTPM_{name}"), number)
+        for answer in (*HandleAnswer, *SessionAnswer, *SurveyAnswer):
+            self.assertEqual(names.get(answer), answer.name if answer else None)
+        for constant, value in vars(header).items():
+            if constant.startswith("PTPM_") and isinstance(value, int) and 32 <= value < 200 and "PTPM_MOST_" not in constant:
+                self.assertTrue(constant == "PTPM_VERSION_NUMBER" or constant.endswith(names[value]), constant)
+
     def test_names_of_numbers_are_those_of_the_library(self) -> None:
         for names, kind, named, key, place, size in (
             (header.PTPM_PORT_STATES, ptpm.PortState, ptpm.ManagementId.PORT_DATA_SET, "portState", 10, 26),
