@@ -1,6 +1,5 @@
-"""The header ptpm.h as it is, by its names: its constants, its structs, in CALLS what a call answers and takes, and in STRUCTS the
-structs whose sizes the library compares. The header says what each of them is, and what a caller has to do. Some of its enums
-are classes, of which the package makes the names public."""
+"""The header ptpm.h as it is: its constants, its structs and its calls, by its names. The header says what each of them is, and
+what a caller has to do. Some of its enums are classes here. The library compares the sizes of the STRUCTS with its own."""
 
 import sys
 from ctypes import POINTER, Structure, c_bool, c_char, c_char_p, c_int8, c_int16, c_int32, c_int64

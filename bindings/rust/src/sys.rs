@@ -201,28 +201,30 @@ pub const PTPM_MOST_TAKES: usize = 69;
 pub struct ptpm_clock { pub at: *mut c_void, pub live: bool, pub restored: u8 }
 #[repr(C)] #[derive(Clone, Copy)]
 pub struct ptpm_clock_settings { pub offset_from_master: i64, pub mean_path_delay: i64, pub observed_rate: i32, pub variance: u16,
-    pub steps_removed: u16, pub observed_variance: u16, pub grandmaster_variance: u16, pub parent_port_number: u16,
-    pub utc_offset: i16, pub identity: [u8; 8], pub parent_port_clock: [u8; 8], pub grandmaster: [u8; 8], pub domain: u8,
-    pub two_step: u8, pub priority1: u8, pub clock_class: u8, pub clock_accuracy: u8, pub priority2: u8, pub parent_stats: u8,
-    pub grandmaster_priority1: u8, pub grandmaster_class: u8, pub grandmaster_accuracy: u8, pub grandmaster_priority2: u8,
-    pub leap61: u8, pub leap59: u8, pub utc_valid: u8, pub ptp_timescale: u8, pub time_traceable: u8, pub frequency_traceable: u8,
-    pub time_source: u8, pub has_parent_port: u8, pub has_grandmaster: u8, pub has_grandmaster_priority1: u8,
-    pub has_grandmaster_class: u8, pub has_grandmaster_accuracy: u8, pub has_grandmaster_variance: u8,
-    pub has_grandmaster_priority2: u8, pub user_description_size: u8, pub user_description: [u8; 129] }
+        pub steps_removed: u16, pub observed_variance: u16, pub grandmaster_variance: u16, pub parent_port_number: u16,
+        pub utc_offset: i16, pub identity: [u8; 8], pub parent_port_clock: [u8; 8], pub grandmaster: [u8; 8], pub domain: u8,
+        pub two_step: u8, pub priority1: u8, pub clock_class: u8, pub clock_accuracy: u8, pub priority2: u8, pub parent_stats: u8,
+        pub grandmaster_priority1: u8, pub grandmaster_class: u8, pub grandmaster_accuracy: u8, pub grandmaster_priority2: u8,
+        pub leap61: u8, pub leap59: u8, pub utc_valid: u8, pub ptp_timescale: u8, pub time_traceable: u8,
+        pub frequency_traceable: u8, pub time_source: u8, pub has_parent_port: u8, pub has_grandmaster: u8,
+        pub has_grandmaster_priority1: u8, pub has_grandmaster_class: u8, pub has_grandmaster_accuracy: u8,
+        pub has_grandmaster_variance: u8, pub has_grandmaster_priority2: u8, pub user_description_size: u8,
+        pub user_description: [u8; 129] }
 #[repr(C)] #[derive(Clone, Copy)]
 pub struct ptpm_port_settings { pub peer_delay: i64, pub state: u8, pub log_min_delay_req: i8, pub log_announce: i8,
-    pub receipt_timeout: u8, pub log_sync: i8, pub delay_mechanism: u8, pub log_min_pdelay: i8 }
+        pub receipt_timeout: u8, pub log_sync: i8, pub delay_mechanism: u8, pub log_min_pdelay: i8 }
 #[repr(C)] #[derive(Clone, Copy)]
 pub struct ptpm_observed_clock { pub offset_from_master: i64, pub mean_path_delay: i64, pub observed_rate: i32, pub variance: u16,
-    pub steps_removed: u16, pub observed_variance: u16, pub grandmaster_variance: u16, pub parent_port_number: u16,
-    pub utc_offset: i16, pub parent_port_clock: [u8; 8], pub grandmaster: [u8; 8], pub clock_class: u8, pub clock_accuracy: u8,
-    pub parent_stats: u8, pub grandmaster_priority1: u8, pub grandmaster_class: u8, pub grandmaster_accuracy: u8,
-    pub grandmaster_priority2: u8, pub leap61: u8, pub leap59: u8, pub utc_valid: u8, pub ptp_timescale: u8,
-    pub time_traceable: u8, pub frequency_traceable: u8, pub time_source: u8, pub has_clock_class: u8, pub has_clock_accuracy: u8,
-    pub has_variance: u8, pub has_steps_removed: u8, pub has_offset_from_master: u8, pub has_mean_path_delay: u8,
-    pub has_parent_stats: u8, pub has_observed_variance: u8, pub has_observed_rate: u8, pub is_grandmaster: u8,
-    pub has_grandmaster: u8, pub has_utc_offset: u8, pub has_leap61: u8, pub has_leap59: u8, pub has_utc_valid: u8,
-    pub has_ptp_timescale: u8, pub has_time_traceable: u8, pub has_frequency_traceable: u8, pub has_time_source: u8 }
+        pub steps_removed: u16, pub observed_variance: u16, pub grandmaster_variance: u16, pub parent_port_number: u16,
+        pub utc_offset: i16, pub parent_port_clock: [u8; 8], pub grandmaster: [u8; 8], pub clock_class: u8,
+        pub clock_accuracy: u8, pub parent_stats: u8, pub grandmaster_priority1: u8, pub grandmaster_class: u8,
+        pub grandmaster_accuracy: u8, pub grandmaster_priority2: u8, pub leap61: u8, pub leap59: u8, pub utc_valid: u8,
+        pub ptp_timescale: u8, pub time_traceable: u8, pub frequency_traceable: u8, pub time_source: u8, pub has_clock_class: u8,
+        pub has_clock_accuracy: u8, pub has_variance: u8, pub has_steps_removed: u8, pub has_offset_from_master: u8,
+        pub has_mean_path_delay: u8, pub has_parent_stats: u8, pub has_observed_variance: u8, pub has_observed_rate: u8,
+        pub is_grandmaster: u8, pub has_grandmaster: u8, pub has_utc_offset: u8, pub has_leap61: u8, pub has_leap59: u8,
+        pub has_utc_valid: u8, pub has_ptp_timescale: u8, pub has_time_traceable: u8, pub has_frequency_traceable: u8,
+        pub has_time_source: u8 }
 #[repr(C)] #[derive(Clone, Copy)]
 pub struct ptpm_observed_port { pub peer_delay: i64, pub state: u8, pub has_state: u8, pub has_peer_delay: u8 }
 #[repr(C)] #[derive(Clone, Copy)]
@@ -233,7 +235,7 @@ pub struct ptpm_sent { pub port: u16, pub size: u16, pub octets: [u8; 1472] }
 pub struct ptpm_changed { pub clock: u32, pub ports: [u8; 8] }
 #[repr(C)] #[derive(Clone, Copy)]
 pub struct ptpm_question { pub manager: [u8; 8], pub manager_port: u16, pub number: u16, pub id: u16, pub port: u16,
-    pub size: u16, pub action: u8, pub octets: [u8; 130] }
+        pub size: u16, pub action: u8, pub octets: [u8; 130] }
 #[repr(C)] #[derive(Clone, Copy)]
 pub struct ptpm_say { pub error: u16, pub size: u16, pub kind: u8, pub octets: [u8; 1418] }
 #[repr(C)] #[derive(Clone, Copy)]
@@ -242,7 +244,7 @@ pub struct ptpm_limit { pub id: u16, pub port: u16, pub values: [u8; 32] }
 pub struct ptpm_session { pub at: *mut c_void, pub live: bool, pub restored: u8 }
 #[repr(C)] #[derive(Clone, Copy)]
 pub struct ptpm_session_settings { pub port: u16, pub target_ports: u16, pub first: u16, pub clock: [u8; 8], pub target: [u8; 8],
-    pub domain: u8, pub hops: u8, pub attempts: u8 }
+        pub domain: u8, pub hops: u8, pub attempts: u8 }
 #[repr(C)]
 pub struct ptpm_survey { pub at: *mut c_void, pub live: bool, pub restored: u8 }
 #[repr(C)] #[derive(Clone, Copy)]
@@ -253,7 +255,7 @@ pub struct ptpm_asker { pub at: *mut c_void, pub live: bool, pub restored: u8 }
 pub struct ptpm_asker_settings { pub session: ptpm_session_settings, pub nobody: u16, pub timeout: u32, pub wait: u32 }
 #[repr(C)] #[derive(Clone, Copy)]
 pub struct ptpm_handed { pub tag: u64, pub time: u64, pub what: u32, pub number: u16, pub was_sent: bool,
-    pub is_read_answered: bool }
+        pub is_read_answered: bool }
 #[repr(C)] #[derive(Clone, Copy)]
 pub struct ptpm_source { pub clock: [u8; 8], pub port: u16 }
 #[repr(C)] #[derive(Clone, Copy)]
