@@ -1,7 +1,6 @@
 # shellcheck shell=bash disable=SC2034,SC2086,SC2154
-# The header against the library; clocks, sessions and surveys that are started, used and stopped; and what an installation leaves.
+# Clocks, sessions and surveys that are started, used and stopped; and what an installation leaves.
 
-counts ./layout
 counts ./units
 counts ./blocks
 counts tests/put
