@@ -1,10 +1,9 @@
 -- The first fault of a script, line by line.
-use Rattle.ptpm_world.proofs.Common.{◌≡◌, ℕ, ◌<◌, ◌≤◌, List, [], ◌∷◌, Bool, true, false, None, Some, Ok, Err, refl, sym, ap, subst, ◌∙◌, arith, IfErr, IfOk, IsErrAnd, OnSome, Option, Result, nat_lt, Consumes, IsAtEnd, cond-false, cond-true, lt-ltb, whole_lines, HasNextFault, ReadsWhole, is_of_writing, is_outside, next_fault, size_fault}
+use Rattle.ptpm_world.proofs.Common.{◌≡◌, ℕ, ◌<◌, ◌≤◌, List, [], ◌∷◌, Bool, true, false, None, Some, Ok, Err, refl, sym, ap, subst, ◌∙◌, arith, IfErr, IfOk, IsErrAnd, Option, Result, nat_lt, cond-false, cond-true, lt-ltb, whole_lines, HasNextFault, ReadsWhole, is_of_writing, is_outside, next_fault, size_fault}
 use Rattle.std.proofs.lemmas.Bool.Decides.{nat_tests}
 use Rattle.ptpm_world.specs.declared.script_error.ScriptError.{ScriptError}
 use Rattle.ptpm_world.specs.declared.script_error.ScriptError.TheVariants as faults
 use Rattle.ptpm_text.specs.Lines.{LeavesLong, ReadsNext, begins_long, is_long}
-use Rattle.ptpm_text.proofs.NextLine.{some-whole}
 
 -- what fails outside the script is none of its faults
 pub outside : {P : Type 0} (e : ScriptError) → is_outside e ≡ true → is_outside e ≡ false → P
@@ -69,20 +68,27 @@ fault-long n None b h few = tt
 fault-long n (Some xs) None h few = absurd h
 fault-long n (Some xs) (Some ys) h few = ap (next_fault n) h.1.0 ∙ size_long n h.0.1 few h.1.1
 
-pub whole-none : (n : ℕ) (a b : Option (List ℕ)) (line : List ℕ)
-    → Consumes a b []
-    → OnSome a (IsAtEnd b)
-    → ReadsWhole n a false line b
-whole-none n None b line h e = tt
-whole-none n (Some xs) None line h e = absurd h
-whole-none n (Some xs) (Some ys) line h e =
-    (ap (λ o. next_fault n (whole_lines o)) (h ∙ e), (ap whole_lines (h ∙ e), ap whole_lines e))
+-- ---- past the last line that may be
 
-pub fault-many : (n : ℕ) (a b : Option (List ℕ)) (first : ℕ)
-    → Consumes a b (first ∷ [])
+pub whole_none : (n : ℕ) (a b : Option (List ℕ)) (line : List ℕ)
+    → ReadsNext a false line b
+    → ReadsWhole n a false line b
+whole_none n None b line h = tt
+whole_none n (Some xs) None line h = absurd h
+whole_none n (Some xs) (Some ys) line h = (ap (next_fault n) h.1.0, h.1)
+
+pub next_many : (n : ℕ) (a b : Option (List ℕ)) (line : List ℕ)
+    → ReadsNext a true line b
     → 2000000 < n
     → HasNextFault n a faults.TooManyLines
-fault-many n None b first h many = tt
-fault-many n (Some xs) None first h many = absurd h
-fault-many n (Some xs) (Some ys) first h many =
-    let w = some-whole first ys in grind (arith, size_many)
+next_many n None b line h many = tt
+next_many n (Some xs) None line h many = absurd h
+next_many n (Some xs) (Some ys) line h many = ap (next_fault n) h.1.1 ∙ size_many n h.1.0 many
+
+pub long_many : (n : ℕ) (a b : Option (List ℕ))
+    → LeavesLong a b
+    → 2000000 < n
+    → HasNextFault n a faults.TooManyLines
+long_many n None b h many = tt
+long_many n (Some xs) None h many = absurd h
+long_many n (Some xs) (Some ys) h many = ap (next_fault n) h.1.0 ∙ size_many n h.0.1 many

@@ -54,11 +54,7 @@ impl<R: Read + Drop> Lines<R> {
         ensures reading { IfErr result (λ e. is_of_reading e ≡ true) }
     {
         if self.count == SCRIPT_LINES {
-            return match self.reader.read_octet() {
-                Ok(None) => Ok(false),
-                Ok(Some(_)) => Err(ScriptError::TooManyLines),
-                Err(_) => Err(ScriptError::ReadFault),
-            };
+            return self.read_past_the_last();
         }
         match self.reader.read() {
             Ok(true) => {
@@ -67,6 +63,30 @@ impl<R: Read + Drop> Lines<R> {
             }
             Ok(false) => Ok(false),
             Err(LineReadError::TooLong) => Err(ScriptError::LineTooLong(self.count + 1)),
+            Err(LineReadError::ReadFault) => Err(ScriptError::ReadFault),
+            Err(LineReadError::OutOfMemory) => Err(ScriptError::OutOfMemory),
+        }
+    }
+
+    /// What `read` does after the last line that a script may have: a further line is one too many.
+    #[tactic(auto, using(crate::proofs::FaultLemmas::whole_none, crate::proofs::FaultLemmas::next_many, crate::proofs::FaultLemmas::long_many))]
+    fn read_past_the_last(&mut self) -> Result<bool, ScriptError>
+        requires full { self.old.count ≡ 2000000 }
+        ensures same { self.new.count ≡ self.old.count }
+        ensures none { IfOk result (λ more. more ≡ false) }
+        ensures whole { IfOk result
+            (λ more.
+            ReadsWhole (line_count self.old + 1) (left_in R.remaining self.old) more
+            (latest_line self.new) (left_in R.remaining self.new)) }
+        ensures fault { IfErr result
+            (λ e.
+            is_outside e ≡ false
+            → HasNextFault (line_count self.old + 1) (left_in R.remaining self.old) e) }
+        ensures reading { IfErr result (λ e. is_of_reading e ≡ true) }
+    {
+        match self.reader.read() {
+            Ok(false) => Ok(false),
+            Ok(true) | Err(LineReadError::TooLong) => Err(ScriptError::TooManyLines),
             Err(LineReadError::ReadFault) => Err(ScriptError::ReadFault),
             Err(LineReadError::OutOfMemory) => Err(ScriptError::OutOfMemory),
         }
