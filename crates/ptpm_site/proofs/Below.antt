@@ -54,16 +54,6 @@ AreBelow-push follows rows r h one k d lt = ⊎_elim
 pub AreBelow-none : (follows : ℕ → TreeRow → Type 0) → AreBelow follows []
 AreBelow-none follows k d lt = absurd (omega arith)
 
--- ---- the same by another relation
-
-StandsBelow-weaker : (f g : ℕ → TreeRow → Type 0) (rows : List TreeRow) → ((p : ℕ) (r : TreeRow) → f p r → g p r) → (r : TreeRow) → StandsBelow f rows r → StandsBelow g rows r
-StandsBelow-weaker f g rows weaker (row.Clock place depth) h =
-    ⊎_elim (λ root. inl root) (λ (above, is, followed). inr (above, is, weaker place above followed)) h
-StandsBelow-weaker f g rows weaker (row.NotSeen domain parent) h = h
-
-pub AreBelow-weaker : (f g : ℕ → TreeRow → Type 0) (rows : List TreeRow) → ((p : ℕ) (r : TreeRow) → f p r → g p r) → AreBelow f rows → AreBelow g rows
-AreBelow-weaker f g rows weaker h k d lt = StandsBelow-weaker f g (take k rows) weaker (get_or rows k d) (h k d lt)
-
 -- ---- what waits
 
 -- numbers that do not fall, and then one that none of them is above

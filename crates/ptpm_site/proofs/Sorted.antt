@@ -4,16 +4,12 @@ use Rattle.std.proofs.lemmas.Bool.{cases_lt, false≢true, lt-ltb}
 use Rattle.std.proofs.lemmas.List.Sorted.{IsNonDecreasingBy-from_all_adjacent}
 use Rattle.std.specs.declared.cmp.Ordering.{Ordering}
 use Rattle.std.specs.declared.cmp.Ordering.TheVariants.{Less, Equal, Greater}
-use Rattle.std.specs.Cmp.Lexicographic.{slice_cmp}
-use Rattle.std.specs.List.Sorted.{IsNonDecreasingBy, IsSorted, IsStrictlySortedBy}
+use Rattle.std.specs.List.Sorted.{IsNonDecreasingBy, IsSorted}
 use Rattle.std.specs.Ordering.{is_lt, nat_cmp, ordering_then}
 use Rattle.ptpm_codec.specs.Identity.{identity_cmp}
 use Rattle.ptpm_site.specs.declared.forest.Follower.{Follower}
 use Rattle.ptpm_site.specs.declared.forest.Lost.{Lost}
-use Rattle.ptpm_site.specs.declared.source.Source.{Source}
-use Rattle.ptpm_site.specs.Answers.{source_cmp}
-use Rattle.ptpm_site.specs.Forest.{AreByDomain, AreSourcesByDomain}
-use Rattle.ptpm_site.proofs.Placing.{rising}
+use Rattle.ptpm_site.specs.Forest.{AreByDomain}
 
 first_not_less : (a b : ℕ) (rest : Ordering) → is_lt (ordering_then (nat_cmp a b) rest) ≡ false → b ≤ a
 first_not_less a b rest h = ⊎_elim
@@ -40,6 +36,3 @@ by_above xs h = by_first (λ (f : Follower). f.above) (λ a b. ordering_then (na
 
 pub by_domain : (xs : List Lost) → IsSorted lost_cmp xs → AreByDomain xs
 by_domain xs h = by_first (λ (l : Lost). l.domain.0) (λ a b. ordering_then (identity_cmp a.parent b.parent) (nat_cmp a.place b.place)) xs h
-
-pub sources_by_domain : (xs : List Source) → IsStrictlySortedBy source_cmp xs → AreSourcesByDomain xs
-sources_by_domain xs h = by_first (λ (s : Source). s.domain.0) (λ a b. slice_cmp nat_cmp a.clock.0 b.clock.0) xs (rising xs h)

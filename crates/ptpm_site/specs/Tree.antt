@@ -1,12 +1,8 @@
 -- The rows of the tree: each clock has exactly one, at depth 0 or below the row of what it follows.
-use Rattle.std.specs.Prelude.{◌≡◌, ℕ, ◌+◌, ◌==◌, ◌<◌, ◌≤◌, ◌⊎◌, Bool, true, false, List, ◌∷◌, ◌++◌, length, map, take, Option, Some, None, if◌then◌else◌, is_some, slice_index_or, count_by}
+use Rattle.std.specs.Prelude.{◌≡◌, ℕ, ◌+◌, ◌==◌, ◌<◌, ◌≤◌, ◌⊎◌, Bool, true, false, List, ◌∷◌, ◌++◌, length, take, Option, Some, None, if◌then◌else◌, slice_index_or, count_by}
 use Rattle.std.specs.List.{All, filter_map}
-use Rattle.ptpm_site.specs.declared.source.Source.{Source}
 use Rattle.ptpm_site.specs.declared.tree.TreeRow.{TreeRow}
 use Rattle.ptpm_site.specs.declared.tree.TreeRow.TheVariants as row
-use Rattle.ptpm_site.specs.Following.{followed, parent_clock}
-use Rattle.ptpm_site.specs.Loops.{loop_of}
-use Rattle.ptpm_site.specs.SiteAnswers.{SiteAnswers}
 
 -- the clock of a row, by its place; a row that names a port has none
 abbrev pub place_of : TreeRow → Option ℕ
@@ -47,35 +43,6 @@ StandsBelow follows rows (row.NotSeen domain parent) = Unit {0}
 -- each row after those before it
 abbrev pub AreBelow : (ℕ → TreeRow → Type 0) → List TreeRow → Type 0
 AreBelow follows rows = (k : ℕ) (d : TreeRow) → k < length rows → StandsBelow follows (take k rows) (slice_index_or rows k d)
-
--- a row is of what the clock at a place follows: of the clock, or of its port, if that clock is not seen
-abbrev pub IsFollowed : SiteAnswers → ℕ → TreeRow → Type 0
-IsFollowed site place (row.Clock above depth) = (place < length site.clocks) × (above < length site.clocks)
-    × ((d : Source) → parent_clock site (slice_index_or site.clocks place d) ≡ Some (slice_index_or site.clocks above d))
-IsFollowed site place (row.NotSeen domain parent) = (place < length site.clocks)
-    × ((d : Source) → let clock = slice_index_or site.clocks place d in
-    (clock.domain ≡ domain) × (followed site clock ≡ Some parent) × (parent_clock site clock ≡ None))
-
--- ---- which rows there are
-
--- a root follows no clock, or is the least of a loop
-abbrev pub IsRoot : SiteAnswers → Source → Type 0
-IsRoot site s = (followed site s ≡ None) ⊎ (is_some (loop_of site s) ≡ true)
-
--- A row is of a clock that is seen, and that one is a root if the row is at depth 0. Or it names a port that a clock of its domain
--- follows, and whose clock is not seen.
-abbrev pub IsRow : SiteAnswers → TreeRow → Type 0
-IsRow site (row.Clock place depth) = (place < length site.clocks) × (depth ≡ 0 → (d : Source) → IsRoot site (slice_index_or site.clocks place d))
-IsRow site (row.NotSeen domain parent) = (place : ℕ) × IsFollowed site place (row.NotSeen domain parent)
-
--- the domain of the clock at a place
-abbrev pub domain_at : List Source → ℕ → ℕ
-domain_at clocks place = slice_index_or (map (λ (s : Source). s.domain.0) clocks) place 0
-
--- the domain of a row
-abbrev pub row_domain : List Source → TreeRow → ℕ
-row_domain clocks (row.Clock place depth) = domain_at clocks place
-row_domain clocks (row.NotSeen domain parent) = domain.0
 
 -- ---- while the tree grows
 

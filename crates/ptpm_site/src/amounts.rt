@@ -1,9 +1,5 @@
 //! Offsets and delays beyond what is allowed.
 
-ghost use Rattle.std.specs.Prelude.{◌≡◌};
-ghost use Rattle.ptpm_site.specs.Amounts.{beyond, is_above, large_delay, large_link_delay, large_offset, wrong_delay};
-ghost use Rattle.ptpm_site.specs.Site.{site_answers};
-
 use crate::data_sets::PortDataSet;
 use crate::limits::Limits;
 use crate::port_groups::PortGroup;
@@ -12,16 +8,12 @@ use crate::source::Source;
 use crate::tai_and_utc::is_off_by_utc;
 
 /// Whether the amount of a TimeInterval is above this many nanoseconds. An amount equal to the limit is allowed.
-fn is_above(interval: i64, nanoseconds: u64) -> bool
-    ensures { result ≡ is_above interval nanoseconds }
-{
+fn is_above(interval: i64, nanoseconds: u64) -> bool {
     nanoseconds.saturating_mul(65_536) < interval.unsigned_abs()
 }
 
 /// A TimeInterval that is beyond the limit, or `None`. Without a limit none is beyond it.
-fn beyond(interval: i64, limit: Option<u64>) -> Option<i64>
-    ensures { result ≡ beyond interval limit }
-{
+fn beyond(interval: i64, limit: Option<u64>) -> Option<i64> {
     if is_above(interval, limit?) {
         Some(interval)
     } else {
@@ -31,9 +23,7 @@ fn beyond(interval: i64, limit: Option<u64>) -> Option<i64>
 
 /// offsetFromMaster of a clock that is not its own grandmaster and has a port in SLAVE, if it is beyond the limit. `None` if the
 /// clock takes TAI and UTC for each other.
-pub fn large_offset(site: &Site, source: Source, limits: Limits) -> Option<i64>
-    ensures { result ≡ large_offset (site_answers site.now) source limits }
-{
+pub fn large_offset(site: &Site, source: Source, limits: Limits) -> Option<i64> {
     let _ = site.followed(source)?;
     if !site.has_port_of(source, PortGroup::Slave) || is_off_by_utc(site, limits.tai_utc, source) {
         return None;
@@ -44,9 +34,7 @@ pub fn large_offset(site: &Site, source: Source, limits: Limits) -> Option<i64>
 
 /// A delay, if it is beyond its limit, or negative by more than an offset may have. No path takes a negative time. So an offset that is
 /// reckoned from such a delay is wrong by its amount at least.
-fn wrong_delay(interval: i64, limits: Limits) -> Option<i64>
-    ensures { result ≡ wrong_delay interval limits }
-{
+fn wrong_delay(interval: i64, limits: Limits) -> Option<i64> {
     if interval < 0 && beyond(interval, limits.offset).is_some() {
         Some(interval)
     } else {
@@ -55,18 +43,14 @@ fn wrong_delay(interval: i64, limits: Limits) -> Option<i64>
 }
 
 /// meanDelay of a clock that is not its own grandmaster, if it is beyond a limit.
-pub fn large_delay(site: &Site, source: Source, limits: Limits) -> Option<i64>
-    ensures { result ≡ large_delay (site_answers site.now) source limits }
-{
+pub fn large_delay(site: &Site, source: Source, limits: Limits) -> Option<i64> {
     let _ = site.followed(source)?;
     let current = site.current(source)?;
     wrong_delay(current.mean_delay, limits)
 }
 
 /// meanLinkDelay of a port in SLAVE or UNCALIBRATED that measures the delay of its link, if it is beyond a limit.
-pub fn large_link_delay(port: &PortDataSet, limits: Limits) -> Option<i64>
-    ensures { result ≡ large_link_delay port.now limits }
-{
+pub fn large_link_delay(port: &PortDataSet, limits: Limits) -> Option<i64> {
     if port.is_following() && port.measures_link() {
         wrong_delay(port.mean_link_delay, limits)
     } else {

@@ -1,13 +1,6 @@
 //! Announce messages: which ports send them, how often, and what they say of the grandmaster (IEEE 1588-2019, 13.5).
 
-ghost use Rattle.std.specs.Prelude.{◌≡◌, ◌≤◌, IfOk, length};
-ghost use Rattle.std.specs.BTreeMap.{get};
-ghost use Rattle.std.specs.List.{filter_map};
-ghost use Rattle.ptpm_site.specs.declared.arrival.SourcePort.{SourcePort};
-ghost use Rattle.ptpm_site.specs.declared.source.Source.{Source};
-ghost use Rattle.ptpm_site.specs.Announces.{announced_attributes, announced_by, announced_in, announced_time, announces_in, grandmaster_in, is_unicast, last_announced, last_of_clock};
-ghost use Rattle.ptpm_site.specs.Answers.{source_cmp};
-ghost use Rattle.ptpm_site.specs.TwoAddresses.{port_cmp};
+ghost use Rattle.std.specs.Prelude.{◌≤◌, length};
 
 use crate::arrival::SourcePort;
 use crate::data_sets::{TimePropertiesDataSet, quality_at};
@@ -45,18 +38,14 @@ const BY_UNICAST: i8 = 0x7f;
 
 impl Announced {
     /// Whether it was sent by unicast.
-    pub fn is_by_unicast(&self) -> bool
-        ensures { result ≡ is_unicast self.now }
-    {
+    pub fn is_by_unicast(&self) -> bool {
         self.log == BY_UNICAST
     }
 }
 
 /// The second octet of flagField has the flags of TIME_PROPERTIES_DATA_SET (table 37).
-#[tactic(auto, unfolding(crate::specs::Announces::announced_time))]
 fn announced_time(datagram: &[u8]) -> TimePropertiesDataSet
     requires { 64 ≤ length datagram.now }
-    ensures { result ≡ announced_time datagram.now }
 {
     TimePropertiesDataSet {
         utc_offset: i16_at(datagram, 44),
@@ -70,10 +59,8 @@ fn announced_time(datagram: &[u8]) -> TimePropertiesDataSet
     }
 }
 
-#[tactic(auto, unfolding(crate::specs::Announces::announced_attributes))]
 fn announced_attributes(datagram: &[u8]) -> Attributes
     requires { 64 ≤ length datagram.now }
-    ensures { result ≡ announced_attributes datagram.now }
 {
     Attributes {
         quality: quality_at(datagram, 48),
@@ -83,10 +70,7 @@ fn announced_attributes(datagram: &[u8]) -> Attributes
 }
 
 /// What an Announce says of the grandmaster. `None` if it is cut short.
-#[tactic(auto, unfolding(crate::specs::Announces::grandmaster_in))]
-fn grandmaster_in(datagram: &[u8]) -> Option<AnnouncedGrandmaster>
-    ensures { result ≡ grandmaster_in datagram.now }
-{
+fn grandmaster_in(datagram: &[u8]) -> Option<AnnouncedGrandmaster> {
     if datagram.len() < 64 {
         return None;
     }
@@ -98,9 +82,7 @@ fn grandmaster_in(datagram: &[u8]) -> Option<AnnouncedGrandmaster>
     })
 }
 
-fn announced_by(datagram: &[u8], sender: Sender) -> Option<Announced>
-    ensures { result ≡ announced_by datagram.now sender }
-{
+fn announced_by(datagram: &[u8], sender: Sender) -> Option<Announced> {
     if sender.kind != ANNOUNCE || datagram.len() < 34 {
         return None;
     }
@@ -115,15 +97,11 @@ fn announced_by(datagram: &[u8], sender: Sender) -> Option<Announced>
 }
 
 /// The port whose Announce a datagram is.
-pub fn announced_in(datagram: &[u8]) -> Option<Announced>
-    ensures { result ≡ announced_in datagram.now }
-{
+pub fn announced_in(datagram: &[u8]) -> Option<Announced> {
     announced_by(datagram, sender_in(datagram)?)
 }
 
-fn announces_in(heard: &Heard) -> Option<Announced>
-    ensures { result ≡ announces_in heard.now }
-{
+fn announces_in(heard: &Heard) -> Option<Announced> {
     match heard {
         Heard::Announces(announced) => Some(*announced),
         _ => None,
@@ -131,9 +109,7 @@ fn announces_in(heard: &Heard) -> Option<Announced>
 }
 
 /// All Announces, in the order of the lines.
-fn all_announces(alloc: Global, heard: &[Heard]) -> Result<Vec<Announced>, AllocError>
-    ensures { IfOk result (λ found. found.items ≡ filter_map announces_in heard.now) }
-{
+fn all_announces(alloc: Global, heard: &[Heard]) -> Result<Vec<Announced>, AllocError> {
     let mut found = Vec::new(alloc);
     for one in heard {
         let Some(announced) = announces_in(one) else {
@@ -145,9 +121,10 @@ fn all_announces(alloc: Global, heard: &[Heard]) -> Result<Vec<Announced>, Alloc
 }
 
 /// For each port the last of these.
-fn last_of(alloc: Global, all: &[Announced]) -> Result<BTreeMap<SourcePort, Announced>, AllocError>
-    ensures { IfOk result (λ last. (p : SourcePort) → get port_cmp last p ≡ last_announced all.now p) }
-{
+fn last_of(
+    alloc: Global,
+    all: &[Announced],
+) -> Result<BTreeMap<SourcePort, Announced>, AllocError> {
     let mut last = BTreeMap::new(alloc);
     for announced in all {
         last.insert(announced.port, *announced)?;
@@ -159,9 +136,7 @@ fn last_of(alloc: Global, all: &[Announced]) -> Result<BTreeMap<SourcePort, Anno
 fn last_of_clocks(
     alloc: Global,
     all: &[Announced],
-) -> Result<BTreeMap<Source, Announced>, AllocError>
-    ensures { IfOk result (λ last. (s : Source) → get source_cmp last s ≡ last_of_clock all.now s) }
-{
+) -> Result<BTreeMap<Source, Announced>, AllocError> {
     let mut last = BTreeMap::new(alloc);
     for announced in all {
         last.insert(announced.port.source, *announced)?;
@@ -173,9 +148,7 @@ fn last_of_clocks(
 pub fn last_announces(
     alloc: Global,
     heard: &[Heard],
-) -> Result<BTreeMap<SourcePort, Announced>, AllocError>
-    ensures { IfOk result (λ last. (p : SourcePort) → get port_cmp last p ≡ last_announced (filter_map announces_in heard.now) p) }
-{
+) -> Result<BTreeMap<SourcePort, Announced>, AllocError> {
     let all = all_announces(alloc, heard)?;
     last_of(alloc, all.as_slice())
 }
@@ -184,9 +157,7 @@ pub fn last_announces(
 pub fn last_announcers(
     alloc: Global,
     heard: &[Heard],
-) -> Result<BTreeMap<Source, Announced>, AllocError>
-    ensures { IfOk result (λ last. (s : Source) → get source_cmp last s ≡ last_of_clock (filter_map announces_in heard.now) s) }
-{
+) -> Result<BTreeMap<Source, Announced>, AllocError> {
     let all = all_announces(alloc, heard)?;
     last_of_clocks(alloc, all.as_slice())
 }

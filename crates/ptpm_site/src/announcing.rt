@@ -1,13 +1,5 @@
 //! Ports whose parent announces too seldom for them (7.7.2, 7.7.3).
 
-ghost use Rattle.std.specs.Prelude.{◌≡◌};
-ghost use Rattle.std.specs.Option.{option_copied};
-ghost use Rattle.ptpm_data.specs.PortState.{state_of};
-ghost use Rattle.ptpm_site.specs.Announcing.{first_look, has_one_port, has_third, is_certain, is_listening, is_long, is_served, is_served_to, is_third, is_too_seldom, left_slave, open_seldom, outlasts, parent_log, port_above, seldom_above, seldom_announced, seldom_by, takes_time, too_seldom};
-ghost use Rattle.ptpm_site.specs.Evidence.{IsOf};
-ghost use Rattle.ptpm_site.specs.PortStates.{is_slave};
-ghost use Rattle.ptpm_site.specs.Site.{site_answers};
-
 use crate::answer::Request;
 use crate::arrival::SourcePort;
 use crate::clock::Received;
@@ -34,9 +26,7 @@ pub struct Seldom {
 }
 
 /// Whether 2^n of a port's intervals are more than four of them, or as long as the port waits, or longer.
-fn outlasts(n: i16, timeout: u8) -> bool
-    ensures { result ≡ outlasts n timeout }
-{
+fn outlasts(n: i16, timeout: u8) -> bool {
     match n {
         0 => timeout <= 1,
         1 => timeout <= 2,
@@ -46,25 +36,19 @@ fn outlasts(n: i16, timeout: u8) -> bool
 }
 
 /// Whether the parent announces too seldom for the port.
-fn is_too_seldom(own: &PortDataSet, parent_log: i8) -> bool
-    ensures { result ≡ is_too_seldom own.now parent_log }
-{
+fn is_too_seldom(own: &PortDataSet, parent_log: i8) -> bool {
     outlasts(
         i16::from(parent_log) - i16::from(own.log_announce),
         own.receipt_timeout,
     )
 }
 
-fn is_listening(state: Option<PortState>) -> bool
-    ensures { result ≡ is_listening state }
-{
+fn is_listening(state: Option<PortState>) -> bool {
     matches!(state, Some(PortState::Listening))
 }
 
 /// Whether a clock has one port, by its DEFAULT_DATA_SET.
-fn has_one_port(site: &Site, source: Source) -> bool
-    ensures { result ≡ has_one_port (site_answers site.now) source }
-{
+fn has_one_port(site: &Site, source: Source) -> bool {
     match site.default(source) {
         Some(default) => default.number_of_ports == 1,
         None => false,
@@ -72,29 +56,21 @@ fn has_one_port(site: &Site, source: Source) -> bool
 }
 
 /// Whether a port takes time from its parent, is about to, or, as its clock's one port, listens.
-pub fn takes_time(site: &Site, source: Source, set: &PortDataSet) -> bool
-    ensures { result ≡ takes_time (site_answers site.now) source (state_of set.now.state) }
-{
+pub fn takes_time(site: &Site, source: Source, set: &PortDataSet) -> bool {
     set.is_following() || is_listening(set.state()) && has_one_port(site, source)
 }
 
-fn is_slave(state: Option<PortState>) -> bool
-    ensures { result ≡ is_slave state }
-{
+fn is_slave(state: Option<PortState>) -> bool {
     matches!(state, Some(PortState::Slave))
 }
 
 /// Whether a port was not in SLAVE in one of these answers.
-fn left_slave(received: &[Received]) -> bool
-    ensures { result ≡ left_slave received.now }
-{
+fn left_slave(received: &[Received]) -> bool {
     received.iter().any(|received| !is_slave(received.state()))
 }
 
 /// The port of a clock that another clock of its domain follows.
-pub fn port_above(source: Source, parent: PortIdentity) -> SourcePort
-    ensures { result ≡ port_above source parent }
-{
+pub fn port_above(source: Source, parent: PortIdentity) -> SourcePort {
     SourcePort {
         source: source.beside(parent.clock),
         port: parent.port,
@@ -102,10 +78,7 @@ pub fn port_above(source: Source, parent: PortIdentity) -> SourcePort
 }
 
 /// How often the parent announces, by the last of its Announces that was heard, or else by its PORT_DATA_SET.
-fn parent_log(site: &Site, evidence: &Evidence, port: SourcePort, above: &PortDataSet) -> i8
-    requires { IsOf (site_answers site.now).heard evidence.now }
-    ensures { result ≡ parent_log (site_answers site.now) port above.now }
-{
+fn parent_log(site: &Site, evidence: &Evidence, port: SourcePort, above: &PortDataSet) -> i8 {
     match evidence.announced.get(&port) {
         Some(announced) => announced.log,
         None => above.log_announce,
@@ -118,9 +91,7 @@ fn seldom_by(
     parent: PortIdentity,
     own: &PortDataSet,
     parent_log: i8,
-) -> Option<Seldom>
-    ensures { result ≡ seldom_by (site_answers site.now) source parent own.now parent_log }
-{
+) -> Option<Seldom> {
     if takes_time(site, source, own) && is_too_seldom(own, parent_log) {
         Some(Seldom {
             log_announce: own.log_announce,
@@ -140,10 +111,7 @@ fn seldom_above(
     parent: PortIdentity,
     own: &PortDataSet,
     above: &PortDataSet,
-) -> Option<Seldom>
-    requires { IsOf (site_answers site.now).heard evidence.now }
-    ensures { result ≡ seldom_above (site_answers site.now) source parent own.now above.now }
-{
+) -> Option<Seldom> {
     let port = port_above(source, parent);
     if evidence.is_by_unicast(port) {
         return None;
@@ -153,10 +121,7 @@ fn seldom_above(
 }
 
 /// A port whose parent announces too seldom for it, by what both say.
-fn too_seldom(site: &Site, evidence: &Evidence, source: Source, port: u16) -> Option<Seldom>
-    requires { IsOf (site_answers site.now).heard evidence.now }
-    ensures { result ≡ too_seldom (site_answers site.now) source port }
-{
+fn too_seldom(site: &Site, evidence: &Evidence, source: Source, port: u16) -> Option<Seldom> {
     let parent = site.parent(source)?.parent;
     let own = site.port(source, port)?;
     let above = site.port(source.beside(parent.clock), parent.port)?;
@@ -170,10 +135,7 @@ fn is_certain(
     source: Source,
     port: u16,
     parent: PortIdentity,
-) -> bool
-    requires { IsOf (site_answers site.now).heard evidence.now }
-    ensures { result ≡ is_certain (site_answers site.now) source port parent }
-{
+) -> bool {
     evidence.announced.contains_key(&port_above(source, parent))
         || left_slave(site.port_answers(source, port))
 }
@@ -184,10 +146,7 @@ pub fn seldom_announced(
     evidence: &Evidence,
     source: Source,
     port: u16,
-) -> Option<Seldom>
-    requires { IsOf (site_answers site.now).heard evidence.now }
-    ensures { result ≡ seldom_announced (site_answers site.now) source port }
-{
+) -> Option<Seldom> {
     let seldom = too_seldom(site, evidence, source, port)?;
     if is_certain(site, evidence, source, port, seldom.parent) {
         Some(seldom)
@@ -197,40 +156,30 @@ pub fn seldom_announced(
 }
 
 /// Whether there is an answer to a third request, beside the first and the last one.
-fn has_third(received: &[Received], first: &Received, last: &Received) -> bool
-    ensures { result ≡ has_third received.now first.now last.now }
-{
+fn has_third(received: &[Received], first: &Received, last: &Received) -> bool {
     received.iter().any(|one| is_third(&one.request, &first.request, &last.request))
 }
 
-fn is_third(request: &Request, first: &Request, last: &Request) -> bool
-    ensures { result ≡ is_third request.now first.now last.now }
-{
+fn is_third(request: &Request, first: &Request, last: &Request) -> bool {
     is_another(request, last) && is_another(request, first)
 }
 
 /// The first of these answers that came to another request of the requester of the last one.
-fn first_look<'a>(received: &'a [Received], last: &Received) -> Option<&'a Received>
-    ensures { option_copied result ≡ first_look received.now last.now }
-{
+fn first_look<'a>(received: &'a [Received], last: &Received) -> Option<&'a Received> {
     received
         .iter()
         .find(|one| is_another(&one.request, &last.request))
 }
 
 /// Whether the time from one answer to another is two intervals at least.
-fn is_long(first: &Received, last: &Received, log: i8) -> bool
-    ensures { result ≡ is_long first.now last.now log }
-{
+fn is_long(first: &Received, last: &Received, log: i8) -> bool {
     match time_between(last.at, first.at) {
         Some(time) => 2 * interval(log) <= time,
         None => false,
     }
 }
 
-fn is_served_to(received: &[Received], last: &Received, log: i8) -> bool
-    ensures { result ≡ is_served_to received.now last.now log }
-{
+fn is_served_to(received: &[Received], last: &Received, log: i8) -> bool {
     match first_look(received, last) {
         Some(first) => has_third(received, first, last) && is_long(first, last, log),
         None => false,
@@ -238,9 +187,7 @@ fn is_served_to(received: &[Received], last: &Received, log: i8) -> bool
 }
 
 /// Whether a port stays as it is for three looks, and two of these intervals. Then one that is in SLAVE is served by unicast.
-fn is_served(received: &[Received], log: i8) -> bool
-    ensures { result ≡ is_served received.now log }
-{
+fn is_served(received: &[Received], log: i8) -> bool {
     match received.last() {
         Some(last) => is_served_to(received, last, log),
         None => false,
@@ -248,10 +195,7 @@ fn is_served(received: &[Received], log: i8) -> bool
 }
 
 /// What is said of a port whose parent may announce too seldom for it: by multicast it does, and no Announce was heard.
-pub fn open_seldom(site: &Site, evidence: &Evidence, source: Source, port: u16) -> Option<Seldom>
-    requires { IsOf (site_answers site.now).heard evidence.now }
-    ensures { result ≡ open_seldom (site_answers site.now) source port }
-{
+pub fn open_seldom(site: &Site, evidence: &Evidence, source: Source, port: u16) -> Option<Seldom> {
     let seldom = too_seldom(site, evidence, source, port)?;
     if is_certain(site, evidence, source, port, seldom.parent)
         || is_served(site.port_answers(source, port), seldom.parent_log)

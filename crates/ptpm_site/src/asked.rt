@@ -1,8 +1,5 @@
 //! The six management ids whose answers make the picture.
 
-ghost use Rattle.std.specs.Prelude.{◌≡◌};
-ghost use Rattle.ptpm_site.specs.Ids.{number_of, same_id, six};
-
 /// A management id of the six, in the standard's order (table 59).
 #[derive(Clone, Copy, PartialEq, Eq)]
 pub enum Asked {
@@ -24,9 +21,7 @@ pub const OF_CLOCK: [Asked; 5] = [
 ];
 
 /// The six, in the order in which they are reported.
-pub fn six() -> [Asked; 6]
-    ensures { result ≡ six }
-{
+pub fn six() -> [Asked; 6] {
     [
         Asked::DefaultDataSet,
         Asked::CurrentDataSet,
@@ -38,12 +33,8 @@ pub fn six() -> [Asked; 6]
 }
 
 impl Asked {
-    ghost use Rattle.ptpm_site.specs.Messages.{asked_of};
-
     /// The id of the six with this managementId, or `None` for any other managementId.
-    pub fn of_id(id: u16) -> Option<Asked>
-        ensures { result ≡ asked_of id }
-    {
+    pub fn of_id(id: u16) -> Option<Asked> {
         match id {
             0x0002 => Some(Asked::UserDescription),
             0x2000 => Some(Asked::DefaultDataSet),
@@ -56,9 +47,7 @@ impl Asked {
     }
 
     /// Its managementId.
-    pub fn number(self) -> u16
-        ensures { result ≡ number_of self }
-    {
+    pub fn number(self) -> u16 {
         match self {
             Asked::UserDescription => 0x0002,
             Asked::DefaultDataSet => 0x2000,
@@ -70,9 +59,7 @@ impl Asked {
     }
 
     /// Whether it is the same id as another.
-    pub fn is(self, other: Asked) -> bool
-        ensures { result ≡ same_id self other }
-    {
+    pub fn is(self, other: Asked) -> bool {
         self.number() == other.number()
     }
 

@@ -1,14 +1,5 @@
 //! What changed from one answer to another, and how answers to one request differ.
 
-ghost use Rattle.std.specs.Prelude.{◌≡◌, ◌++◌, [], ◌∷◌, false, List, None, IfOk, OnOk, find};
-ghost use Rattle.std.specs.List.{list_all};
-ghost use Rattle.std.specs.Option.{option_eq, option_map, option_map_or};
-ghost use Rattle.ptpm_data.specs.PortState.{state_of};
-ghost use Rattle.ptpm_members.specs.Values.{said};
-ghost use Rattle.ptpm_site.specs.Changes.{Statement, as_settled, contradiction, contradicts, is_alike, is_settled, is_settled_state, member_change, settled_state, statement_of};
-ghost use Rattle.ptpm_site.specs.KeptStatements.{KeepsFirstValues, StandsFor, kept_statements, same_statement, settled_otherwise, statement};
-ghost use Rattle.ptpm_site.specs.Members.{answer_says, same_value};
-
 use crate::answer::Request;
 use crate::asked::Asked;
 use crate::clock::Received;
@@ -37,9 +28,7 @@ pub struct Change<'a> {
 
 /// The state as which a state is compared, by their numbers. A port goes from SLAVE to UNCALIBRATED and back by itself: the two
 /// are compared as one.
-fn settled_state(number: u8) -> u8
-    ensures { result ≡ settled_state number }
-{
+fn settled_state(number: u8) -> u8 {
     if number == PortState::Uncalibrated.number() {
         PortState::Slave.number()
     } else {
@@ -48,9 +37,7 @@ fn settled_state(number: u8) -> u8
 }
 
 /// The value with which a member is compared.
-fn as_settled(value: MemberValue<'_>) -> MemberValue<'_>
-    ensures { said result ≡ as_settled (said value.entry) }
-{
+fn as_settled(value: MemberValue<'_>) -> MemberValue<'_> {
     match value {
         MemberValue::Named(Enumeration::PortState, number) => {
             MemberValue::Named(Enumeration::PortState, settled_state(number))
@@ -60,9 +47,7 @@ fn as_settled(value: MemberValue<'_>) -> MemberValue<'_>
 }
 
 /// Whether a port in the state of this number is on its way to no other.
-fn is_settled_state(number: u8) -> bool
-    ensures { result ≡ option_map_or is_settled_state (state_of number) false }
-{
+fn is_settled_state(number: u8) -> bool {
     matches!(
         PortState::from_number(number),
         Some(
@@ -76,9 +61,7 @@ fn is_settled_state(number: u8) -> bool
 }
 
 /// Whether two values of a member are compared as one.
-fn is_alike(a: MemberValue<'_>, b: MemberValue<'_>) -> bool
-    ensures { result ≡ is_alike (said a.entry) (said b.entry) }
-{
+fn is_alike(a: MemberValue<'_>, b: MemberValue<'_>) -> bool {
     as_settled(a) == as_settled(b)
 }
 
@@ -90,9 +73,7 @@ struct Stated<'a> {
 }
 
 impl<'a> Stated<'a> {
-    fn of(asked: Asked, received: &'a Received, member: Member) -> Option<Stated<'a>>
-        ensures { option_map statement result ≡ statement_of asked member received.now }
-    {
+    fn of(asked: Asked, received: &'a Received, member: Member) -> Option<Stated<'a>> {
         Some(Stated {
             request: received.request,
             value: value_of(asked, received.octets.as_slice(), member)?,
@@ -100,9 +81,7 @@ impl<'a> Stated<'a> {
     }
 
     /// Whether a later value that differs is a change. The portState of a port on its way to another state is not settled.
-    fn is_settled(&self) -> bool
-        ensures { result ≡ is_settled (said self.now.value) }
-    {
+    fn is_settled(&self) -> bool {
         match self.value {
             MemberValue::Named(Enumeration::PortState, number) => is_settled_state(number),
             _ => true,
@@ -110,16 +89,12 @@ impl<'a> Stated<'a> {
     }
 
     /// Whether a later statement is a change of this one.
-    fn is_changed_by(&self, later: &Stated<'a>) -> bool
-        ensures { result ≡ contradicts Contradiction.Changed (statement self.now) (statement later.now) }
-    {
+    fn is_changed_by(&self, later: &Stated<'a>) -> bool {
         self.is_settled() && self.request != later.request && !is_alike(self.value, later.value)
     }
 
     /// Whether another statement came to the same request and says a value that is alike.
-    fn is_same(&self, other: &Stated<'a>) -> bool
-        ensures { result ≡ same_statement (statement self.now) (statement other.now) }
-    {
+    fn is_same(&self, other: &Stated<'a>) -> bool {
         self.request == other.request && is_alike(self.value, other.value)
     }
 }
@@ -136,9 +111,7 @@ enum KeptStatements<'a> {
 
 impl<'a> KeptStatements<'a> {
     /// The first of them that a later statement is a change of.
-    fn changed_by(&self, later: &Stated<'a>) -> Option<Stated<'a>>
-        ensures { option_map statement result ≡ find (λ e. contradicts Contradiction.Changed e (statement later.now)) (kept_statements self.now) }
-    {
+    fn changed_by(&self, later: &Stated<'a>) -> Option<Stated<'a>> {
         match *self {
             KeptStatements::Nothing => None,
             KeptStatements::One(first) => {
@@ -161,11 +134,7 @@ impl<'a> KeptStatements<'a> {
     }
 
     /// What is kept after a statement that is a change of none.
-    fn with(&self, next: &Stated<'a>) -> KeptStatements<'a>
-        ensures { (seen : List Statement) → StandsFor self.now seen
-            → find (λ e. contradicts Contradiction.Changed e (statement next.now)) seen ≡ None
-            → StandsFor result (seen ++ statement next.now ∷ []) }
-    {
+    fn with(&self, next: &Stated<'a>) -> KeptStatements<'a> {
         if !next.is_settled() {
             return *self;
         }
@@ -190,18 +159,14 @@ struct Settled<'a> {
 }
 
 impl<'a> Settled<'a> {
-    fn new(alloc: Global) -> Settled<'a>
-        ensures { KeepsFirstValues result [] }
-    {
+    fn new(alloc: Global) -> Settled<'a> {
         Settled {
             first: BTreeMap::new(alloc),
         }
     }
 
     /// The value that was kept for the request of a later statement, if that statement says another.
-    fn contradicted_by(&self, later: &Stated<'a>) -> Option<MemberValue<'a>>
-        ensures { option_map said result ≡ settled_otherwise self.now (statement later.now) }
-    {
+    fn contradicted_by(&self, later: &Stated<'a>) -> Option<MemberValue<'a>> {
         let before = self.first.get(&later.request).copied()?;
         if is_alike(before, later.value) {
             None
@@ -211,11 +176,7 @@ impl<'a> Settled<'a> {
     }
 
     /// Keeps the value of a statement that contradicts no earlier one.
-    fn add(&mut self, next: &Stated<'a>) -> Result<(), AllocError>
-        ensures { OnOk result ((seen : List Statement) → KeepsFirstValues self.old seen
-            → find (λ e. contradicts Contradiction.IdentityTwice e (statement next.now)) seen ≡ None
-            → KeepsFirstValues self.new (seen ++ statement next.now ∷ [])) }
-    {
+    fn add(&mut self, next: &Stated<'a>) -> Result<(), AllocError> {
         if !next.is_settled() {
             return Ok(());
         }
@@ -232,9 +193,7 @@ pub fn first_change<'a>(
     asked: Asked,
     received: &'a [Received],
     member: Member,
-) -> Option<Change<'a>>
-    ensures { option_map member_change result ≡ contradiction Contradiction.Changed asked member received.now }
-{
+) -> Option<Change<'a>> {
     let mut kept = KeptStatements::Nothing;
     for answer in received {
         let Some(later) = Stated::of(asked, answer, member) else {
@@ -258,9 +217,7 @@ pub fn first_contradiction<'a>(
     asked: Asked,
     received: &'a [Received],
     member: Member,
-) -> Result<Option<Change<'a>>, AllocError>
-    ensures { IfOk result (λ change. option_map member_change change ≡ contradiction Contradiction.IdentityTwice asked member received.now) }
-{
+) -> Result<Option<Change<'a>>, AllocError> {
     let mut settled = Settled::new(alloc);
     for answer in received {
         let Some(later) = Stated::of(asked, answer, member) else {
@@ -279,9 +236,7 @@ pub fn first_contradiction<'a>(
 }
 
 /// Whether any two answers to an id differ in a member.
-pub fn is_said_otherwise(asked: Asked, received: &[Received], member: Member) -> bool
-    ensures { (how : Contradiction) → result ≡ false → contradiction how asked member received.now ≡ None }
-{
+pub fn is_said_otherwise(asked: Asked, received: &[Received], member: Member) -> bool {
     match received.split_first() {
         Some((first, others)) => !all_say_as(asked, first, others, member),
         None => false,
@@ -289,19 +244,13 @@ pub fn is_said_otherwise(asked: Asked, received: &[Received], member: Member) ->
 }
 
 /// Whether all these answers say of a member what the first one says.
-fn all_say_as(asked: Asked, first: &Received, others: &[Received], member: Member) -> bool
-    ensures { result ≡ list_all (λ h. option_eq same_value (answer_says asked first.now.octets.items member)
-        (answer_says asked h.octets.items member)) others.now }
-{
+fn all_say_as(asked: Asked, first: &Received, others: &[Received], member: Member) -> bool {
     others
         .iter()
         .all(|other| say_alike(asked, first, other, member))
 }
 
-fn say_alike(asked: Asked, one: &Received, other: &Received, member: Member) -> bool
-    ensures { result ≡ option_eq same_value (answer_says asked one.now.octets.items member)
-        (answer_says asked other.now.octets.items member) }
-{
+fn say_alike(asked: Asked, one: &Received, other: &Received, member: Member) -> bool {
     value_of(asked, one.octets.as_slice(), member)
         == value_of(asked, other.octets.as_slice(), member)
 }

@@ -1,17 +1,5 @@
 //! What the answers say of one clock.
 
-ghost use Rattle.std.specs.Prelude.{◌≡◌, ◌≤◌, ℕ, ◌==◌, ◌++◌, [], ◌∷◌, OnOk, IsSome, if◌then◌else◌, length, take, option_and_then};
-ghost use Rattle.std.specs.BTreeMap.{get, keys};
-ghost use Rattle.std.specs.List.{list_any};
-ghost use Rattle.std.specs.Option.{option_copied, option_to_list};
-ghost use Rattle.std.specs.Ordering.{nat_cmp};
-ghost use Rattle.ptpm_site.specs.Answers.{answer_of_port, answer_to, current_said, default_said, last_of, named_grandmaster, newly_received, parent_said, place, place_number, port_number, port_said, refusal_in, state_said, time_said};
-ghost use Rattle.ptpm_site.specs.declared.asked.Asked.{Asked};
-ghost use Rattle.ptpm_site.specs.Descriptions.{text_said};
-ghost use Rattle.ptpm_site.specs.KeptAnswers.{HasNoAnswers};
-ghost use Rattle.ptpm_site.specs.PortStates.{is_port_of};
-ghost use Rattle.ptpm_site.specs.Site.{answers_for, answers_of_port, answers_to_id, is_among};
-
 use crate::answer::Request;
 use crate::answer_content::AnswerContent;
 use crate::asked::Asked;
@@ -36,52 +24,38 @@ pub struct Received {
 
 impl Received {
     /// What it says if it answers DEFAULT_DATA_SET.
-    pub fn default(&self) -> Option<DefaultDataSet>
-        ensures { result ≡ default_said self.now }
-    {
+    pub fn default(&self) -> Option<DefaultDataSet> {
         DefaultDataSet::read(self.octets.as_slice())
     }
 
     /// What it says if it answers CURRENT_DATA_SET.
-    pub fn current(&self) -> Option<CurrentDataSet>
-        ensures { result ≡ current_said self.now }
-    {
+    pub fn current(&self) -> Option<CurrentDataSet> {
         CurrentDataSet::read(self.octets.as_slice())
     }
 
     /// What it says if it answers PARENT_DATA_SET.
-    pub fn parent(&self) -> Option<ParentDataSet>
-        ensures { result ≡ parent_said self.now }
-    {
+    pub fn parent(&self) -> Option<ParentDataSet> {
         ParentDataSet::read(self.octets.as_slice())
     }
 
     /// What it says if it answers TIME_PROPERTIES_DATA_SET.
-    pub fn time(&self) -> Option<TimePropertiesDataSet>
-        ensures { result ≡ time_said self.now }
-    {
+    pub fn time(&self) -> Option<TimePropertiesDataSet> {
         TimePropertiesDataSet::read(self.octets.as_slice())
     }
 
     /// What it says if it answers PORT_DATA_SET.
-    pub fn port(&self) -> Option<PortDataSet>
-        ensures { result ≡ port_said self.now }
-    {
+    pub fn port(&self) -> Option<PortDataSet> {
         let (_, set) = PortDataSet::read(self.octets.as_slice())?;
         Some(set)
     }
 
     /// The state of the port of a PORT_DATA_SET. `None` if its number is reserved.
-    pub fn state(&self) -> Option<PortState>
-        ensures { result ≡ state_said self.now }
-    {
+    pub fn state(&self) -> Option<PortState> {
         self.port()?.state()
     }
 
     /// The text of a USER_DESCRIPTION.
-    pub fn text(&self) -> Option<&str>
-        ensures { option_copied result ≡ text_said self.now }
-    {
+    pub fn text(&self) -> Option<&str> {
         match str::from_utf8(self.octets.as_slice()) {
             Ok(text) => Some(text),
             Err(_) => None,
@@ -89,9 +63,7 @@ impl Received {
     }
 
     /// The grandmaster that a PARENT_DATA_SET names.
-    pub fn grandmaster(&self) -> Option<ClockIdentity>
-        ensures { result ≡ named_grandmaster self.now }
-    {
+    pub fn grandmaster(&self) -> Option<ClockIdentity> {
         Some(self.parent()?.grandmaster)
     }
 }
@@ -109,9 +81,7 @@ pub struct Clock {
 
 impl Clock {
     /// A clock that has said nothing yet.
-    pub fn new(alloc: Global) -> Clock
-        ensures { HasNoAnswers result }
-    {
+    pub fn new(alloc: Global) -> Clock {
         Clock {
             answers: BTreeMap::new(alloc),
             ports: BTreeMap::new(alloc),
@@ -126,14 +96,7 @@ impl Clock {
         request: Request,
         at: Option<u64>,
         content: AnswerContent,
-    ) -> Result<(), AllocError>
-        ensures answers { OnOk result ((id : Asked) → answers_to_id self.new id
-            ≡ answers_to_id self.old id ++ newly_received (answer_to id) request at content) }
-        ensures refused { OnOk result (self.new.refused.items ≡ self.old.refused.items ++ option_to_list (refusal_in content)) }
-        ensures numbers { OnOk result (keys self.new.ports ≡ place_number (keys self.old.ports) (port_number content)) }
-        ensures ports { OnOk result ((n : ℕ) → answers_of_port self.new n
-            ≡ answers_of_port self.old n ++ newly_received (answer_of_port n) request at content) }
-    {
+    ) -> Result<(), AllocError> {
         match content {
             AnswerContent::Clock(asked, octets) => {
                 let received = Received {
@@ -160,30 +123,22 @@ impl Clock {
     }
 
     /// All that was answered to an id, in the order of the lines.
-    pub fn answers_to(&self, asked: Asked) -> &[Received]
-        ensures { result.now ≡ answers_to_id self.now asked }
-    {
+    pub fn answers_to(&self, asked: Asked) -> &[Received] {
         answers_for(&self.answers, asked.number())
     }
 
     /// All that was answered for a port, in the order of the lines.
-    pub fn port_answers(&self, number: u16) -> &[Received]
-        ensures { result.now ≡ answers_of_port self.now number }
-    {
+    pub fn port_answers(&self, number: u16) -> &[Received] {
         answers_for(&self.ports, number)
     }
 
     /// The last PORT_DATA_SET that was answered for a port, if there is one.
-    fn port(&self, number: u16) -> Option<PortDataSet>
-        ensures { result ≡ option_and_then port_said (last_of (answers_of_port self.now number)) }
-    {
+    fn port(&self, number: u16) -> Option<PortDataSet> {
         self.port_answers(number).last()?.port()
     }
 
     /// Whether a port that answered is in a state of a group.
-    pub fn has_port_of(&self, group: PortGroup) -> bool
-        ensures { result ≡ list_any (λ n. is_port_of group (option_and_then port_said (last_of (answers_of_port self.now n)))) (keys self.now.ports) }
-    {
+    pub fn has_port_of(&self, group: PortGroup) -> bool {
         self.ports.keys().any(|number| {
             match self.port(*number) {
                 Some(set) => group.has(set.state()),
@@ -193,10 +148,7 @@ impl Clock {
     }
 
     /// How many ports answered. Each has a number of its own, so there are no more of them than numbers up to the last.
-    pub fn count_ports(&self) -> usize
-        ensures count { result ≡ length (keys self.now.ports) }
-        ensures few { result ≤ 65536 }
-    {
+    pub fn count_ports(&self) -> usize {
         match self.ports.last_key_value() {
             Some((last, _)) => self.ports.len().min(usize::from(*last) + 1),
             None => 0,
@@ -204,9 +156,7 @@ impl Clock {
     }
 
     /// Keeps at most `room` ports, those with the lowest numbers.
-    pub fn keep_first_ports(&mut self, room: usize)
-        ensures { keys self.new.ports ≡ take room (keys self.old.ports) }
-    {
+    pub fn keep_first_ports(&mut self, room: usize) {
         let over = self.ports.len().saturating_sub(room);
         for dropped in 0..over {
             let _ = self.ports.pop_last();
@@ -214,17 +164,13 @@ impl Clock {
     }
 
     /// Whether an error came for an id.
-    pub fn refuses(&self, asked: Asked) -> bool
-        ensures { result ≡ is_among asked self.now.refused.items }
-    {
+    pub fn refuses(&self, asked: Asked) -> bool {
         self.refused.iter().any(|refused| refused.is(asked))
     }
 }
 
 /// The answers of a number, in the order of the lines.
-fn answers_for(answers: &BTreeMap<u16, Vec<Received>>, number: u16) -> &[Received]
-    ensures { result.now ≡ answers_for answers.now number }
-{
+fn answers_for(answers: &BTreeMap<u16, Vec<Received>>, number: u16) -> &[Received] {
     match answers.get(&number) {
         Some(received) => received.as_slice(),
         None => &[],
@@ -237,11 +183,7 @@ fn put_answer(
     answers: &mut BTreeMap<u16, Vec<Received>>,
     number: u16,
     received: Received,
-) -> Result<(), AllocError>
-    ensures numbers { OnOk result (keys answers.new ≡ place nat_cmp (keys answers.old) number) }
-    ensures answers { OnOk result ((n : ℕ) → answers_for answers.new n
-        ≡ answers_for answers.old n ++ (if number == n then received ∷ [] else [])) }
-{
+) -> Result<(), AllocError> {
     place_number(alloc, answers, number)?;
     push_answer(answers, number, received)?;
     Ok(())
@@ -252,11 +194,7 @@ fn place_number(
     alloc: Global,
     answers: &mut BTreeMap<u16, Vec<Received>>,
     number: u16,
-) -> Result<(), AllocError>
-    ensures numbers { OnOk result (keys answers.new ≡ place nat_cmp (keys answers.old) number) }
-    ensures answers { OnOk result ((n : ℕ) → answers_for answers.new n ≡ answers_for answers.old n) }
-    ensures there { OnOk result (IsSome (get nat_cmp answers.new number)) }
-{
+) -> Result<(), AllocError> {
     if answers.contains_key(&number) {
         return Ok(());
     }
@@ -269,12 +207,7 @@ fn push_answer(
     answers: &mut BTreeMap<u16, Vec<Received>>,
     number: u16,
     received: Received,
-) -> Result<(), AllocError>
-    requires { IsSome (get nat_cmp answers.old number) }
-    ensures numbers { OnOk result (keys answers.new ≡ keys answers.old) }
-    ensures answers { OnOk result ((n : ℕ) → answers_for answers.new n
-        ≡ answers_for answers.old n ++ (if number == n then received ∷ [] else [])) }
-{
+) -> Result<(), AllocError> {
     if let Some(all) = answers.get_mut(&number) {
         all.push(received)?;
     }

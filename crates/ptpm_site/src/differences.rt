@@ -1,8 +1,5 @@
 //! The members in which a clock differs from its grandmaster or from the port that it follows.
 
-ghost use Rattle.std.specs.Prelude.{◌≡◌};
-ghost use Rattle.ptpm_site.specs.Differences.{flag_differs, grandmaster_differs, mechanism_differs, priority_differs, other_grandmaster, utc_differs, value_differs};
-
 use crate::data_sets::{DefaultDataSet, ParentDataSet, PortDataSet, TimePropertiesDataSet};
 use ptpm_data::Member::*;
 use ptpm_data::PortSetting;
@@ -21,9 +18,7 @@ fn value_differs(
     member: Member,
     own: MemberValue<'static>,
     other: MemberValue<'static>,
-) -> Option<Differs>
-    ensures { result ≡ value_differs member own.entry other.entry }
-{
+) -> Option<Differs> {
     if own == other {
         return None;
     }
@@ -31,9 +26,7 @@ fn value_differs(
 }
 
 /// priority1 or priority2, if the two differ.
-fn priority_differs(member: Member, own: u8, other: u8) -> Option<Differs>
-    ensures { result ≡ priority_differs member own other }
-{
+fn priority_differs(member: Member, own: u8, other: u8) -> Option<Differs> {
     value_differs(
         member,
         MemberValue::Unsigned(u64::from(own)),
@@ -42,9 +35,7 @@ fn priority_differs(member: Member, own: u8, other: u8) -> Option<Differs>
 }
 
 /// The member, if the flags differ.
-fn flag_differs(member: Member, own: bool, other: bool) -> Option<Differs>
-    ensures { result ≡ flag_differs member own other }
-{
+fn flag_differs(member: Member, own: bool, other: bool) -> Option<Differs> {
     value_differs(member, MemberValue::Flag(own), MemberValue::Flag(other))
 }
 
@@ -52,9 +43,7 @@ fn flag_differs(member: Member, own: bool, other: bool) -> Option<Differs>
 pub fn grandmaster_differs(
     own: &ParentDataSet,
     grandmaster: &DefaultDataSet,
-) -> [Option<Differs>; 3]
-    ensures { result ≡ grandmaster_differs own.now grandmaster.now }
-{
+) -> [Option<Differs>; 3] {
     [
         priority_differs(
             Member::DataSet(GrandmasterPriority1),
@@ -75,9 +64,7 @@ pub fn grandmaster_differs(
 }
 
 /// grandmasterIdentity, if a clock names another one than the clock that it follows.
-pub fn other_grandmaster(own: &ParentDataSet, parent: &ParentDataSet) -> Option<Differs>
-    ensures { result ≡ other_grandmaster own.now parent.now }
-{
+pub fn other_grandmaster(own: &ParentDataSet, parent: &ParentDataSet) -> Option<Differs> {
     value_differs(
         Member::DataSet(Grandmaster),
         MemberValue::Clock(own.grandmaster),
@@ -89,9 +76,7 @@ pub fn other_grandmaster(own: &ParentDataSet, parent: &ParentDataSet) -> Option<
 pub fn utc_differs(
     own: &TimePropertiesDataSet,
     grandmaster: &TimePropertiesDataSet,
-) -> [Option<Differs>; 5]
-    ensures { result ≡ utc_differs own.now grandmaster.now }
-{
+) -> [Option<Differs>; 5] {
     [
         value_differs(
             Member::DataSet(UtcOffset),
@@ -115,9 +100,7 @@ pub fn utc_differs(
 
 /// delayMechanism, if one port measures the delay from end to end and the other that of the link. No other
 /// pair counts as different.
-pub fn mechanism_differs(own: &PortDataSet, parent: &PortDataSet) -> Option<Differs>
-    ensures { result ≡ mechanism_differs own.now parent.now }
-{
+pub fn mechanism_differs(own: &PortDataSet, parent: &PortDataSet) -> Option<Differs> {
     if own.measures_link() && parent.measures_end_to_end()
         || own.measures_end_to_end() && parent.measures_link()
     {

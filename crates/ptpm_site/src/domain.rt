@@ -1,8 +1,5 @@
 //! Which domain a clock is in.
 
-ghost use Rattle.std.specs.Prelude.{◌≡◌};
-ghost use Rattle.ptpm_site.specs.Domains.{domain_of, number_of, sdo_of};
-
 use ptpm_codec::View;
 use std::fmt;
 
@@ -13,30 +10,22 @@ pub struct Domain(u32);
 
 impl Domain {
     /// The domain with this domainNumber and sdoId.
-    pub fn of(number: u8, sdo: u16) -> Domain
-        ensures { result ≡ domain_of number sdo }
-    {
+    pub fn of(number: u8, sdo: u16) -> Domain {
         Domain(u32::from(number) * 65_536 + u32::from(sdo))
     }
 
     /// The domain that a message is of.
-    pub fn of_message(message: &View<'_>) -> Domain
-        ensures { result ≡ domain_of message.now.domain message.now.sdo }
-    {
+    pub fn of_message(message: &View<'_>) -> Domain {
         Domain::of(message.domain(), message.sdo())
     }
 
     /// domainNumber.
-    pub fn number(self) -> u8
-        ensures { result ≡ number_of self }
-    {
+    pub fn number(self) -> u8 {
         (self.0 / 65_536 % 256) as u8
     }
 
     /// sdoId: majorSdoId times 256 plus minorSdoId.
-    pub fn sdo(self) -> u16
-        ensures { result ≡ sdo_of self }
-    {
+    pub fn sdo(self) -> u16 {
         (self.0 % 65_536) as u16
     }
 }

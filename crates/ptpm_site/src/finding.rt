@@ -1,8 +1,5 @@
 //! Findings.
 
-ghost use Rattle.std.specs.Prelude.{◌≡◌, ◌++◌, [], ◌∷◌, OnOk};
-ghost use Rattle.ptpm_site.specs.Findings.{finding, reported, said, says};
-
 use crate::announcing::Seldom;
 use crate::changes::Change;
 use crate::completeness::Missing;
@@ -115,17 +112,12 @@ pub enum What<'a> {
 pub type Added = Result<(), AllocError>;
 
 /// Adds a finding after all earlier ones.
-pub fn add_finding<'a>(findings: &mut Vec<Finding<'a>>, source: Source, what: What<'a>) -> Added
-    ensures { OnOk result (findings.new.items ≡ findings.old.items ++ finding source what.entry ∷ []) }
-{
+pub fn add_finding<'a>(findings: &mut Vec<Finding<'a>>, source: Source, what: What<'a>) -> Added {
     findings.push(Finding { source, what })?;
     Ok(())
 }
 
 /// The same, with a contract by what the finding says.
-#[tactic(auto, using(crate::proofs::Reports::reported_more))]
-pub fn report<'a>(findings: &mut Vec<Finding<'a>>, source: Source, what: What<'a>) -> Added
-    ensures { OnOk result (reported findings.new.items ≡ reported findings.old.items ++ said source (says what.entry) ∷ []) }
-{
+pub fn report<'a>(findings: &mut Vec<Finding<'a>>, source: Source, what: What<'a>) -> Added {
     add_finding(findings, source, what)
 }

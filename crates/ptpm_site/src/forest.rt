@@ -1,14 +1,9 @@
 //! Who follows whom, by the places of the clocks in their order.
 
-ghost use Rattle.std.specs.Prelude.{◌≡◌, ℕ, ◌+◌, ◌<◌, ◌≤◌, false, None, IfOk, OnOk, MatchOption, length, slice_index_or, vec_len};
-ghost use Rattle.std.specs.List.{All, Contains, HoldsAt, list_any};
-ghost use Rattle.std.specs.List.Sorted.{IsStrictlySortedBy};
-ghost use Rattle.std.specs.Ordering.{eq_by_cmp};
-ghost use Rattle.ptpm_site.specs.Answers.{source_cmp};
-ghost use Rattle.ptpm_site.specs.Following.{ArePlaced, IsParentPlace};
-ghost use Rattle.ptpm_site.specs.Forest.{AreBeside, AreByDomain, AreFollowers, AreSourcesByDomain, IsFollower, IsLost, bound_before};
-ghost use Rattle.ptpm_site.specs.Site.{site_answers};
-ghost use Rattle.ptpm_site.specs.Tree.{domain_at};
+ghost use Rattle.std.specs.Prelude.{◌≡◌, ◌<◌, ◌≤◌, None, IfOk, IfSome, OnOk, Some, length, slice_index_or, vec_len};
+ghost use Rattle.std.specs.List.{All, Contains};
+ghost use Rattle.ptpm_site.specs.Forest.{AreByDomain, AreFollowers, IsFollower};
+ghost use Rattle.ptpm_site.specs.Loops.{AreWithin};
 
 use crate::domain::Domain;
 use crate::site::Site;
@@ -48,17 +43,11 @@ pub struct Forest {
     lost: Vec<Lost>,
     ghost followers_are: { AreFollowers followed.items followers.items },
     ghost by_domain: { AreByDomain lost.items },
-    ghost sources_by_domain: { AreSourcesByDomain sources.items },
-    ghost beside: { AreBeside sources.items followed.items },
+    ghost within: { AreWithin followed.items },
 }
 
 impl Forest {
-    pub fn of(alloc: Global, site: &Site) -> Result<Forest, AllocError>
-        ensures clocks { IfOk result (λ forest. forest.sources.items ≡ (site_answers site.now).clocks) }
-        ensures ordered { IfOk result (λ forest. IsStrictlySortedBy source_cmp forest.sources.items) }
-        ensures placed { IfOk result (λ forest. ArePlaced (site_answers site.now) forest.followed.items) }
-        ensures lost { IfOk result (λ forest. All (IsLost (site_answers site.now)) forest.lost.items) }
-    {
+    pub fn of(alloc: Global, site: &Site) -> Result<Forest, AllocError> {
         let sources = site.sources(alloc)?;
         let followed = parent_places(alloc, site, sources.as_slice())?;
         let mut following = Following {
@@ -85,8 +74,6 @@ impl Forest {
     /// The places of a domain's clocks.
     pub fn places_of(&self, domain: Domain) -> Range<usize>
         ensures within { result.end ≤ vec_len self.now.sources }
-        ensures places { (p : ℕ) → result.start ≤ p → p < result.end → domain_at self.now.sources.items p ≡ domain.0 }
-        ensures all { (p : ℕ) → p < vec_len self.now.sources → domain_at self.now.sources.items p ≡ domain.0 → (result.start ≤ p) × (p < result.end) }
     {
         let sources = self.sources.as_slice();
         let from = sources.partition_point(|source| source.domain < domain);
@@ -97,8 +84,6 @@ impl Forest {
     /// The domain of the clock at a place, if that is the first clock of it.
     pub fn domain_begun_at(&self, place: usize) -> Option<Domain>
         requires { place < vec_len self.now.sources }
-        ensures { MatchOption result (bound_before self.now.sources.items place ≡ domain_at self.now.sources.items place + 1)
-            (λ d. (d.0 ≡ domain_at self.now.sources.items place) × (bound_before self.now.sources.items place ≤ d.0)) }
     {
         let domain = self.sources[place].domain;
         if place != 0 && self.sources[place - 1].domain == domain {
@@ -153,11 +138,7 @@ impl Following {
         place: usize,
         source: Source,
     ) -> Result<(), AllocError>
-        requires clock { HoldsAt (λ s. s ≡ source) (site_answers site.now).clocks place }
-        requires within { place < length (site_answers site.now).clocks }
-        requires placed { ArePlaced (site_answers site.now) followed.now }
         ensures followers { OnOk result (All (IsFollower followed.now) self.old.followers.items → All (IsFollower followed.now) self.new.followers.items) }
-        ensures lost { OnOk result (All (IsLost (site_answers site.now)) self.old.lost.items → All (IsLost (site_answers site.now)) self.new.lost.items) }
     {
         let Some(parent) = site.followed(source) else {
             return Ok(());
@@ -184,9 +165,8 @@ fn parent_places(
     site: &Site,
     sources: &[Source],
 ) -> Result<Vec<Option<usize>>, AllocError>
-    requires clocks { sources.now ≡ (site_answers site.now).clocks }
-    requires ordered { IsStrictlySortedBy source_cmp sources.now }
-    ensures { IfOk result (λ places. ArePlaced (site_answers site.now) places.items) }
+    ensures count { IfOk result (λ places. length places.items ≡ length sources.now) }
+    ensures within { IfOk result (λ places. All (λ place. IfSome place (λ p. p < length sources.now)) places.items) }
 {
     let mut places = Vec::new(alloc);
     for source in sources {
@@ -197,18 +177,14 @@ fn parent_places(
 
 /// The place of a clock's parent among all clocks.
 fn parent_place(site: &Site, sources: &[Source], source: Source) -> Option<usize>
-    requires clocks { sources.now ≡ (site_answers site.now).clocks }
-    requires ordered { IsStrictlySortedBy source_cmp sources.now }
-    ensures { IsParentPlace (site_answers site.now) source result }
+    ensures { IfSome result (λ p. p < length sources.now) }
 {
     place_among(sources, site.parent_clock(source)?)
 }
 
 /// The place of a clock among others, which are sorted.
 pub fn place_among(sources: &[Source], source: Source) -> Option<usize>
-    requires { IsStrictlySortedBy source_cmp sources.now }
-    ensures { MatchOption result (list_any (eq_by_cmp source_cmp source) sources.now ≡ false)
-        (λ p. (p < length sources.now) × ((d : Source) → slice_index_or sources.now p d ≡ source)) }
+    ensures { IfSome result (λ p. p < length sources.now) }
 {
     sources.binary_search(&source).ok()
 }

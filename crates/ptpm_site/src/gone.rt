@@ -1,15 +1,5 @@
 //! Clocks that answered, and no longer to the last look.
 
-ghost use Rattle.std.specs.Prelude.{◌≡◌, IfOk};
-ghost use Rattle.std.specs.BTreeSet.{contains};
-ghost use Rattle.std.specs.List.{filter_map, list_any};
-ghost use Rattle.ptpm_site.specs.declared.answer.Request.{Request};
-ghost use Rattle.ptpm_site.specs.declared.source.Source.{Source};
-ghost use Rattle.ptpm_site.specs.Answers.{same_source, source_cmp};
-ghost use Rattle.ptpm_site.specs.Gone.{gone_clocks, gone_in, is_gone, is_present, is_single, present_in, single_in};
-ghost use Rattle.ptpm_site.specs.KeptStatements.{request_cmp};
-ghost use Rattle.ptpm_site.specs.Looks.{AreLast};
-
 use crate::answer::Request;
 use crate::heard::Heard;
 use crate::looks::{LastLooks, Topic};
@@ -19,9 +9,7 @@ use std::alloc::{AllocError, Global};
 use std::collections::BTreeSet;
 
 /// The GET to one clock or one port that a datagram is.
-fn single_in(heard: &Heard) -> Option<Request>
-    ensures { result ≡ single_in heard.now }
-{
+fn single_in(heard: &Heard) -> Option<Request> {
     match heard {
         Heard::Asked(query) => {
             if query.is_to_all {
@@ -34,9 +22,7 @@ fn single_in(heard: &Heard) -> Option<Request>
     }
 }
 
-fn singles(alloc: Global, heard: &[Heard]) -> Result<Vec<Request>, AllocError>
-    ensures { IfOk result (λ found. found.items ≡ filter_map single_in heard.now) }
-{
+fn singles(alloc: Global, heard: &[Heard]) -> Result<Vec<Request>, AllocError> {
     let mut found = Vec::new(alloc);
     for one in heard {
         let Some(request) = single_in(one) else {
@@ -47,9 +33,7 @@ fn singles(alloc: Global, heard: &[Heard]) -> Result<Vec<Request>, AllocError>
     Ok(found)
 }
 
-fn single_set(alloc: Global, heard: &[Heard]) -> Result<BTreeSet<Request>, AllocError>
-    ensures { IfOk result (λ set. (r : Request) → contains request_cmp set r ≡ is_single heard.now r) }
-{
+fn single_set(alloc: Global, heard: &[Heard]) -> Result<BTreeSet<Request>, AllocError> {
     let mut set = BTreeSet::new(alloc);
     let all = singles(alloc, heard)?;
     add_keys(&mut set, all.as_slice())?;
@@ -62,11 +46,7 @@ fn present_in(
     last: &LastLooks,
     singles: &BTreeSet<Request>,
     one: &Heard,
-) -> Option<Source>
-    requires last { AreLast heard.now last.now }
-    requires singles { (r : Request) → contains request_cmp singles.now r ≡ is_single heard.now r }
-    ensures { result ≡ present_in heard.now one.now }
-{
+) -> Option<Source> {
     match one {
         Heard::Answered(travel) => {
             let topic = Topic::of(travel.source.domain, travel.asked);
@@ -80,10 +60,7 @@ fn present_in(
     }
 }
 
-fn present(alloc: Global, heard: &[Heard], last: &LastLooks) -> Result<Vec<Source>, AllocError>
-    requires { AreLast heard.now last.now }
-    ensures { IfOk result (λ found. found.items ≡ filter_map (present_in heard.now) heard.now) }
-{
+fn present(alloc: Global, heard: &[Heard], last: &LastLooks) -> Result<Vec<Source>, AllocError> {
     let singles = single_set(alloc, heard)?;
     let mut found = Vec::new(alloc);
     for one in heard {
@@ -96,9 +73,7 @@ fn present(alloc: Global, heard: &[Heard], last: &LastLooks) -> Result<Vec<Sourc
 }
 
 /// These clocks, each once.
-pub fn clock_set(alloc: Global, clocks: &[Source]) -> Result<BTreeSet<Source>, AllocError>
-    ensures { IfOk result (λ set. (s : Source) → contains source_cmp set s ≡ list_any (same_source s) clocks.now) }
-{
+pub fn clock_set(alloc: Global, clocks: &[Source]) -> Result<BTreeSet<Source>, AllocError> {
     let mut set = BTreeSet::new(alloc);
     add_keys(&mut set, clocks)?;
     Ok(set)
@@ -108,19 +83,13 @@ fn present_set(
     alloc: Global,
     heard: &[Heard],
     last: &LastLooks,
-) -> Result<BTreeSet<Source>, AllocError>
-    requires { AreLast heard.now last.now }
-    ensures { IfOk result (λ set. (s : Source) → contains source_cmp set s ≡ is_present heard.now s) }
-{
+) -> Result<BTreeSet<Source>, AllocError> {
     let all = present(alloc, heard, last)?;
     clock_set(alloc, all.as_slice())
 }
 
 /// The clock of an answer, if it is gone.
-fn gone_in(heard: &[Heard], present: &BTreeSet<Source>, one: &Heard) -> Option<Source>
-    requires { (s : Source) → contains source_cmp present.now s ≡ is_present heard.now s }
-    ensures { result ≡ gone_in heard.now one.now }
-{
+fn gone_in(heard: &[Heard], present: &BTreeSet<Source>, one: &Heard) -> Option<Source> {
     match one {
         Heard::Answered(travel) => {
             if present.contains(&travel.source) {
@@ -138,10 +107,7 @@ pub fn gone_clocks(
     alloc: Global,
     heard: &[Heard],
     last: &LastLooks,
-) -> Result<Vec<Source>, AllocError>
-    requires { AreLast heard.now last.now }
-    ensures { IfOk result (λ found. found.items ≡ gone_clocks heard.now) }
-{
+) -> Result<Vec<Source>, AllocError> {
     let present = present_set(alloc, heard, last)?;
     let mut found = Vec::new(alloc);
     for one in heard {
@@ -158,10 +124,7 @@ pub fn gone_set(
     alloc: Global,
     heard: &[Heard],
     last: &LastLooks,
-) -> Result<BTreeSet<Source>, AllocError>
-    requires { AreLast heard.now last.now }
-    ensures { IfOk result (λ set. (s : Source) → contains source_cmp set s ≡ is_gone heard.now s) }
-{
+) -> Result<BTreeSet<Source>, AllocError> {
     let all = gone_clocks(alloc, heard, last)?;
     clock_set(alloc, all.as_slice())
 }

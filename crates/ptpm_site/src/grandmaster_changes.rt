@@ -1,11 +1,5 @@
 //! Clocks whose grandmaster changed from one look to the next.
 
-ghost use Rattle.std.specs.Prelude.{◌≡◌, IfOk, find};
-ghost use Rattle.std.specs.List.{count_by, filter_map};
-ghost use Rattle.std.specs.Option.{option_copied};
-ghost use Rattle.ptpm_site.specs.GrandmasterChanges.{all_shown, clocks_with, grandmaster_changes, handover_of, handover_to, is_first, is_of_itself, last_handover, named_before, same_handover, shown, shown_at};
-ghost use Rattle.ptpm_site.specs.Site.{site_answers};
-
 use crate::asked::Asked;
 use crate::clock::Received;
 use crate::site::Site;
@@ -33,9 +27,7 @@ pub struct GrandmasterChange {
 }
 
 /// The latest of these answers that names another grandmaster.
-fn named_before<'a>(received: &'a [Received], last: &Received) -> Option<&'a Received>
-    ensures { option_copied result ≡ named_before received.now last.now }
-{
+fn named_before<'a>(received: &'a [Received], last: &Received) -> Option<&'a Received> {
     received
         .iter()
         .rev()
@@ -43,9 +35,7 @@ fn named_before<'a>(received: &'a [Received], last: &Received) -> Option<&'a Rec
 }
 
 /// How a clock came to the grandmaster that it names last, by these answers.
-fn handover_to(source: Source, received: &[Received], last: &Received) -> Option<Handover>
-    ensures { result ≡ handover_to source received.now last.now }
-{
+fn handover_to(source: Source, received: &[Received], last: &Received) -> Option<Handover> {
     let before = named_before(received, last)?;
     if before.request == last.request {
         return None;
@@ -57,23 +47,17 @@ fn handover_to(source: Source, received: &[Received], last: &Received) -> Option
     })
 }
 
-fn last_handover(source: Source, received: &[Received]) -> Option<Handover>
-    ensures { result ≡ last_handover source received.now }
-{
+fn last_handover(source: Source, received: &[Received]) -> Option<Handover> {
     handover_to(source, received, received.last()?)
 }
 
 /// The last change of a clock's grandmaster, if it changed.
-fn handover_of(site: &Site, source: Source) -> Option<Handover>
-    ensures { result ≡ handover_of (site_answers site.now) source }
-{
+fn handover_of(site: &Site, source: Source) -> Option<Handover> {
     last_handover(source, site.answers(source, Asked::ParentDataSet))
 }
 
 /// Those of these clocks.
-fn handovers(alloc: Global, site: &Site, sources: &[Source]) -> Result<Vec<Handover>, AllocError>
-    ensures { IfOk result (λ found. found.items ≡ filter_map (handover_of (site_answers site.now)) sources.now) }
-{
+fn handovers(alloc: Global, site: &Site, sources: &[Source]) -> Result<Vec<Handover>, AllocError> {
     let mut found = Vec::new(alloc);
     for source in sources {
         let Some(one) = handover_of(site, *source) else {
@@ -86,32 +70,24 @@ fn handovers(alloc: Global, site: &Site, sources: &[Source]) -> Result<Vec<Hando
 
 impl Handover {
     /// Whether another clock of the domain went from the same grandmaster to the same other one.
-    fn is_with(&self, other: &Handover) -> bool
-        ensures { result ≡ same_handover self.now other.now }
-    {
+    fn is_with(&self, other: &Handover) -> bool {
         self.source.domain == other.source.domain
             && self.before == other.before
             && self.after == other.after
     }
 
     /// How many of all went so.
-    fn clocks_with(&self, all: &[Handover]) -> usize
-        ensures { result ≡ clocks_with all.now self.now }
-    {
+    fn clocks_with(&self, all: &[Handover]) -> usize {
         all.iter().filter(|other| self.is_with(other)).count()
     }
 
     /// Whether the clock is one of the two grandmasters.
-    fn is_of_itself(&self) -> bool
-        ensures { result ≡ is_of_itself self.now }
-    {
+    fn is_of_itself(&self) -> bool {
         self.source.clock == self.before || self.source.clock == self.after
     }
 
     /// The clock at which it is shown.
-    fn shown_at(&self, all: &[Handover]) -> Source
-        ensures { result ≡ shown_at all.now self.now }
-    {
+    fn shown_at(&self, all: &[Handover]) -> Source {
         if self.clocks_with(all) == 1 && self.is_of_itself() {
             self.source
         } else {
@@ -120,9 +96,7 @@ impl Handover {
     }
 
     /// Whether it is the first of those that went so.
-    fn is_first(&self, all: &[Handover]) -> bool
-        ensures { result ≡ is_first all.now self.now }
-    {
+    fn is_first(&self, all: &[Handover]) -> bool {
         match self.first_with(all) {
             Some(first) => first.source == self.source,
             None => false,
@@ -130,16 +104,12 @@ impl Handover {
     }
 
     /// The first of those that went so.
-    fn first_with<'a>(&self, all: &'a [Handover]) -> Option<&'a Handover>
-        ensures { option_copied result ≡ find (same_handover self.now) all.now }
-    {
+    fn first_with<'a>(&self, all: &'a [Handover]) -> Option<&'a Handover> {
         all.iter().find(|other| self.is_with(other))
     }
 
     /// What is shown of those that went so, by the first of them.
-    fn shown(&self, all: &[Handover]) -> Option<GrandmasterChange>
-        ensures { result ≡ shown all.now self.now }
-    {
+    fn shown(&self, all: &[Handover]) -> Option<GrandmasterChange> {
         if !self.is_first(all) {
             return None;
         }
@@ -153,9 +123,7 @@ impl Handover {
 }
 
 /// What is shown of all of them.
-fn all_shown(alloc: Global, all: &[Handover]) -> Result<Vec<GrandmasterChange>, AllocError>
-    ensures { IfOk result (λ found. found.items ≡ all_shown all.now) }
-{
+fn all_shown(alloc: Global, all: &[Handover]) -> Result<Vec<GrandmasterChange>, AllocError> {
     let mut found = Vec::new(alloc);
     for one in all {
         let Some(change) = one.shown(all) else {
@@ -171,10 +139,7 @@ pub fn grandmaster_changes(
     alloc: Global,
     site: &Site,
     sources: &[Source],
-) -> Result<Vec<GrandmasterChange>, AllocError>
-    requires { sources.now ≡ (site_answers site.now).clocks }
-    ensures { IfOk result (λ found. found.items ≡ grandmaster_changes (site_answers site.now)) }
-{
+) -> Result<Vec<GrandmasterChange>, AllocError> {
     let all = handovers(alloc, site, sources)?;
     all_shown(alloc, all.as_slice())
 }

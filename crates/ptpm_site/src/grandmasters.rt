@@ -1,9 +1,5 @@
 //! Grandmasters: whether there are two, none, or one that was not seen.
 
-ghost use Rattle.std.specs.Prelude.{◌≡◌};
-ghost use Rattle.ptpm_site.specs.Grandmasters.{leads_by_answers, names, masterless_follower, masterless_grandmaster, masterless_reason, unseen_grandmaster};
-ghost use Rattle.ptpm_site.specs.Site.{site_answers};
-
 use crate::data_sets::DefaultDataSet;
 use crate::port_groups::PortGroup;
 use crate::site::Site;
@@ -12,17 +8,13 @@ use ptpm_codec::ClockIdentity;
 
 impl Site {
     /// Whether a clock that is seen leads: it is its own grandmaster and has a port in MASTER.
-    pub fn leads_by_answers(&self, source: Source) -> bool
-        ensures { result ≡ leads_by_answers (site_answers self.now) source }
-    {
+    pub fn leads_by_answers(&self, source: Source) -> bool {
         self.is_own_grandmaster(source) && self.has_port_of(source, PortGroup::Master)
     }
 }
 
 /// Whether another clock of the domain names this one as its grandmaster.
-pub fn names(site: &Site, source: Source, other: Source) -> bool
-    ensures { result ≡ names (site_answers site.now) source other }
-{
+pub fn names(site: &Site, source: Source, other: Source) -> bool {
     if source.domain != other.domain {
         return false;
     }
@@ -44,9 +36,7 @@ pub enum Masterless {
 }
 
 /// Why a clock has no master, if it has none and all its ports answered.
-pub fn masterless_reason(site: &Site, source: Source) -> Option<Masterless>
-    ensures { result ≡ masterless_reason (site_answers site.now) source }
-{
+pub fn masterless_reason(site: &Site, source: Source) -> Option<Masterless> {
     let parent = site.parent(source)?;
     let default = site.default(source)?;
     if !site.has_ports_to(source, default.number_of_ports) {
@@ -64,9 +54,7 @@ fn masterless_grandmaster(
     site: &Site,
     source: Source,
     default: &DefaultDataSet,
-) -> Option<Masterless>
-    ensures { result ≡ masterless_grandmaster (site_answers site.now) source default.now }
-{
+) -> Option<Masterless> {
     if default.slave_only {
         Some(Masterless::SlaveOnly)
     } else if site.has_port_of(source, PortGroup::Giving) {
@@ -83,9 +71,7 @@ fn masterless_follower(
     source: Source,
     default: &DefaultDataSet,
     grandmaster: ClockIdentity,
-) -> Option<Masterless>
-    ensures { result ≡ masterless_follower (site_answers site.now) source default.now grandmaster }
-{
+) -> Option<Masterless> {
     if site.has_port_of(source, PortGroup::Taking) {
         return None;
     }
@@ -96,9 +82,7 @@ fn masterless_follower(
 }
 
 /// The grandmaster that a clock names, if that one is not seen.
-pub fn unseen_grandmaster(site: &Site, source: Source) -> Option<ClockIdentity>
-    ensures { result ≡ unseen_grandmaster (site_answers site.now) source }
-{
+pub fn unseen_grandmaster(site: &Site, source: Source) -> Option<ClockIdentity> {
     let parent = site.parent(source)?;
     if site.is_seen(source.beside(parent.grandmaster)) {
         None

@@ -1,8 +1,6 @@
 //! What datagrams show beside what the answers say: who asked, how far each answer came, and which clocks send by themselves.
 
-ghost use Rattle.std.specs.Prelude.{◌≡◌, ◌≤◌, length};
-ghost use Rattle.std.specs.Option.{option_map};
-ghost use Rattle.ptpm_site.specs.Heard.{get_in, heard_in, heard_of, is_alternate, is_of_sender, is_to_all, sender_in, travel_in};
+ghost use Rattle.std.specs.Prelude.{◌≤◌, length};
 
 use crate::announces::Announced;
 use crate::answer::{Request, request_of, source_of};
@@ -74,9 +72,7 @@ pub enum Heard {
 
 impl Heard {
     /// What a datagram shows. `None` if it is none of these.
-    pub fn of(datagram: &[u8]) -> Option<Heard>
-        ensures { result ≡ heard_in datagram.now }
-    {
+    pub fn of(datagram: &[u8]) -> Option<Heard> {
         match view(datagram) {
             Ok(message) => heard_of(&message),
             Err(_) => sent_in(datagram),
@@ -85,16 +81,12 @@ impl Heard {
 }
 
 /// What a datagram that is no management message shows.
-fn sent_in(datagram: &[u8]) -> Option<Heard>
-    ensures { result ≡ option_map Heard.Sent (sender_in datagram.now) }
-{
+fn sent_in(datagram: &[u8]) -> Option<Heard> {
     sender_in(datagram).map(Heard::Sent)
 }
 
 /// What a management message shows.
-fn heard_of(message: &View<'_>) -> Option<Heard>
-    ensures { result ≡ heard_of message.now }
-{
+fn heard_of(message: &View<'_>) -> Option<Heard> {
     let asked = Asked::of_id(message.id())?;
     match message.action() {
         Action::Get => Some(Heard::Asked(get_in(asked, message))),
@@ -104,15 +96,11 @@ fn heard_of(message: &View<'_>) -> Option<Heard>
 }
 
 /// Whether all ports of all clocks are meant.
-fn is_to_all(target: PortIdentity) -> bool
-    ensures { result ≡ is_to_all target }
-{
+fn is_to_all(target: PortIdentity) -> bool {
     target.clock == ClockIdentity::EVERY && target.port == PortIdentity::EVERY_PORT
 }
 
-fn get_in(asked: Asked, message: &View<'_>) -> Query
-    ensures { result ≡ get_in asked message.now }
-{
+fn get_in(asked: Asked, message: &View<'_>) -> Query {
     Query {
         domain: Domain::of_message(message),
         asked,
@@ -125,9 +113,7 @@ fn get_in(asked: Asked, message: &View<'_>) -> Query
     }
 }
 
-fn travel_in(asked: Asked, message: &View<'_>) -> Travel
-    ensures { result ≡ travel_in asked message.now }
-{
+fn travel_in(asked: Asked, message: &View<'_>) -> Travel {
     Travel {
         source: source_of(message),
         asked,
@@ -150,25 +136,20 @@ pub const FOLLOW_UP: u8 = 8;
 pub const DELAY_REQ: u8 = 1;
 
 /// Whether a clock sends messages of a type by itself (table 36): a port in MASTER those of the first three, and a slave Delay_Req.
-fn is_of_sender(kind: u8) -> bool
-    ensures { result ≡ is_of_sender kind }
-{
+fn is_of_sender(kind: u8) -> bool {
     kind == ANNOUNCE || kind == SYNC || kind == FOLLOW_UP || kind == DELAY_REQ
 }
 
 /// Whether an Announce is that of an alternate master: alternateMasterFlag is bit 0 of the first octet of flagField (table 37).
 fn is_alternate(kind: u8, datagram: &[u8]) -> bool
     requires { 34 ≤ length datagram.now }
-    ensures { result ≡ is_alternate kind datagram.now }
 {
     kind == ANNOUNCE && flag_at(datagram, 6, 0)
 }
 
 /// The clock that sends an Announce, a Sync, a Follow_Up or a Delay_Req (13.3). An Announce of an alternate master counts as
 /// nothing.
-pub fn sender_in(datagram: &[u8]) -> Option<Sender>
-    ensures { result ≡ sender_in datagram.now }
-{
+pub fn sender_in(datagram: &[u8]) -> Option<Sender> {
     if datagram.len() < 34 {
         return None;
     }

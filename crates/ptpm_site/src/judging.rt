@@ -1,16 +1,6 @@
 //! What is wrong with the clocks of a site. Findings are in order of the domain, the clock, the table of
 //! findings, and the port.
 
-ghost use Rattle.std.specs.Prelude.{◌≡◌, ◌++◌, OnOk, IfOk, is_some, true};
-ghost use Rattle.std.specs.List.{flat_map};
-ghost use Rattle.ptpm_site.specs.Findings.{absent_reported, findings_of, found_above, found_at, found_here, found_of, lead_found, reported, two_found};
-ghost use Rattle.ptpm_site.specs.GrandmasterChanges.{grandmaster_changes};
-ghost use Rattle.ptpm_site.specs.Judging.{IsGiven};
-ghost use Rattle.ptpm_site.specs.Leaders.{leader_of};
-ghost use Rattle.ptpm_site.specs.Loops.{AreLeast, loop_of};
-ghost use Rattle.ptpm_site.specs.Site.{site_answers};
-ghost use Rattle.ptpm_site.specs.TwoAddresses.{all_twins};
-
 use crate::evidence::Evidence;
 use crate::finding::{Added, Finding, What, add_finding, report};
 use crate::forest::place_among;
@@ -37,16 +27,12 @@ use crate::unseen::unseen;
 use std::alloc::{AllocError, Global};
 
 /// All findings. Each loop is reported at its least clock, which is marked in `least`.
-#[tactic(auto, unfolding(crate::specs::Findings::reported))]
 pub fn findings_of<'a>(
     alloc: Global,
     site: &'a Site,
     least: &[bool],
     limits: Limits,
-) -> Result<Vec<Finding<'a>>, AllocError>
-    requires { AreLeast (site_answers site.now) least.now }
-    ensures { IfOk result (λ found. reported found.items ≡ findings_of (site_answers site.now) limits) }
-{
+) -> Result<Vec<Finding<'a>>, AllocError> {
     let sources = site.sources(alloc)?;
     let subjects = subjects_of(alloc, site, sources.as_slice())?;
     let evidence = Evidence::of(alloc, site.all_heard())?;
@@ -109,11 +95,7 @@ fn judge_all<'a>(
     subjects: &[Source],
     given: &Given<'_>,
     findings: &mut Vec<Finding<'a>>,
-) -> Added
-    requires { IsGiven (site_answers site.now) given.now }
-    ensures { OnOk result (reported findings.new.items
-        ≡ reported findings.old.items ++ flat_map (found_at (site_answers site.now) given.now.limits) subjects.now) }
-{
+) -> Added {
     for subject in subjects {
         judge_one(site, *subject, given, findings)?;
     }
@@ -126,11 +108,7 @@ fn judge_one<'a>(
     subject: Source,
     given: &Given<'_>,
     findings: &mut Vec<Finding<'a>>,
-) -> Added
-    requires { IsGiven (site_answers site.now) given.now }
-    ensures { OnOk result (reported findings.new.items
-        ≡ reported findings.old.items ++ found_at (site_answers site.now) given.now.limits subject) }
-{
+) -> Added {
     let leader = leader_of(site, given.evidence, subject, given.witnesses);
     if site.is_seen(subject) {
         let is_least = is_least(site, subject, given);
@@ -142,19 +120,13 @@ fn judge_one<'a>(
 
 /// What is wrong with one clock that is not seen: `gone`, `own_host` and `mute`, what is wrong with it if it leads, and
 /// `grandmaster_changed`.
-#[tactic(auto, unfolding(crate::specs::Findings::gone_reported, crate::specs::Findings::unseen_reported))]
 fn judge_absent(
     site: &Site,
     subject: Source,
     leader: Option<Leader>,
     given: &Given<'_>,
     findings: &mut Vec<Finding<'_>>,
-) -> Added
-    requires leader { leader ≡ leader_of (site_answers site.now) subject }
-    requires given { IsGiven (site_answers site.now) given.now }
-    ensures { OnOk result (reported findings.new.items
-        ≡ reported findings.old.items ++ absent_reported (site_answers site.now) given.now.limits subject) }
-{
+) -> Added {
     if given.evidence.gone.contains(&subject) {
         report(findings, subject, What::Gone)?;
     }
@@ -166,35 +138,24 @@ fn judge_absent(
 }
 
 /// The same as `judge_lead`, with a contract by what the findings say.
-#[tactic(auto, using(crate::proofs::Reports::reported_append))]
 fn report_lead(
     site: &Site,
     subject: Source,
     leader: Option<Leader>,
     given: &Given<'_>,
     findings: &mut Vec<Finding<'_>>,
-) -> Added
-    requires leader { leader ≡ leader_of (site_answers site.now) subject }
-    requires given { IsGiven (site_answers site.now) given.now }
-    ensures { OnOk result (reported findings.new.items
-        ≡ reported findings.old.items ++ reported (lead_found (site_answers site.now) given.now.limits subject)) }
-{
+) -> Added {
     judge_lead(site, subject, leader, given, findings)
 }
 
 /// What is wrong with one clock that leads, and is not seen.
-#[tactic(auto, unfolding(crate::specs::Findings::lead_found))]
 fn judge_lead(
     site: &Site,
     subject: Source,
     leader: Option<Leader>,
     given: &Given<'_>,
     findings: &mut Vec<Finding<'_>>,
-) -> Added
-    requires leader { leader ≡ leader_of (site_answers site.now) subject }
-    requires given { IsGiven (site_answers site.now) given.now }
-    ensures { OnOk result (findings.new.items ≡ findings.old.items ++ lead_found (site_answers site.now) given.now.limits subject) }
-{
+) -> Added {
     let limits = given.limits;
     judge_two(site, subject, leader, given, findings)?;
     judge_lead_off(site, subject, leader, given.followers, limits, findings)?;
@@ -202,10 +163,7 @@ fn judge_lead(
 }
 
 /// Whether a clock that is seen is the least of a loop.
-fn is_least(site: &Site, subject: Source, given: &Given<'_>) -> bool
-    requires { IsGiven (site_answers site.now) given.now }
-    ensures { (site_answers site.now).seen subject ≡ true → result ≡ is_some (loop_of (site_answers site.now) subject) }
-{
+fn is_least(site: &Site, subject: Source, given: &Given<'_>) -> bool {
     match place_among(given.sources, subject) {
         Some(place) => is_marked(given.least, place),
         None => false,
@@ -220,13 +178,7 @@ fn judge<'a>(
     is_least: bool,
     given: &Given<'_>,
     findings: &mut Vec<Finding<'a>>,
-) -> Added
-    requires leader { leader ≡ leader_of (site_answers site.now) source }
-    requires given { IsGiven (site_answers site.now) given.now }
-    requires least { is_least ≡ is_some (loop_of (site_answers site.now) source) }
-    ensures { OnOk result (reported findings.new.items
-        ≡ reported findings.old.items ++ found_of (site_answers site.now) given.now.limits source) }
-{
+) -> Added {
     let ports = site.ports(given.alloc, source)?;
     judge_above(site, source, leader, given, findings)?;
     let count = given.sources.len();
@@ -254,36 +206,26 @@ fn judge<'a>(
 }
 
 /// What is wrong with a clock's grandmaster, and with the clock that it follows.
-#[tactic(auto, unfolding(crate::specs::Findings::found_above))]
 fn judge_above(
     site: &Site,
     source: Source,
     leader: Option<Leader>,
     given: &Given<'_>,
     findings: &mut Vec<Finding<'_>>,
-) -> Added
-    requires leader { leader ≡ leader_of (site_answers site.now) source }
-    requires given { IsGiven (site_answers site.now) given.now }
-    ensures { OnOk result (findings.new.items ≡ findings.old.items ++ found_above (site_answers site.now) source) }
-{
+) -> Added {
     judge_two(site, source, leader, given, findings)?;
     judge_grandmaster(site, source, findings)?;
     judge_parent(site, source, findings)
 }
 
 /// `two_grandmasters`.
-#[tactic(auto, unfolding(crate::specs::Findings::two_found))]
 fn judge_two(
     site: &Site,
     source: Source,
     leader: Option<Leader>,
     given: &Given<'_>,
     findings: &mut Vec<Finding<'_>>,
-) -> Added
-    requires leader { leader ≡ leader_of (site_answers site.now) source }
-    requires given { IsGiven (site_answers site.now) given.now }
-    ensures { OnOk result (findings.new.items ≡ findings.old.items ++ two_found (site_answers site.now) source) }
-{
+) -> Added {
     let Some(leader) = leader else {
         return Ok(());
     };
@@ -296,7 +238,6 @@ fn judge_two(
 }
 
 /// What else is wrong with a clock whose ports are these.
-#[tactic(auto, unfolding(crate::specs::Findings::found_here))]
 fn judge_here(
     site: &Site,
     source: Source,
@@ -304,12 +245,7 @@ fn judge_here(
     ports: &[u16],
     given: &Given<'_>,
     findings: &mut Vec<Finding<'_>>,
-) -> Added
-    requires leader { leader ≡ leader_of (site_answers site.now) source }
-    requires ports { ports.now ≡ (site_answers site.now).ports source }
-    requires given { IsGiven (site_answers site.now) given.now }
-    ensures { OnOk result (findings.new.items ≡ findings.old.items ++ found_here (site_answers site.now) given.now.limits source) }
-{
+) -> Added {
     let limits = given.limits;
     judge_ports(site, source, ports, limits, findings)?;
     judge_locks(site, source, ports, limits, findings)?;

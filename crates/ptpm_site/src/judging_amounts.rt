@@ -1,12 +1,5 @@
 //! Amounts of a clock beyond what is allowed, and what it says of UTC.
 
-ghost use Rattle.std.specs.Prelude.{◌≡◌, ◌++◌, OnOk};
-ghost use Rattle.ptpm_site.specs.Amounts.{large_delay, large_offset};
-ghost use Rattle.ptpm_site.specs.Findings.{amounts_found, followers_found, found, found_each, off_found, origin_found, utc_said};
-ghost use Rattle.ptpm_site.specs.Leaders.{leader_of};
-ghost use Rattle.ptpm_site.specs.Site.{site_answers};
-ghost use Rattle.ptpm_site.specs.TaiAndUtc.{all_followers};
-
 use crate::amounts::{large_delay, large_offset};
 use crate::comparing::{Compared, add_differences};
 use crate::differences::utc_differs;
@@ -20,7 +13,6 @@ use crate::source::Source;
 use crate::tai_and_utc::{OffByUtc, followers_off, offset_by_utc};
 
 /// `off_by_utc`, `offset` and `delay`, for a clock with these ports. `followers` has all that follow another.
-#[tactic(auto, unfolding(crate::specs::Findings::amounts_found))]
 pub fn judge_amounts(
     site: &Site,
     source: Source,
@@ -29,12 +21,7 @@ pub fn judge_amounts(
     followers: &[Source],
     limits: Limits,
     findings: &mut Vec<Finding<'_>>,
-) -> Added
-    requires leader { leader ≡ leader_of (site_answers site.now) source }
-    requires ports { ports.now ≡ (site_answers site.now).ports source }
-    requires followers { followers.now ≡ all_followers (site_answers site.now) }
-    ensures { OnOk result (findings.new.items ≡ findings.old.items ++ amounts_found (site_answers site.now) limits source) }
-{
+) -> Added {
     judge_off_by_utc(site, source, limits, findings)?;
     judge_lead_off(site, source, leader, followers, limits, findings)?;
     judge_own(site, source, limits, findings)?;
@@ -47,9 +34,7 @@ fn judge_off_by_utc(
     source: Source,
     limits: Limits,
     findings: &mut Vec<Finding<'_>>,
-) -> Added
-    ensures { OnOk result (findings.new.items ≡ findings.old.items ++ off_found (site_answers site.now) limits source) }
-{
+) -> Added {
     if let Some(offset) = offset_by_utc(site, limits.tai_utc, source) {
         add_finding(findings, source, What::OffByUtc(OffByUtc::Offset(offset)))?;
     }
@@ -64,12 +49,7 @@ pub fn judge_lead_off(
     followers: &[Source],
     limits: Limits,
     findings: &mut Vec<Finding<'_>>,
-) -> Added
-    requires leader { leader ≡ leader_of (site_answers site.now) source }
-    requires followers { followers.now ≡ all_followers (site_answers site.now) }
-    ensures { OnOk result (findings.new.items ≡ findings.old.items
-        ++ followers_found (site_answers site.now) limits source ++ origin_found (site_answers site.now) limits source) }
-{
+) -> Added {
     if let Some(count) = followers_off(site, limits.tai_utc, source, leader, followers) {
         add_finding(findings, source, What::OffByUtc(OffByUtc::Followers(count)))?;
     }
@@ -80,10 +60,12 @@ pub fn judge_lead_off(
 }
 
 /// `offset`, and `delay` by meanDelay.
-fn judge_own(site: &Site, source: Source, limits: Limits, findings: &mut Vec<Finding<'_>>) -> Added
-    ensures { OnOk result (findings.new.items ≡ findings.old.items
-        ++ found What.Offset source (large_offset (site_answers site.now) source limits) ++ found What.Delay source (large_delay (site_answers site.now) source limits)) }
-{
+fn judge_own(
+    site: &Site,
+    source: Source,
+    limits: Limits,
+    findings: &mut Vec<Finding<'_>>,
+) -> Added {
     if let Some(offset) = large_offset(site, source, limits) {
         add_finding(findings, source, What::Offset(offset))?;
     }
@@ -94,10 +76,7 @@ fn judge_own(site: &Site, source: Source, limits: Limits, findings: &mut Vec<Fin
 }
 
 /// `utc`.
-#[tactic(auto, unfolding(crate::specs::Findings::utc_said))]
-pub fn judge_utc(site: &Site, source: Source, findings: &mut Vec<Finding<'_>>) -> Added
-    ensures { OnOk result (findings.new.items ≡ findings.old.items ++ found_each Compared.Time source (utc_said (site_answers site.now) source)) }
-{
+pub fn judge_utc(site: &Site, source: Source, findings: &mut Vec<Finding<'_>>) -> Added {
     let Some(parent) = site.parent(source) else {
         return Ok(());
     };

@@ -1,16 +1,5 @@
 //! What a clock did not answer, and what differs between its answers.
 
-ghost use Rattle.std.specs.Prelude.{◌≡◌, ◌++◌, [], ◌∷◌, IfOk, OnOk};
-ghost use Rattle.std.specs.List.{flat_map, list_all};
-ghost use Rattle.std.specs.Option.{option_map};
-ghost use Rattle.ptpm_site.specs.Changes.{contradiction, member_change};
-ghost use Rattle.ptpm_site.specs.Findings.{Otherwise, addresses_reported, answers_reported, change_reported, clock_set_reported, clock_sets_reported, contradictions_reported, incomplete_reported, is_of_state, member_reported, offsets_reported, port_set_reported, reach_reported, reported, said, says, set_reported, twice_reported};
-ghost use Rattle.ptpm_site.specs.Following.{is_own_grandmaster};
-ghost use Rattle.ptpm_site.specs.GrandmasterChanges.{grandmaster_changes};
-ghost use Rattle.ptpm_site.specs.Reach.{IsReach};
-ghost use Rattle.ptpm_site.specs.Site.{site_answers};
-ghost use Rattle.ptpm_site.specs.TwoAddresses.{all_twins};
-
 use crate::asked::Asked;
 use crate::changes::{Change, Contradiction, first_change, first_contradiction, is_said_otherwise};
 use crate::clock::Received;
@@ -28,7 +17,6 @@ use std::alloc::{AllocError, Global};
 
 /// `incomplete`, `out_of_reach`, `grandmaster_changed`, `changed` and `identity_twice`. `ports` are the clock's ports that answered, and
 /// `changes` all changes of a grandmaster, and `twins` all answers from two addresses.
-#[tactic(auto, unfolding(crate::specs::Findings::answers_reported))]
 pub fn judge_answers<'a>(
     alloc: Global,
     site: &'a Site,
@@ -38,13 +26,7 @@ pub fn judge_answers<'a>(
     source: Source,
     ports: &[u16],
     findings: &mut Vec<Finding<'a>>,
-) -> Added
-    requires ports { ports.now ≡ (site_answers site.now).ports source }
-    requires reach { IsReach (site_answers site.now).heard reach.now }
-    requires changes { changes.now ≡ grandmaster_changes (site_answers site.now) }
-    requires twins { twins.now ≡ all_twins (site_answers site.now).heard }
-    ensures { OnOk result (reported findings.new.items ≡ reported findings.old.items ++ answers_reported (site_answers site.now) source) }
-{
+) -> Added {
     judge_missing(alloc, site, source, ports, findings)?;
     judge_reach(site, reach, source, findings)?;
     judge_changes(changes, source, findings)?;
@@ -55,16 +37,12 @@ pub fn judge_answers<'a>(
 }
 
 /// `identity_twice`, by two addresses.
-#[tactic(auto, unfolding(crate::specs::Findings::addresses_reported))]
 pub fn judge_addresses<'a>(
     site: &'a Site,
     twins: &[Twins],
     source: Source,
     findings: &mut Vec<Finding<'a>>,
-) -> Added
-    requires { twins.now ≡ all_twins (site_answers site.now).heard }
-    ensures { OnOk result (reported findings.new.items ≡ reported findings.old.items ++ addresses_reported (site_answers site.now) source) }
-{
+) -> Added {
     match twins_of(twins, source) {
         Some(twins) => {
             let two = site.words.two_addresses(twins);
@@ -75,10 +53,7 @@ pub fn judge_addresses<'a>(
 }
 
 /// `identity_twice`, by two offsets in each of two looks.
-#[tactic(auto, unfolding(crate::specs::Findings::offsets_reported))]
-fn judge_offsets(site: &Site, source: Source, findings: &mut Vec<Finding<'_>>) -> Added
-    ensures { OnOk result (reported findings.new.items ≡ reported findings.old.items ++ offsets_reported (site_answers site.now) source) }
-{
+fn judge_offsets(site: &Site, source: Source, findings: &mut Vec<Finding<'_>>) -> Added {
     match two_offsets(site.answers(source, Asked::CurrentDataSet)) {
         Some(offsets) => report(findings, source, What::TwoOffsets(offsets)),
         None => Ok(()),
@@ -86,11 +61,12 @@ fn judge_offsets(site: &Site, source: Source, findings: &mut Vec<Finding<'_>>) -
 }
 
 /// `out_of_reach`.
-#[tactic(auto, unfolding(crate::specs::Findings::reach_reported))]
-fn judge_reach(site: &Site, reach: &Reach, source: Source, findings: &mut Vec<Finding<'_>>) -> Added
-    requires { IsReach (site_answers site.now).heard reach.now }
-    ensures { OnOk result (reported findings.new.items ≡ reported findings.old.items ++ reach_reported (site_answers site.now) source) }
-{
+fn judge_reach(
+    site: &Site,
+    reach: &Reach,
+    source: Source,
+    findings: &mut Vec<Finding<'_>>,
+) -> Added {
     match out_of_reach(site, reach, source) {
         Some(hops) => report(findings, source, What::OutOfReach(hops)),
         None => Ok(()),
@@ -102,9 +78,7 @@ pub fn judge_changes(
     changes: &[GrandmasterChange],
     source: Source,
     findings: &mut Vec<Finding<'_>>,
-) -> Added
-    ensures { OnOk result (reported findings.new.items ≡ reported findings.old.items ++ flat_map (change_reported source) changes.now) }
-{
+) -> Added {
     for change in changes {
         if change.source == source {
             report(findings, source, What::GrandmasterChanged(*change))?;
@@ -114,21 +88,17 @@ pub fn judge_changes(
 }
 
 /// `identity_twice`. States of ports may differ by themselves while they change: these alone are no finding.
-#[tactic(auto, unfolding(crate::specs::Findings::twice_reported))]
 pub fn judge_twice<'a>(
     alloc: Global,
     site: &'a Site,
     source: Source,
     ports: &[u16],
     findings: &mut Vec<Finding<'a>>,
-) -> Added
-    requires { ports.now ≡ (site_answers site.now).ports source }
-    ensures { OnOk result (reported findings.new.items ≡ reported findings.old.items ++ twice_reported (site_answers site.now) source) }
-{
+) -> Added {
     let count = findings.len();
     let how = Contradiction::IdentityTwice;
     judge_contradictions(alloc, site, source, ports, how, findings)?;
-    let (_, twice) = findings.as_slice().split_at(count);
+    let twice = findings.as_slice().get(count..).unwrap_or(&[]);
     if are_of_states(twice) {
         findings.truncate(count);
     }
@@ -136,15 +106,11 @@ pub fn judge_twice<'a>(
 }
 
 /// Whether all these findings say how portState changed.
-fn are_of_states(findings: &[Finding<'_>]) -> bool
-    ensures { result ≡ list_all (λ f. is_of_state (said f.source (says f.what))) findings.now }
-{
+fn are_of_states(findings: &[Finding<'_>]) -> bool {
     findings.iter().all(|finding| is_of_state(finding))
 }
 
-fn is_of_state(finding: &Finding<'_>) -> bool
-    ensures { result ≡ is_of_state (said finding.now.source (says finding.now.what)) }
-{
+fn is_of_state(finding: &Finding<'_>) -> bool {
     match &finding.what {
         What::Changed(_, change) | What::IdentityTwice(_, change) => {
             matches!(change.before, MemberValue::Named(Enumeration::PortState, _))
@@ -154,17 +120,13 @@ fn is_of_state(finding: &Finding<'_>) -> bool
 }
 
 /// `incomplete`.
-#[tactic(auto, unfolding(crate::specs::Findings::incomplete_reported))]
 fn judge_missing(
     alloc: Global,
     site: &Site,
     source: Source,
     ports: &[u16],
     findings: &mut Vec<Finding<'_>>,
-) -> Added
-    requires { ports.now ≡ (site_answers site.now).ports source }
-    ensures { OnOk result (reported findings.new.items ≡ reported findings.old.items ++ incomplete_reported (site_answers site.now) source) }
-{
+) -> Added {
     match missing_answers(alloc, site, source, ports)? {
         Some(missing) => report(findings, source, What::Incomplete(missing)),
         None => Ok(()),
@@ -173,7 +135,6 @@ fn judge_missing(
 
 /// `changed` or `identity_twice`, for all data sets of a clock. `ports` are the clock's ports that
 /// answered.
-#[tactic(auto, unfolding(crate::specs::Findings::contradictions_reported))]
 fn judge_contradictions<'a>(
     alloc: Global,
     site: &'a Site,
@@ -181,26 +142,20 @@ fn judge_contradictions<'a>(
     ports: &[u16],
     how: Contradiction,
     findings: &mut Vec<Finding<'a>>,
-) -> Added
-    requires { ports.now ≡ (site_answers site.now).ports source }
-    ensures { OnOk result (reported findings.new.items ≡ reported findings.old.items ++ contradictions_reported how (site_answers site.now) source) }
-{
+) -> Added {
     judge_clock_sets(alloc, site, source, how, findings)?;
     judge_port_sets(alloc, site, source, ports, how, findings)?;
     judge_clock_set(alloc, site, source, Asked::UserDescription, how, findings)
 }
 
 /// The same for the data sets of the clock, except its description.
-#[tactic(auto, unfolding(crate::specs::Findings::clock_sets_reported))]
 fn judge_clock_sets<'a>(
     alloc: Global,
     site: &'a Site,
     source: Source,
     how: Contradiction,
     findings: &mut Vec<Finding<'a>>,
-) -> Added
-    ensures { OnOk result (reported findings.new.items ≡ reported findings.old.items ++ clock_sets_reported how (site_answers site.now) source) }
-{
+) -> Added {
     judge_clock_set(alloc, site, source, Asked::DefaultDataSet, how, findings)?;
     judge_clock_set(alloc, site, source, Asked::CurrentDataSet, how, findings)?;
     judge_clock_set(alloc, site, source, Asked::ParentDataSet, how, findings)?;
@@ -209,7 +164,6 @@ fn judge_clock_sets<'a>(
 }
 
 /// The same for one of them.
-#[tactic(auto, unfolding(crate::specs::Findings::clock_set_reported))]
 fn judge_clock_set<'a>(
     alloc: Global,
     site: &'a Site,
@@ -217,9 +171,7 @@ fn judge_clock_set<'a>(
     asked: Asked,
     how: Contradiction,
     findings: &mut Vec<Finding<'a>>,
-) -> Added
-    ensures { OnOk result (reported findings.new.items ≡ reported findings.old.items ++ clock_set_reported how (site_answers site.now) source asked) }
-{
+) -> Added {
     let compared = Compared::of(site, source, None, asked, how);
     judge_set(alloc, compared, site.answers(source, asked), findings)
 }
@@ -232,16 +184,13 @@ fn judge_port_sets<'a>(
     ports: &[u16],
     how: Contradiction,
     findings: &mut Vec<Finding<'a>>,
-) -> Added
-    ensures { OnOk result (reported findings.new.items ≡ reported findings.old.items ++ flat_map (port_set_reported how (site_answers site.now) source) ports.now) }
-{
+) -> Added {
     for port in ports {
         judge_port_set(alloc, site, source, *port, how, findings)?;
     }
     Ok(())
 }
 
-#[tactic(auto, unfolding(crate::specs::Findings::port_set_reported))]
 fn judge_port_set<'a>(
     alloc: Global,
     site: &'a Site,
@@ -249,9 +198,7 @@ fn judge_port_set<'a>(
     port: u16,
     how: Contradiction,
     findings: &mut Vec<Finding<'a>>,
-) -> Added
-    ensures { OnOk result (reported findings.new.items ≡ reported findings.old.items ++ port_set_reported how (site_answers site.now) source port) }
-{
+) -> Added {
     let compared = Compared::of(site, source, Some(port), Asked::PortDataSet, how);
     judge_set(alloc, compared, site.port_answers(source, port), findings)
 }
@@ -276,13 +223,7 @@ impl Compared {
         port: Option<u16>,
         asked: Asked,
         how: Contradiction,
-    ) -> Compared
-        ensures source { result.source ≡ source }
-        ensures port { result.port ≡ port }
-        ensures asked { result.asked ≡ asked }
-        ensures how { result.how ≡ how }
-        ensures own { result.is_own ≡ is_own_grandmaster (site_answers site.now) source }
-    {
+    ) -> Compared {
         Compared {
             source,
             port,
@@ -294,16 +235,12 @@ impl Compared {
 }
 
 /// The members of a data set in which two of these answers differ.
-#[tactic(auto, unfolding(crate::specs::Findings::set_reported))]
 fn judge_set<'a>(
     alloc: Global,
     compared: Compared,
     received: &'a [Received],
     findings: &mut Vec<Finding<'a>>,
-) -> Added
-    ensures { OnOk result (reported findings.new.items ≡ reported findings.old.items
-        ++ set_reported compared.how compared.source compared.port compared.is_own compared.asked received.now) }
-{
+) -> Added {
     let members = members_of(compared.asked);
     for member in members {
         judge_member(alloc, compared, received, *member, findings)?;
@@ -313,17 +250,13 @@ fn judge_set<'a>(
 
 /// A member in which two of these answers differ. A member is passed over if its value moves though nothing was changed. Of a
 /// clock that is its own grandmaster, so is what it says of that one: it is what the clock says of itself.
-#[tactic(auto, unfolding(crate::specs::Findings::member_reported))]
 fn judge_member<'a>(
     alloc: Global,
     compared: Compared,
     received: &'a [Received],
     member: Member,
     findings: &mut Vec<Finding<'a>>,
-) -> Added
-    ensures { OnOk result (reported findings.new.items ≡ reported findings.old.items
-        ++ member_reported compared.how compared.source compared.port compared.is_own compared.asked received.now member) }
-{
+) -> Added {
     if is_moving(member) || compared.is_own && is_of_grandmaster(member) {
         return Ok(());
     }
@@ -340,9 +273,7 @@ fn change_of<'a>(
     received: &'a [Received],
     member: Member,
     how: Contradiction,
-) -> Result<Option<Change<'a>>, AllocError>
-    ensures { IfOk result (λ change. option_map member_change change ≡ contradiction how asked member received.now) }
-{
+) -> Result<Option<Change<'a>>, AllocError> {
     if !is_said_otherwise(asked, received, member) {
         return Ok(None);
     }
@@ -356,10 +287,7 @@ fn report_change<'a>(
     findings: &mut Vec<Finding<'a>>,
     compared: Compared,
     change: Change<'a>,
-) -> Added
-    ensures { OnOk result (reported findings.new.items ≡ reported findings.old.items
-        ++ said compared.source (Otherwise compared.how compared.port (member_change change.entry)) ∷ []) }
-{
+) -> Added {
     let what = match compared.how {
         Contradiction::Changed => What::Changed(compared.port, change),
         Contradiction::IdentityTwice => What::IdentityTwice(compared.port, change),

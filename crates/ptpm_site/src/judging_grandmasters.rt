@@ -1,9 +1,5 @@
 //! What is wrong with a clock's grandmaster, and with the clock that it follows.
 
-ghost use Rattle.std.specs.Prelude.{◌≡◌, ◌++◌, OnOk};
-ghost use Rattle.ptpm_site.specs.Findings.{found_each, grandmaster_found, grandmaster_said, parent_found};
-ghost use Rattle.ptpm_site.specs.Site.{site_answers};
-
 use crate::comparing::{Compared, add_differences};
 use crate::differences::{grandmaster_differs, other_grandmaster};
 use crate::finding::{Added, Finding, What, add_finding};
@@ -13,10 +9,7 @@ use crate::site::Site;
 use crate::source::Source;
 
 /// `no_master`, `grandmaster_not_seen`.
-#[tactic(auto, unfolding(crate::specs::Findings::grandmaster_found))]
-pub fn judge_grandmaster(site: &Site, source: Source, findings: &mut Vec<Finding<'_>>) -> Added
-    ensures { OnOk result (findings.new.items ≡ findings.old.items ++ grandmaster_found (site_answers site.now) source) }
-{
+pub fn judge_grandmaster(site: &Site, source: Source, findings: &mut Vec<Finding<'_>>) -> Added {
     if let Some(why) = masterless_reason(site, source) {
         add_finding(findings, source, What::NoMaster(why))?;
     }
@@ -27,10 +20,7 @@ pub fn judge_grandmaster(site: &Site, source: Source, findings: &mut Vec<Finding
 }
 
 /// `parent_not_seen`, `parent_not_master`, `steps`, `grandmaster_differs`.
-#[tactic(auto, unfolding(crate::specs::Findings::parent_found))]
-pub fn judge_parent(site: &Site, source: Source, findings: &mut Vec<Finding<'_>>) -> Added
-    ensures { OnOk result (findings.new.items ≡ findings.old.items ++ parent_found (site_answers site.now) source) }
-{
+pub fn judge_parent(site: &Site, source: Source, findings: &mut Vec<Finding<'_>>) -> Added {
     if let Some(parent) = unseen_parent(site, source) {
         add_finding(findings, source, What::ParentNotSeen(parent))?;
     }
@@ -44,10 +34,7 @@ pub fn judge_parent(site: &Site, source: Source, findings: &mut Vec<Finding<'_>>
 }
 
 /// `grandmaster_differs`: by the DEFAULT_DATA_SET of the grandmaster, and by the clock that it follows.
-#[tactic(auto, unfolding(crate::specs::Findings::grandmaster_said, crate::specs::Findings::said_of_grandmaster, crate::specs::Findings::said_of_parent))]
-fn judge_said(site: &Site, source: Source, findings: &mut Vec<Finding<'_>>) -> Added
-    ensures { OnOk result (findings.new.items ≡ findings.old.items ++ found_each Compared.Grandmaster source (grandmaster_said (site_answers site.now) source)) }
-{
+fn judge_said(site: &Site, source: Source, findings: &mut Vec<Finding<'_>>) -> Added {
     let Some(own) = site.parent(source) else {
         return Ok(());
     };

@@ -1,11 +1,5 @@
 //! Loops, each reported at its least clock.
 
-ghost use Rattle.std.specs.Prelude.{◌≡◌, ◌++◌, IfOk, OnOk, is_some, length};
-ghost use Rattle.std.specs.Option.{option_map};
-ghost use Rattle.ptpm_site.specs.Findings.{loop_reported, reported};
-ghost use Rattle.ptpm_site.specs.Loops.{circle, loop_of};
-ghost use Rattle.ptpm_site.specs.Site.{site_answers};
-
 use crate::finding::{Added, Finding, What, report};
 use crate::site::Site;
 use crate::source::Source;
@@ -14,7 +8,6 @@ use std::alloc::{AllocError, Global};
 use std::cmp::Ordering;
 
 /// Reports `loop`, if a clock is the least of one. `count` is the number of clocks of the site.
-#[tactic(auto, unfolding(crate::specs::Findings::loop_reported))]
 pub fn judge_loop(
     alloc: Global,
     site: &Site,
@@ -22,11 +15,7 @@ pub fn judge_loop(
     is_least: bool,
     count: usize,
     findings: &mut Vec<Finding<'_>>,
-) -> Added
-    requires least { is_least ≡ is_some (loop_of (site_answers site.now) source) }
-    requires count { count ≡ length (site_answers site.now).clocks }
-    ensures { OnOk result (reported findings.new.items ≡ reported findings.old.items ++ loop_reported (site_answers site.now) source) }
-{
+) -> Added {
     if !is_least {
         return Ok(());
     }
@@ -44,9 +33,7 @@ fn loop_from(
     site: &Site,
     first: Source,
     count: usize,
-) -> Result<Option<Vec<ClockIdentity>>, AllocError>
-    ensures { IfOk result (λ found. option_map (λ clocks. clocks.items) found ≡ circle (site_answers site.now) first count first) }
-{
+) -> Result<Option<Vec<ClockIdentity>>, AllocError> {
     let mut clocks = Vec::new(alloc);
     let mut here = first;
     for walked in 0..count {

@@ -1,13 +1,5 @@
 //! What is open at the clocks of a site: it is a finding if it lasts.
 
-ghost use Rattle.std.specs.Prelude.{◌≡◌, ◌++◌, OnOk, IfOk};
-ghost use Rattle.std.specs.List.{flat_map};
-ghost use Rattle.ptpm_site.specs.Evidence.{IsOf};
-ghost use Rattle.ptpm_site.specs.Open.{has_any, intervals_found, open_absent, open_at, open_intervals, open_lock_found, open_locks, open_of, open_one, open_seldom_found, open_state_found, open_states, open_twins, twins_found};
-ghost use Rattle.ptpm_site.specs.Site.{site_answers};
-ghost use Rattle.ptpm_site.specs.TwoAddresses.{all_twins};
-ghost use Rattle.ptpm_site.specs.Unasked.{senders_of};
-
 use crate::announcing::open_seldom;
 use crate::asked::Asked;
 use crate::evidence::Evidence;
@@ -30,9 +22,7 @@ pub fn open_of<'a>(
     alloc: Global,
     site: &'a Site,
     limits: Limits,
-) -> Result<Vec<Finding<'a>>, AllocError>
-    ensures { IfOk result (λ found. found.items ≡ open_of (site_answers site.now) limits) }
-{
+) -> Result<Vec<Finding<'a>>, AllocError> {
     let sources = site.sources(alloc)?;
     let subjects = subjects_of(alloc, site, sources.as_slice())?;
     let evidence = Evidence::of(alloc, site.all_heard())?;
@@ -72,14 +62,7 @@ fn judge_open_of(
     subjects: &[Source],
     known: &Known<'_>,
     findings: &mut Vec<Finding<'_>>,
-) -> Added
-    requires sources { known.now.sources.now ≡ (site_answers site.now).clocks }
-    requires of { IsOf (site_answers site.now).heard known.now.evidence.now }
-    requires senders { known.now.senders.now ≡ senders_of (site_answers site.now).heard }
-    requires twins { known.now.twins.now ≡ all_twins (site_answers site.now).heard }
-    ensures { OnOk result (findings.new.items
-        ≡ findings.old.items ++ flat_map (open_one (site_answers site.now) known.now.limits) subjects.now) }
-{
+) -> Added {
     for subject in subjects {
         if site.is_seen(*subject) {
             judge_open(site, *subject, known, findings)?;
@@ -91,18 +74,12 @@ fn judge_open_of(
 }
 
 /// What is open at a clock that is not seen: `mute`, by Delay_Req; and `not_asked`, at the first clock that sends in a domain.
-#[tactic(auto, unfolding(crate::specs::Open::open_absent))]
 fn judge_open_absent(
     site: &Site,
     subject: Source,
     known: &Known<'_>,
     findings: &mut Vec<Finding<'_>>,
-) -> Added
-    requires sources { known.now.sources.now ≡ (site_answers site.now).clocks }
-    requires of { IsOf (site_answers site.now).heard known.now.evidence.now }
-    requires senders { known.now.senders.now ≡ senders_of (site_answers site.now).heard }
-    ensures { OnOk result (findings.new.items ≡ findings.old.items ++ open_absent (site_answers site.now) subject) }
-{
+) -> Added {
     let (evidence, sources) = (known.evidence, known.sources);
     if let Some(why) = open_mute(site, evidence, subject, sources) {
         add_finding(findings, subject, What::Unseen(why))?;
@@ -114,17 +91,12 @@ fn judge_open_absent(
 }
 
 /// What is open at a clock that is seen.
-#[tactic(auto, unfolding(crate::specs::Open::open_at))]
 fn judge_open(
     site: &Site,
     source: Source,
     known: &Known<'_>,
     findings: &mut Vec<Finding<'_>>,
-) -> Added
-    requires of { IsOf (site_answers site.now).heard known.now.evidence.now }
-    requires twins { known.now.twins.now ≡ all_twins (site_answers site.now).heard }
-    ensures { OnOk result (findings.new.items ≡ findings.old.items ++ open_at (site_answers site.now) known.now.limits source) }
-{
+) -> Added {
     let (alloc, limits) = (known.alloc, known.limits);
     let ports = site.ports(alloc, source)?;
     judge_open_states(alloc, site, source, ports.as_slice(), limits, findings)?;
@@ -134,7 +106,6 @@ fn judge_open(
 }
 
 /// `port_state`, for a clock with these ports. Nothing is open where a port has the finding.
-#[tactic(auto, unfolding(crate::specs::Open::open_states, crate::specs::Open::states_found))]
 fn judge_open_states(
     alloc: Global,
     site: &Site,
@@ -142,10 +113,7 @@ fn judge_open_states(
     ports: &[u16],
     limits: Limits,
     findings: &mut Vec<Finding<'_>>,
-) -> Added
-    requires { ports.now ≡ (site_answers site.now).ports source }
-    ensures { OnOk result (findings.new.items ≡ findings.old.items ++ open_states (site_answers site.now) limits source) }
-{
+) -> Added {
     let mut found = Vec::new(alloc);
     judge_ports(site, source, ports, limits, &mut found)?;
     if found.is_empty() {
@@ -156,18 +124,13 @@ fn judge_open_states(
 }
 
 /// `not_locked`, for a clock with these ports. Nothing is open where a port has the finding, or `intervals`.
-#[tactic(auto, unfolding(crate::specs::Open::open_locks, crate::specs::Open::locks_found))]
 fn judge_open_locks(
     site: &Site,
     source: Source,
     ports: &[u16],
     known: &Known<'_>,
     findings: &mut Vec<Finding<'_>>,
-) -> Added
-    requires ports { ports.now ≡ (site_answers site.now).ports source }
-    requires of { IsOf (site_answers site.now).heard known.now.evidence.now }
-    ensures { OnOk result (findings.new.items ≡ findings.old.items ++ open_locks (site_answers site.now) known.now.limits source) }
-{
+) -> Added {
     let mut found = Vec::new(known.alloc);
     judge_locks(site, source, ports, known.limits, &mut found)?;
     judge_intervals(site, known.evidence, source, ports, &mut found)?;
@@ -179,18 +142,13 @@ fn judge_open_locks(
 }
 
 /// `intervals`, for a clock with these ports. Nothing is open where a port has the finding.
-#[tactic(auto, unfolding(crate::specs::Open::open_intervals, crate::specs::Open::intervals_found))]
 fn judge_open_intervals(
     site: &Site,
     source: Source,
     ports: &[u16],
     known: &Known<'_>,
     findings: &mut Vec<Finding<'_>>,
-) -> Added
-    requires ports { ports.now ≡ (site_answers site.now).ports source }
-    requires of { IsOf (site_answers site.now).heard known.now.evidence.now }
-    ensures { OnOk result (findings.new.items ≡ findings.old.items ++ open_intervals (site_answers site.now) source) }
-{
+) -> Added {
     let mut found = Vec::new(known.alloc);
     judge_intervals(site, known.evidence, source, ports, &mut found)?;
     if found.is_empty() {
@@ -201,18 +159,13 @@ fn judge_open_intervals(
 }
 
 /// `identity_twice`, for a clock with these ports. It is open where two offsets in one look alone show it.
-#[tactic(auto, unfolding(crate::specs::Open::open_twins))]
 fn judge_open_twins(
     site: &Site,
     source: Source,
     ports: &[u16],
     known: &Known<'_>,
     findings: &mut Vec<Finding<'_>>,
-) -> Added
-    requires ports { ports.now ≡ (site_answers site.now).ports source }
-    requires twins { known.now.twins.now ≡ all_twins (site_answers site.now).heard }
-    ensures { OnOk result (findings.new.items ≡ findings.old.items ++ open_twins (site_answers site.now) source) }
-{
+) -> Added {
     if has_twins(site, source, ports, known)? {
         return Ok(());
     }
@@ -223,33 +176,25 @@ fn judge_open_twins(
 }
 
 /// Whether a clock with these ports has `identity_twice`, by its answers or their addresses.
-#[tactic(auto, unfolding(crate::specs::Open::twins_found, crate::specs::Findings::reported))]
 fn has_twins(
     site: &Site,
     source: Source,
     ports: &[u16],
     known: &Known<'_>,
-) -> Result<bool, AllocError>
-    requires ports { ports.now ≡ (site_answers site.now).ports source }
-    requires twins { known.now.twins.now ≡ all_twins (site_answers site.now).heard }
-    ensures { IfOk result (λ has. has ≡ has_any (twins_found (site_answers site.now) source)) }
-{
+) -> Result<bool, AllocError> {
     let mut found = Vec::new(known.alloc);
     judge_twice(known.alloc, site, source, ports, &mut found)?;
     judge_addresses(site, known.twins, source, &mut found)?;
     Ok(!found.is_empty())
 }
 
-#[tactic(auto, unfolding(crate::specs::Open::open_state_found))]
 fn add_open_states(
     site: &Site,
     source: Source,
     ports: &[u16],
     limits: Limits,
     findings: &mut Vec<Finding<'_>>,
-) -> Added
-    ensures { OnOk result (findings.new.items ≡ findings.old.items ++ flat_map (open_state_found (site_answers site.now) limits source) ports.now) }
-{
+) -> Added {
     for port in ports {
         if let Some(stay) = open_state(site, limits, source, *port) {
             add_finding(findings, source, What::PortState(*port, stay))?;
@@ -258,16 +203,13 @@ fn add_open_states(
     Ok(())
 }
 
-#[tactic(auto, unfolding(crate::specs::Open::open_lock_found))]
 fn add_open_locks(
     site: &Site,
     source: Source,
     ports: &[u16],
     limits: Limits,
     findings: &mut Vec<Finding<'_>>,
-) -> Added
-    ensures { OnOk result (findings.new.items ≡ findings.old.items ++ flat_map (open_lock_found (site_answers site.now) limits source) ports.now) }
-{
+) -> Added {
     for port in ports {
         if let Some(unlocked) = open_lock(site, limits, source, *port) {
             add_finding(findings, source, What::NotLocked(*port, unlocked))?;
@@ -276,17 +218,13 @@ fn add_open_locks(
     Ok(())
 }
 
-#[tactic(auto, unfolding(crate::specs::Open::open_seldom_found))]
 fn add_open_seldoms(
     site: &Site,
     evidence: &Evidence,
     source: Source,
     ports: &[u16],
     findings: &mut Vec<Finding<'_>>,
-) -> Added
-    requires { IsOf (site_answers site.now).heard evidence.now }
-    ensures { OnOk result (findings.new.items ≡ findings.old.items ++ flat_map (open_seldom_found (site_answers site.now) source) ports.now) }
-{
+) -> Added {
     for port in ports {
         if let Some(seldom) = open_seldom(site, evidence, source, *port) {
             add_finding(findings, source, What::Announces(*port, seldom))?;

@@ -1,12 +1,5 @@
 //! The grandmasters that lead, and what is said of each: by itself, by its Announce, or by a clock that follows it.
 
-ghost use Rattle.std.specs.Prelude.{◌≡◌, IfOk, find};
-ghost use Rattle.std.specs.List.{count_by, filter_map};
-ghost use Rattle.std.specs.Option.{option_copied};
-ghost use Rattle.ptpm_site.specs.Evidence.{IsOf};
-ghost use Rattle.ptpm_site.specs.Leaders.{all_leaders, all_witnesses, is_agreed, is_of, is_present, leader_announced, leader_by_announce, leader_by_answers, leader_by_followers, leader_of, leader_told, leader_unseen, leads_in, own_attributes, present_leaders, quality_of, told_attributes, witness_of};
-ghost use Rattle.ptpm_site.specs.Site.{site_answers};
-
 use crate::announces::AnnouncedGrandmaster;
 use crate::data_sets::{DefaultDataSet, ParentDataSet, TimePropertiesDataSet};
 use crate::domain::Domain;
@@ -58,9 +51,7 @@ pub struct Witness {
 
 impl Leader {
     /// Its clockQuality.
-    pub fn quality(&self) -> Option<ClockQuality>
-        ensures { result ≡ quality_of self.now }
-    {
+    pub fn quality(&self) -> Option<ClockQuality> {
         match self.attributes {
             Some(attributes) => Some(attributes.quality),
             None => None,
@@ -68,9 +59,7 @@ impl Leader {
     }
 }
 
-fn own_attributes(default: &DefaultDataSet) -> Attributes
-    ensures { result ≡ own_attributes default.now }
-{
+fn own_attributes(default: &DefaultDataSet) -> Attributes {
     Attributes {
         quality: default.quality,
         priority1: default.priority1,
@@ -79,9 +68,7 @@ fn own_attributes(default: &DefaultDataSet) -> Attributes
 }
 
 /// A clock that is seen and leads, by its own data sets.
-fn leader_by_answers(site: &Site, source: Source) -> Option<Leader>
-    ensures { result ≡ leader_by_answers (site_answers site.now) source }
-{
+fn leader_by_answers(site: &Site, source: Source) -> Option<Leader> {
     if !site.leads_by_answers(source) {
         return None;
     }
@@ -98,9 +85,7 @@ fn leader_by_answers(site: &Site, source: Source) -> Option<Leader>
 }
 
 /// The sender of an Announce, if that says that its sender is the grandmaster.
-fn leader_announced(source: Source, announced: &AnnouncedGrandmaster) -> Option<Leader>
-    ensures { result ≡ leader_announced source announced.now }
-{
+fn leader_announced(source: Source, announced: &AnnouncedGrandmaster) -> Option<Leader> {
     if announced.clock == source.clock && announced.steps_removed == 0 {
         Some(Leader {
             source,
@@ -114,26 +99,18 @@ fn leader_announced(source: Source, announced: &AnnouncedGrandmaster) -> Option<
 }
 
 /// A clock that leads by its last Announce.
-fn leader_by_announce(site: &Site, evidence: &Evidence, source: Source) -> Option<Leader>
-    requires { IsOf (site_answers site.now).heard evidence.now }
-    ensures { result ≡ leader_by_announce (site_answers site.now) source }
-{
+fn leader_by_announce(site: &Site, evidence: &Evidence, source: Source) -> Option<Leader> {
     let announced = evidence.announcers.get(&source)?;
     leader_announced(source, &announced.grandmaster?)
 }
 
 /// Whether the parent of a clock names this grandmaster too, if it is seen.
-fn is_agreed(site: &Site, source: Source, parent: Source) -> bool
-    ensures { result ≡ is_agreed (site_answers site.now) source parent }
-{
+fn is_agreed(site: &Site, source: Source, parent: Source) -> bool {
     !site.is_seen(parent) || names(site, source, parent)
 }
 
 /// A clock with a port in SLAVE or UNCALIBRATED, and the grandmaster that it names, if its parent does so too or is not seen.
-#[tactic(auto, unfolding(crate::specs::Leaders::witness_of))]
-fn witness_of(site: &Site, source: Source) -> Option<Witness>
-    ensures { result ≡ witness_of (site_answers site.now) source }
-{
+fn witness_of(site: &Site, source: Source) -> Option<Witness> {
     let set = site.parent(source)?;
     let grandmaster = source.beside(set.grandmaster);
     let parent = source.beside(set.parent.clock);
@@ -152,9 +129,7 @@ fn witnesses_among(
     alloc: Global,
     site: &Site,
     sources: &[Source],
-) -> Result<Vec<Witness>, AllocError>
-    ensures { IfOk result (λ found. found.items ≡ filter_map (witness_of (site_answers site.now)) sources.now) }
-{
+) -> Result<Vec<Witness>, AllocError> {
     let mut found = Vec::new(alloc);
     for source in sources {
         let Some(witness) = witness_of(site, *source) else {
@@ -170,25 +145,18 @@ pub fn all_witnesses(
     alloc: Global,
     site: &Site,
     sources: &[Source],
-) -> Result<Vec<Witness>, AllocError>
-    requires { sources.now ≡ (site_answers site.now).clocks }
-    ensures { IfOk result (λ found. found.items ≡ all_witnesses (site_answers site.now)) }
-{
+) -> Result<Vec<Witness>, AllocError> {
     witnesses_among(alloc, site, sources)
 }
 
 /// The first of these that speaks for a grandmaster.
-fn first_of(source: Source, witnesses: &[Witness]) -> Option<&Witness>
-    ensures { option_copied result ≡ find (is_of source) witnesses.now }
-{
+fn first_of(source: Source, witnesses: &[Witness]) -> Option<&Witness> {
     witnesses
         .iter()
         .find(|witness| witness.grandmaster == source)
 }
 
-fn told_attributes(set: &ParentDataSet) -> Attributes
-    ensures { result ≡ told_attributes set.now }
-{
+fn told_attributes(set: &ParentDataSet) -> Attributes {
     Attributes {
         quality: set.quality,
         priority1: set.priority1,
@@ -197,9 +165,7 @@ fn told_attributes(set: &ParentDataSet) -> Attributes
 }
 
 /// A grandmaster by what a clock says of it.
-fn leader_told(site: &Site, source: Source, other: Source) -> Option<Leader>
-    ensures { result ≡ leader_told (site_answers site.now) source other }
-{
+fn leader_told(site: &Site, source: Source, other: Source) -> Option<Leader> {
     let set = site.parent(other)?;
     Some(Leader {
         source,
@@ -210,10 +176,7 @@ fn leader_told(site: &Site, source: Source, other: Source) -> Option<Leader>
 }
 
 /// A clock that leads by the least of those that follow it.
-fn leader_by_followers(site: &Site, source: Source, witnesses: &[Witness]) -> Option<Leader>
-    requires { witnesses.now ≡ all_witnesses (site_answers site.now) }
-    ensures { result ≡ leader_by_followers (site_answers site.now) source }
-{
+fn leader_by_followers(site: &Site, source: Source, witnesses: &[Witness]) -> Option<Leader> {
     let witness = first_of(source, witnesses)?;
     leader_told(site, source, witness.follower)
 }
@@ -223,11 +186,7 @@ fn leader_unseen(
     evidence: &Evidence,
     source: Source,
     witnesses: &[Witness],
-) -> Option<Leader>
-    requires of { IsOf (site_answers site.now).heard evidence.now }
-    requires witnesses { witnesses.now ≡ all_witnesses (site_answers site.now) }
-    ensures { result ≡ leader_unseen (site_answers site.now) source }
-{
+) -> Option<Leader> {
     match leader_by_announce(site, evidence, source) {
         Some(leader) => Some(leader),
         None => leader_by_followers(site, source, witnesses),
@@ -235,17 +194,12 @@ fn leader_unseen(
 }
 
 /// A clock, if it leads, with what is said of it.
-#[tactic(auto, unfolding(crate::specs::Leaders::leader_of))]
 pub fn leader_of(
     site: &Site,
     evidence: &Evidence,
     source: Source,
     witnesses: &[Witness],
-) -> Option<Leader>
-    requires of { IsOf (site_answers site.now).heard evidence.now }
-    requires witnesses { witnesses.now ≡ all_witnesses (site_answers site.now) }
-    ensures { result ≡ leader_of (site_answers site.now) source }
-{
+) -> Option<Leader> {
     if site.is_seen(source) {
         leader_by_answers(site, source)
     } else {
@@ -260,11 +214,7 @@ fn leaders_among(
     evidence: &Evidence,
     subjects: &[Source],
     witnesses: &[Witness],
-) -> Result<Vec<Leader>, AllocError>
-    requires of { IsOf (site_answers site.now).heard evidence.now }
-    requires witnesses { witnesses.now ≡ all_witnesses (site_answers site.now) }
-    ensures { IfOk result (λ found. found.items ≡ filter_map (leader_of (site_answers site.now)) subjects.now) }
-{
+) -> Result<Vec<Leader>, AllocError> {
     let mut found = Vec::new(alloc);
     for subject in subjects {
         let Some(leader) = leader_of(site, evidence, *subject, witnesses) else {
@@ -276,9 +226,7 @@ fn leaders_among(
 }
 
 /// All grandmasters that lead, by domain and identity.
-pub fn leaders_of(alloc: Global, site: &Site) -> Result<Vec<Leader>, AllocError>
-    ensures { IfOk result (λ found. found.items ≡ all_leaders (site_answers site.now)) }
-{
+pub fn leaders_of(alloc: Global, site: &Site) -> Result<Vec<Leader>, AllocError> {
     let sources = site.sources(alloc)?;
     let subjects = subjects_of(alloc, site, sources.as_slice())?;
     let evidence = Evidence::of(alloc, site.all_heard())?;
@@ -293,11 +241,7 @@ pub fn leaders_of(alloc: Global, site: &Site) -> Result<Vec<Leader>, AllocError>
 }
 
 /// Whether one that leads is seen, or mute. `sources` has all clocks that are seen.
-pub fn is_present(site: &Site, evidence: &Evidence, leader: &Leader, sources: &[Source]) -> bool
-    requires of { IsOf (site_answers site.now).heard evidence.now }
-    requires sources { sources.now ≡ (site_answers site.now).clocks }
-    ensures { result ≡ is_present (site_answers site.now) leader.now }
-{
+pub fn is_present(site: &Site, evidence: &Evidence, leader: &Leader, sources: &[Source]) -> bool {
     site.is_seen(leader.source) || is_mute(site, evidence, leader.source, sources)
 }
 
@@ -307,12 +251,7 @@ fn present_among(
     evidence: &Evidence,
     leaders: &[Leader],
     sources: &[Source],
-) -> Result<Vec<Leader>, AllocError>
-    requires of { IsOf (site_answers site.now).heard evidence.now }
-    requires sources { sources.now ≡ (site_answers site.now).clocks }
-    requires leaders { leaders.now ≡ all_leaders (site_answers site.now) }
-    ensures { IfOk result (λ found. found.items ≡ present_leaders (site_answers site.now)) }
-{
+) -> Result<Vec<Leader>, AllocError> {
     leaders
         .iter()
         .copied()
@@ -326,19 +265,13 @@ pub fn present_leaders(
     site: &Site,
     evidence: &Evidence,
     sources: &[Source],
-) -> Result<Vec<Leader>, AllocError>
-    requires of { IsOf (site_answers site.now).heard evidence.now }
-    requires sources { sources.now ≡ (site_answers site.now).clocks }
-    ensures { IfOk result (λ found. found.items ≡ present_leaders (site_answers site.now)) }
-{
+) -> Result<Vec<Leader>, AllocError> {
     let all = leaders_of(alloc, site)?;
     present_among(alloc, site, evidence, all.as_slice(), sources)
 }
 
 /// How many of these lead in a domain.
-pub fn count_in(leaders: &[Leader], domain: Domain) -> usize
-    ensures { result ≡ count_by (leads_in domain) leaders.now }
-{
+pub fn count_in(leaders: &[Leader], domain: Domain) -> usize {
     leaders
         .iter()
         .filter(|leader| leader.source.domain == domain)

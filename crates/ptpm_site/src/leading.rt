@@ -1,11 +1,6 @@
 //! What a clock that leads says of its time: its clockClass (7.6.2.5) and its TIME_PROPERTIES_DATA_SET (8.2.4). And a clock that
 //! would be a better grandmaster.
 
-ghost use Rattle.std.specs.Prelude.{◌≡◌, IfOk, filter, find};
-ghost use Rattle.std.specs.Option.{option_copied};
-ghost use Rattle.ptpm_site.specs.Leading.{announced_leap, better_clock, all_standing_by, degradation_of, has_source, invalid_offset, is_better, may_lead, not_traceable, stands_by, without_source, wrong_offset};
-ghost use Rattle.ptpm_site.specs.Site.{site_answers};
-
 use crate::data_sets::{DefaultDataSet, TimePropertiesDataSet};
 use crate::site::Site;
 use crate::source::Source;
@@ -68,9 +63,7 @@ pub struct Better {
 }
 
 /// How far a clock of this class is from a source of time. `None` if it has one, or if its class says nothing of it.
-fn degradation_of(class: u8) -> Option<Degradation>
-    ensures { result ≡ degradation_of class }
-{
+fn degradation_of(class: u8) -> Option<Degradation> {
     match class {
         7 | 14 => Some(Degradation::Holdover),
         52 | 58 | 187 | 193 => Some(Degradation::Degraded),
@@ -80,9 +73,7 @@ fn degradation_of(class: u8) -> Option<Degradation>
 }
 
 /// A clock's quality, if it is without its source of time.
-pub fn without_source(quality: ClockQuality) -> Option<Degraded>
-    ensures { result ≡ without_source quality }
-{
+pub fn without_source(quality: ClockQuality) -> Option<Degraded> {
     Some(Degraded {
         degradation: degradation_of(quality.class)?,
         quality,
@@ -90,16 +81,12 @@ pub fn without_source(quality: ClockQuality) -> Option<Degraded>
 }
 
 /// Whether a clock of this class has, or had, a primary source of time.
-fn has_source(class: u8) -> bool
-    ensures { result ≡ has_source class }
-{
+fn has_source(class: u8) -> bool {
     class == 6 || class == 7
 }
 
 /// What a clock of class 6 or 7 says, if it isn't that its time and its frequency are traceable.
-pub fn not_traceable(quality: ClockQuality, time: &TimePropertiesDataSet) -> Option<Untraceable>
-    ensures { result ≡ not_traceable quality time.now }
-{
+pub fn not_traceable(quality: ClockQuality, time: &TimePropertiesDataSet) -> Option<Untraceable> {
     let class = quality.class;
     if has_source(class)
         && time.ptp_timescale
@@ -116,9 +103,7 @@ pub fn not_traceable(quality: ClockQuality, time: &TimePropertiesDataSet) -> Opt
 }
 
 /// currentUtcOffset, in seconds, if it is not said to be valid.
-pub fn invalid_offset(time: &TimePropertiesDataSet) -> Option<i16>
-    ensures { result ≡ invalid_offset time.now }
-{
+pub fn invalid_offset(time: &TimePropertiesDataSet) -> Option<i16> {
     if time.ptp_timescale && !time.utc_valid {
         Some(time.utc_offset)
     } else {
@@ -127,9 +112,7 @@ pub fn invalid_offset(time: &TimePropertiesDataSet) -> Option<i16>
 }
 
 /// currentUtcOffset, if it is said to be valid and isn't this many seconds.
-pub fn wrong_offset(tai_utc: i16, time: &TimePropertiesDataSet) -> Option<WrongOffset>
-    ensures { result ≡ wrong_offset tai_utc time.now }
-{
+pub fn wrong_offset(tai_utc: i16, time: &TimePropertiesDataSet) -> Option<WrongOffset> {
     if time.ptp_timescale && time.utc_valid && time.utc_offset != tai_utc {
         Some(WrongOffset {
             said: time.utc_offset,
@@ -141,9 +124,7 @@ pub fn wrong_offset(tai_utc: i16, time: &TimePropertiesDataSet) -> Option<WrongO
 }
 
 /// The leap second that a clock announces, if it announces one.
-pub fn announced_leap(time: &TimePropertiesDataSet) -> Option<Leap>
-    ensures { result ≡ announced_leap time.now }
-{
+pub fn announced_leap(time: &TimePropertiesDataSet) -> Option<Leap> {
     if time.leap61 || time.leap59 {
         Some(Leap {
             leap61: time.leap61,
@@ -155,16 +136,12 @@ pub fn announced_leap(time: &TimePropertiesDataSet) -> Option<Leap>
 }
 
 /// Whether a clock may lead, and is of a class below 128.
-fn may_lead(default: &DefaultDataSet) -> bool
-    ensures { result ≡ may_lead default.now }
-{
+fn may_lead(default: &DefaultDataSet) -> bool {
     !default.slave_only && default.quality.class < 128
 }
 
 /// Whether a clock that may lead, of a class below 128, does not.
-fn stands_by(site: &Site, source: Source) -> bool
-    ensures { result ≡ stands_by (site_answers site.now) source }
-{
+fn stands_by(site: &Site, source: Source) -> bool {
     match site.default(source) {
         Some(default) => may_lead(&default) && !site.leads_by_answers(source),
         None => false,
@@ -176,9 +153,7 @@ pub fn all_standing_by(
     alloc: Global,
     site: &Site,
     sources: &[Source],
-) -> Result<Vec<Source>, AllocError>
-    ensures { IfOk result (λ found. found.items ≡ filter (stands_by (site_answers site.now)) sources.now) }
-{
+) -> Result<Vec<Source>, AllocError> {
     sources
         .iter()
         .copied()
@@ -187,9 +162,7 @@ pub fn all_standing_by(
 }
 
 /// Whether another clock of the domain is of a better class.
-fn is_better(site: &Site, source: Source, class: u8, other: Source) -> bool
-    ensures { result ≡ is_better (site_answers site.now) source class other }
-{
+fn is_better(site: &Site, source: Source, class: u8, other: Source) -> bool {
     if source.domain != other.domain {
         return false;
     }
@@ -205,9 +178,7 @@ fn first_better<'a>(
     source: Source,
     class: u8,
     others: &'a [Source],
-) -> Option<&'a Source>
-    ensures { option_copied result ≡ find (is_better (site_answers site.now) source class) others.now }
-{
+) -> Option<&'a Source> {
     others
         .iter()
         .find(|other| is_better(site, source, class, **other))
@@ -219,10 +190,7 @@ pub fn better_clock(
     source: Source,
     quality: ClockQuality,
     others: &[Source],
-) -> Option<Better>
-    requires { others.now ≡ all_standing_by (site_answers site.now) }
-    ensures { result ≡ better_clock (site_answers site.now) source quality }
-{
+) -> Option<Better> {
     let class = quality.class;
     let other = first_better(site, source, class, others)?;
     let better = site.default(*other)?;

@@ -1,7 +1,5 @@
 //! What an operator allows, and what he knows.
 
-ghost use Rattle.std.specs.Prelude.{◌≡◌};
-
 #[derive(Clone, Copy)]
 pub struct Limits {
     /// How many nanoseconds the amount of an offset may have, and that of a negative delay. `None` is no limit.
@@ -18,9 +16,7 @@ pub struct Limits {
 
 impl Limits {
     /// The same, at a host whose clock has the right time or has not.
-    pub fn at_host(self, is_synchronised: bool) -> Limits
-        ensures { result ≡ record { offset = self.offset; delay = self.delay; tai_utc = self.tai_utc; settle = self.settle; is_synchronised = is_synchronised } }
-    {
+    pub fn at_host(self, is_synchronised: bool) -> Limits {
         Limits {
             offset: self.offset,
             delay: self.delay,

@@ -1,10 +1,5 @@
 //! Requests to all clocks.
 
-ghost use Rattle.std.specs.Prelude.{◌≡◌, IfOk};
-ghost use Rattle.std.specs.BTreeMap.{get};
-ghost use Rattle.ptpm_site.specs.declared.looks.Topic.{Topic};
-ghost use Rattle.ptpm_site.specs.Looks.{AreLast, is_latest, last_of, look_in, looks, topic_cmp, topic_of};
-
 use crate::answer::Request;
 use crate::asked::Asked;
 use crate::domain::Domain;
@@ -28,9 +23,7 @@ pub struct Look {
 }
 
 impl Topic {
-    pub fn of(domain: Domain, asked: Asked) -> Topic
-        ensures { result ≡ topic_of domain asked }
-    {
+    pub fn of(domain: Domain, asked: Asked) -> Topic {
         Topic {
             domain,
             id: asked.number(),
@@ -40,9 +33,7 @@ impl Topic {
 
 impl Look {
     /// The look that a datagram is. `None` if it is none.
-    pub fn of(heard: &Heard) -> Option<Look>
-        ensures { result ≡ look_in heard.now }
-    {
+    pub fn of(heard: &Heard) -> Option<Look> {
         match heard {
             Heard::Asked(query) => {
                 if !query.is_to_all {
@@ -59,9 +50,7 @@ impl Look {
 }
 
 /// All looks, in the order of the lines.
-fn all_looks(alloc: Global, heard: &[Heard]) -> Result<Vec<Look>, AllocError>
-    ensures { IfOk result (λ found. found.items ≡ looks heard.now) }
-{
+fn all_looks(alloc: Global, heard: &[Heard]) -> Result<Vec<Look>, AllocError> {
     let mut found = Vec::new(alloc);
     for one in heard {
         let Some(look) = Look::of(one) else {
@@ -73,9 +62,7 @@ fn all_looks(alloc: Global, heard: &[Heard]) -> Result<Vec<Look>, AllocError>
 }
 
 /// For each topic the request of the last of these looks.
-fn last_requests(alloc: Global, all: &[Look]) -> Result<BTreeMap<Topic, Request>, AllocError>
-    ensures { IfOk result (λ last. (t : Topic) → get topic_cmp last t ≡ last_of all.now t) }
-{
+fn last_requests(alloc: Global, all: &[Look]) -> Result<BTreeMap<Topic, Request>, AllocError> {
     let mut last = BTreeMap::new(alloc);
     for look in all {
         last.insert(look.topic, look.request)?;
@@ -91,19 +78,14 @@ pub struct LastLooks {
 }
 
 impl LastLooks {
-    pub fn of(alloc: Global, heard: &[Heard]) -> Result<LastLooks, AllocError>
-        ensures { IfOk result (AreLast heard.now) }
-    {
+    pub fn of(alloc: Global, heard: &[Heard]) -> Result<LastLooks, AllocError> {
         let all = all_looks(alloc, heard)?;
         let requests = last_requests(alloc, all.as_slice())?;
         Ok(LastLooks { requests })
     }
 
     /// Whether a request is the last look for a topic, or there is none for it.
-    pub fn is_latest(&self, heard: &[Heard], topic: Topic, request: Request) -> bool
-        requires { AreLast heard.now self.now }
-        ensures { result ≡ is_latest heard.now topic request }
-    {
+    pub fn is_latest(&self, heard: &[Heard], topic: Topic, request: Request) -> bool {
         match self.requests.get(&topic) {
             Some(last) => request == *last,
             None => true,

@@ -1,11 +1,7 @@
 //! The members of the data sets of a clock, and their values.
 
-ghost use Rattle.std.specs.Prelude.{◌≡◌, IfSome, find};
-ghost use Rattle.std.specs.Option.{option_map};
-ghost use Rattle.ptpm_members.specs.FieldText.{IsPlaced, members_in};
-ghost use Rattle.ptpm_members.specs.Values.{said};
-ghost use Rattle.ptpm_site.specs.Ids.{number_of};
-ghost use Rattle.ptpm_site.specs.Members.{answer_says, field_says, is_moving, is_of_grandmaster, members_of, same_member, text_says};
+ghost use Rattle.std.specs.Prelude.{IfSome};
+ghost use Rattle.ptpm_members.specs.FieldText.{IsPlaced};
 
 use crate::asked::Asked;
 use crate::data_sets::{DefaultDataSet, ParentDataSet};
@@ -68,9 +64,7 @@ static PORT_DATA_SET: [Member; 9] = [
 static USER_DESCRIPTION: [Member; 1] = [Member::DataSet(UserDescription)];
 
 /// The members of an id, in the standard's order. Those of a ClockQuality are one.
-pub fn members_of(asked: Asked) -> &'static [Member]
-    ensures { result.now ≡ members_of asked }
-{
+pub fn members_of(asked: Asked) -> &'static [Member] {
     match asked {
         Asked::DefaultDataSet => &DEFAULT_DATA_SET,
         Asked::CurrentDataSet => &CURRENT_DATA_SET,
@@ -82,9 +76,7 @@ pub fn members_of(asked: Asked) -> &'static [Member]
 }
 
 /// What the octets of an answer to an id say of a member. `None` if they lack it.
-pub fn value_of(asked: Asked, octets: &[u8], member: Member) -> Option<MemberValue<'_>>
-    ensures { option_map said result ≡ answer_says asked octets.now member }
-{
+pub fn value_of(asked: Asked, octets: &[u8], member: Member) -> Option<MemberValue<'_>> {
     match (asked, member) {
         (Asked::DefaultDataSet, Member::ClockQuality) => {
             Some(MemberValue::Quality(DefaultDataSet::read(octets)?.quality))
@@ -99,9 +91,7 @@ pub fn value_of(asked: Asked, octets: &[u8], member: Member) -> Option<MemberVal
 }
 
 /// A text. `None` if it is no UTF-8.
-fn text_value(octets: &[u8]) -> Option<MemberValue<'_>>
-    ensures { option_map said result ≡ text_says octets.now }
-{
+fn text_value(octets: &[u8]) -> Option<MemberValue<'_>> {
     match str::from_utf8(octets) {
         Ok(_) => Some(MemberValue::Text(octets)),
         Err(_) => None,
@@ -110,8 +100,7 @@ fn text_value(octets: &[u8]) -> Option<MemberValue<'_>>
 
 /// The member in a dataField of the id, with its place and its form.
 fn field_of(asked: Asked, octets: &[u8], member: Member) -> Option<Field>
-    ensures field { result ≡ find (λ f. same_member f.0 member) (members_in (number_of asked) octets.now) }
-    ensures placed { IfSome result (IsPlaced octets.now) }
+    ensures { IfSome result (IsPlaced octets.now) }
 {
     members_in(asked.number(), octets)
         .iter()
@@ -120,18 +109,14 @@ fn field_of(asked: Asked, octets: &[u8], member: Member) -> Option<Field>
 }
 
 /// The value at the place of a member.
-fn field_value(asked: Asked, octets: &[u8], member: Member) -> Option<MemberValue<'_>>
-    ensures { option_map said result ≡ field_says asked octets.now member }
-{
+fn field_value(asked: Asked, octets: &[u8], member: Member) -> Option<MemberValue<'_>> {
     let field = field_of(asked, octets, member)?;
     let (_, behind) = octets.split_at(usize::from(field.1));
     Some(value_in(field.2, behind))
 }
 
 /// Whether a member's value moves from one answer to the next though nothing was changed.
-pub fn is_moving(member: Member) -> bool
-    ensures { result ≡ is_moving member }
-{
+pub fn is_moving(member: Member) -> bool {
     matches!(
         member,
         Member::DataSet(
@@ -146,9 +131,7 @@ pub fn is_moving(member: Member) -> bool
 }
 
 /// Whether a clock says it of its grandmaster, and not of who that is.
-pub fn is_of_grandmaster(member: Member) -> bool
-    ensures { result ≡ is_of_grandmaster member }
-{
+pub fn is_of_grandmaster(member: Member) -> bool {
     matches!(
         member,
         Member::DataSet(GrandmasterPriority1 | GrandmasterPriority2)

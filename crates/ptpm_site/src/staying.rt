@@ -1,9 +1,5 @@
 //! Ports that are FAULTY, or stay on their way to another state for too long.
 
-ghost use Rattle.std.specs.Prelude.{◌≡◌};
-ghost use Rattle.ptpm_site.specs.Site.{site_answers};
-ghost use Rattle.ptpm_site.specs.Staying.{is_too_long, is_unlocked, is_wrong, long_stay, may_listen, open_lock, open_state, open_stay, staying_state, unlocked_port, unlocked_stay, wrong_stay};
-
 use crate::grandmasters::masterless_reason;
 use crate::limits::Limits;
 use crate::site::Site;
@@ -23,9 +19,7 @@ pub struct Unlocked {
 
 /// Whether a port of a clock is right to listen: the clock is slaveOnly, or has no master, which is said of it. Also if
 /// DEFAULT_DATA_SET was not answered.
-fn may_listen(site: &Site, source: Source) -> bool
-    ensures { result ≡ may_listen (site_answers site.now) source }
-{
+fn may_listen(site: &Site, source: Source) -> bool {
     match site.default(source) {
         Some(default) => default.slave_only || masterless_reason(site, source).is_some(),
         None => true,
@@ -33,9 +27,7 @@ fn may_listen(site: &Site, source: Source) -> bool
 }
 
 /// Whether a port of this clock may not stay in a state. UNCALIBRATED is left out.
-fn is_wrong(site: &Site, source: Source, state: PortState) -> bool
-    ensures { result ≡ is_wrong (site_answers site.now) source state }
-{
+fn is_wrong(site: &Site, source: Source, state: PortState) -> bool {
     match state {
         PortState::Uncalibrated => false,
         PortState::Listening => !may_listen(site, source),
@@ -43,9 +35,7 @@ fn is_wrong(site: &Site, source: Source, state: PortState) -> bool
     }
 }
 
-fn wrong_stay(site: &Site, source: Source, stay: Stay) -> Option<Stay>
-    ensures { result ≡ wrong_stay (site_answers site.now) source stay }
-{
+fn wrong_stay(site: &Site, source: Source, stay: Stay) -> Option<Stay> {
     if is_wrong(site, source, stay.state) {
         Some(stay)
     } else {
@@ -53,15 +43,11 @@ fn wrong_stay(site: &Site, source: Source, stay: Stay) -> Option<Stay>
     }
 }
 
-fn is_unlocked(state: PortState) -> bool
-    ensures { result ≡ is_unlocked state }
-{
+fn is_unlocked(state: PortState) -> bool {
     matches!(state, PortState::Uncalibrated)
 }
 
-fn unlocked_stay(site: &Site, source: Source, stay: Stay) -> Option<Unlocked>
-    ensures { result ≡ unlocked_stay (site_answers site.now) source stay }
-{
+fn unlocked_stay(site: &Site, source: Source, stay: Stay) -> Option<Unlocked> {
     if !is_unlocked(stay.state) {
         return None;
     }
@@ -75,16 +61,12 @@ fn unlocked_stay(site: &Site, source: Source, stay: Stay) -> Option<Unlocked>
 }
 
 /// Whether a stay is one in FAULTY, or in another state for too long.
-fn is_too_long(site: &Site, limits: Limits, source: Source, port: u16, stay: &Stay) -> bool
-    ensures { result ≡ is_too_long (site_answers site.now) limits source port stay.now }
-{
+fn is_too_long(site: &Site, limits: Limits, source: Source, port: u16, stay: &Stay) -> bool {
     is_faulty(stay.state) || stay.is_lasting(wait(site, limits, source, port, stay.state))
 }
 
 /// The stay of a port, if it is too long.
-fn long_stay(site: &Site, limits: Limits, source: Source, port: u16) -> Option<Stay>
-    ensures { result ≡ long_stay (site_answers site.now) limits source port }
-{
+fn long_stay(site: &Site, limits: Limits, source: Source, port: u16) -> Option<Stay> {
     let stay = stay_of(site.port_answers(source, port))?;
     if is_too_long(site, limits, source, port, &stay) {
         Some(stay)
@@ -94,9 +76,7 @@ fn long_stay(site: &Site, limits: Limits, source: Source, port: u16) -> Option<S
 }
 
 /// The stay of a port, if it is not too long yet.
-fn open_stay(site: &Site, limits: Limits, source: Source, port: u16) -> Option<Stay>
-    ensures { result ≡ open_stay (site_answers site.now) limits source port }
-{
+fn open_stay(site: &Site, limits: Limits, source: Source, port: u16) -> Option<Stay> {
     let stay = stay_of(site.port_answers(source, port))?;
     if is_too_long(site, limits, source, port, &stay) {
         None
@@ -106,29 +86,21 @@ fn open_stay(site: &Site, limits: Limits, source: Source, port: u16) -> Option<S
 }
 
 /// How a port is that is FAULTY, or stays too long in a state that it may not stay in. UNCALIBRATED is left out.
-pub fn staying_state(site: &Site, limits: Limits, source: Source, port: u16) -> Option<Stay>
-    ensures { result ≡ staying_state (site_answers site.now) limits source port }
-{
+pub fn staying_state(site: &Site, limits: Limits, source: Source, port: u16) -> Option<Stay> {
     wrong_stay(site, source, long_stay(site, limits, source, port)?)
 }
 
 /// What is said of a port that stays too long in UNCALIBRATED.
-pub fn unlocked_port(site: &Site, limits: Limits, source: Source, port: u16) -> Option<Unlocked>
-    ensures { result ≡ unlocked_port (site_answers site.now) limits source port }
-{
+pub fn unlocked_port(site: &Site, limits: Limits, source: Source, port: u16) -> Option<Unlocked> {
     unlocked_stay(site, source, long_stay(site, limits, source, port)?)
 }
 
 /// How a port is that may stay too long in a state that it may not stay in. UNCALIBRATED is left out.
-pub fn open_state(site: &Site, limits: Limits, source: Source, port: u16) -> Option<Stay>
-    ensures { result ≡ open_state (site_answers site.now) limits source port }
-{
+pub fn open_state(site: &Site, limits: Limits, source: Source, port: u16) -> Option<Stay> {
     wrong_stay(site, source, open_stay(site, limits, source, port)?)
 }
 
 /// What is said of a port that may stay too long in UNCALIBRATED.
-pub fn open_lock(site: &Site, limits: Limits, source: Source, port: u16) -> Option<Unlocked>
-    ensures { result ≡ open_lock (site_answers site.now) limits source port }
-{
+pub fn open_lock(site: &Site, limits: Limits, source: Source, port: u16) -> Option<Unlocked> {
     unlocked_stay(site, source, open_stay(site, limits, source, port)?)
 }

@@ -1,13 +1,5 @@
 //! The clocks that may have findings, whether they are seen or not.
 
-ghost use Rattle.std.specs.Prelude.{◌≡◌, ◌++◌, IfOk, OnOk, map};
-ghost use Rattle.std.specs.BTreeSet.{insert_key, keys};
-ghost use Rattle.std.specs.List.{filter_map, flat_map, fold};
-ghost use Rattle.ptpm_site.specs.Answers.{source_cmp};
-ghost use Rattle.ptpm_site.specs.Evidence.{sent_in};
-ghost use Rattle.ptpm_site.specs.Site.{site_answers};
-ghost use Rattle.ptpm_site.specs.Unseen.{named_by, subjects};
-
 use crate::evidence::senders;
 use crate::gone::gone_clocks;
 use crate::heard::Sender;
@@ -24,10 +16,7 @@ pub fn subjects_of(
     alloc: Global,
     site: &Site,
     sources: &[Source],
-) -> Result<Vec<Source>, AllocError>
-    requires { sources.now ≡ (site_answers site.now).clocks }
-    ensures { IfOk result (λ found. found.items ≡ subjects (site_answers site.now)) }
-{
+) -> Result<Vec<Source>, AllocError> {
     let set = subject_set(alloc, site, sources)?;
     set.iter().copied().collect(alloc)
 }
@@ -36,10 +25,7 @@ fn subject_set(
     alloc: Global,
     site: &Site,
     sources: &[Source],
-) -> Result<BTreeSet<Source>, AllocError>
-    requires { sources.now ≡ (site_answers site.now).clocks }
-    ensures { IfOk result (λ set. keys set ≡ subjects (site_answers site.now)) }
-{
+) -> Result<BTreeSet<Source>, AllocError> {
     let mut found = BTreeSet::new(alloc);
     add_keys(&mut found, sources)?;
     add_named(site, sources, &mut found)?;
@@ -57,9 +43,7 @@ fn add_named(
     site: &Site,
     sources: &[Source],
     found: &mut BTreeSet<Source>,
-) -> Result<(), AllocError>
-    ensures { OnOk result (keys found.new ≡ fold (insert_key source_cmp) (keys found.old) (flat_map (named_by (site_answers site.now)) sources.now)) }
-{
+) -> Result<(), AllocError> {
     for source in sources {
         add_named_by(site, *source, found)?;
     }
@@ -67,9 +51,11 @@ fn add_named(
 }
 
 /// Adds the grandmaster that a clock names, and the clock of its parent.
-fn add_named_by(site: &Site, source: Source, found: &mut BTreeSet<Source>) -> Result<(), AllocError>
-    ensures { OnOk result (keys found.new ≡ fold (insert_key source_cmp) (keys found.old) (named_by (site_answers site.now) source)) }
-{
+fn add_named_by(
+    site: &Site,
+    source: Source,
+    found: &mut BTreeSet<Source>,
+) -> Result<(), AllocError> {
     if let Some(set) = site.parent(source) {
         found.insert(source.beside(set.grandmaster))?;
         found.insert(source.beside(set.parent.clock))?;
@@ -77,8 +63,6 @@ fn add_named_by(site: &Site, source: Source, found: &mut BTreeSet<Source>) -> Re
     Ok(())
 }
 
-fn sources_of(alloc: Global, senders: &[Sender]) -> Result<Vec<Source>, AllocError>
-    ensures { IfOk result (λ found. found.items ≡ map (λ x. x.source) senders.now) }
-{
+fn sources_of(alloc: Global, senders: &[Sender]) -> Result<Vec<Source>, AllocError> {
     senders.iter().map(|sender| sender.source).collect(alloc)
 }

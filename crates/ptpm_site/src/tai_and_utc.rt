@@ -1,12 +1,5 @@
 //! Clocks that take TAI and UTC for each other: they are off by as many whole seconds as TAI is before UTC.
 
-ghost use Rattle.std.specs.Prelude.{◌≡◌, IfOk, filter};
-ghost use Rattle.std.specs.List.{count_by};
-ghost use Rattle.ptpm_site.specs.Grandmasters.{names};
-ghost use Rattle.ptpm_site.specs.Leaders.{leader_of};
-ghost use Rattle.ptpm_site.specs.Site.{site_answers};
-ghost use Rattle.ptpm_site.specs.TaiAndUtc.{all_of, all_off, all_followers, followers_off, is_about, is_about_utc, is_about_utc_of, is_off_by_utc, names_well, offset_by_utc, is_follower, takes_utc_for_tai};
-
 use crate::grandmasters::names;
 use crate::leaders::Leader;
 use crate::origin::Origin;
@@ -34,18 +27,14 @@ const SECOND: u64 = 65_536_000_000_000;
 const TEN_MILLISECONDS: u64 = 655_360_000_000;
 
 /// Whether a TimeInterval of either sign is within 10 ms of this many seconds.
-fn is_about(interval: i64, seconds: u16) -> bool
-    ensures { result ≡ is_about interval seconds }
-{
+fn is_about(interval: i64, seconds: u16) -> bool {
     let amount = interval.unsigned_abs();
     let whole = u64::from(seconds) * SECOND;
     whole <= amount + TEN_MILLISECONDS && amount <= whole + TEN_MILLISECONDS
 }
 
 /// Whether it is about the seconds that TAI is before UTC, or one more or less, but not none.
-fn is_about_utc(interval: i64, utc_offset: i16) -> bool
-    ensures { result ≡ is_about_utc interval utc_offset }
-{
+fn is_about_utc(interval: i64, utc_offset: i16) -> bool {
     if utc_offset <= 0 {
         return false;
     }
@@ -56,9 +45,7 @@ fn is_about_utc(interval: i64, utc_offset: i16) -> bool
 }
 
 /// The same by the currentUtcOffset that a clock says.
-fn is_about_utc_of(site: &Site, interval: i64, source: Source) -> bool
-    ensures { result ≡ is_about_utc_of (site_answers site.now) interval source }
-{
+fn is_about_utc_of(site: &Site, interval: i64, source: Source) -> bool {
     match site.time(source) {
         Some(time) => is_about_utc(interval, time.utc_offset),
         None => false,
@@ -72,18 +59,14 @@ fn takes_utc_for_tai(
     source: Source,
     grandmaster: ClockIdentity,
     interval: i64,
-) -> bool
-    ensures { result ≡ takes_utc_for_tai (site_answers site.now) tai_utc source grandmaster interval }
-{
+) -> bool {
     is_about_utc(interval, tai_utc)
         || is_about_utc_of(site, interval, source)
         || is_about_utc_of(site, interval, source.beside(grandmaster))
 }
 
 /// offsetFromMaster of a clock that follows another, has a port in SLAVE, and takes TAI and UTC for each other.
-pub fn offset_by_utc(site: &Site, tai_utc: i16, source: Source) -> Option<i64>
-    ensures { result ≡ offset_by_utc (site_answers site.now) tai_utc source }
-{
+pub fn offset_by_utc(site: &Site, tai_utc: i16, source: Source) -> Option<i64> {
     let _ = site.followed(source)?;
     let parent = site.parent(source)?;
     let current = site.current(source)?;
@@ -98,16 +81,12 @@ pub fn offset_by_utc(site: &Site, tai_utc: i16, source: Source) -> Option<i64>
 }
 
 /// Whether a clock takes TAI and UTC for each other.
-pub fn is_off_by_utc(site: &Site, tai_utc: i16, source: Source) -> bool
-    ensures { result ≡ is_off_by_utc (site_answers site.now) tai_utc source }
-{
+pub fn is_off_by_utc(site: &Site, tai_utc: i16, source: Source) -> bool {
     offset_by_utc(site, tai_utc, source).is_some()
 }
 
 /// Whether a clock follows another, and has a port in SLAVE.
-fn is_follower(site: &Site, source: Source) -> bool
-    ensures { result ≡ is_follower (site_answers site.now) source }
-{
+fn is_follower(site: &Site, source: Source) -> bool {
     site.followed(source).is_some() && site.has_port_of(source, PortGroup::Slave)
 }
 
@@ -116,9 +95,7 @@ pub fn all_followers(
     alloc: Global,
     site: &Site,
     sources: &[Source],
-) -> Result<Vec<Source>, AllocError>
-    ensures { IfOk result (λ found. found.items ≡ filter (is_follower (site_answers site.now)) sources.now) }
-{
+) -> Result<Vec<Source>, AllocError> {
     sources
         .iter()
         .copied()
@@ -127,9 +104,7 @@ pub fn all_followers(
 }
 
 /// How many of these clocks name a clock.
-fn count_naming(site: &Site, source: Source, followers: &[Source]) -> usize
-    ensures { result ≡ count_by (names (site_answers site.now) source) followers.now }
-{
+fn count_naming(site: &Site, source: Source, followers: &[Source]) -> usize {
     followers
         .iter()
         .filter(|other| names(site, source, **other))
@@ -137,9 +112,7 @@ fn count_naming(site: &Site, source: Source, followers: &[Source]) -> usize
 }
 
 /// How many of these clocks name a clock, and don't take TAI and UTC for each other.
-fn count_well(site: &Site, tai_utc: i16, source: Source, followers: &[Source]) -> usize
-    ensures { result ≡ count_by (names_well (site_answers site.now) tai_utc source) followers.now }
-{
+fn count_well(site: &Site, tai_utc: i16, source: Source, followers: &[Source]) -> usize {
     followers
         .iter()
         .filter(|other| names(site, source, **other) && !is_off_by_utc(site, tai_utc, **other))
@@ -147,9 +120,7 @@ fn count_well(site: &Site, tai_utc: i16, source: Source, followers: &[Source]) -
 }
 
 /// How many clocks follow, if they are two or more and none of them is right.
-fn all_of(count: usize, well: usize) -> Option<usize>
-    ensures { result ≡ all_of count well }
-{
+fn all_of(count: usize, well: usize) -> Option<usize> {
     if 2 <= count && well == 0 {
         Some(count)
     } else {
@@ -158,27 +129,19 @@ fn all_of(count: usize, well: usize) -> Option<usize>
 }
 
 /// How many of these clocks name a clock, if they are two or more and each takes TAI and UTC for each other.
-#[tactic(auto)]
-fn all_off(site: &Site, tai_utc: i16, source: Source, followers: &[Source]) -> Option<usize>
-    ensures { result ≡ all_off (site_answers site.now) tai_utc source followers.now }
-{
+fn all_off(site: &Site, tai_utc: i16, source: Source, followers: &[Source]) -> Option<usize> {
     let count = count_naming(site, source, followers);
     all_of(count, count_well(site, tai_utc, source, followers))
 }
 
 /// The same of a clock that leads. `followers` has all clocks that follow another.
-#[tactic(auto, unfolding(crate::specs::TaiAndUtc::followers_off))]
 pub fn followers_off(
     site: &Site,
     tai_utc: i16,
     source: Source,
     leader: Option<Leader>,
     followers: &[Source],
-) -> Option<usize>
-    requires leader { leader ≡ leader_of (site_answers site.now) source }
-    requires followers { followers.now ≡ all_followers (site_answers site.now) }
-    ensures { result ≡ followers_off (site_answers site.now) tai_utc source }
-{
+) -> Option<usize> {
     if leader.is_some() {
         all_off(site, tai_utc, source, followers)
     } else {

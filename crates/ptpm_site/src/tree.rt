@@ -1,15 +1,8 @@
 //! The tree of a site: each clock below the one that it follows.
 
-ghost use Rattle.std.specs.Prelude.{◌≡◌, IfOk, None, OnOk, length, slice_index_or, true};
-ghost use Rattle.std.specs.List.{All};
-ghost use Rattle.std.specs.List.Sorted.{IsNonDecreasingBy};
-ghost use Rattle.ptpm_site.specs.declared.source.Source.{Source};
-ghost use Rattle.ptpm_site.specs.Following.{followed};
-ghost use Rattle.ptpm_site.specs.Growing.{Adds, AreTrue, IsForestOf, IsRowOf};
-ghost use Rattle.ptpm_site.specs.Loops.{AreLeast};
-ghost use Rattle.ptpm_site.specs.Site.{site_answers};
-ghost use Rattle.ptpm_site.specs.SiteAnswers.{SiteAnswers};
-ghost use Rattle.ptpm_site.specs.Tree.{IsRow, StandsOnce, row_domain};
+ghost use Rattle.std.specs.Prelude.{IfOk, OnOk, vec_len};
+ghost use Rattle.ptpm_site.specs.Growing.{AreTrue};
+ghost use Rattle.ptpm_site.specs.Tree.{StandsOnce};
 
 use crate::domain::Domain;
 use crate::forest::Forest;
@@ -43,12 +36,8 @@ pub fn rows(
     forest: &Forest,
     least: &[bool],
 ) -> Result<Vec<TreeRow>, AllocError>
-    requires of { IsForestOf (site_answers site.now) forest.now }
-    requires least { AreLeast (site_answers site.now) least.now }
-    ensures once { IfOk result (λ rows. StandsOnce (length (site_answers site.now).clocks) rows.items) }
+    ensures once { IfOk result (λ rows. StandsOnce (vec_len forest.now.sources) rows.items) }
     ensures below { IfOk result (λ rows. AreTrue forest.now rows.items) }
-    ensures rows { IfOk result (λ rows. All (IsRow (site_answers site.now)) rows.items) }
-    ensures domains { IfOk result (λ rows. IsNonDecreasingBy (row_domain (site_answers site.now).clocks) rows.items) }
 {
     let mut builder = TreeBuilder::new(alloc);
     for place in 0..forest.sources.len() {
@@ -56,7 +45,7 @@ pub fn rows(
             add_domain(site, forest, domain, least, &mut builder)?;
         }
     }
-    builder.finish(forest.sources.len())
+    builder.finish(forest)
 }
 
 /// The rows of a domain.
@@ -67,32 +56,33 @@ fn add_domain(
     least: &[bool],
     builder: &mut TreeBuilder,
 ) -> Result<(), AllocError>
-    requires of { IsForestOf (site_answers site.now) forest.now }
-    requires least { AreLeast (site_answers site.now) least.now }
-    requires below { AreTrue forest.now builder.old.rows.items }
-    ensures below { OnOk result (AreTrue forest.now builder.new.rows.items) }
-    ensures adds { OnOk result (Adds (IsRowOf (site_answers site.now) domain.0) builder.old.rows.items builder.new.rows.items) }
+    requires { AreTrue forest.now builder.old.rows.items }
+    ensures { OnOk result (AreTrue forest.now builder.new.rows.items) }
 {
-    add_grandmasters(site, forest, domain, builder)?;
+    add_roots(forest, domain, builder, |place| {
+        is_grandmaster_at(site, forest, place)
+    })?;
     add_lost(forest, domain, builder)?;
-    add_loops(forest, domain, least, builder)?;
-    add_without_parent(site, forest, domain, builder)
+    add_roots(forest, domain, builder, |place| is_marked(least, place))?;
+    add_roots(forest, domain, builder, |place| {
+        is_without_parent_at(site, forest, place)
+    })
 }
 
-fn add_grandmasters(
-    site: &Site,
+/// The clocks of a domain that are roots.
+fn add_roots<F: Fn(usize) -> bool>(
     forest: &Forest,
     domain: Domain,
     builder: &mut TreeBuilder,
+    is_root: F,
 ) -> Result<(), AllocError>
-    requires of { IsForestOf (site_answers site.now) forest.now }
+    requires callable { F.IsAlwaysCallable is_root }
     requires below { AreTrue forest.now builder.old.rows.items }
-    ensures below { OnOk result (AreTrue forest.now builder.new.rows.items) }
-    ensures adds { OnOk result (Adds (IsRowOf (site_answers site.now) domain.0) builder.old.rows.items builder.new.rows.items) }
+    ensures { OnOk result (AreTrue forest.now builder.new.rows.items) }
 {
     let places = forest.places_of(domain);
     for place in places.start..places.end {
-        if is_grandmaster_at(site, forest, place) {
+        if is_root(place) {
             builder.add_subtree(forest, place, 0)?;
         }
     }
@@ -100,12 +90,17 @@ fn add_grandmasters(
 }
 
 /// Whether the clock at a place is its own grandmaster, and so follows none.
-fn is_grandmaster_at(site: &Site, forest: &Forest, place: usize) -> bool
-    requires { IsForestOf (site_answers site.now) forest.now }
-    ensures { result ≡ true → (d : Source) → followed (site_answers site.now) (slice_index_or (site_answers site.now).clocks place d) ≡ None }
-{
+fn is_grandmaster_at(site: &Site, forest: &Forest, place: usize) -> bool {
     match forest.sources.get(place) {
         Some(source) => site.is_own_grandmaster(*source),
+        None => false,
+    }
+}
+
+/// Whether the clock at a place did not answer PARENT_DATA_SET, so that it is not known whom it follows.
+fn is_without_parent_at(site: &Site, forest: &Forest, place: usize) -> bool {
+    match forest.sources.get(place) {
+        Some(source) => site.parent(*source).is_none(),
         None => false,
     }
 }
@@ -113,8 +108,7 @@ fn is_grandmaster_at(site: &Site, forest: &Forest, place: usize) -> bool
 /// The clocks of a domain whose parent is not seen, below its port.
 fn add_lost(forest: &Forest, domain: Domain, builder: &mut TreeBuilder) -> Result<(), AllocError>
     requires { AreTrue forest.now builder.old.rows.items }
-    ensures below { OnOk result (AreTrue forest.now builder.new.rows.items) }
-    ensures adds { OnOk result ((site : SiteAnswers) → IsForestOf site forest.now → Adds (IsRowOf site domain.0) builder.old.rows.items builder.new.rows.items) }
+    ensures { OnOk result (AreTrue forest.now builder.new.rows.items) }
 {
     let mut above = None;
     for lost in forest.lost_of(domain) {
@@ -125,56 +119,4 @@ fn add_lost(forest: &Forest, domain: Domain, builder: &mut TreeBuilder) -> Resul
         builder.add_subtree(forest, lost.place, 1)?;
     }
     Ok(())
-}
-
-/// The least clock of each loop of a domain.
-fn add_loops(
-    forest: &Forest,
-    domain: Domain,
-    least: &[bool],
-    builder: &mut TreeBuilder,
-) -> Result<(), AllocError>
-    requires { AreTrue forest.now builder.old.rows.items }
-    ensures below { OnOk result (AreTrue forest.now builder.new.rows.items) }
-    ensures adds { OnOk result ((site : SiteAnswers) → IsForestOf site forest.now → AreLeast site least.now → Adds (IsRowOf site domain.0) builder.old.rows.items builder.new.rows.items) }
-{
-    let places = forest.places_of(domain);
-    for place in places.start..places.end {
-        if is_marked(least, place) {
-            builder.add_subtree(forest, place, 0)?;
-        }
-    }
-    Ok(())
-}
-
-/// The clocks of a domain that did not answer PARENT_DATA_SET.
-fn add_without_parent(
-    site: &Site,
-    forest: &Forest,
-    domain: Domain,
-    builder: &mut TreeBuilder,
-) -> Result<(), AllocError>
-    requires of { IsForestOf (site_answers site.now) forest.now }
-    requires below { AreTrue forest.now builder.old.rows.items }
-    ensures below { OnOk result (AreTrue forest.now builder.new.rows.items) }
-    ensures adds { OnOk result (Adds (IsRowOf (site_answers site.now) domain.0) builder.old.rows.items builder.new.rows.items) }
-{
-    let places = forest.places_of(domain);
-    for place in places.start..places.end {
-        if is_without_parent_at(site, forest, place) {
-            builder.add_subtree(forest, place, 0)?;
-        }
-    }
-    Ok(())
-}
-
-/// Whether the clock at a place did not answer PARENT_DATA_SET, so that it is not known whom it follows.
-fn is_without_parent_at(site: &Site, forest: &Forest, place: usize) -> bool
-    requires { IsForestOf (site_answers site.now) forest.now }
-    ensures { result ≡ true → (d : Source) → followed (site_answers site.now) (slice_index_or (site_answers site.now).clocks place d) ≡ None }
-{
-    match forest.sources.get(place) {
-        Some(source) => site.parent(*source).is_none(),
-        None => false,
-    }
 }

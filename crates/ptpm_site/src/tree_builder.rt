@@ -2,8 +2,8 @@
 
 ghost use Rattle.std.specs.Prelude.{◌≡◌, true, false, ℕ, ◌<◌, ◌≤◌, ◌++◌, ◌∷◌, [], slice_index_or, slice_set, vec_len, OnOk, IfOk};
 ghost use Rattle.std.specs.List.{All};
-ghost use Rattle.ptpm_site.specs.Growing.{Adds, AreTrue, AreWaiting, IsInSubtree, IsWithin, MayStand, StaysAbove, WaitBelow};
-ghost use Rattle.ptpm_site.specs.Tree.{IsGrown, StandsOnce, StaysMarked, domain_at, rows_at};
+ghost use Rattle.ptpm_site.specs.Growing.{AreTrue, AreWaiting, MayStand, StaysAbove, WaitBelow};
+ghost use Rattle.ptpm_site.specs.Tree.{IsGrown, StandsOnce, StaysMarked, rows_at};
 
 use crate::domain::Domain;
 use crate::forest::Forest;
@@ -49,12 +49,12 @@ impl TreeBuilder {
         ensures stays { OnOk result (StaysMarked self.old.marks.items self.new.marks.items) }
         ensures below { OnOk result (AreTrue forest.now self.new.rows.items) }
         ensures above { OnOk result (StaysAbove depth self.old.rows.items self.new.rows.items) }
-        ensures adds { OnOk result (Adds (IsInSubtree forest.now place depth) self.old.rows.items self.new.rows.items) }
     {
         // What waits belongs below the rows of this subtree, so none is taken over from another.
         self.waiting.clear();
         self.put(forest, place, depth)?;
-        'grow: for _ in 0..usize::MAX {
+        // Each clock waits at most once, below the one that it follows.
+        'grow: for _ in 0..forest.followed.len() {
             let Some((below, deeper)) = self.waiting.pop() else {
                 break 'grow;
             };
@@ -73,8 +73,6 @@ impl TreeBuilder {
         ensures stays { OnOk result (StaysMarked self.old.marks.items self.new.marks.items) }
         ensures below { OnOk result (AreTrue forest.now self.new.rows.items) }
         ensures above { OnOk result (StaysAbove depth self.old.rows.items self.new.rows.items) }
-        ensures adds { OnOk result (Adds (λ r. r ≡ TreeRow.Clock place depth) self.old.rows.items self.new.rows.items) }
-        ensures within { OnOk result ((domain : ℕ) → domain_at forest.now.sources.items place ≡ domain → All (λ w. IsWithin forest.now domain w.0 w.1) self.old.waiting.items → All (λ w. IsWithin forest.now domain w.0 w.1) self.new.waiting.items) }
         ensures waiting { OnOk result ((from : ℕ) → from ≤ depth → AreWaiting forest.now self.old.rows.items from self.old.waiting.items → AreWaiting forest.now self.new.rows.items from self.new.waiting.items) }
     {
         if is_marked(self.marks.as_slice(), place) {
@@ -91,17 +89,14 @@ impl TreeBuilder {
         add_port(&mut self.rows, domain, parent)
     }
 
-    /// The rows. Each of this many clocks has one.
-    pub fn finish(self, count: usize) -> Result<Vec<TreeRow>, AllocError>
-        ensures once { IfOk result (λ rows. StandsOnce count rows.items) }
-        ensures rows { IfOk result (λ rows. rows.items ≡ self.rows.items) }
+    /// The rows. Each clock has one: those of before lead to each clock, and one without a row would be a root.
+    pub fn finish(mut self, forest: &Forest) -> Result<Vec<TreeRow>, AllocError>
+        requires below { AreTrue forest.now self.rows.items }
+        ensures once { IfOk result (λ rows. StandsOnce (vec_len forest.now.sources) rows.items) }
+        ensures below { IfOk result (λ rows. AreTrue forest.now rows.items) }
     {
-        for place in 0..count {
-            // Not met: who follows whom leads from each clock to one that follows none, to a port, or around a loop. These have rows,
-            // and so have all that follow them.
-            if !is_marked(self.marks.as_slice(), place) {
-                return Err(AllocError);
-            }
+        for place in 0..forest.sources.len() {
+            self.add_subtree(forest, place, 0)?;
         }
         let TreeBuilder { rows, .. } = self;
         Ok(rows)

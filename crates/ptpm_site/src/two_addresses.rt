@@ -1,12 +1,5 @@
 //! Two clocks with one identity, which answer from two addresses.
 
-ghost use Rattle.std.specs.Prelude.{◌≡◌, IfOk, find};
-ghost use Rattle.std.specs.BTreeMap.{get};
-ghost use Rattle.std.specs.List.{filter_map};
-ghost use Rattle.std.specs.Option.{option_copied};
-ghost use Rattle.ptpm_site.specs.declared.arrival.Passage.{Passage};
-ghost use Rattle.ptpm_site.specs.TwoAddresses.{all_twins, arrivals, came_in, last_from, passage_cmp, twins_by, twins_of};
-
 use crate::arrival::{Arrival, Passage};
 use crate::heard::Heard;
 use crate::source::Source;
@@ -38,9 +31,7 @@ pub struct TwoAddresses<'a> {
 
 impl Words {
     /// The address that has a number.
-    fn address(&self, number: usize) -> Address<'_>
-        ensures { result.number ≡ number }
-    {
+    fn address(&self, number: usize) -> Address<'_> {
         Address {
             number,
             text: self.text(number),
@@ -48,10 +39,7 @@ impl Words {
     }
 
     /// Two addresses that have these numbers.
-    pub fn two_addresses(&self, twins: &Twins) -> TwoAddresses<'_>
-        ensures first { result.first.number ≡ twins.now.first }
-        ensures second { result.second.number ≡ twins.now.second }
-    {
+    pub fn two_addresses(&self, twins: &Twins) -> TwoAddresses<'_> {
         TwoAddresses {
             first: self.address(twins.first),
             second: self.address(twins.second),
@@ -60,18 +48,14 @@ impl Words {
 }
 
 /// How the answer came that was heard.
-fn came_in(heard: &Heard) -> Option<Arrival>
-    ensures { result ≡ came_in heard.now }
-{
+fn came_in(heard: &Heard) -> Option<Arrival> {
     match heard {
         Heard::Came(arrival) => Some(*arrival),
         _ => None,
     }
 }
 
-fn arrivals(alloc: Global, heard: &[Heard]) -> Result<Vec<Arrival>, AllocError>
-    ensures { IfOk result (λ found. found.items ≡ arrivals heard.now) }
-{
+fn arrivals(alloc: Global, heard: &[Heard]) -> Result<Vec<Arrival>, AllocError> {
     let mut found = Vec::new(alloc);
     for one in heard {
         let Some(arrival) = came_in(one) else {
@@ -83,9 +67,7 @@ fn arrivals(alloc: Global, heard: &[Heard]) -> Result<Vec<Arrival>, AllocError>
 }
 
 /// For each passage the address of the last of these answers.
-fn last_addresses(alloc: Global, came: &[Arrival]) -> Result<BTreeMap<Passage, usize>, AllocError>
-    ensures { IfOk result (λ last. (p : Passage) → get passage_cmp last p ≡ last_from came.now p) }
-{
+fn last_addresses(alloc: Global, came: &[Arrival]) -> Result<BTreeMap<Passage, usize>, AllocError> {
     let mut last = BTreeMap::new(alloc);
     for arrival in came {
         last.insert(arrival.passage, arrival.from)?;
@@ -94,10 +76,7 @@ fn last_addresses(alloc: Global, came: &[Arrival]) -> Result<BTreeMap<Passage, u
 }
 
 /// The addresses of an answer and of the last one with its passage, if they are two.
-fn twins_by(came: &[Arrival], last: &BTreeMap<Passage, usize>, arrival: &Arrival) -> Option<Twins>
-    requires { (p : Passage) → get passage_cmp last.now p ≡ last_from came.now p }
-    ensures { result ≡ twins_by came.now arrival.now }
-{
+fn twins_by(came: &[Arrival], last: &BTreeMap<Passage, usize>, arrival: &Arrival) -> Option<Twins> {
     let from = *last.get(&arrival.passage)?;
     if arrival.from == from {
         None
@@ -114,10 +93,7 @@ fn twins_among(
     alloc: Global,
     came: &[Arrival],
     last: &BTreeMap<Passage, usize>,
-) -> Result<Vec<Twins>, AllocError>
-    requires { (p : Passage) → get passage_cmp last.now p ≡ last_from came.now p }
-    ensures { IfOk result (λ found. found.items ≡ filter_map (twins_by came.now) came.now) }
-{
+) -> Result<Vec<Twins>, AllocError> {
     let mut found = Vec::new(alloc);
     for one in came {
         let Some(twins) = twins_by(came, last, one) else {
@@ -129,17 +105,13 @@ fn twins_among(
 }
 
 /// All answers that came from another address than the last one with their passage.
-pub fn all_twins(alloc: Global, heard: &[Heard]) -> Result<Vec<Twins>, AllocError>
-    ensures { IfOk result (λ found. found.items ≡ all_twins heard.now) }
-{
+pub fn all_twins(alloc: Global, heard: &[Heard]) -> Result<Vec<Twins>, AllocError> {
     let came = arrivals(alloc, heard)?;
     let last = last_addresses(alloc, came.as_slice())?;
     twins_among(alloc, came.as_slice(), &last)
 }
 
 /// The first of these of a clock.
-pub fn twins_of(twins: &[Twins], source: Source) -> Option<&Twins>
-    ensures { option_copied result ≡ twins_of twins.now source }
-{
+pub fn twins_of(twins: &[Twins], source: Source) -> Option<&Twins> {
     twins.iter().find(|twins| twins.source == source)
 }

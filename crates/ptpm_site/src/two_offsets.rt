@@ -1,10 +1,5 @@
 //! Two clocks with one identity, which answer with two offsets each time.
 
-ghost use Rattle.std.specs.Prelude.{◌≡◌, find, reverse};
-ghost use Rattle.std.specs.Option.{option_copied};
-ghost use Rattle.ptpm_site.specs.PortStates.{is_another};
-ghost use Rattle.ptpm_site.specs.TwoOffsets.{is_other_answer, is_other_time, last_offsets, look_before, offset_said, offsets_of, open_offsets, other_answer, two_offsets, two_offsets_by};
-
 use crate::clock::Received;
 use crate::data_sets::CurrentDataSet;
 
@@ -16,9 +11,7 @@ pub struct TwoOffsets {
 }
 
 /// Whether an offset or a delay differs.
-fn is_other_time(a: Option<CurrentDataSet>, b: Option<CurrentDataSet>) -> bool
-    ensures { result ≡ is_other_time a b }
-{
+fn is_other_time(a: Option<CurrentDataSet>, b: Option<CurrentDataSet>) -> bool {
     match (a, b) {
         (Some(a), Some(b)) => {
             a.offset_from_master != b.offset_from_master || a.mean_delay != b.mean_delay
@@ -28,53 +21,39 @@ fn is_other_time(a: Option<CurrentDataSet>, b: Option<CurrentDataSet>) -> bool
 }
 
 /// Whether an answer came to the request of another, and says another offset or delay.
-fn is_other_answer(one: &Received, other: &Received) -> bool
-    ensures { result ≡ is_other_answer one.now other.now }
-{
+fn is_other_answer(one: &Received, other: &Received) -> bool {
     other.request == one.request && is_other_time(other.current(), one.current())
 }
 
 /// The first of these answers that came to the request of one, and says another offset or delay.
-fn other_answer<'a>(received: &'a [Received], one: &Received) -> Option<&'a Received>
-    ensures { option_copied result ≡ other_answer received.now one.now }
-{
+fn other_answer<'a>(received: &'a [Received], one: &Received) -> Option<&'a Received> {
     received.iter().find(|other| is_other_answer(one, other))
 }
 
 /// The latest of these answers to another request of the requester of one.
-fn look_before<'a>(received: &'a [Received], one: &Received) -> Option<&'a Received>
-    ensures { option_copied result ≡ look_before received.now one.now }
-{
+fn look_before<'a>(received: &'a [Received], one: &Received) -> Option<&'a Received> {
     received.iter().rev().find(|earlier| {
         earlier.request.target == one.request.target && earlier.request.number != one.request.number
     })
 }
 
 /// Two offsets in the last look, if there were two in the look before as well.
-pub fn two_offsets(received: &[Received]) -> Option<TwoOffsets>
-    ensures { result ≡ two_offsets received.now }
-{
+pub fn two_offsets(received: &[Received]) -> Option<TwoOffsets> {
     two_offsets_by(received, received.last()?)
 }
 
-fn two_offsets_by(received: &[Received], last: &Received) -> Option<TwoOffsets>
-    ensures { result ≡ two_offsets_by received.now last.now }
-{
+fn two_offsets_by(received: &[Received], last: &Received) -> Option<TwoOffsets> {
     let other = other_answer(received, last)?;
     let before = look_before(received, last)?;
     let _ = other_answer(received, before)?;
     offsets_of(other, last)
 }
 
-fn offset_said(received: &Received) -> Option<i64>
-    ensures { result ≡ offset_said received.now }
-{
+fn offset_said(received: &Received) -> Option<i64> {
     Some(received.current()?.offset_from_master)
 }
 
-fn offsets_of(other: &Received, last: &Received) -> Option<TwoOffsets>
-    ensures { result ≡ offsets_of other.now last.now }
-{
+fn offsets_of(other: &Received, last: &Received) -> Option<TwoOffsets> {
     Some(TwoOffsets {
         first: offset_said(other)?,
         second: offset_said(last)?,
@@ -82,9 +61,7 @@ fn offsets_of(other: &Received, last: &Received) -> Option<TwoOffsets>
 }
 
 /// Two offsets in the last look alone: a Sync that comes between two copies of a request does this too.
-pub fn open_offsets(received: &[Received]) -> Option<TwoOffsets>
-    ensures { result ≡ open_offsets received.now }
-{
+pub fn open_offsets(received: &[Received]) -> Option<TwoOffsets> {
     if two_offsets(received).is_some() {
         return None;
     }
@@ -92,8 +69,6 @@ pub fn open_offsets(received: &[Received]) -> Option<TwoOffsets>
 }
 
 /// Two offsets in the look of the last answer.
-fn last_offsets(received: &[Received], last: &Received) -> Option<TwoOffsets>
-    ensures { result ≡ last_offsets received.now last.now }
-{
+fn last_offsets(received: &[Received], last: &Received) -> Option<TwoOffsets> {
     offsets_of(other_answer(received, last)?, last)
 }

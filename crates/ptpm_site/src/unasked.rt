@@ -1,14 +1,5 @@
 //! Domains in which clocks send, and that were not asked.
 
-ghost use Rattle.std.specs.Prelude.{◌≡◌, IfOk, find};
-ghost use Rattle.std.specs.BTreeSet.{keys};
-ghost use Rattle.std.specs.List.{count_by, filter_map, list_any};
-ghost use Rattle.std.specs.Option.{option_copied};
-ghost use Rattle.ptpm_site.specs.Evidence.{IsOf};
-ghost use Rattle.ptpm_site.specs.Grandmasters.{in_domain};
-ghost use Rattle.ptpm_site.specs.Site.{site_answers};
-ghost use Rattle.ptpm_site.specs.Unasked.{is_get, not_asked, senders_of, sending_in};
-
 use crate::domain::Domain;
 use crate::evidence::Evidence;
 use crate::heard::{FOLLOW_UP, Heard};
@@ -20,9 +11,7 @@ use std::alloc::{AllocError, Global};
 use std::collections::BTreeSet;
 
 /// The clock that sends an Announce, a Sync or a Delay_Req.
-fn sending_in(heard: &Heard) -> Option<Source>
-    ensures { result ≡ sending_in heard.now }
-{
+fn sending_in(heard: &Heard) -> Option<Source> {
     match heard {
         Heard::Sent(sender) => {
             if sender.kind == FOLLOW_UP {
@@ -35,9 +24,7 @@ fn sending_in(heard: &Heard) -> Option<Source>
     }
 }
 
-fn all_sending(alloc: Global, heard: &[Heard]) -> Result<Vec<Source>, AllocError>
-    ensures { IfOk result (λ found. found.items ≡ filter_map sending_in heard.now) }
-{
+fn all_sending(alloc: Global, heard: &[Heard]) -> Result<Vec<Source>, AllocError> {
     let mut found = Vec::new(alloc);
     for one in heard {
         let Some(source) = sending_in(one) else {
@@ -48,9 +35,7 @@ fn all_sending(alloc: Global, heard: &[Heard]) -> Result<Vec<Source>, AllocError
     Ok(found)
 }
 
-fn sender_set(alloc: Global, heard: &[Heard]) -> Result<BTreeSet<Source>, AllocError>
-    ensures { IfOk result (λ set. keys set ≡ senders_of heard.now) }
-{
+fn sender_set(alloc: Global, heard: &[Heard]) -> Result<BTreeSet<Source>, AllocError> {
     let mut set = BTreeSet::new(alloc);
     let all = all_sending(alloc, heard)?;
     add_keys(&mut set, all.as_slice())?;
@@ -58,37 +43,27 @@ fn sender_set(alloc: Global, heard: &[Heard]) -> Result<BTreeSet<Source>, AllocE
 }
 
 /// The clocks that send, each once, by domain and identity.
-pub fn senders_of(alloc: Global, heard: &[Heard]) -> Result<Vec<Source>, AllocError>
-    ensures { IfOk result (λ found. found.items ≡ senders_of heard.now) }
-{
+pub fn senders_of(alloc: Global, heard: &[Heard]) -> Result<Vec<Source>, AllocError> {
     let set = sender_set(alloc, heard)?;
     set.iter().copied().collect(alloc)
 }
 
-fn is_get(heard: &Heard) -> bool
-    ensures { result ≡ is_get heard.now }
-{
+fn is_get(heard: &Heard) -> bool {
     matches!(heard, Heard::Asked(_))
 }
 
 /// Whether the lines have a GET.
-fn has_get(heard: &[Heard]) -> bool
-    ensures { result ≡ list_any is_get heard.now }
-{
+fn has_get(heard: &[Heard]) -> bool {
     heard.iter().any(|heard| is_get(heard))
 }
 
 /// The first of these clocks in a domain.
-fn first_in(senders: &[Source], domain: Domain) -> Option<&Source>
-    ensures { option_copied result ≡ find (in_domain domain) senders.now }
-{
+fn first_in(senders: &[Source], domain: Domain) -> Option<&Source> {
     senders.iter().find(|source| source.domain == domain)
 }
 
 /// How many of these clocks are in a domain.
-fn count_in(senders: &[Source], domain: Domain) -> usize
-    ensures { result ≡ count_by (in_domain domain) senders.now }
-{
+fn count_in(senders: &[Source], domain: Domain) -> usize {
     senders
         .iter()
         .filter(|source| source.domain == domain)
@@ -103,12 +78,7 @@ pub fn not_asked(
     source: Source,
     sources: &[Source],
     senders: &[Source],
-) -> Option<usize>
-    requires of { IsOf (site_answers site.now).heard evidence.now }
-    requires sources { sources.now ≡ (site_answers site.now).clocks }
-    requires senders { senders.now ≡ senders_of (site_answers site.now).heard }
-    ensures { result ≡ not_asked (site_answers site.now) source }
-{
+) -> Option<usize> {
     if was_asked(site, evidence, source.domain, sources) {
         return None;
     }

@@ -1,12 +1,5 @@
 //! What is wrong with clocks that are not seen.
 
-ghost use Rattle.std.specs.Prelude.{◌≡◌};
-ghost use Rattle.std.specs.List.{list_any};
-ghost use Rattle.ptpm_site.specs.Evidence.{IsOf};
-ghost use Rattle.ptpm_site.specs.Grandmasters.{in_domain};
-ghost use Rattle.ptpm_site.specs.Site.{site_answers};
-ghost use Rattle.ptpm_site.specs.Unseen.{is_mute, mute, names, open_mute, own_host, sends, sent_kind, unseen, was_asked};
-
 use crate::domain::Domain;
 use crate::evidence::Evidence;
 use crate::heard::{ANNOUNCE, DELAY_REQ, FOLLOW_UP, SYNC, Sender};
@@ -23,9 +16,7 @@ pub enum Absence {
 }
 
 /// Whether a clock names another as its grandmaster, or as the clock of its parent.
-fn names(site: &Site, other: Source, source: Source) -> bool
-    ensures { result ≡ names (site_answers site.now) other source }
-{
+fn names(site: &Site, other: Source, source: Source) -> bool {
     if source.domain != other.domain {
         return false;
     }
@@ -36,17 +27,12 @@ fn names(site: &Site, other: Source, source: Source) -> bool
 }
 
 /// Whether one of these clocks names another.
-fn is_named(site: &Site, other: Source, sources: &[Source]) -> bool
-    ensures { result ≡ list_any (names (site_answers site.now) other) sources.now }
-{
+fn is_named(site: &Site, other: Source, sources: &[Source]) -> bool {
     sources.iter().any(|source| names(site, other, *source))
 }
 
 /// That a clock of the host that asks is named by another. `sources` has all clocks that are seen.
-fn own_host(site: &Site, source: Source, sources: &[Source]) -> Option<Absence>
-    requires { sources.now ≡ (site_answers site.now).clocks }
-    ensures { result ≡ own_host (site_answers site.now) source }
-{
+fn own_host(site: &Site, source: Source, sources: &[Source]) -> Option<Absence> {
     if is_named(site, source, sources) {
         Some(Absence::OwnHost)
     } else {
@@ -55,34 +41,22 @@ fn own_host(site: &Site, source: Source, sources: &[Source]) -> Option<Absence>
 }
 
 /// Whether one of these clocks is of a domain.
-fn has_clock_of(sources: &[Source], domain: Domain) -> bool
-    ensures { result ≡ list_any (in_domain domain) sources.now }
-{
+fn has_clock_of(sources: &[Source], domain: Domain) -> bool {
     sources.iter().any(|source| source.domain == domain)
 }
 
 /// Whether a GET asks in a domain, or a clock of it answered.
-pub fn was_asked(site: &Site, evidence: &Evidence, domain: Domain, sources: &[Source]) -> bool
-    requires of { IsOf (site_answers site.now).heard evidence.now }
-    requires sources { sources.now ≡ (site_answers site.now).clocks }
-    ensures { result ≡ was_asked (site_answers site.now) domain }
-{
+pub fn was_asked(site: &Site, evidence: &Evidence, domain: Domain, sources: &[Source]) -> bool {
     evidence.domains.contains(&domain) || has_clock_of(sources, domain)
 }
 
-fn sends(site: &Site, evidence: &Evidence, source: Source, kind: u8) -> bool
-    requires { IsOf (site_answers site.now).heard evidence.now }
-    ensures { result ≡ sends (site_answers site.now) source kind }
-{
+fn sends(site: &Site, evidence: &Evidence, source: Source, kind: u8) -> bool {
     let sender = Sender { source, kind };
     evidence.senders.contains(&sender)
 }
 
 /// The messageType of what a clock sends by itself as a master does.
-fn sent_kind(site: &Site, evidence: &Evidence, source: Source) -> Option<u8>
-    requires { IsOf (site_answers site.now).heard evidence.now }
-    ensures { result ≡ sent_kind (site_answers site.now) source }
-{
+fn sent_kind(site: &Site, evidence: &Evidence, source: Source) -> Option<u8> {
     if sends(site, evidence, source, ANNOUNCE) {
         Some(ANNOUNCE)
     } else if sends(site, evidence, source, SYNC) {
@@ -95,11 +69,7 @@ fn sent_kind(site: &Site, evidence: &Evidence, source: Source) -> Option<u8>
 }
 
 /// That a clock sends by itself, and answers nothing in a domain that was asked.
-fn mute(site: &Site, evidence: &Evidence, source: Source, sources: &[Source]) -> Option<Absence>
-    requires of { IsOf (site_answers site.now).heard evidence.now }
-    requires sources { sources.now ≡ (site_answers site.now).clocks }
-    ensures { result ≡ mute (site_answers site.now) source }
-{
+fn mute(site: &Site, evidence: &Evidence, source: Source, sources: &[Source]) -> Option<Absence> {
     let kind = sent_kind(site, evidence, source)?;
     if was_asked(site, evidence, source.domain, sources) {
         Some(Absence::Mute(kind))
@@ -109,11 +79,7 @@ fn mute(site: &Site, evidence: &Evidence, source: Source, sources: &[Source]) ->
 }
 
 /// Whether a clock that is not seen has the finding `mute`. `sources` has all clocks that are seen.
-pub fn is_mute(site: &Site, evidence: &Evidence, source: Source, sources: &[Source]) -> bool
-    requires of { IsOf (site_answers site.now).heard evidence.now }
-    requires sources { sources.now ≡ (site_answers site.now).clocks }
-    ensures { result ≡ is_mute (site_answers site.now) source }
-{
+pub fn is_mute(site: &Site, evidence: &Evidence, source: Source, sources: &[Source]) -> bool {
     !evidence.hosts.contains(&source.clock) && mute(site, evidence, source, sources).is_some()
 }
 
@@ -124,11 +90,7 @@ pub fn open_mute(
     evidence: &Evidence,
     source: Source,
     sources: &[Source],
-) -> Option<Absence>
-    requires of { IsOf (site_answers site.now).heard evidence.now }
-    requires sources { sources.now ≡ (site_answers site.now).clocks }
-    ensures { result ≡ open_mute (site_answers site.now) source }
-{
+) -> Option<Absence> {
     if evidence.hosts.contains(&source.clock) || sent_kind(site, evidence, source).is_some() {
         return None;
     }
@@ -147,11 +109,7 @@ pub fn unseen(
     evidence: &Evidence,
     source: Source,
     sources: &[Source],
-) -> Option<Absence>
-    requires of { IsOf (site_answers site.now).heard evidence.now }
-    requires sources { sources.now ≡ (site_answers site.now).clocks }
-    ensures { result ≡ unseen (site_answers site.now) source }
-{
+) -> Option<Absence> {
     if evidence.hosts.contains(&source.clock) {
         own_host(site, source, sources)
     } else {

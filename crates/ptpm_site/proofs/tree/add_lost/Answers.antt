@@ -1,7 +1,6 @@
 -- The row of the port is there already, or is the last one now.
 use Rattle.std.proofs.Common.{◌≡◌, ◌<◌, [], length, refl, true, Option, Some, None, get_or, inr, subst, sym, ap, ◌∙◌, arith}
 use Rattle.std.proofs.lemmas.Bool.{not-false}
-use Rattle.std.proofs.lemmas.List.Elements.{All-contains}
 use Rattle.std.proofs.lemmas.Option.{same_Some}
 use Rattle.std.specs.List.{Contains}
 use Rattle.std.specs.Option.{option_eq}
@@ -13,12 +12,8 @@ use Rattle.ptpm_site.specs.declared.forest.Lost.{Lost}
 use Rattle.ptpm_site.specs.declared.tree.TreeRow.{TreeRow}
 use Rattle.ptpm_site.specs.declared.tree.TreeRow.TheVariants as row
 use Rattle.ptpm_site.specs.declared.tree_builder.TreeBuilder.{TreeBuilder}
-use Rattle.ptpm_site.specs.Forest.{IsLost}
-use Rattle.ptpm_site.specs.Growing.{Adds, IsForestOf, IsRowOf}
-use Rattle.ptpm_site.specs.SiteAnswers.{SiteAnswers}
-use Rattle.ptpm_site.specs.Tree.{IsAbove, IsFollowed, domain_at}
+use Rattle.ptpm_site.specs.Tree.{IsAbove}
 use Rattle.ptpm_site.proofs.Below.{IsAbove-last}
-use Rattle.ptpm_site.proofs.Growth.{Adds-more, Adds-none, Adds-push, Adds-subtree, domain-at, some_source}
 use Rattle.ptpm_site.proofs.tree.add_lost.Goals as goal
 use Rattle.ptpm_site.proofs.tree.add_lost.Goals.{then-ne+in_ok-add_not_seen, else-ne}
 
@@ -48,7 +43,6 @@ pub loop-lost-init : goal.loop-lost-init
 loop-lost-init c = record {
   below = c.requires;
   above = λ parent none. cc;
-  adds = λ t of. Adds-none (IsRowOf t c.args.domain.0) c.args.builder.now.rows.items;
 }
 
 pub loop-lost-preserved : goal.loop-lost-preserved
@@ -56,13 +50,8 @@ loop-lost-preserved c =
     let none : Lost = record { domain = record { 0 = 0 }; parent = record { clock = record { 0 = [] }; port = 0 }; place = 0 } in
     let lost : Lost = get_or c.lost_of-lost-items.result.now c.loop-lost.lost-index none in
     let port : TreeRow = row.NotSeen c.args.domain lost.parent in
-    let read = c.lost_of-lost-items.ensures c.loop-lost.lost-index none (omega arith) in
-    let forest = c.args.forest.now in
-    let first = c.args.builder.now.rows.items in
     let old = c.loop-lost.builder.rows.items in
     let mid = c.if-ne.builder.rows.items in
-    let is_lost : (t : SiteAnswers) → IsForestOf t forest → IsFollowed t lost.place port = λ t of.
-    subst (λ n. IsFollowed t lost.place (row.NotSeen n lost.parent)) read.0 (All-contains (IsLost t) forest.lost.items lost of.lost read.1) in
     let above : (parent : PortIdentity) → c.if-ne.above ≡ Some parent → IsAbove mid 1 (row.NotSeen c.args.domain parent) = λ parent same. elim c.if-ne.branch [
       | then-ne+in_ok-add_not_seen w ↦
           let is : lost.parent ≡ parent = same_Some lost.parent parent (sym w.above-is ∙ same) in
@@ -73,22 +62,7 @@ loop-lost-preserved c =
           subst (λ (b : TreeBuilder). IsAbove b.rows.items 1 (row.NotSeen c.args.domain parent)) (sym w.builder-is)
           (c.loop-lost.invariant.above parent (sym w.above-is ∙ same))
     ] in
-    let adds : (t : SiteAnswers) → IsForestOf t forest → Adds (IsRowOf t c.args.domain.0) first mid = λ t of. elim c.if-ne.branch [
-      | then-ne+in_ok-add_not_seen w ↦
-          let one : IsRowOf t c.args.domain.0 port = ((lost.place, is_lost t of), refl) in
-          subst (λ (b : TreeBuilder). Adds (IsRowOf t c.args.domain.0) first b.rows.items) (sym w.builder-is)
-          (Adds-more (IsRowOf t c.args.domain.0) (IsRowOf t c.args.domain.0) first old w.add_not_seen.new.self.rows.items (λ r h. h) (c.loop-lost.invariant.adds t of)
-          (Adds-push (IsRowOf t c.args.domain.0) old w.add_not_seen.new.self.rows.items port w.in_ok-add_not_seen.ensures one))
-      | else-ne w ↦
-          subst (λ (b : TreeBuilder). Adds (IsRowOf t c.args.domain.0) first b.rows.items) (sym w.builder-is) (c.loop-lost.invariant.adds t of)
-    ] in
     record {
       below = c.in_ok-add_subtree.ensures.below;
       above = λ parent same. c.in_ok-add_subtree.ensures.above 1 (row.NotSeen c.args.domain parent) (omega arith) (above parent same);
-      adds = λ t of.
-          let fact = is_lost t of in
-          let here : lost.place < length t.clocks = fact.0 in
-          let same : domain_at t.clocks lost.place ≡ c.args.domain.0 = domain-at t.clocks lost.place some_source here ∙ ap (λ (d : Domain). d.0) (fact.1 some_source).0 in
-          Adds-subtree t forest of c.args.domain.0 lost.place 1 here same (λ zero. absurd (omega (arith, zero))) first mid c.add_subtree.new.self.rows.items (adds t of)
-          c.in_ok-add_subtree.ensures.adds;
     }

@@ -1,10 +1,8 @@
--- The rows stand where they may, and the row of the port that was followed last is above what comes at depth 1. Those that were added
--- are of the domain.
+-- The rows stand where they may, and the row of the port that was followed last is above what comes at depth 1.
 use Rattle.std.proofs.Common.{◌≡◌, Some}
 use Rattle.ptpm_codec.specs.declared.identity.PortIdentity.{PortIdentity}
 use Rattle.ptpm_site.specs.declared.tree.TreeRow.TheVariants as row
-use Rattle.ptpm_site.specs.Growing.{Adds, AreTrue, IsForestOf, IsRowOf}
-use Rattle.ptpm_site.specs.SiteAnswers.{SiteAnswers}
+use Rattle.ptpm_site.specs.Growing.{AreTrue}
 use Rattle.ptpm_site.specs.Tree.{IsAbove}
 use Rattle.ptpm_site.proofs.tree.add_lost.Given as goal
 
@@ -12,5 +10,4 @@ abbrev pub invariant-loop-lost : goal.invariant-loop-lost
 invariant-loop-lost l = record {
   below : AreTrue l.forest l.builder.rows.items;
   above : (parent : PortIdentity) → l.above ≡ Some parent → IsAbove l.builder.rows.items 1 (row.NotSeen l.domain parent);
-  adds : (t : SiteAnswers) → IsForestOf t l.forest → Adds (IsRowOf t l.domain.0) l.fn.builder.rows.items l.builder.rows.items;
 }

@@ -1,11 +1,7 @@
 -- The clocks so far are among those that follow others, where they do.
 use Rattle.std.specs.List.{All}
-use Rattle.ptpm_site.specs.Forest.{IsFollower, IsLost}
-use Rattle.ptpm_site.specs.Site.{site_answers}
+use Rattle.ptpm_site.specs.Forest.{IsFollower}
 use Rattle.ptpm_site.proofs.forest.Forest.of.Given as goal
 
 abbrev pub invariant-loop-place : goal.invariant-loop-place
-invariant-loop-place l = record {
-  followers : All (IsFollower l.followed.items) l.following.followers.items;
-  lost : All (IsLost (site_answers l.site)) l.following.lost.items;
-}
+invariant-loop-place l = All (IsFollower l.followed.items) l.following.followers.items

@@ -1,18 +1,12 @@
 -- What comes next stands below what it follows, and none of the rest waits for a row that is deeper.
-use Rattle.std.proofs.Common.{◌≡◌, ℕ, ◌≤◌, [], ◌∷◌, ◌++◌, inl, inr, refl, subst, sym, arith}
-use Rattle.std.proofs.lemmas.List.Elements.{All-nil}
-use Rattle.std.specs.List.{All}
-use Rattle.ptpm_site.specs.declared.tree.TreeRow.TheVariants as row
-use Rattle.ptpm_site.specs.Growing.{AreWaiting, IsInSubtree, IsWithin}
-use Rattle.ptpm_site.specs.Tree.{domain_at}
+use Rattle.std.proofs.Common.{ℕ, ◌≤◌, [], ◌∷◌, ◌++◌, subst, sym, arith}
+use Rattle.ptpm_site.specs.Growing.{AreWaiting}
 use Rattle.ptpm_site.proofs.Below.{AreWaiting-none, AreWaiting-rest, last_deep, last_stands, rest_shallow}
-use Rattle.ptpm_site.proofs.Growth.{Adds-more, Adds-none, All-last, All-rest}
 use Rattle.ptpm_site.proofs.tree_builder.TreeBuilder.add_subtree.Goals as goal
 
 pub grow-init : goal.grow-init
 grow-init c =
     let forest = c.args.forest.now in
-    let domain = domain_at forest.sources.items c.args.place in
     let old = c.args.self.now.rows.items in
     record {
       marked = c.in_ok-put.ensures.marked;
@@ -21,11 +15,6 @@ grow-init c =
       above = c.in_ok-put.ensures.above;
       waiting = c.in_ok-put.ensures.waiting c.args.depth (omega arith)
           (subst (AreWaiting forest old c.args.depth) (sym c.clear.ensures.items) (AreWaiting-none forest old c.args.depth));
-      adds = Adds-more (IsInSubtree forest c.args.place c.args.depth) (λ r. r ≡ row.Clock c.args.place c.args.depth) old old c.put.new.self.rows.items
-          (λ r is. subst (IsInSubtree forest c.args.place c.args.depth) (sym is) (inl (refl, refl)))
-          (Adds-none (IsInSubtree forest c.args.place c.args.depth) old) c.in_ok-put.ensures.adds;
-      within = c.in_ok-put.ensures.within domain refl
-          (subst (All (λ w. IsWithin forest domain w.0 w.1)) (sym c.clear.ensures.items) (All-nil (λ (w : ℕ × ℕ). IsWithin forest domain w.0 w.1)));
     }
 
 pub put-requires-in-grow-clause-stands : goal.put-requires-in-grow-clause-stands
@@ -54,17 +43,10 @@ grow-preserved c =
     let waiting : AreWaiting c.args.forest.now rows c.args.depth (rest ++ w ∷ []) =
     subst (AreWaiting c.args.forest.now rows c.args.depth) c.in-Some.ensures.items c.grow.invariant.waiting in
     let deep : c.args.depth ≤ c.in-Some.deeper = last_deep c.args.forest.now rows c.args.depth rest w waiting in
-    let domain = domain_at c.args.forest.now.sources.items c.args.place in
-    let within : All (λ v. IsWithin c.args.forest.now domain v.0 v.1) (rest ++ w ∷ []) =
-    subst (All (λ v. IsWithin c.args.forest.now domain v.0 v.1)) c.in-Some.ensures.items c.grow.invariant.within in
-    let one : IsWithin c.args.forest.now domain c.in-Some.below c.in-Some.deeper = All-last (λ v. IsWithin c.args.forest.now domain v.0 v.1) rest w within in
     record {
       marked = c.in_ok-put-2.ensures.stays c.args.place c.grow.invariant.marked;
       stays = λ p h. c.in_ok-put-2.ensures.stays p (c.grow.invariant.stays p h);
       below = c.in_ok-put-2.ensures.below;
       above = λ n above le h. c.in_ok-put-2.ensures.above n above (omega arith) (c.grow.invariant.above n above le h);
       waiting = c.in_ok-put-2.ensures.waiting c.args.depth deep (AreWaiting-rest c.args.forest.now rows c.args.depth rest w waiting);
-      adds = Adds-more (IsInSubtree c.args.forest.now c.args.place c.args.depth) (λ r. r ≡ row.Clock c.in-Some.below c.in-Some.deeper) c.args.self.now.rows.items rows c.put-in-grow.new.self.rows.items
-          (λ r is. subst (IsInSubtree c.args.forest.now c.args.place c.args.depth) (sym is) (inr one)) c.grow.invariant.adds c.in_ok-put-2.ensures.adds;
-      within = c.in_ok-put-2.ensures.within domain one.2 (All-rest (λ v. IsWithin c.args.forest.now domain v.0 v.1) rest w within);
     }

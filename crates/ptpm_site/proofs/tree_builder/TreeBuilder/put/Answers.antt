@@ -1,11 +1,10 @@
 -- The clock has its row after those of before, and those that follow it wait.
-use Rattle.std.proofs.Common.{◌≡◌, refl, subst, sym}
+use Rattle.std.proofs.Common.{subst, sym}
 use Rattle.std.proofs.lemmas.Result.{on_ok_weaker}
 use Rattle.ptpm_site.specs.declared.tree.TreeRow.{TreeRow}
 use Rattle.ptpm_site.specs.declared.tree.TreeRow.TheVariants as row
 use Rattle.ptpm_site.specs.Growing.{AreTrue, AreWaiting, IsFollowedIn, StaysAbove}
 use Rattle.ptpm_site.proofs.Below.{AreBelow-push, AreWaiting-put, StaysAbove-push}
-use Rattle.ptpm_site.proofs.Growth.{Adds-none, Adds-push, within-more}
 use Rattle.ptpm_site.proofs.tree_builder.TreeBuilder.put.Goals as goal
 
 pub returns-clause-below : goal.returns-clause-below
@@ -31,20 +30,4 @@ returns-clause-waiting c =
     on_ok_weaker c.wait_below.result
     (λ below from le h. subst (λ rows. AreWaiting forest rows from c.wait_below.new.waiting.items) (sym c.in_ok-add_clock.ensures.row)
     (AreWaiting-put forest old.rows.items c.args.place c.args.depth from old.waiting.items c.wait_below.new.waiting.items le c.requires.shallow below h))
-    c.wait_below.ensures
-
-pub returns-then-is_marked-clause-adds : goal.returns-then-is_marked-clause-adds
-returns-then-is_marked-clause-adds c = Adds-none (λ r. r ≡ row.Clock c.args.place c.args.depth) c.args.self.now.rows.items
-
-pub returns-clause-adds : goal.returns-clause-adds
-returns-clause-adds c =
-    let here : TreeRow = row.Clock c.args.place c.args.depth in
-    on_ok_weaker c.wait_below.result
-    (λ _. Adds-push (λ r. r ≡ here) c.args.self.now.rows.items c.add_clock.new.rows.items here c.in_ok-add_clock.ensures.row refl)
-    c.wait_below.ensures
-
-pub returns-clause-within : goal.returns-clause-within
-returns-clause-within c =
-    on_ok_weaker c.wait_below.result
-    (λ below domain same h. within-more c.args.forest.now c.args.place c.args.depth domain c.args.self.now.waiting.items c.wait_below.new.waiting.items c.args.forest.now.beside below same h)
     c.wait_below.ensures

@@ -1,8 +1,0 @@
--- Of what was heard so far those that show it are found.
-use Rattle.std.proofs.Common.{◌≡◌, take}
-use Rattle.std.specs.List.{filter_map}
-use Rattle.ptpm_site.specs.Reach.{nearer_in}
-use Rattle.ptpm_site.proofs.reach.nearer.Given as goal
-
-abbrev pub invariant-loop-one : goal.invariant-loop-one
-invariant-loop-one l = l.found.items ≡ filter_map (nearer_in l.heard) (take l.one-index l.heard)
