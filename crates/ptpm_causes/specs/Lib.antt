@@ -1,7 +1,1 @@
-pub mod Chains
-pub mod Found
-pub mod Kinds
-pub mod Members
-pub mod Momentary
-pub mod Named
-pub mod Reasons
+pub mod Roots

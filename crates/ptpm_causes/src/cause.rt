@@ -1,9 +1,5 @@
 //! The name of a finding, and the clock at which it is printed.
 
-ghost use Rattle.std.specs.Prelude.{◌≡◌};
-ghost use Rattle.ptpm_site.specs.Site.{site_answers};
-ghost use Rattle.ptpm_causes.specs.Named.{cause_in, is_of_giver, key, may_cause, named, place_of};
-
 use crate::kind::{Kind, kind_of};
 use ptpm_site::finding::{Finding, What};
 use ptpm_site::site::Site;
@@ -26,9 +22,7 @@ pub(crate) struct Key {
 }
 
 impl Cause {
-    pub(crate) fn key(self) -> Key
-        ensures { result ≡ key self }
-    {
+    pub(crate) fn key(self) -> Key {
         Key {
             rank: self.kind.rank(),
             source: self.source,
@@ -37,9 +31,7 @@ impl Cause {
 }
 
 /// The clock at which a finding is printed: a grandmaster that is not seen, in place of the clock that names it.
-fn place_of(source: Source, what: &What<'_>) -> Source
-    ensures { result ≡ place_of source what.now }
-{
+fn place_of(source: Source, what: &What<'_>) -> Source {
     match what {
         What::GrandmasterNotSeen(clock) => source.beside(*clock),
         _ => source,
@@ -47,9 +39,7 @@ fn place_of(source: Source, what: &What<'_>) -> Source
 }
 
 /// The finding's own name, and the clock at which it is printed.
-pub fn named(finding: &Finding<'_>) -> Cause
-    ensures { result ≡ named finding.now }
-{
+pub fn named(finding: &Finding<'_>) -> Cause {
     Cause {
         kind: kind_of(&finding.what),
         source: place_of(finding.source, &finding.what),
@@ -57,16 +47,12 @@ pub fn named(finding: &Finding<'_>) -> Cause
 }
 
 /// Whether it shows at the clock that gives the wrong time to others.
-fn is_of_giver(how: OffByUtc) -> bool
-    ensures { result ≡ is_of_giver how }
-{
+fn is_of_giver(how: OffByUtc) -> bool {
     !matches!(how, OffByUtc::Offset(_))
 }
 
 /// Whether others may follow from what is wrong with a clock.
-fn may_cause(site: &Site, source: Source, what: &What<'_>) -> bool
-    ensures { result ≡ may_cause (site_answers site.now) source what.now }
-{
+fn may_cause(site: &Site, source: Source, what: &What<'_>) -> bool {
     match what {
         What::PortState(_, stay) => is_faulty(stay.state),
         What::NotAsExpected(_) => false,
@@ -77,9 +63,7 @@ fn may_cause(site: &Site, source: Source, what: &What<'_>) -> bool
 }
 
 /// The name under which others may follow from a finding.
-pub(crate) fn cause_in(site: &Site, finding: &Finding<'_>) -> Option<Cause>
-    ensures { result ≡ cause_in (site_answers site.now) finding.now }
-{
+pub(crate) fn cause_in(site: &Site, finding: &Finding<'_>) -> Option<Cause> {
     if may_cause(site, finding.source, &finding.what) {
         Some(named(finding))
     } else {

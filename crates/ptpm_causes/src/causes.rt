@@ -1,52 +1,45 @@
 //! From which finding each finding of a site follows.
 
-ghost use Rattle.std.specs.Prelude.{◌≡◌, IfOk, map};
+ghost use Rattle.std.specs.Prelude.{◌≡◌, ℕ, ◌<◌, IfOk, IfSome, length};
 ghost use Rattle.std.specs.List.{All};
-ghost use Rattle.std.specs.Option.{option_map};
-ghost use Rattle.ptpm_site.specs.Site.{site_answers};
-ghost use Rattle.ptpm_causes.specs.Chains.{IsPrinted, follows_from, kept, last_of};
-ghost use Rattle.ptpm_causes.specs.Found.{known_by};
-ghost use Rattle.ptpm_causes.specs.Reasons.{reason};
+ghost use Rattle.ptpm_causes.specs.Roots.{IsRoot};
 
-use crate::cause::Cause;
+use crate::cause::{Cause, named};
 use crate::chains::Chains;
 use crate::found::Found;
 use ptpm_site::finding::Finding;
 use ptpm_site::picture::Picture;
-use ptpm_site::site::Site;
 use std::alloc::{AllocError, Global};
 
-/// Of each finding, in their order, from which it follows.
+/// Of each finding, in their order, from which it follows. That one follows from nothing.
 pub fn causes_of(alloc: Global, picture: &Picture<'_>) -> Result<Vec<Option<Cause>>, AllocError>
-    ensures causes { IfOk result (λ causes. causes.items ≡ map (follows_from (site_answers picture.now.site.now) picture.now.findings.items) picture.now.findings.items) }
-    ensures printed { IfOk result (λ causes. All (IsPrinted (site_answers picture.now.site.now) picture.now.findings.items) causes.items) }
+    ensures len { IfOk result (λ causes. length causes.items ≡ length picture.now.findings.items) }
+    ensures printed { IfOk result (λ causes. 0 < length causes.items → (place : ℕ) × IsRoot causes.items place) }
 {
-    let site = picture.site;
-    let findings = picture.findings.as_slice();
+    let (site, findings) = (picture.site, picture.findings.as_slice());
     let found = Found::of(alloc, site, findings)?;
     let chains = Chains::of(alloc, site, &found, findings)?;
-    last_causes(alloc, site, &found, &chains, findings)
+    let places = chains.places(alloc)?;
+    names_at(alloc, findings, places.as_slice())
 }
 
-/// Of each of these findings the last of its chain of causes.
-fn last_causes(
+/// The names of the findings at these places.
+fn names_at(
     alloc: Global,
-    site: &Site,
-    found: &Found,
-    chains: &Chains,
     findings: &[Finding<'_>],
+    places: &[Option<usize>],
 ) -> Result<Vec<Option<Cause>>, AllocError>
-    ensures { IfOk result (λ causes. causes.items ≡ map (λ f. option_map (last_of (kept chains.now)) (reason (site_answers site.now) (known_by found.now) f)) findings.now) }
+    requires { All (λ place. IfSome place (λ p. p < length findings.now)) places.now }
+    ensures len { IfOk result (λ causes. length causes.items ≡ length places.now) }
+    ensures roots { IfOk result (λ causes. (p : ℕ) → IsRoot places.now p → IsRoot causes.items p) }
 {
     let mut causes = Vec::new(alloc);
-    for finding in findings {
-        causes.push(last_cause(site, found, chains, finding))?;
+    for place in places {
+        let cause = match place {
+            Some(place) => Some(named(&findings[*place])),
+            None => None,
+        };
+        causes.push(cause)?;
     }
     Ok(causes)
-}
-
-fn last_cause(site: &Site, found: &Found, chains: &Chains, finding: &Finding<'_>) -> Option<Cause>
-    ensures { result ≡ option_map (last_of (kept chains.now)) (reason (site_answers site.now) (known_by found.now) finding.now) }
-{
-    Some(chains.last_of(found.reason(site, finding)?))
 }

@@ -1,40 +1,27 @@
 //! The last cause of a chain of causes.
 
-ghost use Rattle.std.specs.Prelude.{◌≡◌, IfOk, OnOk, if◌then◌else◌};
-ghost use Rattle.std.specs.BTreeMap.{get};
-ghost use Rattle.std.specs.Ordering.{is_eq};
-ghost use Rattle.ptpm_site.specs.Site.{site_answers};
-ghost use Rattle.ptpm_causes.specs.declared.cause.Key.{Key};
-ghost use Rattle.ptpm_causes.specs.Chains.{agreed, flat, kept, last_of, last_within, said};
-ghost use Rattle.ptpm_causes.specs.Found.{known_by};
-ghost use Rattle.ptpm_causes.specs.Named.{key, key_cmp};
+ghost use Rattle.std.specs.Prelude.{◌≡◌, IfOk, IfSome, length};
+ghost use Rattle.std.specs.BTreeMap.{values};
+ghost use Rattle.std.specs.List.{All};
+ghost use Rattle.ptpm_causes.specs.Roots.{IsRoot};
 
 use crate::cause::{Cause, Key, cause_in};
 use crate::found::Found;
+use crate::kind::Kind;
 use ptpm_site::finding::Finding;
 use ptpm_site::site::Site;
 use std::alloc::{AllocError, Global};
 use std::collections::BTreeMap;
 
-/// For each name that findings have, from which finding it follows at once.
+/// From which finding each finding follows at once, by its place and by its name.
 #[derive(Drop)]
 pub(crate) struct Chains {
-    pub(crate) onward: BTreeMap<Key, Option<Cause>>,
-}
-
-/// From which finding a name follows, by one more of its findings. It follows from nothing if one of them does, and else from
-/// that from which the first does.
-fn agreed(so_far: Option<Option<Cause>>, next: Option<Cause>) -> Option<Cause>
-    ensures { result ≡ agreed so_far next }
-{
-    match so_far {
-        None => next,
-        Some(None) => None,
-        Some(Some(first)) => match next {
-            Some(_) => Some(first),
-            None => None,
-        },
-    }
+    reasons: Vec<Option<Cause>>,
+    /// The place of a finding that follows from nothing, for each name that has one.
+    roots: BTreeMap<Key, usize>,
+    /// From what the first other finding of each name follows.
+    onward: BTreeMap<Key, Cause>,
+    ghost are_roots: { All (IsRoot reasons.items) (values roots) },
 }
 
 impl Chains {
@@ -44,54 +31,61 @@ impl Chains {
         found: &Found,
         findings: &[Finding<'_>],
     ) -> Result<Chains, AllocError>
-        ensures { IfOk result (λ chains. (k : Key) → kept chains k ≡ said (site_answers site.now) (known_by found.now) findings.now k) }
+        ensures { IfOk result (λ chains. length chains.reasons.items ≡ length findings.now) }
     {
-        let mut chains = Chains {
-            onward: BTreeMap::new(alloc),
-        };
-        for finding in findings {
-            let Some(cause) = cause_in(site, finding) else {
+        let mut reasons = Vec::new(alloc);
+        let mut roots = BTreeMap::new(alloc);
+        let mut onward = BTreeMap::new(alloc);
+        for (place, finding) in findings.iter().enumerate() {
+            let reason = found.reason(site, finding);
+            reasons.push(reason)?;
+            let Some(name) = cause_in(site, finding) else {
                 continue;
             };
-            chains.add(cause.key(), found.reason(site, finding))?;
+            match reason {
+                Some(cause) => {
+                    onward.entry(name.key())?.or_insert(cause);
+                }
+                None => {
+                    roots.insert(name.key(), place)?;
+                }
+            }
         }
-        Ok(chains)
+        Ok(Chains {
+            reasons,
+            roots,
+            onward,
+        })
     }
 
-    /// Adds from which finding one more finding of a name follows.
-    fn add(&mut self, key: Key, next: Option<Cause>) -> Result<(), AllocError>
-        ensures { OnOk result ((k : Key) → kept self.new k ≡ if is_eq (key_cmp key k) then Some (agreed (kept self.old key) next) else kept self.old k) }
+    /// For each finding the place of the last of its chain of causes, which follows from nothing.
+    pub(crate) fn places(&self, alloc: Global) -> Result<Vec<Option<usize>>, AllocError>
+        ensures len { IfOk result (λ places. length places.items ≡ length self.now.reasons.items) }
+        ensures printed { IfOk result (λ places. All (λ place. IfSome place (IsRoot places.items)) places.items) }
     {
-        let so_far = self.onward.get(&key).copied();
-        self.onward.insert(key, agreed(so_far, next))?;
-        Ok(())
-    }
-
-    /// From which finding a name follows at once.
-    fn next(&self, cause: Cause) -> Option<Cause>
-        ensures { result ≡ flat (kept self.now (key cause)) }
-    {
-        self.onward.get(&cause.key()).copied()?
-    }
-
-    /// The last of a chain, within this number of steps.
-    #[tactic(auto, unfolding(crate::specs::Chains::last_within))]
-    fn last_within(&self, steps: u8, cause: Cause) -> Cause
-        ensures { result ≡ last_within (kept self.now) steps cause }
-    {
-        if steps == 0 {
-            return cause;
+        let mut places = Vec::new(alloc);
+        for reason in self.reasons.as_slice() {
+            let place = match reason {
+                Some(cause) => self.root_of(*cause),
+                None => None,
+            };
+            places.push(place)?;
         }
-        match self.next(cause) {
-            Some(next) => self.last_within(steps - 1, next),
-            None => cause,
-        }
+        Ok(places)
     }
 
-    /// The last of the chain that begins with a cause.
-    pub(crate) fn last_of(&self, cause: Cause) -> Cause
-        ensures { result ≡ last_of (kept self.now) cause }
+    /// The place of the last of the chain that begins with a cause. Names follow from earlier names, so no chain is longer than their
+    /// list.
+    fn root_of(&self, cause: Cause) -> Option<usize>
+        ensures { IfSome result (IsRoot self.now.reasons.items) }
     {
-        self.last_within(cause.kind.rank(), cause)
+        let mut here = cause;
+        for _ in Kind::ALL {
+            if let Some(place) = self.roots.get(&here.key()) {
+                return Some(*place);
+            }
+            here = *self.onward.get(&here.key())?;
+        }
+        None
     }
 }

@@ -1,9 +1,5 @@
 //! The names of findings.
 
-ghost use Rattle.std.specs.Prelude.{◌≡◌};
-ghost use Rattle.ptpm_causes.specs.Kinds.{absence_kind, degradation_kind, kind_of, rank};
-ghost use Rattle.ptpm_causes.specs.Momentary.{is_sure};
-
 use ptpm_site::finding::What;
 use ptpm_site::leading::Degradation;
 use ptpm_site::unseen::Absence;
@@ -159,9 +155,7 @@ impl Kind {
     }
 
     /// Whether one look shows it. What is not sure may be there for a moment, while a change goes from clock to clock.
-    pub(crate) fn is_sure(self) -> bool
-        ensures { result ≡ is_sure self }
-    {
+    pub(crate) fn is_sure(self) -> bool {
         use Kind::*;
         matches!(
             self,
@@ -289,17 +283,13 @@ impl Kind {
     }
 
     /// Its place among those that it may follow from.
-    pub(crate) fn rank(self) -> u8
-        ensures { result ≡ rank self }
-    {
+    pub(crate) fn rank(self) -> u8 {
         self as u8
     }
 }
 
 /// The name of what is wrong.
-pub(crate) fn kind_of(what: &What<'_>) -> Kind
-    ensures { result ≡ kind_of what.now }
-{
+pub(crate) fn kind_of(what: &What<'_>) -> Kind {
     match what {
         What::Absent(_) => Kind::Absent,
         What::Unexpected => Kind::Unexpected,
@@ -339,18 +329,14 @@ pub(crate) fn kind_of(what: &What<'_>) -> Kind
     }
 }
 
-fn absence_kind(absence: Absence) -> Kind
-    ensures { result ≡ absence_kind absence }
-{
+fn absence_kind(absence: Absence) -> Kind {
     match absence {
         Absence::OwnHost => Kind::OwnHost,
         Absence::Mute(_) => Kind::Mute,
     }
 }
 
-fn degradation_kind(degradation: Degradation) -> Kind
-    ensures { result ≡ degradation_kind degradation }
-{
+fn degradation_kind(degradation: Degradation) -> Kind {
     match degradation {
         Degradation::Holdover => Kind::Holdover,
         Degradation::Degraded => Kind::Degraded,

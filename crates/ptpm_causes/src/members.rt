@@ -1,16 +1,11 @@
 //! The members of data sets that the rules name.
 
-ghost use Rattle.std.specs.Prelude.{◌≡◌};
-ghost use Rattle.ptpm_causes.specs.Members.{is_by_handover, is_of_parent, is_of_time, is_parent_identity, is_passed_on, is_quality};
-
 use ptpm_data::Member as DataSetMember;
 use ptpm_members::Member;
 use ptpm_site::member::is_of_grandmaster;
 
 /// Whether a member is of TIME_PROPERTIES_DATA_SET.
-fn is_of_time(member: Member) -> bool
-    ensures { result ≡ is_of_time member }
-{
+fn is_of_time(member: Member) -> bool {
     matches!(
         member,
         Member::DataSet(
@@ -27,16 +22,12 @@ fn is_of_time(member: Member) -> bool
 }
 
 /// Whether a grandmaster passes a member on to the clocks that follow it.
-pub(crate) fn is_passed_on(member: Member) -> bool
-    ensures { result ≡ is_passed_on member }
-{
+pub(crate) fn is_passed_on(member: Member) -> bool {
     is_of_grandmaster(member) || is_of_time(member)
 }
 
 /// Whether a member says whom a clock follows, and by what way.
-fn is_of_parent(member: Member) -> bool
-    ensures { result ≡ is_of_parent member }
-{
+fn is_of_parent(member: Member) -> bool {
     matches!(
         member,
         Member::DataSet(
@@ -52,20 +43,14 @@ fn is_of_parent(member: Member) -> bool
 }
 
 /// Whether a member is another once a clock's grandmaster is another.
-pub(crate) fn is_by_handover(member: Member) -> bool
-    ensures { result ≡ is_by_handover member }
-{
+pub(crate) fn is_by_handover(member: Member) -> bool {
     is_passed_on(member) || is_of_parent(member)
 }
 
-pub(crate) fn is_quality(member: Member) -> bool
-    ensures { result ≡ is_quality member }
-{
+pub(crate) fn is_quality(member: Member) -> bool {
     matches!(member, Member::ClockQuality)
 }
 
-pub(crate) fn is_parent_identity(member: Member) -> bool
-    ensures { result ≡ is_parent_identity member }
-{
+pub(crate) fn is_parent_identity(member: Member) -> bool {
     matches!(member, Member::DataSet(DataSetMember::ParentPort))
 }

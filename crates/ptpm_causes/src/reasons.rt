@@ -1,10 +1,5 @@
 //! From which finding another follows at once: the rules. Each answers the first of its causes that is among the findings.
 
-ghost use Rattle.std.specs.Prelude.{◌≡◌};
-ghost use Rattle.ptpm_site.specs.Site.{site_answers};
-ghost use Rattle.ptpm_causes.specs.Found.{known_by};
-ghost use Rattle.ptpm_causes.specs.Reasons.{at, change_cause, first_of, follower_cause, given_cause, grandmaster_cause, handover_cause, is_by_itself, lost_causes, masterless_cause, moved_cause, offset_cause, parent_causes, parent_lost, quality_cause, reason, reason_of, silent_causes, unmet_cause, unseen_above, unseen_causes};
-
 use crate::cause::Cause;
 use crate::found::Found;
 use crate::kind::Kind;
@@ -22,17 +17,12 @@ use ptpm_site::tai_and_utc::OffByUtc;
 /// How many steps a way to a grandmaster has at most: an Announce of 255 steps is not qualified (9.3.2.5).
 const LONGEST_WAY: u8 = 255;
 
-fn at(kind: Kind, source: Source) -> Cause
-    ensures { result ≡ at kind source }
-{
+fn at(kind: Kind, source: Source) -> Cause {
     Cause { kind, source }
 }
 
 /// The first clock above another, by parents, that is not seen, within this number of steps.
-#[tactic(auto, unfolding(crate::specs::Reasons::unseen_above))]
-fn unseen_above(steps: u8, site: &Site, source: Source) -> Option<Source>
-    ensures { result ≡ unseen_above steps (site_answers site.now) source }
-{
+fn unseen_above(steps: u8, site: &Site, source: Source) -> Option<Source> {
     if steps == 0 {
         return None;
     }
@@ -46,9 +36,7 @@ fn unseen_above(steps: u8, site: &Site, source: Source) -> Option<Source>
 
 impl Found {
     /// That a clock is not seen.
-    fn unseen_cause(&self, source: Source) -> Option<Cause>
-        ensures { result ≡ first_of (known_by self.now) (unseen_causes source) }
-    {
+    fn unseen_cause(&self, source: Source) -> Option<Cause> {
         self.first_of(&[
             at(Kind::Gone, source),
             at(Kind::Absent, source),
@@ -58,16 +46,12 @@ impl Found {
     }
 
     /// That a clock on the way to a grandmaster answers nothing.
-    fn silent_cause(&self, source: Source) -> Option<Cause>
-        ensures { result ≡ first_of (known_by self.now) (silent_causes source) }
-    {
+    fn silent_cause(&self, source: Source) -> Option<Cause> {
         self.first_of(&[at(Kind::Mute, source), at(Kind::OwnHost, source)])
     }
 
     /// `grandmaster_not_seen` of a clock that names this grandmaster.
-    fn grandmaster_cause(&self, site: &Site, source: Source, grandmaster: Source) -> Option<Cause>
-        ensures { result ≡ grandmaster_cause (site_answers site.now) (known_by self.now) source grandmaster }
-    {
+    fn grandmaster_cause(&self, site: &Site, source: Source, grandmaster: Source) -> Option<Cause> {
         if let Some(cause) = self.unseen_cause(grandmaster) {
             return Some(cause);
         }
@@ -75,9 +59,7 @@ impl Found {
     }
 
     /// `parent_not_seen` of a clock whose parent this is.
-    fn parent_cause(&self, parent: Source) -> Option<Cause>
-        ensures { result ≡ first_of (known_by self.now) (parent_causes parent) }
-    {
+    fn parent_cause(&self, parent: Source) -> Option<Cause> {
         self.first_of(&[
             at(Kind::Gone, parent),
             at(Kind::Absent, parent),
@@ -88,9 +70,7 @@ impl Found {
     }
 
     /// That a grandmaster or a parent is lost.
-    fn lost_cause(&self, source: Source) -> Option<Cause>
-        ensures { result ≡ first_of (known_by self.now) (lost_causes source) }
-    {
+    fn lost_cause(&self, source: Source) -> Option<Cause> {
         self.first_of(&[
             at(Kind::Gone, source),
             at(Kind::Absent, source),
@@ -99,9 +79,7 @@ impl Found {
     }
 
     /// `parent_not_seen` of the clock, if that follows from nothing.
-    fn parent_lost(&self, source: Source, parent: Source) -> Option<Cause>
-        ensures { result ≡ parent_lost (known_by self.now) source parent }
-    {
+    fn parent_lost(&self, source: Source, parent: Source) -> Option<Cause> {
         if self.parent_cause(parent).is_some() {
             None
         } else {
@@ -115,9 +93,7 @@ impl Found {
         site: &Site,
         source: Source,
         grandmaster: ClockIdentity,
-    ) -> Option<Cause>
-        ensures { result ≡ follower_cause (site_answers site.now) (known_by self.now) source grandmaster }
-    {
+    ) -> Option<Cause> {
         let of_port = self.first_of(&[at(Kind::Intervals, source), at(Kind::PortState, source)]);
         let of_grandmaster = self.lost_cause(source.beside(grandmaster));
         if let Some(cause) = of_port.or(of_grandmaster) {
@@ -127,9 +103,7 @@ impl Found {
         self.lost_cause(parent).or(self.parent_lost(source, parent))
     }
 
-    fn masterless_cause(&self, site: &Site, source: Source, why: Masterless) -> Option<Cause>
-        ensures { result ≡ masterless_cause (site_answers site.now) (known_by self.now) source why }
-    {
+    fn masterless_cause(&self, site: &Site, source: Source, why: Masterless) -> Option<Cause> {
         match why {
             Masterless::Lost(grandmaster) => self.follower_cause(site, source, grandmaster),
             _ => None,
@@ -137,17 +111,13 @@ impl Found {
     }
 
     /// Whether one clock went to another grandmaster, and it is one of the two.
-    fn is_by_itself(&self, source: Source, change: &GrandmasterChange) -> bool
-        ensures { result ≡ is_by_itself (known_by self.now) source change.now }
-    {
+    fn is_by_itself(&self, source: Source, change: &GrandmasterChange) -> bool {
         change.clocks == 1
             && (change.before == source.clock || change.after == source.clock)
             && self.has_moved(source)
     }
 
-    fn handover_cause(&self, source: Source, change: &GrandmasterChange) -> Option<Cause>
-        ensures { result ≡ handover_cause (known_by self.now) source change.now }
-    {
+    fn handover_cause(&self, source: Source, change: &GrandmasterChange) -> Option<Cause> {
         if self.is_by_itself(source, change) {
             self.first_of(&[
                 at(Kind::Intervals, source),
@@ -160,9 +130,7 @@ impl Found {
     }
 
     /// `changed` by a change of the grandmaster, which is shown at that one or at the clock.
-    fn moved_cause(&self, source: Source, member: Member, grandmaster: Source) -> Option<Cause>
-        ensures { result ≡ moved_cause (known_by self.now) source member grandmaster }
-    {
+    fn moved_cause(&self, source: Source, member: Member, grandmaster: Source) -> Option<Cause> {
         if self.has_moved(source) && is_by_handover(member) {
             self.first_of(&[
                 at(Kind::GrandmasterChanged, grandmaster),
@@ -180,9 +148,7 @@ impl Found {
         member: Member,
         grandmaster: Source,
         is_own: bool,
-    ) -> Option<Cause>
-        ensures { result ≡ given_cause (known_by self.now) source member grandmaster is_own }
-    {
+    ) -> Option<Cause> {
         if is_own {
             self.quality_cause(source, member)
         } else if is_passed_on(member) {
@@ -192,9 +158,7 @@ impl Found {
         }
     }
 
-    fn quality_cause(&self, source: Source, member: Member) -> Option<Cause>
-        ensures { result ≡ quality_cause (known_by self.now) source member }
-    {
+    fn quality_cause(&self, source: Source, member: Member) -> Option<Cause> {
         if is_quality(member) {
             self.first_of(&[
                 at(Kind::Holdover, source),
@@ -206,9 +170,7 @@ impl Found {
         }
     }
 
-    fn change_cause(&self, site: &Site, source: Source, member: Member) -> Option<Cause>
-        ensures { result ≡ change_cause (site_answers site.now) (known_by self.now) source member }
-    {
+    fn change_cause(&self, site: &Site, source: Source, member: Member) -> Option<Cause> {
         if let Some(cause) = self.first_of(&[at(Kind::IdentityTwice, source)]) {
             return Some(cause);
         }
@@ -219,9 +181,7 @@ impl Found {
     }
 
     /// `off_by_utc` of a clock whose grandmaster gives the wrong time to all.
-    fn offset_cause(&self, site: &Site, source: Source, how: OffByUtc) -> Option<Cause>
-        ensures { result ≡ offset_cause (site_answers site.now) (known_by self.now) source how }
-    {
+    fn offset_cause(&self, site: &Site, source: Source, how: OffByUtc) -> Option<Cause> {
         match how {
             OffByUtc::Offset(_) => {
                 let grandmaster = source.beside(site.parent(source)?.grandmaster);
@@ -232,9 +192,7 @@ impl Found {
     }
 
     /// Another parent than the inventory wants, by another grandmaster of the domain.
-    fn unmet_cause(&self, source: Source, unmet: &Unmet<'_>) -> Option<Cause>
-        ensures { result ≡ unmet_cause (known_by self.now) source unmet.now }
-    {
+    fn unmet_cause(&self, source: Source, unmet: &Unmet<'_>) -> Option<Cause> {
         if !is_parent_identity(unmet.member) {
             return None;
         }
@@ -242,9 +200,7 @@ impl Found {
         self.first_of(&[at(Kind::NotAsExpected, leaders)])
     }
 
-    fn reason_of(&self, site: &Site, source: Source, what: &What<'_>) -> Option<Cause>
-        ensures { result ≡ reason_of (site_answers site.now) (known_by self.now) source what.now }
-    {
+    fn reason_of(&self, site: &Site, source: Source, what: &What<'_>) -> Option<Cause> {
         match what {
             What::Absent(_) => self.first_of(&[at(Kind::Gone, source)]),
             What::NotAsExpected(unmet) => self.unmet_cause(source, unmet),
@@ -266,9 +222,7 @@ impl Found {
     }
 
     /// From which finding a finding follows at once.
-    pub(crate) fn reason(&self, site: &Site, finding: &Finding<'_>) -> Option<Cause>
-        ensures { result ≡ reason (site_answers site.now) (known_by self.now) finding.now }
-    {
+    pub(crate) fn reason(&self, site: &Site, finding: &Finding<'_>) -> Option<Cause> {
         self.reason_of(site, finding.source, &finding.what)
     }
 }

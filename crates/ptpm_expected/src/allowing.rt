@@ -1,11 +1,5 @@
 //! The findings of a site that are none by an inventory.
 
-ghost use Rattle.std.specs.Prelude.{◌≡◌, ◌&&◌, ◌==◌, IfOk};
-ghost use Rattle.std.specs.List.{list_any};
-ghost use Rattle.ptpm_site.specs.Site.{site_answers};
-ghost use Rattle.ptpm_expected.specs.Held.{IsHeld};
-ghost use Rattle.ptpm_expected.specs.HeldToInventory.{has_quality, is_allowed, is_mute, is_quality_of, may_lead, names_leaders};
-
 use crate::inventory::{Entry, MemberRule, Rule};
 use crate::meeting::is_as_wanted;
 use crate::named::Named;
@@ -34,11 +28,7 @@ impl<'a> Held<'a> {
         alloc: Global,
         site: &'a Site,
         entries: &'a [Entry],
-    ) -> Result<Held<'a>, AllocError>
-        ensures site { IfOk result (λ held. held.site.now ≡ site.now) }
-        ensures entries { IfOk result (λ held. held.entries.now ≡ entries.now) }
-        ensures held { IfOk result (λ held. IsHeld held) }
-    {
+    ) -> Result<Held<'a>, AllocError> {
         Ok(Held {
             site,
             entries,
@@ -48,10 +38,7 @@ impl<'a> Held<'a> {
     }
 
     /// Whether a finding is none by the inventory.
-    pub(crate) fn allows(&self, finding: &Finding<'_>) -> bool
-        requires { IsHeld self.now }
-        ensures { result ≡ is_allowed (site_answers self.now.site.now) self.now.entries.now finding.now.source finding.now.what }
-    {
+    pub(crate) fn allows(&self, finding: &Finding<'_>) -> bool {
         let source = finding.source;
         match finding.what {
             What::Degraded(_) => {
@@ -66,47 +53,33 @@ impl<'a> Held<'a> {
     }
 
     /// Whether a clock may lead: a line `grandmaster` names it, or none is of its domain.
-    fn may_lead(&self, source: Source) -> bool
-        requires { IsHeld self.now }
-        ensures { result ≡ may_lead self.now.entries.now source }
-    {
+    fn may_lead(&self, source: Source) -> bool {
         self.named.leading.contains(&source) || !has_leaders(self.entries, source.domain)
     }
 
     /// Whether a clock needs to answer nothing, and is heard.
-    fn is_mute(&self, source: Source) -> bool
-        requires { IsHeld self.now }
-        ensures { result ≡ is_mute (site_answers self.now.site.now) self.now.entries.now source }
-    {
+    fn is_mute(&self, source: Source) -> bool {
         self.named.mute.contains(&source) && self.heard.contains(&source)
     }
 }
 
 /// Whether one of these entries says who leads in a domain.
-fn has_leaders(entries: &[Entry], domain: Domain) -> bool
-    ensures { result ≡ list_any (names_leaders domain) entries.now }
-{
+fn has_leaders(entries: &[Entry], domain: Domain) -> bool {
     entries.iter().any(|entry| names_leaders(entry, domain))
 }
 
-fn names_leaders(entry: &Entry, domain: Domain) -> bool
-    ensures { result ≡ names_leaders domain entry.now }
-{
+fn names_leaders(entry: &Entry, domain: Domain) -> bool {
     entry.domain == domain && matches!(entry.rule, Rule::Leaders(_))
 }
 
 /// Whether one of these entries has what the clockQuality of a clock is.
-fn has_quality(site: &Site, source: Source, entries: &[Entry]) -> bool
-    ensures { result ≡ list_any (is_quality_of (site_answers site.now) source) entries.now }
-{
+fn has_quality(site: &Site, source: Source, entries: &[Entry]) -> bool {
     entries
         .iter()
         .any(|entry| is_quality_of(site, source, entry))
 }
 
-fn is_quality_of(site: &Site, source: Source, entry: &Entry) -> bool
-    ensures { result ≡ is_quality_of (site_answers site.now) source entry.now }
-{
+fn is_quality_of(site: &Site, source: Source, entry: &Entry) -> bool {
     if entry.domain != source.domain {
         return false;
     }
@@ -118,8 +91,6 @@ fn is_quality_of(site: &Site, source: Source, entry: &Entry) -> bool
 }
 
 /// Whether a rule is of clockQuality, and holds.
-fn is_quality(site: &Site, source: Source, rule: &MemberRule) -> bool
-    ensures { result ≡ has_quality (site_answers site.now) source rule.now }
-{
+fn is_quality(site: &Site, source: Source, rule: &MemberRule) -> bool {
     matches!(rule.member, Member::ClockQuality) && is_as_wanted(site, source, rule)
 }

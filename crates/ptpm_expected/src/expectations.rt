@@ -1,11 +1,5 @@
 //! What a site is expected to be, and the picture of a site that is held to it.
 
-ghost use Rattle.std.specs.Prelude.{◌≡◌, IfOk, OnOk, length, option_map};
-ghost use Rattle.ptpm_site.specs.Findings.{findings_of, reported};
-ghost use Rattle.ptpm_site.specs.Open.{open_of};
-ghost use Rattle.ptpm_site.specs.Site.{site_answers};
-ghost use Rattle.ptpm_expected.specs.Expected.{open_by, said_by};
-
 use crate::held_to_inventory::{hold_to_inventory, keep_open};
 use crate::held_to_profile::hold_to_profile;
 use crate::inventory::Inventory;
@@ -43,13 +37,7 @@ pub fn picture_of<'a>(
     left_out: LeftOut,
     limits: Limits,
     expectations: Expectations<'a>,
-) -> Result<Picture<'a>, AllocError>
-    ensures clocks { IfOk result (λ picture. picture.forest.sources.items ≡ (site_answers site.now).clocks) }
-    ensures count { expectations.entry.inventory ≡ None → IfOk result (λ picture. length picture.findings.items
-        ≡ length (said_by (site_answers site.now) expectations.entry.profile (findings_of (site_answers site.now) limits))) }
-    ensures unsettled { IfOk result (λ picture. picture.open_findings.items ≡ open_by (site_answers site.now)
-        (option_map (λ inventory. inventory.now.entries.items) expectations.entry.inventory) (open_of (site_answers site.now) limits)) }
-{
+) -> Result<Picture<'a>, AllocError> {
     let sources = site.sources(alloc)?;
     let mut picture = Picture::of(alloc, site, left_out, limits)?;
     let findings = &mut picture.findings;
@@ -67,11 +55,7 @@ fn hold<'a>(
     sources: &[Source],
     expectations: Expectations<'a>,
     findings: &mut Vec<Finding<'a>>,
-) -> Added
-    requires { sources.now ≡ (site_answers site.now).clocks }
-    ensures { expectations.entry.inventory ≡ None → OnOk result (length findings.new.items
-        ≡ length (said_by (site_answers site.now) expectations.entry.profile (reported findings.old.items))) }
-{
+) -> Added {
     match expectations.inventory {
         Some(inventory) => {
             hold_to_any_profile(alloc, site, sources, expectations.profile, findings)?;
@@ -88,11 +72,7 @@ fn hold_to_any_profile(
     sources: &[Source],
     profile: Option<Profile>,
     findings: &mut Vec<Finding<'_>>,
-) -> Added
-    requires { sources.now ≡ (site_answers site.now).clocks }
-    ensures { OnOk result (length findings.new.items
-        ≡ length (said_by (site_answers site.now) profile (reported findings.old.items))) }
-{
+) -> Added {
     match profile {
         Some(profile) => hold_to_profile(alloc, site, sources, profile, findings),
         None => Ok(()),

@@ -1,15 +1,5 @@
 //! The findings of a site that is held to an inventory.
 
-ghost use Rattle.std.specs.Prelude.{◌≡◌, ◌++◌, List, OnOk, filter};
-ghost use Rattle.std.specs.List.Sorted.{IsPermutation, IsSortedByKey, IsStableByKey};
-ghost use Rattle.ptpm_site.specs.declared.finding.Finding.{Finding};
-ghost use Rattle.ptpm_site.specs.Site.{site_answers};
-ghost use Rattle.ptpm_expected.specs.Held.{IsHeld};
-ghost use Rattle.ptpm_expected.specs.HeldToInventory.{stays, told_with_inventory};
-ghost use Rattle.ptpm_expected.specs.InventoryFindings.{told_by_inventory};
-ghost use Rattle.ptpm_expected.specs.Order.{finding_key};
-ghost use Rattle.ptpm_expected.specs.Telling.{told_all};
-
 use crate::allowing::Held;
 use crate::inventory::Inventory;
 use crate::judging_inventory::judge_entries;
@@ -28,14 +18,7 @@ pub fn hold_to_inventory<'a>(
     sources: &[Source],
     inventory: &'a Inventory,
     findings: &mut Vec<Finding<'a>>,
-) -> Result<(), AllocError>
-    requires { sources.now ≡ (site_answers site.now).clocks }
-    ensures told { OnOk result ((judged : List Finding)
-        × (told_all judged ≡ told_with_inventory (site_answers site.now) inventory.now.entries.items findings.old.items)
-        × IsPermutation judged findings.new.items
-        × IsStableByKey finding_key ⟦<FindingKey as Ord>⟧.cmp judged findings.new.items) }
-    ensures sorted { OnOk result (IsSortedByKey finding_key ⟦<FindingKey as Ord>⟧.cmp findings.new.items) }
-{
+) -> Result<(), AllocError> {
     let held = Held::of(alloc, site, inventory.entries.as_slice())?;
     keep_what_stays(&held, findings);
     judge(alloc, &held, sources, findings)?;
@@ -49,19 +32,14 @@ pub fn keep_open(
     site: &Site,
     inventory: &Inventory,
     findings: &mut Vec<Finding<'_>>,
-) -> Result<(), AllocError>
-    ensures { OnOk result (findings.new.items ≡ filter (stays (site_answers site.now) inventory.now.entries.items) findings.old.items) }
-{
+) -> Result<(), AllocError> {
     let held = Held::of(alloc, site, inventory.entries.as_slice())?;
     keep_what_stays(&held, findings);
     Ok(())
 }
 
 /// Takes away what the inventory allows.
-fn keep_what_stays(held: &Held<'_>, findings: &mut Vec<Finding<'_>>)
-    requires { IsHeld held.now }
-    ensures { findings.new.items ≡ filter (stays (site_answers held.now.site.now) held.now.entries.now) findings.old.items }
-{
+fn keep_what_stays(held: &Held<'_>, findings: &mut Vec<Finding<'_>>) {
     findings.retain(|finding| !held.allows(finding));
 }
 
@@ -71,12 +49,7 @@ fn judge<'a>(
     held: &Held<'a>,
     sources: &[Source],
     findings: &mut Vec<Finding<'a>>,
-) -> Result<(), AllocError>
-    requires held { IsHeld held.now }
-    requires sources { sources.now ≡ (site_answers held.now.site.now).clocks }
-    ensures { OnOk result (told_all findings.new.items
-        ≡ told_all findings.old.items ++ told_by_inventory (site_answers held.now.site.now) held.now.entries.now) }
-{
+) -> Result<(), AllocError> {
     let (site, entries) = (held.site, held.entries);
     let leaders = leaders_of(alloc, site)?;
     judge_entries(alloc, site, entries, sources, leaders.as_slice(), findings)?;

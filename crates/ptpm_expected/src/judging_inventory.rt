@@ -1,15 +1,5 @@
 //! How a site is not as an inventory wants it.
 
-ghost use Rattle.std.specs.Prelude.{◌≡◌, ◌++◌, IfOk, OnOk, map};
-ghost use Rattle.std.specs.Cmp.Lexicographic.{pointwise};
-ghost use Rattle.std.specs.List.{flat_map, list_any};
-ghost use Rattle.ptpm_codec.specs.Identity.{same_clock};
-ghost use Rattle.ptpm_site.specs.Leaders.{all_leaders};
-ghost use Rattle.ptpm_site.specs.Site.{site_answers};
-ghost use Rattle.ptpm_expected.specs.InventoryFindings.{are_leading, entry_told, first_of, leaders_told, member_told, member_told_in};
-ghost use Rattle.ptpm_expected.specs.Leaders.{identities_in};
-ghost use Rattle.ptpm_expected.specs.Telling.{told_all};
-
 use crate::inventory::{Entry, MemberRule, Rule};
 use crate::meeting::unmet;
 use crate::telling::{Added, tell};
@@ -31,11 +21,7 @@ pub(crate) fn judge_entries<'a>(
     sources: &[Source],
     leaders: &[Leader],
     findings: &mut Vec<Finding<'a>>,
-) -> Added
-    requires sources { sources.now ≡ (site_answers site.now).clocks }
-    requires leaders { leaders.now ≡ all_leaders (site_answers site.now) }
-    ensures { OnOk result (told_all findings.new.items ≡ told_all findings.old.items ++ flat_map (entry_told (site_answers site.now)) entries.now) }
-{
+) -> Added {
     for entry in entries {
         judge_entry(alloc, site, entry, sources, leaders, findings)?;
     }
@@ -49,11 +35,7 @@ fn judge_entry<'a>(
     sources: &[Source],
     leaders: &[Leader],
     findings: &mut Vec<Finding<'a>>,
-) -> Added
-    requires sources { sources.now ≡ (site_answers site.now).clocks }
-    requires leaders { leaders.now ≡ all_leaders (site_answers site.now) }
-    ensures { OnOk result (told_all findings.new.items ≡ told_all findings.old.items ++ entry_told (site_answers site.now) entry.now) }
-{
+) -> Added {
     let domain = entry.domain;
     match &entry.rule {
         Rule::Leaders(wanted) => {
@@ -75,9 +57,7 @@ fn judge_member<'a>(
     source: Source,
     rule: &'a MemberRule,
     findings: &mut Vec<Finding<'a>>,
-) -> Added
-    ensures { OnOk result (told_all findings.new.items ≡ told_all findings.old.items ++ member_told (site_answers site.now) rule.now source) }
-{
+) -> Added {
     if !site.is_seen(source) {
         return Ok(());
     }
@@ -94,10 +74,7 @@ fn judge_each<'a>(
     rule: &'a MemberRule,
     sources: &[Source],
     findings: &mut Vec<Finding<'a>>,
-) -> Added
-    ensures { OnOk result (told_all findings.new.items
-        ≡ told_all findings.old.items ++ flat_map (member_told_in (site_answers site.now) domain rule.now) sources.now) }
-{
+) -> Added {
     for source in sources {
         if source.domain == domain {
             judge_member(site, *source, rule, findings)?;
@@ -112,10 +89,7 @@ fn judge_leaders<'a>(
     wanted: &'a [Vec<ClockIdentity>],
     leading: Vec<ClockIdentity>,
     findings: &mut Vec<Finding<'a>>,
-) -> Added
-    ensures { OnOk result (told_all findings.new.items
-        ≡ told_all findings.old.items ++ leaders_told domain (map (λ clocks. clocks.items) wanted.now) leading.items) }
-{
+) -> Added {
     if are_leading(leading.as_slice(), wanted) {
         return Ok(());
     }
@@ -125,22 +99,16 @@ fn judge_leaders<'a>(
 }
 
 /// Whether the clocks that lead are one of these lists.
-fn are_leading(leading: &[ClockIdentity], choices: &[Vec<ClockIdentity>]) -> bool
-    ensures { result ≡ are_leading leading.now (map (λ clocks. clocks.items) choices.now) }
-{
+fn are_leading(leading: &[ClockIdentity], choices: &[Vec<ClockIdentity>]) -> bool {
     is_one_of(leading, choices)
 }
 
-fn is_one_of(leading: &[ClockIdentity], choices: &[Vec<ClockIdentity>]) -> bool
-    ensures { result ≡ list_any (λ clocks. pointwise same_clock clocks.items leading.now) choices.now }
-{
+fn is_one_of(leading: &[ClockIdentity], choices: &[Vec<ClockIdentity>]) -> bool {
     choices.iter().any(|clocks| clocks.as_slice() == leading)
 }
 
 /// The first of the clocks that lead, or an identity of zeros.
-fn first_of(leading: &[ClockIdentity]) -> ClockIdentity
-    ensures { result ≡ first_of leading.now }
-{
+fn first_of(leading: &[ClockIdentity]) -> ClockIdentity {
     leading.first().copied().unwrap_or(ClockIdentity([0; 8]))
 }
 
@@ -149,9 +117,7 @@ pub(crate) fn leading_in(
     alloc: Global,
     domain: Domain,
     leaders: &[Leader],
-) -> Result<Vec<ClockIdentity>, AllocError>
-    ensures { IfOk result (λ leading. leading.items ≡ identities_in domain leaders.now) }
-{
+) -> Result<Vec<ClockIdentity>, AllocError> {
     let mut leading = Vec::new(alloc);
     for leader in leaders {
         if leader.source.domain == domain {

@@ -1,11 +1,5 @@
 //! Which clocks of an inventory are absent, and which are not in it.
 
-ghost use Rattle.std.specs.Prelude.{◌≡◌, ◌++◌, OnOk};
-ghost use Rattle.ptpm_site.specs.Site.{site_answers};
-ghost use Rattle.ptpm_expected.specs.InventoryFindings.{absent_at, absent_told, unexpected_at, unexpected_told};
-ghost use Rattle.ptpm_expected.specs.Named.{IsOf};
-ghost use Rattle.ptpm_expected.specs.Telling.{told_all};
-
 use crate::descriptions::Descriptions;
 use crate::inventory::Entry;
 use crate::named::Named;
@@ -17,17 +11,13 @@ use ptpm_site::source::Source;
 use std::alloc::Global;
 
 /// Adds a finding for each clock that is to be seen and is not. `named` is of these entries.
-#[tactic(auto, unfolding(crate::specs::InventoryFindings::absent_told))]
 pub(crate) fn judge_absent<'a>(
     alloc: Global,
     site: &Site,
     entries: &'a [Entry],
     named: &Named,
     findings: &mut Vec<Finding<'a>>,
-) -> Added
-    requires { IsOf entries.now named.now }
-    ensures { OnOk result (told_all findings.new.items ≡ told_all findings.old.items ++ absent_told (site_answers site.now) entries.now) }
-{
+) -> Added {
     let descriptions = Descriptions::of(alloc, entries)?;
     let demanded: Vec<Source> = named.demanded.iter().copied().collect(alloc)?;
     let sources = demanded.as_slice();
@@ -45,10 +35,7 @@ fn judge_absent_at<'a>(
     descriptions: &Descriptions<'a>,
     source: Source,
     findings: &mut Vec<Finding<'a>>,
-) -> Added
-    requires { IsOf entries.now named.now }
-    ensures { OnOk result (told_all findings.new.items ≡ told_all findings.old.items ++ absent_at (site_answers site.now) entries.now source) }
-{
+) -> Added {
     if site.is_seen(source) || named.excused.contains(&source) {
         return Ok(());
     }
@@ -57,7 +44,6 @@ fn judge_absent_at<'a>(
 
 /// Adds a finding for each clock of a closed domain that is seen or announces, and is not named. `named` is of these entries,
 /// and `sources` has all clocks.
-#[tactic(auto, unfolding(crate::specs::InventoryFindings::unexpected_told))]
 pub(crate) fn judge_unexpected(
     alloc: Global,
     site: &Site,
@@ -65,11 +51,7 @@ pub(crate) fn judge_unexpected(
     named: &Named,
     sources: &[Source],
     findings: &mut Vec<Finding<'_>>,
-) -> Added
-    requires named { IsOf entries.now named.now }
-    requires sources { sources.now ≡ (site_answers site.now).clocks }
-    ensures { OnOk result (told_all findings.new.items ≡ told_all findings.old.items ++ unexpected_told (site_answers site.now) entries.now) }
-{
+) -> Added {
     for source in sources {
         judge_unexpected_at(entries, named, *source, findings)?;
     }
@@ -89,10 +71,7 @@ fn judge_unexpected_at(
     named: &Named,
     source: Source,
     findings: &mut Vec<Finding<'_>>,
-) -> Added
-    requires { IsOf entries.now named.now }
-    ensures { OnOk result (told_all findings.new.items ≡ told_all findings.old.items ++ unexpected_at entries.now source) }
-{
+) -> Added {
     if !named.closed.contains(&source.domain) || named.has(entries, source) {
         return Ok(());
     }

@@ -1,13 +1,5 @@
 //! How the clocks of a site are not as a profile wants them.
 
-ghost use Rattle.std.specs.Prelude.{◌≡◌, ◌++◌, OnOk};
-ghost use Rattle.std.specs.List.{flat_map};
-ghost use Rattle.ptpm_site.specs.Evidence.{IsOf};
-ghost use Rattle.ptpm_site.specs.Findings.{found};
-ghost use Rattle.ptpm_site.specs.Site.{site_answers};
-ghost use Rattle.ptpm_site.specs.declared.finding.What.TheVariants as what;
-ghost use Rattle.ptpm_expected.specs.ProfileFindings.{clock_found, each_outside, port_found, profile_found};
-
 use crate::outside::{clock_outside, is_idle, parent_outside, port_outside, timescale_outside};
 use crate::profile::Profile;
 use crate::telling::Added;
@@ -27,17 +19,13 @@ pub fn judge_profile(
     profile: Profile,
     sources: &[Source],
     findings: &mut Vec<Finding<'_>>,
-) -> Added
-    requires { IsOf (site_answers site.now).heard evidence.now }
-    ensures { OnOk result (findings.new.items ≡ findings.old.items ++ flat_map (profile_found (site_answers site.now) profile) sources.now) }
-{
+) -> Added {
     for source in sources {
         judge_clock(alloc, site, evidence, profile, *source, findings)?;
     }
     Ok(())
 }
 
-#[tactic(auto, unfolding(crate::specs::ProfileFindings::profile_found))]
 fn judge_clock(
     alloc: Global,
     site: &Site,
@@ -45,10 +33,7 @@ fn judge_clock(
     profile: Profile,
     source: Source,
     findings: &mut Vec<Finding<'_>>,
-) -> Added
-    requires { IsOf (site_answers site.now).heard evidence.now }
-    ensures { OnOk result (findings.new.items ≡ findings.old.items ++ profile_found (site_answers site.now) profile source) }
-{
+) -> Added {
     judge_members(site, profile, source, findings)?;
     let all = site.ports(alloc, source)?;
     let ports = all.as_slice();
@@ -59,15 +44,12 @@ fn judge_clock(
 }
 
 /// The members of the clock: those of DEFAULT_DATA_SET, and ptpTimescale.
-#[tactic(auto, unfolding(crate::specs::ProfileFindings::clock_found))]
 fn judge_members(
     site: &Site,
     profile: Profile,
     source: Source,
     findings: &mut Vec<Finding<'_>>,
-) -> Added
-    ensures { OnOk result (findings.new.items ≡ findings.old.items ++ clock_found (site_answers site.now) profile source) }
-{
+) -> Added {
     if let Some(default) = site.default(source) {
         let outside = clock_outside(profile, source.domain, &default);
         add_all_outside(findings, source, &outside)?;
@@ -76,7 +58,6 @@ fn judge_members(
 }
 
 /// The members of a port that takes part.
-#[tactic(auto, unfolding(crate::specs::ProfileFindings::port_found, crate::specs::ProfileFindings::port_set_found))]
 fn judge_port(
     site: &Site,
     evidence: &Evidence,
@@ -84,10 +65,7 @@ fn judge_port(
     source: Source,
     port: u16,
     findings: &mut Vec<Finding<'_>>,
-) -> Added
-    requires { IsOf (site_answers site.now).heard evidence.now }
-    ensures { OnOk result (findings.new.items ≡ findings.old.items ++ port_found (site_answers site.now) profile source port) }
-{
+) -> Added {
     let Some(set) = site.port(source, port) else {
         return Ok(());
     };
@@ -104,18 +82,14 @@ fn add_all_outside(
     findings: &mut Vec<Finding<'_>>,
     source: Source,
     members: &[Option<Outside>],
-) -> Added
-    ensures { OnOk result (findings.new.items ≡ findings.old.items ++ each_outside source members.now) }
-{
+) -> Added {
     for outside in members {
         add_outside(findings, source, *outside)?;
     }
     Ok(())
 }
 
-fn add_outside(findings: &mut Vec<Finding<'_>>, source: Source, outside: Option<Outside>) -> Added
-    ensures { OnOk result (findings.new.items ≡ findings.old.items ++ found what.Profile source outside) }
-{
+fn add_outside(findings: &mut Vec<Finding<'_>>, source: Source, outside: Option<Outside>) -> Added {
     match outside {
         Some(outside) => add_finding(findings, source, What::Profile(outside)),
         None => Ok(()),

@@ -12,7 +12,6 @@ pub mod inventory_file;
 mod judging_inventory;
 mod judging_named;
 pub mod judging_profile;
-pub mod laws;
 mod meeting;
 mod members;
 mod named;

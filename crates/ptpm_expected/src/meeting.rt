@@ -1,11 +1,5 @@
 //! Whether the members of a clock are as an inventory wants them.
 
-ghost use Rattle.std.specs.Prelude.{◌≡◌};
-ghost use Rattle.std.specs.Option.{option_map};
-ghost use Rattle.ptpm_members.specs.Values.{said};
-ghost use Rattle.ptpm_site.specs.Site.{site_answers};
-ghost use Rattle.ptpm_expected.specs.Meeting.{IsUnmet, clock_says, first_some, has_no_name, id_says, is_as_wanted, is_met, last_says, meets, rule_says};
-
 use crate::inventory::MemberRule;
 use crate::numbers::is_between;
 use ptpm_members::{Member, MemberValue};
@@ -17,9 +11,7 @@ use ptpm_site::site::Site;
 use ptpm_site::source::Source;
 
 /// Whether a value is one that is wanted.
-pub fn meets(wanted: &Wanted, value: &MemberValue<'_>) -> bool
-    ensures { result ≡ meets wanted.now (said value.now) }
-{
+pub fn meets(wanted: &Wanted, value: &MemberValue<'_>) -> bool {
     match (wanted, value) {
         (Wanted::Value(wanted), _) => wanted == value,
         (Wanted::Range(least, greatest), _) => is_between(*least, *greatest, value),
@@ -31,9 +23,7 @@ pub fn meets(wanted: &Wanted, value: &MemberValue<'_>) -> bool
 }
 
 /// Whether a value is a number that a name could have, and none has.
-fn has_no_name(value: &MemberValue<'_>) -> bool
-    ensures { result ≡ has_no_name (said value.now) }
-{
+fn has_no_name(value: &MemberValue<'_>) -> bool {
     match value {
         MemberValue::Named(enumeration, number) => enumeration.name_of(*number).is_none(),
         _ => false,
@@ -41,24 +31,17 @@ fn has_no_name(value: &MemberValue<'_>) -> bool
 }
 
 /// Whether a value is one of those that are wanted.
-fn is_met(wanted: &[Wanted], value: &MemberValue<'_>) -> bool
-    ensures { result ≡ is_met wanted.now (said value.now) }
-{
+fn is_met(wanted: &[Wanted], value: &MemberValue<'_>) -> bool {
     wanted.iter().any(|one| meets(one, value))
 }
 
 /// What the last of the answers to an id says of a member.
-#[tactic(auto, unfolding(crate::specs::Meeting::last_says))]
-fn last_value(asked: Asked, received: &[Received], member: Member) -> Option<MemberValue<'_>>
-    ensures { option_map said result ≡ last_says asked received.now member }
-{
+fn last_value(asked: Asked, received: &[Received], member: Member) -> Option<MemberValue<'_>> {
     value_of(asked, received.last()?.octets.as_slice(), member)
 }
 
 /// What a clock says of a member of an id.
-fn id_value(site: &Site, source: Source, asked: Asked, member: Member) -> Option<MemberValue<'_>>
-    ensures { option_map said result ≡ id_says (site_answers site.now) source asked member }
-{
+fn id_value(site: &Site, source: Source, asked: Asked, member: Member) -> Option<MemberValue<'_>> {
     last_value(asked, site.answers(source, asked), member)
 }
 
@@ -66,16 +49,12 @@ fn id_value(site: &Site, source: Source, asked: Asked, member: Member) -> Option
 fn first_some<'a>(
     first: Option<MemberValue<'a>>,
     second: Option<MemberValue<'a>>,
-) -> Option<MemberValue<'a>>
-    ensures { option_map said result ≡ first_some (option_map said first.entry) (option_map said second.entry) }
-{
+) -> Option<MemberValue<'a>> {
     first.or(second)
 }
 
 /// What a clock says of a member of its own.
-fn clock_value(site: &Site, source: Source, member: Member) -> Option<MemberValue<'_>>
-    ensures { option_map said result ≡ clock_says (site_answers site.now) source member }
-{
+fn clock_value(site: &Site, source: Source, member: Member) -> Option<MemberValue<'_>> {
     let default = id_value(site, source, Asked::DefaultDataSet, member);
     let current = id_value(site, source, Asked::CurrentDataSet, member);
     let parent = id_value(site, source, Asked::ParentDataSet, member);
@@ -91,9 +70,7 @@ pub fn rule_value(
     source: Source,
     port: Option<u16>,
     member: Member,
-) -> Option<MemberValue<'_>>
-    ensures { option_map said result ≡ rule_says (site_answers site.now) source port member }
-{
+) -> Option<MemberValue<'_>> {
     match port {
         Some(port) => last_value(Asked::PortDataSet, site.port_answers(source, port), member),
         None => clock_value(site, source, member),
@@ -101,9 +78,7 @@ pub fn rule_value(
 }
 
 /// Whether a member is as it is wanted.
-pub fn is_as_wanted(site: &Site, source: Source, rule: &MemberRule) -> bool
-    ensures { result ≡ is_as_wanted (site_answers site.now) source rule.now }
-{
+pub fn is_as_wanted(site: &Site, source: Source, rule: &MemberRule) -> bool {
     match rule_value(site, source, rule.port, rule.member) {
         Some(value) => is_met(rule.wanted.as_slice(), &value),
         None => false,
@@ -111,9 +86,7 @@ pub fn is_as_wanted(site: &Site, source: Source, rule: &MemberRule) -> bool
 }
 
 /// A member that is not as it is wanted.
-pub fn unmet<'a>(site: &'a Site, source: Source, rule: &'a MemberRule) -> Option<Unmet<'a>>
-    ensures { IsUnmet (site_answers site.now) source rule.now result }
-{
+pub fn unmet<'a>(site: &'a Site, source: Source, rule: &'a MemberRule) -> Option<Unmet<'a>> {
     if is_as_wanted(site, source, rule) {
         return None;
     }

@@ -1,15 +1,5 @@
 //! The clocks that an inventory names, for quick answers.
 
-ghost use Rattle.std.specs.Prelude.{◌≡◌, ◌++◌, ℕ, IfOk, OnOk, map, flat_map};
-ghost use Rattle.std.specs.BTreeSet.{contains, insert_key, keys};
-ghost use Rattle.std.specs.List.{fold};
-ghost use Rattle.ptpm_site.specs.declared.source.Source.{Source};
-ghost use Rattle.ptpm_site.specs.Answers.{source_cmp};
-ghost use Rattle.ptpm_expected.specs.Named.{IsOf};
-ghost use Rattle.ptpm_expected.specs.Naming.{all_named_as, closed_in, in_domain_of, is_closed, is_named, is_named_as, is_named_so, named_by};
-ghost use Rattle.ptpm_site.specs.declared.domain.Domain.{Domain};
-ghost use Rattle.ptpm_site.specs.Domains.{domain_cmp};
-
 use crate::inventory::{Entry, Presence, Rule};
 use crate::telling::Added;
 use ptpm_codec::ClockIdentity;
@@ -49,9 +39,7 @@ pub(crate) struct Named {
 }
 
 impl Named {
-    pub(crate) fn of(alloc: Global, entries: &[Entry]) -> Result<Named, AllocError>
-        ensures { IfOk result (IsOf entries.now) }
-    {
+    pub(crate) fn of(alloc: Global, entries: &[Entry]) -> Result<Named, AllocError> {
         Ok(Named {
             demanded: clock_set(alloc, entries, Naming::Demanded)?,
             excused: clock_set(alloc, entries, Naming::Excused)?,
@@ -62,10 +50,7 @@ impl Named {
     }
 
     /// Whether a clock is named by these entries, which are those that it was made of.
-    pub(crate) fn has(&self, entries: &[Entry], clock: Source) -> bool
-        requires { IsOf entries.now self.now }
-        ensures { result ≡ is_named entries.now clock }
-    {
+    pub(crate) fn has(&self, entries: &[Entry], clock: Source) -> bool {
         self.demanded.contains(&clock)
             || self.excused.contains(&clock)
             || self.leading.contains(&clock)
@@ -73,18 +58,13 @@ impl Named {
 }
 
 /// The clocks that are named in this way.
-fn clock_set(alloc: Global, entries: &[Entry], naming: Naming) -> Result<Clocks, AllocError>
-    ensures keys { IfOk result (λ set. keys set ≡ all_named_as naming entries.now) }
-    ensures has { IfOk result (λ set. (s : Source) → contains source_cmp set s ≡ is_named_as naming entries.now s) }
-{
+fn clock_set(alloc: Global, entries: &[Entry], naming: Naming) -> Result<Clocks, AllocError> {
     let mut set = BTreeSet::new(alloc);
     add_all_named(entries, naming, &mut set)?;
     Ok(set)
 }
 
-fn add_all_named(entries: &[Entry], naming: Naming, set: &mut Clocks) -> Added
-    ensures { OnOk result (keys set.new ≡ fold (insert_key source_cmp) (keys set.old) (flat_map (named_by naming) entries.now)) }
-{
+fn add_all_named(entries: &[Entry], naming: Naming, set: &mut Clocks) -> Added {
     for entry in entries {
         add_named(entry, naming, set)?;
     }
@@ -92,9 +72,7 @@ fn add_all_named(entries: &[Entry], naming: Naming, set: &mut Clocks) -> Added
 }
 
 /// Adds the clocks that an entry names in this way.
-fn add_named(entry: &Entry, naming: Naming, set: &mut Clocks) -> Added
-    ensures { OnOk result (keys set.new ≡ fold (insert_key source_cmp) (keys set.old) (named_by naming entry.now)) }
-{
+fn add_named(entry: &Entry, naming: Naming, set: &mut Clocks) -> Added {
     let domain = entry.domain;
     match &entry.rule {
         Rule::Clock(clock, presence) if is_named_so(naming, *presence) => {
@@ -111,9 +89,7 @@ fn add_named(entry: &Entry, naming: Naming, set: &mut Clocks) -> Added
 }
 
 /// Whether a line that says this of a clock names it in this way.
-fn is_named_so(naming: Naming, presence: Presence) -> bool
-    ensures { result ≡ is_named_so naming presence }
-{
+fn is_named_so(naming: Naming, presence: Presence) -> bool {
     match naming {
         Naming::Demanded => matches!(presence, Presence::Wanted),
         Naming::Excused => matches!(presence, Presence::Optional | Presence::Mute),
@@ -122,27 +98,20 @@ fn is_named_so(naming: Naming, presence: Presence) -> bool
     }
 }
 
-fn add_clock(domain: Domain, clock: ClockIdentity, set: &mut Clocks) -> Added
-    ensures { OnOk result (keys set.new ≡ insert_key source_cmp (keys set.old) (in_domain_of domain clock)) }
-{
+fn add_clock(domain: Domain, clock: ClockIdentity, set: &mut Clocks) -> Added {
     set.insert(Source { domain, clock })?;
     Ok(())
 }
 
 /// Adds the clocks of each of these lists.
-fn add_choices(domain: Domain, choices: &[Vec<ClockIdentity>], set: &mut Clocks) -> Added
-    ensures { OnOk result (keys set.new
-        ≡ fold (insert_key source_cmp) (keys set.old) (flat_map (λ clocks. map (in_domain_of domain) clocks.items) choices.now)) }
-{
+fn add_choices(domain: Domain, choices: &[Vec<ClockIdentity>], set: &mut Clocks) -> Added {
     for clocks in choices {
         add_clocks(domain, clocks.as_slice(), set)?;
     }
     Ok(())
 }
 
-fn add_clocks(domain: Domain, clocks: &[ClockIdentity], set: &mut Clocks) -> Added
-    ensures { OnOk result (keys set.new ≡ fold (insert_key source_cmp) (keys set.old) (map (in_domain_of domain) clocks.now)) }
-{
+fn add_clocks(domain: Domain, clocks: &[ClockIdentity], set: &mut Clocks) -> Added {
     for clock in clocks {
         add_clock(domain, *clock, set)?;
     }
@@ -150,17 +119,13 @@ fn add_clocks(domain: Domain, clocks: &[ClockIdentity], set: &mut Clocks) -> Add
 }
 
 /// The domains that have no clock that is not named.
-fn domain_set(alloc: Global, entries: &[Entry]) -> Result<BTreeSet<Domain>, AllocError>
-    ensures { IfOk result (λ set. (d : Domain) → contains domain_cmp set d ≡ is_closed entries.now d) }
-{
+fn domain_set(alloc: Global, entries: &[Entry]) -> Result<BTreeSet<Domain>, AllocError> {
     let mut set = BTreeSet::new(alloc);
     add_closed(entries, &mut set)?;
     Ok(set)
 }
 
-fn add_closed(entries: &[Entry], set: &mut BTreeSet<Domain>) -> Result<(), AllocError>
-    ensures { OnOk result (keys set.new ≡ fold (insert_key domain_cmp) (keys set.old) (flat_map closed_in entries.now)) }
-{
+fn add_closed(entries: &[Entry], set: &mut BTreeSet<Domain>) -> Result<(), AllocError> {
     for entry in entries {
         if matches!(entry.rule, Rule::Only) {
             set.insert(entry.domain)?;

@@ -1,10 +1,5 @@
 //! The members of a clock and of its ports that are not what a profile allows.
 
-ghost use Rattle.std.specs.Prelude.{◌≡◌};
-ghost use Rattle.ptpm_site.specs.Evidence.{IsOf};
-ghost use Rattle.ptpm_site.specs.Site.{site_answers};
-ghost use Rattle.ptpm_expected.specs.Outside.{clock_outside, is_idle, mechanism_outside, member_outside, number_outside, parent_outside, port_member_outside, port_outside, timescale_outside, unlike_parent};
-
 use crate::numbers::is_between;
 use crate::profile::Profile;
 use crate::ranges::{
@@ -30,9 +25,7 @@ fn member_outside(
     member: Member,
     value: MemberValue<'static>,
     range: Option<Range>,
-) -> Option<Outside>
-    ensures { result ≡ member_outside port member value.entry range }
-{
+) -> Option<Outside> {
     let Range { least, greatest } = range?;
     if is_between(least, greatest, &value) {
         return None;
@@ -50,9 +43,7 @@ pub fn clock_outside(
     profile: Profile,
     domain: Domain,
     default: &DefaultDataSet,
-) -> [Option<Outside>; 3]
-    ensures { result ≡ clock_outside profile domain default.now }
-{
+) -> [Option<Outside>; 3] {
     let sdo = MemberValue::Unsigned(u64::from(domain.sdo()));
     let number = MemberValue::Unsigned(u64::from(default.domain));
     let priority1 = MemberValue::Unsigned(u64::from(default.priority1));
@@ -64,9 +55,7 @@ pub fn clock_outside(
 }
 
 /// ptpTimescale of a clock that is seen, leads, and has, or had, a primary source of time, if it is false.
-pub fn timescale_outside(site: &Site, source: Source) -> Option<Outside>
-    ensures { result ≡ timescale_outside (site_answers site.now) source }
-{
+pub fn timescale_outside(site: &Site, source: Source) -> Option<Outside> {
     if !site.leads_by_answers(source) {
         return None;
     }
@@ -84,10 +73,7 @@ pub fn timescale_outside(site: &Site, source: Source) -> Option<Outside>
 }
 
 /// What of a port's PORT_DATA_SET is not allowed.
-#[tactic(auto, unfolding(crate::specs::Outside::port_outside))]
-pub fn port_outside(profile: Profile, number: u16, set: &PortDataSet) -> [Option<Outside>; 6]
-    ensures { result ≡ port_outside profile number set.now }
-{
+pub fn port_outside(profile: Profile, number: u16, set: &PortDataSet) -> [Option<Outside>; 6] {
     [
         port_member_outside(profile, number, set, PORT_MEMBERS[0]),
         port_member_outside(profile, number, set, PORT_MEMBERS[1]),
@@ -104,9 +90,7 @@ fn port_member_outside(
     number: u16,
     set: &PortDataSet,
     member: Member,
-) -> Option<Outside>
-    ensures { result ≡ port_member_outside profile number set.now member }
-{
+) -> Option<Outside> {
     match member {
         DataSet(Setting(DelayMechanism)) => mechanism_outside(profile, number, set),
         DataSet(member) => number_outside(profile, number, set, member),
@@ -115,25 +99,19 @@ fn port_member_outside(
 }
 
 /// A member of a port that is a number, if it is not allowed.
-#[tactic(auto, unfolding(crate::specs::Outside::number_outside))]
 fn number_outside(
     profile: Profile,
     number: u16,
     set: &PortDataSet,
     member: DataSetMember,
-) -> Option<Outside>
-    ensures { result ≡ number_outside profile number set.now member }
-{
+) -> Option<Outside> {
     let value = held_value(set, member)?;
     let range = port_range(profile, member, set.log_sync);
     member_outside(Some(number), DataSet(member), value, range)
 }
 
 /// delayMechanism, if it is not allowed.
-#[tactic(auto, unfolding(crate::specs::Outside::mechanism_outside))]
-fn mechanism_outside(profile: Profile, number: u16, set: &PortDataSet) -> Option<Outside>
-    ensures { result ≡ mechanism_outside profile number set.now }
-{
+fn mechanism_outside(profile: Profile, number: u16, set: &PortDataSet) -> Option<Outside> {
     let allowed = allowed_mechanisms(profile, set.delay_mechanism)?;
     Some(Outside {
         port: Some(number),
@@ -144,24 +122,18 @@ fn mechanism_outside(profile: Profile, number: u16, set: &PortDataSet) -> Option
 }
 
 /// Whether a port takes no part: it is in DISABLED or FAULTY.
-pub fn is_idle(state: Option<PortState>) -> bool
-    ensures { result ≡ is_idle state }
-{
+pub fn is_idle(state: Option<PortState>) -> bool {
     matches!(state, Some(PortState::Disabled | PortState::Faulty))
 }
 
 /// logAnnounceInterval of a port that follows another, if it is not that of the other, and that one does not announce by unicast.
-#[tactic(auto, unfolding(crate::specs::Outside::parent_outside))]
 pub fn parent_outside(
     site: &Site,
     evidence: &Evidence,
     source: Source,
     number: u16,
     set: &PortDataSet,
-) -> Option<Outside>
-    requires { IsOf (site_answers site.now).heard evidence.now }
-    ensures { result ≡ parent_outside (site_answers site.now) source number set.now }
-{
+) -> Option<Outside> {
     if !set.is_following() {
         return None;
     }
@@ -174,10 +146,7 @@ pub fn parent_outside(
 }
 
 /// logAnnounceInterval of a port, if it is not that of the port that it follows.
-#[tactic(auto, unfolding(crate::specs::Outside::unlike_parent))]
-fn unlike_parent(number: u16, set: &PortDataSet, above: &PortDataSet) -> Option<Outside>
-    ensures { result ≡ unlike_parent number set.now above.now }
-{
+fn unlike_parent(number: u16, set: &PortDataSet, above: &PortDataSet) -> Option<Outside> {
     if above.log_announce == set.log_announce {
         return None;
     }

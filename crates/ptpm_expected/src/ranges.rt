@@ -1,9 +1,5 @@
 //! The members that profiles limit, and what each profile allows of them: numbers from a least to a greatest, and mechanisms.
 
-ghost use Rattle.std.specs.Prelude.{◌≡◌, Some};
-ghost use Rattle.ptpm_members.specs.declared.values.MemberValue.TheVariants as values;
-ghost use Rattle.ptpm_expected.specs.Profiles.{allowed_mechanisms, audio_range, default_range, domain_range, held_value, is_of_gptp, is_of_ptp, port_range, priority_range, sdo_range, studio_range};
-
 use crate::profile::Profile;
 use ptpm_data::Member;
 use ptpm_data::Member::{LogMinDelayReq, Setting};
@@ -38,23 +34,17 @@ pub struct Range {
 }
 
 /// The numbers of a range, and not any number.
-fn numbers(least: i64, greatest: i64) -> Option<Range>
-    ensures { result ≡ Some (record { least = least; greatest = greatest }) }
-{
+fn numbers(least: i64, greatest: i64) -> Option<Range> {
     Some(Range { least, greatest })
 }
 
 /// domainNumber.
-pub fn domain_range() -> Option<Range>
-    ensures { result ≡ domain_range }
-{
+pub fn domain_range() -> Option<Range> {
     numbers(0, 127)
 }
 
 /// sdoId: IEEE 802.1AS has one of its own.
-pub fn sdo_range(profile: Profile) -> Option<Range>
-    ensures { result ≡ sdo_range profile }
-{
+pub fn sdo_range(profile: Profile) -> Option<Range> {
     match profile {
         Profile::Default | Profile::St2059 | Profile::Aes67 => numbers(0, 0),
         Profile::Gptp => numbers(0x100, 0x100),
@@ -62,9 +52,7 @@ pub fn sdo_range(profile: Profile) -> Option<Range>
 }
 
 /// priority1. `None`: any.
-pub fn priority_range(profile: Profile) -> Option<Range>
-    ensures { result ≡ priority_range profile }
-{
+pub fn priority_range(profile: Profile) -> Option<Range> {
     match profile {
         Profile::Default | Profile::St2059 | Profile::Aes67 => None,
         Profile::Gptp => numbers(1, 255),
@@ -72,17 +60,13 @@ pub fn priority_range(profile: Profile) -> Option<Range>
 }
 
 /// An interval of a port: the logarithm of seconds to the base 2.
-fn interval(log: i8) -> Option<MemberValue<'static>>
-    ensures { result ≡ Some (values.Signed log) }
-{
+fn interval(log: i8) -> Option<MemberValue<'static>> {
     Some(MemberValue::Signed(i64::from(log)))
 }
 
 /// The number that a member of a port is, if it counts. The intervals of Sync and of Delay_Req count if the port gives time: else it
 /// takes its master's. Those of Delay_Req and of Pdelay_Req count with the mechanism that sends it.
-pub fn held_value(set: &PortDataSet, member: Member) -> Option<MemberValue<'static>>
-    ensures { result ≡ held_value set.now member }
-{
+pub fn held_value(set: &PortDataSet, member: Member) -> Option<MemberValue<'static>> {
     let gives = PortGroup::Giving.has(set.state());
     match member {
         Setting(LogAnnounceInterval) => interval(set.log_announce),
@@ -97,9 +81,7 @@ pub fn held_value(set: &PortDataSet, member: Member) -> Option<MemberValue<'stat
 }
 
 /// A member of a port whose logSyncInterval is this. `None`: any.
-pub fn port_range(profile: Profile, member: Member, log_sync: i8) -> Option<Range>
-    ensures { result ≡ port_range profile member log_sync }
-{
+pub fn port_range(profile: Profile, member: Member, log_sync: i8) -> Option<Range> {
     match profile {
         Profile::Default => default_range(member),
         Profile::St2059 => studio_range(member, log_sync),
@@ -109,9 +91,7 @@ pub fn port_range(profile: Profile, member: Member, log_sync: i8) -> Option<Rang
 }
 
 /// Of the default profiles.
-fn default_range(member: Member) -> Option<Range>
-    ensures { result ≡ default_range member }
-{
+fn default_range(member: Member) -> Option<Range> {
     match member {
         Setting(LogAnnounceInterval) => numbers(0, 4),
         Setting(LogSyncInterval) => numbers(-1, 1),
@@ -122,9 +102,7 @@ fn default_range(member: Member) -> Option<Range>
 }
 
 /// Of SMPTE ST 2059-2.
-fn studio_range(member: Member, log_sync: i8) -> Option<Range>
-    ensures { result ≡ studio_range member log_sync }
-{
+fn studio_range(member: Member, log_sync: i8) -> Option<Range> {
     match member {
         Setting(LogAnnounceInterval) => numbers(-3, 1),
         Setting(LogSyncInterval) => numbers(-7, -1),
@@ -137,9 +115,7 @@ fn studio_range(member: Member, log_sync: i8) -> Option<Range>
 }
 
 /// Of AES67.
-fn audio_range(member: Member) -> Option<Range>
-    ensures { result ≡ audio_range member }
-{
+fn audio_range(member: Member) -> Option<Range> {
     match member {
         Setting(LogAnnounceInterval) => numbers(0, 4),
         Setting(LogSyncInterval) => numbers(-4, 1),
@@ -151,23 +127,17 @@ fn audio_range(member: Member) -> Option<Range>
 }
 
 /// Whether delayMechanism is E2E or P2P.
-fn is_of_ptp(mechanism: u8) -> bool
-    ensures { result ≡ is_of_ptp mechanism }
-{
+fn is_of_ptp(mechanism: u8) -> bool {
     mechanism == END_TO_END || mechanism == PEER_TO_PEER
 }
 
 /// Whether delayMechanism is P2P, COMMON_P2P or SPECIAL.
-fn is_of_gptp(mechanism: u8) -> bool
-    ensures { result ≡ is_of_gptp mechanism }
-{
+fn is_of_gptp(mechanism: u8) -> bool {
     mechanism == PEER_TO_PEER || mechanism == COMMON_PEER_TO_PEER || mechanism == SPECIAL
 }
 
 /// What is allowed of delayMechanism, if this one isn't.
-pub fn allowed_mechanisms(profile: Profile, mechanism: u8) -> Option<Allowed>
-    ensures { result ≡ allowed_mechanisms profile mechanism }
-{
+pub fn allowed_mechanisms(profile: Profile, mechanism: u8) -> Option<Allowed> {
     match profile {
         Profile::Gptp if is_of_gptp(mechanism) => None,
         Profile::Gptp => Some(Allowed::PeerToPeerOrSpecial),

@@ -1,12 +1,5 @@
 //! The clocks that send by themselves.
 
-ghost use Rattle.std.specs.Prelude.{◌≡◌, [], IfOk};
-ghost use Rattle.std.specs.BTreeSet.{insert_key, keys};
-ghost use Rattle.std.specs.List.{fold};
-ghost use Rattle.ptpm_site.specs.Answers.{source_cmp};
-ghost use Rattle.ptpm_site.specs.Site.{site_answers};
-ghost use Rattle.ptpm_expected.specs.Senders.{announcing, is_sent_so, senders_of};
-
 use ptpm_site::evidence::senders;
 use ptpm_site::heard::{ANNOUNCE, DELAY_REQ, Heard, Sender};
 use ptpm_site::site::Site;
@@ -28,9 +21,7 @@ pub(crate) fn sender_set(
     alloc: Global,
     heard: &[Heard],
     sending: Sending,
-) -> Result<BTreeSet<Source>, AllocError>
-    ensures { IfOk result (λ set. keys set ≡ fold (insert_key source_cmp) [] (senders_of sending heard.now)) }
-{
+) -> Result<BTreeSet<Source>, AllocError> {
     let all = senders(alloc, heard)?;
     let senders = all.as_slice();
     let mut set = BTreeSet::new(alloc);
@@ -43,9 +34,7 @@ pub(crate) fn sender_set(
 }
 
 /// Whether a sender sends this.
-fn is_sent_so(sending: Sending, sender: &Sender) -> bool
-    ensures { result ≡ is_sent_so sending sender.now }
-{
+fn is_sent_so(sending: Sending, sender: &Sender) -> bool {
     match sending {
         Sending::OfMaster => sender.kind != DELAY_REQ,
         Sending::Announce => sender.kind == ANNOUNCE,
@@ -53,10 +42,7 @@ fn is_sent_so(sending: Sending, sender: &Sender) -> bool
 }
 
 /// The clocks that send Announce, by domain and then by identity.
-#[tactic(auto, unfolding(crate::specs::Senders::announcing))]
-pub(crate) fn announcing(alloc: Global, site: &Site) -> Result<Vec<Source>, AllocError>
-    ensures { IfOk result (λ found. found.items ≡ announcing (site_answers site.now)) }
-{
+pub(crate) fn announcing(alloc: Global, site: &Site) -> Result<Vec<Source>, AllocError> {
     let set = sender_set(alloc, site.all_heard(), Sending::Announce)?;
     set.iter().copied().collect(alloc)
 }

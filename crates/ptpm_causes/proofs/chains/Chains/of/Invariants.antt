@@ -1,11 +1,12 @@
--- Of each name is kept what its findings so far say.
-use Rattle.std.proofs.Common.{◌≡◌, take}
-use Rattle.ptpm_site.specs.Site.{site_answers}
-use Rattle.ptpm_causes.specs.declared.cause.Key.{Key}
-use Rattle.ptpm_causes.specs.Chains.{kept, said}
-use Rattle.ptpm_causes.specs.Found.{known_by}
+-- Each finding so far has its reason, and each root has none.
+use Rattle.std.proofs.Common.{◌≡◌, length}
+use Rattle.std.specs.BTreeMap.{values}
+use Rattle.std.specs.List.{All}
+use Rattle.ptpm_causes.specs.Roots.{IsRoot}
 use Rattle.ptpm_causes.proofs.chains.Chains.of.Given as goal
 
-abbrev pub invariant-loop-finding : goal.invariant-loop-finding
-invariant-loop-finding l =
-    (k : Key) → kept l.chains k ≡ said (site_answers l.site) (known_by l.found) (take l.finding-index l.findings) k
+abbrev pub invariant-loop-place : goal.invariant-loop-place
+invariant-loop-place l = record {
+  len : length l.reasons.items ≡ l.place;
+  roots : All (IsRoot l.reasons.items) (values l.roots);
+}

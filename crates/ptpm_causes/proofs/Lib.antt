@@ -1,4 +1,0 @@
-pub mod Answered
-pub mod Knowing
-pub mod Rooted
-pub mod Rules
