@@ -4,13 +4,10 @@ ghost use Rattle.std.specs.Prelude.{◌≤◌, length};
 
 use crate::arrival::SourcePort;
 use crate::data_sets::{TimePropertiesDataSet, quality_at};
-use crate::heard::{ANNOUNCE, Heard, Sender, sender_in};
+use crate::heard::{ANNOUNCE, sender_in};
 use crate::leaders::Attributes;
 use crate::numbers::{flag_at, i8_at, i16_at};
-use crate::source::Source;
 use ptpm_codec::{ClockIdentity, clock_identity_at, port_identity_at, u16_at};
-use std::alloc::{AllocError, Global};
-use std::collections::BTreeMap;
 
 /// What an Announce says of the grandmaster.
 #[derive(Clone, Copy)]
@@ -82,7 +79,9 @@ fn grandmaster_in(datagram: &[u8]) -> Option<AnnouncedGrandmaster> {
     })
 }
 
-fn announced_by(datagram: &[u8], sender: Sender) -> Option<Announced> {
+/// The port whose Announce a datagram is.
+pub fn announced_in(datagram: &[u8]) -> Option<Announced> {
+    let sender = sender_in(datagram)?;
     if sender.kind != ANNOUNCE || datagram.len() < 34 {
         return None;
     }
@@ -94,70 +93,4 @@ fn announced_by(datagram: &[u8], sender: Sender) -> Option<Announced> {
         log: i8_at(datagram, 33),
         grandmaster: grandmaster_in(datagram),
     })
-}
-
-/// The port whose Announce a datagram is.
-pub fn announced_in(datagram: &[u8]) -> Option<Announced> {
-    announced_by(datagram, sender_in(datagram)?)
-}
-
-fn announces_in(heard: &Heard) -> Option<Announced> {
-    match heard {
-        Heard::Announces(announced) => Some(*announced),
-        _ => None,
-    }
-}
-
-/// All Announces, in the order of the lines.
-fn all_announces(alloc: Global, heard: &[Heard]) -> Result<Vec<Announced>, AllocError> {
-    let mut found = Vec::new(alloc);
-    for one in heard {
-        let Some(announced) = announces_in(one) else {
-            continue;
-        };
-        found.push(announced)?;
-    }
-    Ok(found)
-}
-
-/// For each port the last of these.
-fn last_of(
-    alloc: Global,
-    all: &[Announced],
-) -> Result<BTreeMap<SourcePort, Announced>, AllocError> {
-    let mut last = BTreeMap::new(alloc);
-    for announced in all {
-        last.insert(announced.port, *announced)?;
-    }
-    Ok(last)
-}
-
-/// For each clock the last of these, whichever port sent it.
-fn last_of_clocks(
-    alloc: Global,
-    all: &[Announced],
-) -> Result<BTreeMap<Source, Announced>, AllocError> {
-    let mut last = BTreeMap::new(alloc);
-    for announced in all {
-        last.insert(announced.port.source, *announced)?;
-    }
-    Ok(last)
-}
-
-/// For each port that announces its last Announce.
-pub fn last_announces(
-    alloc: Global,
-    heard: &[Heard],
-) -> Result<BTreeMap<SourcePort, Announced>, AllocError> {
-    let all = all_announces(alloc, heard)?;
-    last_of(alloc, all.as_slice())
-}
-
-/// For each clock that announces its last Announce.
-pub fn last_announcers(
-    alloc: Global,
-    heard: &[Heard],
-) -> Result<BTreeMap<Source, Announced>, AllocError> {
-    let all = all_announces(alloc, heard)?;
-    last_of_clocks(alloc, all.as_slice())
 }

@@ -1,6 +1,5 @@
 //! Ports whose parent announces too seldom for them (7.7.2, 7.7.3).
 
-use crate::answer::Request;
 use crate::arrival::SourcePort;
 use crate::clock::Received;
 use crate::data_sets::PortDataSet;
@@ -35,18 +34,6 @@ fn outlasts(n: i16, timeout: u8) -> bool {
     }
 }
 
-/// Whether the parent announces too seldom for the port.
-fn is_too_seldom(own: &PortDataSet, parent_log: i8) -> bool {
-    outlasts(
-        i16::from(parent_log) - i16::from(own.log_announce),
-        own.receipt_timeout,
-    )
-}
-
-fn is_listening(state: Option<PortState>) -> bool {
-    matches!(state, Some(PortState::Listening))
-}
-
 /// Whether a clock has one port, by its DEFAULT_DATA_SET.
 fn has_one_port(site: &Site, source: Source) -> bool {
     match site.default(source) {
@@ -57,16 +44,8 @@ fn has_one_port(site: &Site, source: Source) -> bool {
 
 /// Whether a port takes time from its parent, is about to, or, as its clock's one port, listens.
 pub fn takes_time(site: &Site, source: Source, set: &PortDataSet) -> bool {
-    set.is_following() || is_listening(set.state()) && has_one_port(site, source)
-}
-
-fn is_slave(state: Option<PortState>) -> bool {
-    matches!(state, Some(PortState::Slave))
-}
-
-/// Whether a port was not in SLAVE in one of these answers.
-fn left_slave(received: &[Received]) -> bool {
-    received.iter().any(|received| !is_slave(received.state()))
+    let is_listening = matches!(set.state(), Some(PortState::Listening));
+    set.is_following() || is_listening && has_one_port(site, source)
 }
 
 /// The port of a clock that another clock of its domain follows.
@@ -77,55 +56,30 @@ pub fn port_above(source: Source, parent: PortIdentity) -> SourcePort {
     }
 }
 
-/// How often the parent announces, by the last of its Announces that was heard, or else by its PORT_DATA_SET.
-fn parent_log(site: &Site, evidence: &Evidence, port: SourcePort, above: &PortDataSet) -> i8 {
-    match evidence.announced.get(&port) {
-        Some(announced) => announced.log,
-        None => above.log_announce,
-    }
-}
-
-fn seldom_by(
-    site: &Site,
-    source: Source,
-    parent: PortIdentity,
-    own: &PortDataSet,
-    parent_log: i8,
-) -> Option<Seldom> {
-    if takes_time(site, source, own) && is_too_seldom(own, parent_log) {
-        Some(Seldom {
-            log_announce: own.log_announce,
-            timeout: own.receipt_timeout,
-            parent,
-            parent_log,
-        })
-    } else {
-        None
-    }
-}
-
-fn seldom_above(
-    site: &Site,
-    evidence: &Evidence,
-    source: Source,
-    parent: PortIdentity,
-    own: &PortDataSet,
-    above: &PortDataSet,
-) -> Option<Seldom> {
-    let port = port_above(source, parent);
-    if evidence.is_by_unicast(port) {
-        return None;
-    }
-    let log = parent_log(site, evidence, port, above);
-    seldom_by(site, source, parent, own, log)
-}
-
-/// A port whose parent announces too seldom for it, by what both say.
+/// A port whose parent announces too seldom for it. How often that one does is said by the last of its Announces that was heard, or
+/// else by its PORT_DATA_SET.
 fn too_seldom(site: &Site, evidence: &Evidence, source: Source, port: u16) -> Option<Seldom> {
     let parent = site.parent(source)?.parent;
     let own = site.port(source, port)?;
     let above = site.port(source.beside(parent.clock), parent.port)?;
-    seldom_above(site, evidence, source, parent, &own, &above)
+    let above_at = port_above(source, parent);
+    if evidence.is_by_unicast(above_at) || !takes_time(site, source, &own) {
+        return None;
+    }
+    let parent_log = match evidence.announced.get(&above_at) {
+        Some(announced) => announced.log,
+        None => above.log_announce,
+    };
+    let intervals = i16::from(parent_log) - i16::from(own.log_announce);
+    if !outlasts(intervals, own.receipt_timeout) {
+        return None;
+    }
+    Some(Seldom {
+        log_announce: own.log_announce,
+        timeout: own.receipt_timeout,
+        parent,
+        parent_log,
+    })
 }
 
 /// Whether it is certain: an Announce of the parent was heard, or the port was seen without a lock.
@@ -137,7 +91,10 @@ fn is_certain(
     parent: PortIdentity,
 ) -> bool {
     evidence.announced.contains_key(&port_above(source, parent))
-        || left_slave(site.port_answers(source, port))
+        || site.port_answers(source, port).iter().any(|received| !matches!(
+            received.state(),
+            Some(PortState::Slave)
+        ))
 }
 
 /// What is said of a port whose parent announces too seldom for it, if it is certain.
@@ -155,41 +112,22 @@ pub fn seldom_announced(
     }
 }
 
-/// Whether there is an answer to a third request, beside the first and the last one.
-fn has_third(received: &[Received], first: &Received, last: &Received) -> bool {
-    received.iter().any(|one| is_third(&one.request, &first.request, &last.request))
-}
-
-fn is_third(request: &Request, first: &Request, last: &Request) -> bool {
-    is_another(request, last) && is_another(request, first)
-}
-
-/// The first of these answers that came to another request of the requester of the last one.
-fn first_look<'a>(received: &'a [Received], last: &Received) -> Option<&'a Received> {
-    received
-        .iter()
-        .find(|one| is_another(&one.request, &last.request))
-}
-
-/// Whether the time from one answer to another is two intervals at least.
-fn is_long(first: &Received, last: &Received, log: i8) -> bool {
-    match time_between(last.at, first.at) {
-        Some(time) => 2 * interval(log) <= time,
-        None => false,
-    }
-}
-
-fn is_served_to(received: &[Received], last: &Received, log: i8) -> bool {
-    match first_look(received, last) {
-        Some(first) => has_third(received, first, last) && is_long(first, last, log),
-        None => false,
-    }
-}
-
 /// Whether a port stays as it is for three looks, and two of these intervals. Then one that is in SLAVE is served by unicast.
 fn is_served(received: &[Received], log: i8) -> bool {
-    match received.last() {
-        Some(last) => is_served_to(received, last, log),
+    let Some(last) = received.last() else {
+        return false;
+    };
+    let Some(first) = received
+        .iter()
+        .find(|one| is_another(&one.request, &last.request))
+    else {
+        return false;
+    };
+    let has_third = received.iter().any(|one| {
+        is_another(&one.request, &last.request) && is_another(&one.request, &first.request)
+    });
+    match time_between(last.at, first.at) {
+        Some(time) => has_third && 2 * interval(log) <= time,
         None => false,
     }
 }

@@ -184,32 +184,7 @@ fn put_answer(
     number: u16,
     received: Received,
 ) -> Result<(), AllocError> {
-    place_number(alloc, answers, number)?;
-    push_answer(answers, number, received)?;
-    Ok(())
-}
-
-/// Adds a number that has no answer yet, unless it is there.
-fn place_number(
-    alloc: Global,
-    answers: &mut BTreeMap<u16, Vec<Received>>,
-    number: u16,
-) -> Result<(), AllocError> {
-    if answers.contains_key(&number) {
-        return Ok(());
-    }
-    answers.insert(number, Vec::new(alloc))?;
-    Ok(())
-}
-
-/// Adds an answer of a number that is there, after all earlier ones.
-fn push_answer(
-    answers: &mut BTreeMap<u16, Vec<Received>>,
-    number: u16,
-    received: Received,
-) -> Result<(), AllocError> {
-    if let Some(all) = answers.get_mut(&number) {
-        all.push(received)?;
-    }
+    let all = answers.entry(number)?.or_insert(Vec::new(alloc));
+    all.push(received)?;
     Ok(())
 }

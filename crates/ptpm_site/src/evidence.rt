@@ -1,12 +1,11 @@
 //! What all lines show beside the answers: who asks, which domains were asked, who sends or announces, and who is gone.
 
-use crate::announces::{Announced, last_announcers, last_announces};
+use crate::announces::Announced;
 use crate::arrival::SourcePort;
 use crate::domain::Domain;
 use crate::gone::gone_set;
 use crate::heard::{Heard, Sender};
 use crate::looks::LastLooks;
-use crate::sets::add_keys;
 use crate::source::Source;
 use ptpm_codec::ClockIdentity;
 use std::alloc::{AllocError, Global};
@@ -32,14 +31,39 @@ pub struct Evidence {
 impl Evidence {
     pub fn of(alloc: Global, heard: &[Heard]) -> Result<Evidence, AllocError> {
         let last = LastLooks::of(alloc, heard)?;
-        Ok(Evidence {
-            hosts: host_set(alloc, heard)?,
-            domains: domain_set(alloc, heard)?,
-            senders: sender_set(alloc, heard)?,
+        let mut evidence = Evidence {
+            hosts: BTreeSet::new(alloc),
+            domains: BTreeSet::new(alloc),
+            senders: BTreeSet::new(alloc),
             gone: gone_set(alloc, heard, &last)?,
-            announced: last_announces(alloc, heard)?,
-            announcers: last_announcers(alloc, heard)?,
-        })
+            announced: BTreeMap::new(alloc),
+            announcers: BTreeMap::new(alloc),
+        };
+        for one in heard {
+            evidence.add(one)?;
+        }
+        Ok(evidence)
+    }
+
+    /// Adds what one more datagram shows.
+    fn add(&mut self, one: &Heard) -> Result<(), AllocError> {
+        match one {
+            Heard::Asked(query) => {
+                self.domains.insert(query.domain)?;
+            }
+            Heard::Answered(travel) => {
+                self.hosts.insert(travel.request.target.clock)?;
+            }
+            Heard::Sent(sender) => {
+                self.senders.insert(*sender)?;
+            }
+            Heard::Announces(announced) => {
+                self.announced.insert(announced.port, *announced)?;
+                self.announcers.insert(announced.port.source, *announced)?;
+            }
+            Heard::Timed(_) | Heard::Came(_) => {}
+        }
+        Ok(())
     }
 
     /// Whether the last Announce of a port was sent by unicast.
@@ -49,83 +73,4 @@ impl Evidence {
             None => false,
         }
     }
-}
-
-fn host_set(alloc: Global, heard: &[Heard]) -> Result<BTreeSet<ClockIdentity>, AllocError> {
-    let mut set = BTreeSet::new(alloc);
-    let all = hosts(alloc, heard)?;
-    add_keys(&mut set, all.as_slice())?;
-    Ok(set)
-}
-
-fn domain_set(alloc: Global, heard: &[Heard]) -> Result<BTreeSet<Domain>, AllocError> {
-    let mut set = BTreeSet::new(alloc);
-    let all = domains(alloc, heard)?;
-    add_keys(&mut set, all.as_slice())?;
-    Ok(set)
-}
-
-fn sender_set(alloc: Global, heard: &[Heard]) -> Result<BTreeSet<Sender>, AllocError> {
-    let mut set = BTreeSet::new(alloc);
-    let all = senders(alloc, heard)?;
-    add_keys(&mut set, all.as_slice())?;
-    Ok(set)
-}
-
-/// The clock that an answer goes to.
-fn host_in(heard: &Heard) -> Option<ClockIdentity> {
-    match heard {
-        Heard::Answered(travel) => Some(travel.request.target.clock),
-        _ => None,
-    }
-}
-
-fn hosts(alloc: Global, heard: &[Heard]) -> Result<Vec<ClockIdentity>, AllocError> {
-    let mut found = Vec::new(alloc);
-    for one in heard {
-        let Some(host) = host_in(one) else {
-            continue;
-        };
-        found.push(host)?;
-    }
-    Ok(found)
-}
-
-/// The domain that a GET asks in.
-fn domain_in(heard: &Heard) -> Option<Domain> {
-    match heard {
-        Heard::Asked(query) => Some(query.domain),
-        _ => None,
-    }
-}
-
-fn domains(alloc: Global, heard: &[Heard]) -> Result<Vec<Domain>, AllocError> {
-    let mut found = Vec::new(alloc);
-    for one in heard {
-        let Some(domain) = domain_in(one) else {
-            continue;
-        };
-        found.push(domain)?;
-    }
-    Ok(found)
-}
-
-/// The sender of a message, with its type.
-fn sent_in(heard: &Heard) -> Option<Sender> {
-    match heard {
-        Heard::Sent(sender) => Some(*sender),
-        _ => None,
-    }
-}
-
-/// All that send by themselves, in the order of the lines.
-pub fn senders(alloc: Global, heard: &[Heard]) -> Result<Vec<Sender>, AllocError> {
-    let mut found = Vec::new(alloc);
-    for one in heard {
-        let Some(sender) = sent_in(one) else {
-            continue;
-        };
-        found.push(sender)?;
-    }
-    Ok(found)
 }

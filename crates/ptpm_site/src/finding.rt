@@ -116,8 +116,3 @@ pub fn add_finding<'a>(findings: &mut Vec<Finding<'a>>, source: Source, what: Wh
     findings.push(Finding { source, what })?;
     Ok(())
 }
-
-/// The same, with a contract by what the finding says.
-pub fn report<'a>(findings: &mut Vec<Finding<'a>>, source: Source, what: What<'a>) -> Added {
-    add_finding(findings, source, what)
-}

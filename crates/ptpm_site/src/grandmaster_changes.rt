@@ -1,7 +1,6 @@
 //! Clocks whose grandmaster changed from one look to the next.
 
 use crate::asked::Asked;
-use crate::clock::Received;
 use crate::site::Site;
 use crate::source::Source;
 use ptpm_codec::ClockIdentity;
@@ -26,17 +25,14 @@ pub struct GrandmasterChange {
     pub clocks: usize,
 }
 
-/// The latest of these answers that names another grandmaster.
-fn named_before<'a>(received: &'a [Received], last: &Received) -> Option<&'a Received> {
-    received
+/// How a clock came to the grandmaster that it names last, if it named another before.
+fn handover_of(site: &Site, source: Source) -> Option<Handover> {
+    let received = site.answers(source, Asked::ParentDataSet);
+    let last = received.last()?;
+    let before = received
         .iter()
         .rev()
-        .find(|earlier| earlier.grandmaster() != last.grandmaster())
-}
-
-/// How a clock came to the grandmaster that it names last, by these answers.
-fn handover_to(source: Source, received: &[Received], last: &Received) -> Option<Handover> {
-    let before = named_before(received, last)?;
+        .find(|earlier| earlier.grandmaster() != last.grandmaster())?;
     if before.request == last.request {
         return None;
     }
@@ -47,27 +43,6 @@ fn handover_to(source: Source, received: &[Received], last: &Received) -> Option
     })
 }
 
-fn last_handover(source: Source, received: &[Received]) -> Option<Handover> {
-    handover_to(source, received, received.last()?)
-}
-
-/// The last change of a clock's grandmaster, if it changed.
-fn handover_of(site: &Site, source: Source) -> Option<Handover> {
-    last_handover(source, site.answers(source, Asked::ParentDataSet))
-}
-
-/// Those of these clocks.
-fn handovers(alloc: Global, site: &Site, sources: &[Source]) -> Result<Vec<Handover>, AllocError> {
-    let mut found = Vec::new(alloc);
-    for source in sources {
-        let Some(one) = handover_of(site, *source) else {
-            continue;
-        };
-        found.push(one)?;
-    }
-    Ok(found)
-}
-
 impl Handover {
     /// Whether another clock of the domain went from the same grandmaster to the same other one.
     fn is_with(&self, other: &Handover) -> bool {
@@ -76,62 +51,30 @@ impl Handover {
             && self.after == other.after
     }
 
-    /// How many of all went so.
-    fn clocks_with(&self, all: &[Handover]) -> usize {
-        all.iter().filter(|other| self.is_with(other)).count()
-    }
-
     /// Whether the clock is one of the two grandmasters.
     fn is_of_itself(&self) -> bool {
         self.source.clock == self.before || self.source.clock == self.after
     }
 
-    /// The clock at which it is shown.
-    fn shown_at(&self, all: &[Handover]) -> Source {
-        if self.clocks_with(all) == 1 && self.is_of_itself() {
+    /// What is shown of those of all that went so, by the first of them.
+    fn shown(&self, all: &[Handover]) -> Option<GrandmasterChange> {
+        let first = all.iter().find(|other| self.is_with(other))?;
+        if first.source != self.source {
+            return None;
+        }
+        let clocks = all.iter().filter(|other| self.is_with(other)).count();
+        let source = if clocks == 1 && self.is_of_itself() {
             self.source
         } else {
             self.source.beside(self.after)
-        }
-    }
-
-    /// Whether it is the first of those that went so.
-    fn is_first(&self, all: &[Handover]) -> bool {
-        match self.first_with(all) {
-            Some(first) => first.source == self.source,
-            None => false,
-        }
-    }
-
-    /// The first of those that went so.
-    fn first_with<'a>(&self, all: &'a [Handover]) -> Option<&'a Handover> {
-        all.iter().find(|other| self.is_with(other))
-    }
-
-    /// What is shown of those that went so, by the first of them.
-    fn shown(&self, all: &[Handover]) -> Option<GrandmasterChange> {
-        if !self.is_first(all) {
-            return None;
-        }
+        };
         Some(GrandmasterChange {
-            source: self.shown_at(all),
+            source,
             before: self.before,
             after: self.after,
-            clocks: self.clocks_with(all),
+            clocks,
         })
     }
-}
-
-/// What is shown of all of them.
-fn all_shown(alloc: Global, all: &[Handover]) -> Result<Vec<GrandmasterChange>, AllocError> {
-    let mut found = Vec::new(alloc);
-    for one in all {
-        let Some(change) = one.shown(all) else {
-            continue;
-        };
-        found.push(change)?;
-    }
-    Ok(found)
 }
 
 /// All changes of a grandmaster. `sources` has all clocks that are seen.
@@ -140,6 +83,17 @@ pub fn grandmaster_changes(
     site: &Site,
     sources: &[Source],
 ) -> Result<Vec<GrandmasterChange>, AllocError> {
-    let all = handovers(alloc, site, sources)?;
-    all_shown(alloc, all.as_slice())
+    let mut all = Vec::new(alloc);
+    for source in sources {
+        if let Some(handover) = handover_of(site, *source) {
+            all.push(handover)?;
+        }
+    }
+    let mut changes = Vec::new(alloc);
+    for handover in &all {
+        if let Some(change) = handover.shown(all.as_slice()) {
+            changes.push(change)?;
+        }
+    }
+    Ok(changes)
 }

@@ -25,14 +25,6 @@ pub struct Query {
     pub hops: u8,
 }
 
-/// A request, and with how many boundary hops it was sent.
-#[derive(Clone, Copy, PartialEq, Eq, PartialOrd, Ord)]
-pub struct Allowed {
-    pub request: Request,
-    /// startingBoundaryHops.
-    pub hops: u8,
-}
-
 /// An answer on its way.
 #[derive(Clone, Copy)]
 pub struct Travel {

@@ -2,7 +2,7 @@
 //! findings, and the port.
 
 use crate::evidence::Evidence;
-use crate::finding::{Added, Finding, What, add_finding, report};
+use crate::finding::{Added, Finding, What, add_finding};
 use crate::forest::place_among;
 use crate::grandmaster_changes::{GrandmasterChange, grandmaster_changes};
 use crate::judging_amounts::{judge_amounts, judge_lead_off, judge_utc};
@@ -11,9 +11,7 @@ use crate::judging_grandmasters::{judge_grandmaster, judge_parent};
 use crate::judging_leading::judge_leader;
 use crate::judging_loops::judge_loop;
 use crate::judging_ports::{judge_intervals, judge_locks, judge_ports};
-use crate::leaders::{
-    Leader, Witness, all_witnesses, count_in, is_present, leader_of, present_leaders,
-};
+use crate::leaders::{Leader, all_witnesses, count_in, is_present, leader_of, present_leaders};
 use crate::leading::all_standing_by;
 use crate::limits::Limits;
 use crate::marks::is_marked;
@@ -50,7 +48,6 @@ pub fn findings_of<'a>(
         reach: &reach,
         changes: changes.as_slice(),
         twins: twins.as_slice(),
-        witnesses: witnesses.as_slice(),
         leaders: leaders.as_slice(),
         standing_by: standing_by.as_slice(),
         followers: followers.as_slice(),
@@ -58,7 +55,14 @@ pub fn findings_of<'a>(
         limits,
     };
     let mut findings = Vec::new(alloc);
-    judge_all(site, subjects.as_slice(), &given, &mut findings)?;
+    for subject in subjects {
+        let leader = leader_of(site, &evidence, subject, witnesses.as_slice());
+        if site.is_seen(subject) {
+            judge(site, subject, leader, &given, &mut findings)?;
+        } else {
+            judge_absent(site, subject, leader, &given, &mut findings)?;
+        }
+    }
     Ok(findings)
 }
 
@@ -76,8 +80,6 @@ struct Given<'a> {
     changes: &'a [GrandmasterChange],
     /// Which answers came from two addresses.
     twins: &'a [Twins],
-    /// Those that speak for the grandmaster that they name.
-    witnesses: &'a [Witness],
     /// Those that lead, and are seen or mute.
     leaders: &'a [Leader],
     /// Those that may lead, are of a class below 128, and do not lead.
@@ -89,35 +91,6 @@ struct Given<'a> {
     limits: Limits,
 }
 
-/// What is wrong with each of these clocks, one after another.
-fn judge_all<'a>(
-    site: &'a Site,
-    subjects: &[Source],
-    given: &Given<'_>,
-    findings: &mut Vec<Finding<'a>>,
-) -> Added {
-    for subject in subjects {
-        judge_one(site, *subject, given, findings)?;
-    }
-    Ok(())
-}
-
-/// What is wrong with one clock, whether it is seen or not.
-fn judge_one<'a>(
-    site: &'a Site,
-    subject: Source,
-    given: &Given<'_>,
-    findings: &mut Vec<Finding<'a>>,
-) -> Added {
-    let leader = leader_of(site, given.evidence, subject, given.witnesses);
-    if site.is_seen(subject) {
-        let is_least = is_least(site, subject, given);
-        judge(site, subject, leader, is_least, given, findings)
-    } else {
-        judge_absent(site, subject, leader, given, findings)
-    }
-}
-
 /// What is wrong with one clock that is not seen: `gone`, `own_host` and `mute`, what is wrong with it if it leads, and
 /// `grandmaster_changed`.
 fn judge_absent(
@@ -127,95 +100,61 @@ fn judge_absent(
     given: &Given<'_>,
     findings: &mut Vec<Finding<'_>>,
 ) -> Added {
+    let (followers, limits) = (given.followers, given.limits);
     if given.evidence.gone.contains(&subject) {
-        report(findings, subject, What::Gone)?;
+        add_finding(findings, subject, What::Gone)?;
     }
     if let Some(why) = unseen(site, given.evidence, subject, given.sources) {
-        report(findings, subject, What::Unseen(why))?;
+        add_finding(findings, subject, What::Unseen(why))?;
     }
-    report_lead(site, subject, leader, given, findings)?;
+    judge_two(site, subject, leader, given, findings)?;
+    judge_lead_off(site, subject, leader, followers, limits, findings)?;
+    judge_leader(site, subject, leader, given.standing_by, limits, findings)?;
     judge_changes(given.changes, subject, findings)
 }
 
-/// The same as `judge_lead`, with a contract by what the findings say.
-fn report_lead(
-    site: &Site,
-    subject: Source,
-    leader: Option<Leader>,
-    given: &Given<'_>,
-    findings: &mut Vec<Finding<'_>>,
-) -> Added {
-    judge_lead(site, subject, leader, given, findings)
-}
-
-/// What is wrong with one clock that leads, and is not seen.
-fn judge_lead(
-    site: &Site,
-    subject: Source,
-    leader: Option<Leader>,
-    given: &Given<'_>,
-    findings: &mut Vec<Finding<'_>>,
-) -> Added {
-    let limits = given.limits;
-    judge_two(site, subject, leader, given, findings)?;
-    judge_lead_off(site, subject, leader, given.followers, limits, findings)?;
-    judge_leader(site, subject, leader, given.standing_by, limits, findings)
-}
-
 /// Whether a clock that is seen is the least of a loop.
-fn is_least(site: &Site, subject: Source, given: &Given<'_>) -> bool {
-    match place_among(given.sources, subject) {
+fn is_least(source: Source, given: &Given<'_>) -> bool {
+    match place_among(given.sources, source) {
         Some(place) => is_marked(given.least, place),
         None => false,
     }
 }
 
-/// What is wrong with one clock. `is_least` says whether it is the least of a loop.
+/// What is wrong with one clock that is seen.
 fn judge<'a>(
     site: &'a Site,
     source: Source,
     leader: Option<Leader>,
-    is_least: bool,
     given: &Given<'_>,
     findings: &mut Vec<Finding<'a>>,
 ) -> Added {
-    let ports = site.ports(given.alloc, source)?;
-    judge_above(site, source, leader, given, findings)?;
-    let count = given.sources.len();
-    judge_loop(given.alloc, site, source, is_least, count, findings)?;
-    judge_here(site, source, leader, ports.as_slice(), given, findings)?;
-    judge_leader(
-        site,
-        source,
-        leader,
-        given.standing_by,
-        given.limits,
-        findings,
-    )?;
+    let (alloc, limits) = (given.alloc, given.limits);
+    judge_two(site, source, leader, given, findings)?;
+    judge_grandmaster(site, source, findings)?;
+    judge_parent(site, source, findings)?;
+    if is_least(source, given) {
+        judge_loop(alloc, site, source, given.sources.len(), findings)?;
+    }
+    let ports = site.ports(alloc, source)?;
+    let ports = ports.as_slice();
+    judge_ports(site, source, ports, limits, findings)?;
+    judge_locks(site, source, ports, limits, findings)?;
+    let followers = given.followers;
+    judge_amounts(site, source, leader, ports, followers, limits, findings)?;
+    judge_utc(site, source, findings)?;
+    judge_intervals(site, given.evidence, source, ports, findings)?;
+    judge_leader(site, source, leader, given.standing_by, limits, findings)?;
     judge_answers(
-        given.alloc,
+        alloc,
         site,
         given.reach,
         given.changes,
         given.twins,
         source,
-        ports.as_slice(),
+        ports,
         findings,
-    )?;
-    Ok(())
-}
-
-/// What is wrong with a clock's grandmaster, and with the clock that it follows.
-fn judge_above(
-    site: &Site,
-    source: Source,
-    leader: Option<Leader>,
-    given: &Given<'_>,
-    findings: &mut Vec<Finding<'_>>,
-) -> Added {
-    judge_two(site, source, leader, given, findings)?;
-    judge_grandmaster(site, source, findings)?;
-    judge_parent(site, source, findings)
+    )
 }
 
 /// `two_grandmasters`.
@@ -235,29 +174,4 @@ fn judge_two(
         add_finding(findings, source, What::TwoGrandmasters)?;
     }
     Ok(())
-}
-
-/// What else is wrong with a clock whose ports are these.
-fn judge_here(
-    site: &Site,
-    source: Source,
-    leader: Option<Leader>,
-    ports: &[u16],
-    given: &Given<'_>,
-    findings: &mut Vec<Finding<'_>>,
-) -> Added {
-    let limits = given.limits;
-    judge_ports(site, source, ports, limits, findings)?;
-    judge_locks(site, source, ports, limits, findings)?;
-    judge_amounts(
-        site,
-        source,
-        leader,
-        ports,
-        given.followers,
-        limits,
-        findings,
-    )?;
-    judge_utc(site, source, findings)?;
-    judge_intervals(site, given.evidence, source, ports, findings)
 }

@@ -1,10 +1,10 @@
 //! What a clock did not answer, and what differs between its answers.
 
-use crate::asked::Asked;
-use crate::changes::{Change, Contradiction, first_change, first_contradiction, is_said_otherwise};
+use crate::asked::{Asked, six};
+use crate::changes::{Contradiction, first_change, first_contradiction, is_said_otherwise};
 use crate::clock::Received;
 use crate::completeness::missing_answers;
-use crate::finding::{Added, Finding, What, report};
+use crate::finding::{Added, Finding, What, add_finding};
 use crate::grandmaster_changes::GrandmasterChange;
 use crate::member::{is_moving, is_of_grandmaster, members_of};
 use crate::reach::{Reach, out_of_reach};
@@ -27,13 +27,20 @@ pub fn judge_answers<'a>(
     ports: &[u16],
     findings: &mut Vec<Finding<'a>>,
 ) -> Added {
-    judge_missing(alloc, site, source, ports, findings)?;
-    judge_reach(site, reach, source, findings)?;
+    if let Some(missing) = missing_answers(alloc, site, source, ports)? {
+        add_finding(findings, source, What::Incomplete(missing))?;
+    }
+    if let Some(hops) = out_of_reach(site, reach, source) {
+        add_finding(findings, source, What::OutOfReach(hops))?;
+    }
     judge_changes(changes, source, findings)?;
     judge_contradictions(alloc, site, source, ports, Contradiction::Changed, findings)?;
     judge_twice(alloc, site, source, ports, findings)?;
     judge_addresses(site, twins, source, findings)?;
-    judge_offsets(site, source, findings)
+    if let Some(offsets) = two_offsets(site.answers(source, Asked::CurrentDataSet)) {
+        add_finding(findings, source, What::TwoOffsets(offsets))?;
+    }
+    Ok(())
 }
 
 /// `identity_twice`, by two addresses.
@@ -46,29 +53,8 @@ pub fn judge_addresses<'a>(
     match twins_of(twins, source) {
         Some(twins) => {
             let two = site.words.two_addresses(twins);
-            report(findings, source, What::TwoAddresses(two))
+            add_finding(findings, source, What::TwoAddresses(two))
         }
-        None => Ok(()),
-    }
-}
-
-/// `identity_twice`, by two offsets in each of two looks.
-fn judge_offsets(site: &Site, source: Source, findings: &mut Vec<Finding<'_>>) -> Added {
-    match two_offsets(site.answers(source, Asked::CurrentDataSet)) {
-        Some(offsets) => report(findings, source, What::TwoOffsets(offsets)),
-        None => Ok(()),
-    }
-}
-
-/// `out_of_reach`.
-fn judge_reach(
-    site: &Site,
-    reach: &Reach,
-    source: Source,
-    findings: &mut Vec<Finding<'_>>,
-) -> Added {
-    match out_of_reach(site, reach, source) {
-        Some(hops) => report(findings, source, What::OutOfReach(hops)),
         None => Ok(()),
     }
 }
@@ -81,7 +67,7 @@ pub fn judge_changes(
 ) -> Added {
     for change in changes {
         if change.source == source {
-            report(findings, source, What::GrandmasterChanged(*change))?;
+            add_finding(findings, source, What::GrandmasterChanged(*change))?;
         }
     }
     Ok(())
@@ -95,21 +81,18 @@ pub fn judge_twice<'a>(
     ports: &[u16],
     findings: &mut Vec<Finding<'a>>,
 ) -> Added {
-    let count = findings.len();
+    let mut twice = Vec::new(alloc);
     let how = Contradiction::IdentityTwice;
-    judge_contradictions(alloc, site, source, ports, how, findings)?;
-    let twice = findings.as_slice().get(count..).unwrap_or(&[]);
-    if are_of_states(twice) {
-        findings.truncate(count);
+    judge_contradictions(alloc, site, source, ports, how, &mut twice)?;
+    if twice.iter().any(|finding| !is_of_state(finding)) {
+        for finding in twice {
+            findings.push(finding)?;
+        }
     }
     Ok(())
 }
 
-/// Whether all these findings say how portState changed.
-fn are_of_states(findings: &[Finding<'_>]) -> bool {
-    findings.iter().all(|finding| is_of_state(finding))
-}
-
+/// Whether a finding says how portState changed.
 fn is_of_state(finding: &Finding<'_>) -> bool {
     match &finding.what {
         What::Changed(_, change) | What::IdentityTwice(_, change) => {
@@ -117,90 +100,6 @@ fn is_of_state(finding: &Finding<'_>) -> bool {
         }
         _ => false,
     }
-}
-
-/// `incomplete`.
-fn judge_missing(
-    alloc: Global,
-    site: &Site,
-    source: Source,
-    ports: &[u16],
-    findings: &mut Vec<Finding<'_>>,
-) -> Added {
-    match missing_answers(alloc, site, source, ports)? {
-        Some(missing) => report(findings, source, What::Incomplete(missing)),
-        None => Ok(()),
-    }
-}
-
-/// `changed` or `identity_twice`, for all data sets of a clock. `ports` are the clock's ports that
-/// answered.
-fn judge_contradictions<'a>(
-    alloc: Global,
-    site: &'a Site,
-    source: Source,
-    ports: &[u16],
-    how: Contradiction,
-    findings: &mut Vec<Finding<'a>>,
-) -> Added {
-    judge_clock_sets(alloc, site, source, how, findings)?;
-    judge_port_sets(alloc, site, source, ports, how, findings)?;
-    judge_clock_set(alloc, site, source, Asked::UserDescription, how, findings)
-}
-
-/// The same for the data sets of the clock, except its description.
-fn judge_clock_sets<'a>(
-    alloc: Global,
-    site: &'a Site,
-    source: Source,
-    how: Contradiction,
-    findings: &mut Vec<Finding<'a>>,
-) -> Added {
-    judge_clock_set(alloc, site, source, Asked::DefaultDataSet, how, findings)?;
-    judge_clock_set(alloc, site, source, Asked::CurrentDataSet, how, findings)?;
-    judge_clock_set(alloc, site, source, Asked::ParentDataSet, how, findings)?;
-    let asked = Asked::TimePropertiesDataSet;
-    judge_clock_set(alloc, site, source, asked, how, findings)
-}
-
-/// The same for one of them.
-fn judge_clock_set<'a>(
-    alloc: Global,
-    site: &'a Site,
-    source: Source,
-    asked: Asked,
-    how: Contradiction,
-    findings: &mut Vec<Finding<'a>>,
-) -> Added {
-    let compared = Compared::of(site, source, None, asked, how);
-    judge_set(alloc, compared, site.answers(source, asked), findings)
-}
-
-/// The same for the data sets of these ports.
-fn judge_port_sets<'a>(
-    alloc: Global,
-    site: &'a Site,
-    source: Source,
-    ports: &[u16],
-    how: Contradiction,
-    findings: &mut Vec<Finding<'a>>,
-) -> Added {
-    for port in ports {
-        judge_port_set(alloc, site, source, *port, how, findings)?;
-    }
-    Ok(())
-}
-
-fn judge_port_set<'a>(
-    alloc: Global,
-    site: &'a Site,
-    source: Source,
-    port: u16,
-    how: Contradiction,
-    findings: &mut Vec<Finding<'a>>,
-) -> Added {
-    let compared = Compared::of(site, source, Some(port), Asked::PortDataSet, how);
-    judge_set(alloc, compared, site.port_answers(source, port), findings)
 }
 
 /// Whose answers are compared, and how.
@@ -216,40 +115,55 @@ struct Compared {
     is_own: bool,
 }
 
-impl Compared {
-    fn of(
-        site: &Site,
-        source: Source,
-        port: Option<u16>,
-        asked: Asked,
-        how: Contradiction,
-    ) -> Compared {
-        Compared {
+/// `changed` or `identity_twice`, for all data sets of a clock. `ports` are the clock's ports that
+/// answered.
+fn judge_contradictions<'a>(
+    alloc: Global,
+    site: &'a Site,
+    source: Source,
+    ports: &[u16],
+    how: Contradiction,
+    findings: &mut Vec<Finding<'a>>,
+) -> Added {
+    let is_own = site.is_own_grandmaster(source);
+    for asked in six() {
+        let mut compared = Compared {
             source,
-            port,
+            port: None,
             asked,
             how,
-            is_own: site.is_own_grandmaster(source),
+            is_own,
+        };
+        if matches!(asked, Asked::PortDataSet) {
+            for port in ports {
+                compared.port = Some(*port);
+                judge_set(alloc, compared, site.port_answers(source, *port), findings)?;
+            }
+        } else {
+            judge_set(alloc, compared, site.answers(source, asked), findings)?;
         }
     }
+    Ok(())
 }
 
-/// The members of a data set in which two of these answers differ.
+/// The members of a data set in which two of these answers differ. A member is passed over if its value moves though nothing was
+/// changed. Of a clock that is its own grandmaster, so is what it says of that one: it is what the clock says of itself.
 fn judge_set<'a>(
     alloc: Global,
     compared: Compared,
     received: &'a [Received],
     findings: &mut Vec<Finding<'a>>,
 ) -> Added {
-    let members = members_of(compared.asked);
-    for member in members {
-        judge_member(alloc, compared, received, *member, findings)?;
+    for member in members_of(compared.asked) {
+        let is_passed_over = is_moving(*member) || compared.is_own && is_of_grandmaster(*member);
+        if !is_passed_over && is_said_otherwise(compared.asked, received, *member) {
+            judge_member(alloc, compared, received, *member, findings)?;
+        }
     }
     Ok(())
 }
 
-/// A member in which two of these answers differ. A member is passed over if its value moves though nothing was changed. Of a
-/// clock that is its own grandmaster, so is what it says of that one: it is what the clock says of itself.
+/// The first two answers that differ in a member.
 fn judge_member<'a>(
     alloc: Global,
     compared: Compared,
@@ -257,40 +171,23 @@ fn judge_member<'a>(
     member: Member,
     findings: &mut Vec<Finding<'a>>,
 ) -> Added {
-    if is_moving(member) || compared.is_own && is_of_grandmaster(member) {
-        return Ok(());
+    let Compared {
+        source,
+        port,
+        asked,
+        ..
+    } = compared;
+    match compared.how {
+        Contradiction::Changed => {
+            if let Some(change) = first_change(asked, received, member) {
+                add_finding(findings, source, What::Changed(port, change))?;
+            }
+        }
+        Contradiction::IdentityTwice => {
+            if let Some(change) = first_contradiction(alloc, asked, received, member)? {
+                add_finding(findings, source, What::IdentityTwice(port, change))?;
+            }
+        }
     }
-    match change_of(alloc, compared.asked, received, member, compared.how)? {
-        Some(change) => report_change(findings, compared, change),
-        None => Ok(()),
-    }
-}
-
-/// The first two answers that differ in a member.
-fn change_of<'a>(
-    alloc: Global,
-    asked: Asked,
-    received: &'a [Received],
-    member: Member,
-    how: Contradiction,
-) -> Result<Option<Change<'a>>, AllocError> {
-    if !is_said_otherwise(asked, received, member) {
-        return Ok(None);
-    }
-    match how {
-        Contradiction::Changed => Ok(first_change(asked, received, member)),
-        Contradiction::IdentityTwice => first_contradiction(alloc, asked, received, member),
-    }
-}
-
-fn report_change<'a>(
-    findings: &mut Vec<Finding<'a>>,
-    compared: Compared,
-    change: Change<'a>,
-) -> Added {
-    let what = match compared.how {
-        Contradiction::Changed => What::Changed(compared.port, change),
-        Contradiction::IdentityTwice => What::IdentityTwice(compared.port, change),
-    };
-    report(findings, compared.source, what)
+    Ok(())
 }

@@ -21,34 +21,18 @@ pub fn judge_leader(
     limits: Limits,
     findings: &mut Vec<Finding<'_>>,
 ) -> Added {
-    match leader {
-        Some(leader) => judge_told(site, source, &leader, others, limits, findings),
-        None => Ok(()),
-    }
-}
-
-/// The same by what is said of it.
-fn judge_told(
-    site: &Site,
-    source: Source,
-    leader: &Leader,
-    others: &[Source],
-    limits: Limits,
-    findings: &mut Vec<Finding<'_>>,
-) -> Added {
+    let Some(leader) = leader else {
+        return Ok(());
+    };
     let quality = leader.quality();
-    if let Some(quality) = quality {
-        if let Some(degraded) = without_source(quality) {
-            add_finding(findings, source, What::Degraded(degraded))?;
-        }
+    if let Some(degraded) = quality.and_then(|quality| without_source(quality)) {
+        add_finding(findings, source, What::Degraded(degraded))?;
     }
     if let Some(time) = &leader.time {
         judge_properties(source, quality, time, limits, findings)?;
     }
-    if let Some(quality) = quality {
-        if let Some(better) = better_clock(site, source, quality, others) {
-            add_finding(findings, source, What::BetterClock(better))?;
-        }
+    if let Some(better) = quality.and_then(|quality| better_clock(site, source, quality, others)) {
+        add_finding(findings, source, What::BetterClock(better))?;
     }
     Ok(())
 }
@@ -61,61 +45,17 @@ fn judge_properties(
     limits: Limits,
     findings: &mut Vec<Finding<'_>>,
 ) -> Added {
-    judge_traceability(source, quality, time, findings)?;
-    judge_validity(source, time, findings)?;
-    judge_utc_offset(source, time, limits, findings)?;
-    judge_leap(source, time, findings)
-}
-
-/// `utc_invalid`.
-fn judge_validity(
-    source: Source,
-    time: &TimePropertiesDataSet,
-    findings: &mut Vec<Finding<'_>>,
-) -> Added {
-    match invalid_offset(time) {
-        Some(offset) => add_finding(findings, source, What::UtcInvalid(offset)),
-        None => Ok(()),
+    if let Some(untraceable) = quality.and_then(|quality| not_traceable(quality, time)) {
+        add_finding(findings, source, What::NotTraceable(untraceable))?;
     }
-}
-
-/// `utc_offset`.
-fn judge_utc_offset(
-    source: Source,
-    time: &TimePropertiesDataSet,
-    limits: Limits,
-    findings: &mut Vec<Finding<'_>>,
-) -> Added {
-    match wrong_offset(limits.tai_utc, time) {
-        Some(offset) => add_finding(findings, source, What::UtcOffset(offset)),
-        None => Ok(()),
+    if let Some(offset) = invalid_offset(time) {
+        add_finding(findings, source, What::UtcInvalid(offset))?;
     }
-}
-
-/// `leap`.
-fn judge_leap(
-    source: Source,
-    time: &TimePropertiesDataSet,
-    findings: &mut Vec<Finding<'_>>,
-) -> Added {
-    match announced_leap(time) {
-        Some(leap) => add_finding(findings, source, What::Leap(leap)),
-        None => Ok(()),
+    if let Some(offset) = wrong_offset(limits.tai_utc, time) {
+        add_finding(findings, source, What::UtcOffset(offset))?;
     }
-}
-
-/// `not_traceable`.
-fn judge_traceability(
-    source: Source,
-    quality: Option<ClockQuality>,
-    time: &TimePropertiesDataSet,
-    findings: &mut Vec<Finding<'_>>,
-) -> Added {
-    let Some(quality) = quality else {
-        return Ok(());
-    };
-    match not_traceable(quality, time) {
-        Some(untraceable) => add_finding(findings, source, What::NotTraceable(untraceable)),
-        None => Ok(()),
+    if let Some(leap) = announced_leap(time) {
+        add_finding(findings, source, What::Leap(leap))?;
     }
+    Ok(())
 }

@@ -1,28 +1,24 @@
 //! Loops, each reported at its least clock.
 
-use crate::finding::{Added, Finding, What, report};
+use crate::finding::{Added, Finding, What, add_finding};
 use crate::site::Site;
 use crate::source::Source;
 use ptpm_codec::ClockIdentity;
 use std::alloc::{AllocError, Global};
 use std::cmp::Ordering;
 
-/// Reports `loop`, if a clock is the least of one. `count` is the number of clocks of the site.
+/// Reports `loop` at the least clock of one. `count` is the number of clocks of the site.
 pub fn judge_loop(
     alloc: Global,
     site: &Site,
     source: Source,
-    is_least: bool,
     count: usize,
     findings: &mut Vec<Finding<'_>>,
 ) -> Added {
-    if !is_least {
-        return Ok(());
+    if let Some(clocks) = loop_from(alloc, site, source, count)? {
+        add_finding(findings, source, What::Loop(clocks))?;
     }
-    match loop_from(alloc, site, source, count)? {
-        Some(clocks) => report(findings, source, What::Loop(clocks)),
-        None => Ok(()),
-    }
+    Ok(())
 }
 
 /// The clocks of a loop, from the first one on. Each is followed in the list by the clock that it follows, and the last one

@@ -37,7 +37,13 @@ pub fn open_of<'a>(
         limits,
     };
     let mut findings = Vec::new(alloc);
-    judge_open_of(site, subjects.as_slice(), &known, &mut findings)?;
+    for subject in subjects {
+        if site.is_seen(subject) {
+            judge_open(site, subject, &known, &mut findings)?;
+        } else {
+            judge_open_absent(site, subject, &known, &mut findings)?;
+        }
+    }
     Ok(findings)
 }
 
@@ -56,23 +62,6 @@ struct Known<'a> {
     limits: Limits,
 }
 
-/// What is open at each of these clocks, one after another.
-fn judge_open_of(
-    site: &Site,
-    subjects: &[Source],
-    known: &Known<'_>,
-    findings: &mut Vec<Finding<'_>>,
-) -> Added {
-    for subject in subjects {
-        if site.is_seen(*subject) {
-            judge_open(site, *subject, known, findings)?;
-        } else {
-            judge_open_absent(site, *subject, known, findings)?;
-        }
-    }
-    Ok(())
-}
-
 /// What is open at a clock that is not seen: `mute`, by Delay_Req; and `not_asked`, at the first clock that sends in a domain.
 fn judge_open_absent(
     site: &Site,
@@ -81,7 +70,7 @@ fn judge_open_absent(
     findings: &mut Vec<Finding<'_>>,
 ) -> Added {
     let (evidence, sources) = (known.evidence, known.sources);
-    if let Some(why) = open_mute(site, evidence, subject, sources) {
+    if let Some(why) = open_mute(evidence, subject, sources) {
         add_finding(findings, subject, What::Unseen(why))?;
     }
     if let Some(clocks) = not_asked(site, evidence, subject, sources, known.senders) {
@@ -97,30 +86,33 @@ fn judge_open(
     known: &Known<'_>,
     findings: &mut Vec<Finding<'_>>,
 ) -> Added {
-    let (alloc, limits) = (known.alloc, known.limits);
-    let ports = site.ports(alloc, source)?;
-    judge_open_states(alloc, site, source, ports.as_slice(), limits, findings)?;
-    judge_open_locks(site, source, ports.as_slice(), known, findings)?;
-    judge_open_intervals(site, source, ports.as_slice(), known, findings)?;
-    judge_open_twins(site, source, ports.as_slice(), known, findings)
+    let ports = site.ports(known.alloc, source)?;
+    let ports = ports.as_slice();
+    judge_open_states(site, source, ports, known, findings)?;
+    judge_open_locks(site, source, ports, known, findings)?;
+    judge_open_intervals(site, source, ports, known, findings)?;
+    judge_open_twins(site, source, ports, known, findings)
 }
 
 /// `port_state`, for a clock with these ports. Nothing is open where a port has the finding.
 fn judge_open_states(
-    alloc: Global,
     site: &Site,
     source: Source,
     ports: &[u16],
-    limits: Limits,
+    known: &Known<'_>,
     findings: &mut Vec<Finding<'_>>,
 ) -> Added {
-    let mut found = Vec::new(alloc);
-    judge_ports(site, source, ports, limits, &mut found)?;
-    if found.is_empty() {
-        add_open_states(site, source, ports, limits, findings)
-    } else {
-        Ok(())
+    let mut found = Vec::new(known.alloc);
+    judge_ports(site, source, ports, known.limits, &mut found)?;
+    if !found.is_empty() {
+        return Ok(());
     }
+    for port in ports {
+        if let Some(stay) = open_state(site, known.limits, source, *port) {
+            add_finding(findings, source, What::PortState(*port, stay))?;
+        }
+    }
+    Ok(())
 }
 
 /// `not_locked`, for a clock with these ports. Nothing is open where a port has the finding, or `intervals`.
@@ -134,11 +126,15 @@ fn judge_open_locks(
     let mut found = Vec::new(known.alloc);
     judge_locks(site, source, ports, known.limits, &mut found)?;
     judge_intervals(site, known.evidence, source, ports, &mut found)?;
-    if found.is_empty() {
-        add_open_locks(site, source, ports, known.limits, findings)
-    } else {
-        Ok(())
+    if !found.is_empty() {
+        return Ok(());
     }
+    for port in ports {
+        if let Some(unlocked) = open_lock(site, known.limits, source, *port) {
+            add_finding(findings, source, What::NotLocked(*port, unlocked))?;
+        }
+    }
+    Ok(())
 }
 
 /// `intervals`, for a clock with these ports. Nothing is open where a port has the finding.
@@ -151,11 +147,15 @@ fn judge_open_intervals(
 ) -> Added {
     let mut found = Vec::new(known.alloc);
     judge_intervals(site, known.evidence, source, ports, &mut found)?;
-    if found.is_empty() {
-        add_open_seldoms(site, known.evidence, source, ports, findings)
-    } else {
-        Ok(())
+    if !found.is_empty() {
+        return Ok(());
     }
+    for port in ports {
+        if let Some(seldom) = open_seldom(site, known.evidence, source, *port) {
+            add_finding(findings, source, What::Announces(*port, seldom))?;
+        }
+    }
+    Ok(())
 }
 
 /// `identity_twice`, for a clock with these ports. It is open where two offsets in one look alone show it.
@@ -166,69 +166,14 @@ fn judge_open_twins(
     known: &Known<'_>,
     findings: &mut Vec<Finding<'_>>,
 ) -> Added {
-    if has_twins(site, source, ports, known)? {
+    let mut found = Vec::new(known.alloc);
+    judge_twice(known.alloc, site, source, ports, &mut found)?;
+    judge_addresses(site, known.twins, source, &mut found)?;
+    if !found.is_empty() {
         return Ok(());
     }
     match open_offsets(site.answers(source, Asked::CurrentDataSet)) {
         Some(offsets) => add_finding(findings, source, What::TwoOffsets(offsets)),
         None => Ok(()),
     }
-}
-
-/// Whether a clock with these ports has `identity_twice`, by its answers or their addresses.
-fn has_twins(
-    site: &Site,
-    source: Source,
-    ports: &[u16],
-    known: &Known<'_>,
-) -> Result<bool, AllocError> {
-    let mut found = Vec::new(known.alloc);
-    judge_twice(known.alloc, site, source, ports, &mut found)?;
-    judge_addresses(site, known.twins, source, &mut found)?;
-    Ok(!found.is_empty())
-}
-
-fn add_open_states(
-    site: &Site,
-    source: Source,
-    ports: &[u16],
-    limits: Limits,
-    findings: &mut Vec<Finding<'_>>,
-) -> Added {
-    for port in ports {
-        if let Some(stay) = open_state(site, limits, source, *port) {
-            add_finding(findings, source, What::PortState(*port, stay))?;
-        }
-    }
-    Ok(())
-}
-
-fn add_open_locks(
-    site: &Site,
-    source: Source,
-    ports: &[u16],
-    limits: Limits,
-    findings: &mut Vec<Finding<'_>>,
-) -> Added {
-    for port in ports {
-        if let Some(unlocked) = open_lock(site, limits, source, *port) {
-            add_finding(findings, source, What::NotLocked(*port, unlocked))?;
-        }
-    }
-    Ok(())
-}
-
-fn add_open_seldoms(
-    site: &Site,
-    evidence: &Evidence,
-    source: Source,
-    ports: &[u16],
-    findings: &mut Vec<Finding<'_>>,
-) -> Added {
-    for port in ports {
-        if let Some(seldom) = open_seldom(site, evidence, source, *port) {
-            add_finding(findings, source, What::Announces(*port, seldom))?;
-        }
-    }
-    Ok(())
 }

@@ -1,7 +1,6 @@
 //! The grandmasters that lead, and what is said of each: by itself, by its Announce, or by a clock that follows it.
 
-use crate::announces::AnnouncedGrandmaster;
-use crate::data_sets::{DefaultDataSet, ParentDataSet, TimePropertiesDataSet};
+use crate::data_sets::TimePropertiesDataSet;
 use crate::domain::Domain;
 use crate::evidence::Evidence;
 use crate::grandmasters::names;
@@ -59,23 +58,16 @@ impl Leader {
     }
 }
 
-fn own_attributes(default: &DefaultDataSet) -> Attributes {
-    Attributes {
-        quality: default.quality,
-        priority1: default.priority1,
-        priority2: default.priority2,
-    }
-}
-
 /// A clock that is seen and leads, by its own data sets.
 fn leader_by_answers(site: &Site, source: Source) -> Option<Leader> {
     if !site.leads_by_answers(source) {
         return None;
     }
-    let attributes = match site.default(source) {
-        Some(default) => Some(own_attributes(&default)),
-        None => None,
-    };
+    let attributes = site.default(source).map(|default| Attributes {
+        quality: default.quality,
+        priority1: default.priority1,
+        priority2: default.priority2,
+    });
     Some(Leader {
         source,
         heard: HeardBy::Answer,
@@ -84,29 +76,18 @@ fn leader_by_answers(site: &Site, source: Source) -> Option<Leader> {
     })
 }
 
-/// The sender of an Announce, if that says that its sender is the grandmaster.
-fn leader_announced(source: Source, announced: &AnnouncedGrandmaster) -> Option<Leader> {
-    if announced.clock == source.clock && announced.steps_removed == 0 {
-        Some(Leader {
-            source,
-            heard: HeardBy::Announce,
-            attributes: Some(announced.attributes),
-            time: Some(announced.time),
-        })
-    } else {
-        None
+/// A clock that leads by its last Announce: that says that its sender is the grandmaster.
+fn leader_by_announce(evidence: &Evidence, source: Source) -> Option<Leader> {
+    let announced = evidence.announcers.get(&source)?.grandmaster?;
+    if announced.clock != source.clock || announced.steps_removed != 0 {
+        return None;
     }
-}
-
-/// A clock that leads by its last Announce.
-fn leader_by_announce(site: &Site, evidence: &Evidence, source: Source) -> Option<Leader> {
-    let announced = evidence.announcers.get(&source)?;
-    leader_announced(source, &announced.grandmaster?)
-}
-
-/// Whether the parent of a clock names this grandmaster too, if it is seen.
-fn is_agreed(site: &Site, source: Source, parent: Source) -> bool {
-    !site.is_seen(parent) || names(site, source, parent)
+    Some(Leader {
+        source,
+        heard: HeardBy::Announce,
+        attributes: Some(announced.attributes),
+        time: Some(announced.time),
+    })
 }
 
 /// A clock with a port in SLAVE or UNCALIBRATED, and the grandmaster that it names, if its parent does so too or is not seen.
@@ -114,7 +95,8 @@ fn witness_of(site: &Site, source: Source) -> Option<Witness> {
     let set = site.parent(source)?;
     let grandmaster = source.beside(set.grandmaster);
     let parent = source.beside(set.parent.clock);
-    if site.has_port_of(source, PortGroup::Taking) && is_agreed(site, grandmaster, parent) {
+    let is_agreed = !site.is_seen(parent) || names(site, grandmaster, parent);
+    if site.has_port_of(source, PortGroup::Taking) && is_agreed {
         Some(Witness {
             grandmaster,
             follower: source,
@@ -124,73 +106,37 @@ fn witness_of(site: &Site, source: Source) -> Option<Witness> {
     }
 }
 
-/// Those of these clocks that speak for the grandmaster that they name.
-fn witnesses_among(
-    alloc: Global,
-    site: &Site,
-    sources: &[Source],
-) -> Result<Vec<Witness>, AllocError> {
-    let mut found = Vec::new(alloc);
-    for source in sources {
-        let Some(witness) = witness_of(site, *source) else {
-            continue;
-        };
-        found.push(witness)?;
-    }
-    Ok(found)
-}
-
 /// All clocks that speak for the grandmaster that they name. `sources` has all clocks that are seen.
 pub fn all_witnesses(
     alloc: Global,
     site: &Site,
     sources: &[Source],
 ) -> Result<Vec<Witness>, AllocError> {
-    witnesses_among(alloc, site, sources)
-}
-
-/// The first of these that speaks for a grandmaster.
-fn first_of(source: Source, witnesses: &[Witness]) -> Option<&Witness> {
-    witnesses
-        .iter()
-        .find(|witness| witness.grandmaster == source)
-}
-
-fn told_attributes(set: &ParentDataSet) -> Attributes {
-    Attributes {
-        quality: set.quality,
-        priority1: set.priority1,
-        priority2: set.priority2,
+    let mut found = Vec::new(alloc);
+    for source in sources {
+        if let Some(witness) = witness_of(site, *source) {
+            found.push(witness)?;
+        }
     }
+    Ok(found)
 }
 
-/// A grandmaster by what a clock says of it.
-fn leader_told(site: &Site, source: Source, other: Source) -> Option<Leader> {
-    let set = site.parent(other)?;
+/// A clock that leads, by what the least of those says of it that follow it.
+fn leader_by_followers(site: &Site, source: Source, witnesses: &[Witness]) -> Option<Leader> {
+    let witness = witnesses
+        .iter()
+        .find(|witness| witness.grandmaster == source)?;
+    let set = site.parent(witness.follower)?;
     Some(Leader {
         source,
         heard: HeardBy::Followers,
-        attributes: Some(told_attributes(&set)),
-        time: site.time(other),
+        attributes: Some(Attributes {
+            quality: set.quality,
+            priority1: set.priority1,
+            priority2: set.priority2,
+        }),
+        time: site.time(witness.follower),
     })
-}
-
-/// A clock that leads by the least of those that follow it.
-fn leader_by_followers(site: &Site, source: Source, witnesses: &[Witness]) -> Option<Leader> {
-    let witness = first_of(source, witnesses)?;
-    leader_told(site, source, witness.follower)
-}
-
-fn leader_unseen(
-    site: &Site,
-    evidence: &Evidence,
-    source: Source,
-    witnesses: &[Witness],
-) -> Option<Leader> {
-    match leader_by_announce(site, evidence, source) {
-        Some(leader) => Some(leader),
-        None => leader_by_followers(site, source, witnesses),
-    }
 }
 
 /// A clock, if it leads, with what is said of it.
@@ -201,28 +147,12 @@ pub fn leader_of(
     witnesses: &[Witness],
 ) -> Option<Leader> {
     if site.is_seen(source) {
-        leader_by_answers(site, source)
-    } else {
-        leader_unseen(site, evidence, source, witnesses)
+        return leader_by_answers(site, source);
     }
-}
-
-/// Those of these clocks that lead.
-fn leaders_among(
-    alloc: Global,
-    site: &Site,
-    evidence: &Evidence,
-    subjects: &[Source],
-    witnesses: &[Witness],
-) -> Result<Vec<Leader>, AllocError> {
-    let mut found = Vec::new(alloc);
-    for subject in subjects {
-        let Some(leader) = leader_of(site, evidence, *subject, witnesses) else {
-            continue;
-        };
-        found.push(leader)?;
+    match leader_by_announce(evidence, source) {
+        Some(leader) => Some(leader),
+        None => leader_by_followers(site, source, witnesses),
     }
-    Ok(found)
 }
 
 /// All grandmasters that lead, by domain and identity.
@@ -231,32 +161,18 @@ pub fn leaders_of(alloc: Global, site: &Site) -> Result<Vec<Leader>, AllocError>
     let subjects = subjects_of(alloc, site, sources.as_slice())?;
     let evidence = Evidence::of(alloc, site.all_heard())?;
     let witnesses = all_witnesses(alloc, site, sources.as_slice())?;
-    leaders_among(
-        alloc,
-        site,
-        &evidence,
-        subjects.as_slice(),
-        witnesses.as_slice(),
-    )
+    let mut found = Vec::new(alloc);
+    for subject in subjects {
+        if let Some(leader) = leader_of(site, &evidence, subject, witnesses.as_slice()) {
+            found.push(leader)?;
+        }
+    }
+    Ok(found)
 }
 
 /// Whether one that leads is seen, or mute. `sources` has all clocks that are seen.
 pub fn is_present(site: &Site, evidence: &Evidence, leader: &Leader, sources: &[Source]) -> bool {
-    site.is_seen(leader.source) || is_mute(site, evidence, leader.source, sources)
-}
-
-fn present_among(
-    alloc: Global,
-    site: &Site,
-    evidence: &Evidence,
-    leaders: &[Leader],
-    sources: &[Source],
-) -> Result<Vec<Leader>, AllocError> {
-    leaders
-        .iter()
-        .copied()
-        .filter(|leader| is_present(site, evidence, leader, sources))
-        .collect(alloc)
+    site.is_seen(leader.source) || is_mute(evidence, leader.source, sources)
 }
 
 /// Those of all that lead that are seen, or mute. `sources` has all clocks that are seen.
@@ -267,7 +183,11 @@ pub fn present_leaders(
     sources: &[Source],
 ) -> Result<Vec<Leader>, AllocError> {
     let all = leaders_of(alloc, site)?;
-    present_among(alloc, site, evidence, all.as_slice(), sources)
+    all.as_slice()
+        .iter()
+        .copied()
+        .filter(|leader| is_present(site, evidence, leader, sources))
+        .collect(alloc)
 }
 
 /// How many of these lead in a domain.

@@ -1,7 +1,7 @@
 //! What a clock that leads says of its time: its clockClass (7.6.2.5) and its TIME_PROPERTIES_DATA_SET (8.2.4). And a clock that
 //! would be a better grandmaster.
 
-use crate::data_sets::{DefaultDataSet, TimePropertiesDataSet};
+use crate::data_sets::TimePropertiesDataSet;
 use crate::site::Site;
 use crate::source::Source;
 use ptpm_codec::ClockIdentity;
@@ -80,15 +80,10 @@ pub fn without_source(quality: ClockQuality) -> Option<Degraded> {
     })
 }
 
-/// Whether a clock of this class has, or had, a primary source of time.
-fn has_source(class: u8) -> bool {
-    class == 6 || class == 7
-}
-
 /// What a clock of class 6 or 7 says, if it isn't that its time and its frequency are traceable.
 pub fn not_traceable(quality: ClockQuality, time: &TimePropertiesDataSet) -> Option<Untraceable> {
     let class = quality.class;
-    if has_source(class)
+    if (class == 6 || class == 7)
         && time.ptp_timescale
         && !(time.time_traceable && time.frequency_traceable)
     {
@@ -135,15 +130,12 @@ pub fn announced_leap(time: &TimePropertiesDataSet) -> Option<Leap> {
     }
 }
 
-/// Whether a clock may lead, and is of a class below 128.
-fn may_lead(default: &DefaultDataSet) -> bool {
-    !default.slave_only && default.quality.class < 128
-}
-
 /// Whether a clock that may lead, of a class below 128, does not.
 fn stands_by(site: &Site, source: Source) -> bool {
     match site.default(source) {
-        Some(default) => may_lead(&default) && !site.leads_by_answers(source),
+        Some(default) => {
+            !default.slave_only && default.quality.class < 128 && !site.leads_by_answers(source)
+        }
         None => false,
     }
 }
@@ -161,27 +153,18 @@ pub fn all_standing_by(
         .collect(alloc)
 }
 
-/// Whether another clock of the domain is of a better class.
-fn is_better(site: &Site, source: Source, class: u8, other: Source) -> bool {
-    if source.domain != other.domain {
-        return false;
+/// Another clock of the domain, if it is of a better class than the one that leads.
+fn better_of(site: &Site, source: Source, class: u8, other: Source) -> Option<Better> {
+    let default = site.default(other)?;
+    if source.domain != other.domain || class <= default.quality.class {
+        return None;
     }
-    match site.default(other) {
-        Some(default) => default.quality.class < class,
-        None => false,
-    }
-}
-
-/// The first of these clocks that is of a better class than the one that leads.
-fn first_better<'a>(
-    site: &Site,
-    source: Source,
-    class: u8,
-    others: &'a [Source],
-) -> Option<&'a Source> {
-    others
-        .iter()
-        .find(|other| is_better(site, source, class, **other))
+    Some(Better {
+        class,
+        clock: other.clock,
+        quality: default.quality,
+        priority1: default.priority1,
+    })
 }
 
 /// A clock of a better class than the one that leads. `others` has all clocks that stand by.
@@ -191,13 +174,11 @@ pub fn better_clock(
     quality: ClockQuality,
     others: &[Source],
 ) -> Option<Better> {
-    let class = quality.class;
-    let other = first_better(site, source, class, others)?;
-    let better = site.default(*other)?;
-    Some(Better {
-        class,
-        clock: other.clock,
-        quality: better.quality,
-        priority1: better.priority1,
-    })
+    for other in others {
+        let better = better_of(site, source, quality.class, *other);
+        if better.is_some() {
+            return better;
+        }
+    }
+    None
 }

@@ -2,7 +2,7 @@
 
 ghost use Rattle.std.specs.Prelude.{◌+◌, ◌≤◌, length};
 
-use crate::heard::{FOLLOW_UP, Heard, SYNC, Sender, sender_in};
+use crate::heard::{FOLLOW_UP, Heard, SYNC, sender_in};
 use crate::leaders::Leader;
 use crate::limits::Limits;
 use crate::numbers::flag_at;
@@ -37,89 +37,56 @@ fn timestamp_at(octets: &[u8], place: usize) -> Option<u64>
     Some(seconds * 1_000_000_000 + part)
 }
 
-/// Whether a message of this sender has an origin: a Follow_Up, or a Sync of a clock of one step.
-fn says_origin(sender: &Sender, datagram: &[u8]) -> bool
-    requires { 44 ≤ length datagram.now }
-{
-    sender.kind == FOLLOW_UP || sender.kind == SYNC && !flag_at(datagram, 6, 1)
-}
-
-fn origin_of(sender: &Sender, at: u64, datagram: &[u8]) -> Option<Origin> {
-    if datagram.len() < 44 || !says_origin(sender, datagram) {
+/// What a datagram says of the time of its sender, if it is known when it came. A Follow_Up says it, or a Sync of a clock of one step.
+pub fn origin_in(at: Option<u64>, datagram: &[u8]) -> Option<Origin> {
+    let (sender, at) = (sender_in(datagram)?, at?);
+    if datagram.len() < 44 {
         return None;
     }
-    let time = timestamp_at(datagram, 34)?;
+    if sender.kind != FOLLOW_UP && (sender.kind != SYNC || flag_at(datagram, 6, 1)) {
+        return None;
+    }
     Some(Origin {
         source: sender.source,
-        time,
+        time: timestamp_at(datagram, 34)?,
         at,
     })
 }
 
-fn origin_at(at: Option<u64>, datagram: &[u8], sender: &Sender) -> Option<Origin> {
-    origin_of(sender, at?, datagram)
-}
-
-/// What a datagram says of the time of its sender, if it is known when it came.
-pub fn origin_in(at: Option<u64>, datagram: &[u8]) -> Option<Origin> {
-    origin_at(at, datagram, &sender_in(datagram)?)
-}
-
-fn is_origin_of(source: Source, heard: &Heard) -> bool {
+/// What was heard of a clock's time.
+fn origin_of(source: Source, heard: &Heard) -> Option<Origin> {
     match heard {
-        Heard::Timed(origin) => origin.source == source,
-        _ => false,
-    }
-}
-
-fn origin_heard(heard: &Heard) -> Option<Origin> {
-    match heard {
-        Heard::Timed(origin) => Some(*origin),
+        Heard::Timed(origin) if origin.source == source => Some(*origin),
         _ => None,
     }
 }
 
-/// Whether it is the time of the host that asks, within half a second.
-fn is_as_here(origin: &Origin) -> bool {
-    let Origin { time, at, .. } = *origin;
-    time.saturating_sub(at) + at.saturating_sub(time) <= HALF_SECOND
-}
-
-fn as_here(origin: Origin) -> Option<Origin> {
-    if is_as_here(&origin) {
-        Some(origin)
-    } else {
-        None
-    }
-}
-
-/// Whether a clock that leads is said to have the timescale PTP, which is TAI.
-fn says_tai(leader: &Leader) -> bool {
-    match leader.time {
-        Some(time) => time.ptp_timescale,
-        None => false,
-    }
-}
-
 /// The last thing that was heard of a clock's time.
-fn last_origin(heard: &[Heard], source: Source) -> Option<&Heard> {
-    heard.iter().rev().find(|heard| is_origin_of(source, heard))
+fn last_origin(heard: &[Heard], source: Source) -> Option<Origin> {
+    for one in heard.iter().rev() {
+        let origin = origin_of(source, one);
+        if origin.is_some() {
+            return origin;
+        }
+    }
+    None
 }
 
-/// What a clock that leads said last of its time, if that is the time of the host that asks. That has UTC, and the clock says that
-/// it gives TAI.
+/// What a clock that leads said last of its time, if that is the time of the host that asks, within half a second. That has UTC,
+/// and the clock says that it gives the timescale PTP, which is TAI.
 pub fn utc_by_host(
     site: &Site,
     limits: Limits,
     source: Source,
     leader: Option<Leader>,
 ) -> Option<Origin> {
-    if !limits.is_synchronised {
+    if !limits.is_synchronised || !leader?.time?.ptp_timescale {
         return None;
     }
-    if !says_tai(&leader?) {
+    let origin = last_origin(site.all_heard(), source)?;
+    let Origin { time, at, .. } = origin;
+    if HALF_SECOND < time.saturating_sub(at) + at.saturating_sub(time) {
         return None;
     }
-    let heard = last_origin(site.all_heard(), source)?;
-    as_here(origin_heard(heard)?)
+    Some(origin)
 }

@@ -69,33 +69,22 @@ pub struct Steps {
 /// The stepsRemoved of a clock, if it is wrong. It should be 0 at a grandmaster, and otherwise one more than that of the
 /// clock that it follows.
 pub fn wrong_steps(site: &Site, source: Source) -> Option<Steps> {
-    let current = site.current(source)?;
+    let steps = site.current(source)?.steps_removed;
     if site.is_own_grandmaster(source) {
-        return steps_at_grandmaster(current.steps_removed);
+        let parent = None;
+        return if steps == 0 {
+            None
+        } else {
+            Some(Steps { steps, parent })
+        };
     }
     let parent = site.followed(source)?;
-    let above = site.current(source.beside(parent.clock))?;
-    steps_below(current.steps_removed, above.steps_removed)
-}
-
-fn steps_at_grandmaster(steps: u16) -> Option<Steps> {
-    if steps == 0 {
-        None
-    } else {
-        Some(Steps {
-            steps,
-            parent: None,
-        })
+    let above = site.current(source.beside(parent.clock))?.steps_removed;
+    if u32::from(steps) == u32::from(above) + 1 {
+        return None;
     }
-}
-
-fn steps_below(steps: u16, above: u16) -> Option<Steps> {
-    if steps as u32 == above as u32 + 1 {
-        None
-    } else {
-        Some(Steps {
-            steps,
-            parent: Some(above),
-        })
-    }
+    Some(Steps {
+        steps,
+        parent: Some(above),
+    })
 }

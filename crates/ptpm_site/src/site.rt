@@ -1,7 +1,6 @@
 //! The clocks of a site, by the answers that were taken.
 
-use crate::answer::{Answer, Request};
-use crate::answer_content::AnswerContent;
+use crate::answer::Answer;
 use crate::asked::Asked;
 use crate::clock::{Clock, Received};
 use crate::data_sets::{
@@ -45,33 +44,8 @@ impl Site {
             at,
             content,
         } = answer;
-        self.place(alloc, source)?;
-        self.add_content(alloc, source, request, at, content)?;
-        Ok(())
-    }
-
-    /// Adds a clock that has no answers yet, unless it is there.
-    fn place(&mut self, alloc: Global, source: Source) -> Result<(), AllocError> {
-        if self.clocks.contains_key(&source) {
-            return Ok(());
-        }
-        self.clocks.insert(source, Clock::new(alloc))?;
-        Ok(())
-    }
-
-    /// Takes what an answer says of a clock that is there.
-    fn add_content(
-        &mut self,
-        alloc: Global,
-        source: Source,
-        request: Request,
-        at: Option<u64>,
-        content: AnswerContent,
-    ) -> Result<(), AllocError> {
-        if let Some(clock) = self.clocks.get_mut(&source) {
-            clock.take(alloc, request, at, content)?;
-        }
-        Ok(())
+        let clock = self.clocks.entry(source)?.or_insert(Clock::new(alloc));
+        clock.take(alloc, request, at, content)
     }
 
     /// What the datagrams show beside, in the order of the lines.

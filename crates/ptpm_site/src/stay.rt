@@ -45,76 +45,44 @@ pub fn is_another(a: &Request, b: &Request) -> bool {
     a.target == b.target && a.number != b.number
 }
 
-/// When the first answer of a stay came, after an answer that came to an earlier request of the same requester. It is `None` if
-/// that answer was not on the way.
-fn stay_after(
-    request: &Request,
-    since: Option<Option<u64>>,
-    received: &Received,
-) -> Option<Option<u64>> {
-    if !is_another(&received.request, request) {
-        return since;
-    }
-    match received.state() {
-        Some(state) if is_on_the_way(state) => Some(since_this(since, received.at)),
-        _ => None,
-    }
+/// How many nanoseconds are between two times, if both are known.
+pub fn time_between(a: Option<u64>, b: Option<u64>) -> Option<u64> {
+    let (a, b) = (a?, b?);
+    Some(a.saturating_sub(b) + b.saturating_sub(a))
 }
 
-/// When the stay began: as it is known, or else now.
-fn since_this(since: Option<Option<u64>>, at: Option<u64>) -> Option<u64> {
-    match since {
-        Some(since) => since,
-        None => at,
-    }
-}
-
-/// When the first answer came of those on the way with which these end. It is `None` if there is none.
+/// When the first answer came of those on the way with which these end, to earlier requests of the same requester. It is `None` if
+/// there is none.
 fn stay_before(request: &Request, earlier: &[Received]) -> Option<Option<u64>> {
     let mut since = None;
     for received in earlier {
-        since = stay_after(request, since, received);
+        if is_another(&received.request, request) {
+            since = match received.state() {
+                Some(state) if is_on_the_way(state) => Some(since.unwrap_or(received.at)),
+                _ => None,
+            };
+        }
     }
     since
-}
-
-pub fn time_between(a: Option<u64>, b: Option<u64>) -> Option<u64> {
-    match (a, b) {
-        (Some(a), Some(b)) => Some(a.saturating_sub(b) + b.saturating_sub(a)),
-        _ => None,
-    }
-}
-
-fn stay_since(state: PortState, at: Option<u64>, since: Option<Option<u64>>) -> Stay {
-    match since {
-        None => Stay {
-            state,
-            is_seen_twice: false,
-            time: None,
-        },
-        Some(since) => Stay {
-            state,
-            is_seen_twice: true,
-            time: time_between(at, since),
-        },
-    }
-}
-
-/// The stay of a port whose last answer says this state, after these answers.
-fn stay_by(last: &Received, earlier: &[Received], state: PortState) -> Option<Stay> {
-    if is_faulty(state) {
-        Some(stay_since(state, last.at, None))
-    } else if is_on_the_way(state) {
-        let since = stay_before(&last.request, earlier);
-        Some(stay_since(state, last.at, since))
-    } else {
-        None
-    }
 }
 
 /// How a port is that answered so, if it is FAULTY or on its way.
 pub fn stay_of(received: &[Received]) -> Option<Stay> {
     let (last, earlier) = received.split_last()?;
     let state = last.state()?;
-    stay_by(last, earlier, state)
+    let since = if is_faulty(state) {
+        None
+    } else if is_on_the_way(state) {
+        stay_before(&last.request, earlier)
+    } else {
+        return None;
+    };
+    Some(Stay {
+        state,
+        is_seen_twice: since.is_some(),
+        time: match since {
+            Some(since) => time_between(last.at, since),
+            None => None,
+        },
+    })
 }

@@ -26,38 +26,27 @@ fn may_listen(site: &Site, source: Source) -> bool {
     }
 }
 
-/// Whether a port of this clock may not stay in a state. UNCALIBRATED is left out.
-fn is_wrong(site: &Site, source: Source, state: PortState) -> bool {
-    match state {
-        PortState::Uncalibrated => false,
-        PortState::Listening => !may_listen(site, source),
-        _ => true,
-    }
-}
-
+/// A stay in a state in which a port of this clock may not stay. UNCALIBRATED is left out.
 fn wrong_stay(site: &Site, source: Source, stay: Stay) -> Option<Stay> {
-    if is_wrong(site, source, stay.state) {
-        Some(stay)
-    } else {
-        None
+    match stay.state {
+        PortState::Uncalibrated => None,
+        PortState::Listening if may_listen(site, source) => None,
+        _ => Some(stay),
     }
 }
 
-fn is_unlocked(state: PortState) -> bool {
-    matches!(state, PortState::Uncalibrated)
-}
-
+/// A stay in UNCALIBRATED.
 fn unlocked_stay(site: &Site, source: Source, stay: Stay) -> Option<Unlocked> {
-    if !is_unlocked(stay.state) {
-        return None;
+    match stay.state {
+        PortState::Uncalibrated => Some(Unlocked {
+            time: stay.time,
+            offset: match site.current(source) {
+                Some(current) => Some(current.offset_from_master),
+                None => None,
+            },
+        }),
+        _ => None,
     }
-    Some(Unlocked {
-        time: stay.time,
-        offset: match site.current(source) {
-            Some(current) => Some(current.offset_from_master),
-            None => None,
-        },
-    })
 }
 
 /// Whether a stay is one in FAULTY, or in another state for too long.

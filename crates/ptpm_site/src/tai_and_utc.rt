@@ -44,14 +44,6 @@ fn is_about_utc(interval: i64, utc_offset: i16) -> bool {
         || seconds != 1 && is_about(interval, seconds - 1)
 }
 
-/// The same by the currentUtcOffset that a clock says.
-fn is_about_utc_of(site: &Site, interval: i64, source: Source) -> bool {
-    match site.time(source) {
-        Some(time) => is_about_utc(interval, time.utc_offset),
-        None => false,
-    }
-}
-
 /// The same by what is known of UTC, by what the clock says, or by what its grandmaster says.
 fn takes_utc_for_tai(
     site: &Site,
@@ -60,9 +52,13 @@ fn takes_utc_for_tai(
     grandmaster: ClockIdentity,
     interval: i64,
 ) -> bool {
+    let is_about_utc_of = |clock| match site.time(clock) {
+        Some(time) => is_about_utc(interval, time.utc_offset),
+        None => false,
+    };
     is_about_utc(interval, tai_utc)
-        || is_about_utc_of(site, interval, source)
-        || is_about_utc_of(site, interval, source.beside(grandmaster))
+        || is_about_utc_of(source)
+        || is_about_utc_of(source.beside(grandmaster))
 }
 
 /// offsetFromMaster of a clock that follows another, has a port in SLAVE, and takes TAI and UTC for each other.
@@ -103,38 +99,8 @@ pub fn all_followers(
         .collect(alloc)
 }
 
-/// How many of these clocks name a clock.
-fn count_naming(site: &Site, source: Source, followers: &[Source]) -> usize {
-    followers
-        .iter()
-        .filter(|other| names(site, source, **other))
-        .count()
-}
-
-/// How many of these clocks name a clock, and don't take TAI and UTC for each other.
-fn count_well(site: &Site, tai_utc: i16, source: Source, followers: &[Source]) -> usize {
-    followers
-        .iter()
-        .filter(|other| names(site, source, **other) && !is_off_by_utc(site, tai_utc, **other))
-        .count()
-}
-
-/// How many clocks follow, if they are two or more and none of them is right.
-fn all_of(count: usize, well: usize) -> Option<usize> {
-    if 2 <= count && well == 0 {
-        Some(count)
-    } else {
-        None
-    }
-}
-
-/// How many of these clocks name a clock, if they are two or more and each takes TAI and UTC for each other.
-fn all_off(site: &Site, tai_utc: i16, source: Source, followers: &[Source]) -> Option<usize> {
-    let count = count_naming(site, source, followers);
-    all_of(count, count_well(site, tai_utc, source, followers))
-}
-
-/// The same of a clock that leads. `followers` has all clocks that follow another.
+/// How many clocks follow one that leads, if they are two or more and each takes TAI and UTC for each other. `followers` has all
+/// clocks that follow another.
 pub fn followers_off(
     site: &Site,
     tai_utc: i16,
@@ -142,9 +108,15 @@ pub fn followers_off(
     leader: Option<Leader>,
     followers: &[Source],
 ) -> Option<usize> {
-    if leader.is_some() {
-        all_off(site, tai_utc, source, followers)
-    } else {
-        None
+    let _ = leader?;
+    let mut count: usize = 0;
+    for follower in followers {
+        if names(site, source, *follower) {
+            if !is_off_by_utc(site, tai_utc, *follower) {
+                return None;
+            }
+            count = count.saturating_add(1);
+        }
     }
+    if count < 2 { None } else { Some(count) }
 }

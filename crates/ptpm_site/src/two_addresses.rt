@@ -47,68 +47,36 @@ impl Words {
     }
 }
 
-/// How the answer came that was heard.
-fn came_in(heard: &Heard) -> Option<Arrival> {
-    match heard {
-        Heard::Came(arrival) => Some(*arrival),
-        _ => None,
+/// All answers that came from another address than the last one with their passage.
+pub fn all_twins(alloc: Global, heard: &[Heard]) -> Result<Vec<Twins>, AllocError> {
+    let mut last = BTreeMap::new(alloc);
+    for one in heard {
+        if let Heard::Came(arrival) = one {
+            last.insert(arrival.passage, arrival.from)?;
+        }
     }
-}
-
-fn arrivals(alloc: Global, heard: &[Heard]) -> Result<Vec<Arrival>, AllocError> {
     let mut found = Vec::new(alloc);
     for one in heard {
-        let Some(arrival) = came_in(one) else {
-            continue;
-        };
-        found.push(arrival)?;
+        if let Heard::Came(arrival) = one {
+            if let Some(twins) = twins_by(&last, arrival) {
+                found.push(twins)?;
+            }
+        }
     }
     Ok(found)
-}
-
-/// For each passage the address of the last of these answers.
-fn last_addresses(alloc: Global, came: &[Arrival]) -> Result<BTreeMap<Passage, usize>, AllocError> {
-    let mut last = BTreeMap::new(alloc);
-    for arrival in came {
-        last.insert(arrival.passage, arrival.from)?;
-    }
-    Ok(last)
 }
 
 /// The addresses of an answer and of the last one with its passage, if they are two.
-fn twins_by(came: &[Arrival], last: &BTreeMap<Passage, usize>, arrival: &Arrival) -> Option<Twins> {
-    let from = *last.get(&arrival.passage)?;
-    if arrival.from == from {
-        None
-    } else {
-        Some(Twins {
-            source: arrival.passage.port.source,
-            first: arrival.from,
-            second: from,
-        })
+fn twins_by(last: &BTreeMap<Passage, usize>, arrival: &Arrival) -> Option<Twins> {
+    let second = *last.get(&arrival.passage)?;
+    if arrival.from == second {
+        return None;
     }
-}
-
-fn twins_among(
-    alloc: Global,
-    came: &[Arrival],
-    last: &BTreeMap<Passage, usize>,
-) -> Result<Vec<Twins>, AllocError> {
-    let mut found = Vec::new(alloc);
-    for one in came {
-        let Some(twins) = twins_by(came, last, one) else {
-            continue;
-        };
-        found.push(twins)?;
-    }
-    Ok(found)
-}
-
-/// All answers that came from another address than the last one with their passage.
-pub fn all_twins(alloc: Global, heard: &[Heard]) -> Result<Vec<Twins>, AllocError> {
-    let came = arrivals(alloc, heard)?;
-    let last = last_addresses(alloc, came.as_slice())?;
-    twins_among(alloc, came.as_slice(), &last)
+    Some(Twins {
+        source: arrival.passage.port.source,
+        first: arrival.from,
+        second,
+    })
 }
 
 /// The first of these of a clock.
