@@ -1,9 +1,9 @@
 //! The findings of a site that are none by an inventory.
 
-use crate::inventory::{Entry, MemberRule, Rule};
+use crate::inventory::{Entry, Rule};
 use crate::meeting::is_as_wanted;
 use crate::named::Named;
-use crate::senders::{Sending, sender_set};
+use crate::senders::giving;
 use ptpm_members::Member;
 use ptpm_site::domain::Domain;
 use ptpm_site::finding::{Finding, What};
@@ -33,7 +33,7 @@ impl<'a> Held<'a> {
             site,
             entries,
             named: Named::of(alloc, entries)?,
-            heard: sender_set(alloc, site.all_heard(), Sending::OfMaster)?,
+            heard: giving(alloc, site)?,
         })
     }
 
@@ -65,11 +65,7 @@ impl<'a> Held<'a> {
 
 /// Whether one of these entries says who leads in a domain.
 fn has_leaders(entries: &[Entry], domain: Domain) -> bool {
-    entries.iter().any(|entry| names_leaders(entry, domain))
-}
-
-fn names_leaders(entry: &Entry, domain: Domain) -> bool {
-    entry.domain == domain && matches!(entry.rule, Rule::Leaders(_))
+    entries.iter().any(|entry| entry.domain == domain && matches!(entry.rule, Rule::Leaders(_)))
 }
 
 /// Whether one of these entries has what the clockQuality of a clock is.
@@ -80,17 +76,12 @@ fn has_quality(site: &Site, source: Source, entries: &[Entry]) -> bool {
 }
 
 fn is_quality_of(site: &Site, source: Source, entry: &Entry) -> bool {
-    if entry.domain != source.domain {
-        return false;
-    }
-    match &entry.rule {
-        Rule::Member(clock, rule) => *clock == source.clock && is_quality(site, source, rule),
-        Rule::EachMember(rule) => is_quality(site, source, rule),
-        _ => false,
-    }
-}
-
-/// Whether a rule is of clockQuality, and holds.
-fn is_quality(site: &Site, source: Source, rule: &MemberRule) -> bool {
-    matches!(rule.member, Member::ClockQuality) && is_as_wanted(site, source, rule)
+    let rule = match &entry.rule {
+        Rule::Member(clock, rule) if *clock == source.clock => rule,
+        Rule::EachMember(rule) => rule,
+        _ => return false,
+    };
+    entry.domain == source.domain
+        && matches!(rule.member, Member::ClockQuality)
+        && is_as_wanted(site, source, rule)
 }

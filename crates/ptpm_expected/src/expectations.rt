@@ -4,13 +4,10 @@ use crate::held_to_inventory::{hold_to_inventory, keep_open};
 use crate::held_to_profile::hold_to_profile;
 use crate::inventory::Inventory;
 use crate::profile::Profile;
-use crate::telling::Added;
-use ptpm_site::finding::Finding;
 use ptpm_site::left_out::LeftOut;
 use ptpm_site::limits::Limits;
 use ptpm_site::picture::Picture;
 use ptpm_site::site::Site;
-use ptpm_site::source::Source;
 use std::alloc::{AllocError, Global};
 
 /// What a site is held to.
@@ -38,43 +35,15 @@ pub fn picture_of<'a>(
     limits: Limits,
     expectations: Expectations<'a>,
 ) -> Result<Picture<'a>, AllocError> {
-    let sources = site.sources(alloc)?;
     let mut picture = Picture::of(alloc, site, left_out, limits)?;
-    let findings = &mut picture.findings;
-    hold(alloc, site, sources.as_slice(), expectations, findings)?;
+    let sources = site.sources(alloc)?;
+    let sources = sources.as_slice();
+    if let Some(profile) = expectations.profile {
+        hold_to_profile(alloc, site, sources, profile, &mut picture.findings)?;
+    }
     if let Some(inventory) = expectations.inventory {
+        hold_to_inventory(alloc, site, sources, inventory, &mut picture.findings)?;
         keep_open(alloc, site, inventory, &mut picture.open_findings)?;
     }
     Ok(picture)
-}
-
-/// Holds the findings of a site to what is expected of it. `sources` has all clocks.
-fn hold<'a>(
-    alloc: Global,
-    site: &'a Site,
-    sources: &[Source],
-    expectations: Expectations<'a>,
-    findings: &mut Vec<Finding<'a>>,
-) -> Added {
-    match expectations.inventory {
-        Some(inventory) => {
-            hold_to_any_profile(alloc, site, sources, expectations.profile, findings)?;
-            hold_to_inventory(alloc, site, sources, inventory, findings)
-        }
-        None => hold_to_any_profile(alloc, site, sources, expectations.profile, findings),
-    }
-}
-
-/// Holds the findings of a site to a profile, if there is one.
-fn hold_to_any_profile(
-    alloc: Global,
-    site: &Site,
-    sources: &[Source],
-    profile: Option<Profile>,
-    findings: &mut Vec<Finding<'_>>,
-) -> Added {
-    match profile {
-        Some(profile) => hold_to_profile(alloc, site, sources, profile, findings),
-        None => Ok(()),
-    }
 }

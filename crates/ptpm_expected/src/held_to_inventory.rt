@@ -4,7 +4,7 @@ use crate::allowing::Held;
 use crate::inventory::Inventory;
 use crate::judging_inventory::judge_entries;
 use crate::judging_named::{judge_absent, judge_unexpected};
-use crate::order::{FindingKey, put_in_order};
+use crate::order::put_in_order;
 use ptpm_site::finding::Finding;
 use ptpm_site::leaders::leaders_of;
 use ptpm_site::site::Site;
@@ -19,11 +19,14 @@ pub fn hold_to_inventory<'a>(
     inventory: &'a Inventory,
     findings: &mut Vec<Finding<'a>>,
 ) -> Result<(), AllocError> {
-    let held = Held::of(alloc, site, inventory.entries.as_slice())?;
-    keep_what_stays(&held, findings);
-    judge(alloc, &held, sources, findings)?;
-    put_in_order(findings)?;
-    Ok(())
+    let entries = inventory.entries.as_slice();
+    let held = Held::of(alloc, site, entries)?;
+    findings.retain(|finding| !held.allows(finding));
+    let leaders = leaders_of(alloc, site)?;
+    judge_entries(alloc, site, entries, sources, leaders.as_slice(), findings)?;
+    judge_absent(alloc, site, entries, &held.named, findings)?;
+    judge_unexpected(alloc, site, &held.named, sources, findings)?;
+    put_in_order(findings)
 }
 
 /// Takes away of what is open what an inventory allows.
@@ -34,26 +37,6 @@ pub fn keep_open(
     findings: &mut Vec<Finding<'_>>,
 ) -> Result<(), AllocError> {
     let held = Held::of(alloc, site, inventory.entries.as_slice())?;
-    keep_what_stays(&held, findings);
-    Ok(())
-}
-
-/// Takes away what the inventory allows.
-fn keep_what_stays(held: &Held<'_>, findings: &mut Vec<Finding<'_>>) {
     findings.retain(|finding| !held.allows(finding));
-}
-
-/// Adds what is not as the inventory wants it, after all earlier findings.
-fn judge<'a>(
-    alloc: Global,
-    held: &Held<'a>,
-    sources: &[Source],
-    findings: &mut Vec<Finding<'a>>,
-) -> Result<(), AllocError> {
-    let (site, entries) = (held.site, held.entries);
-    let leaders = leaders_of(alloc, site)?;
-    judge_entries(alloc, site, entries, sources, leaders.as_slice(), findings)?;
-    judge_absent(alloc, site, entries, &held.named, findings)?;
-    judge_unexpected(alloc, site, entries, &held.named, sources, findings)?;
     Ok(())
 }

@@ -1,7 +1,7 @@
 //! The findings of a site that is held to a profile.
 
 use crate::judging_profile::judge_profile;
-use crate::order::{FindingKey, put_in_order};
+use crate::order::put_in_order;
 use crate::profile::Profile;
 use ptpm_site::evidence::Evidence;
 use ptpm_site::finding::{Finding, What};
@@ -12,19 +12,12 @@ use std::alloc::{AllocError, Global};
 
 /// Whether a profile leaves a finding as it is. Under AES67 a clock without a source of time may lead.
 fn is_shown(profile: Profile, what: &What<'_>) -> bool {
-    match profile {
-        Profile::Aes67 => match what {
-            What::Degraded(degraded) => {
-                !matches!(degraded.degradation, Degradation::FreeRunning)
-            }
-            _ => true,
-        },
+    match (profile, what) {
+        (Profile::Aes67, What::Degraded(degraded)) => {
+            !matches!(degraded.degradation, Degradation::FreeRunning)
+        }
         _ => true,
     }
-}
-
-fn keep_shown(profile: Profile, findings: &mut Vec<Finding<'_>>) {
-    findings.retain(|finding| is_shown(profile, &finding.what));
 }
 
 /// Adds what a profile does not allow to the findings of a site, and takes away what it allows. `sources` has all clocks.
@@ -35,9 +28,8 @@ pub fn hold_to_profile(
     profile: Profile,
     findings: &mut Vec<Finding<'_>>,
 ) -> Result<(), AllocError> {
-    keep_shown(profile, findings);
+    findings.retain(|finding| is_shown(profile, &finding.what));
     let evidence = Evidence::of(alloc, site.all_heard())?;
     judge_profile(alloc, site, &evidence, profile, sources, findings)?;
-    put_in_order(findings)?;
-    Ok(())
+    put_in_order(findings)
 }

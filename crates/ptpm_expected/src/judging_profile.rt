@@ -2,16 +2,15 @@
 
 use crate::outside::{clock_outside, is_idle, parent_outside, port_outside, timescale_outside};
 use crate::profile::Profile;
-use crate::telling::Added;
 use ptpm_site::evidence::Evidence;
 use ptpm_site::expected::Outside;
-use ptpm_site::finding::{Finding, What, add_finding};
+use ptpm_site::finding::{Added, Finding, What, add_finding};
 use ptpm_site::site::Site;
 use ptpm_site::source::Source;
 use std::alloc::Global;
 
-/// Adds what a profile does not allow at these clocks, after all earlier findings. For each clock its own members come first, and
-/// then its ports.
+/// Adds what a profile does not allow at these clocks, after all earlier findings. For each clock its own members come first:
+/// those of DEFAULT_DATA_SET, and ptpTimescale. Then come its ports.
 pub fn judge_profile(
     alloc: Global,
     site: &Site,
@@ -21,40 +20,17 @@ pub fn judge_profile(
     findings: &mut Vec<Finding<'_>>,
 ) -> Added {
     for source in sources {
-        judge_clock(alloc, site, evidence, profile, *source, findings)?;
+        let source = *source;
+        if let Some(default) = site.default(source) {
+            let outside = clock_outside(profile, source.domain, &default);
+            add_outside(findings, source, &outside)?;
+        }
+        add_outside(findings, source, &[timescale_outside(site, source)])?;
+        for port in site.ports(alloc, source)? {
+            judge_port(site, evidence, profile, source, port, findings)?;
+        }
     }
     Ok(())
-}
-
-fn judge_clock(
-    alloc: Global,
-    site: &Site,
-    evidence: &Evidence,
-    profile: Profile,
-    source: Source,
-    findings: &mut Vec<Finding<'_>>,
-) -> Added {
-    judge_members(site, profile, source, findings)?;
-    let all = site.ports(alloc, source)?;
-    let ports = all.as_slice();
-    for port in ports {
-        judge_port(site, evidence, profile, source, *port, findings)?;
-    }
-    Ok(())
-}
-
-/// The members of the clock: those of DEFAULT_DATA_SET, and ptpTimescale.
-fn judge_members(
-    site: &Site,
-    profile: Profile,
-    source: Source,
-    findings: &mut Vec<Finding<'_>>,
-) -> Added {
-    if let Some(default) = site.default(source) {
-        let outside = clock_outside(profile, source.domain, &default);
-        add_all_outside(findings, source, &outside)?;
-    }
-    add_outside(findings, source, timescale_outside(site, source))
 }
 
 /// The members of a port that takes part.
@@ -72,26 +48,21 @@ fn judge_port(
     if is_idle(set.state()) {
         return Ok(());
     }
-    add_all_outside(findings, source, &port_outside(profile, port, &set))?;
+    add_outside(findings, source, &port_outside(profile, port, &set))?;
     let parent = parent_outside(site, evidence, source, port, &set);
-    add_outside(findings, source, parent)
+    add_outside(findings, source, &[parent])
 }
 
 /// Adds a finding for each of these members that is not allowed.
-fn add_all_outside(
+fn add_outside(
     findings: &mut Vec<Finding<'_>>,
     source: Source,
     members: &[Option<Outside>],
 ) -> Added {
     for outside in members {
-        add_outside(findings, source, *outside)?;
+        if let Some(outside) = *outside {
+            add_finding(findings, source, What::Profile(outside))?;
+        }
     }
     Ok(())
-}
-
-fn add_outside(findings: &mut Vec<Finding<'_>>, source: Source, outside: Option<Outside>) -> Added {
-    match outside {
-        Some(outside) => add_finding(findings, source, What::Profile(outside)),
-        None => Ok(()),
-    }
 }

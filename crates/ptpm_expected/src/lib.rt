@@ -22,7 +22,6 @@ pub mod profile;
 mod quoted;
 pub mod ranges;
 mod senders;
-mod telling;
 mod wanted_values;
 mod words;
 pub mod writing;

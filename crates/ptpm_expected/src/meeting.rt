@@ -3,7 +3,7 @@
 use crate::inventory::MemberRule;
 use crate::numbers::is_between;
 use ptpm_members::{Member, MemberValue};
-use ptpm_site::asked::Asked;
+use ptpm_site::asked::{Asked, OF_CLOCK};
 use ptpm_site::clock::Received;
 use ptpm_site::expected::{Unmet, Wanted};
 use ptpm_site::member::value_of;
@@ -30,38 +30,20 @@ fn has_no_name(value: &MemberValue<'_>) -> bool {
     }
 }
 
-/// Whether a value is one of those that are wanted.
-fn is_met(wanted: &[Wanted], value: &MemberValue<'_>) -> bool {
-    wanted.iter().any(|one| meets(one, value))
-}
-
 /// What the last of the answers to an id says of a member.
 fn last_value(asked: Asked, received: &[Received], member: Member) -> Option<MemberValue<'_>> {
     value_of(asked, received.last()?.octets.as_slice(), member)
 }
 
-/// What a clock says of a member of an id.
-fn id_value(site: &Site, source: Source, asked: Asked, member: Member) -> Option<MemberValue<'_>> {
-    last_value(asked, site.answers(source, asked), member)
-}
-
-/// The first of two values that is there.
-fn first_some<'a>(
-    first: Option<MemberValue<'a>>,
-    second: Option<MemberValue<'a>>,
-) -> Option<MemberValue<'a>> {
-    first.or(second)
-}
-
-/// What a clock says of a member of its own.
+/// What a clock says of a member of its own, by the first id that has it.
 fn clock_value(site: &Site, source: Source, member: Member) -> Option<MemberValue<'_>> {
-    let default = id_value(site, source, Asked::DefaultDataSet, member);
-    let current = id_value(site, source, Asked::CurrentDataSet, member);
-    let parent = id_value(site, source, Asked::ParentDataSet, member);
-    let time = id_value(site, source, Asked::TimePropertiesDataSet, member);
-    let description = id_value(site, source, Asked::UserDescription, member);
-    let properties = first_some(time, description);
-    first_some(default, first_some(current, first_some(parent, properties)))
+    for asked in &OF_CLOCK {
+        let value = last_value(*asked, site.answers(source, *asked), member);
+        if value.is_some() {
+            return value;
+        }
+    }
+    None
 }
 
 /// What a clock says of a member, its own or that of a port.
@@ -80,7 +62,7 @@ pub fn rule_value(
 /// Whether a member is as it is wanted.
 pub fn is_as_wanted(site: &Site, source: Source, rule: &MemberRule) -> bool {
     match rule_value(site, source, rule.port, rule.member) {
-        Some(value) => is_met(rule.wanted.as_slice(), &value),
+        Some(value) => rule.wanted.iter().any(|wanted| meets(wanted, &value)),
         None => false,
     }
 }
