@@ -1,6 +1,9 @@
 //! Findings that may be there for a moment, while a change goes from clock to clock. They count once two looks after each other
 //! have them.
 
+ghost use Rattle.std.specs.Prelude.{◌≡◌, Bool, List, OnErr, OnOk};
+ghost use Rattle.std.specs.List.{items_where_true};
+
 use crate::cause::{Key, named};
 use ptpm_site::finding::Finding;
 use std::alloc::{AllocError, Global};
@@ -12,7 +15,10 @@ pub fn leave_out_momentary(
     alloc: Global,
     before: &[Finding<'_>],
     findings: &mut Vec<Finding<'_>>,
-) -> Result<(), AllocError> {
+) -> Result<(), AllocError>
+    ensures part { OnOk result ((stays : List Bool) × (findings.new.items ≡ items_where_true stays findings.old.items)) }
+    ensures unchanged { OnErr result (findings.new.items ≡ findings.old.items) }
+{
     let names = names_of(alloc, before)?;
     keep_counted(&names, findings);
     Ok(())
@@ -27,7 +33,9 @@ fn names_of(alloc: Global, findings: &[Finding<'_>]) -> Result<BTreeSet<Key>, Al
     Ok(names)
 }
 
-fn keep_counted(names: &BTreeSet<Key>, findings: &mut Vec<Finding<'_>>) {
+fn keep_counted(names: &BTreeSet<Key>, findings: &mut Vec<Finding<'_>>)
+    ensures { (stays : List Bool) × (findings.new.items ≡ items_where_true stays findings.old.items) }
+{
     findings.retain(|finding| is_counted(names, finding));
 }
 
