@@ -56,8 +56,23 @@ pub fn port_above(source: Source, parent: PortIdentity) -> SourcePort {
     }
 }
 
-/// A port whose parent announces too seldom for it. How often that one does is said by the last of its Announces that was heard, or
-/// else by its PORT_DATA_SET.
+/// Whether a parent that announces so announces too seldom for the port.
+fn is_too_seldom(own: &PortDataSet, parent_log: i8) -> bool {
+    outlasts(
+        i16::from(parent_log) - i16::from(own.log_announce),
+        own.receipt_timeout,
+    )
+}
+
+/// How often a port announces, by the last of its Announces that was heard, or else by its PORT_DATA_SET.
+fn announced_log(evidence: &Evidence, port: SourcePort, set: &PortDataSet) -> i8 {
+    match evidence.announced.get(&port) {
+        Some(announced) => announced.log,
+        None => set.log_announce,
+    }
+}
+
+/// A port whose parent announces too seldom for it.
 fn too_seldom(site: &Site, evidence: &Evidence, source: Source, port: u16) -> Option<Seldom> {
     let parent = site.parent(source)?.parent;
     let own = site.port(source, port)?;
@@ -66,12 +81,8 @@ fn too_seldom(site: &Site, evidence: &Evidence, source: Source, port: u16) -> Op
     if evidence.is_by_unicast(above_at) || !takes_time(site, source, &own) {
         return None;
     }
-    let parent_log = match evidence.announced.get(&above_at) {
-        Some(announced) => announced.log,
-        None => above.log_announce,
-    };
-    let intervals = i16::from(parent_log) - i16::from(own.log_announce);
-    if !outlasts(intervals, own.receipt_timeout) {
+    let parent_log = announced_log(evidence, above_at, &above);
+    if !is_too_seldom(&own, parent_log) {
         return None;
     }
     Some(Seldom {

@@ -10,11 +10,6 @@ use ptpm_codec::view;
 use std::alloc::{AllocError, Global};
 
 impl Site {
-    /// Takes a datagram whose time of arrival is unknown.
-    pub fn take_datagram(&mut self, alloc: Global, datagram: &[u8]) -> Result<(), AllocError> {
-        self.take_datagram_at(alloc, None, datagram)
-    }
-
     /// Takes the answer that a datagram has, and what it shows beside. It came at a time, in nanoseconds since 1970. A datagram
     /// that shows nothing is passed over.
     pub fn take_datagram_at(

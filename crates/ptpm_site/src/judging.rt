@@ -32,7 +32,6 @@ pub fn findings_of<'a>(
     limits: Limits,
 ) -> Result<Vec<Finding<'a>>, AllocError> {
     let sources = site.sources(alloc)?;
-    let subjects = subjects_of(alloc, site, sources.as_slice())?;
     let evidence = Evidence::of(alloc, site.all_heard())?;
     let reach = Reach::of(alloc, site.all_heard())?;
     let changes = grandmaster_changes(alloc, site, sources.as_slice())?;
@@ -55,7 +54,7 @@ pub fn findings_of<'a>(
         limits,
     };
     let mut findings = Vec::new(alloc);
-    for subject in subjects {
+    for subject in subjects_of(alloc, site, sources.as_slice())? {
         let leader = leader_of(site, &evidence, subject, witnesses.as_slice());
         if site.is_seen(subject) {
             judge(site, subject, leader, &given, &mut findings)?;
