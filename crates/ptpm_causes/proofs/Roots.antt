@@ -35,11 +35,19 @@ module _ {A : Type 0} (xs : List (Option A)) (places : List (Option ℕ)) (none 
 
 -- one finding at least follows from nothing
 pub some_root : {A : Type 0} (places : List (Option ℕ)) (causes : List (Option A))
-    → length causes ≡ length places
+    → 0 < length places
     → All (λ o. IfSome o (IsRoot places)) places
     → ((p : ℕ) → IsRoot places p → IsRoot causes p)
-    → 0 < length causes
     → (p : ℕ) × IsRoot causes p
-some_root [] causes len h roots lt = absurd (omega (arith, len, lt))
-some_root (None ∷ rest) causes len h roots lt = (0, roots 0 (omega (arith, len, lt), λ d. refl))
-some_root (Some p ∷ rest) causes len h roots lt = (p, roots p (h 0 None (omega (arith, len, lt))))
+some_root [] causes lt h roots = absurd (omega (arith, lt))
+some_root (None ∷ rest) causes lt h roots = (0, roots 0 (lt, λ d. refl))
+some_root (Some p ∷ rest) causes lt h roots = (p, roots p (h 0 None lt))
+
+module _ (places : List (Option ℕ)) (n : ℕ) (len : length places ≡ n) where
+  within_at : (o : Option ℕ) → IfSome o (IsRoot places) → IfSome o (λ p. p < n)
+  within_at None h = h
+  within_at (Some p) h = omega (arith, h.0, len)
+
+  -- each place is that of a finding
+  pub all_within : All (λ o. IfSome o (IsRoot places)) places → All (λ o. IfSome o (λ p. p < n)) places
+  all_within h = All-weaker (λ o. IfSome o (IsRoot places)) (λ o. IfSome o (λ p. p < n)) within_at places h

@@ -14,7 +14,7 @@ use std::alloc::{AllocError, Global};
 /// Of each finding, in their order, from which it follows. That one follows from nothing.
 pub fn causes_of(alloc: Global, picture: &Picture<'_>) -> Result<Vec<Option<Cause>>, AllocError>
     ensures len { IfOk result (λ causes. length causes.items ≡ length picture.now.findings.items) }
-    ensures printed { IfOk result (λ causes. 0 < length causes.items → (place : ℕ) × IsRoot causes.items place) }
+    ensures printed { IfOk result (λ causes. 0 < length picture.now.findings.items → (place : ℕ) × IsRoot causes.items place) }
 {
     let (site, findings) = (picture.site, picture.findings.as_slice());
     let found = Found::of(alloc, site, findings)?;

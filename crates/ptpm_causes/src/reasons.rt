@@ -21,17 +21,16 @@ fn at(kind: Kind, source: Source) -> Cause {
     Cause { kind, source }
 }
 
-/// The first clock above another, by parents, that is not seen, within this number of steps.
-fn unseen_above(steps: u8, site: &Site, source: Source) -> Option<Source> {
-    if steps == 0 {
-        return None;
+/// The first clock above another, by parents, that is not seen, within the longest way.
+fn unseen_above(site: &Site, source: Source) -> Option<Source> {
+    let mut here = source;
+    for _ in 0..LONGEST_WAY {
+        here = here.beside(site.followed(here)?.clock);
+        if !site.is_seen(here) {
+            return Some(here);
+        }
     }
-    let parent = source.beside(site.followed(source)?.clock);
-    if site.is_seen(parent) {
-        unseen_above(steps - 1, site, parent)
-    } else {
-        Some(parent)
-    }
+    None
 }
 
 impl Found {
@@ -55,7 +54,7 @@ impl Found {
         if let Some(cause) = self.unseen_cause(grandmaster) {
             return Some(cause);
         }
-        self.silent_cause(unseen_above(LONGEST_WAY, site, source)?)
+        self.silent_cause(unseen_above(site, source)?)
     }
 
     /// `parent_not_seen` of a clock whose parent this is.

@@ -1,8 +1,7 @@
 -- Each finding so far has a root or none, and none where it follows from nothing.
-use Rattle.std.proofs.Common.{◌≡◌, ℕ, ◌<◌, Option, None, length, get_or}
+use Rattle.std.proofs.Common.{◌≡◌, ℕ, ◌<◌, length}
 use Rattle.std.specs.List.{All}
 use Rattle.std.specs.Option.{IfSome}
-use Rattle.ptpm_causes.specs.declared.cause.Cause.{Cause}
 use Rattle.ptpm_causes.specs.Roots.{IsRoot}
 use Rattle.ptpm_causes.proofs.chains.Chains.places.Given as goal
 
