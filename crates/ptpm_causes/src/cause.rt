@@ -1,5 +1,8 @@
 //! The name of a finding, and the clock at which it is printed.
 
+ghost use Rattle.std.specs.Prelude.{◌≡◌};
+ghost use Rattle.ptpm_causes.specs.Kinds.{kind_of};
+
 use crate::kind::{Kind, kind_of};
 use ptpm_site::finding::{Finding, What};
 use ptpm_site::site::Site;
@@ -39,7 +42,9 @@ fn place_of(source: Source, what: &What<'_>) -> Source {
 }
 
 /// The finding's own name, and the clock at which it is printed.
-pub fn named(finding: &Finding<'_>) -> Cause {
+pub fn named(finding: &Finding<'_>) -> Cause
+    ensures { result.kind ≡ kind_of finding.now.what }
+{
     Cause {
         kind: kind_of(&finding.what),
         source: place_of(finding.source, &finding.what),

@@ -1,5 +1,8 @@
 //! The names of findings.
 
+ghost use Rattle.std.specs.Prelude.{◌≡◌};
+ghost use Rattle.ptpm_causes.specs.Kinds.{absence_kind, degradation_kind, kind_of};
+
 use ptpm_site::finding::What;
 use ptpm_site::leading::Degradation;
 use ptpm_site::unseen::Absence;
@@ -289,7 +292,9 @@ impl Kind {
 }
 
 /// The name of what is wrong.
-pub(crate) fn kind_of(what: &What<'_>) -> Kind {
+pub(crate) fn kind_of(what: &What<'_>) -> Kind
+    ensures { result ≡ kind_of what.now }
+{
     match what {
         What::Absent(_) => Kind::Absent,
         What::Unexpected => Kind::Unexpected,
@@ -329,14 +334,18 @@ pub(crate) fn kind_of(what: &What<'_>) -> Kind {
     }
 }
 
-fn absence_kind(absence: Absence) -> Kind {
+fn absence_kind(absence: Absence) -> Kind
+    ensures { result ≡ absence_kind absence }
+{
     match absence {
         Absence::OwnHost => Kind::OwnHost,
         Absence::Mute(_) => Kind::Mute,
     }
 }
 
-fn degradation_kind(degradation: Degradation) -> Kind {
+fn degradation_kind(degradation: Degradation) -> Kind
+    ensures { result ≡ degradation_kind degradation }
+{
     match degradation {
         Degradation::Holdover => Kind::Holdover,
         Degradation::Degraded => Kind::Degraded,

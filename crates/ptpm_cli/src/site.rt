@@ -2,17 +2,14 @@
 
 use crate::files::{MOST_INVENTORY, read_file};
 use ptpm_commands::Fault;
-use ptpm_expected::expectations::Expectations;
+use ptpm_expected::expectations::{Expectations, picture_of};
 use ptpm_expected::inventory::Inventory;
 use ptpm_expected::inventory_fault::InventoryFault;
 use ptpm_expected::inventory_file::read_inventory;
 use ptpm_expected::profile::Profile;
-use ptpm_site::limits::Limits;
 use ptpm_site_report::ignored::Ignored;
 use ptpm_site_report::names::Names;
-use ptpm_site_report::{
-    Before, Form, Options, Viewing, report_standing, report_viewed, write_inventory,
-};
+use ptpm_site_report::{Before, Form, Options, Viewing, report, write_inventory};
 use std::alloc::Global;
 use std::io::{Read, Write};
 use std::rt::Files;
@@ -37,8 +34,6 @@ pub(crate) struct SiteWords<'a> {
 #[derive(Clone, Copy)]
 pub(crate) enum Shown {
     InForm(Options),
-    /// As a plugin of Nagios does.
-    ByPlugin(Limits),
     /// As an inventory.
     Inventory,
 }
@@ -130,7 +125,9 @@ fn look_at<F: Files, E: Write>(
 /// Ends without a site, since a file was refused. A plugin says so in its line.
 fn end_refused<O: Write>(shown: Shown, what: &str, out: &mut O) -> Result<u8, Fault> {
     match shown {
-        Shown::ByPlugin(_) => {
+        Shown::InForm(Options {
+            form: Form::Plugin, ..
+        }) => {
             writeln!(out, "PTP UNKNOWN - {what} was refused")?;
             Ok(3)
         }
@@ -155,17 +152,22 @@ fn show<R: Read, O: Write>(
         is_all: words.is_all,
         before: known.before.as_ref(),
     };
-    match words.shown {
-        Shown::ByPlugin(limits) => {
-            Ok(report_standing(alloc, limits, expectations, viewing, reader, out)?.status())
-        }
-        Shown::InForm(options) => {
-            let came = report_viewed(alloc, options, expectations, viewing, reader, out)?;
-            Ok(match options.form {
-                Form::OpenMetrics => came.status_of_numbers(),
-                _ => came.status(),
-            })
-        }
-        Shown::Inventory => Ok(write_inventory(alloc, reader, out)?.status()),
-    }
+    let options = match words.shown {
+        Shown::InForm(options) => options,
+        Shown::Inventory => return Ok(write_inventory(alloc, reader, out)?.status()),
+    };
+    let came = report(
+        alloc,
+        picture_of,
+        options,
+        expectations,
+        viewing,
+        reader,
+        out,
+    )?;
+    Ok(match options.form {
+        Form::Plugin => came.standing.status(),
+        Form::OpenMetrics => came.conclusion.status_of_numbers(),
+        _ => came.conclusion.status(),
+    })
 }

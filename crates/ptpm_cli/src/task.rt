@@ -276,9 +276,7 @@ fn most_offset(values: &ArgMatches<'_>) -> Result<Option<u64>, NoTask> {
 /// How `site` shows a site.
 fn how_shown(values: &ArgMatches<'_>) -> Result<Shown, NoTask> {
     let limits = site_limits(values)?;
-    Ok(if values.get_flag("nagios") {
-        Shown::ByPlugin(limits)
-    } else if values.get_flag("write-expect") {
+    Ok(if values.get_flag("write-expect") {
         Shown::Inventory
     } else {
         let form = site_form(values);
@@ -288,7 +286,9 @@ fn how_shown(values: &ArgMatches<'_>) -> Result<Shown, NoTask> {
 
 /// What `site` prints.
 fn site_form(values: &ArgMatches<'_>) -> Form {
-    if values.get_flag("json") {
+    if values.get_flag("nagios") {
+        Form::Plugin
+    } else if values.get_flag("json") {
         Form::Json
     } else if values.get_flag("draw") {
         Form::Drawing

@@ -1,5 +1,8 @@
 //! The look before, which says what of a look may be there only for a moment.
 
+ghost use Rattle.std.specs.Prelude.{◌≡◌, Bool, List, OnOk};
+ghost use Rattle.std.specs.List.{items_where_true};
+
 use crate::site_lines::{SiteLines, read_shown};
 use ptpm_causes::leave_out_momentary;
 use ptpm_commands::Fault;
@@ -29,7 +32,10 @@ impl Before {
         limits: Limits,
         expectations: Expectations<'_>,
         picture: &mut Picture<'_>,
-    ) -> Result<usize, AllocError> {
+    ) -> Result<usize, AllocError>
+        ensures part { OnOk result ((stays : List Bool) × (picture.new.findings.items ≡ items_where_true stays picture.old.findings.items)) }
+        ensures clocks { picture.new.forest ≡ picture.old.forest }
+    {
         let SiteLines { shown, said } = &self.lines;
         let limits = limits.at_host(said.is_synchronised);
         let before = picture_of(alloc, &shown.site, shown.left_out, limits, expectations)?;

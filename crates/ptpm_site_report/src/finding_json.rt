@@ -37,7 +37,7 @@ pub(crate) fn finding_value(
     members.put_value("because", cause_value(alloc, remark.cause)?)?;
     put_place(&mut members, look, remark)?;
     members.put_text("finding", remark.named.kind.name())?;
-    members.put_text("severity", remark.severity().word())?;
+    members.put_text("severity", remark.severity.word())?;
     put_values(&mut members, &remark.finding.what)?;
     Ok(members.object())
 }

@@ -1,6 +1,7 @@
 //! Findings that an operator does not want to see.
 
-ghost use Rattle.std.specs.Prelude.{◌≡◌, []};
+ghost use Rattle.std.specs.Prelude.{◌≡◌};
+ghost use Rattle.ptpm_site_report.specs.Reporting.{is_ignored, wanted};
 
 use ptpm_causes::{Kind, named};
 use ptpm_site::finding::Finding;
@@ -33,15 +34,14 @@ impl Ignored {
 
     /// Takes the findings of these names away.
     pub(crate) fn leave_out(&self, findings: &mut Vec<Finding<'_>>)
-        ensures { self.now.kinds.items ≡ [] → findings.new.items ≡ findings.old.items }
+        ensures { findings.new.items ≡ wanted self.now findings.old.items }
     {
-        if self.kinds.is_empty() {
-            return;
-        }
         findings.retain(|finding| !self.has(finding));
     }
 
-    fn has(&self, finding: &Finding<'_>) -> bool {
+    fn has(&self, finding: &Finding<'_>) -> bool
+        ensures { result ≡ is_ignored self.now finding.now }
+    {
         self.kinds.contains(&named(finding).kind)
     }
 }

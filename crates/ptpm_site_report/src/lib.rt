@@ -44,4 +44,4 @@ pub use before::Before;
 pub use finding_table::findings;
 pub use inventory_text::write_inventory;
 pub use nagios::Standing;
-pub use reporting::{Conclusion, Form, Options, Viewing, report, report_standing, report_viewed};
+pub use reporting::{Came, Conclusion, Form, Options, Viewing, report};

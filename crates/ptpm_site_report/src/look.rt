@@ -1,14 +1,19 @@
 //! A site as it is shown: its picture, and what is said beside it.
 
+ghost use Rattle.std.specs.Prelude.{◌≡◌, ℕ, ◌<◌, IfOk, length, map};
+ghost use Rattle.ptpm_causes.specs.Roots.{IsRoot};
+ghost use Rattle.ptpm_site_report.specs.Reporting.{worst};
+
 use crate::asked_domains::AskedText;
 use crate::names::{Names, Quoted};
 use crate::phrases::clock_of;
-use crate::remarks::Remark;
+use crate::remarks::{Remark, open_of, remarks_of};
 use crate::site_lines::LinesSaid;
-use ptpm_causes::Severity;
+use ptpm_causes::{Severity, causes_of};
 use ptpm_site::finding::Finding;
 use ptpm_site::picture::Picture;
 use ptpm_site::source::Source;
+use std::alloc::{AllocError, Global};
 
 /// A picture, what is said of it, and what is said beside it.
 #[derive(Drop)]
@@ -31,6 +36,27 @@ pub(crate) struct Beside<'a> {
     pub(crate) is_all: bool,
     /// How many findings the look before lacks, and so are left out. `None` if no look before was given.
     pub(crate) momentary: Option<usize>,
+}
+
+impl<'a, 'b> Look<'a, 'b> {
+    /// Each finding of a picture has its remark.
+    pub(crate) fn of(
+        alloc: Global,
+        picture: &'a Picture<'a>,
+        beside: Beside<'b>,
+    ) -> Result<Look<'a, 'b>, AllocError>
+        ensures picture { IfOk result (λ look. look.picture.now ≡ picture.now) }
+        ensures findings { IfOk result (λ look. map (λ r. r.finding.now) look.found.items ≡ picture.now.findings.items) }
+        ensures printed { IfOk result (λ look. 0 < length look.found.items → (place : ℕ) × IsRoot (map (λ r. r.cause) look.found.items) place) }
+    {
+        let causes = causes_of(alloc, picture)?;
+        Ok(Look {
+            picture,
+            found: remarks_of(alloc, picture, causes.as_slice())?,
+            open: open_of(alloc, picture)?,
+            beside,
+        })
+    }
 }
 
 impl Look<'_, '_> {
@@ -77,18 +103,21 @@ impl Look<'_, '_> {
         if text.is_empty() { None } else { Some(text) }
     }
 
-    /// How bad the worst of the findings is. What follows from a clock that can't answer makes it no worse: the time may be right.
-    pub(crate) fn severity(&self) -> Option<Severity> {
-        let mut severity = None;
-        for remark in self.found.as_slice() {
-            if remark.is_of_silence() {
-                continue;
-            }
-            if remark.is_critical() {
-                return Some(Severity::Critical);
-            }
-            severity = Some(Severity::Warning);
+    /// How bad the worst of the findings is that count.
+    pub(crate) fn severity(&self) -> Option<Severity>
+        ensures { result ≡ worst self.now.found.items }
+    {
+        let found = self.found.as_slice();
+        if found
+            .iter()
+            .any(|remark| remark.counts() && remark.is_critical())
+        {
+            Some(Severity::Critical)
+        } else {
+            found
+                .iter()
+                .any(|remark| remark.counts())
+                .then_some(Severity::Warning)
         }
-        severity
     }
 }

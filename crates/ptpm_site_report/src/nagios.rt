@@ -1,5 +1,8 @@
 //! A site as a plugin of Nagios, or of Icinga, shows it: a line, and the findings below it.
 
+ghost use Rattle.std.specs.Prelude.{◌≡◌};
+ghost use Rattle.ptpm_site_report.specs.Reporting.{standing};
+
 use crate::finding_report::FindingReport;
 use crate::look::Look;
 use crate::seconds::{IntervalSeconds, NanosecondSeconds};
@@ -46,8 +49,10 @@ impl Standing {
     }
 
     /// How a site is that is judged: the worst of its findings decides.
-    pub(crate) fn of(look: &Look<'_, '_>) -> Standing {
-        if look.picture.site.is_empty() {
+    pub(crate) fn of(look: &Look<'_, '_>) -> Standing
+        ensures { result ≡ standing look.now.picture.now.forest.sources.items look.now.found.items }
+    {
+        if look.picture.forest.sources.is_empty() {
             return Standing::Unknown;
         }
         match look.severity() {

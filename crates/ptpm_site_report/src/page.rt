@@ -302,7 +302,7 @@ fn print_remark<O: Write>(alloc: Global, remark: &Remark<'_>, out: &mut O) -> Re
 /// How bad it is, in a word that the style has too.
 fn class_of(remark: &Remark<'_>) -> &'static str {
     match remark.weight {
-        Weight::Wrong => remark.severity().word(),
+        Weight::Wrong => remark.severity.word(),
         Weight::Follows => "follows",
         Weight::Open => "open",
     }

@@ -1,5 +1,8 @@
 //! What is said of a site: its findings, each with that from which it follows, and what is open.
 
+ghost use Rattle.std.specs.Prelude.{◌≡◌, IfOk, length, map};
+ghost use Rattle.ptpm_site_report.specs.Reporting.{counts, is_critical};
+
 use crate::finding_text::Said;
 use crate::phrases::clock_of_cause;
 use ptpm_causes::{Cause, Kind, Severity, named};
@@ -26,6 +29,7 @@ pub(crate) struct Remark<'a> {
     pub(crate) finding: &'a Finding<'a>,
     /// Its name, and the clock at which it is printed.
     pub(crate) named: Cause,
+    pub(crate) severity: Severity,
     pub(crate) weight: Weight,
     /// From what it follows.
     pub(crate) cause: Option<Cause>,
@@ -36,20 +40,17 @@ pub(crate) fn remarks_of<'a>(
     alloc: Global,
     picture: &'a Picture<'a>,
     causes: &[Option<Cause>],
-) -> Result<Vec<Remark<'a>>, AllocError> {
+) -> Result<Vec<Remark<'a>>, AllocError>
+    ensures findings { IfOk result (λ remarks. map (λ r. r.finding.now) remarks.items ≡ picture.now.findings.items) }
+    ensures causes { length causes.now ≡ length picture.now.findings.items → IfOk result (λ remarks. map (λ r. r.cause) remarks.items ≡ causes.now) }
+{
     let mut remarks = Vec::new(alloc);
     for (place, finding) in picture.findings.as_slice().iter().enumerate() {
         let (weight, cause) = match causes.get(place) {
             Some(Some(cause)) => (Weight::Follows, Some(*cause)),
             _ => (Weight::Wrong, None),
         };
-        let named = named(finding);
-        remarks.push(Remark {
-            finding,
-            named,
-            weight,
-            cause,
-        })?;
+        remarks.push(remark_of(finding, weight, cause))?;
     }
     Ok(remarks)
 }
@@ -61,15 +62,23 @@ pub(crate) fn open_of<'a>(
 ) -> Result<Vec<Remark<'a>>, AllocError> {
     let mut remarks = Vec::new(alloc);
     for finding in picture.open_findings.as_slice() {
-        let (named, weight, cause) = (named(finding), Weight::Open, None);
-        remarks.push(Remark {
-            finding,
-            named,
-            weight,
-            cause,
-        })?;
+        remarks.push(remark_of(finding, Weight::Open, None))?;
     }
     Ok(remarks)
+}
+
+fn remark_of<'a>(finding: &'a Finding<'a>, weight: Weight, cause: Option<Cause>) -> Remark<'a>
+    ensures finding { result.finding.now ≡ finding.now }
+    ensures cause { result.cause ≡ cause }
+{
+    let named = named(finding);
+    Remark {
+        finding,
+        named,
+        severity: named.kind.row().severity,
+        weight,
+        cause,
+    }
 }
 
 impl Remark<'_> {
@@ -82,19 +91,19 @@ impl Remark<'_> {
         matches!(self.weight, Weight::Wrong)
     }
 
-    pub(crate) fn severity(&self) -> Severity {
-        self.named.kind.row().severity
+    pub(crate) fn is_critical(&self) -> bool
+        ensures { result ≡ is_critical self.now.severity }
+    {
+        matches!(self.severity, Severity::Critical)
     }
 
-    pub(crate) fn is_critical(&self) -> bool {
-        self.severity() == Severity::Critical
-    }
-
-    /// Whether it follows from that a clock is there, and answers no management message.
-    pub(crate) fn is_of_silence(&self) -> bool {
+    /// Whether a site that has it is not sound. What follows from a clock that can't answer does not count: the time may be right.
+    pub(crate) fn counts(&self) -> bool
+        ensures { result ≡ counts self.now.cause }
+    {
         match self.cause {
-            Some(cause) => matches!(cause.kind, Kind::Mute | Kind::OwnHost),
-            None => false,
+            Some(cause) => !matches!(cause.kind, Kind::Mute | Kind::OwnHost),
+            None => true,
         }
     }
 }

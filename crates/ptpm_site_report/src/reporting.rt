@@ -1,9 +1,7 @@
 //! `ptpm site`: a site's tree and what is wrong with it, by the answers among lines of datagrams.
 
-ghost use Rattle.std.specs.Prelude.{◌≡◌, IfOk};
-ghost use Rattle.ptpm_site.specs.Findings.{findings_of, reported};
-ghost use Rattle.ptpm_site.specs.Site.{site_answers};
-ghost use Rattle.ptpm_site_report.specs.Reporting.{outcome, status};
+ghost use Rattle.std.specs.Prelude.{◌≡◌, List, IfOk, MatchOption, OnOk};
+ghost use Rattle.ptpm_site_report.specs.Reporting.{AreConcluded, IsShown, outcome, status};
 
 use crate::before::Before;
 use crate::drawing::draw;
@@ -14,14 +12,15 @@ use crate::nagios::{Standing, print_plugin};
 use crate::names::Names;
 use crate::openmetrics::print_metrics;
 use crate::page::print_page;
-use crate::remarks::{open_of, remarks_of};
-use crate::site_lines::{ShownSite, SiteLines, read_shown};
+use crate::site_lines::{SiteLines, read_shown};
 use crate::text::print_text;
-use ptpm_causes::causes_of;
 use ptpm_commands::Fault;
-use ptpm_expected::expectations::{Expectations, picture_of};
+use ptpm_expected::expectations::Expectations;
+use ptpm_site::finding::Finding;
+use ptpm_site::left_out::LeftOut;
 use ptpm_site::limits::Limits;
 use ptpm_site::picture::Picture;
+use ptpm_site::site::Site;
 use std::alloc::{AllocError, Global};
 use std::io::{Read, Write};
 
@@ -38,6 +37,8 @@ pub enum Form {
     Page,
     /// Numbers for a monitoring system.
     OpenMetrics,
+    /// As a plugin of Nagios prints it.
+    Plugin,
 }
 
 /// What an operator asks for.
@@ -91,149 +92,89 @@ pub struct Viewing<'a, 'b> {
     pub before: Option<&'b Before>,
 }
 
-/// How a picture is printed.
-#[derive(Clone, Copy)]
-enum Way {
-    InForm(Form),
-    /// As a plugin does. How many nanoseconds the amount of an offset may have.
-    ByPlugin(Option<u64>),
-}
-
-/// What came of it, and how a plugin says it.
-#[derive(Clone, Copy)]
-struct Came {
-    conclusion: Conclusion,
-    standing: Standing,
-}
-
-/// Prints the site of a reader's lines.
-pub fn report<R: Read + Drop, O: Write>(
-    alloc: Global,
-    options: Options,
-    reader: R,
-    out: &mut O,
-) -> Result<Conclusion, Fault> {
-    let names = Names::new(alloc);
-    let SiteLines { shown, said } = read_shown(alloc, reader)?;
-    let limits = options.limits.at_host(said.is_synchronised);
-    let beside = Beside {
-        names: &names,
-        said,
-        is_all: false,
-        momentary: None,
-    };
-    report_of(alloc, options.form, limits, beside, &shown, out)
-}
-
-/// Prints a site that is held to nothing, with all its findings.
-fn report_of<O: Write>(
-    alloc: Global,
-    form: Form,
-    limits: Limits,
-    beside: Beside<'_>,
-    shown: &ShownSite,
-    out: &mut O,
-) -> Result<Conclusion, Fault>
-    ensures { IfOk result (λ came. came ≡ outcome (site_answers shown.now.site).clocks (findings_of (site_answers shown.now.site) limits)) }
-{
-    match Picture::of(alloc, &shown.site, shown.left_out, limits) {
-        Ok(picture) => {
-            let came = print_picture(alloc, Way::InForm(form), &picture, beside, out)?;
-            Ok(came.conclusion)
+impl Viewing<'_, '_> {
+    /// Leaves out of a picture the findings that `--ignore` names, and those that the look before lacks. Answers how many it lacks.
+    fn leave_out(
+        self,
+        alloc: Global,
+        limits: Limits,
+        expectations: Expectations<'_>,
+        picture: &mut Picture<'_>,
+    ) -> Result<Option<usize>, AllocError>
+        ensures shown { OnOk result (IsShown self.entry picture.old.findings.items picture.new.findings.items) }
+        ensures clocks { picture.new.forest ≡ picture.old.forest }
+    {
+        self.ignored.leave_out(&mut picture.findings);
+        self.ignored.leave_out(&mut picture.open_findings);
+        match self.before {
+            Some(before) => Ok(Some(before.leave_out(
+                alloc,
+                limits,
+                expectations,
+                picture,
+            )?)),
+            None => Ok(None),
         }
-        Err(_) => Err(Fault::OutOfMemory),
     }
 }
 
-/// The same, of a site that is held to what is expected of it, and as an operator wants to see it.
-pub fn report_viewed<R: Read + Drop, O: Write>(
+/// What came of a site, and how a plugin says it.
+#[derive(Clone, Copy)]
+pub struct Came {
+    pub conclusion: Conclusion,
+    pub standing: Standing,
+}
+
+/// Prints the site of a reader's lines, with the findings that `judge` gives of it, as an operator wants to see them.
+pub fn report<
+    J: for<'s> Fn(
+        Global,
+        &'s Site,
+        LeftOut,
+        Limits,
+        Expectations<'s>,
+    ) -> Result<Picture<'s>, AllocError>,
+    R: Read + Drop,
+    O: Write,
+>(
     alloc: Global,
+    judge: J,
     options: Options,
     expectations: Expectations<'_>,
     viewing: Viewing<'_, '_>,
     reader: R,
     out: &mut O,
-) -> Result<Conclusion, Fault> {
-    let (way, limits) = (Way::InForm(options.form), options.limits);
-    let came = report_in_way(alloc, way, limits, expectations, viewing, reader, out)?;
-    Ok(came.conclusion)
-}
-
-/// The same, as a plugin of Nagios prints it. Answers how the site is.
-pub fn report_standing<R: Read + Drop, O: Write>(
-    alloc: Global,
-    limits: Limits,
-    expectations: Expectations<'_>,
-    viewing: Viewing<'_, '_>,
-    reader: R,
-    out: &mut O,
-) -> Result<Standing, Fault> {
-    let way = Way::ByPlugin(limits.offset);
-    let came = report_in_way(alloc, way, limits, expectations, viewing, reader, out)?;
-    Ok(came.standing)
-}
-
-fn report_in_way<R: Read + Drop, O: Write>(
-    alloc: Global,
-    way: Way,
-    limits: Limits,
-    expectations: Expectations<'_>,
-    viewing: Viewing<'_, '_>,
-    reader: R,
-    out: &mut O,
-) -> Result<Came, Fault> {
+) -> Result<Came, Fault>
+    requires { J.IsAlwaysCallable judge }
+    ensures { IfOk result (λ came. (site : _) × (left_out : _) × (limits : _) × (picture : Picture) × (shown : List Finding)
+        × J.post judge alloc site left_out limits expectations.entry (Ok picture)
+        × IsShown viewing.entry picture.findings.items shown
+        × AreConcluded picture.forest.sources.items shown came) }
+{
     let SiteLines { shown, said } = read_shown(alloc, reader)?;
-    let at_host = limits.at_host(said.is_synchronised);
-    let mut beside = Beside {
+    let limits = options.limits.at_host(said.is_synchronised);
+    let mut picture = judge(alloc, &shown.site, shown.left_out, limits, expectations)?;
+    let beside = Beside {
         names: viewing.names,
         said,
         is_all: viewing.is_all,
-        momentary: None,
+        momentary: viewing.leave_out(alloc, options.limits, expectations, &mut picture)?,
     };
-    match judged(alloc, at_host, expectations, viewing.ignored, &shown) {
-        Ok(mut picture) => {
-            if let Some(before) = viewing.before {
-                let left_out = before.leave_out(alloc, limits, expectations, &mut picture)?;
-                beside.momentary = Some(left_out);
-            }
-            print_picture(alloc, way, &picture, beside, out)
-        }
-        Err(_) => Err(Fault::OutOfMemory),
-    }
-}
-
-/// The picture of a site, without the findings that are left out.
-fn judged<'a>(
-    alloc: Global,
-    limits: Limits,
-    expectations: Expectations<'a>,
-    ignored: &Ignored,
-    shown: &'a ShownSite,
-) -> Result<Picture<'a>, AllocError> {
-    let mut picture = picture_of(alloc, &shown.site, shown.left_out, limits, expectations)?;
-    ignored.leave_out(&mut picture.findings);
-    ignored.leave_out(&mut picture.open_findings);
-    Ok(picture)
+    print_picture(alloc, options, &picture, beside, out)
 }
 
 /// Prints a picture, and answers what came of its site.
 fn print_picture<O: Write>(
     alloc: Global,
-    way: Way,
+    options: Options,
     picture: &Picture<'_>,
     beside: Beside<'_>,
     out: &mut O,
 ) -> Result<Came, Fault>
-    ensures { IfOk result (λ came. came.conclusion ≡ outcome picture.now.forest.sources.items (reported picture.now.findings.items)) }
+    ensures { IfOk result (AreConcluded picture.now.forest.sources.items picture.now.findings.items) }
 {
-    let causes = causes_of(alloc, picture)?;
-    let look = Look {
-        picture,
-        found: remarks_of(alloc, picture, causes.as_slice())?,
-        open: open_of(alloc, picture)?,
-        beside,
-    };
-    print_look(alloc, way, &look, out)?;
+    let look = Look::of(alloc, picture, beside)?;
+    print_look(alloc, options, &look, out)?;
     Ok(Came {
         conclusion: outcome_of(picture),
         standing: Standing::of(&look),
@@ -242,24 +183,23 @@ fn print_picture<O: Write>(
 
 fn print_look<O: Write>(
     alloc: Global,
-    way: Way,
+    options: Options,
     look: &Look<'_, '_>,
     out: &mut O,
 ) -> Result<(), Fault> {
-    match way {
-        Way::InForm(Form::Text) => print_text(alloc, look, out),
-        Way::InForm(Form::Json) => print_object(alloc, look, out),
-        Way::InForm(Form::Drawing) => draw(alloc, look, out),
-        Way::InForm(Form::Page) => print_page(alloc, look, out),
-        Way::InForm(Form::OpenMetrics) => print_metrics(alloc, look, out),
-        Way::ByPlugin(limit) => print_plugin(alloc, look, limit, out),
+    match options.form {
+        Form::Text => print_text(alloc, look, out),
+        Form::Json => print_object(alloc, look, out),
+        Form::Drawing => draw(alloc, look, out),
+        Form::Page => print_page(alloc, look, out),
+        Form::OpenMetrics => print_metrics(alloc, look, out),
+        Form::Plugin => print_plugin(alloc, look, options.limits.offset, out),
     }
 }
 
 /// What came of a site that is judged.
-#[tactic(auto, unfolding(ptpm_site::specs::Findings::reported))]
 fn outcome_of(picture: &Picture<'_>) -> Conclusion
-    ensures { result ≡ outcome picture.now.forest.sources.items (reported picture.now.findings.items) }
+    ensures { result ≡ outcome picture.now.forest.sources.items picture.now.findings.items }
 {
     if picture.forest.sources.is_empty() {
         Conclusion::NoClock
