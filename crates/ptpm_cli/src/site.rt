@@ -125,9 +125,12 @@ fn look_at<F: Files, E: Write>(
 /// Ends without a site, since a file was refused. A plugin says so in its line.
 fn end_refused<O: Write>(shown: Shown, what: &str, out: &mut O) -> Result<u8, Fault> {
     match shown {
-        Shown::InForm(Options {
-            form: Form::Plugin, ..
-        }) => {
+        Shown::InForm(
+            Options {
+                form: Form::Plugin,
+                ..
+            },
+        ) => {
             writeln!(out, "PTP UNKNOWN - {what} was refused")?;
             Ok(3)
         }

@@ -45,7 +45,7 @@ wanted ignored found = filter (λ f. not (is_ignored ignored f)) found
 abbrev pub IsShown : Viewing → List Finding → List Finding → Type 0
 IsShown viewing judged shown =
     MatchOption viewing.before (shown ≡ wanted viewing.ignored.now judged)
-      (λ before. (stays : List Bool) × (shown ≡ items_where_true stays (wanted viewing.ignored.now judged)))
+    (λ before. (stays : List Bool) × (shown ≡ items_where_true stays (wanted viewing.ignored.now judged)))
 
 -- ---- how a plugin says it
 

@@ -1,5 +1,7 @@
 //! The findings of a site, printed one a line.
 
+ghost use Rattle.std.specs.Prelude.{◌≡◌, IfOk, length};
+
 use crate::finding_lines::{FindingLine, FindingLines, alike_together, each_line, open_lines};
 use crate::finding_text::{Said, Words};
 use crate::followers::{Followers, Head, SoToo};
@@ -20,9 +22,10 @@ pub(crate) struct FindingReport {
     open: FindingLines,
 }
 
-/// How many lines there are of findings that follow from no other, and how many findings follow from these.
+/// How many findings there are, how many lines those have that follow from no other, and how many follow from these.
 #[derive(Clone, Copy)]
 pub(crate) struct Sum {
+    found: usize,
     pub(crate) lines: usize,
     following: usize,
 }
@@ -30,34 +33,37 @@ pub(crate) struct Sum {
 /// The line above those of the findings: `findings: 3, and 2 that follow`.
 impl fmt::Display for Sum {
     fn fmt<W: fmt::Write>(&self, f: &mut fmt::Formatter<W>) -> fmt::Result {
-        match (self.lines, self.following) {
-            (0, _) => f.write_str("findings: none"),
-            (lines, 0) => write!(f, "findings: {lines}"),
-            (lines, following) => write!(f, "findings: {lines}, and {following} that follow"),
+        match (self.found, self.lines, self.following) {
+            (0, ..) => f.write_str("findings: none"),
+            (_, lines, 0) => write!(f, "findings: {lines}"),
+            (_, lines, following) => write!(f, "findings: {lines}, and {following} that follow"),
         }
     }
 }
 
 impl FindingReport {
-    pub(crate) fn of(alloc: Global, look: &Look<'_, '_>) -> Result<FindingReport, AllocError> {
+    pub(crate) fn of(alloc: Global, look: &Look<'_, '_>) -> Result<FindingReport, AllocError>
+        ensures { IfOk result (λ report. report.sum.found ≡ length look.now.found.items) }
+    {
         let followers = Followers::of(alloc, look)?;
-        let found = each_line(alloc, look, false)?;
-        let found = lines_of(alloc, look, look.found.as_slice(), found, &followers)?;
+        let lines = each_line(alloc, look, false)?;
+        let mut found = lines_of(alloc, look, look.found.as_slice(), lines, &followers)?;
+        let sum = Sum {
+            found: look.found.len(),
+            lines: found.lines.len(),
+            following: count_following(look),
+        };
+        if look.beside.is_all {
+            found.lines = each_line(alloc, look, true)?;
+        }
         let open = open_lines(alloc, look)?;
         let open = lines_of(alloc, look, look.open.as_slice(), open, &followers)?;
-        let mut report = FindingReport {
-            sum: Sum {
-                lines: found.lines.len(),
-                following: count_following(look),
-            },
+        Ok(FindingReport {
+            sum,
             followers,
             found,
             open,
-        };
-        if look.beside.is_all {
-            report.found.lines = each_line(alloc, look, true)?;
-        }
-        Ok(report)
+        })
     }
 
     /// Prints the lines of the findings.

@@ -1,6 +1,6 @@
 //! `ptpm site`: a site's tree and what is wrong with it, by the answers among lines of datagrams.
 
-ghost use Rattle.std.specs.Prelude.{◌≡◌, List, IfOk, MatchOption, OnOk};
+ghost use Rattle.std.specs.Prelude.{◌≡◌, IfOk, List, OnOk};
 ghost use Rattle.ptpm_site_report.specs.Reporting.{AreConcluded, IsShown, outcome, status};
 
 use crate::before::Before;
@@ -107,12 +107,7 @@ impl Viewing<'_, '_> {
         self.ignored.leave_out(&mut picture.findings);
         self.ignored.leave_out(&mut picture.open_findings);
         match self.before {
-            Some(before) => Ok(Some(before.leave_out(
-                alloc,
-                limits,
-                expectations,
-                picture,
-            )?)),
+            Some(before) => Ok(Some(before.leave_out(alloc, limits, expectations, picture)?)),
             None => Ok(None),
         }
     }
