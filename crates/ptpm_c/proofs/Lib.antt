@@ -1,6 +1,4 @@
 pub mod KeptWord
-pub mod Turns
 pub mod Numbers
-pub mod HandingIn
 pub mod HandedOut
-pub mod SayingIn
+pub mod Unchanged

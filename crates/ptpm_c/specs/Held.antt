@@ -21,54 +21,31 @@ abbrev pub held : Keeping → Hosted
 held keeping = hosted_in keeping.kept
 
 abbrev pub clock_of : Hosted → Option HostedClock
-clock_of hosts.Nothing = None
 clock_of (hosts.Clock clock) = Some clock.value
-clock_of (hosts.Session session) = None
-clock_of (hosts.Survey survey) = None
-clock_of (hosts.SavingClock clock) = None
-clock_of (hosts.Asker asker) = None
+clock_of _ = None
 
 -- of a clock whose host says when it was saved
 abbrev pub saving_clock_of : Hosted → Option SavingClock
-saving_clock_of hosts.Nothing = None
-saving_clock_of (hosts.Clock clock) = None
-saving_clock_of (hosts.Session session) = None
-saving_clock_of (hosts.Survey survey) = None
 saving_clock_of (hosts.SavingClock clock) = Some clock.value
-saving_clock_of (hosts.Asker asker) = None
+saving_clock_of _ = None
 
 -- of either kind of clock
 abbrev pub any_clock_of : Hosted → Option HostedClock
-any_clock_of hosts.Nothing = None
 any_clock_of (hosts.Clock clock) = Some clock.value
-any_clock_of (hosts.Session session) = None
-any_clock_of (hosts.Survey survey) = None
 any_clock_of (hosts.SavingClock clock) = Some clock.value.clock.value
-any_clock_of (hosts.Asker asker) = None
+any_clock_of _ = None
 
 abbrev pub session_of : Hosted → Option HostedSession
-session_of hosts.Nothing = None
-session_of (hosts.Clock clock) = None
 session_of (hosts.Session session) = Some session.value
-session_of (hosts.Survey survey) = None
-session_of (hosts.SavingClock clock) = None
-session_of (hosts.Asker asker) = None
+session_of _ = None
 
 abbrev pub survey_of : Hosted → Option HostedSurvey
-survey_of hosts.Nothing = None
-survey_of (hosts.Clock clock) = None
-survey_of (hosts.Session session) = None
 survey_of (hosts.Survey survey) = Some survey.value
-survey_of (hosts.SavingClock clock) = None
-survey_of (hosts.Asker asker) = None
+survey_of _ = None
 
 abbrev pub asker_of : Hosted → Option HostedAsker
-asker_of hosts.Nothing = None
-asker_of (hosts.Clock clock) = None
-asker_of (hosts.Session session) = None
-asker_of (hosts.Survey survey) = None
-asker_of (hosts.SavingClock clock) = None
 asker_of (hosts.Asker asker) = Some asker.value
+asker_of _ = None
 
 -- the clock, the session, the survey, or the asker, that a handle holds, if it holds one. A clock sends at once, and a saving clock
 -- once it is saved

@@ -61,4 +61,4 @@ abbrev pub RefusesSaid : HostedClock → ℕ → Say → List Sent → ℕ → �
 RefusesSaid c port say before number count after left =
     (e : SaidRefusal)
     → why_not_said c port before say ≡ Some e
-    → (number ≡ said_number e) × (SendsNothing before count after × (left ≡ Some c))
+    → (number ≡ said_number e) × (SendsNothing before count after × IsSomeAnd left (λ d. d ≡ c))

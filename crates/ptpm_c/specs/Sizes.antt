@@ -1,4 +1,4 @@
--- The sizes of the structs of the header for C, in its order: 21 that calls take by pointers. The last three are of a device.
+-- The sizes of the structs of the header for C, in its order: those that calls take by pointers.
 use Rattle.std.specs.Prelude.{ℕ, List, [], ◌∷◌}
 
 -- A handle is a pointer and a flag. A place for a message has its port, its size and 1,472 octets. What a device says has an error,

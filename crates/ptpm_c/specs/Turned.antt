@@ -49,7 +49,7 @@ abbrev pub RefusesTurn : HostedClock → ℕ → List Sent → ℕ → ℕ → L
 RefusesTurn c port before number count after left =
     (e : HandleRefusal)
     → why_not_handed c port before ≡ Some e
-    → (number ≡ handle_number e) × (SendsNothing before count after × (left ≡ Some c))
+    → (number ≡ handle_number e) × (SendsNothing before count after × IsSomeAnd left (λ d. d ≡ c))
 
 -- a handle that holds no clock: that is answered, nothing is sent, and it holds what it held
 abbrev pub FindsNoClock : Keeping → List Sent → ℕ → ℕ → List Sent → Keeping → Type 0

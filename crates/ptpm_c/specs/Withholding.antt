@@ -62,7 +62,7 @@ abbrev pub RefusesCall : Bool → SavingClock → ℕ → List Sent → ℕ → 
 RefusesCall few w port before number count after left =
     (e : SavingRefusal)
     → why_not_judged few w port before ≡ Some e
-    → (number ≡ saving_number e) × (SendsNothing before count after × (left ≡ Some w))
+    → (number ≡ saving_number e) × (SendsNothing before count after × IsSomeAnd left (λ x. x ≡ w))
 
 -- ---- a save
 

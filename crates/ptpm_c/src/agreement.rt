@@ -1,6 +1,6 @@
 //! Whether a host was compiled with this library's header.
 
-ghost use Rattle.std.specs.Prelude.{◌≡◌, ◌||◌, bytes_eq, if◌then◌else◌, take};
+ghost use Rattle.std.specs.Prelude.{◌≡◌, bytes_eq, if◌then◌else◌};
 ghost use Rattle.ptpm_host.specs.Numbers.{other_sizes};
 ghost use Rattle.ptpm_c.specs.Sizes.{header_sizes};
 
@@ -11,9 +11,6 @@ use ptpm_host::{
     ObservedPort, PassedOn, PortSettings, Question, Rate, Say, Sent, SessionSettings, Source,
     SurveySettings, VERSION_NUMBER,
 };
-
-/// How many of the structs earlier headers of this version have: those before the ones of a device.
-const EARLIER: usize = 18;
 
 /// The sizes of the structs of the header, in its order.
 const SIZES: [usize; 21] = [
@@ -48,14 +45,12 @@ pub extern "C" fn ptpm_version() -> u32
     VERSION_NUMBER
 }
 
-/// Whether these are the sizes of the structs of this library's header, in its order: 0, or the number of the refusal. It takes those
-/// of an earlier header of this version too, which lacks the structs of a device.
+/// Whether these are the sizes of the structs of this library's header, in its order: 0, or the number of the refusal.
 #[unsafe(no_mangle)]
 pub extern "C" fn ptpm_sizes_agree(sizes: &[usize]) -> u32
-    ensures { result ≡ (if bytes_eq sizes.now header_sizes
-        || bytes_eq sizes.now (take 18 header_sizes) then 0 else other_sizes) }
+    ensures { result ≡ (if bytes_eq sizes.now header_sizes then 0 else other_sizes) }
 {
-    if sizes == SIZES.as_slice() || sizes == &SIZES[..EARLIER] {
+    if sizes == SIZES.as_slice() {
         0
     } else {
         OTHER_SIZES

@@ -20,8 +20,8 @@ ghost use Rattle.ptpm_c.specs.declared.kept.Hosted.TheVariants.{Nothing};
 ghost use Rattle.ptpm_c.specs.Held.{FindsNoAsker, HandsOutNothing, asker_held, held};
 ghost use Rattle.ptpm_c.specs.Numbered.{IsNumberedBy};
 
-use crate::handle::Handle;
-use crate::kept::{Hosted, Kept};
+use crate::handle::{Handle, held};
+use crate::kept::Hosted;
 use ptpm_asker::DRAWN_OCTETS;
 use ptpm_host::{
     AskerSettings, Handed, HostedAsker, NO_ASKER, NO_MEMORY, NO_ROOM, asker_number, begin_number,
@@ -54,14 +54,13 @@ pub extern "C" fn ptpm_asker_start(
         Ok(asker) => asker,
         Err(refusal) => return session_number(refusal),
     };
-    let Ok(kept) = Box::new(alloc, Kept::of(Hosted::Nothing)) else {
-        return NO_MEMORY;
-    };
     let Ok(asker) = Box::new(alloc, asker) else {
         return NO_MEMORY;
     };
-    *handle = Handle::of(kept, Hosted::Asker(asker));
-    0
+    match handle.put(alloc, Hosted::Asker(asker)) {
+        Ok(()) => 0,
+        Err(_) => NO_MEMORY,
+    }
 }
 
 /// Puts the asker of a session whose image this is in a handle, in place of what it holds: 0. If it is refused, by the number of the
@@ -84,15 +83,13 @@ pub extern "C" fn ptpm_asker_restore(
         Ok(asker) => asker,
         Err(refusal) => return asker_number(refusal),
     };
-    let Ok(kept) = Box::new(alloc, Kept::of(Hosted::Nothing)) else {
-        return NO_MEMORY;
-    };
     let Ok(asker) = Box::new(alloc, asker) else {
         return NO_MEMORY;
     };
-    handle.end(alloc);
-    *handle = Handle::of(kept, Hosted::Asker(asker));
-    0
+    match handle.put(alloc, Hosted::Asker(asker)) {
+        Ok(()) => 0,
+        Err(_) => NO_MEMORY,
+    }
 }
 
 /// Asks a request, which the owner names `tag`, in a domain: 0, and `out` is what is to be done next. If it is refused, by the number
@@ -100,7 +97,6 @@ pub extern "C" fn ptpm_asker_restore(
 #[tactic(auto, using(crate::proofs::Numbers::memory_of_refusal))]
 #[unsafe(no_mangle)]
 pub extern "C" fn ptpm_asker_ask(
-    alloc: Global,
     handle: &mut Handle,
     now: u64,
     tag: u64,
@@ -127,25 +123,20 @@ pub extern "C" fn ptpm_asker_ask(
     ensures empty { FindsNoAsker handle.old.keeping result out.new handle.new.keeping }
 {
     *out = Handed::nothing();
-    let Some((kept, mut asker)) = handle.take_asker(alloc) else {
-        return NO_ASKER;
-    };
-    let number = match asker.ask(now, tag, action, id, port, octets, domain) {
+    held!(handle, Hosted::Asker(asker), NO_ASKER);
+    match asker.ask(now, tag, action, id, port, octets, domain) {
         Ok(handed) => {
             *out = handed;
             0
         }
         Err(refusal) => begin_number(refusal),
-    };
-    *handle = Handle::of(kept, Hosted::Asker(asker));
-    number
+    }
 }
 
 /// Sends the request of an earlier run again, which the owner names `tag`: 0. If there is none, or the asker does not rest, it is
 /// refused as idle, and nothing changes. Takes no memory.
 #[unsafe(no_mangle)]
 pub extern "C" fn ptpm_asker_settle(
-    alloc: Global,
     handle: &mut Handle,
     now: u64,
     tag: u64,
@@ -173,23 +164,19 @@ pub extern "C" fn ptpm_asker_settle(
     ensures empty { FindsNoAsker handle.old.keeping result out.new handle.new.keeping }
 {
     *out = Handed::nothing();
-    let Some((kept, mut asker)) = handle.take_asker(alloc) else {
-        return NO_ASKER;
-    };
-    let number = match asker.settle(now, tag, domain) {
+    held!(handle, Hosted::Asker(asker), NO_ASKER);
+    match asker.settle(now, tag, domain) {
         Some(handed) => {
             *out = handed;
             0
         }
         None => give_up_number(GiveUpRefusal::Idle),
-    };
-    *handle = Handle::of(kept, Hosted::Asker(asker));
-    number
+    }
 }
 
 /// Gives up the request of an earlier run, which the owner has noted before: 0, or the number of the refusal. Takes no memory.
 #[unsafe(no_mangle)]
-pub extern "C" fn ptpm_asker_let_go(alloc: Global, handle: &mut Handle, out: &mut Handed) -> u32
+pub extern "C" fn ptpm_asker_let_go(handle: &mut Handle, out: &mut Handed) -> u32
     ensures turned { (s : HostedAsker)
         → asker_held handle.old.keeping ≡ Some s
         → result ≡ 0
@@ -211,28 +198,19 @@ pub extern "C" fn ptpm_asker_let_go(alloc: Global, handle: &mut Handle, out: &mu
     ensures empty { FindsNoAsker handle.old.keeping result out.new handle.new.keeping }
 {
     *out = Handed::nothing();
-    let Some((kept, mut asker)) = handle.take_asker(alloc) else {
-        return NO_ASKER;
-    };
-    let number = match asker.let_go() {
+    held!(handle, Hosted::Asker(asker), NO_ASKER);
+    match asker.let_go() {
         Ok(handed) => {
             *out = handed;
             0
         }
         Err(refusal) => give_up_number(refusal),
-    };
-    *handle = Handle::of(kept, Hosted::Asker(asker));
-    number
+    }
 }
 
 /// Hands in a datagram that came in: 0. Only memory for the dataField of an answer is ever refused.
 #[unsafe(no_mangle)]
-pub extern "C" fn ptpm_asker_hear(
-    alloc: Global,
-    handle: &mut Handle,
-    datagram: &[u8],
-    out: &mut Handed,
-) -> u32
+pub extern "C" fn ptpm_asker_hear(handle: &mut Handle, datagram: &[u8], out: &mut Handed) -> u32
     ensures turned { (s : HostedAsker)
         → asker_held handle.old.keeping ≡ Some s
         → result ≡ 0
@@ -252,29 +230,20 @@ pub extern "C" fn ptpm_asker_hear(
     ensures empty { FindsNoAsker handle.old.keeping result out.new handle.new.keeping }
 {
     *out = Handed::nothing();
-    let Some((kept, mut asker)) = handle.take_asker(alloc) else {
-        return NO_ASKER;
-    };
-    let number = match asker.hear(datagram) {
+    held!(handle, Hosted::Asker(asker), NO_ASKER);
+    match asker.hear(datagram) {
         Ok(handed) => {
             *out = handed;
             0
         }
         Err(_) => NO_MEMORY,
-    };
-    *handle = Handle::of(kept, Hosted::Asker(asker));
-    number
+    }
 }
 
 /// Time has come, in milliseconds: 0, or the number of the refusal. Earlier than the time that was handed out, nothing is to be
 /// done.
 #[unsafe(no_mangle)]
-pub extern "C" fn ptpm_asker_wake(
-    alloc: Global,
-    handle: &mut Handle,
-    now: u64,
-    out: &mut Handed,
-) -> u32
+pub extern "C" fn ptpm_asker_wake(handle: &mut Handle, now: u64, out: &mut Handed) -> u32
     ensures turned { (s : HostedAsker)
         → asker_held handle.old.keeping ≡ Some s
         → result ≡ 0
@@ -292,23 +261,19 @@ pub extern "C" fn ptpm_asker_wake(
     ensures empty { FindsNoAsker handle.old.keeping result out.new handle.new.keeping }
 {
     *out = Handed::nothing();
-    let Some((kept, mut asker)) = handle.take_asker(alloc) else {
-        return NO_ASKER;
-    };
-    let number = match asker.wake(now) {
+    held!(handle, Hosted::Asker(asker), NO_ASKER);
+    match asker.wake(now) {
         Ok(handed) => {
             *out = handed;
             0
         }
         Err(refusal) => begin_number(refusal),
-    };
-    *handle = Handle::of(kept, Hosted::Asker(asker));
-    number
+    }
 }
 
 /// There was no way for the message that was handed out: 0. Takes no memory.
 #[unsafe(no_mangle)]
-pub extern "C" fn ptpm_asker_unsent(alloc: Global, handle: &mut Handle, out: &mut Handed) -> u32
+pub extern "C" fn ptpm_asker_unsent(handle: &mut Handle, out: &mut Handed) -> u32
     ensures turned { (s : HostedAsker)
         → asker_held handle.old.keeping ≡ Some s
         → result ≡ 0
@@ -318,22 +283,14 @@ pub extern "C" fn ptpm_asker_unsent(alloc: Global, handle: &mut Handle, out: &mu
     ensures empty { FindsNoAsker handle.old.keeping result out.new handle.new.keeping }
 {
     *out = Handed::nothing();
-    let Some((kept, mut asker)) = handle.take_asker(alloc) else {
-        return NO_ASKER;
-    };
+    held!(handle, Hosted::Asker(asker), NO_ASKER);
     *out = asker.unsent();
-    *handle = Handle::of(kept, Hosted::Asker(asker));
     0
 }
 
 /// The session is in its file, on the disk: 0. Takes no memory.
 #[unsafe(no_mangle)]
-pub extern "C" fn ptpm_asker_saved(
-    alloc: Global,
-    handle: &mut Handle,
-    now: u64,
-    out: &mut Handed,
-) -> u32
+pub extern "C" fn ptpm_asker_saved(handle: &mut Handle, now: u64, out: &mut Handed) -> u32
     ensures turned { (s : HostedAsker)
         → asker_held handle.old.keeping ≡ Some s
         → result ≡ 0
@@ -343,17 +300,14 @@ pub extern "C" fn ptpm_asker_saved(
     ensures empty { FindsNoAsker handle.old.keeping result out.new handle.new.keeping }
 {
     *out = Handed::nothing();
-    let Some((kept, mut asker)) = handle.take_asker(alloc) else {
-        return NO_ASKER;
-    };
+    held!(handle, Hosted::Asker(asker), NO_ASKER);
     *out = asker.saved(now);
-    *handle = Handle::of(kept, Hosted::Asker(asker));
     0
 }
 
 /// What was handed out to be noted is written: 0, or the number of the refusal.
 #[unsafe(no_mangle)]
-pub extern "C" fn ptpm_asker_noted(alloc: Global, handle: &mut Handle, out: &mut Handed) -> u32
+pub extern "C" fn ptpm_asker_noted(handle: &mut Handle, out: &mut Handed) -> u32
     ensures turned { (s : HostedAsker)
         → asker_held handle.old.keeping ≡ Some s
         → result ≡ 0
@@ -371,18 +325,14 @@ pub extern "C" fn ptpm_asker_noted(alloc: Global, handle: &mut Handle, out: &mut
     ensures empty { FindsNoAsker handle.old.keeping result out.new handle.new.keeping }
 {
     *out = Handed::nothing();
-    let Some((kept, mut asker)) = handle.take_asker(alloc) else {
-        return NO_ASKER;
-    };
-    let number = match asker.noted() {
+    held!(handle, Hosted::Asker(asker), NO_ASKER);
+    match asker.noted() {
         Ok(handed) => {
             *out = handed;
             0
         }
         Err(refusal) => begin_number(refusal),
-    };
-    *handle = Handle::of(kept, Hosted::Asker(asker));
-    number
+    }
 }
 
 /// Leaves the message that was handed out to be sent last at the head of `octets`, `size` octets: 0, or the number of the refusal.
@@ -408,12 +358,7 @@ pub extern "C" fn ptpm_asker_message(
         → (result ≡ no_asker) × ((size.new ≡ 0) × (octets.new ≡ octets.old)) }
 {
     *size = 0;
-    let Some(kept) = handle.kept() else {
-        return NO_ASKER;
-    };
-    let Some(asker) = kept.asker() else {
-        return NO_ASKER;
-    };
+    held!(handle, Hosted::Asker(asker), NO_ASKER);
     match asker.message(octets) {
         Some(count) => {
             *size = count;
@@ -442,12 +387,7 @@ pub extern "C" fn ptpm_asker_image(handle: &mut Handle, octets: &mut [u8], size:
         → (result ≡ no_asker) × ((size.new ≡ 0) × (octets.new ≡ octets.old)) }
 {
     *size = 0;
-    let Some(kept) = handle.kept() else {
-        return NO_ASKER;
-    };
-    let Some(asker) = kept.asker() else {
-        return NO_ASKER;
-    };
+    held!(handle, Hosted::Asker(asker), NO_ASKER);
     match asker.image(octets) {
         Some(count) => {
             *size = count;
@@ -471,12 +411,7 @@ pub extern "C" fn ptpm_asker_earlier(handle: &mut Handle, domain: u8, there: &mu
     ensures empty { asker_held handle.old.keeping ≡ None → (result ≡ 0) × (there.new ≡ domain) }
 {
     *there = domain;
-    let Some(kept) = handle.kept() else {
-        return 0;
-    };
-    let Some(asker) = kept.asker() else {
-        return 0;
-    };
+    held!(handle, Hosted::Asker(asker), 0);
     *there = asker.settling_domain(domain);
     earlier_number(asker.earlier())
 }
@@ -511,12 +446,7 @@ pub extern "C" fn ptpm_asker_report(
 {
     *size = 0;
     *error = 0;
-    let Some(kept) = handle.kept() else {
-        return NO_ASKER;
-    };
-    let Some(asker) = kept.asker() else {
-        return NO_ASKER;
-    };
+    held!(handle, Hosted::Asker(asker), NO_ASKER);
     match asker.report(octets) {
         Ok(outcome) => {
             *size = outcome.size();

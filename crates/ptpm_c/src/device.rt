@@ -22,7 +22,6 @@ use ptpm_host::{
     ASKED_CHANGE, ASKED_VALUE, Asking, CANT_OBJECT, HostedClock, NO_CLOCK, Question, Say, Sent,
     handle_number, said_number, verdict_number,
 };
-use std::alloc::Global;
 
 /// Says what a datagram would have the device do, if it came in now at this port. Answers the number of a change or of a value, 0 for
 /// nothing, or the number of the refusal. `asked` gets what the device is asked; all zeros if it is nothing. A clock that waits until it is
@@ -54,14 +53,14 @@ pub extern "C" fn ptpm_clock_ask(
         → (result ≡ no_clock) × AsksNothing asked.new }
 {
     *asked = Question::nothing();
-    let Some(kept) = handle.kept() else {
+    let Some(hosted) = handle.hosted() else {
         return NO_CLOCK;
     };
-    let is_unsaved = match kept.saving_clock() {
+    let is_unsaved = match hosted.saving_clock() {
         Some(clock) => clock.is_unsaved(),
         None => false,
     };
-    let Some(clock) = kept.clock() else {
+    let Some(clock) = hosted.clock() else {
         return NO_CLOCK;
     };
     match clock.ask(port, datagram) {
@@ -83,7 +82,6 @@ pub extern "C" fn ptpm_clock_ask(
 #[tactic(auto, using(ptpm_host::specs::OutboxLaws::kept_by_none))]
 #[unsafe(no_mangle)]
 pub extern "C" fn ptpm_clock_handle_said(
-    alloc: Global,
     handle: &mut Handle,
     port: u16,
     datagram: &[u8],
@@ -126,21 +124,22 @@ pub extern "C" fn ptpm_clock_handle_said(
         × (saving_clock_held handle.new.keeping ≡ Some w)) }
     ensures empty { FindsNoClock handle.old.keeping sent.old result count.new sent.new
         handle.new.keeping }
-    ensures restored { handle.new.restored ≡ 0 }
+    ensures restored { handle.new.restored ≡ false }
 {
     *count = 0;
     *members = ChangedMembers::NONE;
-    let Some((kept, mut clock)) = handle.take_clock(alloc) else {
-        if say.kind == 0 {
-            return withholding::judge_changed(
-                alloc, handle, port, datagram, true, sent, count, members,
-            );
-        }
-        return refuse_objection(alloc, handle);
+    handle.restored = false;
+    let Some(hosted) = handle.hosted() else {
+        return NO_CLOCK;
     };
-    let number = hand_in(&mut *clock, port, datagram, say, sent, count, members);
-    *handle = Handle::of(kept, Hosted::Clock(clock));
-    number
+    match hosted {
+        Hosted::Clock(clock) => hand_in(clock, port, datagram, say, sent, count, members),
+        Hosted::SavingClock(_) if say.kind != 0 => CANT_OBJECT,
+        Hosted::SavingClock(clock) => {
+            withholding::hand_in_changed(clock, port, datagram, true, sent, count, members)
+        }
+        _ => NO_CLOCK,
+    }
 }
 
 /// What becomes of a datagram with what the device says: the number of the verdict, or of the refusal, and then nothing is sent.
@@ -175,20 +174,4 @@ fn hand_in(
         }
         Err(refusal) => said_number(refusal),
     }
-}
-
-/// Why a handle takes no objection and no value: it holds a clock that is saved before it gives anything out, or no clock.
-fn refuse_objection(alloc: Global, handle: &mut Handle) -> u32
-    ensures held { held handle.new.keeping ≡ held handle.old.keeping }
-    ensures saving { (w : SavingClock)
-        → saving_clock_held handle.old.keeping ≡ Some w
-        → result ≡ cant_object }
-    ensures none { saving_clock_held handle.old.keeping ≡ None → result ≡ no_clock }
-    ensures restored { handle.new.restored ≡ 0 }
-{
-    let Some((kept, clock)) = handle.take_saving_clock(alloc) else {
-        return NO_CLOCK;
-    };
-    *handle = Handle::of(kept, Hosted::SavingClock(clock));
-    CANT_OBJECT
 }

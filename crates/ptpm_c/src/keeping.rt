@@ -4,7 +4,7 @@ ghost use Rattle.std.specs.Prelude.{◌≡◌, IsTrue, Option, None, Some, is_so
 ghost use Rattle.ptpm_c.specs.declared.kept.Kept.{Kept};
 ghost use Rattle.ptpm_c.specs.Keeping.{keeping_owns, kept_coded};
 
-use crate::kept::Kept;
+use crate::kept::{Hosted, Kept};
 use std::alloc::Global;
 use std::marker::Model;
 
@@ -23,7 +23,8 @@ impl Model for Keeping {
 
 impl Keeping {
     ghost use Rattle.std.specs.Borrow.{sem};
-    ghost use Rattle.ptpm_c.specs.Lending.{LendsKept};
+    ghost use Rattle.ptpm_c.specs.Held.{hosted_in};
+    ghost use Rattle.ptpm_c.specs.Lending.{LendsHosted, LendsKept};
 
     /// No box.
     pub fn nothing() -> Keeping
@@ -43,13 +44,22 @@ impl Keeping {
     }
 
     /// What is in the box, in place.
-    pub fn as_kept(&mut self) -> &mut Kept
+    fn as_kept(&mut self) -> &mut Kept
         requires { IsTrue (is_some self.old.kept) }
         ensures* writes_back { sem 𝓛 (LendsKept self.entry result) }
         ensures value { Some result.now ≡ self.old.kept }
     {
         let at = self.at as *mut Kept;
         unsafe { &mut *at }
+    }
+
+    /// What is kept, in place.
+    pub fn as_hosted(&mut self) -> &mut Hosted
+        requires { IsTrue (is_some self.old.kept) }
+        ensures* writes_back { sem 𝓛 (LendsHosted self.entry result) }
+        ensures value { result.now ≡ hosted_in self.old.kept }
+    {
+        self.as_kept().as_hosted()
     }
 
     /// The box again.

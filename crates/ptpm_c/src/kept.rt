@@ -1,7 +1,6 @@
 //! What a handle's block holds.
 
 ghost use Rattle.std.specs.Prelude.{◌≡◌};
-ghost use Rattle.std.specs.Option.{option_copied};
 
 use ptpm_host::{HostedAsker, HostedClock, HostedSession, HostedSurvey, SavingClock};
 use std::mem::ManuallyDrop;
@@ -19,6 +18,32 @@ pub enum Hosted {
     Asker(Box<HostedAsker>),
 }
 
+impl Hosted {
+    ghost use Rattle.std.specs.Option.{option_copied};
+    ghost use Rattle.ptpm_c.specs.Held.{any_clock_of, saving_clock_of};
+
+    /// The clock, whether its host says when it was saved or not.
+    pub fn clock(&self) -> Option<&HostedClock>
+        ensures { option_copied result ≡ any_clock_of self.now }
+    {
+        match self {
+            Hosted::Clock(clock) => Some(clock.as_ref()),
+            Hosted::SavingClock(clock) => Some(clock.clock()),
+            _ => None,
+        }
+    }
+
+    /// The clock, if its host says when it was saved.
+    pub fn saving_clock(&self) -> Option<&SavingClock>
+        ensures { option_copied result ≡ saving_clock_of self.now }
+    {
+        match self {
+            Hosted::SavingClock(clock) => Some(clock.as_ref()),
+            _ => None,
+        }
+    }
+}
+
 /// Only `into_hosted` lets it go. So nothing is to be done when its box is let go.
 #[derive(Drop)]
 pub struct Kept {
@@ -26,7 +51,8 @@ pub struct Kept {
 }
 
 impl Kept {
-    ghost use Rattle.ptpm_c.specs.Held.{any_clock_of, asker_of, saving_clock_of, session_of, survey_of};
+    ghost use Rattle.std.specs.Borrow.{sem};
+    ghost use Rattle.ptpm_c.specs.Lending.{LendsHostedIn};
 
     /// Keeps this.
     pub fn of(hosted: Hosted) -> Kept
@@ -37,55 +63,12 @@ impl Kept {
         }
     }
 
-    /// The clock that is kept, whether its host says when it was saved or not.
-    pub fn clock(&self) -> Option<&HostedClock>
-        ensures { option_copied result ≡ any_clock_of self.now.hosted.value }
+    /// What is kept, in place.
+    pub fn as_hosted(&mut self) -> &mut Hosted
+        ensures* writes_back { sem 𝓛 (LendsHostedIn self.entry result) }
+        ensures value { result.now ≡ self.old.hosted.value }
     {
-        match &*self.hosted {
-            Hosted::Clock(clock) => Some(clock.as_ref()),
-            Hosted::SavingClock(clock) => Some(clock.clock()),
-            _ => None,
-        }
-    }
-
-    /// The clock that is kept, if its host says when it was saved.
-    pub fn saving_clock(&self) -> Option<&SavingClock>
-        ensures { option_copied result ≡ saving_clock_of self.now.hosted.value }
-    {
-        match &*self.hosted {
-            Hosted::SavingClock(clock) => Some(clock.as_ref()),
-            _ => None,
-        }
-    }
-
-    /// The session that is kept.
-    pub fn session(&self) -> Option<&HostedSession>
-        ensures { option_copied result ≡ session_of self.now.hosted.value }
-    {
-        match &*self.hosted {
-            Hosted::Session(session) => Some(session.as_ref()),
-            _ => None,
-        }
-    }
-
-    /// The survey that is kept.
-    pub fn survey(&self) -> Option<&HostedSurvey>
-        ensures { option_copied result ≡ survey_of self.now.hosted.value }
-    {
-        match &*self.hosted {
-            Hosted::Survey(survey) => Some(survey.as_ref()),
-            _ => None,
-        }
-    }
-
-    /// The asker that is kept.
-    pub fn asker(&self) -> Option<&HostedAsker>
-        ensures { option_copied result ≡ asker_of self.now.hosted.value }
-    {
-        match &*self.hosted {
-            Hosted::Asker(asker) => Some(asker.as_ref()),
-            _ => None,
-        }
+        &mut *self.hosted
     }
 
     /// What is kept.

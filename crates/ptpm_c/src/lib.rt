@@ -2,7 +2,7 @@
 //! its header.
 #![tactic(auto)]
 
-ghost use Rattle.std.specs.Prelude.{◌≡◌, ◌≢◌, ◌≤◌, IfNone, IfSome, IsSomeAnd, None, Ok, Some, drop, length, take, false};
+ghost use Rattle.std.specs.Prelude.{◌≡◌, ◌≢◌, ◌≤◌, IfNone, IfSome, IsSomeAnd, MatchResult, None, Ok, Some, drop, length, take, false};
 ghost use Rattle.ptpm_data.specs.Changed.{changed, no_members};
 ghost use Rattle.ptpm_data.specs.DataField.{data_field_of_id};
 ghost use Rattle.ptpm_data.specs.Start.{default_clock, default_port};
@@ -44,9 +44,9 @@ mod withholding;
 mod withholding_session;
 
 use crate::handle::Handle;
-use crate::kept::{Hosted, Kept};
+use crate::kept::Hosted;
 use ptpm_agent::Verdict;
-use ptpm_data::ChangedMembers;
+use ptpm_data::{ChangedMembers, ObservationError, PortsLeftDisabled};
 use ptpm_host::{
     ClockSettings, HostedClock, ManagerSettings, NO_CLOCK, NO_MEMORY, ObservedClock, ObservedPort,
     PortSettings, Sent, handle_number, left_number, observe_number, read_number, start_number,
@@ -94,28 +94,26 @@ pub extern "C" fn ptpm_clock_start(
     ensures memory { start_refusal settings.now ports.now managers.now ≡ None
         → result ≢ 0
         → result ≡ no_memory }
-    ensures restored { handle.new.restored ≡ 0 }
+    ensures restored { handle.new.restored ≡ false }
 {
     handle.end(alloc);
     let clock = match HostedClock::start_boxed(alloc, settings, ports, managers) {
         Ok(clock) => clock,
         Err(refusal) => return start_number(refusal),
     };
-    let Ok(kept) = Box::new(alloc, Kept::of(Hosted::Nothing)) else {
-        return NO_MEMORY;
-    };
-    *handle = Handle::of(kept, Hosted::Clock(clock));
-    0
+    match handle.put(alloc, Hosted::Clock(clock)) {
+        Ok(()) => 0,
+        Err(_) => NO_MEMORY,
+    }
 }
 
 /// What becomes of a datagram that comes in at a port: the number of the verdict, or of the refusal. The first `count` places
 /// of `sent` get what the clock sends. The places after them stay as they are, and so does what follows each message. A clock
 /// whose host says when it was saved sends nothing for a new request, and leaves zeros in the places that it used. It refuses each
 /// datagram while something is unsaved. Takes no memory.
-#[tactic(auto, using(crate::proofs::Turns::turned_to, ptpm_host::specs::OutboxLaws::kept_by_none))]
+#[tactic(auto, using(ptpm_host::specs::OutboxLaws::kept_by_none))]
 #[unsafe(no_mangle)]
 pub extern "C" fn ptpm_clock_handle(
-    alloc: Global,
     handle: &mut Handle,
     port: u16,
     datagram: &[u8],
@@ -141,29 +139,27 @@ pub extern "C" fn ptpm_clock_handle(
         (saving_clock_held handle.new.keeping) }
     ensures empty { FindsNoClock handle.old.keeping sent.old result count.new sent.new
         handle.new.keeping }
-    ensures restored { handle.new.restored ≡ 0 }
+    ensures restored { handle.new.restored ≡ false }
 {
     *count = 0;
-    let Some((kept, mut clock)) = handle.take_clock(alloc) else {
-        return withholding::judge(alloc, handle, port, datagram, sent, count);
+    handle.restored = false;
+    let Some(hosted) = handle.hosted() else {
+        return NO_CLOCK;
     };
-    let number = match clock.handle(port, datagram, sent) {
-        Ok(handled) => {
-            *count = handled.count;
-            verdict_number(handled.verdict)
+    match hosted {
+        Hosted::Clock(clock) => hand_in(clock, port, datagram, sent, count),
+        Hosted::SavingClock(clock) => {
+            withholding::hand_in(clock, port, datagram, false, sent, count)
         }
-        Err(refusal) => handle_number(refusal),
-    };
-    *handle = Handle::of(kept, Hosted::Clock(clock));
-    number
+        _ => NO_CLOCK,
+    }
 }
 
 /// What `ptpm_clock_handle` does, and leaves in `members` those that have another value after it than before: none unless
 /// the number is that of AnsweredNew. Takes no memory.
-#[tactic(auto, using(crate::proofs::Turns::turned_still, crate::proofs::Turns::changed_to, crate::proofs::Turns::none_to, ptpm_host::specs::OutboxLaws::kept_by_none))]
+#[tactic(auto, using(ptpm_host::specs::OutboxLaws::kept_by_none))]
 #[unsafe(no_mangle)]
 pub extern "C" fn ptpm_clock_handle_changed(
-    alloc: Global,
     handle: &mut Handle,
     port: u16,
     datagram: &[u8],
@@ -201,20 +197,71 @@ pub extern "C" fn ptpm_clock_handle_changed(
         (saving_clock_held handle.new.keeping) }
     ensures empty { FindsNoClock handle.old.keeping sent.old result count.new sent.new
         handle.new.keeping }
-    ensures restored { handle.new.restored ≡ 0 }
+    ensures restored { handle.new.restored ≡ false }
 {
     *count = 0;
     *members = ChangedMembers::NONE;
-    let Some((kept, clock)) = handle.take_clock(alloc) else {
-        return withholding::judge_changed(
-            alloc, handle, port, datagram, false, sent, count, members,
-        );
+    handle.restored = false;
+    let Some(hosted) = handle.hosted() else {
+        return NO_CLOCK;
     };
+    match hosted {
+        Hosted::Clock(clock) => hand_in_changed(clock, port, datagram, sent, count, members),
+        Hosted::SavingClock(clock) => {
+            withholding::hand_in_changed(clock, port, datagram, false, sent, count, members)
+        }
+        _ => NO_CLOCK,
+    }
+}
+
+/// What becomes of a datagram: the number of the verdict, or of the refusal, and then nothing is sent.
+#[tactic(auto, using(ptpm_host::specs::OutboxLaws::kept_by_none))]
+fn hand_in(
+    clock: &mut HostedClock,
+    port: u16,
+    datagram: &[u8],
+    sent: &mut [Sent],
+    count: &mut usize,
+) -> u32
+    ensures taken { TakesTurn clock.old port datagram.now sent.old result count.new sent.new
+        (Some clock.new) }
+    ensures refused { RefusesTurn clock.old port sent.old result count.new sent.new
+        (Some clock.new) }
+    ensures written { AreWritten sent.old count.new sent.new }
+{
+    *count = 0;
+    match clock.handle(port, datagram, sent) {
+        Ok(handled) => {
+            *count = handled.count;
+            verdict_number(handled.verdict)
+        }
+        Err(refusal) => handle_number(refusal),
+    }
+}
+
+/// What `hand_in` does. `members` gets those that a new request has changed; none after any other answer.
+fn hand_in_changed(
+    clock: &mut HostedClock,
+    port: u16,
+    datagram: &[u8],
+    sent: &mut [Sent],
+    count: &mut usize,
+    members: &mut ChangedMembers,
+) -> u32
+    ensures taken { TakesTurn clock.old port datagram.now sent.old result count.new sent.new
+        (Some clock.new) }
+    ensures changed { why_not_handed clock.old port sent.old ≡ None
+        → members.new ≡ changed clock.old.agent.sets clock.new.agent.sets }
+    ensures new_alone { result ≢ verdict_number Verdict.AnsweredNew → members.new ≡ no_members }
+    ensures refused { RefusesTurn clock.old port sent.old result count.new sent.new
+        (Some clock.new) }
+    ensures written { AreWritten sent.old count.new sent.new }
+{
+    *members = ChangedMembers::NONE;
     let before = clock.sets().copy();
-    *handle = Handle::of(kept, Hosted::Clock(clock));
-    let number = ptpm_clock_handle(alloc, handle, port, datagram, sent, count);
+    let number = hand_in(clock, port, datagram, sent, count);
     if number == verdict_number(Verdict::AnsweredNew) {
-        *members = handle.changed_since(alloc, &before);
+        *members = clock.sets().changed_since(&before);
     }
     number
 }
@@ -224,7 +271,6 @@ pub extern "C" fn ptpm_clock_handle_changed(
 /// the sum of 1 for port 1, 2 for port 2, 4 for port 3, and so on. Takes no memory.
 #[unsafe(no_mangle)]
 pub extern "C" fn ptpm_clock_observe(
-    alloc: Global,
     handle: &mut Handle,
     observed: &ObservedClock,
     ports: &[ObservedPort],
@@ -250,21 +296,36 @@ pub extern "C" fn ptpm_clock_observe(
     ensures empty { any_clock_held handle.old.keeping ≡ None
         → (result ≡ no_clock)
         × ((left.new ≡ 0) × (held handle.new.keeping ≡ held handle.old.keeping)) }
-    ensures restored { handle.new.restored ≡ 0 }
+    ensures restored { handle.new.restored ≡ false }
 {
     *left = 0;
-    let Some((kept, mut clock)) = handle.take_clock(alloc) else {
-        return withholding::observe(alloc, handle, observed, ports, left);
+    handle.restored = false;
+    let Some(hosted) = handle.hosted() else {
+        return NO_CLOCK;
     };
-    let number = match clock.observe(observed, ports) {
+    match hosted {
+        Hosted::Clock(clock) => say_left(clock.observe(observed, ports), left),
+        Hosted::SavingClock(clock) => say_left(clock.observe(observed, ports), left),
+        _ => NO_CLOCK,
+    }
+}
+
+/// The number of what became of an observation. `left` gets the ports that stay disabled; 0 if it was refused.
+fn say_left(outcome: Result<PortsLeftDisabled, ObservationError>, left: &mut u8) -> u32
+    ensures { MatchResult outcome
+        (λ ports. (result ≡ 0) × (left.new ≡ left_number ports))
+        (λ e. (result ≡ observe_number e) × (left.new ≡ 0)) }
+{
+    match outcome {
         Ok(stayed) => {
             *left = left_number(&stayed);
             0
         }
-        Err(refusal) => observe_number(refusal),
-    };
-    *handle = Handle::of(kept, Hosted::Clock(clock));
-    number
+        Err(refusal) => {
+            *left = 0;
+            observe_number(refusal)
+        }
+    }
 }
 
 /// Leaves what a GET of this id is answered at the head of `octets`, `size` octets: 0, or the number of the refusal. What
@@ -291,10 +352,10 @@ pub extern "C" fn ptpm_clock_read(
     ensures empty { any_clock_held handle.old.keeping ≡ None → (result ≡ no_clock) × (size.new ≡ 0) }
 {
     *size = 0;
-    let Some(kept) = handle.kept() else {
+    let Some(hosted) = handle.hosted() else {
         return NO_CLOCK;
     };
-    let Some(clock) = kept.clock() else {
+    let Some(clock) = hosted.clock() else {
         return NO_CLOCK;
     };
     match clock.read(id, port, octets) {
@@ -316,10 +377,10 @@ pub extern "C" fn ptpm_clock_most_sent(handle: &mut Handle) -> usize
         → result ≡ most_sent (state_in c) }
     ensures empty { any_clock_held handle.old.keeping ≡ None → result ≡ 0 }
 {
-    let Some(kept) = handle.kept() else {
+    let Some(hosted) = handle.hosted() else {
         return 0;
     };
-    match kept.clock() {
+    match hosted.clock() {
         Some(clock) => clock.most_sent(),
         None => 0,
     }

@@ -11,8 +11,8 @@ ghost use Rattle.ptpm_host.specs.SessionSettings.{settings_refusal};
 ghost use Rattle.ptpm_c.specs.Held.{held, session_held};
 ghost use Rattle.ptpm_c.specs.Numbered.{IsNumberedBy};
 
-use crate::handle::Handle;
-use crate::kept::{Hosted, Kept};
+use crate::handle::{Handle, held};
+use crate::kept::Hosted;
 use ptpm_host::{HostedSession, NO_MEMORY, NO_ROOM, NO_SESSION, SessionSettings, restore_number};
 use std::alloc::Global;
 
@@ -39,12 +39,7 @@ pub extern "C" fn ptpm_session_image(
         → (result ≡ no_session) × ((size.new ≡ 0) × (octets.new ≡ octets.old)) }
 {
     *size = 0;
-    let Some(kept) = handle.kept() else {
-        return NO_SESSION;
-    };
-    let Some(session) = kept.session() else {
-        return NO_SESSION;
-    };
+    held!(handle, Hosted::Session(session), NO_SESSION);
     match session.image(octets) {
         Some(count) => {
             *size = count;
@@ -76,13 +71,11 @@ pub extern "C" fn ptpm_session_restore(
         Ok(session) => session,
         Err(refusal) => return restore_number(refusal),
     };
-    let Ok(kept) = Box::new(alloc, Kept::of(Hosted::Nothing)) else {
-        return NO_MEMORY;
-    };
     let Ok(session) = Box::new(alloc, session) else {
         return NO_MEMORY;
     };
-    handle.end(alloc);
-    *handle = Handle::of(kept, Hosted::Session(session));
-    0
+    match handle.put(alloc, Hosted::Session(session)) {
+        Ok(()) => 0,
+        Err(_) => NO_MEMORY,
+    }
 }

@@ -1,6 +1,6 @@
 //! The image of a clock for hosts in C: the octets in which it outlasts the host.
 
-ghost use Rattle.std.specs.Prelude.{◌≡◌, ◌≢◌, ◌≤◌, ◌<◌, ◌++◌, IsSomeAnd, None, Some, drop, length};
+ghost use Rattle.std.specs.Prelude.{◌≡◌, ◌≢◌, ◌≤◌, ◌<◌, ◌++◌, IsSomeAnd, None, Some, drop, length, true};
 ghost use Rattle.ptpm_saved.specs.Image.{SavedClock, clock_image};
 ghost use Rattle.ptpm_host.specs.declared.clock.HostedClock.{HostedClock};
 ghost use Rattle.ptpm_host.specs.declared.refusal.ClockRestoreRefusal.{ClockRestoreRefusal};
@@ -10,7 +10,7 @@ ghost use Rattle.ptpm_host.specs.Restoring.{CanRestore, IsBack, IsRestoreRefused
 ghost use Rattle.ptpm_c.specs.Held.{any_clock_held, clock_held, held};
 
 use crate::handle::Handle;
-use crate::kept::{Hosted, Kept};
+use crate::kept::Hosted;
 use ptpm_host::{HostedClock, ManagerSettings, NO_CLOCK, NO_MEMORY, NO_ROOM, clock_restore_number};
 use std::alloc::Global;
 
@@ -34,10 +34,10 @@ pub extern "C" fn ptpm_clock_image(handle: &mut Handle, octets: &mut [u8], size:
         → (result ≡ no_clock) × ((size.new ≡ 0) × (octets.new ≡ octets.old)) }
 {
     *size = 0;
-    let Some(kept) = handle.kept() else {
+    let Some(hosted) = handle.hosted() else {
         return NO_CLOCK;
     };
-    let Some(clock) = kept.clock() else {
+    let Some(clock) = hosted.clock() else {
         return NO_CLOCK;
     };
     match clock.image(octets) {
@@ -74,7 +74,7 @@ pub extern "C" fn ptpm_clock_restore(
     ensures refused { result ≢ 0 → (e : ClockRestoreRefusal)
         × IsRestoreRefused (record { 0 = identity.now }) ports managers.now image.now e
         × (result ≡ clock_restore_number e) }
-    ensures fresh { result ≡ 0 → handle.new.restored ≡ 1 }
+    ensures fresh { result ≡ 0 → handle.new.restored ≡ true }
     ensures unchanged { result ≢ 0
         → (gone.new ≡ 0)
         × (held handle.new.keeping ≡ held handle.old.keeping)
@@ -85,11 +85,10 @@ pub extern "C" fn ptpm_clock_restore(
         Ok(restored) => restored,
         Err(refusal) => return clock_restore_number(refusal),
     };
-    let Ok(kept) = Box::new(alloc, Kept::of(Hosted::Nothing)) else {
+    if handle.put(alloc, Hosted::Clock(clock)).is_err() {
         return NO_MEMORY;
-    };
-    handle.end(alloc);
-    *handle = Handle::of_restored(kept, Hosted::Clock(clock));
+    }
+    handle.restored = true;
     *gone = lost as usize;
     0
 }

@@ -23,8 +23,8 @@ ghost use Rattle.ptpm_c.specs.Held.{FindsNoSession, held, session_held};
 ghost use Rattle.ptpm_c.specs.Numbered.{IsNumberedBy};
 ghost use Rattle.ptpm_c.specs.Session.{HasHeard};
 
-use crate::handle::Handle;
-use crate::kept::{Hosted, Kept};
+use crate::handle::{Handle, held};
+use crate::kept::Hosted;
 use ptpm_host::{
     HostedSession, NO_MEMORY, NO_SESSION, SessionSettings, begin_number, give_up_number,
     heard_number, outcome_number, report_number, resume_number, send_number, session_number,
@@ -53,14 +53,13 @@ pub extern "C" fn ptpm_session_start(
         Ok(session) => session,
         Err(refusal) => return session_number(refusal),
     };
-    let Ok(kept) = Box::new(alloc, Kept::of(Hosted::Nothing)) else {
-        return NO_MEMORY;
-    };
     let Ok(session) = Box::new(alloc, session) else {
         return NO_MEMORY;
     };
-    *handle = Handle::of(kept, Hosted::Session(session));
-    0
+    match handle.put(alloc, Hosted::Session(session)) {
+        Ok(()) => 0,
+        Err(_) => NO_MEMORY,
+    }
 }
 
 /// Begins a request: 0. If it is refused, by the number of the refusal, nothing changes. Memory is asked for if nothing
@@ -68,7 +67,6 @@ pub extern "C" fn ptpm_session_start(
 #[tactic(auto, using(crate::proofs::Numbers::memory_of_refusal))]
 #[unsafe(no_mangle)]
 pub extern "C" fn ptpm_session_begin(
-    alloc: Global,
     handle: &mut Handle,
     action: u8,
     id: u16,
@@ -90,22 +88,17 @@ pub extern "C" fn ptpm_session_begin(
         → session_held handle.new.keeping ≡ Some s }
     ensures empty { FindsNoSession handle.old.keeping result handle.new.keeping }
 {
-    let Some((kept, mut session)) = handle.take_session(alloc) else {
-        return NO_SESSION;
-    };
-    let number = match session.begin(action, id, port, octets) {
+    held!(handle, Hosted::Session(session), NO_SESSION);
+    match session.begin(action, id, port, octets) {
         Ok(()) => 0,
         Err(refusal) => begin_number(refusal),
-    };
-    *handle = Handle::of(kept, Hosted::Session(session));
-    number
+    }
 }
 
 /// Does what `ptpm_session_begin` does at the port that is named, also for an id of the clock; it has to be one of the clock's.
 #[tactic(auto, using(crate::proofs::Numbers::memory_of_refusal))]
 #[unsafe(no_mangle)]
 pub extern "C" fn ptpm_session_begin_at(
-    alloc: Global,
     handle: &mut Handle,
     action: u8,
     id: u16,
@@ -127,26 +120,17 @@ pub extern "C" fn ptpm_session_begin_at(
         → session_held handle.new.keeping ≡ Some s }
     ensures empty { FindsNoSession handle.old.keeping result handle.new.keeping }
 {
-    let Some((kept, mut session)) = handle.take_session(alloc) else {
-        return NO_SESSION;
-    };
-    let number = match session.begin_at(action, id, port, octets) {
+    held!(handle, Hosted::Session(session), NO_SESSION);
+    match session.begin_at(action, id, port, octets) {
         Ok(()) => 0,
         Err(refusal) => begin_number(refusal),
-    };
-    *handle = Handle::of(kept, Hosted::Session(session));
-    number
+    }
 }
 
 /// Leaves the unanswered request at the head of `octets`, `size` octets: 0, or the number of the refusal. What follows
 /// them stays. A session that saves refuses it while something is unsaved. Takes no memory.
 #[unsafe(no_mangle)]
-pub extern "C" fn ptpm_session_send(
-    alloc: Global,
-    handle: &mut Handle,
-    octets: &mut [u8],
-    size: &mut usize,
-) -> u32
+pub extern "C" fn ptpm_session_send(handle: &mut Handle, octets: &mut [u8], size: &mut usize) -> u32
     ensures sent { (s : HostedSession)
         → session_held handle.old.keeping ≡ Some s
         → hand_refusal (length octets.old) s.standing s.session ≡ None
@@ -170,23 +154,19 @@ pub extern "C" fn ptpm_session_send(
         × ((size.new ≡ 0) × (held handle.new.keeping ≡ held handle.old.keeping)) }
 {
     *size = 0;
-    let Some((kept, mut session)) = handle.take_session(alloc) else {
-        return NO_SESSION;
-    };
-    let number = match session.send(octets) {
+    held!(handle, Hosted::Session(session), NO_SESSION);
+    match session.send(octets) {
         Ok(count) => {
             *size = count;
             0
         }
         Err(refusal) => send_number(refusal),
-    };
-    *handle = Handle::of(kept, Hosted::Session(session));
-    number
+    }
 }
 
 /// Gives the unanswered request this many attempts: 0, or the number of the refusal. Takes no memory.
 #[unsafe(no_mangle)]
-pub extern "C" fn ptpm_session_resume(alloc: Global, handle: &mut Handle, attempts: u8) -> u32
+pub extern "C" fn ptpm_session_resume(handle: &mut Handle, attempts: u8) -> u32
     ensures resumed { (s : HostedSession)
         → session_held handle.old.keeping ≡ Some s
         → is_waiting s.session ≡ true
@@ -199,20 +179,16 @@ pub extern "C" fn ptpm_session_resume(alloc: Global, handle: &mut Handle, attemp
         → (result ≡ resume_number SendError.Idle) × (session_held handle.new.keeping ≡ Some s) }
     ensures empty { FindsNoSession handle.old.keeping result handle.new.keeping }
 {
-    let Some((kept, mut session)) = handle.take_session(alloc) else {
-        return NO_SESSION;
-    };
-    let number = match session.resume(attempts) {
+    held!(handle, Hosted::Session(session), NO_SESSION);
+    match session.resume(attempts) {
         Ok(()) => 0,
         Err(refusal) => resume_number(refusal),
-    };
-    *handle = Handle::of(kept, Hosted::Session(session));
-    number
+    }
 }
 
 /// Lets the unanswered request go: 0, or the number of the refusal. Takes no memory.
 #[unsafe(no_mangle)]
-pub extern "C" fn ptpm_session_give_up(alloc: Global, handle: &mut Handle) -> u32
+pub extern "C" fn ptpm_session_give_up(handle: &mut Handle) -> u32
     ensures given_up { (s : HostedSession)
         → session_held handle.old.keeping ≡ Some s
         → give_up_refusal s.session ≡ None
@@ -225,20 +201,16 @@ pub extern "C" fn ptpm_session_give_up(alloc: Global, handle: &mut Handle) -> u3
         → (result ≡ give_up_number e) × (session_held handle.new.keeping ≡ Some s) }
     ensures empty { FindsNoSession handle.old.keeping result handle.new.keeping }
 {
-    let Some((kept, mut session)) = handle.take_session(alloc) else {
-        return NO_SESSION;
-    };
-    let number = match session.give_up() {
+    held!(handle, Hosted::Session(session), NO_SESSION);
+    match session.give_up() {
         Ok(()) => 0,
         Err(refusal) => give_up_number(refusal),
-    };
-    *handle = Handle::of(kept, Hosted::Session(session));
-    number
+    }
 }
 
 /// From now on requests are sent, and replies expected, in this domain: 0, or the number of the refusal. Takes no memory.
 #[unsafe(no_mangle)]
-pub extern "C" fn ptpm_session_retune(alloc: Global, handle: &mut Handle, domain: u8) -> u32
+pub extern "C" fn ptpm_session_retune(handle: &mut Handle, domain: u8) -> u32
     ensures retuned { (s : HostedSession)
         → session_held handle.old.keeping ≡ Some s
         → (result ≡ 0)
@@ -246,18 +218,15 @@ pub extern "C" fn ptpm_session_retune(alloc: Global, handle: &mut Handle, domain
         (λ t. IsAt t (retuned s.session domain) s.report s.standing) }
     ensures empty { FindsNoSession handle.old.keeping result handle.new.keeping }
 {
-    let Some((kept, mut session)) = handle.take_session(alloc) else {
-        return NO_SESSION;
-    };
+    held!(handle, Hosted::Session(session), NO_SESSION);
     session.retune(domain);
-    *handle = Handle::of(kept, Hosted::Session(session));
     0
 }
 
 /// What the session makes of a datagram: 0 for the answer, or the number of the reason to ignore it. Or it is the number of the
 /// refusal, and then nothing changes.
 #[unsafe(no_mangle)]
-pub extern "C" fn ptpm_session_receive(alloc: Global, handle: &mut Handle, datagram: &[u8]) -> u32
+pub extern "C" fn ptpm_session_receive(handle: &mut Handle, datagram: &[u8]) -> u32
     ensures heard { (s : HostedSession)
         → session_held handle.old.keeping ≡ Some s
         → result ≢ no_memory
@@ -272,15 +241,11 @@ pub extern "C" fn ptpm_session_receive(alloc: Global, handle: &mut Handle, datag
         × (session_held handle.new.keeping ≡ Some s)) }
     ensures empty { FindsNoSession handle.old.keeping result handle.new.keeping }
 {
-    let Some((kept, mut session)) = handle.take_session(alloc) else {
-        return NO_SESSION;
-    };
-    let number = match session.receive(datagram) {
+    held!(handle, Hosted::Session(session), NO_SESSION);
+    match session.receive(datagram) {
         Ok(heard) => heard_number(heard),
         Err(_) => NO_MEMORY,
-    };
-    *handle = Handle::of(kept, Hosted::Session(session));
-    number
+    }
 }
 
 /// How many requests were begun; 0 if the handle holds no session. Takes no memory.
@@ -292,12 +257,7 @@ pub extern "C" fn ptpm_session_issued(handle: &mut Handle) -> u64
         → result ≡ s.session.issued }
     ensures empty { session_held handle.old.keeping ≡ None → result ≡ 0 }
 {
-    let Some(kept) = handle.kept() else {
-        return 0;
-    };
-    let Some(session) = kept.session() else {
-        return 0;
-    };
+    held!(handle, Hosted::Session(session), 0);
     session.issued()
 }
 
@@ -333,12 +293,7 @@ pub extern "C" fn ptpm_session_report(
 {
     *size = 0;
     *error = 0;
-    let Some(kept) = handle.kept() else {
-        return NO_SESSION;
-    };
-    let Some(session) = kept.session() else {
-        return NO_SESSION;
-    };
+    held!(handle, Hosted::Session(session), NO_SESSION);
     match session.report(octets) {
         Ok(outcome) => {
             *size = outcome.size();

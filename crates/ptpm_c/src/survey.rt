@@ -18,8 +18,8 @@ ghost use Rattle.ptpm_c.specs.declared.kept.Hosted.TheVariants.{Nothing};
 ghost use Rattle.ptpm_c.specs.Held.{held, survey_held};
 ghost use Rattle.ptpm_c.specs.Survey.{HasSurveyed, IsAt};
 
-use crate::handle::Handle;
-use crate::kept::{Hosted, Kept};
+use crate::handle::{Handle, held};
+use crate::kept::Hosted;
 use ptpm_host::{
     HostedSurvey, NO_MEMORY, NO_SURVEY, Source, SurveySettings, outcome_number, report_number,
     send_number, session_number, surveyed_number,
@@ -84,14 +84,13 @@ fn put(alloc: Global, handle: &mut Handle, survey: HostedSurvey) -> u32
     ensures refused { IfNone (survey_held handle.new.keeping)
         ((result ≡ no_memory) × (held handle.new.keeping ≡ Nothing)) }
 {
-    let Ok(kept) = Box::new(alloc, Kept::of(Hosted::Nothing)) else {
-        return NO_MEMORY;
-    };
     let Ok(survey) = Box::new(alloc, survey) else {
         return NO_MEMORY;
     };
-    *handle = Handle::of(kept, Hosted::Survey(survey));
-    0
+    match handle.put(alloc, Hosted::Survey(survey)) {
+        Ok(()) => 0,
+        Err(_) => NO_MEMORY,
+    }
 }
 
 /// Leaves the GET at the head of `octets`, `size` octets: 0, or the number of the refusal. What follows them stays. Takes
@@ -112,12 +111,7 @@ pub extern "C" fn ptpm_survey_send(handle: &mut Handle, octets: &mut [u8], size:
     ensures empty { survey_held handle.old.keeping ≡ None → (result ≡ no_survey) × (size.new ≡ 0) }
 {
     *size = 0;
-    let Some(kept) = handle.kept() else {
-        return NO_SURVEY;
-    };
-    let Some(survey) = kept.survey() else {
-        return NO_SURVEY;
-    };
+    held!(handle, Hosted::Survey(survey), NO_SURVEY);
     match survey.send(octets) {
         Ok(count) => {
             *size = count;
@@ -129,7 +123,7 @@ pub extern "C" fn ptpm_survey_send(handle: &mut Handle, octets: &mut [u8], size:
 
 /// What the survey makes of a datagram, as a number. If memory is refused, nothing changes.
 #[unsafe(no_mangle)]
-pub extern "C" fn ptpm_survey_receive(alloc: Global, handle: &mut Handle, datagram: &[u8]) -> u32
+pub extern "C" fn ptpm_survey_receive(handle: &mut Handle, datagram: &[u8]) -> u32
     ensures surveyed { (s : HostedSurvey)
         → survey_held handle.old.keeping ≡ Some s
         → result ≢ no_memory
@@ -156,15 +150,11 @@ pub extern "C" fn ptpm_survey_receive(alloc: Global, handle: &mut Handle, datagr
     ensures empty { survey_held handle.old.keeping ≡ None
         → (result ≡ no_survey) × (held handle.new.keeping ≡ held handle.old.keeping) }
 {
-    let Some((kept, mut survey)) = handle.take_survey(alloc) else {
-        return NO_SURVEY;
-    };
-    let number = match survey.receive(datagram) {
+    held!(handle, Hosted::Survey(survey), NO_SURVEY);
+    match survey.receive(datagram) {
         Ok(surveyed) => surveyed_number(surveyed),
         Err(_) => NO_MEMORY,
-    };
-    *handle = Handle::of(kept, Hosted::Survey(survey));
-    number
+    }
 }
 
 /// How many answers are kept; 0 if the handle holds no survey. Takes no memory.
@@ -176,12 +166,7 @@ pub extern "C" fn ptpm_survey_count(handle: &mut Handle) -> usize
         → result ≡ length s.survey.answers }
     ensures empty { survey_held handle.old.keeping ≡ None → result ≡ 0 }
 {
-    let Some(kept) = handle.kept() else {
-        return 0;
-    };
-    let Some(survey) = kept.survey() else {
-        return 0;
-    };
+    held!(handle, Hosted::Survey(survey), 0);
     survey.count()
 }
 
@@ -221,12 +206,7 @@ pub extern "C" fn ptpm_survey_answer(
 {
     *size = 0;
     *error = 0;
-    let Some(kept) = handle.kept() else {
-        return NO_SURVEY;
-    };
-    let Some(survey) = kept.survey() else {
-        return NO_SURVEY;
-    };
+    held!(handle, Hosted::Survey(survey), NO_SURVEY);
     match survey.answer(place, octets) {
         Ok(answer) => {
             *source = answer.source;

@@ -1,6 +1,6 @@
 //! The calls of a clock whose host says when it was saved, for hosts in C. Nothing is given out before.
 
-ghost use Rattle.std.specs.Prelude.{◌≡◌, ◌≢◌, ◌≤◌, ◌<◌, ◌==◌, ◌++◌, IsSomeAnd, None, Some, drop, length, false};
+ghost use Rattle.std.specs.Prelude.{◌≡◌, ◌≢◌, ◌≤◌, ◌<◌, ◌++◌, IsSomeAnd, None, Some, drop, length, false};
 ghost use Rattle.ptpm_data.specs.Changed.{changed, no_members};
 ghost use Rattle.ptpm_agent.specs.declared.verdict.Verdict.{Verdict};
 ghost use Rattle.ptpm_saved.specs.Image.{clock_image};
@@ -10,17 +10,17 @@ ghost use Rattle.ptpm_host.specs.Clock.{state_in};
 ghost use Rattle.ptpm_host.specs.Numbers.{no_clock, no_memory, no_room, verdict_number};
 ghost use Rattle.ptpm_c.specs.Held.{any_clock_held, clock_held, held, saving_clock_held};
 ghost use Rattle.ptpm_c.specs.Turned.{SendsNothing};
-ghost use Rattle.ptpm_c.specs.Withholding.{BeginsSaved, IsSaved, Observes, RefusesCall, RefusesSave, TakesCall, why_not_saved};
+ghost use Rattle.ptpm_c.specs.Withholding.{BeginsSaved, IsSaved, RefusesCall, RefusesSave, TakesCall, why_not_saved};
 
-use crate::handle::Handle;
+use crate::handle::{Handle, held};
 use crate::kept::Hosted;
 use ptpm_agent::Verdict;
-use ptpm_data::{ChangedMembers, DataSets};
+use ptpm_data::ChangedMembers;
 use ptpm_host::{
-    NO_CLOCK, NO_MEMORY, NO_ROOM, ObservedClock, ObservedPort, SavingClock, Sent, left_number,
-    observe_number, saved_number, saving_number, verdict_number,
+    NO_CLOCK, NO_MEMORY, NO_ROOM, SavingClock, Sent, saved_number, saving_number, verdict_number,
 };
 use std::alloc::Global;
+use std::mem;
 
 /// From now on the clock that a handle holds gives nothing out before its host says that it is saved: 0. It counts as saved if it
 /// was restored and is as it was then. Otherwise it takes no datagram before it is saved for the first time. Memory is asked for
@@ -31,7 +31,7 @@ pub extern "C" fn ptpm_clock_saving(alloc: Global, handle: &mut Handle) -> u32
         → clock_held handle.old.keeping ≡ Some c
         → result ≡ 0
         → IsSomeAnd (saving_clock_held handle.new.keeping)
-        (BeginsSaved c (handle.old.restored == 1)) }
+        (BeginsSaved c handle.old.restored) }
     ensures already { (w : SavingClock)
         → saving_clock_held handle.old.keeping ≡ Some w
         → (result ≡ 0) × (saving_clock_held handle.new.keeping ≡ Some w) }
@@ -40,45 +40,40 @@ pub extern "C" fn ptpm_clock_saving(alloc: Global, handle: &mut Handle) -> u32
         → result ≢ 0
         → (result ≡ no_memory)
         × ((clock_held handle.new.keeping ≡ Some c)
-        × ((handle.new.restored == 1) ≡ (handle.old.restored == 1))) }
+        × (handle.new.restored ≡ handle.old.restored)) }
     ensures empty { any_clock_held handle.old.keeping ≡ None
         → (result ≡ no_clock) × (held handle.new.keeping ≡ held handle.old.keeping) }
 {
-    let saved = handle.is_restored();
-    let Some((kept, clock)) = handle.take_clock(alloc) else {
-        return saving_already(alloc, handle);
+    let saved = handle.restored;
+    let Some(hosted) = handle.hosted() else {
+        return NO_CLOCK;
     };
-    match Box::new(alloc, SavingClock::new(clock, saved)) {
-        Ok(saving) => {
-            *handle = Handle::of(kept, Hosted::SavingClock(saving));
+    match mem::replace(hosted, Hosted::Nothing) {
+        Hosted::Clock(clock) => match Box::new(alloc, SavingClock::new(clock, saved)) {
+            Ok(saving) => {
+                *hosted = Hosted::SavingClock(saving);
+                0
+            }
+            Err(refused) => {
+                *hosted = Hosted::Clock(refused.value.into_clock());
+                NO_MEMORY
+            }
+        },
+        Hosted::SavingClock(saving) => {
+            *hosted = Hosted::SavingClock(saving);
             0
         }
-        Err(refused) => {
-            let clock = Hosted::Clock(refused.value.into_clock());
-            *handle = Handle::of_unchanged(kept, clock, saved);
-            NO_MEMORY
+        other => {
+            *hosted = other;
+            NO_CLOCK
         }
     }
 }
 
-/// 0 if a handle holds a clock whose host says when it was saved, and the number of its lack if not. It holds what it held.
-fn saving_already(alloc: Global, handle: &mut Handle) -> u32
-    ensures held { held handle.new.keeping ≡ held handle.old.keeping }
-    ensures saving { (w : SavingClock)
-        → saving_clock_held handle.old.keeping ≡ Some w
-        → result ≡ 0 }
-    ensures none { saving_clock_held handle.old.keeping ≡ None → result ≡ no_clock }
-{
-    let Some((kept, clock)) = handle.take_saving_clock(alloc) else {
-        return NO_CLOCK;
-    };
-    *handle = Handle::of(kept, Hosted::SavingClock(clock));
-    0
-}
-
 /// What becomes of a datagram: the number of the verdict, or of the refusal, and then nothing is sent. `few` says that no more places
 /// are asked for than the clock can use.
-fn hand_in(
+#[inline(never)]
+pub(crate) fn hand_in(
     clock: &mut SavingClock,
     port: u16,
     datagram: &[u8],
@@ -102,59 +97,10 @@ fn hand_in(
     }
 }
 
-/// The members that have another value in a clock than in these data sets. There are none unless this is the number of a new
-/// request's verdict.
-fn changed_if_new(number: u32, clock: &SavingClock, before: &DataSets) -> ChangedMembers
-    ensures new { number ≡ verdict_number Verdict.AnsweredNew
-        → result ≡ changed before.now clock.now.clock.value.agent.sets }
-    ensures other { number ≢ verdict_number Verdict.AnsweredNew → result ≡ no_members }
-{
-    if number != verdict_number(Verdict::AnsweredNew) {
-        return ChangedMembers::NONE;
-    }
-    clock.clock().sets().changed_since(before)
-}
-
-/// What becomes of a datagram at a clock whose host says when it was saved: the number of the verdict, or of the refusal. Takes no
-/// memory.
+/// What `hand_in` does. `members` gets those that a new request has changed; none after any other answer.
 #[inline(never)]
-pub(crate) fn judge(
-    alloc: Global,
-    handle: &mut Handle,
-    port: u16,
-    datagram: &[u8],
-    sent: &mut [Sent],
-    count: &mut usize,
-) -> u32
-    ensures taken { (w : SavingClock)
-        → saving_clock_held handle.old.keeping ≡ Some w
-        → TakesCall false w port datagram.now sent.old result count.new sent.new
-        (saving_clock_held handle.new.keeping) }
-    ensures refused { (w : SavingClock)
-        → saving_clock_held handle.old.keeping ≡ Some w
-        → RefusesCall false w port sent.old result count.new sent.new
-        (saving_clock_held handle.new.keeping) }
-    ensures empty { saving_clock_held handle.old.keeping ≡ None
-        → (result ≡ no_clock)
-        × (SendsNothing sent.old count.new sent.new
-        × (held handle.new.keeping ≡ held handle.old.keeping)) }
-    ensures restored { handle.new.restored ≡ 0 }
-{
-    *count = 0;
-    let Some((kept, mut clock)) = handle.take_saving_clock(alloc) else {
-        return NO_CLOCK;
-    };
-    let number = hand_in(&mut *clock, port, datagram, false, sent, count);
-    *handle = Handle::of(kept, Hosted::SavingClock(clock));
-    number
-}
-
-/// What `judge` does. Also leaves in `members` those that have another value after a new request than before it; none after any
-/// other answer. Takes no memory.
-#[inline(never)]
-pub(crate) fn judge_changed(
-    alloc: Global,
-    handle: &mut Handle,
+pub(crate) fn hand_in_changed(
+    clock: &mut SavingClock,
     port: u16,
     datagram: &[u8],
     few: bool,
@@ -162,68 +108,20 @@ pub(crate) fn judge_changed(
     count: &mut usize,
     members: &mut ChangedMembers,
 ) -> u32
-    ensures taken { (w : SavingClock)
-        → saving_clock_held handle.old.keeping ≡ Some w
-        → TakesCall few w port datagram.now sent.old result count.new sent.new
-        (saving_clock_held handle.new.keeping) }
-    ensures changed { (w : SavingClock)
-        → saving_clock_held handle.old.keeping ≡ Some w
-        → result ≡ verdict_number Verdict.AnsweredNew
-        → IsSomeAnd (saving_clock_held handle.new.keeping)
-        (λ x. members.new ≡ changed w.clock.value.agent.sets x.clock.value.agent.sets) }
+    ensures taken { TakesCall few clock.old port datagram.now sent.old result count.new sent.new
+        (Some clock.new) }
+    ensures changed { result ≡ verdict_number Verdict.AnsweredNew → members.new
+        ≡ changed clock.old.clock.value.agent.sets clock.new.clock.value.agent.sets }
     ensures new_alone { result ≢ verdict_number Verdict.AnsweredNew → members.new ≡ no_members }
-    ensures refused { (w : SavingClock)
-        → saving_clock_held handle.old.keeping ≡ Some w
-        → RefusesCall few w port sent.old result count.new sent.new
-        (saving_clock_held handle.new.keeping) }
-    ensures empty { saving_clock_held handle.old.keeping ≡ None
-        → (result ≡ no_clock)
-        × (SendsNothing sent.old count.new sent.new
-        × (held handle.new.keeping ≡ held handle.old.keeping)) }
-    ensures restored { handle.new.restored ≡ 0 }
+    ensures refused { RefusesCall few clock.old port sent.old result count.new sent.new
+        (Some clock.new) }
 {
-    *count = 0;
     *members = ChangedMembers::NONE;
-    let Some((kept, mut clock)) = handle.take_saving_clock(alloc) else {
-        return NO_CLOCK;
-    };
     let before = clock.clock().sets().copy();
-    let number = hand_in(&mut *clock, port, datagram, few, sent, count);
-    *members = changed_if_new(number, clock.as_ref(), &before);
-    *handle = Handle::of(kept, Hosted::SavingClock(clock));
-    number
-}
-
-/// Sets what a host observes at a clock whose host says when it was saved, as `ptpm_clock_observe` does. Nothing is saved for it.
-#[inline(never)]
-pub(crate) fn observe(
-    alloc: Global,
-    handle: &mut Handle,
-    observed: &ObservedClock,
-    ports: &[ObservedPort],
-    left: &mut u8,
-) -> u32
-    ensures saving { (w : SavingClock)
-        → saving_clock_held handle.old.keeping ≡ Some w
-        → Observes w observed.now ports.now result left.new
-        (saving_clock_held handle.new.keeping) }
-    ensures empty { saving_clock_held handle.old.keeping ≡ None
-        → (result ≡ no_clock)
-        × ((left.new ≡ 0) × (held handle.new.keeping ≡ held handle.old.keeping)) }
-    ensures restored { handle.new.restored ≡ 0 }
-{
-    *left = 0;
-    let Some((kept, mut clock)) = handle.take_saving_clock(alloc) else {
-        return NO_CLOCK;
-    };
-    let number = match clock.observe(observed, ports) {
-        Ok(stayed) => {
-            *left = left_number(&stayed);
-            0
-        }
-        Err(refusal) => observe_number(refusal),
-    };
-    *handle = Handle::of(kept, Hosted::SavingClock(clock));
+    let number = hand_in(clock, port, datagram, few, sent, count);
+    if number == verdict_number(Verdict::AnsweredNew) {
+        *members = clock.clock().sets().changed_since(&before);
+    }
     number
 }
 
@@ -256,12 +154,7 @@ pub extern "C" fn ptpm_clock_image_of(
 {
     *size = 0;
     *token = 0;
-    let Some(kept) = handle.kept() else {
-        return NO_CLOCK;
-    };
-    let Some(clock) = kept.saving_clock() else {
-        return NO_CLOCK;
-    };
+    held!(handle, Hosted::SavingClock(clock), NO_CLOCK);
     match clock.image(octets) {
         Some((count, of)) => {
             *size = count;
@@ -276,7 +169,6 @@ pub extern "C" fn ptpm_clock_image_of(
 /// withheld. Otherwise it answers the number of the refusal, and nothing changes. Takes no memory.
 #[unsafe(no_mangle)]
 pub extern "C" fn ptpm_clock_saved(
-    alloc: Global,
     handle: &mut Handle,
     token: u64,
     sent: &mut [Sent],
@@ -298,16 +190,12 @@ pub extern "C" fn ptpm_clock_saved(
         × (held handle.new.keeping ≡ held handle.old.keeping)) }
 {
     *count = 0;
-    let Some((kept, mut clock)) = handle.take_saving_clock(alloc) else {
-        return NO_CLOCK;
-    };
-    let number = match clock.saved(token, sent) {
+    held!(handle, Hosted::SavingClock(clock), NO_CLOCK);
+    match clock.saved(token, sent) {
         Ok(messages) => {
             *count = messages;
             0
         }
         Err(refusal) => saved_number(refusal),
-    };
-    *handle = Handle::of(kept, Hosted::SavingClock(clock));
-    number
+    }
 }

@@ -9,15 +9,14 @@ ghost use Rattle.ptpm_host.specs.Session.{IsAt};
 ghost use Rattle.ptpm_host.specs.SessionStanding.{saved_standing, withholding_standing};
 ghost use Rattle.ptpm_c.specs.Held.{FindsNoSession, held, session_held};
 
-use crate::handle::Handle;
+use crate::handle::{Handle, held};
 use crate::kept::Hosted;
 use ptpm_host::{NO_ROOM, NO_SESSION, saved_number};
-use std::alloc::Global;
 
 /// From now on the session that a handle holds hands no request out while something is unsaved: 0. It counts as saved if it was
 /// restored and nothing was begun, given up or heard since. Nothing changes if it is so already. Takes no memory.
 #[unsafe(no_mangle)]
-pub extern "C" fn ptpm_session_saving(alloc: Global, handle: &mut Handle) -> u32
+pub extern "C" fn ptpm_session_saving(handle: &mut Handle) -> u32
     ensures saving { (s : HostedSession)
         → session_held handle.old.keeping ≡ Some s
         → (result ≡ 0)
@@ -25,11 +24,8 @@ pub extern "C" fn ptpm_session_saving(alloc: Global, handle: &mut Handle) -> u32
         (λ t. IsAt t s.session s.report (withholding_standing s.standing)) }
     ensures empty { FindsNoSession handle.old.keeping result handle.new.keeping }
 {
-    let Some((kept, mut session)) = handle.take_session(alloc) else {
-        return NO_SESSION;
-    };
+    held!(handle, Hosted::Session(session), NO_SESSION);
     session.withhold();
-    *handle = Handle::of(kept, Hosted::Session(session));
     0
 }
 
@@ -68,12 +64,7 @@ pub extern "C" fn ptpm_session_image_of(
 {
     *size = 0;
     *token = 0;
-    let Some(kept) = handle.kept() else {
-        return NO_SESSION;
-    };
-    let Some(session) = kept.session() else {
-        return NO_SESSION;
-    };
+    held!(handle, Hosted::Session(session), NO_SESSION);
     if !session.withholds() {
         return NO_SESSION;
     }
@@ -90,7 +81,7 @@ pub extern "C" fn ptpm_session_image_of(
 /// Takes the host's word that a restart would find the image of this token: 0. Then requests are handed out again. Otherwise it
 /// answers the number of the refusal, and nothing changes. Takes no memory.
 #[unsafe(no_mangle)]
-pub extern "C" fn ptpm_session_saved(alloc: Global, handle: &mut Handle, token: u64) -> u32
+pub extern "C" fn ptpm_session_saved(handle: &mut Handle, token: u64) -> u32
     ensures saved { (s : HostedSession)
         → session_held handle.old.keeping ≡ Some s
         → s.standing.withholds ≡ true
@@ -110,17 +101,13 @@ pub extern "C" fn ptpm_session_saved(alloc: Global, handle: &mut Handle, token: 
         → (result ≡ no_session) × (session_held handle.new.keeping ≡ Some s) }
     ensures empty { FindsNoSession handle.old.keeping result handle.new.keeping }
 {
-    let Some((kept, mut session)) = handle.take_session(alloc) else {
-        return NO_SESSION;
-    };
-    let number = if !session.withholds() {
+    held!(handle, Hosted::Session(session), NO_SESSION);
+    if !session.withholds() {
         NO_SESSION
     } else {
         match session.saved(token) {
             Ok(()) => 0,
             Err(refusal) => saved_number(refusal),
         }
-    };
-    *handle = Handle::of(kept, Hosted::Session(session));
-    number
+    }
 }

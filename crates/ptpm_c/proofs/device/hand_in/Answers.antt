@@ -1,6 +1,6 @@
 use Rattle.std.proofs.Common.{◌≡◌, ◌∙◌}
 use Rattle.ptpm_data.specs.Changed.{changed}
-use Rattle.ptpm_c.proofs.SayingIn.{none_unless_new}
+use Rattle.ptpm_c.proofs.Unchanged.{none_unless_new}
 use Rattle.ptpm_c.proofs.device.hand_in.Goals as goal
 
 pub returns-in-Ok-clause-changed : goal.returns-in-Ok-clause-changed
