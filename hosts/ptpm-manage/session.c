@@ -22,27 +22,20 @@ static void write_owner(char text[OWNER], const uint8_t manager[8], uint16_t por
     snprintf(text, OWNER, "manager %s/%u with clock %s", own, port, clock);
 }
 
-_Noreturn static void refuse_other(const char *whose, const struct ptpm_session_settings *settings) {
-    char owner[OWNER];
-    write_owner(owner, settings->clock, settings->port, settings->target);
-    refuse("nothing was asked: OTHER_SESSION: %s has the session of %s, and not of %s", session_path(), whose, owner);
-}
-
 /* The image is of another session than the settings'. */
 _Noreturn static void refuse_image(const struct session_image *image, const struct ptpm_session_settings *settings) {
-    char owner[OWNER + 32];
+    char owner[OWNER], wanted[OWNER], ports[32] = "";
     write_owner(owner, image->manager, image->manager_port, image->target);
-    if (image->ports != settings->target_ports) {
-        snprintf(owner + strlen(owner), 32, " of %u ports", image->ports);
-    }
-    refuse_other(owner, settings);
+    write_owner(wanted, settings->clock, settings->port, settings->target);
+    if (image->ports != settings->target_ports) snprintf(ports, sizeof ports, " of %u ports", image->ports);
+    refuse("nothing was asked: OTHER_SESSION: %s has the session of %s%s, and not of %s", session_path(), owner, ports, wanted);
 }
 
 /* The file has no session that this program can continue. */
 _Noreturn static void refuse_octets(uint32_t refusal) {
     const char *why = "no memory is left";
     switch (refusal) {
-    case PTPM_NOT_AN_IMAGE: why = "it has neither a session nor a number; without it a new session begins"; break;
+    case PTPM_NOT_AN_IMAGE: why = "it has no session; without it a new session begins"; break;
     case PTPM_DAMAGED: why = "octets of the session were lost or changed; without it a new session begins"; break;
     case PTPM_OTHER_VERSION: why = "it has a session in the form of another version of this program"; break;
     case PTPM_OTHER_KIND: why = "it has the state of a clock, and not a session"; break;
@@ -72,22 +65,6 @@ static enum ptpm_asker_restored restore(struct ptpm_asker *asker, const struct t
     uint8_t drawn[DRAWN];
     struct ptpm_asker_settings settings = settings_of(task, drawn);
     return ptpm_asker_restore(asker, &settings, drawn, octets, size);
-}
-
-/* The file has no image: then a number in its place. The image of a session that starts there takes the place of the octets; how many
-   octets it has. */
-static size_t image_at_number(const struct task *task, uint8_t octets[MOST_SESSION_OCTETS], size_t size) {
-    struct ptpm_session session = { 0 };
-    struct ptpm_session_settings settings = task->settings;
-    switch (read_number_line(octets, size, &settings, &settings.first)) {
-    case NUMBER_LINE: break;
-    case OTHER_LINE: refuse_other("another manager or another clock", &settings);
-    case NO_LINE: refuse_octets(PTPM_NOT_AN_IMAGE);
-    }
-    if (ptpm_session_start(&session, &settings) != PTPM_STARTED) refuse_octets(PTPM_NO_MEMORY);
-    ptpm_session_image(&session, octets, PTPM_SESSION_IMAGE_OCTETS, &size);
-    ptpm_session_stop(&session);
-    return size;
 }
 
 /* A clock that lacks the port that a question names never answers it. So if this run names another port, the question is given up, unless
@@ -125,10 +102,6 @@ static void open_octets(struct kept_session *session, const struct task *task, u
     uint16_t port = task->port == EVERY_PORT ? 0 : task->port;
     uint8_t there;
     enum ptpm_asker_restored answer = restore(asker, task, octets, size);
-    if (answer == PTPM_ASKER_RESTORE_NOT_AN_IMAGE) {
-        size = image_at_number(task, octets, size);
-        answer = restore(asker, task, octets, size);
-    }
     struct session_image image = read_image(octets, size);
     if (answer == PTPM_ASKER_RESTORE_OTHER_SESSION) refuse_image(&image, &task->settings);
     if (answer == PTPM_ASKER_RESTORED && ptpm_asker_earlier(asker, 0, &there) == PTPM_QUESTION_LEFT && image.port != port) {

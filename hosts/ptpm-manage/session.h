@@ -24,8 +24,7 @@ struct kept_session {
 };
 
 /* Takes the file of the task's session only for this run. The asker gets the session that it has, or a new one if there is no file.
-   A file may have a number instead of an image: the session starts there. Ends the program, status 2, if the file has anything else,
-   or another session. */
+   Ends the program, status 2, if the file has anything else, or another session. */
 void open_session(struct kept_session *session, const struct task *task);
 
 /* Has the asker begin again with the session as it is, after a request without an answer. */

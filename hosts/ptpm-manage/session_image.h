@@ -1,10 +1,8 @@
-/* What this program itself reads of the file of a session: the image that the library made (ptpm_session_image), or a line instead of
-   one. The library decides whether octets are an image. The line has the number of the next request. After it the manager and the
-   clock may follow: `40214 020000fffe000010/1 aabbccfffeddee01`. */
+/* What this program itself reads of a session's image, which the library made (ptpm_session_image). The library decides whether octets are
+   one. */
 #ifndef SESSION_IMAGE_H
 #define SESSION_IMAGE_H
 
-#include "ptpm.h"
 #include <stdbool.h>
 #include <stddef.h>
 #include <stdint.h>
@@ -23,10 +21,5 @@ struct session_image {
 
 /* Reads octets at the places of an image. If there are too few for one, all members are 0. */
 struct session_image read_image(const uint8_t *octets, size_t size);
-
-enum line { NO_LINE, OTHER_LINE, NUMBER_LINE };
-
-/* Whether these octets are such a line: of another manager or clock than those of the settings, or with *number for theirs. */
-enum line read_number_line(const uint8_t *octets, size_t size, const struct ptpm_session_settings *settings, uint16_t *number);
 
 #endif

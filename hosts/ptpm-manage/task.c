@@ -39,7 +39,7 @@ enum { SECOND = 1000, MOST_SECONDS = 86400 };
 static const struct option options[] = {
     { "interface", required_argument, NULL, 'i' }, { "udp", required_argument, NULL, UDP }, { "ipv6", no_argument, NULL, '6' },
     { "ethernet", no_argument, NULL, '2' }, { "any-source", no_argument, NULL, ANY_SOURCE },
-    { "unix", required_argument, NULL, 'u' }, { "target", required_argument, NULL, 'T' }, { "to", required_argument, NULL, 'T' },
+    { "unix", required_argument, NULL, 'u' }, { "target", required_argument, NULL, 'T' },
     { "port", required_argument, NULL, 'p' }, { "domain", required_argument, NULL, 'd' }, { "sdo", required_argument, NULL, SDO },
     { "hops", required_argument, NULL, 'b' },
     { "manager", required_argument, NULL, 'm' }, { "numbers", required_argument, NULL, 'k' },

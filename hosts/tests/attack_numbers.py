@@ -37,30 +37,6 @@ def next_number(name):
     return (int.from_bytes(content[31:33], "big") + int.from_bytes(content[36:44], "big")) % 65536
 
 
-def number_files():
-    """Files with a number in place of a session, alone or with the manager and the clock."""
-    clock = Clock("-m", MANAGER + "/1", "-u", path, ME)
-    number = os.path.join(work, "number")
-    owner = f"{MANAGER}/1 {ME}"
-    for text in ["655350", "65536", "7x", "x7", "", "\n", " 7", "7 ", "+7", "-1", "0x7", "7\n\n", "7\n8\n", "00000007", "7\0",
-                 f"65536 {owner}\n", f"7 {owner} 8\n", f"7  {owner}\n", f"7 {owner}\n\n", f"7 {MANAGER} {ME}\n",
-                 f"7 {MANAGER}/1\n"]:
-        write("number", text)
-        status, said, _ = asks("-k", number)
-        check(f"the number {text!r} is refused", status == 2 and "nothing was asked: NOT_AN_IMAGE" in said and read("number") == text)
-    for text in [f"7 {MANAGER}/2 {ME}\n", f"7 {MANAGER}/1 {OTHER}\n", f"7 {ME}/1 {MANAGER}\n"]:
-        write("number", text)
-        status, said, _ = asks("-k", number)
-        check(f"the number {text!r} is another session's", status == 2 and "OTHER_SESSION" in said and read("number") == text)
-    for text, first in [("65535\n", 65535), ("7", 7), ("00009\n", 9), (f"65534 {owner}\n", 65534), (f"7 {owner}", 7)]:
-        write("number", text)
-        status, _, _ = asks("-k", number)
-        check(f"the number {text!r} is taken", status == 0 and octets("number") == sealed(image(first, 2), 3))
-        clock.end()
-        clock = Clock("-m", MANAGER + "/1", "-u", path, ME)
-    clock.end()
-
-
 def files_in_the_way():
     clock = Clock("-m", MANAGER + "/1", "-u", path, ME)
     number = write_octets("number", image(7, 0))
@@ -91,7 +67,7 @@ def files_without_a_session():
     """Images of sessions that were written by hand, and are refused."""
     whole = image(7, 2)
     refused = [(whole[:size], "NOT_AN_IMAGE" if size < 12 else "DAMAGED") for size in range(len(whole))] + [
-        (b"ptpn" + whole[4:], "NOT_AN_IMAGE"), (whole[:5] + b"\2" + whole[6:], "OTHER_VERSION"),
+        (b"7\n", "NOT_AN_IMAGE"), (b"ptpn" + whole[4:], "NOT_AN_IMAGE"), (whole[:5] + b"\2" + whole[6:], "OTHER_VERSION"),
         (whole[:4] + b"\1" + whole[5:], "OTHER_KIND"), (whole + b"\0", "DAMAGED"), (whole * 40, "DAMAGED"),
         (whole[:6] + b"\1" + whole[7:], "DAMAGED"), (image(7, 1000001), "DAMAGED"), (image(7, 2, ports=9), "DAMAGED"),
         (image(7, 1, set_of(50))[:36] + bytes(16) + b"\1" + set_of(50), "DAMAGED"), (image(7, 2, ports=2), "OTHER_SESSION"),
@@ -159,7 +135,7 @@ def reports_that_are_lost():
 def runs_at_once():
     """80 runs of one manager with one file."""
     clock = Clock("-m", MANAGER + "/1", "-u", path, ME)
-    number = write("number", "16384\n")
+    number = write_octets("number", image(16384, 0))
     runs = [start("manage", "-m", MANAGER + "/1", "-w", "0", "-u", path, "-k", number, "set", "PRIORITY1", "100", "--target", ME,
                   stdout=subprocess.DEVNULL, stderr=subprocess.DEVNULL) for _ in range(80)]
     check("80 runs at once are all answered", [one.wait() for one in runs] == [0] * 80)
@@ -243,7 +219,8 @@ def answers_to_others(port):
         port.sent()
         other = start("manage", *who, "-i", port.name, "-a", "1", "-t", str(3000 * SLOW), *words, stdout=subprocess.PIPE, text=True)
         asked = next_sent(port, lambda request: request[52:54] == b"\x20\x05")
-        number = write("number", f"{(int.from_bytes(asked[30:32], 'big') - 1) % 65536}\n")
+        before = (int.from_bytes(asked[30:32], "big") - 1) % 65536
+        number = write_octets("number", image(before, 0, manager=asked[20:28].hex() + "0001"))
         session = start("manage", *who, "-w", "0", "-i", port.name, "-k", number, "-a", "2", "-t", str(100 * SLOW), "--target", ME, "set",
                         "PRIORITY1", "100", stdout=subprocess.PIPE, stderr=subprocess.DEVNULL, text=True)
         port.come_in(response(next_sent(port, lambda request: request[52:54] == b"\x20\x00"), b"\x20\x00" + bytes(20)))
@@ -319,7 +296,7 @@ def damages():
     """A session's file without a seal, as a former version left it, of which an octet is another one, or what follows an octet is lost:
     a refusal, or the truth."""
     two, wrong = TwoManagers(), []
-    write("number", "16384\n")
+    write_octets("number", image(16384, 0))
     check("a session begins", two.is_honest() and two.last == 0)
     changes = {"cut": lambda octet: None, "flip": lambda octet: octet ^ 1, "zero": lambda octet: 0}
     cases = [(place, change, b"") for place in range(53) for change in changes]
@@ -339,7 +316,7 @@ def damages():
 def old_files():
     """A session's file that is lost, one that is brought back from an older copy, and two copies that are used by turns."""
     two = TwoManagers()
-    write("number", "1000\n")
+    write_octets("number", image(1000, 0))
     check("a session begins", two.is_honest() and two.last == 0)
     older = octets("number")
     os.unlink(two.number)
@@ -487,5 +464,5 @@ def places_without_room():
     two.clock.end()
 
 
-ATTACKS = [number_files, files_in_the_way, files_without_a_session, sessions, seals, reports_that_are_lost, runs_at_once, runs_beside_each_other,
+ATTACKS = [files_in_the_way, files_without_a_session, sessions, seals, reports_that_are_lost, runs_at_once, runs_beside_each_other,
            clocks_that_are_not_there, losses_of_power, damages, old_files, latest_numbers, kills, places_without_room, users]

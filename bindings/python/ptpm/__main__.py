@@ -65,7 +65,7 @@ def _parser() -> argparse.ArgumentParser:
     add("--ipv6", action="store_true", help="with IPv6")
     add("--udp", metavar="ADDRESS", help="over UDP to this address")
     add("-u", "--unix", metavar="PATH", help="at a Unix socket of this machine, as /var/run/ptp4l")
-    add("-T", "--target", "--to", metavar="IDENTITY", help="the clock, such as aabbccfffeddee01 or aabbcc.fffe.ddee01-1 for its port 1")
+    add("-T", "--target", metavar="IDENTITY", help="the clock, such as aabbccfffeddee01 or aabbcc.fffe.ddee01-1 for its port 1")
     add("-p", "--port", type=_number(0, 65535), help="the clock's port, named apart")
     add("-d", "--domain", action=_Once, type=_number(0, 255), default=0)
     add("-b", "--hops", type=_number(0, 255), default=1, help="boundary clocks that pass the request on")

@@ -14,7 +14,7 @@ from .asker import Asker
 from .asking import NoAnswer, judge_seconds, no_answer
 from .clock import port_number
 from .driver import Driver
-from .identity import Identity, PortIdentity
+from .identity import PortIdentity
 from .ids import Action, IdLike, id_of
 from .members import DataField, data_field
 from .named_port import NamedPort, is_beyond_session, not_kept
@@ -22,7 +22,7 @@ from .nobody import ask_as_nobody, draw, refuse_nobody
 from .report import Report
 from .requests import Requests, SessionSettings, begin_request
 from .session_file import DamagedFileError, SessionFile
-from .session_image import EVERY_PORT, Request, domain_of, first_number, is_same, latest_number, number_of_line, unanswered
+from .session_image import EVERY_PORT, Request, domain_of, first_number, is_same, latest_number, unanswered
 from .transport import Transport
 
 
@@ -72,12 +72,7 @@ class Session(Requests):
         except Error as error:
             if error.number == header.PTPM_DAMAGED and self._file is not None:
                 raise DamagedFileError(self._file.path) from None
-            number = number_of_line(octets, PortIdentity.of(settings.manager), Identity.of(settings.target))
-            if error.number != header.PTPM_NOT_AN_IMAGE or number is None:
-                raise
-            self._start(replace(settings, first=number))
-            self._saved = self._in_file = self._image()
-            return
+            raise
         self._saved = self._in_file = octets
         self._go_on_from(octets)
         self.is_under_way = left in (header.PTPM_GET_LEFT, header.PTPM_CHANGE_LEFT)

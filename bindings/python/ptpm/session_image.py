@@ -1,15 +1,11 @@
-"""What this module itself reads of a session's image, and of the number that earlier versions kept in its place. The library
-decides whether octets are an image, and what is to be done with the request that it has."""
+"""What this module itself reads of a session's image. The library decides whether octets are an image, and what is to be done with the
+request that it has."""
 
 from __future__ import annotations
 
-import re
 from dataclasses import dataclass
 from typing import Optional
 
-from . import _header as header
-from .answers import Error
-from .identity import Identity, PortIdentity
 from .ids import Action
 
 # A portNumber (15.4.1).
@@ -17,8 +13,6 @@ EVERY_PORT = 65535
 
 # Where the members are. Numbers have the highest octet first.
 _FIRST, _DOMAIN, _ISSUED, _IS_UNDER_WAY, _ACTION, _ID, _PORT, _SIZE, _DATA = 31, 35, 36, 52, 53, 54, 56, 58, 60
-
-_LINE = re.compile(rb"([0-9]{1,5})( [0-9a-f]{16}/[0-9]{1,5} [0-9a-f]{16})?\n?")
 
 
 @dataclass(frozen=True)
@@ -68,13 +62,3 @@ def is_same(image: bytes, other: bytes) -> bool:
     if unanswered(image) is None:
         return image[:_DOMAIN] + image[_DOMAIN + 1 :] == other[:_DOMAIN] + other[_DOMAIN + 1 :]
     return image == other
-
-
-def number_of_line(octets: bytes, manager: PortIdentity, target: Identity) -> Optional[int]:
-    """The number of a file of an earlier version, by itself or with its manager and its clock; None if it is no such file."""
-    found = _LINE.fullmatch(octets)
-    if found is None or int(found[1]) > 65535:
-        return None
-    if found[2] is not None and found[2] != f" {manager} {target}".encode():
-        raise Error(header.PTPM_OTHER_SESSION)
-    return int(found[1])

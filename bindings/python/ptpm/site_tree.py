@@ -201,8 +201,8 @@ def _value(told: Mapping[str, Any], name: str) -> Any:
 
 
 def _domain_identity(told: Mapping[str, Any]) -> DomainIdentity:
-    """The domain that an object names. One of an earlier version has no sdoId."""
-    return DomainIdentity(number_of(told["domainNumber"]), number_of(told.get("sdoId", 0)))
+    """The domain that an object names."""
+    return DomainIdentity(number_of(told["domainNumber"]), number_of(told["sdoId"]))
 
 
 def _clock_identity(told: Mapping[str, Any]) -> Optional[Identity]:

@@ -14,6 +14,7 @@ import unittest.mock
 import zlib
 from contextlib import redirect_stderr, redirect_stdout
 from io import StringIO
+from pathlib import Path
 from typing import List, Optional
 
 import ptpm
@@ -339,12 +340,10 @@ class Asking(Folder):
         image = ptpm.Requests(ptpm.SessionSettings(MANAGER, CLOCK, 7)).image()
         other = ptpm.Requests(ptpm.SessionSettings(MANAGER, "0102030405060708", 7)).image()
         for octets, why in (
-            (f"7 {MANAGER} 0102030405060708\n".encode(), "OTHER_SESSION"),
             (other, "OTHER_SESSION"),
             (image[:-1], "DAMAGED"),
             (image + b"\0", "DAMAGED"),
-            (b"65536\n", "NOT_AN_IMAGE"),
-            (b"7 8\n", "NOT_AN_IMAGE"),
+            (b"7\n", "NOT_AN_IMAGE"),
             (b"", "NOT_AN_IMAGE"),
         ):
             with open(path, "wb") as file:
@@ -404,8 +403,7 @@ class Asking(Folder):
 
     def test_a_file_has_one_turn_at_a_time(self) -> None:
         path = f"{self.folder}/session"
-        with open(path, "w", encoding="ascii") as old:
-            old.write(f"7 {MANAGER} {CLOCK}\n")  # as an earlier version wrote it
+        Path(path).write_bytes(ptpm.Requests(ptpm.SessionSettings(MANAGER, CLOCK, 7)).image())
         os.chmod(path, 0o640)
         with ptpm.SessionFile(MANAGER, CLOCK, path) as file:
             os.symlink(self.folder, f"{self.folder}/link")

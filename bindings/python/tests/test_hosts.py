@@ -99,7 +99,7 @@ RUNS: Dict[str, Sequence[Run]] = {
     "no way for a SET": [Run("set PRIORITY1 1", "AA"), Run("set PRIORITY1 100", "G"), Run("set PRIORITY2 7", "AA")],
     "no way for the SET of a new session": [Run("set PRIORITY1 1", "G"), Run("set PRIORITY2 7", "AA")],
     "no way for a question": [Run("set PRIORITY1 1", "AA"), Run("set PRIORITY1 2", None), Run("set PRIORITY1 3", "AA")],
-    "the number of an earlier version": [Run("number 65535", None), Run("set PRIORITY1 1", "AA"), Run("get PRIORITY1", "AA")],
+    "the last number before 0": [Run("number 65535", None), Run("set PRIORITY1 1", "AA"), Run("get PRIORITY1", "AA")],
     "other hops": [Run("set PRIORITY1 1", "AA"), Run("-b 3 get PRIORITY1", "AA"), Run("-b 3 get PRIORITY1", "AA")],
 }
 
@@ -116,7 +116,7 @@ class Hosts(Folder):
         """The messages, the status, what is printed, and the file at the end."""
         file = f"{path}.session"
         if run.words.startswith("number "):
-            Path(file).write_text(run.words.split()[1], encoding="ascii")
+            Path(file).write_bytes(ptpm.Requests(ptpm.SessionSettings(MANAGER, CLOCK, int(run.words.split()[1]))).image())
             return [], 0, "", b""
         link = None if run.fates is None else Link(path, file, clocks, run.fates)
         timeout = "1000" if set(run.fates or "") & set("LN") else "10000"  # what is answered is waited for on a busy machine, too

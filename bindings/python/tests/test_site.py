@@ -115,7 +115,7 @@ class Recorded(unittest.TestCase):
         self.assertEqual(loop.severity, "critical")
 
     def test_values_that_one_name_has_in_two_forms(self) -> None:
-        head = '"clockIdentity":"0200a1fffe000101","domainNumber":0,"severity":"critical"'
+        head = '"clockIdentity":"0200a1fffe000101","domainNumber":0,"sdoId":0,"severity":"critical"'
         findings = ",".join((
             f'{{"clocks":2,{head},"finding":"off_by_utc","reason":"followers"}}',
             f'{{"currentUtcOffset":36,"expected":37,{head},"finding":"utc_offset"}}',

@@ -18,12 +18,6 @@ impl TimeInterval {
         Self(nanoseconds.saturating_mul(1 << 16))
     }
 
-    /// An interval of N nanoseconds, by its earlier name.
-    #[deprecated(since = "0.1.0", note = "it is `from_nanoseconds`")]
-    pub const fn of_nanoseconds(nanoseconds: i64) -> Self {
-        Self::from_nanoseconds(nanoseconds)
-    }
-
     /// The whole nanoseconds: the greatest number of them that is not above the interval.
     pub const fn nanoseconds(self) -> i64 {
         self.0 >> 16

@@ -26,7 +26,7 @@ PRIORITY2 100 MANAGEMENT_ERROR_STATUS
 END
 start $device
 through="-i near0 -k $work/device_number"
-echo 1 > "$work/device_number"
+session_from 1 > "$work/device_number"
 check "manage set LOG_SYNC_INTERVAL that the hardware lacks" "$(asks 'refused WRONG_VALUE' $through -p 1 set LOG_SYNC_INTERVAL -8)"
 check "manage set PRIORITY2 that the program refuses" "$(asks 'refused NOT_SUPPORTED' $through set PRIORITY2 100)"
 check "manage set LOG_SYNC_INTERVAL that the device has" "$(asks 'logSyncInterval -4' $through -p 1 set LOG_SYNC_INTERVAL -4)"

@@ -4,7 +4,7 @@
 connect
 start -u "$work/socket" -m 020000fffe000010/1 $identity far0
 through="-i near0 -k $work/number"
-echo 100 > "$work/number"
+session_from 100 > "$work/number"
 check "manage get PRIORITY1" "$(asks 'priority1 128' $through get PRIORITY1)"
 check "manage set PRIORITY1" "$(asks 'priority1 100' $through set priority1 100)"
 check "manage set PRIORITY1 in octets" "$(asks 'value 6400' $through -x set PRIORITY1 6400)"
@@ -30,7 +30,7 @@ check "manage command DISABLE_PORT" "$(asks done $through -p 1 command DISABLE_P
 check "manage set NULL_PTP_MANAGEMENT" "$(asks 'value -' $through -p 1 set NULL_PTP_MANAGEMENT)"
 # two in each of 17 runs
 check "manage keeps its session" "$([ "$(next_number "$work/number")" = 134 ] && echo yes)"
-echo 50 > "$work/old"
+session_from 50 > "$work/old"
 check "manage with an old number" "$(asks '' -i near0 -k "$work/old" -a 2 set PRIORITY1 32)"
 check "it then says what is known" "$(ended 3 && says 'no answer at near0 in domain 0 to 2 messages: the request itself was not sent$' &&
     says 'the clock answers reads, and has by now$' && says 'priority1 100$' &&

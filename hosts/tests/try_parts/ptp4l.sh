@@ -10,7 +10,7 @@ done
 stop
 
 # 200 SETs over Ethernet, as above
-echo 0 > "$work/second"
+session_from 0 > "$work/second"
 start -2 -m 020000fffe000010/1 $identity far0
 ip netns exec $near ./manage -2 -i near0 -k "$work/second" -t 10 -n 200 set PRIORITY1 100 --target $identity > "$work/asked"
 stop
@@ -88,9 +88,9 @@ check "manage command DISABLE_PORT of ptp4l" "$(asks 'refused NOT_SUPPORTED' $th
 at_socket="-u $work/ptp4l -d 7"
 check "manage set PRIORITY1 at the Unix socket of ptp4l" "$(asks 'priority1 50' $at_socket set PRIORITY1 50)"
 at_socket="$at_socket -m 0a0b0c0d0e0f1011/1 -k $work/at_socket"
-echo 7 > "$work/at_socket"
+session_from 7 0a0b0c0d0e0f1011 $to > "$work/at_socket"
 check "manage set PRIORITY1 there by one manager" "$(asks 'priority1 51' $at_socket set PRIORITY1 51)"
-echo 7 > "$work/at_socket"
+session_from 7 0a0b0c0d0e0f1011 $to > "$work/at_socket"
 check "manage set PRIORITY1 there under the same number" "$(asks 'priority1 52' $at_socket set PRIORITY1 52)"
 check "manage get PRIORITY1 of ptp4l after it" "$(asks 'priority1 52' $through get PRIORITY1)"
 ip netns exec $near ./manage $through -t 10 -n 300 get PRIORITY2 --target $to > "$work/asked"

@@ -14,7 +14,7 @@ out.sendto(octets, ("224.0.1.129", 320))' "$1" "$2"
     sleep 0.3
 }
 saving="-v -s $work/clock -u $work/socket -m 020000fffe000010/1 $identity far0"
-echo 100 > "$work/saved"
+session_from 100 > "$work/saved"
 kept="-i near0 -k $work/saved"      # two numbers each run: 101 is the first SET
 start $saving
 check "a clock that saves carries out two SETs" "$(asks 'priority1 100' $kept set PRIORITY1 100 > /dev/null && asks 'priority1 50' $kept set PRIORITY1 50)"

@@ -13,7 +13,7 @@ start -v -u "$work/socket" -o "$work/pipe" -m 020000fffe000010/1 $identity far0
 began=$SECONDS
 observations > "$work/pipe" &
 observing=$!
-echo 0 > "$work/first"
+session_from 0 > "$work/first"
 ip netns exec $near ./manage -i near0 -k "$work/first" -t 10 -n 1000 set PRIORITY1 100 --target $identity > "$work/asked"
 took=$((SECONDS - began))
 wait $observing

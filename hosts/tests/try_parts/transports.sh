@@ -11,7 +11,7 @@ stop
 way=-2
 start -2 -v -m $other/1 $identity far0
 over="-2 -i near0 -m $other/1 -k $work/ethernet"
-echo 100 > "$work/ethernet"
+session_from 100 $other > "$work/ethernet"
 check "manage get PRIORITY1 over Ethernet" "$(asks 'priority1 128' --ethernet -i near0 get PRIORITY1)"
 check "manage set PRIORITY1 over Ethernet" "$(asks 'priority1 100' $over set PRIORITY1 100)"
 check "pmc reads what it set" "$(reads PRIORITY1 'priority1 *100')"
@@ -26,7 +26,7 @@ check "two SETs and a COMMAND are carried out once each" "$([ "$(grep -c ': 5 AN
 # a port that is stopped and started again, as the clock reports what was changed
 start -v -m 020000fffe000010/1 $identity far0
 through="-i near0 -k $work/stopped"
-echo 100 > "$work/stopped"
+session_from 100 > "$work/stopped"
 check "manage command DISABLE_PORT of a clock that reports" "$(asks done $through -p 1 command DISABLE_PORT)"
 check "manage command ENABLE_PORT of a clock that reports" "$(asks done $through -p 1 command ENABLE_PORT)"
 stop
