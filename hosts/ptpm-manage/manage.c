@@ -13,7 +13,6 @@
 #include "random.h"
 #include "status.h"
 #include "stopping.h"
-#include "streams.h"
 #include "transport.h"
 #include <errno.h>
 #include <stdbool.h>

@@ -1,6 +1,9 @@
-/* What ptpm-manage says on standard error: a line for each fault, and its progress if that is a terminal. */
+/* What ptpm-manage says on standard error: a line for each fault, and its progress if that is a terminal. And the status with which it ends. */
 #ifndef NOTICES_H
 #define NOTICES_H
+
+/* The status with which the program ends. */
+enum status { ANSWERED = 0, REFUSED = 1, NOT_ASKED = 2, NOT_ANSWERED = 3, NOT_WRITTEN = 4, NOT_AS_ASKED = 5, BY_SIGNAL = 128 };
 
 /* A line after the program's name. */
 __attribute__((format(printf, 1, 2))) void complain(const char *format, ...);

@@ -4,7 +4,7 @@
    through a site, and that a wait takes its time. Prints what does not hold, and `units: N passed, M failed`. */
 #define _GNU_SOURCE
 #include "checking.h"
-#include "domain.h"
+#include "domains.h"
 #include "ethernet.h"
 #include "field_text.h"
 #include "look_lines.h"

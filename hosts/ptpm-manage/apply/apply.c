@@ -1,0 +1,273 @@
+#define _GNU_SOURCE
+#include "apply.h"
+#include "apply_report.h"
+#include "exchange.h"
+#include "journals.h"
+#include "marks.h"
+#include "notices.h"
+#include "plan.h"
+#include "program.h"
+#include "steps.h"
+#include "stopping.h"
+#include "transport.h"
+#include <errno.h>
+#include <stdlib.h>
+#include <string.h>
+
+/* The program's status after this end. */
+static int status_of(enum ending ending) {
+    switch (ending) {
+    case COMPLETE:
+    case ROLLED_BACK: return ANSWERED;
+    case ENDED_REFUSED:
+    case ENDED_ANSWERED: return REFUSED;
+    case ENDED_CHANGED: return NOT_AS_ASKED;
+    default: return NOT_ANSWERED;
+    }
+}
+
+/* ---- plan */
+
+/* No session is kept of a port that no clock of ptpm has. */
+static void judge_ports(const struct step *steps, size_t count) {
+    for (size_t i = 0; i < count; i++) {
+        if (!is_beyond_session(steps[i].port)) continue;
+        refuse("nothing was sent: change %zu: no session is kept of a port above %d", i + 1, SESSION_PORTS);
+    }
+}
+
+static int show_plan(const struct task *task) {
+    struct plan plan;
+    int status = make_plan(&plan, task), probed = ANSWERED;
+    if (task->plan.is_probed && !stopped) probed = probe_clocks(&plan, task);
+    print_plan(&plan, task->is_json);
+    if (status == ANSWERED) judge_ports(plan.steps, plan.count);
+    leave_plan(&plan);
+    return probed == ANSWERED ? status : probed;
+}
+
+/* ---- a journal is carried out */
+
+/* Goes on with a journal whose sessions are taken and marked, and says what became of it. If it is a rollback that is complete, and the journal
+   of the apply is there, it also says what was left out. */
+static int carry_out(const struct task *task, struct journal *journal) {
+    struct journal back_of = { 0 };
+    int status = carry_out_steps(task, journal);
+    if (status == ANSWERED) status = status_of(journal->ending);
+    if (status == ANSWERED && find_rolled_back(&back_of, journal)) status = find_left_out(task, &back_of);
+    print_apply(journal, &back_of, status == NOT_ANSWERED, task->is_json);
+    leave_journal(&back_of);
+    leave_sessions();
+    return status;
+}
+
+static bool make_journal_of(const struct task *task, struct journal *journal) {
+    memcpy(journal->manager, task->settings.clock, 8);
+    journal->manager_port = task->settings.port;
+    if (make_journal(journal)) return true;
+    complain("nothing was sent: %s: %s", journal->path, strerror(errno));
+    return false;
+}
+
+/* Begins a new one: the sessions are taken, the journal is made, and then the marks that name it. */
+static int begin(const struct task *task, struct journal *journal) {
+    own_marks(journal->path);
+    judge_ports(journal->steps, journal->count);
+    take_sessions(task, journal);
+    if (!make_journal_of(task, journal)) return NOT_WRITTEN;
+    return mark_sessions() ? carry_out(task, journal) : NOT_WRITTEN;
+}
+
+/* ---- apply */
+
+static int apply_plan(const struct task *task, const struct plan *plan) {
+    struct journal journal = { 0 };
+    if (task->plan.expected != NULL && strcmp(task->plan.expected, plan->id) != 0) {
+        complain("nothing was sent: the plan is another one by now");
+        return NOT_AS_ASKED;
+    }
+    if (plan->count == 0) return ANSWERED;
+    give_steps(&journal, plan->steps, plan->count);
+    name_journal(&journal, plan->id);
+    int status = begin(task, &journal);
+    leave_journal(&journal);
+    return status;
+}
+
+static int apply(const struct task *task) {
+    struct journal open;
+    struct plan plan;
+    take_journals();
+    if (find_open_journal(&open)) refuse("nothing was sent: %s is open: ptpm-manage resume or rollback comes first", open.name);
+    int status = make_plan(&plan, task);
+    print_plan(&plan, task->is_json);
+    if (fflush(stdout) || ferror(stdout)) return NOT_WRITTEN;
+    if (stopped && status == ANSWERED) status = BY_SIGNAL + stopped;
+    if (stopped || status == REFUSED || status == NOT_ANSWERED) complain("nothing was sent");
+    if (status == ANSWERED) status = apply_plan(task, &plan);
+    leave_plan(&plan);
+    return status;
+}
+
+/* ---- resume */
+
+/* The task as the journal's manager, whichever the way has by itself. Clock 0 is that of a Unix socket: a clock would refuse it elsewhere. */
+static const struct task *as_manager(const struct task *task, const struct journal *journal) {
+    static const uint8_t of_socket[8];
+    static struct task own;
+    own = *task;
+    if (task->path == NULL && memcmp(journal->manager, of_socket, 8) == 0) {
+        refuse("nothing was sent: %s was begun on a Unix socket: --unix names it", journal->name);
+    }
+    bool is_other = memcmp(journal->manager, task->settings.clock, 8) != 0 || journal->manager_port != task->settings.port;
+    if (task->has_manager && is_other) refuse("nothing was sent: %s is by another manager than --manager says", journal->name);
+    memcpy(own.settings.clock, journal->manager, 8);
+    own.settings.port = journal->manager_port;
+    return &own;
+}
+
+/* Ends the apply that a rollback takes back, if a run ended before it did so. */
+static void end_rolled_back(const struct journal *back) {
+    struct journal journal;
+    if (!find_rolled_back(&journal, back)) return;
+    bool is_ended = journal.ending != IS_OPEN || (continue_journal(&journal) && note_end(&journal, ROLLED_BACK, NO_STEP));
+    if (!is_ended) complain("nothing was sent: %s: %s", journal.path, strerror(errno));
+    leave_journal(&journal);
+    if (!is_ended) exit(NOT_WRITTEN);
+}
+
+/* Takes the journal up where a run before left it. */
+static void take_up(const struct task *task, struct journal *journal) {
+    end_rolled_back(journal);
+    own_marks(journal->path);
+    take_sessions(task, journal);
+    if (!continue_journal(journal)) refuse("nothing was sent: %s: %s", journal->path, strerror(errno));
+    if (!mark_sessions()) exit(NOT_WRITTEN);
+}
+
+/* Ends it without an answer to the uncertain step. */
+static int give_up_apply(const struct task *task, struct journal *journal) {
+    if (!note_begun_step(journal)) return NOT_WRITTEN;
+    int status = let_go_of_steps(journal);
+    if (status != ANSWERED) return status;
+    if (!end_journal(journal, GIVEN_UP, journal->begun)) return NOT_WRITTEN;
+    if (journal->begun != NO_STEP) complain("step %ld may have been carried out", journal->begun + 1);
+    print_apply(journal, &(struct journal){ 0 }, true, task->is_json);
+    return NOT_ANSWERED;
+}
+
+static int resume(const struct task *task) {
+    struct journal journal;
+    take_journals();
+    if (!find_open_journal(&journal)) refuse("nothing was sent: no apply is open in %s", journals_folder());
+    task = as_manager(task, &journal);
+    take_up(task, &journal);
+    if (!task->is_letting_go) open_transport(task);
+    int status = task->is_letting_go ? give_up_apply(task, &journal) : carry_out(task, &journal);
+    leave_journal(&journal);
+    return status;
+}
+
+/* ---- rollback */
+
+/* The step that takes another one back. */
+static struct step back_of(const struct step *step) {
+    struct step back = *step;
+    back.before = step->after;
+    back.after = step->before;
+    if (step->id == PTPM_ID_DOMAIN) back.domain = step->after.octets[0];
+    return back;
+}
+
+/* Adds the step that takes this one back, if this one is known to be done. */
+static void take_one_back(struct journal *back, const struct journal *journal, size_t place) {
+    if (journal->told[place].outcome == DONE) back->steps[back->count++] = back_of(&journal->steps[place]);
+}
+
+/* The steps that take back what is known to be done. What was done before the moves of DOMAIN was asked in the earlier domain. So it comes
+   after their way back, and what was done after them before it. The moves keep their order: the farthest clock first again. */
+static void take_back(struct journal *back, const struct journal *journal) {
+    size_t first = 0, end = journal->count;
+    while (first < end && journal->steps[first].id != PTPM_ID_DOMAIN) first++;
+    while (end > first && journal->steps[end - 1].id != PTPM_ID_DOMAIN) end--;
+    give_steps(back, NULL, journal->count);
+    back->count = 0;
+    for (size_t i = journal->count; i > end; i--) take_one_back(back, journal, i - 1);
+    for (size_t i = first; i < end; i++) take_one_back(back, journal, i);
+    for (size_t i = first; i > 0; i--) take_one_back(back, journal, i - 1);
+}
+
+/* The journal of the rollback is there before the apply has its end. So wherever a run ends, one of the two is open. */
+static int go_over_to(const struct task *task, struct journal *journal, struct journal *back) {
+    if (!make_journal_of(task, back) || !end_journal(journal, ROLLED_BACK, NO_STEP)) return NOT_WRITTEN;
+    leave_sessions();
+    own_marks(back->path);
+    take_sessions(task, back);
+    return mark_sessions() ? carry_out(task, back) : NOT_WRITTEN;
+}
+
+/* Says that no step is to be taken back, and what is left out. It is no apply, and has no name. */
+static int end_without_steps(const struct task *task, struct journal *journal, struct journal *back) {
+    complain("%s: no step is to be rolled back", journal->name);
+    int status = find_left_out(task, journal);
+    back->ending = COMPLETE;
+    if (task->is_json) print_apply(back, journal, false, true);
+    return status;
+}
+
+/* Begins the rollback, if there is a step to take back. */
+static int begin_back(const struct task *task, struct journal *journal, struct journal *back) {
+    bool is_open = journal->ending == IS_OPEN;
+    snprintf(back->rolls_back, sizeof back->rolls_back, "%s", journal->name);
+    if (back->count > 0) {
+        name_journal(back, "rollback");
+        return is_open ? go_over_to(task, journal, back) : begin(task, back);
+    }
+    if (is_open && !end_journal(journal, ROLLED_BACK, NO_STEP)) return NOT_WRITTEN;
+    return end_without_steps(task, journal, back);
+}
+
+/* The uncertain step of an apply that is open is settled first. */
+static int roll_back_by(const struct task *task, struct journal *journal, struct journal *back) {
+    bool is_open = journal->ending == IS_OPEN;
+    if (is_open) take_up(task, journal);
+    int status = is_open ? settle_begun_steps(journal) : ANSWERED;
+    if (status == ANSWERED) {
+        take_back(back, journal);
+        status = leave_needed_steps(task, back);
+    }
+    if (status == ANSWERED) return begin_back(task, journal, back);
+    complain("nothing was rolled back%s", is_open ? ": the apply stays open" : "");
+    return status;
+}
+
+static int roll_back(const struct task *task, struct journal *journal) {
+    struct journal back = { 0 };
+    int status = roll_back_by(task, journal, &back);
+    leave_sessions();
+    leave_journal(&back);
+    return status;
+}
+
+static int rollback(const struct task *task) {
+    struct journal journal, open;
+    take_journals();
+    find_journal(&journal, task->plan.word);
+    if (find_open_journal(&open) && strcmp(open.name, journal.name) != 0) {
+        refuse("nothing was sent: %s is open: ptpm-manage resume or rollback comes first", open.name);
+    }
+    leave_journal(&open);
+    open_transport(task);
+    int status = roll_back(as_manager(task, &journal), &journal);
+    leave_journal(&journal);
+    return status;
+}
+
+int change_site(const struct task *task) {
+    switch (task->plan.verb) {
+    case APPLY: return apply(task);
+    case RESUME: return resume(task);
+    case ROLLBACK: return rollback(task);
+    default: return show_plan(task);
+    }
+}

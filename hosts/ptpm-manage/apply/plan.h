@@ -1,0 +1,35 @@
+/* What a file would change at several clocks: they are asked what they have, and `ptpm plan` compares it with the file. */
+#ifndef PLAN_H
+#define PLAN_H
+
+#include "journal.h"
+#include "ptpm_program.h"
+#include "task.h"
+#include <stdbool.h>
+
+enum { PLAN_ID = 8 };
+
+struct plan {
+    struct printed text;                /* as it is printed */
+    char id[PLAN_ID + 1];               /* of what it changes */
+    struct step *steps;                 /* in the order in which they are asked */
+    size_t count;
+};
+
+/* Opens the transport, asks the clocks, and has the plan made. The status is that of `ptpm plan`. It is 0 if it can be applied, and 1 if
+   something can't be set. It is 2 if the file is refused, and 3 if something is not reached. Or it is that of the program, if the clocks
+   could not be asked. */
+int make_plan(struct plan *plan, const struct task *task);
+
+/* Prints it. */
+void print_plan(const struct plan *plan, bool is_json);
+
+/* Frees what it holds. */
+void leave_plan(struct plan *plan);
+
+/* Whether clocks take this manager's SETs, which no GET says. Asks the clock of each change a SET of NULL_PTP_MANAGEMENT, which has no
+   member to change (IEEE 1588-2019, 15.5.3.1). That is in the manager's session with it. Adds a warning to the plan for each that refuses.
+   ANSWERED, or the program's status if one does not answer, which is said. */
+int probe_clocks(struct plan *plan, const struct task *task);
+
+#endif

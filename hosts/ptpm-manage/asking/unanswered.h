@@ -1,0 +1,37 @@
+/* What can be said if no answer came, or if one came and is not taken: the library can't read it, or it is too late. */
+#ifndef UNANSWERED_H
+#define UNANSWERED_H
+
+#include "task.h"
+#include <stddef.h>
+#include <stdint.h>
+
+/* What was sent: the task's request; the request of an earlier run, which is the task here; or a question before the task's
+   request. An earlier request is in this run's domain, or elsewhere. A question asks whether the next number of a session is new,
+   or which number of a new session is. */
+enum unanswered { REQUEST, EARLIER_REQUEST, EARLIER_ELSEWHERE, NUMBER, FIRST_NUMBER };
+
+/* Says what is known about it, after this many messages of it went out with the number. Nobody knows which of them came in. If a
+   clock may have dropped them, nobody reads its value, and what it has is said. The program's status. */
+int no_answer(const struct task *task, enum unanswered what, uint16_t number, long sent);
+
+/* Says once which clocks a survey, or a collection, did not ask, and how it hears answers that take longer. */
+void advise_on_every(const struct task *task);
+
+/* Says what is known of a clock that gave a step of an apply no answer, or a question before it. If it answers reads, that is what it
+   has, and why it may drop these. The path is that of the session's file. */
+void say_silence(const struct task *task, enum unanswered what, uint16_t number, const char *path);
+
+/* Says once that an answer to this sourcePortIdentity can't be read, if that is why the library does not take the datagram. */
+void tell_unreadable(uint32_t refusal, const uint8_t source[10], const uint8_t *datagram, size_t size);
+
+/* From now on this sourcePortIdentity asks. */
+void ask_as(const uint8_t source[10]);
+
+/* Notes a datagram that came under no number that is asked now, if it is an answer to that one. */
+void note_late(const uint8_t *datagram, size_t size);
+
+/* Says once that a clock answers late, if it is not seen. */
+void tell_late(const struct task *task);
+
+#endif

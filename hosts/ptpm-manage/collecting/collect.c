@@ -1,0 +1,454 @@
+#include "collect.h"
+#include "heard.h"
+#include "lines.h"
+#include "message_places.h"
+#include "monotonic.h"
+#include "names.h"
+#include "notices.h"
+#include "random.h"
+#include "seen.h"
+#include "stopping.h"
+#include "transport.h"
+#include "unanswered.h"
+#include <errno.h>
+#include <stdbool.h>
+#include <string.h>
+
+/* One request each 50 ms: all at once lose answers in the buffers of the clocks, which hear each other's answers too. If each domain
+   gets one, there is one each 4 ms. A burst of requests to only one clock has fewer answers than such a buffer holds. There are no more,
+   however many clocks are asked: one host may answer as thousands. If more clocks than MOST_SILENT give no answer when they are asked by
+   themselves, they are such. */
+enum { STEP = 50, DOMAIN_STEP = 4, BURST = 128, MOST_SILENT = 128, DOMAINS_AT_ONCE = 32 };
+
+/* A socket without room is tried again this often, this many milliseconds apart. A silence that never comes is waited for this
+   many time-outs at most. */
+enum { TRIES = 25, TRY = 2, MOST_TIMEOUTS = 10 };
+
+/* A clock of this project passes a request on to this many boundary hops if nobody gave it another --hops. */
+enum { HOPS_OF_CLOCKS = 8 };
+
+/* In the answers: a tlvType (IEEE 1588-2019, 14.1.1), how many octets two data sets have, and the places of their members (15.5.3). */
+enum { ERROR_TLV = 2, DEFAULT_SIZE = 20, PORT_SIZE = 26, PORT_COUNT_AT = FIELD_AT + 2, FIELD_PORT_AT = FIELD_AT + 8 };
+
+const struct collected of_site = { 6, {
+    PTPM_ID_DEFAULT_DATA_SET, PTPM_ID_CURRENT_DATA_SET, PTPM_ID_PARENT_DATA_SET, PTPM_ID_TIME_PROPERTIES_DATA_SET,
+    PTPM_ID_PORT_DATA_SET, PTPM_ID_USER_DESCRIPTION,
+} };
+
+/* The ids that each port of a clock answers for itself. */
+static const uint16_t of_ports[] = {
+    PTPM_ID_PORT_DATA_SET, PTPM_ID_ANNOUNCE_RECEIPT_TIMEOUT, PTPM_ID_LOG_ANNOUNCE_INTERVAL, PTPM_ID_LOG_SYNC_INTERVAL,
+    PTPM_ID_DELAY_MECHANISM, PTPM_ID_LOG_MIN_PDELAY_REQ_INTERVAL,
+};
+
+/* A request to every clock of a domain. */
+struct request {
+    struct ptpm_survey survey;
+    uint16_t number;
+    struct domain domain;
+    unsigned id;                        /* its place among what is collected */
+    size_t size;
+    uint8_t message[PTPM_MOST_OCTETS];
+};
+
+static const struct collected *collected;           /* what is asked for now */
+static struct request requests[DOMAINS_AT_ONCE * MOST_COLLECTED];
+static size_t request_count;
+static FILE *output;
+static long sent;                       /* messages that went out */
+static int64_t latest;                  /* when an answer came that is no copy */
+static size_t let_go;                   /* clocks that are asked no more */
+static bool has_no_transport;
+static uint8_t farthest, farthest_switch;   /* past how many boundary clocks any clock answered, and one with two ports or more */
+static const struct seen_clock *expected;
+static size_t expected_count;
+
+/* What is asked for a plan is read by nobody who wants to know what else was heard. */
+static bool is_site(void) { return collected == &of_site; }
+
+static bool is_of_port(unsigned id) {
+    for (size_t i = 0; i < sizeof of_ports / sizeof *of_ports; i++) {
+        if (of_ports[i] == collected->ids[id]) return true;
+    }
+    return false;
+}
+
+static unsigned two_octets(const uint8_t *at) { return (unsigned)at[0] << 8 | at[1]; }
+
+/* Starts the request of an id; whether the library would ask it. If not, that is said. */
+static bool start_request(const struct task *task, struct domain domain, unsigned id) {
+    struct request *request = &requests[request_count];
+    struct ptpm_survey_settings settings = {
+        .port = task->settings.port, .number = next_number(), .id = collected->ids[id], .domain = domain.number, .hops = task->settings.hops,
+    };
+    memcpy(settings.clock, task->settings.clock, sizeof settings.clock);
+    uint32_t refusal = ptpm_survey_start(&request->survey, &settings);
+    if (refusal == PTPM_STARTED) {
+        refusal = ptpm_survey_send(&request->survey, request->message, sizeof request->message, &request->size);
+    }
+    if (refusal != PTPM_SENT) {
+        complain("nothing was asked: %s", answer_name(refusal));
+        return false;
+    }
+    write_sdo(request->message, domain.sdo);
+    ask_as(request->message + SOURCE_AT);
+    request->number = settings.number;
+    request->domain = domain;
+    request->id = id;
+    request_count++;
+    return true;
+}
+
+static void stop_requests(void) {
+    for (size_t i = 0; i < request_count; i++) ptpm_survey_stop(&requests[i].survey);
+    request_count = 0;
+}
+
+/* FNV-1a. */
+static uint64_t sum_of(uint64_t sum, const void *octets, size_t size) {
+    for (size_t i = 0; i < size; i++) sum = (sum ^ ((const uint8_t *)octets)[i]) * 0x100000001b3;
+    return sum;
+}
+
+/* The sum of what copies of an answer have in common: who sent it, the interface, the action and the TLV. */
+static uint64_t sum_of_answer(const uint8_t *message, size_t size) {
+    const char *sender = sender_text(), *interface = came_in_at() == NULL ? "" : came_in_at();
+    uint64_t sum = sum_of(0xcbf29ce484222325, sender, strlen(sender) + 1);
+    return sum_of(sum_of(sum, interface, strlen(interface) + 1), message + ACTION_AT, size - ACTION_AT);
+}
+
+/* An answer starts with as many boundary hops as its request used (15.3.3). */
+static void note_distance(uint8_t hops, uint16_t port_count) {
+    if (hops > farthest) farthest = hops;
+    if (port_count > 1 && hops > farthest_switch) farthest_switch = hops;
+}
+
+/* Records an answer that the library accepted, and prints it unless it is a copy. Octets may follow the message. */
+static void take_answer(const struct request *request, const uint8_t *message) {
+    size_t size = two_octets(message + LENGTH_AT);
+    struct seen_answer answer = {
+        .clock = message + SOURCE_AT, .domain = request->domain, .id = request->id, .is_of_port = is_of_port(request->id),
+        .port = (uint16_t)two_octets(message + SOURCE_PORT_AT),
+        .is_refusal = two_octets(message + TLV_AT) == ERROR_TLV, .sum = sum_of_answer(message, size),
+    };
+    bool has_field = !answer.is_refusal && size >= FIELD_AT;
+    uint16_t id = collected->ids[request->id];
+    if (has_field && id == PTPM_ID_DEFAULT_DATA_SET && size == FIELD_AT + DEFAULT_SIZE) {
+        answer.port_count = (uint16_t)two_octets(message + PORT_COUNT_AT);
+    }
+    if (has_field && id == PTPM_ID_PORT_DATA_SET && size == FIELD_AT + PORT_SIZE) {
+        bool is_own = memcmp(message + FIELD_AT, answer.clock, 8) == 0;
+        answer.port = is_own ? (uint16_t)two_octets(message + FIELD_PORT_AT) : 0;       /* 0 is no port, and none is answered */
+    }
+    note_way();
+    note_distance(message[STARTING_HOPS_AT], answer.port_count);
+    enum seen seen = see_answer(&answer);
+    if (seen == SEEN_BEFORE || seen == NO_PLACE) return;
+    latest = milliseconds();
+    if (output == NULL) return;
+    clear_progress();
+    write_line(output, &(struct message_line){ .at = nanoseconds(), .from = sender_text(), .on = came_in_at(), .message = message, .size = size });
+}
+
+/* The request that a datagram would answer by its number and its sdoId. The library judges whether it does. */
+static struct request *asked_under(const uint8_t *datagram, size_t size) {
+    if (size < LEAST_MESSAGE || (datagram[TYPE_AT] & LOWER_HALF) != MANAGEMENT_TYPE) return NULL;
+    for (size_t i = 0; i < request_count; i++) {
+        bool is_number = requests[i].number == two_octets(datagram + SEQUENCE_AT);
+        if (is_number && requests[i].domain.sdo == domain_of(datagram).sdo) return &requests[i];
+    }
+    return NULL;
+}
+
+/* What the library says of a datagram. It knows only sdoId 0, so it judges a copy that has this one. */
+static uint32_t judge(struct request *request, const uint8_t *datagram, size_t size) {
+    static uint8_t copy[MOST_DATAGRAM];
+    if (request->domain.sdo == 0 || size > sizeof copy) return ptpm_survey_receive(&request->survey, datagram, size);
+    memcpy(copy, datagram, size);
+    write_sdo(copy, 0);
+    return ptpm_survey_receive(&request->survey, copy, size);
+}
+
+static void hear_until(int64_t end) {
+    size_t size;
+    for (const uint8_t *datagram; (datagram = receive_message(&size, end)) != NULL;) {
+        struct request *request = asked_under(datagram, size);
+        if (request == NULL) {
+            keep_heard(datagram, size);
+            note_late(datagram, size);
+            continue;
+        }
+        uint32_t became = judge(request, datagram, size);
+        switch (became) {
+        case PTPM_TAKEN:
+        case PTPM_AGAIN:                                /* which may be of another port, or of another clock with that identity */
+        case PTPM_FULL:
+        case PTPM_NO_MEMORY: take_answer(request, datagram); break;
+        default: tell_unreadable(became, request->message + SOURCE_AT, datagram, size);
+        }
+    }
+}
+
+/* Hears answers until none came for one time-out. */
+static void hear_until_quiet(const struct task *task) {
+    int64_t now = milliseconds(), end = now + MOST_TIMEOUTS * task->timeout;
+    for (latest = now; now < end && now < latest + task->timeout && !stopped; now = milliseconds()) {
+        hear_until(latest + task->timeout < end ? latest + task->timeout : end);
+    }
+}
+
+/* Sends a message, which waits for room; whether it went out. That is a line, if it is to be written. */
+static bool send_when_room(const uint8_t *message, size_t size, bool is_written) {
+    for (int tries = 0; tries < TRIES && !stopped && !has_no_transport; tries++) {
+        enum sending sending = send_message(message, size);
+        sent += sending == OUT;
+        has_no_transport = sending == NO_TRANSPORT && sent == 0;
+        if (sending == OUT && is_written && is_site()) write_sent(output, message, size);
+        if (sending == OUT) return true;
+        if (!has_no_transport) hear_until(milliseconds() + TRY);
+    }
+    return false;
+}
+
+/* Asks every clock, one id after the other. */
+static void ask_every(void) {
+    for (unsigned id = 0; id < collected->count && !stopped && !has_no_transport; id++) {
+        int64_t end = milliseconds() + STEP;
+        for (size_t i = 0; i < request_count; i++) {
+            if (requests[i].id == id) send_when_room(requests[i].message, requests[i].size, true);
+        }
+        if (id + 1 < collected->count) hear_until(end);
+    }
+}
+
+static const struct request *request_of(struct domain domain, unsigned id) {
+    for (size_t i = 0; i < request_count; i++) {
+        if (is_same_domain(requests[i].domain, domain) && requests[i].id == id) return &requests[i];
+    }
+    return NULL;
+}
+
+/* The request for what a clock lacks, if it lacks an answer to it; NULL otherwise. */
+static const struct request *lacking(const struct seen_clock *clock, unsigned id) {
+    return is_lacking(clock, id, is_of_port(id)) ? request_of(clock->domain, id) : NULL;
+}
+
+static size_t count_lacking(void) {
+    size_t count = 0;
+    for (size_t place = 0; place < seen_count(); place++) {
+        for (unsigned id = 0; id < collected->count; id++) count += lacking(seen_clock(place), id) != NULL;
+    }
+    return count;
+}
+
+/* Asks one clock, and all its ports: the message of the request with its identity as the target's. Whether that went out. */
+static bool ask_alone(const struct request *request, const uint8_t clock[8], bool is_written) {
+    static uint8_t message[PTPM_MOST_OCTETS];
+    memcpy(message, request->message, request->size);
+    memcpy(message + TARGET_AT, clock, 8);
+    return send_when_room(message, request->size, is_written);
+}
+
+/* Asks each clock of these domains for what it lacks, until there is no room for more. */
+static void ask_lacking(bool is_written) {
+    size_t asked = 0;
+    int64_t end = milliseconds() + STEP;
+    for (size_t place = 0; place < seen_count(); place++) {
+        for (unsigned id = 0; id < collected->count; id++) {
+            const struct request *request = lacking(seen_clock(place), id);
+            if (request == NULL) continue;
+            if (!ask_alone(request, seen_clock(place)->identity, is_written)) return;
+            note_asked(place);
+            if (++asked % BURST != 0) continue;
+            hear_until(end);
+            end = milliseconds() + STEP;
+            if (stopped) return;
+        }
+    }
+}
+
+/* Whether this host has it. */
+static bool is_own(const uint8_t clock[8]) {
+    uint8_t own[8];
+    for (size_t i = 0; own_identity(i, own); i++) {
+        if (memcmp(own, clock, sizeof own) == 0) return true;
+    }
+    return false;
+}
+
+/* The request for a clock that was heard and has not answered; NULL for any other one. */
+static const struct request *unanswered_by(struct domain domain, const uint8_t clock[8]) {
+    return is_seen(domain, clock) || is_own(clock) ? NULL : request_of(domain, 0);
+}
+
+void expect_clocks(const struct seen_clock *clocks, size_t count) {
+    expected = clocks;
+    expected_count = count;
+}
+
+/* Asks a clock for the first id, if it has not answered; whether it was asked. If it answers, it lacks the others. */
+static bool ask_silent(struct domain domain, const uint8_t clock[8], bool is_written) {
+    const struct request *request = unanswered_by(domain, clock);
+    return request != NULL && ask_alone(request, clock, is_written);
+}
+
+/* Asks each clock of these domains that was heard or is expected and has not answered; how many these are. */
+static size_t ask_absent(bool is_written) {
+    size_t count = 0;
+    struct domain domain, domain_before = { 0 };
+    const uint8_t *before = NULL;
+    size_t place = 0;
+    for (const uint8_t *clock; !stopped && (clock = heard_clock(place, &domain)) != NULL; place++) {
+        bool is_again = before != NULL && memcmp(before, clock, 8) == 0 && is_same_domain(domain_before, domain);
+        count += !is_again && ask_silent(domain, clock, is_written);
+        before = clock;
+        domain_before = domain;
+    }
+    for (size_t i = 0; i < expected_count && !stopped; i++) {
+        count += ask_silent(expected[i].domain, expected[i].identity, is_written);
+        if (count % BURST == BURST - 1) hear_until(milliseconds() + STEP);
+    }
+    return count;
+}
+
+/* Asks in this many domains; whether the library would ask at all. */
+static bool ask_in(const struct task *task, const struct domain *domains, size_t count) {
+    for (size_t i = 0; i < count; i++) {
+        for (unsigned id = 0; id < collected->count; id++) {
+            if (start_request(task, domains[i], id)) continue;
+            stop_requests();
+            return false;
+        }
+    }
+    char first[DOMAIN_TEXT];
+    write_domain(first, domains[0]);
+    show_progress("%zu clocks so far; asking from domain %s on", seen_count(), first);
+    ask_every();
+    hear_until_quiet(task);
+    for (int round = 1; round <= task->settings.attempts && !stopped && !has_no_transport; round++) {
+        size_t lacks = count_lacking() + ask_absent(round == 1);
+        if (lacks == 0) break;
+        show_progress("%zu clocks so far; attempt %d for %zu answers that are missing", seen_count(), round, lacks);
+        ask_lacking(round == 1);
+        hear_until_quiet(task);
+        let_go += let_go_of_silent(MOST_SILENT);
+    }
+    stop_requests();
+    return true;
+}
+
+/* Says in which sdoId a clock is heard, if it is asked in no domain of it. */
+static void advise_on_sdo(const struct domains *domains, const char *verb) {
+    struct domain domain;
+    for (size_t place = 0; heard_domain(place, &domain); place++) {
+        if (is_sdo_asked(domains, domain.sdo)) continue;
+        complain("a clock is heard in sdoId 0x%03x: %s--sdo 0x%03x asks there", domain.sdo, verb, domain.sdo);
+        return;
+    }
+}
+
+/* In what else clocks may be. A plan names its domains itself: there these are options of another verb. */
+static void advise_on_domains(const struct task *task, const struct domains *domains) {
+    const char *verb = task->plan.verb == NO_PLAN ? "" : "status ";
+    if (!task->site.is_every_domain) complain("%s--domain all asks in each domain in which a clock is heard", verb);
+    if (!task->site.is_every_sdo) advise_on_sdo(domains, verb);
+}
+
+/* Clocks lower the hops of what they pass on, and no answer shows it. So clocks past the last one may be there, and were not asked. */
+static void tell_lowered_hops(const struct task *task) {
+    static bool is_told;
+    bool is_at_limit = farthest == HOPS_OF_CLOCKS && farthest_switch == HOPS_OF_CLOCKS && task->settings.hops > HOPS_OF_CLOCKS;
+    if (is_told || !is_at_limit) return;
+    is_told = true;
+    complain("clocks answer past %d boundary clocks, and none past more: some may not be asked, since a ptpm-clock passes on no further "
+             "without --hops", HOPS_OF_CLOCKS);
+}
+
+static int end_of_collection(const struct task *task, const struct domains *domains) {
+    clear_progress();
+    if (unseen_answers() > 0) {
+        complain("there is room for %d clocks and %d answers: %lu more answers are left out", MOST_CLOCKS, MOST_KEPT, unseen_answers());
+    }
+    if (let_go > 0) complain("%zu clocks gave no new answer when they were asked alone: they were let go", let_go);
+    if (has_no_transport) complain("nothing was sent: %s: %s", transport_name(), strerror(errno));
+    else if (stopped && task->site.watch == 0) complain("ended by a signal: more may answer");
+    else if (sent == 0 && !stopped) complain("nothing was sent: no message is taken at %s", transport_name());
+    if (has_no_transport || (sent == 0 && !stopped)) return NOT_ASKED;
+    if (stopped) return BY_SIGNAL + stopped;
+    tell_lowered_hops(task);
+    tell_late(task);
+    if (seen_count() > 0) tell_silent_ways();
+    if (seen_count() > 0) return ANSWERED;
+    complain("no answer at %s in %s to %ld message%s", transport_name(), domains_text(domains), sent, sent == 1 ? "" : "s");
+    tell_unfit_interfaces();
+    advise_on_domains(task, domains);
+    advise_on_every(task);
+    return NOT_ANSWERED;
+}
+
+/* Asks in these domains; whether the library would ask at all. */
+static bool ask_in_all(const struct task *task, const struct domains *domains) {
+    struct domain together[DOMAINS_AT_ONCE];
+    size_t count, place = 0;
+    do {
+        for (count = 0; count < DOMAINS_AT_ONCE && next_domain(domains, &place, &together[count]);) count++;
+        if (count > 0 && !ask_in(task, together, count)) return false;
+    } while (count == DOMAINS_AT_ONCE && !stopped && !has_no_transport);
+    return true;
+}
+
+/* Asks, and hears what clocks send by themselves meanwhile. What was heard before is written first: a clock that answers no more may have
+   sent it while it still answered. */
+static bool ask_and_hear(const struct task *task, const struct domains *domains) {
+    write_host_note(output);
+    forget_silent();
+    write_heard(output, true);
+    receive_every_type(true);
+    bool is_asked = ask_in_all(task, domains);
+    receive_every_type(false);
+    write_heard(output, false);
+    return is_asked;
+}
+
+/* From now on these ids are asked for, and this is where lines go; NULL if nowhere. */
+static void begin(const struct collected *what, FILE *to) {
+    see_none();
+    collected = what;
+    output = to;
+    sent = 0;
+    let_go = 0;
+    has_no_transport = false;
+    farthest = farthest_switch = 0;
+    forget_ways();
+}
+
+/* Asks once in each domain of an sdoId. */
+static void ask_each_domain(const struct task *task, uint16_t sdo) {
+    for (int number = 0; number < DOMAINS && !stopped && !has_no_transport; number++) {
+        if (!start_request(task, (struct domain){ (uint8_t)number, sdo }, 0)) break;
+        send_when_room(requests[number].message, requests[number].size, false);
+        hear_until(milliseconds() + DOMAIN_STEP);
+    }
+    hear_until_quiet(task);
+    stop_requests();
+}
+
+void add_answering_domains(struct domains *domains, const struct task *task) {
+    static const struct collected first_alone = { 1, { PTPM_ID_DEFAULT_DATA_SET } };
+    begin(&first_alone, NULL);
+    for (size_t i = 0; i < domains->sdo_count; i++) ask_each_domain(task, domains->sdos[i]);
+    for (size_t i = 0; i < seen_count(); i++) add_domain(domains, seen_clock(i)->domain);
+}
+
+int collect_answers(const struct task *task, const struct collected *what, const struct domains *domains, FILE *to) {
+    begin(what, to);
+    bool is_asked = is_site() ? ask_and_hear(task, domains) : ask_in_all(task, domains);
+    return is_asked ? end_of_collection(task, domains) : NOT_ASKED;
+}
+
+int collect(const struct task *task) {
+    struct domains domains;
+    widen_transport();
+    find_domains(&domains, task);
+    return collect_answers(task, &of_site, &domains, stdout);
+}

@@ -1,0 +1,29 @@
+/* What clocks send by themselves, heard while a site is asked, or between two times: the latest Announce, Sync, Follow_Up and Delay_Req
+   of each port. So a clock shows itself that answers no management message. Strangers may send without end, so there is room for a number
+   of ports. */
+#ifndef HEARD_H
+#define HEARD_H
+
+#include "domains.h"
+#include <stdbool.h>
+#include <stddef.h>
+#include <stdint.h>
+#include <stdio.h>
+
+/* Forgets each message whose port should have sent four more by now. */
+void forget_silent(void);
+
+/* Keeps the message that came in last, if it is one of these, and from whom is asked; whether it is. Octets may follow it. */
+bool keep_heard(const uint8_t *datagram, size_t size);
+
+/* The clocks that sent an Announce, a Sync or a Follow_Up, in the order in which they came, each perhaps several times. NULL after the
+   last. */
+const uint8_t *heard_clock(size_t place, struct domain *domain);
+
+/* The domain of the message at a place; whether there is one. */
+bool heard_domain(size_t place, struct domain *domain);
+
+/* Writes a line of each message that is kept, or only of those that came after the last time. */
+void write_heard(FILE *to, bool is_of_all);
+
+#endif

@@ -1,0 +1,69 @@
+/* Which clocks answered in a collection, and what each of them still lacks. Strangers may answer without end. So there is room
+   for a number of clocks and answers, and what comes after that is counted. */
+#ifndef SEEN_H
+#define SEEN_H
+
+#include "domains.h"
+#include <stdbool.h>
+#include <stddef.h>
+#include <stdint.h>
+
+/* How many ids are collected at most. An id is named here by its place among them. */
+enum { MOST_COLLECTED = 16, MOST_CLOCKS = 4096, MOST_KEPT = 65536 };
+
+/* A clock that answered. */
+struct seen_clock {
+    uint8_t identity[8];
+    struct domain domain;
+    uint16_t answered, refused;         /* a bit for each id: an answer or a refusal came; a refusal came */
+    uint16_t port_count;                /* numberPorts, 0 until it is known */
+    uint16_t ports[MOST_COLLECTED];     /* of an id of a port, how many ports answered */
+    uint32_t answers, answers_before;   /* all of these answers; those that it had given when it was last asked by itself */
+    bool is_asked;                      /* it was asked by itself since the last look at who was silent */
+    bool is_let_go;                     /* it is asked no more */
+};
+
+/* An answer: who gave it, to what, and its content. Copies of it have the same sum. */
+struct seen_answer {
+    const uint8_t *clock;
+    struct domain domain;
+    unsigned id;                        /* its place */
+    bool is_of_port;                    /* each port of the clock answers it */
+    uint16_t port;                      /* that gave it, or of a PORT_DATA_SET the port that it describes */
+    bool is_refusal;
+    uint16_t port_count;                /* of a DEFAULT_DATA_SET; 0 otherwise */
+    uint64_t sum;
+};
+
+/* What an answer is. It is the first of its clock, id and port; or one that differs from that first; or a copy, or one more
+   that differs. Or there is no room for it. */
+enum seen { FIRST_SEEN, DIFFERENT, SEEN_BEFORE, NO_PLACE };
+
+/* From now on no clock was seen. */
+void see_none(void);
+
+/* Notes an answer. */
+enum seen see_answer(const struct seen_answer *answer);
+
+/* Whether a clock was seen in a domain. */
+bool is_seen(struct domain domain, const uint8_t clock[8]);
+
+/* The clocks, in the order in which they came. */
+size_t seen_count(void);
+const struct seen_clock *seen_clock(size_t place);
+
+/* Whether it lacks an answer: one to the id at this place, or, to an id of a port, that of one of its ports. One that is asked no
+   more lacks none. */
+bool is_lacking(const struct seen_clock *clock, unsigned id, bool is_of_port);
+
+/* Notes that a clock is asked by itself. */
+void note_asked(size_t place);
+
+/* Looks which of the clocks that were asked by themselves have given no new answer since. If they are more than `most`, they are
+   asked no more; how many these are. */
+size_t let_go_of_silent(size_t most);
+
+/* How many answers found no room. */
+unsigned long unseen_answers(void);
+
+#endif

@@ -1,0 +1,418 @@
+#define _GNU_SOURCE
+#include "status.h"
+#include "collect.h"
+#include "lines.h"
+#include "look_lines.h"
+#include "monotonic.h"
+#include "notices.h"
+#include "output.h"
+#include "ptpm_program.h"
+#include "report.h"
+#include "seen.h"
+#include "site_program.h"
+#include "stopping.h"
+#include "transport.h"
+#include "words.h"
+#include <errno.h>
+#include <libgen.h>
+#include <limits.h>
+#include <poll.h>
+#include <stdbool.h>
+#include <stdlib.h>
+#include <string.h>
+#include <sys/stat.h>
+#include <time.h>
+#include <unistd.h>
+
+/* The socket of a ptp4l whose configuration names no other. */
+#define OWN_CLOCK "/var/run/ptp4l"
+
+/* What is open is looked at again as often, and as long as this, in milliseconds. */
+enum { BETWEEN_OPEN = 2000, MOST_OPEN = 30000, TIME_TEXT = 32, NOTICE_TEXT = 160 };
+
+/* If this many looks each have what the one before lacks, the site is never at rest. */
+enum { MOST_UNLIKE = 4 };
+
+/* The times of an earlier look are set too if the clock of this host was set by more than these nanoseconds. */
+enum { LEAST_STEP = 100000000 };
+
+/* `ptpm site` found something, or failed, or it lacks the answers. */
+enum { FINDINGS = 1 };
+
+/* A look at the site: the answers as lines, and what they show. If it is the second of two, it has the lines of the first too. */
+struct look {
+    struct lines lines, first;
+    struct report report;
+    int status;
+};
+
+/* The clocks of the look before, and after them those that the first of two looks has beside them. */
+static struct seen_clock clocks_before[2 * MOST_CLOCKS];
+static size_t count_before;
+
+/* The look has no answers of its own then. */
+static void forget_answers(struct look *look) {
+    free(look->lines.at);
+    look->lines = (struct lines){ NULL, 0 };
+    free_report(&look->report);
+}
+
+static void free_look(struct look *look) {
+    forget_answers(look);
+    free(look->first.at);
+    *look = (struct look){ 0 };
+}
+
+/* Whether a socket may be made beside it. */
+static bool may_write_beside(const char *path) {
+    char folder[PATH_MAX];
+    snprintf(folder, sizeof folder, "%s", path);
+    return access(dirname(folder), W_OK) == 0;
+}
+
+/* How many boundary clocks pass the requests on, at most, if it is more than the task says. */
+static uint8_t hops;
+
+/* Collects the lines of a look; the status. */
+static int collect_lines(FILE *lines, const struct task *task, const struct domains *domains) {
+    struct task as_far = *task;
+    if (hops > as_far.settings.hops) as_far.settings.hops = hops;
+    return collect_answers(&as_far, &of_site, domains, lines);
+}
+
+static struct piece lines_of(const struct look *look) {
+    return look == NULL ? (struct piece){ NULL, 0 } : (struct piece){ look->lines.at, look->lines.size };
+}
+
+/* The lines by which a look is judged: its own, after those of an earlier look if there is one. What may be momentary counts if the look
+   before has it too: the first of the two that were made, or else that earlier one. */
+static struct shown_lines lines_beside(const struct look *look, const struct look *earlier) {
+    const struct piece first = { look->first.at, look->first.size };
+    return (struct shown_lines){ { lines_of(earlier), lines_of(look) }, { lines_of(earlier), first }, true };
+}
+
+/* The same lines. Each finding of them counts. */
+static struct shown_lines lines_alone(const struct look *look, const struct look *earlier) {
+    return (struct shown_lines){ { lines_of(earlier), lines_of(look) }, { { NULL, 0 }, { NULL, 0 } }, false };
+}
+
+/* Before a watch begins nobody asks what has changed. */
+static bool is_watching;
+
+static struct site_options as_looked_at(const struct task *task) {
+    struct site_options options = task->site;
+    options.is_without_changes = !is_watching;
+    options.is_of_one_address = asks_one_address();
+    return options;
+}
+
+/* Ends the program if `ptpm site` refuses its options. It takes them over no lines here, and what it prints is dropped. The inventory is
+   read at each look: of a pipe a later one would have nothing, and find nothing. */
+static void try_options(const struct task *task) {
+    struct site_options options = as_looked_at(task);
+    struct report dropped;
+    struct stat found;
+    if (options.inventory != NULL && stat(options.inventory, &found) == 0 && !S_ISREG(found.st_mode)) {
+        refuse("--expect %s: it is read at each look, so it has to be a file, and no pipe", options.inventory);
+    }
+    int status = run_site_program(&options, AS_TEXT, &(struct shown_lines){ 0 }, &dropped);
+    free_report(&dropped);
+    if (status == NOT_ASKED) refuse("nothing was asked: ptpm site refuses these options");
+}
+
+/* Has a look shown after the lines of an earlier one, if there is one; the status. */
+static int show_look(struct look *look, const struct task *task, const struct look *earlier, bool is_beside) {
+    const struct shown_lines lines = is_beside ? lines_beside(look, earlier) : lines_alone(look, earlier);
+    const struct site_options options = as_looked_at(task);
+    free_report(&look->report);
+    look->status = run_site_program(&options, task->is_json ? AS_JSON : AS_TEXT, &lines, &look->report);
+    return look->status;
+}
+
+/* Collects, and has it shown; the status. */
+static int look_once(struct look *look, const struct task *task, const struct domains *domains, struct look *earlier) {
+    int64_t step = take_time();
+    if (earlier != NULL) leave_out_single(&earlier->lines);
+    if (earlier != NULL && llabs(step) > LEAST_STEP) shift_lines(&earlier->lines.at, &earlier->lines.size, step);
+    FILE *lines = open_memstream(&look->lines.at, &look->lines.size);
+    if (lines == NULL) refuse("nothing was asked: %s", strerror(errno));
+    look->status = collect_lines(lines, task, domains);
+    bool is_whole = !ferror(lines);
+    if (fclose(lines) != 0 || !is_whole || look->lines.at == NULL) {
+        complain("there is no memory for the answers");
+        return look->status = FINDINGS;
+    }
+    if (look->status != ANSWERED && look->status != NOT_ANSWERED) return look->status;
+    return show_look(look, task, earlier, !task->site.is_once);
+}
+
+/* Looks at the site. If others name a clock of this host, it looks again, also at the socket of the ptp4l here. As long as a clock may have
+   others after it that a request did not come to, it looks again, further. From then on each look goes as far. */
+static int look_at_site(struct look *look, const struct task *task, const struct domains *domains, struct look *earlier) {
+    look_once(look, task, domains, earlier);
+    if (hops < task->settings.hops) hops = task->settings.hops;
+    if (!stopped && has_finding_named(&look->report, "own_host") && may_write_beside(OWN_CLOCK) && ask_own_clock(OWN_CLOCK)) {
+        forget_answers(look);
+        look_once(look, task, domains, earlier);
+    }
+    while (!stopped && !task->site.is_as_far_as_named && hops < UINT8_MAX && has_finding_named(&look->report, "out_of_reach")) {
+        hops = (uint8_t)(hops < UINT8_MAX / 2 ? 2 * hops + 1 : UINT8_MAX);
+        show_progress("a clock is at the last of the boundary hops; a look with %d", hops);
+        forget_answers(look);
+        look_once(look, task, domains, earlier);
+    }
+    return look->status;
+}
+
+static bool was_seen(const struct seen_clock *clock) {
+    for (size_t i = 0; i < count_before; i++) {
+        const struct seen_clock *before = &clocks_before[i];
+        if (is_same_domain(before->domain, clock->domain) && memcmp(before->identity, clock->identity, 8) == 0) return true;
+    }
+    return false;
+}
+
+/* A clock of this look that is missing from the next one is asked there by itself. */
+static void keep_clocks(void) {
+    count_before = seen_count();
+    for (size_t i = 0; i < count_before; i++) clocks_before[i] = *seen_clock(i);
+    expect_clocks(clocks_before, count_before);
+}
+
+/* So is a clock of the first of two looks. It counts as one that came until then. */
+static void expect_more_clocks(void) {
+    size_t count = count_before;
+    for (size_t i = 0; i < seen_count(); i++) {
+        if (!was_seen(seen_clock(i))) clocks_before[count++] = *seen_clock(i);
+    }
+    expect_clocks(clocks_before, count);
+}
+
+/* Looks at the site. If a change may be on its way through it, which the look before did not show, it looks a second time. Then of
+   such findings only those are left that both looks have. If no clock answers, a second look would show no more. */
+static void look_twice(struct look *look, const struct task *task, struct domains *domains, struct look *earlier) {
+    *look = (struct look){ 0 };
+    look_at_site(look, task, domains, earlier);
+    if (look->status == NOT_ANSWERED && look->report.momentary > 0) show_look(look, task, earlier, false);
+    if (stopped || look->report.momentary == 0) return;
+    struct look second = { .first = look->lines };
+    int64_t wait = change_time(&look->lines);
+    show_progress("findings: %zu; a second look in %d s", look->report.count + look->report.momentary, (int)(wait / 1000));
+    listen_for_domains(domains, task, wait);
+    if (stopped) return;
+    expect_more_clocks();
+    look->lines = (struct lines){ NULL, 0 };
+    look_at_site(&second, task, domains, earlier);
+    free_look(look);
+    *look = second;
+}
+
+/* The look after which the next one is judged is this one, with what is needed of those before. */
+static void follow_look(struct look *earlier, struct look *look, bool is_over_time) {
+    keep_lines_before(&look->lines, &earlier->lines, is_over_time);
+    free_look(earlier);
+    *earlier = *look;
+}
+
+/* Whether another look is to decide: on what is open, or on a finding that only the latest look has. */
+static bool is_undecided(const struct look *look, int64_t end, int unlike) {
+    return (has_open(&look->report) && milliseconds() < end) || (0 < unlike && unlike < MOST_UNLIKE);
+}
+
+/* Looks at the site, and then again and again while something is undecided, over the lines of all these looks. */
+static void look_until_decided(struct look *look, const struct task *task, struct domains *domains) {
+    int64_t end = milliseconds() + MOST_OPEN;
+    look_twice(look, task, domains, NULL);
+    int unlike = look->report.momentary > 0;
+    while (!stopped && !task->site.is_once && is_undecided(look, end, unlike)) {
+        struct look next = { 0 };
+        int64_t wait = unlike > 0 ? change_time(&look->lines) : BETWEEN_OPEN;
+        show_progress("not all is decided; another look in %d s", (int)(wait / 1000));
+        listen_for_domains(domains, task, wait);
+        if (stopped) return;
+        keep_clocks();
+        look_at_site(&next, task, domains, look);
+        follow_look(look, &next, true);
+        unlike = look->report.momentary > 0 ? unlike + 1 : 0;
+    }
+    if (unlike >= MOST_UNLIKE) show_look(look, task, NULL, false);
+}
+
+/* Whether colour is wanted: on a terminal, unless the environment says that it is not. */
+static bool is_coloured(void) {
+    const char *without = getenv("NO_COLOR"), *terminal = getenv("TERM");
+    if (without != NULL && *without != '\0') return false;
+    return isatty(STDOUT_FILENO) && terminal != NULL && strcmp(terminal, "dumb") != 0;
+}
+
+/* Whether a look shows the site, which may have no clock by now; otherwise something failed, and that is said. */
+static bool is_whole(const struct look *look) { return look->report.has_findings || look->status == NOT_ANSWERED; }
+
+static bool is_seen_anywhere(const uint8_t identity[8]) {
+    for (size_t i = 0; i < seen_count(); i++) {
+        if (memcmp(seen_clock(i)->identity, identity, 8) == 0) return true;
+    }
+    return false;
+}
+
+/* Says that a clock of this host is not asked, if none has the identity of an interface at which it would not be heard. */
+static void tell_own_clock(void) {
+    uint8_t identity[8];
+    bool is_missing = false;
+    for (size_t i = 0; own_identity(i, identity); i++) is_missing |= !is_seen_anywhere(identity);
+    if (!is_missing || asks_one_address() || !is_own_clock_left_out(OWN_CLOCK)) return;
+    complain("a ptp4l of this host is not asked: with --unix %s it is asked too", OWN_CLOCK);
+}
+
+/* Prints a page, with the interface or the socket at which no clock answered, if there is one. If none answered anywhere, the page itself has
+   no finding, and so its title says. */
+static void print_page(FILE *to, const char *page, bool is_answered) {
+    char notice[NOTICE_TEXT];
+    const char *silent = silent_way();
+    snprintf(notice, sizeof notice, "No clock answered%s%s.", silent == NULL ? "" : " at ", silent == NULL ? "" : silent);
+    write_page(to, page, silent == NULL && is_answered ? NULL : notice);
+}
+
+/* Prints the page of the look before, and that this one failed. */
+static void print_page_again(FILE *to) {
+    char notice[NOTICE_TEXT];
+    time_t now = time(NULL);
+    struct tm parts;
+    strftime(notice, sizeof notice, "The look at %F %T UTC failed. What follows was seen before it.", gmtime_r(&now, &parts));
+    write_page_again(to, notice);
+}
+
+/* Has the lines of a look shown in the form that was asked for, after those of an earlier one; the status. That of numbers and of a plugin is
+   the program's own. */
+static int print_form(FILE *to, const struct look *look, const struct look *earlier, const struct task *task) {
+    struct report shown;
+    bool is_beside = earlier != NULL && !task->site.is_once;
+    const struct shown_lines lines = is_beside ? lines_beside(look, earlier) : lines_alone(look, earlier);
+    const struct site_options options = as_looked_at(task);
+    enum shown_as form = options.form;
+    int status = run_site_program(&options, form, &lines, &shown);
+    if (form == AS_PLUGIN && status == 0 && silent_way() != NULL) {
+        fprintf(to, "PTP UNKNOWN - no clock answered at %s\n", silent_way());
+        status = NOT_ANSWERED;
+    } else if (form == AS_PAGE && shown.size > 0) {
+        print_page(to, shown.text, status != NOT_ANSWERED);
+    } else if (form == AS_NUMBERS && shown.size > 0) {
+        write_numbers(to, shown.text);
+    } else if (shown.size > 0) fwrite(shown.text, 1, shown.size, to);
+    free_report(&shown);
+    return status > FINDINGS || form == AS_NUMBERS || form == AS_PLUGIN ? status : look->status;
+}
+
+static int print_look_to(FILE *to, const struct look *look, const struct look *earlier, const struct task *task) {
+    bool is_drawing = task->site.form == AS_DRAWING;
+    bool has_form = task->site.form != AS_TEXT && is_whole(look) && !(is_drawing && look->status == NOT_ANSWERED);
+    if (has_form) return print_form(to, look, earlier, task);
+    if (task->site.form == AS_PLUGIN) {
+        fputs("PTP UNKNOWN - the site could not be shown\n", to);
+        return NOT_ANSWERED;
+    }
+    if (task->site.form == AS_PAGE && to != stdout) {
+        print_page_again(to);
+        return look->status;
+    }
+    print_report_text(to, &look->report, to == stdout && is_coloured());
+    return look->status;
+}
+
+/* Writes it into the file that was named; the status. */
+static int write_look(const struct look *look, const struct look *earlier, const struct task *task) {
+    char *text = NULL;
+    size_t size = 0;
+    FILE *to = open_memstream(&text, &size);
+    int status = to == NULL ? NOT_WRITTEN : print_look_to(to, look, earlier, task);
+    if (to == NULL || fclose(to) != 0 || !write_output_file(text, size)) status = NOT_WRITTEN;
+    free(text);
+    return status;
+}
+
+/* Whether a file has to say that a look failed: on a plugin's or a page the site would be well for good. */
+static bool tells_failures(const struct task *task) { return task->site.form == AS_PLUGIN || task->site.form == AS_PAGE; }
+
+/* Prints it, which was judged after an earlier one if there is one; the status. If nothing is to be shown, most files stay as they were. */
+static int print_look(const struct look *look, const struct look *earlier, const struct task *task) {
+    clear_progress();
+    bool is_shown = is_whole(look) || tells_failures(task);
+    if (task->site.output != NULL) return is_shown ? write_look(look, earlier, task) : look->status;
+    return print_look_to(stdout, look, earlier, task);
+}
+
+/* Prints which clocks came since the look before. Those that went have a finding. */
+static void print_clocks(const char *lead, bool is_json) {
+    char clock[IDENTITY_TEXT], domain[DOMAIN_TEXT];
+    for (size_t i = 0; i < seen_count(); i++) {
+        const struct seen_clock *seen = seen_clock(i);
+        if (was_seen(seen)) continue;
+        write_identity(clock, seen->identity);
+        write_domain(domain, seen->domain);
+        if (is_json) {
+            printf("{%s\"event\":\"came\",\"domainNumber\":%u,\"sdoId\":%u,\"clockIdentity\":\"%s\",\"finding\":null}\n", lead,
+                   seen->domain.number, seen->domain.sdo, clock);
+        } else printf("%s+ %s %s answers\n", lead, domain, clock);
+    }
+}
+
+/* What differs from the look before, each line after the time. In JSON the look comes before that. */
+static void print_difference(const struct look *look, const struct look *earlier, const struct task *task) {
+    char lead[TIME_TEXT];
+    time_t now = time(NULL);
+    struct tm parts;
+    if (task->is_json) strftime(lead, sizeof lead, "\"time\":\"%FT%TZ\",", gmtime_r(&now, &parts));
+    else strftime(lead, sizeof lead, "%F %T ", localtime_r(&now, &parts));
+    clear_progress();
+    if (task->is_json || task->site.output != NULL) print_look(look, earlier, task);
+    if (task->site.output != NULL) return;
+    print_clocks(lead, task->is_json);
+    print_changes(stdout, lead, &look->report, &earlier->report, is_coloured());
+}
+
+/* Whether nobody reads what is printed any more. A pipe and a socket show that before something is written. */
+static bool has_lost_reader(void) {
+    struct pollfd output = { STDOUT_FILENO, 0, 0 };
+    return poll(&output, 1, 0) > 0 && (output.revents & (POLLERR | POLLHUP)) != 0;
+}
+
+/* Looks again and again, until the program is asked to end, or nobody reads what it prints. */
+static int watch(struct look *earlier, const struct task *task, struct domains *domains) {
+    struct look look;
+    keep_clocks();
+    is_watching = true;
+    while (!stopped && fflush(stdout) == 0 && !ferror(stdout) && !has_lost_reader()) {
+        show_progress("%zu clocks; the next look comes %ld s after this one", count_before, task->site.watch / 1000);
+        listen_for_domains(domains, task, task->site.watch);
+        if (stopped) break;
+        renew_transport();
+        look_twice(&look, task, domains, earlier);
+        if (stopped || !is_whole(&look)) {
+            if (!stopped && tells_failures(task)) print_look(&look, NULL, task);
+            free_look(&look);
+            continue;
+        }
+        print_difference(&look, earlier, task);
+        keep_clocks();
+        follow_look(earlier, &look, look.report.momentary > 0 || is_over_time(&look.report));
+    }
+    return stopped ? BY_SIGNAL + stopped : NOT_WRITTEN;
+}
+
+int show_status(const struct task *task) {
+    static struct look look;
+    struct domains domains;
+    find_ptpm_program();
+    if (task->site.output != NULL) find_output_file(task->site.output);
+    try_options(task);
+    widen_transport();
+    find_domains(&domains, task);
+    look_until_decided(&look, task, &domains);
+    int status = stopped ? BY_SIGNAL + stopped : print_look(&look, NULL, task);
+    if (!stopped) tell_own_clock();
+    if (status == 0 && task->site.form != AS_NUMBERS && silent_way() != NULL) status = NOT_ANSWERED;
+    bool is_asked = status != NOT_ASKED || task->site.form == AS_PLUGIN;
+    if (!stopped && task->site.watch > 0 && is_asked) status = watch(&look, task, &domains);
+    free_look(&look);
+    return status;
+}
