@@ -3,6 +3,7 @@
 #ifndef KEPT_FILE_H
 #define KEPT_FILE_H
 
+#include "ptpm.h"
 #include <stdbool.h>
 #include <stddef.h>
 #include <stdint.h>
@@ -57,5 +58,15 @@ enum replaced { NOT_REPLACED, IN_DOUBT, REPLACED };
 /* Replaces it by one with these octets: synchronized, renamed, and its folder synchronized. If it isn't replaced for sure, errno
    says why. */
 enum replaced replace_kept(const struct kept_file *file, const uint8_t *octets, size_t size);
+
+/* A file that keeps an image has the image's seal after it, of 16 octets, by which damage to the file is found. The library writes and
+   reads it. Nothing comes after the seal. docs/image.md says what reads what. */
+
+/* Writes the seal after these octets; how many octets there are then. There is room for it. */
+size_t write_seal(uint8_t *octets, size_t size, uint64_t saves);
+
+/* Takes the seal off: *size becomes that of the image, and *saves how many times it was saved, 0 if it has no seal. Otherwise why not, as
+   ptpm_image_unseal says it; then *size stays, and *saves is 0. */
+enum ptpm_restored take_seal(const uint8_t *octets, size_t *size, uint64_t *saves);
 
 #endif

@@ -5,7 +5,6 @@
 #include "names.h"
 #include "output.h"
 #include "replacing.h"
-#include "seal.h"
 #include "words.h"
 #include <errno.h>
 #include <stdlib.h>

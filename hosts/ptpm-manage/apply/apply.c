@@ -6,7 +6,6 @@
 #include "marks.h"
 #include "notices.h"
 #include "plan.h"
-#include "program.h"
 #include "steps.h"
 #include "stopping.h"
 #include "transport.h"

@@ -4,7 +4,6 @@
 
 #include "kept_file.h"
 #include "ptpm.h"
-#include "seal.h"
 #include <stdbool.h>
 #include <stddef.h>
 #include <stdint.h>
