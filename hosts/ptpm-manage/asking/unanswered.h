@@ -1,4 +1,4 @@
-/* What can be said if no answer came, or if one came and is not taken: the library can't read it, or it is too late. */
+/* What can be said if no answer came, or if one is not taken: the library can't read it, or it is too late. */
 #ifndef UNANSWERED_H
 #define UNANSWERED_H
 
