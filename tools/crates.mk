@@ -10,6 +10,9 @@ below = $(filter $(CRATES),$(shell sed -n 's/^$(1)\( [^:]*\)\{0,1\}://p' $(TOOLS
 # At most a crate for each processor, and for each 4 GB of free memory.
 SLOTS := $(shell { nproc; awk '/^MemAvailable:/ { print int($$2 / 4194304) + 1 }' /proc/meminfo; } | sort -n | head -1)
 MAKEFLAGS += --jobs=$(SLOTS)
+export SLOTS
+
+$(shell mkdir -p $(TOOLS)../out/log && : > $(TOOLS)../out/log/$(NAME).ended)
 
 all: $(CRATES)
 
