@@ -27,7 +27,7 @@ check "and where the numbers were lost" "$(rm -r "$XDG_STATE_HOME" && is_true -2
 stop
 for latest in 0 16384 16385 32767 32768 49152 65535; do
     start $managers $identity far0
-    echo $(((latest + 65535) % 65536)) > "$work/latest"
+    session_from $(((latest + 65535) % 65536)) > "$work/latest"
     check "the clock's latest number is $latest" "$(asks 'priority2 128' -i near0 -k "$work/latest" get PRIORITY2)"
     check "a new session after number $latest" "$(rm -rf "$XDG_STATE_HOME" && is_true -i near0)"
     stop
