@@ -11,8 +11,6 @@
 #include <string.h>
 #include <unistd.h>
 
-enum { ERROR_TLV = 2 };             /* a tlvType (14.1.1): a MANAGEMENT_ERROR_STATUS (15.5.4) */
-enum { CLOCK = SOURCE_PORT_AT - SOURCE_AT, PORT_IDENTITY = CLOCK + 2 };     /* octets of identities */
 
 /* Who asks by the latest message, and its target as the session has it. And the port that takes the place of the session's last one,
    or 0. */
@@ -40,7 +38,7 @@ static void swap_port(uint8_t *at) {
 void name_target(uint8_t *message) {
     memcpy(source, message + SOURCE_AT, sizeof source);
     memcpy(target, message + TARGET_AT, sizeof target);
-    swap_port(message + TARGET_AT + CLOCK);
+    swap_port(message + TARGET_AT + CLOCK_IDENTITY);
 }
 
 enum sending send_again(struct ptpm_session *session) {
@@ -63,7 +61,7 @@ size_t copy_datagram(uint8_t copy[PTPM_MOST_OCTETS], const uint8_t *datagram, si
    is judged as one of the named port; the library judges all else of it, its number among that. */
 bool is_error_of_clock(uint8_t *copy, size_t size) {
     bool is_error = size >= LEAST_MESSAGE && copy[TLV_AT] == 0 && copy[TLV_AT + 1] == ERROR_TLV
-                    && memcmp(copy + SOURCE_AT, target, CLOCK) == 0;
+                    && memcmp(copy + SOURCE_AT, target, CLOCK_IDENTITY) == 0;
     if (is_error) memcpy(copy + SOURCE_AT, target, sizeof target);
     return is_error;
 }

@@ -143,8 +143,6 @@ int no_answer(const struct task *task, enum unanswered what, uint16_t number, lo
     return NOT_ANSWERED;
 }
 
-enum { RESPONSE = 2, CLOCK = 8, PORT_IDENTITY = 10 };       /* an actionField (IEEE 1588-2019, 15.4.1); octets of identities */
-
 /* Whether the library gives this name to what is no message by its rules, whatever was asked. */
 static bool is_of_form(uint32_t refusal) {
     switch (refusal) {
@@ -171,7 +169,7 @@ void tell_unreadable(uint32_t refusal, const uint8_t source[10], const uint8_t *
 static uint8_t asker[PORT_IDENTITY];
 static bool has_late;
 static struct domain late_domain;
-static uint8_t late_clock[CLOCK];
+static uint8_t late_clock[CLOCK_IDENTITY];
 
 static bool is_response(const uint8_t *datagram, size_t size) {
     return size >= LEAST_MESSAGE && (datagram[TYPE_AT] & LOWER_HALF) == MANAGEMENT_TYPE && (datagram[ACTION_AT] & LOWER_HALF) == RESPONSE;
@@ -184,7 +182,7 @@ void note_late(const uint8_t *datagram, size_t size) {
     if (is_seen(domain_of(datagram), datagram + SOURCE_AT) || (has_late && !is_seen(late_domain, late_clock))) return;
     has_late = true;
     late_domain = domain_of(datagram);
-    memcpy(late_clock, datagram + SOURCE_AT, CLOCK);
+    memcpy(late_clock, datagram + SOURCE_AT, CLOCK_IDENTITY);
 }
 
 void tell_late(const struct task *task) {

@@ -27,8 +27,8 @@ enum { TRIES = 25, TRY = 2, MOST_TIMEOUTS = 10 };
 /* A clock of this project passes a request on to this many boundary hops if nobody gave it another --hops. */
 enum { HOPS_OF_CLOCKS = 8 };
 
-/* In the answers: a tlvType (IEEE 1588-2019, 14.1.1), how many octets two data sets have, and the places of their members (15.5.3). */
-enum { ERROR_TLV = 2, DEFAULT_SIZE = 20, PORT_SIZE = 26, PORT_COUNT_AT = FIELD_AT + 2, FIELD_PORT_AT = FIELD_AT + 8 };
+/* In the answers: how many octets two data sets have, and the places of their members (IEEE 1588-2019, 15.5.3). */
+enum { DEFAULT_SIZE = 20, PORT_SIZE = 26, PORT_COUNT_AT = FIELD_AT + 2, FIELD_PORT_AT = FIELD_AT + 8 };
 
 const struct collected of_site = { 6, {
     PTPM_ID_DEFAULT_DATA_SET, PTPM_ID_CURRENT_DATA_SET, PTPM_ID_PARENT_DATA_SET, PTPM_ID_TIME_PROPERTIES_DATA_SET,

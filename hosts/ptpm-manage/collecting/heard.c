@@ -10,7 +10,7 @@
 enum { VERSION = 2, SYNC = 0, DELAY_REQ = 1, FOLLOW_UP = 8, TIMED_SIZE = 44, ANNOUNCE_SIZE = 64 };
 
 /* Room for four messages of 256 ports. A longer message is not kept. */
-enum { MOST_KEPT_MESSAGES = 1024, MOST_OCTETS_KEPT = 1500, PORT_IDENTITY = 10, MOST_SENDER = 64 };
+enum { MOST_KEPT_MESSAGES = 1024, MOST_OCTETS_KEPT = 1500, MOST_SENDER = 64 };
 
 /* A message is sent again after two to its logMessageInterval, in seconds (13.3.2.14). What is less than a second counts as one, and what
    is more than the standard's greatest of an Announce as that. So does 0x7F, by which a Delay_Req says nothing. */

@@ -1,4 +1,5 @@
 #include "session_image.h"
+#include "exchange.h"
 #include <string.h>
 
 /* The places of the members, from the mark at the head on. Numbers of two octets are big-endian. */
@@ -6,9 +7,6 @@ enum {
     MANAGER = 12, MANAGER_PORT = 20, TARGET = 22, PORTS = 30, FIRST = 31, LOW_ISSUED = 42, IS_UNDER_WAY = 52,
     ACTION = 53, ID = 54, PORT = 56, SIZE = 58, OCTETS = 60,
 };
-
-/* The target of an id of the clock itself is every port (IEEE 1588-2019, 15.4.1). */
-enum { EVERY_PORT = 0xffff };
 
 static uint16_t number_at(const uint8_t *octets, size_t place) { return (uint16_t)(octets[place] << 8 | octets[place + 1]); }
 

@@ -9,7 +9,7 @@
 #include <string.h>
 
 /* In the dataField of PORT_DATA_SET (IEEE 1588-2019, 15.5.3.7.1): portIdentity, portState, two members more, and logAnnounceInterval. */
-enum { PORT_SIZE = 10, STATE_AT = FIELD_AT + PORT_SIZE, ANNOUNCE_AT = STATE_AT + 10, ANNOUNCE_END };
+enum { STATE_AT = FIELD_AT + PORT_IDENTITY, ANNOUNCE_AT = STATE_AT + 10, ANNOUNCE_END };
 
 /* In that of CURRENT_DATA_SET (15.5.3.4.1) the first member is stepsRemoved. */
 enum { STEPS_END = FIELD_AT + 2 };
@@ -28,7 +28,7 @@ enum state_kind { ON_THE_WAY, SERVED, OTHER_STATE };
 struct state_line {
     const char *line;
     struct domain domain;
-    uint8_t port[PORT_SIZE];
+    uint8_t port[PORT_IDENTITY];
     uint16_t sequence;
     enum state_kind kind;
     bool is_needed;
@@ -71,7 +71,7 @@ static bool read_state(struct state_line *state, const char *line, const char *e
     uint8_t message[ANNOUNCE_END];
     if (!read_answer_to(PTPM_ID_PORT_DATA_SET, message, sizeof message, line, end)) return false;
     *state = (struct state_line){ .line = line, .domain = domain_of(message), .kind = kind_of(message[STATE_AT]) };
-    memcpy(state->port, message + FIELD_AT, PORT_SIZE);
+    memcpy(state->port, message + FIELD_AT, PORT_IDENTITY);
     state->sequence = (uint16_t)(message[SEQUENCE_AT] << 8 | message[SEQUENCE_AT + 1]);
     return true;
 }
@@ -98,7 +98,7 @@ static bool add_states(struct state_lines *states, const struct lines *lines) {
 static int compare_ports(const struct state_line *one, const struct state_line *other) {
     int order = (one->domain.number > other->domain.number) - (one->domain.number < other->domain.number);
     if (order == 0) order = (one->domain.sdo > other->domain.sdo) - (one->domain.sdo < other->domain.sdo);
-    return order != 0 ? order : memcmp(one->port, other->port, PORT_SIZE);
+    return order != 0 ? order : memcmp(one->port, other->port, PORT_IDENTITY);
 }
 
 /* By port, and of one port in the order in which they came. */
@@ -171,7 +171,7 @@ void keep_lines_before(struct lines *look, const struct lines *earlier, bool is_
 
 /* Whether a line has a GET, and that is not to all ports of all clocks. */
 static bool is_single(const char *line, const char *end) {
-    static const uint8_t all[PORT_SIZE] = { 0xff, 0xff, 0xff, 0xff, 0xff, 0xff, 0xff, 0xff, 0xff, 0xff };
+    static const uint8_t all[PORT_IDENTITY] = { 0xff, 0xff, 0xff, 0xff, 0xff, 0xff, 0xff, 0xff, 0xff, 0xff };
     const char *message = message_in_line(line, end);
     uint8_t head[TLV_AT];
     if (read_octets(&message, head, sizeof head) < sizeof head || (head[TYPE_AT] & LOWER_HALF) != MANAGEMENT_TYPE) return false;
