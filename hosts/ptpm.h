@@ -65,7 +65,7 @@ enum {
 
 /* A clock: 2,608 octets at one pointer with one manager, and 34,648 with sixteen. All zeros hold no clock: struct ptpm_clock
    clock = { 0 }; */
-struct ptpm_clock { void *at; PTPM_TO_EIGHT bool live, restored; };
+struct ptpm_clock { void *at; PTPM_TO_EIGHT bool live; bool restored; };
 
 /* The start values of a clock's own members: ptpm_clock_defaults writes them all, then the host writes its own over them.
    A flag is set if it is not 0. Without its has_ flag a value is the clock's own, and parent_port is its port 0. An
@@ -285,7 +285,7 @@ struct ptpm_limit {
 };
 
 /* A session of a manager, about 1,600 octets at one pointer. All zeros hold no session. */
-struct ptpm_session { void *at; PTPM_TO_EIGHT bool live, restored; };
+struct ptpm_session { void *at; PTPM_TO_EIGHT bool live; bool restored; };
 
 /* One manager, the clock that it manages, and how its requests are numbered and sent. A clock treats a request as new if its
    number is up to 32,767 ahead of the latest that it accepted from this manager. So a manager that starts again continues with
@@ -305,7 +305,7 @@ struct ptpm_session_settings {
 enum { PTPM_GET = 0, PTPM_SET = 1, PTPM_COMMAND = 3 };
 
 /* A survey of a manager: what it asks and its answers, at one pointer. All zeros hold no survey. */
-struct ptpm_survey { void *at; PTPM_TO_EIGHT bool live, restored; };
+struct ptpm_survey { void *at; PTPM_TO_EIGHT bool live; bool restored; };
 
 /* One manager, and the GET that it sends to every port of every clock, or of one. A clock answers one that is for every clock
    whatever numbers it took from this manager before. A late answer to an earlier GET with the same number and id is taken for this
@@ -321,7 +321,7 @@ struct ptpm_survey_settings {
 };
 
 /* An asker: a session, and what is to be sent, saved and noted next, about 1,900 octets at one pointer. All zeros hold no asker. */
-struct ptpm_asker { void *at; PTPM_TO_EIGHT bool live, restored; };
+struct ptpm_asker { void *at; PTPM_TO_EIGHT bool live; bool restored; };
 
 /* The session of an asker, and how long it waits. Times are in milliseconds, from any moment on, and never go back. */
 struct ptpm_asker_settings {

@@ -175,7 +175,7 @@ class SurveyAnswer(Answer):
 
 
 class ptpm_clock(Structure):
-    _fields_ = [("at", c_void_p), ("live", c_bool), ("restored", c_uint8)]
+    _fields_ = [("at", c_void_p), ("live", c_bool), ("restored", c_bool)]
 
 
 class ptpm_clock_settings(Structure):
@@ -243,7 +243,7 @@ class ptpm_limit(Structure):
 
 
 class ptpm_session(Structure):
-    _fields_ = [("at", c_void_p), ("live", c_bool), ("restored", c_uint8)]
+    _fields_ = [("at", c_void_p), ("live", c_bool), ("restored", c_bool)]
 
 
 class ptpm_session_settings(Structure):
@@ -252,7 +252,7 @@ class ptpm_session_settings(Structure):
 
 
 class ptpm_survey(Structure):
-    _fields_ = [("at", c_void_p), ("live", c_bool), ("restored", c_uint8)]
+    _fields_ = [("at", c_void_p), ("live", c_bool), ("restored", c_bool)]
 
 
 class ptpm_survey_settings(Structure):
@@ -261,7 +261,7 @@ class ptpm_survey_settings(Structure):
 
 
 class ptpm_asker(Structure):
-    _fields_ = [("at", c_void_p), ("live", c_bool), ("restored", c_uint8)]
+    _fields_ = [("at", c_void_p), ("live", c_bool), ("restored", c_bool)]
 
 
 class ptpm_asker_settings(Structure):

@@ -286,7 +286,7 @@ impl Asker {
 
     /// A handle that holds nothing.
     const fn none() -> Self {
-        Self { handle: sys::ptpm_asker { at: null_mut(), live: false, restored: 0 } }
+        Self { handle: sys::ptpm_asker { at: null_mut(), live: false, restored: false } }
     }
 
     /// What a call hands out.

@@ -140,7 +140,7 @@ impl Clock {
 
     /// A handle that holds nothing.
     const fn none() -> Self {
-        Self { handle: sys::ptpm_clock { at: null_mut(), live: false, restored: 0 } }
+        Self { handle: sys::ptpm_clock { at: null_mut(), live: false, restored: false } }
     }
 
     /// Makes the clock's image in the room that it is given. A host saves it before it sends the messages of a turn that is

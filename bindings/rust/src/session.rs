@@ -143,7 +143,7 @@ impl Session {
 
     /// A handle that holds nothing.
     const fn none() -> Self {
-        Self { handle: sys::ptpm_session { at: null_mut(), live: false, restored: 0 } }
+        Self { handle: sys::ptpm_session { at: null_mut(), live: false, restored: false } }
     }
 
     /// Makes the session's image in the room that it is given. A host saves it before it sends a request, and after it has reported

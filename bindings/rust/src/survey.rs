@@ -114,7 +114,7 @@ impl Survey {
 
     /// A handle that holds nothing.
     const fn none() -> Self {
-        Self { handle: sys::ptpm_survey { at: null_mut(), live: false, restored: 0 } }
+        Self { handle: sys::ptpm_survey { at: null_mut(), live: false, restored: false } }
     }
 
     /// Makes the message of the GET in the room that it is given, the same each time.

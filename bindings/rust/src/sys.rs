@@ -198,7 +198,7 @@ pub const PTPM_IS_TIME_SOURCE: u32 = 18; pub const PTPM_IS_TIMESTAMPING: u32 = 1
 pub const PTPM_MOST_TAKES: usize = 69;
 
 #[repr(C)]
-pub struct ptpm_clock { pub at: *mut c_void, pub live: bool, pub restored: u8 }
+pub struct ptpm_clock { pub at: *mut c_void, pub live: bool, pub restored: bool }
 #[repr(C)] #[derive(Clone, Copy)]
 pub struct ptpm_clock_settings { pub offset_from_master: i64, pub mean_path_delay: i64, pub observed_rate: i32, pub variance: u16,
         pub steps_removed: u16, pub observed_variance: u16, pub grandmaster_variance: u16, pub parent_port_number: u16,
@@ -241,16 +241,16 @@ pub struct ptpm_say { pub error: u16, pub size: u16, pub kind: u8, pub octets: [
 #[repr(C)] #[derive(Clone, Copy)]
 pub struct ptpm_limit { pub id: u16, pub port: u16, pub values: [u8; 32] }
 #[repr(C)]
-pub struct ptpm_session { pub at: *mut c_void, pub live: bool, pub restored: u8 }
+pub struct ptpm_session { pub at: *mut c_void, pub live: bool, pub restored: bool }
 #[repr(C)] #[derive(Clone, Copy)]
 pub struct ptpm_session_settings { pub port: u16, pub target_ports: u16, pub first: u16, pub clock: [u8; 8], pub target: [u8; 8],
         pub domain: u8, pub hops: u8, pub attempts: u8 }
 #[repr(C)]
-pub struct ptpm_survey { pub at: *mut c_void, pub live: bool, pub restored: u8 }
+pub struct ptpm_survey { pub at: *mut c_void, pub live: bool, pub restored: bool }
 #[repr(C)] #[derive(Clone, Copy)]
 pub struct ptpm_survey_settings { pub port: u16, pub number: u16, pub id: u16, pub clock: [u8; 8], pub domain: u8, pub hops: u8 }
 #[repr(C)]
-pub struct ptpm_asker { pub at: *mut c_void, pub live: bool, pub restored: u8 }
+pub struct ptpm_asker { pub at: *mut c_void, pub live: bool, pub restored: bool }
 #[repr(C)] #[derive(Clone, Copy)]
 pub struct ptpm_asker_settings { pub session: ptpm_session_settings, pub nobody: u16, pub timeout: u32, pub wait: u32 }
 #[repr(C)] #[derive(Clone, Copy)]
