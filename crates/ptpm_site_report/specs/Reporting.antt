@@ -1,6 +1,5 @@
 -- What came of a site, and the status with which the program ends.
 use Rattle.std.specs.Prelude.{◌≡◌, ℕ, Bool, true, false, ◌&&◌, if◌then◌else◌, List, [], ◌∷◌, Option, Some, None, MatchOption, not, filter}
-use Rattle.std.specs.Bool.{then_some}
 use Rattle.std.specs.List.{items_where_true, list_any}
 use denote.Enum.Bare.{sameb}
 use Rattle.ptpm_causes.specs.contracts.kind.Kind.{the_type}
@@ -67,7 +66,7 @@ is_critical severities.Critical = true
 abbrev pub worst : List Remark → Option Severity
 worst found =
     if list_any (λ r. counts r.cause && is_critical r.severity) found then Some severities.Critical
-    else then_some (list_any (λ r. counts r.cause) found) severities.Warning
+    else (if list_any (λ r. counts r.cause) found then Some severities.Warning else None)
 
 abbrev pub standing_by : Option Severity → Standing
 standing_by None = standings.Sound

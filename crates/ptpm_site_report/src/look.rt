@@ -7,7 +7,7 @@ ghost use Rattle.ptpm_site_report.specs.Reporting.{worst};
 use crate::asked_domains::AskedText;
 use crate::names::{Names, Quoted};
 use crate::phrases::clock_of;
-use crate::remarks::{Remark, open_of, remarks_of};
+use crate::remarks::{Remark, any_counts, any_critical, open_of, remarks_of};
 use crate::site_lines::LinesSaid;
 use ptpm_causes::{Severity, causes_of};
 use ptpm_site::finding::Finding;
@@ -108,16 +108,12 @@ impl Look<'_, '_> {
         ensures { result ≡ worst self.now.found.items }
     {
         let found = self.found.as_slice();
-        if found
-            .iter()
-            .any(|remark| remark.counts() && remark.is_critical())
-        {
+        if any_critical(found) {
             Some(Severity::Critical)
+        } else if any_counts(found) {
+            Some(Severity::Warning)
         } else {
-            found
-                .iter()
-                .any(|remark| remark.counts())
-                .then_some(Severity::Warning)
+            None
         }
     }
 }

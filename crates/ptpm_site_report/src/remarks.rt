@@ -1,6 +1,7 @@
 //! What is said of a site: its findings, each with that from which it follows, and what is open.
 
-ghost use Rattle.std.specs.Prelude.{◌≡◌, IfOk, length, map};
+ghost use Rattle.std.specs.Prelude.{◌≡◌, ◌&&◌, IfOk, length, map};
+ghost use Rattle.std.specs.List.{list_any};
 ghost use Rattle.ptpm_site_report.specs.Reporting.{counts, is_critical};
 
 use crate::finding_text::Said;
@@ -121,6 +122,22 @@ impl fmt::Display for Remark<'_> {
             _ => Ok(()),
         }
     }
+}
+
+/// Whether one counts.
+pub(crate) fn any_counts(remarks: &[Remark<'_>]) -> bool
+    ensures { result ≡ list_any (λ r. counts r.cause) remarks.now }
+{
+    remarks.iter().any(|remark| remark.counts())
+}
+
+/// Whether one counts that is critical.
+pub(crate) fn any_critical(remarks: &[Remark<'_>]) -> bool
+    ensures { result ≡ list_any (λ r. counts r.cause && is_critical r.severity) remarks.now }
+{
+    remarks
+        .iter()
+        .any(|remark| remark.counts() && remark.is_critical())
 }
 
 /// Those of a clock. They are in the order of their clocks.

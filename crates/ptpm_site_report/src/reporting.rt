@@ -155,7 +155,8 @@ pub fn report<
         is_all: viewing.is_all,
         momentary: viewing.leave_out(alloc, options.limits, expectations, &mut picture)?,
     };
-    print_picture(alloc, options, &picture, beside, out)
+    let came = print_picture(alloc, options, &picture, beside, out)?;
+    Ok(came)
 }
 
 /// Prints a picture, and answers what came of its site.
