@@ -1,6 +1,7 @@
 //! `ptpm site`: a site's tree and what is wrong with it, by the answers among lines of datagrams.
 
-ghost use Rattle.std.specs.Prelude.{◌≡◌, IfOk, List, OnOk};
+ghost use Rattle.std.specs.Prelude.{◌≡◌, ℕ, ◌<◌, IfOk, List, OnOk, length, map};
+ghost use Rattle.ptpm_causes.specs.Roots.{IsRoot};
 ghost use Rattle.ptpm_site_report.specs.Reporting.{AreConcluded, IsShown, outcome, status};
 
 use crate::before::Before;
@@ -171,10 +172,20 @@ fn print_picture<O: Write>(
 {
     let look = Look::of(alloc, picture, beside)?;
     print_look(alloc, options, &look, out)?;
-    Ok(Came {
-        conclusion: outcome_of(picture),
-        standing: Standing::of(&look),
-    })
+    Ok(came_of(&look))
+}
+
+/// What came of a site that is shown.
+#[tactic(auto, using(crate::proofs::Shown::agree))]
+fn came_of(look: &Look<'_, '_>) -> Came
+    requires findings { map (λ r. r.finding.now) look.now.found.items ≡ look.now.picture.now.findings.items }
+    requires printed { 0 < length look.now.found.items → (place : ℕ) × IsRoot (map (λ r. r.cause) look.now.found.items) place }
+    ensures { AreConcluded look.now.picture.now.forest.sources.items look.now.picture.now.findings.items result }
+{
+    Came {
+        conclusion: outcome_of(look.picture),
+        standing: Standing::of(look),
+    }
 }
 
 fn print_look<O: Write>(
