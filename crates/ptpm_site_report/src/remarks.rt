@@ -1,6 +1,6 @@
 //! What is said of a site: its findings, each with that from which it follows, and what is open.
 
-ghost use Rattle.std.specs.Prelude.{◌≡◌, ◌&&◌, IfOk, length, map};
+ghost use Rattle.std.specs.Prelude.{◌≡◌, ◌&&◌, IfOk, None, length, map, slice_index_or};
 ghost use Rattle.std.specs.List.{list_any};
 ghost use Rattle.ptpm_site_report.specs.Reporting.{counts, is_critical};
 
@@ -37,6 +37,7 @@ pub(crate) struct Remark<'a> {
 }
 
 /// The findings of a picture, in their order. `causes` has of each from what it follows.
+#[tactic(auto, using(std::proofs::lemmas::List::take_more))]
 pub(crate) fn remarks_of<'a>(
     alloc: Global,
     picture: &'a Picture<'a>,
@@ -47,13 +48,31 @@ pub(crate) fn remarks_of<'a>(
 {
     let mut remarks = Vec::new(alloc);
     for (place, finding) in picture.findings.as_slice().iter().enumerate() {
-        let (weight, cause) = match causes.get(place) {
-            Some(Some(cause)) => (Weight::Follows, Some(*cause)),
-            _ => (Weight::Wrong, None),
-        };
-        remarks.push(remark_of(finding, weight, cause))?;
+        remarks.push(found_remark(finding, cause_at(causes, place)))?;
     }
     Ok(remarks)
+}
+
+/// From what the finding at a place follows.
+fn cause_at(causes: &[Option<Cause>], place: usize) -> Option<Cause>
+    ensures { result ≡ slice_index_or causes.now place None }
+{
+    match causes.get(place) {
+        Some(cause) => *cause,
+        None => None,
+    }
+}
+
+/// A finding that is found: what follows from another weighs less.
+fn found_remark<'a>(finding: &'a Finding<'a>, cause: Option<Cause>) -> Remark<'a>
+    ensures finding { result.finding.now ≡ finding.now }
+    ensures cause { result.cause ≡ cause }
+{
+    let weight = match cause {
+        Some(_) => Weight::Follows,
+        None => Weight::Wrong,
+    };
+    remark_of(finding, weight, cause)
 }
 
 /// What of a picture is open, in its order.

@@ -5,6 +5,13 @@ use Rattle.ptpm_site.specs.declared.forest.Forest.{Forest}
 use Rattle.ptpm_site_report.proofs.reporting.report.Goals as goal
 
 pub returns : goal.returns
-returns g c =
-    ( _, _, _, c.in_ok-picture.picture, c.leave_out.new.picture.findings.items, c.in_ok-picture.ensures, c.in_ok-leave_out.ensures.shown
-    , subst (λ (f : Forest). AreConcluded f.sources.items c.leave_out.new.picture.findings.items c.in_ok-came.came) c.in_ok-leave_out.ensures.clocks c.in_ok-came.ensures )
+returns g c = (
+  _,
+  _,
+  _,
+  c.in_ok-picture.picture,
+  c.leave_out.new.picture.findings.items,
+  c.in_ok-picture.ensures,
+  c.in_ok-leave_out.ensures.shown,
+  subst (λ (f : Forest). AreConcluded f.sources.items c.leave_out.new.picture.findings.items c.in_ok-came.came) c.in_ok-leave_out.ensures.clocks c.in_ok-came.ensures,
+)
