@@ -2,7 +2,7 @@
 
 use crate::files::{MOST_INVENTORY, read_file};
 use ptpm_commands::Fault;
-use ptpm_expected::expectations::{Expectations, picture_of};
+use ptpm_expected::expectations::Expectations;
 use ptpm_expected::inventory::Inventory;
 use ptpm_expected::inventory_fault::InventoryFault;
 use ptpm_expected::inventory_file::read_inventory;
@@ -159,15 +159,7 @@ fn show<R: Read, O: Write>(
         Shown::InForm(options) => options,
         Shown::Inventory => return Ok(write_inventory(alloc, reader, out)?.status()),
     };
-    let came = report(
-        alloc,
-        picture_of,
-        options,
-        expectations,
-        viewing,
-        reader,
-        out,
-    )?;
+    let came = report(alloc, options, expectations, viewing, reader, out)?;
     Ok(match options.form {
         Form::Plugin => came.standing.status(),
         Form::OpenMetrics => came.conclusion.status_of_numbers(),

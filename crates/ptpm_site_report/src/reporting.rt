@@ -13,15 +13,13 @@ use crate::nagios::{Standing, print_plugin};
 use crate::names::Names;
 use crate::openmetrics::print_metrics;
 use crate::page::print_page;
-use crate::site_lines::{SiteLines, read_shown};
+use crate::site_lines::{LinesSaid, SiteLines, read_shown};
 use crate::text::print_text;
 use ptpm_commands::Fault;
-use ptpm_expected::expectations::Expectations;
+use ptpm_expected::expectations::{Expectations, picture_of};
 use ptpm_site::finding::Finding;
-use ptpm_site::left_out::LeftOut;
 use ptpm_site::limits::Limits;
 use ptpm_site::picture::Picture;
-use ptpm_site::site::Site;
 use std::alloc::{AllocError, Global};
 use std::io::{Read, Write};
 
@@ -121,35 +119,35 @@ pub struct Came {
     pub standing: Standing,
 }
 
-/// Prints the site of a reader's lines, with the findings that `judge` gives of it, as an operator wants to see them.
-pub fn report<
-    J: for<'s> Fn(
-        Global,
-        &'s Site,
-        LeftOut,
-        Limits,
-        Expectations<'s>,
-    ) -> Result<Picture<'s>, AllocError>,
-    R: Read + Drop,
-    O: Write,
->(
+/// Prints the site of a reader's lines, as it is judged and as an operator wants to see it.
+pub fn report<R: Read + Drop, O: Write>(
     alloc: Global,
-    judge: J,
     options: Options,
     expectations: Expectations<'_>,
     viewing: Viewing<'_, '_>,
     reader: R,
     out: &mut O,
-) -> Result<Came, Fault>
-    requires { J.IsAlwaysCallable judge }
-    ensures { IfOk result (λ came. (site : _) × (left_out : _) × (limits : _) × (picture : Picture) × (shown : List Finding)
-        × J.post judge alloc site left_out limits expectations.entry (Ok picture)
-        × IsShown viewing.entry picture.findings.items shown
-        × AreConcluded picture.forest.sources.items shown came) }
-{
+) -> Result<Came, Fault> {
     let SiteLines { shown, said } = read_shown(alloc, reader)?;
     let limits = options.limits.at_host(said.is_synchronised);
-    let mut picture = judge(alloc, &shown.site, shown.left_out, limits, expectations)?;
+    let picture = picture_of(alloc, &shown.site, shown.left_out, limits, expectations)?;
+    print_judged(alloc, options, expectations, viewing, said, picture, out)
+}
+
+/// Prints a picture as it was judged, without the findings that an operator does not want to see.
+fn print_judged<O: Write>(
+    alloc: Global,
+    options: Options,
+    expectations: Expectations<'_>,
+    viewing: Viewing<'_, '_>,
+    said: LinesSaid,
+    mut picture: Picture<'_>,
+    out: &mut O,
+) -> Result<Came, Fault>
+    ensures { IfOk result (λ came. (shown : List Finding)
+        × IsShown viewing.entry picture.entry.findings.items shown
+        × AreConcluded picture.entry.forest.sources.items shown came) }
+{
     let beside = Beside {
         names: viewing.names,
         said,

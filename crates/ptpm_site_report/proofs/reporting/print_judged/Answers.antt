@@ -1,17 +1,12 @@
--- The list is the one that the judge gave; what is left out leaves the clocks.
-use Rattle.std.proofs.Common.{rules, subst}
+-- What is left out leaves the clocks.
+use Rattle.std.proofs.Common.{subst}
 use Rattle.ptpm_site_report.specs.Reporting.{AreConcluded}
 use Rattle.ptpm_site.specs.declared.forest.Forest.{Forest}
-use Rattle.ptpm_site_report.proofs.reporting.report.Goals as goal
+use Rattle.ptpm_site_report.proofs.reporting.print_judged.Goals as goal
 
 pub returns : goal.returns
 returns g c = (
-  _,
-  _,
-  _,
-  c.in_ok-picture.picture,
   c.leave_out.new.picture.findings.items,
-  c.in_ok-picture.ensures,
   c.in_ok-leave_out.ensures.shown,
   subst (λ (f : Forest). AreConcluded f.sources.items c.leave_out.new.picture.findings.items c.in_ok-came.came) c.in_ok-leave_out.ensures.clocks c.in_ok-came.ensures,
 )
