@@ -1361,12 +1361,11 @@ static inline enum ptpm_saved ptpm_image_seal(uint8_t *octets, size_t size, size
 }
 
 /* Finds the image with its seal that octets begin with. How long it is its head says, so what comes after the seal does not matter.
-   An image without a seal is taken too if nothing comes after it: a release that made no seals wrote it.
    Takes:   size octets, what a file or a place of a flash memory has.
    Returns: PTPM_RESTORED; PTPM_NOT_AN_IMAGE; or PTPM_DAMAGED if octets are missing, the seal is missing, or octets are not those that
             were sealed. What the image is of, the restore judges.
-   Writes:  *image: how many octets it has, from the first on; and *count, how often it was saved, 0 without a seal. If the call is
-            refused, both are 0. */
+   Writes:  *image: how many octets it has, from the first on; and *count, how often it was saved. If the call is refused, both
+            are 0. */
 enum ptpm_restored ptpm_image_unseal(const uint8_t *octets, size_t size, uint64_t *count, size_t *image);
 
 /* Finds the newest image of several places, each of as many octets. A host that writes only the oldest place has one image at any

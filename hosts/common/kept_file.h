@@ -65,7 +65,7 @@ enum replaced replace_kept(const struct kept_file *file, const uint8_t *octets, 
 /* Writes the seal after these octets; how many octets there are then. There is room for it. */
 size_t write_seal(uint8_t *octets, size_t size, uint64_t saves);
 
-/* Takes the seal off: *size becomes that of the image, and *saves how many times it was saved, 0 if it has no seal. Otherwise why not, as
+/* Takes the seal off: *size becomes that of the image, and *saves how many times it was saved. Otherwise why not, as
    ptpm_image_unseal says it; then *size stays, and *saves is 0. */
 enum ptpm_restored take_seal(const uint8_t *octets, size_t *size, uint64_t *saves);
 

@@ -32,6 +32,10 @@ def set_of(value):
     return bytes.fromhex("012006ffff0002") + bytes([value, 0])
 
 
+def write_session(content):
+    return write_octets("number", sealed(content))
+
+
 def next_number(name):
     content = octets(name)
     return (int.from_bytes(content[31:33], "big") + int.from_bytes(content[36:44], "big")) % 65536
@@ -39,7 +43,7 @@ def next_number(name):
 
 def files_in_the_way():
     clock = Clock("-m", MANAGER + "/1", "-u", path, ME)
-    number = write_octets("number", image(7, 0))
+    number = write_session(image(7, 0))
     os.chmod(number, 0o640)
     os.chown(number, 1, 2)
     found = (asks("-k", number), os.stat(number))[1]
@@ -66,13 +70,14 @@ def files_in_the_way():
 def files_without_a_session():
     """Images of sessions that were written by hand, and are refused."""
     whole = image(7, 2)
-    refused = [(whole[:size], "NOT_AN_IMAGE" if size < 12 else "DAMAGED") for size in range(len(whole))] + [
-        (b"7\n", "NOT_AN_IMAGE"), (b"ptpn" + whole[4:], "NOT_AN_IMAGE"), (whole[:5] + b"\2" + whole[6:], "OTHER_VERSION"),
-        (whole[:4] + b"\1" + whole[5:], "OTHER_KIND"), (whole + b"\0", "DAMAGED"), (whole * 40, "DAMAGED"),
+    refused = [(whole[:size], "NOT_AN_IMAGE" if size < 12 else "DAMAGED") for size in range(len(whole) + 1)] + [
+        (b"7\n", "NOT_AN_IMAGE"), (b"ptpn" + whole[4:], "NOT_AN_IMAGE"), (whole + b"\0", "DAMAGED"), (whole * 40, "DAMAGED")]
+    refused += [(sealed(content), name) for content, name in [
+        (whole[:5] + b"\2" + whole[6:], "OTHER_VERSION"), (whole[:4] + b"\1" + whole[5:], "OTHER_KIND"),
         (whole[:6] + b"\1" + whole[7:], "DAMAGED"), (image(7, 1000001), "DAMAGED"), (image(7, 2, ports=9), "DAMAGED"),
         (image(7, 1, set_of(50))[:36] + bytes(16) + b"\1" + set_of(50), "DAMAGED"), (image(7, 2, ports=2), "OTHER_SESSION"),
         (image(7, 2, manager=MANAGER + "0002"), "OTHER_SESSION"), (image(7, 2, clock=OTHER), "OTHER_SESSION"),
-        (image(7, 2, set_of(50), clock=OTHER), "OTHER_SESSION")]
+        (image(7, 2, set_of(50), clock=OTHER), "OTHER_SESSION")]]
     two, wrong = TwoManagers(), []
     for content, name in refused:
         write_octets("number", content)
@@ -94,7 +99,7 @@ def sessions():
             (image(20000, 2, hops=4, attempts=1), (), image(20002, 2, attempts=3)),
             (image(20100, 2, domain=5), (), image(20100, 4)),
             (image(20200, 2, set_of(78)), ("--give-up",), image(20200, 4))]:
-        write_octets("number", content)
+        write_session(content)
         done = two.is_honest(*words)
         check(f"the session {content.hex()} goes on", done and two.last == 0 and image_in(octets("number")) == after)
         told = [line for line in two.said.splitlines() if "of an earlier run" in line or "priority2 7" in line]
@@ -104,7 +109,7 @@ def sessions():
         value = content[-2] if len(content) > 53 else 0
         check("what was under way is reported", told == wanted.get(value, []))
     number = next_number("number")
-    write_octets("number", image(number, 1, bytes.fromhex("012007ffff00020400")))
+    write_session(image(number, 1, bytes.fromhex("012007ffff00020400")))
     status, said, _ = two.sets()
     check("a clock that an earlier run's SET moves to another domain", status == 3 and "ptpm-manage: domainNumber 4\n" in said)
     status, said, _ = two.sets("-d", "4")
@@ -115,17 +120,17 @@ def sessions():
 def reports_that_are_lost():
     """An answer that can't be printed is none that was reported: the next run prints it."""
     two = TwoManagers()
-    write_octets("number", image(7, 0))
+    write_session(image(7, 0))
     with open("/dev/full", "w") as full:
         lost = subprocess.run(words_of(two.number, "set", "PRIORITY2", "70"), stdout=full, stderr=subprocess.DEVNULL)
     check("an answer is not printed", lost.returncode == 4 and two.value() == "priority2 70")
     check("the next run prints it", two.is_honest() and two.last == 0 and "ptpm-manage: priority2 70\n" in two.said)
-    write_octets("number", image(20, 1, set_of(71)))
+    write_session(image(20, 1, set_of(71)))
     with open("/dev/full", "w") as full:
         lost = subprocess.run(words_of(two.number, "get", "DOMAIN"), stdout=subprocess.PIPE, stderr=full)
     check("nor is one of an earlier run", (lost.returncode, lost.stdout) == (4, b"") and two.value() == "priority2 71")
     check("and the next run prints that", two.is_honest() and two.last == 0 and "ptpm-manage: priority2 71\n" in two.said)
-    write_octets("number", image(40, 0))
+    write_session(image(40, 0))
     lost = subprocess.run(["sh", "-c", 'exec "$@" <&- >&- 2>&-', "sh", *words_of(two.number, "set", "PRIORITY2", "72")])
     check("where the streams are closed it is in no file", lost.returncode == 4 and b"priority2" not in octets("number.lock"))
     check("and the next run prints it", two.is_honest() and two.last == 0 and "ptpm-manage: priority2 72\n" in two.said)
@@ -135,7 +140,7 @@ def reports_that_are_lost():
 def runs_at_once():
     """80 runs of one manager with one file."""
     clock = Clock("-m", MANAGER + "/1", "-u", path, ME)
-    number = write_octets("number", image(16384, 0))
+    number = write_session(image(16384, 0))
     runs = [start("manage", "-m", MANAGER + "/1", "-w", "0", "-u", path, "-k", number, "set", "PRIORITY1", "100", "--target", ME,
                   stdout=subprocess.DEVNULL, stderr=subprocess.DEVNULL) for _ in range(80)]
     check("80 runs at once are all answered", [one.wait() for one in runs] == [0] * 80)
@@ -220,7 +225,7 @@ def answers_to_others(port):
         other = start("manage", *who, "-i", port.name, "-a", "1", "-t", str(3000 * SLOW), *words, stdout=subprocess.PIPE, text=True)
         asked = next_sent(port, lambda request: request[52:54] == b"\x20\x05")
         before = (int.from_bytes(asked[30:32], "big") - 1) % 65536
-        number = write_octets("number", image(before, 0, manager=asked[20:28].hex() + "0001"))
+        number = write_session(image(before, 0, manager=asked[20:28].hex() + "0001"))
         session = start("manage", *who, "-w", "0", "-i", port.name, "-k", number, "-a", "2", "-t", str(100 * SLOW), "--target", ME, "set",
                         "PRIORITY1", "100", stdout=subprocess.PIPE, stderr=subprocess.DEVNULL, text=True)
         port.come_in(response(next_sent(port, lambda request: request[52:54] == b"\x20\x00"), b"\x20\x00" + bytes(20)))
@@ -266,7 +271,7 @@ class TwoManagers:
 
 def seals():
     """A session's file of which a bit is another one, or what follows an octet is lost, or to which octets were added: each is
-    refused, and stays. Of a former version it has no seal, and goes on."""
+    refused, and stays."""
     two = TwoManagers()
 
     def name_of(content):
@@ -277,7 +282,7 @@ def seals():
     for content in [image(7, 2), image(7, 2, set_of(50))]:
         whole = sealed(content, 5)
         bits = [name_of(other) for other in flips(whole)]
-        cut = [whole[:size] for size in range(len(whole)) if size != len(content)]
+        cut = [whole[:size] for size in range(len(whole))]
         wrong = [other.hex() for other in cut if name_of(other) != ("NOT_AN_IMAGE" if len(other) < 12 else "DAMAGED")]
         check("a session's file with another bit is refused", bits == ["NOT_AN_IMAGE"] * 32 + ["DAMAGED"] * (len(bits) - 32))
         check(f"one that is cut is refused, except {wrong}", wrong == [])
@@ -286,43 +291,21 @@ def seals():
         print(f"a session's file of {len(whole)} octets: {len(cut)} beginnings and {len(bits)} other bits, and {bits.count(None)} of these are not "
               "refused")
     check("nothing was sent then", two.value() == "priority2 128")
-    for content, saves in [(image(7, 2), 3), (sealed(image(20, 2), 5), 8)]:
-        write_octets("number", content)
-        check("a whole one goes on, also of a former version", two.is_honest() and two.last == 0 and saves_in(octets("number")) == saves)
-    two.clock.end()
-
-
-def damages():
-    """A session's file without a seal, as a former version left it, of which an octet is another one, or what follows an octet is lost:
-    a refusal, or the truth."""
-    two, wrong = TwoManagers(), []
-    write_octets("number", image(16384, 0))
-    check("a session begins", two.is_honest() and two.last == 0)
-    changes = {"cut": lambda octet: None, "flip": lambda octet: octet ^ 1, "zero": lambda octet: 0}
-    cases = [(place, change, b"") for place in range(53) for change in changes]
-    cases += [(place, "flip", set_of(50)) for place in range(53)] + [(place, "cut", set_of(50)) for place in range(53, 62)]
-    for place, change, request in cases:
-        whole = image(next_number("number"), len(request) > 0, request)
-        octet = changes[change](whole[place])
-        write_octets("number", whole[:place] + (b"" if octet is None else bytes([octet]) + whole[place + 1:]))
-        if not (two.other_sets() and two.is_honest()):
-            wrong.append((place, change, two.said))
-        if two.last != 0:
-            write_octets("number", whole)
-    check(f"damaged files of a session, except {wrong}", wrong == [])
+    write_octets("number", sealed(image(20, 2), 5))
+    check("a whole one goes on", two.is_honest() and two.last == 0 and saves_in(octets("number")) == 8)
     two.clock.end()
 
 
 def old_files():
     """A session's file that is lost, one that is brought back from an older copy, and two copies that are used by turns."""
     two = TwoManagers()
-    write_octets("number", image(1000, 0))
+    write_session(image(1000, 0))
     check("a session begins", two.is_honest() and two.last == 0)
     older = octets("number")
     os.unlink(two.number)
     check("a session whose file was lost begins anew", two.other_sets() and two.is_honest() and two.last == 0)
     newer, number = octets("number"), next_number("number")
-    for content in [older, older, image(number - 1, 0), image(number - 2, 0), image(number - 2, 1, set_of(40))]:
+    for content in [older, older, *map(sealed, [image(number - 1, 0), image(number - 2, 0), image(number - 2, 1, set_of(40))])]:
         write_octets("number", content)
         is_true = two.other_sets() and two.is_honest()
         check(f"an older copy of the file, {content.hex()}, is dropped by the clock", is_true and two.last == 3)
@@ -465,4 +448,4 @@ def places_without_room():
 
 
 ATTACKS = [files_in_the_way, files_without_a_session, sessions, seals, reports_that_are_lost, runs_at_once, runs_beside_each_other,
-           clocks_that_are_not_there, losses_of_power, damages, old_files, latest_numbers, kills, places_without_room, users]
+           clocks_that_are_not_there, losses_of_power, old_files, latest_numbers, kills, places_without_room, users]

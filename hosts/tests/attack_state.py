@@ -117,7 +117,7 @@ def damages():
     """A file of which octets are missing or others: each is refused, and stays."""
     whole = saved_state()
     image, count = image_in(whole), saves_in(whole)
-    cut = [whole[:size] for size in range(len(whole)) if size != len(image)]
+    cut = [whole[:size] for size in range(len(whole))]
     wrong = [content.hex() for content in cut if name_of(content) != ("NOT_AN_IMAGE" if len(content) < 12 else "DAMAGED")]
     check(f"a file that is cut is refused, except {wrong[:3]}", wrong == [])
     more = [whole + b"\0", whole + whole, whole + whole[-16:], sealed(whole), sealed(image + b"\0"), sealed(image[:-1]), whole[:-16] + sealed(b"")]
@@ -130,15 +130,6 @@ def damages():
         check(f"a seal makes no state of {name}", name_of(sealed(content)) == name)
     write_octets(state, whole)
     check("the whole one is not refused", begins(*WORDS)[0] == 0 and octets(state) == sealed(image, count + 1))
-
-
-def states_without_seal():
-    """What a former version saved: it is taken if it is an image, and gets its seal."""
-    image = image_in(saved_state())
-    write_octets(state, image)
-    check("a state without a seal is taken, and sealed", begins(*WORDS)[0] == 0 and octets(state) == sealed(image, 1))
-    wrong = [content.hex() for content in [image[:-1], image + b"\0", image + b"ptps", image + image] if name_of(content) != "DAMAGED"]
-    check(f"if it is an image: {wrong}", wrong == [])
 
 
 def files_in_the_way():
@@ -270,4 +261,4 @@ def calls_that_fail():
     peer.close()
 
 
-ATTACKS = [states, configurations, damages, states_without_seal, files_in_the_way, places_without_rights, second_clocks, full_disks, calls_that_fail]
+ATTACKS = [states, configurations, damages, files_in_the_way, places_without_rights, second_clocks, full_disks, calls_that_fail]

@@ -268,7 +268,7 @@ static void seals(void) {
     memcpy(octets, saved, left);
     check(write_seal(octets, left, 1) == size && memcmp(octets, saved, size) == 0, "it is written as it was");
     left = 119;
-    check(take_seal(saved, &left, &saves) == PTPM_RESTORED && left == 119 && saves == 0, "an image by itself has none");
+    check(take_seal(saved, &left, &saves) == PTPM_DAMAGED && left == 119 && saves == 0, "an image by itself is damaged");
     left = size + 1;
     octets[size] = 0;
     check(take_seal(octets, &left, &saves) == PTPM_DAMAGED && left == size + 1 && saves == 0, "nothing comes after the seal of a file");

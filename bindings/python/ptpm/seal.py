@@ -22,8 +22,8 @@ def sealed(image: bytes, saves: int) -> bytes:
 
 
 def unsealed(octets: bytes) -> Tuple[bytes, int]:
-    """The image that octets begin with, and how often it was saved: 0 times if it has no seal and nothing comes after it. Raises an
-    Error if they hold no image that is whole."""
+    """The image that octets begin with, and how often it was saved. Raises an Error if no image that is whole is
+    there with its seal."""
     octets = octets_of(octets)
     count, size = ctypes.c_uint64(), ctypes.c_size_t()
     number = library.ptpm_image_unseal(octets, len(octets), ctypes.byref(count), ctypes.byref(size))

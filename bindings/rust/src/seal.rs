@@ -12,7 +12,7 @@ pub const SEAL_OCTETS: usize = sys::PTPM_SEAL_OCTETS;
 pub struct Sealed<'a> {
     /// Its octets, without the seal.
     pub image: &'a [u8],
-    /// How often it was saved; 0 if it has no seal.
+    /// How often it was saved.
     pub count: u64,
 }
 
@@ -28,7 +28,7 @@ pub fn seal(octets: &mut [u8], size: usize, count: u64) -> Result<&[u8], Error> 
     Ok(&octets[..sealed])
 }
 
-/// The image that octets begin with, if its seal follows, or if it has none and nothing follows.
+/// The image that octets begin with, if its seal follows.
 ///
 /// # Errors
 ///

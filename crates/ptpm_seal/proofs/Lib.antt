@@ -1,3 +1,4 @@
 pub mod CrcLemmas
 pub mod Remainders
 pub mod SealLaws
+pub mod ChangedSeals

@@ -7,18 +7,24 @@ use Rattle.ptpm_seal.specs.Crc.{crc_of}
 use Rattle.ptpm_seal.specs.Sealing.{count_after, counted, image_size, is_headed, is_sealed, seal_mark, seal_of, unsealed}
 
 unseals_by : (octets : List ℕ) (n count : ℕ)
-    → is_headed octets ≡ true → image_size octets ≡ n → (length octets == n) ≡ false → is_sealed n octets ≡ true
+    → is_headed octets ≡ true → image_size octets ≡ n → is_sealed n octets ≡ true
     → count_after n octets ≡ count → unsealed octets ≡ Ok (record { size = n; count = count })
 unfolding unsealed
-unseals_by octets n count h s l y k = grind arith
+unseals_by octets n count h s y k = grind arith
 
 counted-size : (count : ℕ) → length (counted count) ≡ 12
 counted-size count = ap (λ (n : ℕ). 4 + n) (length-bytes_high_first 8 count)
 
-seal-size : (image : List ℕ) (count : ℕ) → length (seal_of image count) ≡ 16
+pub seal-size : (image : List ℕ) (count : ℕ) → length (seal_of image count) ≡ 16
 unfolding seal_of
 seal-size image count =
     omega (arith, length-append (counted count) (big_bytes 4 (crc_of (image ++ counted count))), counted-size count, length-bytes_high_first 4 (crc_of (image ++ counted count)))
+
+pub sized : (image rest : List ℕ) → 12 ≤ length image → image_size (image ++ rest) ≡ image_size image
+unfolding image_size
+sized image rest long =
+    ap (λ (l : List ℕ). 12 + big_number 4 l) (drop-append-le 8 image rest (omega (arith, long)))
+    ∙ ap (λ (n : ℕ). 12 + n) (big_from-append 4 (drop 8 image) rest (omega (arith, long, length-drop 8 image)))
 
 module _ (image rest : List ℕ) (count : ℕ) where
   abbrev seal : List ℕ
@@ -30,14 +36,8 @@ module _ (image rest : List ℕ) (count : ℕ) where
   size-of : length whole ≡ length image + (16 + length rest)
   size-of = omega (arith, length-append image (seal ++ rest), length-append seal rest, seal-size image count)
 
-  headed : is_headed image ≡ true → is_headed whole ≡ true
+  pub headed : is_headed image ≡ true → is_headed whole ≡ true
   headed h = grind (arith, size-of, take-append-le)
-
-  sized : 12 ≤ length image → image_size whole ≡ image_size image
-  unfolding image_size
-  sized long =
-      ap (λ (l : List ℕ). 12 + big_number 4 l) (drop-append-le 8 image (seal ++ rest) (omega (arith, long)))
-      ∙ ap (λ (n : ℕ). 12 + n) (big_from-append 4 (drop 8 image) (seal ++ rest) (omega (arith, long, length-drop 8 image)))
 
   -- what comes after the image
   past : (n : ℕ) → drop (length image + n) whole ≡ drop n (seal ++ rest)
@@ -73,7 +73,7 @@ module _ (image rest : List ℕ) (count : ℕ) where
       ap (take (length image + 12)) (ap (λ (l : List ℕ). image ++ l) (append_assoc (counted count) crc rest) ∙ sym (append_assoc image (counted count) (crc ++ rest)))
       ∙ take_at (image ++ counted count) (crc ++ rest) (length image + 12) (omega (arith, length-append image (counted count), counted-size count))
 
-  sealed-there : is_sealed (length image) whole ≡ true
+  pub sealed-there : is_sealed (length image) whole ≡ true
   unfolding is_sealed
   sealed-there = grind (arith, size-of, marked, crc-there, before)
 
@@ -83,10 +83,7 @@ pub found : (image rest : List ℕ) (count : ℕ)
 found image rest count h s small =
     ap unsealed (append_assoc image (seal_of image count) rest)
     ∙ unseals_by (whole image rest count) (length image) count (headed image rest count h)
-    (sized image rest count (long image h) ∙ s) (more image rest count) (sealed-there image rest count) (count-there image rest count small)
+    (sized image (seal_of image count ++ rest) (long image h) ∙ s) (sealed-there image rest count) (count-there image rest count small)
   where
     long : (image : List ℕ) → is_headed image ≡ true → 12 ≤ length image
     long image h = grind arith
-
-    more : (image rest : List ℕ) (count : ℕ) → (length (whole image rest count) == length image) ≡ false
-    more image rest count = grind (arith, size-of image rest count)

@@ -39,11 +39,9 @@ is_sealed size octets =
     && bytes_eq (take 4 (drop size octets)) seal_mark
     && big_number 4 (drop (size + 12) octets) == crc_of (take (size + 12) octets)
 
--- an image alone is one of a release that made no seals, if nothing comes after it
 unfoldable pub unsealed : List ℕ → Result Sealed UnsealError
 unsealed octets =
     if not (is_headed octets) then Err unseals.NotAnImage
-    else if length octets == image_size octets then Ok (record { size = image_size octets; count = 0 })
     else if is_sealed (image_size octets) octets
     then Ok (record { size = image_size octets; count = count_after (image_size octets) octets })
     else Err unseals.Damaged

@@ -1,6 +1,6 @@
 //! Laws of seals and of places, each the contract of a function that changes nothing.
 
-ghost use Rattle.std.specs.Prelude.{◌≡◌, ◌≢◌, ◌<◌, ◌⊎◌, ◌^◌, ◌++◌, ◌∷◌, ℕ, List, length, true, Ok};
+ghost use Rattle.std.specs.Prelude.{◌≡◌, ◌≢◌, ◌≤◌, ◌<◌, ◌⊎◌, ◌^◌, ◌++◌, ◌∷◌, ℕ, IsErr, List, length, true, Ok};
 ghost use Rattle.ptpm_seal.specs.declared.sealing.Sealed.{Sealed};
 ghost use Rattle.ptpm_seal.specs.Crc.{AreOctets, crc_of};
 ghost use Rattle.ptpm_seal.specs.Places.{Held, IsNewest, IsWritten};
@@ -17,6 +17,15 @@ pub fn crc_law()
     ensures { (front rest : List ℕ) (octet other : ℕ) → AreOctets front → AreOctets rest → octet < 2 ^ 8 → other < 2 ^ 8
         → octet ≢ other
         → crc_of (front ++ octet ∷ rest) ≢ crc_of (front ++ other ∷ rest) }
+{}
+
+/// An image with its seal is refused if one octet of both is another one. The four octets of its size are left out: a lesser size is
+/// refused unless another seal that is whole stands in the image, after as many octets.
+pub fn changed_octet_law()
+    ensures { (image front rest : List ℕ) (count octet other : ℕ) → is_headed image ≡ true → image_size image ≡ length image
+        → image ++ seal_of image count ≡ front ++ octet ∷ rest → AreOctets (front ++ octet ∷ rest) → other < 2 ^ 8 → octet ≢ other
+        → length front < 8 ⊎ 12 ≤ length front
+        → IsErr (unsealed (front ++ other ∷ rest)) }
 {}
 
 /// A place that does not hold the newest image is written, with one of more saves. However the write is torn, the newest image is

@@ -17,7 +17,7 @@ const IMAGE_MARK: [u8; 4] = *b"ptpm";
 
 const IMAGE_HEAD_OCTETS: usize = 12;
 
-/// What a place begins with: an image, and how often it was saved; 0 times if it has no seal.
+/// What a place begins with: an image, and how often it was saved.
 #[derive(Clone, Copy, Debug, PartialEq, Eq)]
 pub struct Sealed {
     /// How many octets the image has.
@@ -66,8 +66,8 @@ fn seal_of(image: &[u8], count: u64) -> ArrayVec<u8, SEAL_OCTETS>
     seal
 }
 
-/// What octets begin with: an image with its seal, whatever comes after them. An image alone is taken too if nothing comes after
-/// it: a release that made no seals wrote it. Takes no memory.
+/// What octets begin with: an image with its seal, whatever comes after them. An image without a seal is damaged: it may have lost just
+/// that. Takes no memory.
 #[tactic(auto, unfolding(crate::specs::Sealing::unsealed))]
 pub fn unseal(octets: &[u8]) -> Result<Sealed, UnsealError>
     ensures { result ≡ unsealed octets.now }
@@ -76,9 +76,6 @@ pub fn unseal(octets: &[u8]) -> Result<Sealed, UnsealError>
         return Err(UnsealError::NotAnImage);
     }
     let size = image_size(octets);
-    if octets.len() == size {
-        return Ok(Sealed { size, count: 0 });
-    }
     if !is_sealed(octets, size) {
         return Err(UnsealError::Damaged);
     }

@@ -57,7 +57,7 @@ impl Store {
         Ok(Self { path: path.into(), folder, saves: 0, _lock: lock })
     }
 
-    /// The image that was saved last, or none if there never was one. A file without a seal is an image.
+    /// The image that was saved last, or none if there never was one.
     pub fn load(&mut self) -> io::Result<Option<Vec<u8>>> {
         let mut octets = match fs::read(&self.path) {
             Ok(octets) => octets,
