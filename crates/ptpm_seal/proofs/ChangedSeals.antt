@@ -1,5 +1,5 @@
 -- An image with its seal is refused if one octet of both is another one.
-use Rattle.std.proofs.Common.{arith, rules, ◌≡◌, ◌≢◌, ◌⊎◌, inl, inr, ℕ, zero, suc, ◌+◌, ◌-◌, ◌^◌, ◌<◌, ◌≤◌, ◌==◌, true, false, Bool, refl, sym, ◌∙◌, ap, List, [], ◌∷◌, ◌++◌, length, take, drop, append_nil, length-append, unit, ⊥, IsErr}
+use Rattle.std.proofs.Common.{arith, ◌≡◌, ◌≢◌, ◌⊎◌, inl, inr, ℕ, zero, suc, ◌+◌, ◌-◌, ◌^◌, ◌<◌, ◌≤◌, true, false, Bool, refl, sym, ◌∙◌, ap, List, [], ◌∷◌, ◌++◌, length, take, drop, append-nil, length-append, IsErr}
 use Rattle.std.proofs.lemmas.List.{drop-append-le, length-drop}
 use Rattle.std.proofs.lemmas.Bool.{cases_Bool}
 use Rattle.byteorder.specs.Endian.{big_number}
@@ -29,10 +29,10 @@ other-take zero front rest a b l e = absurd (omega (arith, l))
 other-take (suc k) [] rest a b l e = grind (arith, e)
 other-take (suc k) (f ∷ front) rest a b l e = other-take k front rest a b (omega (arith, l)) (grind (arith, e))
 
-split-take : (k : ℕ) (front rest : List ℕ) (a : ℕ) → length front < k → take k (front ++ a ∷ rest) ≡ front ++ a ∷ take (k - length front - 1) rest
-split-take zero front rest a l = absurd (omega (arith, l))
-split-take (suc k) [] rest a l = refl
-split-take (suc k) (f ∷ front) rest a l = ap (λ (t : List ℕ). f ∷ t) (split-take k front rest a (omega (arith, l)))
+split-take : (k j : ℕ) (front rest : List ℕ) (a : ℕ) → k ≡ length front + suc j → take k (front ++ a ∷ rest) ≡ front ++ a ∷ take j rest
+split-take zero j front rest a e = absurd (omega (arith, e))
+split-take (suc k) j [] rest a e = ap (λ (n : ℕ). a ∷ take n rest) (omega (arith, e))
+split-take (suc k) j (f ∷ front) rest a e = ap (λ (t : List ℕ). f ∷ t) (split-take k j front rest a (omega (arith, e)))
 
 -- a number of four octets
 other-number : (front rest : List ℕ) (a b : ℕ) → length front < 4 → big_number 4 (front ++ a ∷ rest) ≡ big_number 4 (front ++ b ∷ rest) → a ≡ b
@@ -45,7 +45,7 @@ other-number (x ∷ y ∷ z ∷ w ∷ front) rest a b l e = absurd (omega (arith
 -- ---- octets
 
 are-front : (front rest : List ℕ) → AreOctets (front ++ rest) → AreOctets front
-are-front [] rest are = unit
+are-front [] rest are = record {}
 are-front (x ∷ xs) rest are = (are.0, are-front xs rest are.1)
 
 are-rest : (front rest : List ℕ) → AreOctets (front ++ rest) → AreOctets rest
@@ -53,8 +53,8 @@ are-rest [] rest are = are
 are-rest (x ∷ xs) rest are = are-rest xs rest are.1
 
 are-taken : (k : ℕ) (xs : List ℕ) → AreOctets xs → AreOctets (take k xs)
-are-taken zero xs are = unit
-are-taken (suc k) [] are = unit
+are-taken zero xs are = record {}
+are-taken (suc k) [] are = record {}
 are-taken (suc k) (x ∷ xs) are = (are.0, are-taken k xs are.1)
 
 -- ---- what a seal says
@@ -87,9 +87,9 @@ module _ (n : ℕ) (front rest : List ℕ) (octet other : ℕ) where
       let rests : AreOctets (octet ∷ rest) = are-rest front (octet ∷ rest) are in
       let k : ℕ = n + 12 - length front - 1 in
       changed front (take k rest) octet other (are-front front (octet ∷ rest) are) (are-taken k rest rests.1) rests.0 small differ
-      (ap crc_of (sym (split-take (n + 12) front rest octet l))
+      (ap crc_of (sym (split-take (n + 12) k front rest octet (omega (arith, l))))
       ∙ sym (crc-there n was s) ∙ ap (big_number 4) (same-drop (n + 12) front rest octet other l) ∙ crc-there n is t
-      ∙ ap crc_of (split-take (n + 12) front rest other l))
+      ∙ ap crc_of (split-take (n + 12) k front rest other (omega (arith, l))))
 
   in-crc : is_sealed n was ≡ true → is_sealed n is ≡ true → length was ≡ n + 16 → octet ≢ other → n + 12 ≤ length front → ⊥
   in-crc s t whole differ g =
@@ -111,19 +111,19 @@ module _ (n : ℕ) (front rest : List ℕ) (octet other : ℕ) where
 -- what is not sealed is refused
 unsealed-refused : (n : ℕ) (octets : List ℕ) → image_size octets ≡ n → (is_sealed n octets ≡ true → ⊥) → IsErr (unsealed octets)
 unfolding unsealed
-unsealed-refused n octets size no = elim (cases_Bool (is_headed octets)) [
-  | inl h ↦ grind (arith, size, not-true' _ no)
+unsealed-refused n octets size broken = elim (cases_Bool (is_headed octets)) [
+  | inl h ↦ grind (arith, size, not-true' _ broken)
   | inr h ↦ grind (arith, h)
 ]
   where
     not-true' : (b : Bool) → (b ≡ true → ⊥) → b ≡ false
-    not-true' true no = absurd (no refl)
-    not-true' false no = refl
+    not-true' true broken = absurd (broken refl)
+    not-true' false broken = refl
 
 unheaded-refused : (octets : List ℕ) → (is_headed octets ≡ true → ⊥) → IsErr (unsealed octets)
 unfolding unsealed
-unheaded-refused octets no = elim (cases_Bool (is_headed octets)) [
-  | inl h ↦ absurd (no h)
+unheaded-refused octets broken = elim (cases_Bool (is_headed octets)) [
+  | inl h ↦ absurd (broken h)
   | inr h ↦ grind (arith, h)
 ]
 
@@ -133,7 +133,7 @@ module _ (image : List ℕ) (count : ℕ) (front rest : List ℕ) (octet other :
   long = grind (arith, h)
 
   spelled : front ++ octet ∷ rest ≡ image ++ (seal_of image count ++ [])
-  spelled = sym e ∙ ap (λ (l : List ℕ). image ++ l) (sym (append_nil (seal_of image count)))
+  spelled = sym e ∙ ap (λ (l : List ℕ). image ++ l) (sym (append-nil (seal_of image count)))
 
   was-headed : is_headed (front ++ octet ∷ rest) ≡ true
   was-headed = ap is_headed spelled ∙ headed image [] count h
