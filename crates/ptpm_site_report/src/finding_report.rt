@@ -3,7 +3,7 @@
 ghost use Rattle.std.specs.Prelude.{◌≡◌, IfOk, length};
 
 use crate::finding_lines::{FindingLine, FindingLines, alike_together, each_line, open_lines};
-use crate::finding_text::{Said, Words};
+use crate::finding_text::{FindingText, Words};
 use crate::followers::{Followers, Head, SoToo};
 use crate::look::Look;
 use crate::remarks::Remark;
@@ -163,7 +163,7 @@ fn print_many<O: Write>(
     so_too: SoToo<'_>,
     out: &mut O,
 ) -> io::Result<()> {
-    let (domain, said, clocks) = (remark.source().domain, Said(remark), Clocks(more));
+    let (domain, said, clocks) = (remark.source().domain, FindingText(remark), Clocks(more));
     writeln!(out, "{domain} - {said} of {clocks} more{so_too}")
 }
 

@@ -11,6 +11,7 @@ mod finding_lines;
 mod finding_report;
 mod finding_table;
 mod finding_text;
+mod finding_values;
 mod followers;
 mod grandmaster_line;
 pub mod ignored;

@@ -1,6 +1,6 @@
 //! A site as a page in HTML that needs nothing else: its tree as a table, and below each clock what is wrong with it.
 
-use crate::finding_text::Said;
+use crate::finding_text::FindingText;
 use crate::grandmaster_line::GrandmasterLine;
 use crate::look::Look;
 use crate::page_style::STYLE;
@@ -147,7 +147,7 @@ fn print_found_row<O: Write>(
     out: &mut O,
 ) -> Result<(), Fault> {
     let name = called(alloc, look, remark.source())?;
-    let words = format!(in alloc; "{}", Said(remark))?;
+    let words = format!(in alloc; "{}", FindingText(remark))?;
     print_cells(remark, name.as_str(), words.as_str(), out)?;
     Ok(())
 }
