@@ -399,7 +399,7 @@ fn of_utc_offset(offset: &WrongOffset) -> FindingValues<'static> {
     let said = ("currentUtcOffset", Of(Signed(offset.said as i64)));
     let is = ("expected", Of(Signed(offset.is as i64)));
     two(
-        " currentUtcOffset {}, and TAI is {} s before UTC",
+        " currentUtcOffset {}, and TAI is {} s ahead of UTC",
         [said, is],
     )
 }

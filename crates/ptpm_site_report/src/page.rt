@@ -206,7 +206,7 @@ fn print_tree<O: Write>(
     writeln!(
         out,
         "<div class=\"wide\"><table>
-<thead><tr><th>Clock</th><th>Identity</th><th class=\"number\">Steps</th><th class=\"number\">Offset</th><th class=\"number\">Mean delay</th><th>Ports</th></tr></thead>"
+<thead><tr><th>Clock</th><th>clockIdentity</th><th class=\"number\">stepsRemoved</th><th class=\"number\">offsetFromMaster</th><th class=\"number\">meanDelay</th><th>portState</th></tr></thead>"
     )?;
     for row in tree.rows.as_slice() {
         match row {

@@ -44,10 +44,10 @@ fn print_momentary<O: Write>(look: &Look<'_, '_>, out: &mut O) -> io::Result<()>
     }
 }
 
-/// Prints the head of a tree, a line for each grandmaster that leads, and its rows.
+/// Prints the head of a tree, a line for each grandmaster that leads, and its rows below the heads of their columns.
 fn print_tree<O: Write>(tree: &Tree<'_>, look: &Look<'_, '_>, out: &mut O) -> io::Result<()> {
     writeln!(out, "{tree}")?;
-    let mut widths = Widths::of_none();
+    let mut widths = Widths::of_heads();
     for row in tree.rows.as_slice() {
         if let Row::Clock(row) = row {
             widths.widen(indent(row), &row.columns);
@@ -56,6 +56,7 @@ fn print_tree<O: Write>(tree: &Tree<'_>, look: &Look<'_, '_>, out: &mut O) -> io
     for leader in tree.leaders {
         writeln!(out, "  {}", GrandmasterLine(leader))?;
     }
+    widths.print_heads(out)?;
     for row in tree.rows.as_slice() {
         print_row(row, look, &widths, out)?;
     }
