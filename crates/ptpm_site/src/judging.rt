@@ -10,7 +10,7 @@ use crate::judging_answers::{judge_answers, judge_changes};
 use crate::judging_grandmasters::{judge_grandmaster, judge_parent};
 use crate::judging_leading::judge_leader;
 use crate::judging_loops::judge_loop;
-use crate::judging_ports::{judge_intervals, judge_locks, judge_ports};
+use crate::judging_ports::{judge_intervals, judge_locks, judge_mechanisms, judge_ports};
 use crate::leaders::{Leader, all_witnesses, count_in, is_present, leader_of, present_leaders};
 use crate::leading::all_standing_by;
 use crate::limits::Limits;
@@ -143,6 +143,7 @@ fn judge<'a>(
     judge_amounts(site, source, leader, ports, followers, limits, findings)?;
     judge_utc(site, source, findings)?;
     judge_intervals(site, given.evidence, source, ports, findings)?;
+    judge_mechanisms(site, source, ports, findings)?;
     judge_leader(site, source, leader, given.standing_by, limits, findings)?;
     judge_answers(
         alloc,

@@ -20,6 +20,17 @@ pub struct Origin {
     pub at: u64,
 }
 
+/// How far the time of a grandmaster is from TAI, by the clock of the host that asks.
+#[derive(Clone, Copy)]
+pub struct TimeError {
+    pub origin: Origin,
+    /// Whether it is behind TAI.
+    pub is_behind: bool,
+    /// The amount: whole seconds, and nanoseconds beside them.
+    pub seconds: u64,
+    pub nanoseconds: u32,
+}
+
 /// Half a second in nanoseconds.
 const HALF_SECOND: u64 = 500_000_000;
 
