@@ -4,6 +4,7 @@ ghost use Rattle.std.specs.Prelude.{◌≡◌};
 ghost use Rattle.ptpm_causes.specs.Kinds.{absence_kind, degradation_kind, kind_of};
 
 use ptpm_site::finding::What;
+use ptpm_site::lacks::Lack;
 use ptpm_site::leading::Degradation;
 use ptpm_site::unseen::Absence;
 
@@ -317,6 +318,24 @@ impl Kind {
     /// Its place among those that it may follow from.
     pub(crate) fn rank(self) -> u8 {
         self as u8
+    }
+}
+
+static BY_REQUESTS: [Kind; 3] = [Kind::Gone, Kind::NotAsked, Kind::OutOfReach];
+
+static BY_TIMES: [Kind; 3] = [Kind::OffsetFrozen, Kind::GrandmasterTime, Kind::LeapFalse];
+
+static BY_SOURCES: [Kind; 1] = [Kind::IdentityTwice];
+
+static BY_SENDERS: [Kind; 1] = [Kind::Mute];
+
+/// The names of what can't be judged of lines that lack this, or not wholly.
+pub fn not_judged(lack: Lack) -> &'static [Kind] {
+    match lack {
+        Lack::Requests => &BY_REQUESTS,
+        Lack::Times => &BY_TIMES,
+        Lack::Sources => &BY_SOURCES,
+        Lack::Senders => &BY_SENDERS,
     }
 }
 

@@ -4,6 +4,7 @@ use crate::asked::{Asked, six};
 use crate::changes::{Contradiction, first_change, first_contradiction, is_said_otherwise};
 use crate::clock::Received;
 use crate::completeness::missing_answers;
+use crate::evidence::Evidence;
 use crate::finding::{Added, Finding, What, add_finding};
 use crate::grandmaster_changes::GrandmasterChange;
 use crate::member::{is_moving, is_of_grandmaster, members_of};
@@ -21,6 +22,7 @@ use std::alloc::{AllocError, Global};
 pub fn judge_answers<'a>(
     alloc: Global,
     site: &'a Site,
+    evidence: &Evidence,
     reach: &Reach,
     changes: &[GrandmasterChange],
     twins: &[Twins],
@@ -28,7 +30,7 @@ pub fn judge_answers<'a>(
     ports: &[u16],
     findings: &mut Vec<Finding<'a>>,
 ) -> Added {
-    if let Some(missing) = missing_answers(alloc, site, source, ports)? {
+    if let Some(missing) = missing_answers(alloc, site, evidence, source, ports)? {
         add_finding(findings, source, What::Incomplete(missing))?;
     }
     if let Some(hops) = out_of_reach(site, reach, source) {

@@ -36,6 +36,7 @@ mod judging_leading;
 mod judging_loops;
 pub mod judging_open;
 mod judging_ports;
+pub mod lacks;
 pub mod leaders;
 pub mod leading;
 pub mod left_out;

@@ -29,6 +29,8 @@ pub struct TimeError {
     /// The amount: whole seconds, and nanoseconds beside them.
     pub seconds: u64,
     pub nanoseconds: u32,
+    /// Whether its UTC is right by the currentUtcOffset that it says, within half a second.
+    pub has_right_utc: bool,
 }
 
 /// Half a second in nanoseconds.
