@@ -109,7 +109,7 @@ impl Site {
     }
 }
 
-/// The clock of which a datagram is an answer to one of the six ids.
+/// The clock that answers one of the six ids by a datagram.
 fn answering_clock(datagram: &[u8]) -> Option<ClockIdentity> {
     match Heard::of(None, datagram) {
         Some(Heard::Answered(travel)) => Some(travel.source.clock),

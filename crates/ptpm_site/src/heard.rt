@@ -18,7 +18,7 @@ use ptpm_codec::{Action, ClockIdentity, PortIdentity, View, port_identity_at, vi
 pub struct Query {
     pub domain: Domain,
     pub asked: Asked,
-    /// Which port of which clock is asked.
+    /// The port that is asked.
     pub target: PortIdentity,
     /// Who asks, and with which sequenceId.
     pub request: Request,

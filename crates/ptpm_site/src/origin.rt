@@ -24,7 +24,7 @@ pub struct Origin {
 #[derive(Clone, Copy)]
 pub struct TimeError {
     pub origin: Origin,
-    /// Whether it is behind TAI.
+    /// Whether it is less than TAI.
     pub is_behind: bool,
     /// The amount: whole seconds, and nanoseconds beside them.
     pub seconds: u64,

@@ -8,8 +8,8 @@ use crate::source::Source;
 use std::alloc::{AllocError, Global};
 use std::collections::BTreeSet;
 
-/// The clocks that are seen, those that they name, those that send by themselves, those whose answers were not taken, and those
-/// that are gone, by domain and identity.
+/// The clocks that are seen, those that they name, and those that are gone. And those that send by themselves, or whose answers were
+/// not taken. All by domain and identity.
 /// `sources` has all clocks that are seen.
 pub fn subjects_of(
     alloc: Global,
