@@ -7,6 +7,24 @@ use crate::site::Site;
 use crate::source::Source;
 use crate::tai_and_utc::is_off_by_utc;
 
+/// An offsetFromMaster that is beyond the limit. All are TimeIntervals.
+#[derive(Clone, Copy)]
+pub enum TooFarOff {
+    /// That of the clock itself.
+    Own(i64),
+    /// Those of all clocks that follow it.
+    Followers(SharedOffset),
+}
+
+/// The offsets of clocks that follow one grandmaster, and are as much off.
+#[derive(Clone, Copy)]
+pub struct SharedOffset {
+    /// How many clocks follow it.
+    pub clocks: usize,
+    pub least: i64,
+    pub most: i64,
+}
+
 /// Whether the amount of a TimeInterval is above this many nanoseconds. An amount equal to the limit is allowed.
 fn is_above(interval: i64, nanoseconds: u64) -> bool {
     nanoseconds.saturating_mul(65_536) < interval.unsigned_abs()

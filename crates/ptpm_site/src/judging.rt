@@ -10,7 +10,7 @@ use crate::judging_answers::{judge_answers, judge_changes};
 use crate::judging_grandmasters::{judge_grandmaster, judge_parent};
 use crate::judging_leading::judge_leader;
 use crate::judging_loops::judge_loop;
-use crate::judging_ports::{judge_intervals, judge_locks, judge_ports};
+use crate::judging_ports::{judge_intervals, judge_locks, judge_mechanisms, judge_ports};
 use crate::leaders::{Leader, all_witnesses, count_in, is_present, leader_of, present_leaders};
 use crate::leading::all_standing_by;
 use crate::limits::Limits;
@@ -22,6 +22,7 @@ use crate::subjects::subjects_of;
 use crate::tai_and_utc::all_followers;
 use crate::two_addresses::{Twins, all_twins};
 use crate::unseen::unseen;
+use crate::untaken::not_taken;
 use std::alloc::{AllocError, Global};
 
 /// All findings. Each loop is reported at its least clock, which is marked in `least`.
@@ -79,7 +80,7 @@ struct Given<'a> {
     changes: &'a [GrandmasterChange],
     /// Which answers came from two addresses.
     twins: &'a [Twins],
-    /// Those that lead, and are seen or mute.
+    /// Those that lead, and are seen or send by themselves.
     leaders: &'a [Leader],
     /// Those that may lead, are of a class below 128, and do not lead.
     standing_by: &'a [Source],
@@ -90,14 +91,14 @@ struct Given<'a> {
     limits: Limits,
 }
 
-/// What is wrong with one clock that is not seen: `gone`, `own_host` and `mute`, what is wrong with it if it leads, and
+/// What is wrong with one clock that is not seen: `gone`, `own_host`, `not_taken` and `mute`, what is wrong with it if it leads, and
 /// `grandmaster_changed`.
-fn judge_absent(
-    site: &Site,
+fn judge_absent<'a>(
+    site: &'a Site,
     subject: Source,
     leader: Option<Leader>,
     given: &Given<'_>,
-    findings: &mut Vec<Finding<'_>>,
+    findings: &mut Vec<Finding<'a>>,
 ) -> Added {
     let (followers, limits) = (given.followers, given.limits);
     if given.evidence.gone.contains(&subject) {
@@ -105,6 +106,9 @@ fn judge_absent(
     }
     if let Some(why) = unseen(site, given.evidence, subject, given.sources) {
         add_finding(findings, subject, What::Unseen(why))?;
+    }
+    if let Some(why) = not_taken(site, given.evidence, subject) {
+        add_finding(findings, subject, What::NotTaken(why))?;
     }
     judge_two(site, subject, leader, given, findings)?;
     judge_lead_off(site, subject, leader, followers, limits, findings)?;
@@ -143,10 +147,12 @@ fn judge<'a>(
     judge_amounts(site, source, leader, ports, followers, limits, findings)?;
     judge_utc(site, source, findings)?;
     judge_intervals(site, given.evidence, source, ports, findings)?;
+    judge_mechanisms(site, source, ports, findings)?;
     judge_leader(site, source, leader, given.standing_by, limits, findings)?;
     judge_answers(
         alloc,
         site,
+        given.evidence,
         given.reach,
         given.changes,
         given.twins,

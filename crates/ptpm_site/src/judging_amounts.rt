@@ -1,6 +1,6 @@
 //! Amounts of a clock beyond what is allowed, and what it says of UTC.
 
-use crate::amounts::{large_delay, large_offset};
+use crate::amounts::{TooFarOff, large_delay, large_offset};
 use crate::comparing::{Compared, add_differences};
 use crate::differences::utc_differs;
 use crate::finding::{Added, Finding, What, add_finding};
@@ -67,7 +67,7 @@ fn judge_own(
     findings: &mut Vec<Finding<'_>>,
 ) -> Added {
     if let Some(offset) = large_offset(site, source, limits) {
-        add_finding(findings, source, What::Offset(offset))?;
+        add_finding(findings, source, What::Offset(TooFarOff::Own(offset)))?;
     }
     if let Some(delay) = large_delay(site, source, limits) {
         add_finding(findings, source, What::Delay(delay))?;

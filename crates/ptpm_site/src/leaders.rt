@@ -8,7 +8,7 @@ use crate::port_groups::PortGroup;
 use crate::site::Site;
 use crate::source::Source;
 use crate::subjects::subjects_of;
-use crate::unseen::is_mute;
+use crate::unseen::is_heard;
 use ptpm_members::ClockQuality;
 use std::alloc::{AllocError, Global};
 
@@ -170,12 +170,12 @@ pub fn leaders_of(alloc: Global, site: &Site) -> Result<Vec<Leader>, AllocError>
     Ok(found)
 }
 
-/// Whether one that leads is seen, or mute. `sources` has all clocks that are seen.
+/// Whether one that leads is seen, or sends by itself. `sources` has all clocks that are seen.
 pub fn is_present(site: &Site, evidence: &Evidence, leader: &Leader, sources: &[Source]) -> bool {
-    site.is_seen(leader.source) || is_mute(evidence, leader.source, sources)
+    site.is_seen(leader.source) || is_heard(evidence, leader.source, sources)
 }
 
-/// Those of all that lead that are seen, or mute. `sources` has all clocks that are seen.
+/// Those of all that lead that are seen, or send by themselves. `sources` has all clocks that are seen.
 pub fn present_leaders(
     alloc: Global,
     site: &Site,

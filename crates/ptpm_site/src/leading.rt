@@ -49,6 +49,33 @@ pub struct WrongOffset {
 pub struct Leap {
     pub leap61: bool,
     pub leap59: bool,
+    /// Whether it would be at the end of another month than June and December: so far none was.
+    pub is_unusual: bool,
+}
+
+/// A day of the Gregorian calendar, in UTC.
+#[derive(Clone, Copy)]
+pub struct Date {
+    pub year: u32,
+    pub month: u8,
+    pub day: u8,
+}
+
+/// A leap second that can't come.
+#[derive(Clone, Copy)]
+pub struct FalseLeap {
+    pub leap61: bool,
+    pub leap59: bool,
+    /// The day, which is not the last of its month. `None`: both are announced.
+    pub date: Option<Date>,
+}
+
+/// What a clock says that says that it is locked to its source of time (clockClass 6), and says what one without a source says.
+#[derive(Clone, Copy)]
+pub struct Doubtful {
+    pub quality: ClockQuality,
+    /// timeSource.
+    pub time_source: u8,
 }
 
 /// A clock of a better class than the one that leads.
@@ -124,6 +151,7 @@ pub fn announced_leap(time: &TimePropertiesDataSet) -> Option<Leap> {
         Some(Leap {
             leap61: time.leap61,
             leap59: time.leap59,
+            is_unusual: false,
         })
     } else {
         None

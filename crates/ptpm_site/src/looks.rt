@@ -35,7 +35,7 @@ impl Look {
     /// The look that a datagram is. `None` if it is none.
     pub fn of(heard: &Heard) -> Option<Look> {
         match heard {
-            Heard::Asked(query) if query.is_to_all => Some(Look {
+            Heard::Asked(query) if query.is_to_all() => Some(Look {
                 topic: Topic::of(query.domain, query.asked),
                 request: query.request,
             }),

@@ -20,6 +20,19 @@ pub struct Origin {
     pub at: u64,
 }
 
+/// How far the time of a grandmaster is from TAI, by the clock of the host that asks.
+#[derive(Clone, Copy)]
+pub struct TimeError {
+    pub origin: Origin,
+    /// Whether it is less than TAI.
+    pub is_behind: bool,
+    /// The amount: whole seconds, and nanoseconds beside them.
+    pub seconds: u64,
+    pub nanoseconds: u32,
+    /// Whether its UTC is right by the currentUtcOffset that it says, within half a second.
+    pub has_right_utc: bool,
+}
+
 /// Half a second in nanoseconds.
 const HALF_SECOND: u64 = 500_000_000;
 

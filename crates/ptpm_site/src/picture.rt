@@ -8,6 +8,7 @@ use crate::finding::Finding;
 use crate::forest::Forest;
 use crate::judging::findings_of;
 use crate::judging_open::open_of;
+use crate::lacks::{Lack, lacks_of};
 use crate::leaders::{Leader, leaders_of};
 use crate::left_out::LeftOut;
 use crate::limits::Limits;
@@ -27,6 +28,8 @@ pub struct Picture<'a> {
     pub findings: Vec<Finding<'a>>,
     /// What is a finding if it lasts.
     pub open_findings: Vec<Finding<'a>>,
+    /// What the lines lack, so that not all is judged.
+    pub lacks: Vec<Lack>,
     pub left_out: LeftOut,
 }
 
@@ -46,6 +49,7 @@ impl<'a> Picture<'a> {
         let leaders = leaders_of(alloc, site)?;
         let findings = findings_of(alloc, site, least.as_slice(), limits)?;
         let open_findings = open_of(alloc, site, limits)?;
+        let lacks = lacks_of(alloc, site)?;
         Ok(Picture {
             site,
             forest,
@@ -53,6 +57,7 @@ impl<'a> Picture<'a> {
             leaders,
             findings,
             open_findings,
+            lacks,
             left_out,
         })
     }
