@@ -77,15 +77,12 @@ fn judge_own(
 
 /// `utc`.
 pub fn judge_utc(site: &Site, source: Source, findings: &mut Vec<Finding<'_>>) -> Added {
-    let Some(parent) = site.parent(source) else {
+    let (Some(parent), Some(own)) = (site.parent(source), site.time(source)) else {
         return Ok(());
     };
-    if parent.grandmaster == source.clock {
+    if site.followed(source).is_none() {
         return Ok(());
     }
-    let Some(own) = site.time(source) else {
-        return Ok(());
-    };
     match site.time(source.beside(parent.grandmaster)) {
         Some(grandmaster) => add_differences(
             findings,
