@@ -4,6 +4,7 @@
 use crate::evidence::Evidence;
 use crate::finding::{Added, Finding, What, add_finding};
 use crate::forest::place_among;
+use crate::frozen::frozen_offset;
 use crate::grandmaster_changes::{GrandmasterChange, grandmaster_changes};
 use crate::judging_amounts::{judge_amounts, judge_lead_off, judge_utc};
 use crate::judging_answers::{judge_answers, judge_changes};
@@ -176,9 +177,12 @@ fn judge_time(
     given: &Given<'_>,
     findings: &mut Vec<Finding<'_>>,
 ) -> Added {
-    let limits = given.limits;
+    let (alloc, limits) = (given.alloc, given.limits);
     judge_ports(site, source, ports, limits, findings)?;
     judge_locks(site, source, ports, limits, findings)?;
+    if let Some(frozen) = frozen_offset(alloc, site, limits, source, ports)? {
+        add_finding(findings, source, What::OffsetFrozen(frozen))?;
+    }
     judge_amounts(
         site,
         given.evidence,
