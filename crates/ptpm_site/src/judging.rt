@@ -15,7 +15,7 @@ use crate::judging_ports::{judge_intervals, judge_locks, judge_mechanisms, judge
 use crate::leaders::{
     Leader, Witness, all_witnesses, count_in, is_present, leader_of, present_leaders,
 };
-use crate::leading::all_standing_by;
+use crate::leading::{all_standing_by, today};
 use crate::limits::Limits;
 use crate::marks::is_marked;
 use crate::reach::Reach;
@@ -59,6 +59,7 @@ pub fn findings_of<'a>(
         slaves: slaves.as_slice(),
         least,
         limits,
+        today: today(site, limits),
     };
     judge_all(site, &given)
 }
@@ -88,6 +89,8 @@ struct Given<'a> {
     /// For each clock whether it is the least of a loop.
     least: &'a [bool],
     limits: Limits,
+    /// How many days after 1970-01-01 the last datagram came, if that is certain.
+    today: Option<u64>,
 }
 
 /// The findings of all clocks, whether they are seen or not.
@@ -207,8 +210,8 @@ fn judge_lead(
     given: &Given<'_>,
     findings: &mut Vec<Finding<'_>>,
 ) -> Added {
-    let (others, limits) = (given.standing_by, given.limits);
-    judge_leader(site, source, leader, others, limits, findings)
+    let (others, limits, today) = (given.standing_by, given.limits, given.today);
+    judge_leader(site, source, leader, others, limits, today, findings)
 }
 
 /// `two_grandmasters`.
