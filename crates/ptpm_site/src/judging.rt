@@ -40,7 +40,7 @@ pub fn findings_of<'a>(
     let evidence = Evidence::of(alloc, site.all_heard())?;
     let reach = Reach::of(alloc, site.all_heard())?;
     let changes = grandmaster_changes(alloc, site, sources)?;
-    let twins = all_twins(alloc, site.all_heard())?;
+    let twins = all_twins(alloc, site)?;
     let witnesses = all_witnesses(alloc, site, sources)?;
     let witnesses = witnesses.as_slice();
     let leaders = present_leaders(alloc, site, &evidence, sources)?;
