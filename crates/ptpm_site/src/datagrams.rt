@@ -19,7 +19,7 @@ impl Site {
         at: Option<u64>,
         datagram: &[u8],
     ) -> Result<(), AllocError> {
-        self.shown.times = self.shown.times || at.is_some();
+        self.shown.add_time(at);
         self.take_answer(alloc, at, datagram)?;
         self.hear(at, datagram)
     }
@@ -34,7 +34,7 @@ impl Site {
         from: Option<&str>,
         datagram: &[u8],
     ) -> Result<(), AllocError> {
-        self.shown.times = self.shown.times || at.is_some();
+        self.shown.add_time(at);
         let Some(why) = Untaken::of_word(why) else {
             return Ok(());
         };

@@ -8,6 +8,7 @@ use crate::domain::Domain;
 use crate::gone::gone_set;
 use crate::heard::{Heard, Query, Sender};
 use crate::looks::{LastLooks, Topic};
+use crate::origin::Origin;
 use crate::source::Source;
 use crate::untaken::UntakenAnswer;
 use ptpm_codec::ClockIdentity;
@@ -44,6 +45,8 @@ pub struct Evidence {
     pub announced: BTreeMap<SourcePort, Announced>,
     /// The same of each clock.
     pub announcers: BTreeMap<Source, Announced>,
+    /// What each clock said last of its time.
+    pub origins: BTreeMap<Source, Origin>,
 }
 
 impl Evidence {
@@ -60,6 +63,7 @@ impl Evidence {
             gone: gone_set(alloc, heard, &last)?,
             announced: BTreeMap::new(alloc),
             announcers: BTreeMap::new(alloc),
+            origins: BTreeMap::new(alloc),
         };
         for one in heard {
             evidence.add(one)?;
@@ -85,7 +89,10 @@ impl Evidence {
                 self.announced.insert(announced.port, *announced)?;
                 self.announcers.insert(announced.port.source, *announced)?;
             }
-            Heard::Timed(_) | Heard::Came(_) => {}
+            Heard::Timed(origin) => {
+                self.origins.insert(origin.source, *origin)?;
+            }
+            Heard::Came(_) => {}
         }
         Ok(())
     }

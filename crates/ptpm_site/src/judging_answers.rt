@@ -1,6 +1,6 @@
 //! What a clock did not answer, and what differs between its answers.
 
-use crate::asked::{Asked, six};
+use crate::asked::{Asked, by_number, six};
 use crate::changes::{Contradiction, first_change, first_contradiction, is_said_otherwise};
 use crate::clock::Received;
 use crate::completeness::missing_answers;
@@ -124,7 +124,11 @@ fn other_members<'a>(
 ) -> Result<Vec<OtherMember<'a>>, AllocError> {
     let is_own = site.is_own_grandmaster(source);
     let mut found = Vec::new(alloc);
-    for asked in six() {
+    let ids = match how {
+        Contradiction::Changed => six(),
+        Contradiction::IdentityTwice => by_number(),
+    };
+    for asked in ids {
         let mut compared = Compared {
             port: None,
             asked,

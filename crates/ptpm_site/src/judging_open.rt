@@ -28,7 +28,7 @@ pub fn open_of<'a>(
     let subjects = subjects_of(alloc, site, sources.as_slice())?;
     let evidence = Evidence::of(alloc, site.all_heard())?;
     let senders = senders_of(alloc, site.all_heard())?;
-    let twins = all_twins(alloc, site.all_heard())?;
+    let twins = all_twins(alloc, site)?;
     let known = Known {
         alloc,
         sources: sources.as_slice(),

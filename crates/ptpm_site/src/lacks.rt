@@ -9,8 +9,8 @@ use std::alloc::{AllocError, Global};
 pub struct Shown {
     /// A GET of one of the six ids.
     pub requests: bool,
-    /// When a datagram came or was sent.
-    pub times: bool,
+    /// When the last datagram came or was sent, in nanoseconds since 1970. `None` if no line says it.
+    pub latest: Option<u64>,
     /// The address that an answer to one of the six ids came from.
     pub sources: bool,
     /// An Announce, Sync, Follow_Up or Delay_Req.
@@ -48,7 +48,7 @@ impl Shown {
     pub fn nothing() -> Shown {
         Shown {
             requests: false,
-            times: false,
+            latest: None,
             sources: false,
             senders: false,
         }
@@ -63,10 +63,19 @@ impl Shown {
         }
     }
 
+    /// Adds when a datagram came or was sent.
+    pub fn add_time(&mut self, at: Option<u64>) {
+        self.latest = match (self.latest, at) {
+            (Some(latest), Some(at)) => Some(latest.max(at)),
+            (latest, None) => latest,
+            (None, at) => at,
+        };
+    }
+
     fn has(self, lack: Lack) -> bool {
         match lack {
             Lack::Requests => self.requests,
-            Lack::Times => self.times,
+            Lack::Times => self.latest.is_some(),
             Lack::Sources => self.sources,
             Lack::Senders => self.senders,
         }

@@ -139,6 +139,32 @@ fn leader_by_followers(site: &Site, source: Source, witnesses: &[Witness]) -> Op
     })
 }
 
+/// A clock, if it leads by its Announce or by a clock that follows it.
+fn leader_by_others(
+    site: &Site,
+    evidence: &Evidence,
+    source: Source,
+    witnesses: &[Witness],
+) -> Option<Leader> {
+    match leader_by_announce(evidence, source) {
+        Some(leader) => Some(leader),
+        None => leader_by_followers(site, source, witnesses),
+    }
+}
+
+/// TIME_PROPERTIES_DATA_SET of a grandmaster: what it answers, or else what its Announce says, or a clock that follows it.
+pub fn grandmaster_time(
+    site: &Site,
+    evidence: &Evidence,
+    source: Source,
+    witnesses: &[Witness],
+) -> Option<TimePropertiesDataSet> {
+    match site.time(source) {
+        Some(time) => Some(time),
+        None => leader_by_others(site, evidence, source, witnesses)?.time,
+    }
+}
+
 /// A clock, if it leads, with what is said of it.
 pub fn leader_of(
     site: &Site,
@@ -147,11 +173,9 @@ pub fn leader_of(
     witnesses: &[Witness],
 ) -> Option<Leader> {
     if site.is_seen(source) {
-        return leader_by_answers(site, source);
-    }
-    match leader_by_announce(evidence, source) {
-        Some(leader) => Some(leader),
-        None => leader_by_followers(site, source, witnesses),
+        leader_by_answers(site, source)
+    } else {
+        leader_by_others(site, evidence, source, witnesses)
     }
 }
 

@@ -8,6 +8,7 @@ pub mod answer;
 pub mod answer_content;
 pub mod arrival;
 pub mod asked;
+pub mod calendar;
 pub mod changes;
 pub mod clock;
 mod comparing;
