@@ -284,7 +284,7 @@ impl Kind {
             Delay => "The delay to its master, or to its neighbour, is longer than is allowed.",
             Utc => "What it says of UTC is not what its grandmaster says.",
             NotTraceable => "The grandmaster does not say that its time can be traced to a source.",
-            UtcInvalid => "The grandmaster does not know how far TAI is before UTC.",
+            UtcInvalid => "The grandmaster does not know how far TAI is ahead of UTC.",
             UtcOffset => "The grandmaster says a wrong difference of TAI and UTC.",
             LeapFalse => "The grandmaster announces a leap second that can't come.",
             Leap => "The grandmaster announces a leap second.",

@@ -9,6 +9,7 @@ use ptpm_causes::Cause;
 use ptpm_codec::ClockIdentity;
 use ptpm_message_json::member_value;
 use ptpm_site::asked::Asked;
+use ptpm_site::twice::OtherMember;
 use serde_json::{Value, json};
 use std::alloc::{AllocError, Global};
 
@@ -68,22 +69,34 @@ fn cause_value(alloc: Global, cause: Option<Cause>) -> Result<Value, AllocError>
 
 fn value_of(alloc: Global, value: &FindingValue<'_>) -> Result<Value, AllocError> {
     match *value {
-        FindingValue::Template(_) | FindingValue::Null(_) | FindingValue::AtPort(None) => {
-            Ok(Value::Null)
-        }
+        FindingValue::Template(_) | FindingValue::Null(_) => Ok(Value::Null),
         FindingValue::Name(name) => text_value(alloc, name),
         FindingValue::Of(value) => member_value(alloc, value),
-        FindingValue::AtPort(Some(port)) => Ok(Value::from(port)),
+        FindingValue::AtPort(port) => Ok(port_value(port)),
         FindingValue::Exact(interval) | FindingValue::Rounded(interval) => {
             Ok(Value::from(interval))
         }
         FindingValue::Power(log) => Ok(seconds_value(log)),
-        FindingValue::Time(_) | FindingValue::Words(_) => words_value(alloc, value),
+        FindingValue::Hexadecimal(number) => Ok(Value::from(number)),
+        FindingValue::Tenths(_)
+        | FindingValue::Time(_)
+        | FindingValue::Origin(_)
+        | FindingValue::Error(_)
+        | FindingValue::Date(_)
+        | FindingValue::Words(_) => words_value(alloc, value),
         FindingValue::Clocks(clocks) => clocks_value(alloc, clocks),
         FindingValue::Ids(ids) => ids_value(alloc, ids),
         FindingValue::Ports(runs) => runs_value(alloc, runs),
-        FindingValue::Addresses(two) => json!(in alloc; [two.first.text, two.second.text]),
+        FindingValue::Addresses(two) => json!(in alloc; [two.first, two.second]),
         FindingValue::Offsets(two) => json!(in alloc; [two.first, two.second]),
+        FindingValue::Members(members) => members_value(alloc, members),
+    }
+}
+
+fn port_value(port: Option<u16>) -> Value {
+    match port {
+        Some(port) => Value::from(port),
+        None => Value::Null,
     }
 }
 
@@ -125,6 +138,20 @@ fn runs_value(alloc: Global, runs: &[(u16, u16)]) -> Result<Value, AllocError> {
     let mut values = Vec::new(alloc);
     for (first, last) in runs {
         values.push(json!(in alloc; [*first, *last])?)?;
+    }
+    Ok(Value::Array(values))
+}
+
+/// Members in which two answers differ: the port or null, the name, the value of the earlier answer, and that of the later.
+fn members_value(alloc: Global, all: &[OtherMember<'_>]) -> Result<Value, AllocError> {
+    let mut values = Vec::new(alloc);
+    for one in all {
+        let mut members = Members::none(alloc);
+        members.put_value("portNumber", port_value(one.port))?;
+        members.put_text("member", one.change.member.name())?;
+        members.put("before", one.change.before)?;
+        members.put("after", one.change.after)?;
+        values.push(members.object())?;
     }
     Ok(Value::Array(values))
 }

@@ -6,6 +6,7 @@ use crate::finding_lines::{FindingLine, FindingLines, alike_together, each_line,
 use crate::finding_text::{FindingText, Words};
 use crate::followers::{Followers, Head, SoToo};
 use crate::look::Look;
+use crate::not_judged::limit_of;
 use crate::remarks::Remark;
 use crate::trees::Clocks;
 use ptpm_site::source::Source;
@@ -28,13 +29,15 @@ pub(crate) struct Sum {
     found: usize,
     pub(crate) lines: usize,
     following: usize,
+    /// What comes after `none` if the lines lack something.
+    limit: &'static str,
 }
 
 /// The line above those of the findings: `findings: 3, and 2 that follow`.
 impl fmt::Display for Sum {
     fn fmt<W: fmt::Write>(&self, f: &mut fmt::Formatter<W>) -> fmt::Result {
         match (self.found, self.lines, self.following) {
-            (0, ..) => f.write_str("findings: none"),
+            (0, ..) => write!(f, "findings: none{}", self.limit),
             (_, lines, 0) => write!(f, "findings: {lines}"),
             (_, lines, following) => write!(f, "findings: {lines}, and {following} that follow"),
         }
@@ -52,6 +55,7 @@ impl FindingReport {
             found: look.found.len(),
             lines: found.lines.len(),
             following: count_following(look),
+            limit: limit_of(look.picture),
         };
         if look.beside.is_all {
             found.lines = each_line(alloc, look, true)?;

@@ -7,6 +7,8 @@ use crate::printable::Printable;
 use crate::remarks::Remark;
 use crate::seconds::NanosecondSeconds;
 use ptpm_site::asked::Asked;
+use ptpm_site::origin::{Origin, TimeError};
+use ptpm_site::twice::OtherMember;
 use ptpm_site::two_addresses::TwoAddresses;
 use ptpm_site::two_offsets::TwoOffsets;
 use std::fmt;
@@ -50,22 +52,27 @@ impl fmt::Display for FindingText<'_> {
 impl fmt::Display for FindingValue<'_> {
     fn fmt<W: fmt::Write>(&self, f: &mut fmt::Formatter<W>) -> fmt::Result {
         match *self {
-            FindingValue::Template(word) | FindingValue::Null(word) | FindingValue::Name(word) => {
-                f.write_str(word)
-            }
+            FindingValue::Template(word) | FindingValue::Null(word) => f.write_str(word),
+            FindingValue::Name(word) => write!(f, "{}", Printable(word)),
             FindingValue::Of(value) => write!(f, "{}", Shown(value)),
             FindingValue::AtPort(Some(port)) => write!(f, " port {port}"),
             FindingValue::AtPort(None) => Ok(()),
             FindingValue::Exact(interval) => write!(f, "{}", Exact(interval)),
             FindingValue::Rounded(interval) => write!(f, "{}", Whole(interval)),
             FindingValue::Power(log) => write!(f, "{}", Seconds(log)),
+            FindingValue::Tenths(tenths) => write!(f, "{}.{}", tenths / 10, tenths % 10),
+            FindingValue::Hexadecimal(number) => write!(f, "0x{number:02x}"),
             FindingValue::Time(time) => write!(f, "{}", NanosecondSeconds(time)),
+            FindingValue::Origin(origin) => write_origin(origin, f),
+            FindingValue::Error(error) => write_error(error, f),
+            FindingValue::Date(date) => write!(f, "{date}"),
             FindingValue::Words(phrase) => write!(f, "{phrase}"),
             FindingValue::Clocks(clocks) => write!(f, "{}", Phrase::Clocks(clocks)),
             FindingValue::Ids(ids) => write_ids(ids, f),
             FindingValue::Ports(runs) => write_ports(runs, f),
             FindingValue::Addresses(two) => write_addresses(two, f),
             FindingValue::Offsets(two) => write_offsets(two, f),
+            FindingValue::Members(members) => write_members(members, f),
         }
     }
 }
@@ -92,10 +99,37 @@ fn write_addresses<W: fmt::Write>(
     two: &TwoAddresses<'_>,
     f: &mut fmt::Formatter<W>,
 ) -> fmt::Result {
-    let (first, second) = (Printable(two.first.text), Printable(two.second.text));
-    write!(f, "{first} and {second}")
+    write!(f, "{} and {}", Printable(two.first), Printable(two.second))
 }
 
 fn write_offsets<W: fmt::Write>(two: &TwoOffsets, f: &mut fmt::Formatter<W>) -> fmt::Result {
     write!(f, "{} ns and {} ns", Whole(two.first), Whole(two.second))
+}
+
+fn write_origin<W: fmt::Write>(origin: &Origin, f: &mut fmt::Formatter<W>) -> fmt::Result {
+    write!(f, "{}.{:09}", origin.seconds, origin.nanoseconds)
+}
+
+/// Writes how far a time is from TAI, cut off after its milliseconds.
+fn write_error<W: fmt::Write>(error: &TimeError, f: &mut fmt::Formatter<W>) -> fmt::Result {
+    let sign = if error.is_behind { "-" } else { "" };
+    let milliseconds = error.nanoseconds / 1_000_000;
+    write!(f, "{sign}{}.{milliseconds:03}", error.seconds)
+}
+
+/// Writes the names of members, with the port before that of a port.
+fn write_members<W: fmt::Write>(
+    members: &[OtherMember<'_>],
+    f: &mut fmt::Formatter<W>,
+) -> fmt::Result {
+    let mut between = "";
+    for one in members {
+        f.write_str(between)?;
+        if let Some(port) = one.port {
+            write!(f, "port {port} ")?;
+        }
+        f.write_str(one.change.member.name())?;
+        between = ", ";
+    }
+    Ok(())
 }

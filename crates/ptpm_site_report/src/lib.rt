@@ -26,6 +26,7 @@ mod members;
 mod metric_families;
 mod nagios;
 pub mod names;
+mod not_judged;
 mod openmetrics;
 mod page;
 mod page_style;

@@ -122,7 +122,7 @@ impl Remark<'_> {
         ensures { result ≡ counts self.now.cause }
     {
         match self.cause {
-            Some(cause) => !matches!(cause.kind, Kind::Mute | Kind::OwnHost),
+            Some(cause) => !matches!(cause.kind, Kind::NotTaken | Kind::Mute | Kind::OwnHost),
             None => true,
         }
     }

@@ -4,6 +4,7 @@ use crate::columns::Widths;
 use crate::finding_report::FindingReport;
 use crate::grandmaster_line::GrandmasterLine;
 use crate::look::Look;
+use crate::not_judged::NotJudged;
 use crate::ports_text::PortsText;
 use crate::trees::{ClockRow, Row, Tree, notes_of, trees_of};
 use ptpm_commands::Fault;
@@ -11,7 +12,7 @@ use std::alloc::Global;
 use std::io;
 use std::io::Write;
 
-/// Prints what was asked, the tree of each domain, and the findings.
+/// Prints what was asked, the tree of each domain, the findings, and what is not judged.
 pub(crate) fn print_text<O: Write>(
     alloc: Global,
     look: &Look<'_, '_>,
@@ -32,6 +33,9 @@ pub(crate) fn print_text<O: Write>(
     let notes = notes_of(alloc, look.picture)?;
     for note in notes.as_slice() {
         writeln!(out, "{note}")?;
+    }
+    for lack in look.picture.lacks.as_slice() {
+        writeln!(out, "{}", NotJudged(*lack))?;
     }
     Ok(())
 }
@@ -54,7 +58,8 @@ fn print_tree<O: Write>(tree: &Tree<'_>, look: &Look<'_, '_>, out: &mut O) -> io
         }
     }
     for leader in tree.leaders {
-        writeln!(out, "  {}", GrandmasterLine(leader))?;
+        let line = GrandmasterLine::of(look.picture, leader);
+        writeln!(out, "  {line}")?;
     }
     widths.print_heads(out)?;
     for row in tree.rows.as_slice() {
