@@ -35,7 +35,7 @@ impl fmt::Display for FindingText<'_> {
     fn fmt<W: fmt::Write>(&self, f: &mut fmt::Formatter<W>) -> fmt::Result {
         f.write_str(self.0.named.kind.name())?;
         let values = values_of(&self.0.finding.what);
-        let (_, FindingValue::Template(words)) = values[0] else {
+        let FindingValue::Template(words) = values[0].1 else {
             return Ok(());
         };
         for (place, piece) in words.split("{}").enumerate() {
