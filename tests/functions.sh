@@ -83,7 +83,7 @@ lines_in() { while IFS= read -r line; do grep -qF -- "$line" "$1" || echo "not i
 # Of what `ptpm site` prints: # in place of the first fourteen digits of a clockIdentity of bin/site; and the findings alone, without
 # what is open and the description that bin/site gives a clock.
 short() { sed 's/020000fffe0000/#/g'; }
-findings() { sed -n '/^"\{0,1\}findings/,$p' | sed '/^open: /,$d; s/ "clock"$//' | short; }
+findings() { sed -n '/^"\{0,1\}findings/,$p' | sed '/^not judged: /d; s/^\(findings: none\) that .*/\1/; /^open: /,$d; s/ "clock"$//' | short; }
 
 # Of what `ptpm site --json` prints: each finding that follows, and from which.
 followers() {
@@ -152,4 +152,4 @@ unsettled() {
 }
 
 # What a site has that is open, or else its findings: of what `ptpm site` prints, without the description of a clock.
-undecided() { sed -n '/^\(findings\|open\): [1-9]/,$p' | sed 's/ "clock"$//' | short; }
+undecided() { sed -n '/^\(findings\|open\): [1-9]/,$p' | sed '/^not judged: /d; s/ "clock"$//' | short; }

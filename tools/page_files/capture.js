@@ -1,9 +1,13 @@
-/* A capture as the management messages in it: files of pcap and of pcapng, of Ethernet, of Linux's cooked frames and of IP. */
+/* A capture as the management messages in it, and as lines for `ptpm site`: files of pcap and of pcapng, of Ethernet, of Linux's cooked
+   frames and of IP. */
 'use strict';
 
 const ETHERNET = 1, COOKED = 113, COOKED_2 = 276, NO_LINK = [0, 108], IP_ALONE = [12, 14, 101, 228, 229];
 const TYPE_OF = { ip4: 0x0800, ip6: 0x86dd, ptp: 0x88f7, tags: [0x8100, 0x88a8, 0x9100] };
 const PTP_PORTS = [319, 320], UDP = 17, MANAGEMENT = 0xd;
+
+/* Sync, Delay_Req, Follow_Up, Announce and management messages: those that `ptpm site` looks at. */
+const OF_SITE = [0x0, 0x1, 0x8, 0xb, MANAGEMENT];
 
 /* A file that is no capture, or one that ends too early. */
 class NoCapture extends Error {}
@@ -152,9 +156,15 @@ function secondsBetween(first, time) {
     return `${sign}${amount / 1000000n}.${String(amount % 1000000n).padStart(6, '0')}`;
 }
 
-/* The management messages of a capture, in its order, and how many packets and messages of PTP there are. */
+/* A message as a line for `ptpm site`, with when it came and who sent it. */
+function lineOf(time, from, hex) {
+    const at = time === null ? '' : `at=${time / 1000000000n}.${String(time % 1000000000n).padStart(9, '0')} `;
+    return `${at}${from ? `from=${from} ` : ''}${hex}`;
+}
+
+/* The management messages of a capture, in its order, the lines for `ptpm site`, and how many packets and messages of PTP there are. */
 function readCapture(buffer) {
-    const messages = [];
+    const messages = [], lines = [];
     let packets = 0, ptp = 0, first = null;
     for (const packet of packetsOf(buffer)) {
         packets += 1;
@@ -162,19 +172,25 @@ function readCapture(buffer) {
         const message = messageOf(packet);
         if (message === null || message.octets.length === 0) continue;
         ptp += 1;
-        if ((message.octets[0] & 15) !== MANAGEMENT) continue;
-        const time = secondsBetween(first, packet.time), hex = hexadecimal(message.octets);
-        messages.push({ packet: packets, time, from: message.from || '', hex });
+        const kind = message.octets[0] & 15;
+        if (!OF_SITE.includes(kind)) continue;
+        const hex = hexadecimal(message.octets);
+        lines.push(lineOf(packet.time, message.from, hex));
+        if (kind !== MANAGEMENT) continue;
+        messages.push({ packet: packets, time: secondsBetween(first, packet.time), from: message.from || '', hex });
     }
-    return { packets, ptp, messages };
+    return { packets, ptp, messages, lines };
 }
 
-/* A text that has datagrams in hexadecimal, a line each, as `ptpm-manage collect` prints them; the words before one are columns. */
+/* A text that has datagrams in hexadecimal, a line each, as `ptpm-manage collect` prints them; the words before one are columns. Notes
+   begin with #. */
 function readLines(text) {
-    const messages = [];
+    const messages = [], lines = [];
     text.split('\n').forEach((line, place) => {
         const words = line.trim().split(/[\t ]+/), hex = words[words.length - 1];
-        if (/^(?:[0-9a-fA-F]{2})+$/.test(hex)) messages.push({ packet: place + 1, time: '', from: words.slice(0, -1).join(' '), hex });
+        const isDatagram = /^(?:[0-9a-fA-F]{2})+$/.test(hex);
+        if (isDatagram || line.startsWith('#')) lines.push(line.trim());
+        if (isDatagram) messages.push({ packet: place + 1, time: '', from: words.slice(0, -1).join(' '), hex });
     });
-    return { packets: messages.length, ptp: messages.length, messages };
+    return { packets: messages.length, ptp: messages.length, messages, lines };
 }

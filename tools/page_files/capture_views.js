@@ -3,19 +3,24 @@
 
 const MOST_MESSAGES = 500;
 
-const SITE_SAYS = { 0: ['good', 'Nothing is wrong'], 3: ['bad', 'No clock answered: there is no answer to a GET of the six data sets.'] };
+const NO_CLOCK = 3;
 
-/* The text of `site` ends with its findings, after how many they are. */
+/* The text of `site` has its findings after how many they are, and then what is open. Nothing is wrong only if nothing was lacking. */
 function siteSays({ status, out, err }) {
+    const [, open] = /^open: (\d+)$/m.exec(out) ?? [], undecided = open === undefined ? '' : `, ${open} open`;
+    if (status === 0 && /^findings: none$/m.test(out)) return ['good', `Nothing is wrong${undecided}`];
+    if (status === 0) return ['', `Nothing is wrong that this capture can show${undecided}`];
+    if (status === NO_CLOCK) return ['bad', 'No clock answered: there is no answer to a GET of the six data sets.'];
     const [, count, more] = /^findings: (\d+)(?:, and (\d+) that follow)?$/m.exec(out) ?? [];
     const following = more === undefined ? '' : `, and ${more} that ${more === '1' ? 'follows' : 'follow'}`;
     if (status === 1 && count !== undefined) return ['bad', `${count} finding${count === '1' ? '' : 's'}${following}`];
-    return SITE_SAYS[status] ?? ['bad', err];
+    return ['bad', err];
 }
 
 function showSite(panel, drawn, text, name) {
     const [className, words] = siteSays(text);
-    const parts = [made('h2', { className }, words)];
+    const lacking = text.out.split('\n').filter((line) => line.startsWith('not judged: '));
+    const parts = [made('h2', { className }, words), ...lacking.map((line) => made('p', {}, line))];
     if (drawn.out.includes('</svg>')) {
         parts.unshift(saveButton('Save', `${name}.svg`, 'image/svg+xml', drawn.out));
         parts.push(pictureOf(drawn.out), made('h2', {}, 'As text'), made('pre', {}, text.out));

@@ -63,14 +63,14 @@ async function showScript() {
 }
 
 async function showCapture() {
-    const mine = ++current, { name, messages, packets, ptp } = shown.capture;
+    const mine = ++current, { name, messages, lines, packets, ptp } = shown.capture;
     byId('capture-name').textContent = name;
     byId('capture-counts').textContent = `${packets} packets, ${ptp} of PTP, ${messages.length} management messages`;
     const limits = ['max-offset', 'max-delay'].map((limit) => [limit, byId(limit).value.trim()]).filter(([, value]) => /^\d+$/.test(value))
         .map(([limit, value]) => ` --${limit} ${value}`).join('');
-    const lines = messages.map((message) => message.hex).join('\n');
+    const facts = byId('right').checked ? ['#ptpm clock=synchronised'] : [], site = [...lines, ...facts].join('\n');
     const columns = messages.map(({ packet, time, from, hex }) => `${packet}\t${time}\t${from}\t${hex}`).join('\n');
-    const { results: [draw, text, show], milliseconds } = await ask([`site --draw${limits}`, lines], [`site${limits}`, lines],
+    const { results: [draw, text, show], milliseconds } = await ask([`site --draw${limits}`, site], [`site${limits}`, site],
         ['show --json --lines --skip', columns]);
     if (mine !== current) return;
     showSite(byId('site'), draw, text, name.replace(/\.\w+$/, ''));
@@ -187,7 +187,7 @@ function begin() {
         typing = setTimeout(refresh, TYPING_ENDS);
     };
     beginEditor(later);
-    for (const limit of ['max-offset', 'max-delay']) byId(limit).addEventListener('input', later);
+    for (const limit of ['max-offset', 'max-delay', 'right']) byId(limit).addEventListener('input', later);
     beginFiles();
     beginTabs();
     select('picture');

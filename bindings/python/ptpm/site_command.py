@@ -35,7 +35,7 @@ def _parser() -> argparse.ArgumentParser:
     add("--listen", type=int, help="seconds to listen for clocks first")
     add("--max-offset", metavar="NS", help="an offset above this many nanoseconds is a finding; none is no limit")
     add("--max-delay", type=int, metavar="NS", help="a delay above this many nanoseconds is a finding")
-    add("--tai-utc", type=int, metavar="S", help="how many seconds TAI is before UTC")
+    add("--tai-utc", type=int, metavar="S", help="how many seconds TAI is ahead of UTC")
     add("--settle", type=int, metavar="S", help="how many seconds a port may take to settle")
     add("--profile", metavar="NAME", help="holds the site to a profile: default, st2059-2, aes67 or gptp")
     add("--expect", metavar="FILE", help="holds the site to an inventory")

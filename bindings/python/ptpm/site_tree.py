@@ -20,6 +20,9 @@ _HEAD = ("domainNumber", "sdoId", "clockIdentity", "userDescription", "finding",
 _OF_MEMBER = ("value", "expected", "before", "after")
 _TEXTS = {"profile": ("expected",), "not_as_expected": ("value", "expected")}
 
+# What other values are of, if they have a name of their own.
+_LIKE = {"least": "offsetFromMaster", "most": "offsetFromMaster"}
+
 # What is written for the clock if a finding is of a whole domain.
 _NO_CLOCK = "-"
 _SILENT_WAY = "ptpm-manage: no clock answered at "
@@ -132,6 +135,13 @@ class Domain:
         return "\n".join([head, *(f"{'  ' * (depth + 1)}{clock}" for depth, clock in self.rows())])
 
 
+class Lack(NamedTuple):
+    """What the lines lack: "requests", "times", "sources" or "senders". And the findings that are not judged for that."""
+
+    name: str
+    findings: Tuple[str, ...]
+
+
 class AskedDomain(NamedTuple):
     """A domain in which the GETs among the lines ask, and the most boundary clocks that pass one on."""
 
@@ -144,7 +154,7 @@ class Site:
     """A site at a glance. `left_out` is how many clocks and ports are not shown, since there are too many. `lines` are the answers
     that it was made of, in hexadecimal, and `notes` what the programs said beside it. `open` is what these answers don't decide, and
     `asked` the domains that were asked, as far as the lines have the requests. `momentary` is how many findings are left out, since
-    a look before, if one was given, has none like them."""
+    a look before, if one was given, has none like them. `not_judged` is what the lines lack, with what is not judged for that."""
 
     domains: Tuple[Domain, ...]
     findings: Tuple[Finding, ...]
@@ -154,6 +164,7 @@ class Site:
     open: Tuple[Finding, ...] = ()
     asked: Tuple[AskedDomain, ...] = ()
     momentary: int = 0
+    not_judged: Tuple[Lack, ...] = ()
 
     @property
     def clocks(self) -> Tuple[SiteClock, ...]:
@@ -167,9 +178,11 @@ class Site:
         return tuple(way.partition(": nothing was sent: ")[0] for way in ways)
 
     def __str__(self) -> str:
-        head = f"findings: {len(self.findings) or 'none'}"
+        none = "none that these lines can show" if any(lack.name != "senders" for lack in self.not_judged) else "none"
+        head = f"findings: {len(self.findings) or none}"
+        lacking = [f"not judged: {', '.join(lack.findings)}" for lack in self.not_judged]
         undecided = [f"open: {len(self.open)}", *map(str, self.open)] if self.open else []
-        return "\n".join([*map(str, self.domains), "", head, *map(str, self.findings), *undecided])
+        return "\n".join([*map(str, self.domains), "", head, *map(str, self.findings), *undecided, *lacking])
 
 
 def _text(value: object) -> str:
@@ -180,6 +193,8 @@ def _text(value: object) -> str:
         return value.name
     if isinstance(value, bool):
         return str(value).lower()
+    if isinstance(value, dict):     # a member of `identity_twice`
+        return value["member"] if value["portNumber"] is None else f"port {value['portNumber']} {value['member']}"
     return ",".join(map(_text, value)) if isinstance(value, tuple) else str(value)
 
 
@@ -189,15 +204,17 @@ def _is_grandmaster(told: Mapping[str, Any], name: str) -> bool:
 
 
 def _value(told: Mapping[str, Any], name: str) -> Any:
-    if name in _TEXTS.get(told["finding"], ()):
+    if name in _TEXTS.get(told.get("finding"), ()):
         return told[name]
     if name == "better" or _is_grandmaster(told, name):
         return identity_of(told[name])
     if isinstance(told[name], list):
         if name == "clocks":
             return tuple(map(identity_of, told[name]))
+        if name == "members":
+            return tuple({key: _value(member, key) for key in member} for member in told[name])
         return tuple(tuple(part) if isinstance(part, list) else part for part in told[name])
-    return member_of(told.get("member", name) if name in _OF_MEMBER else name, told[name])
+    return member_of(told.get("member", name) if name in _OF_MEMBER else _LIKE.get(name, name), told[name])
 
 
 def _domain_identity(told: Mapping[str, Any]) -> DomainIdentity:
@@ -282,6 +299,7 @@ def read_site(text: str) -> Site:
             (number_of(left_out["clocks"]), number_of(left_out["ports"])),
             open=tuple(map(_finding, told.get("open", ()))), asked=tuple(map(_asked, told.get("asked", ()))),
             momentary=number_of(told.get("momentary", 0)),
+            not_judged=tuple(Lack(text_of(lack["lack"]), tuple(map(text_of, lack["findings"]))) for lack in told.get("notJudged", ())),
         )
     except (KeyError, TypeError, AttributeError) as error:
         raise ValueError(f"it lacks or has another form of {error}") from error

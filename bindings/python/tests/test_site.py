@@ -174,6 +174,23 @@ class Recorded(unittest.TestCase):
         self.assertEqual(str(site).splitlines()[1:3], ["findings: none", "open: 2"])
         self.assertEqual(str(site).splitlines()[-1], "4@0x100 - not_asked clocks=2")
 
+    def test_values_of_findings(self) -> None:
+        members = '[{"after":"b","before":"a","member":"userDescription","portNumber":null},{"after":"MASTER","before":"SLAVE","member":"portState","portNumber":2}]'
+        site = ptpm.read_site(told([
+            told_finding("identity_twice", values=f'"addresses":["192.0.2.5","192.0.2.9"],"offsets":null,"members":{members},'),
+            told_finding("offset", values='"clocks":3,"least":-131072,"most":-65536,"reason":"followers",'),
+        ]))
+        twice, offset = site.findings
+        self.assertEqual(twice.values["members"][1]["after"], ptpm.PortState.MASTER)
+        self.assertIn(" members=userDescription,port 2 portState", str(twice))
+        self.assertEqual((offset.values["least"], offset.values["most"]), (-2, -1))
+
+    def test_what_is_not_judged(self) -> None:
+        lacking = told().replace('"findings":[', '"notJudged":[{"findings":["identity_twice"],"lack":"sources"}],"findings":[', 1)
+        site = ptpm.read_site(lacking)
+        self.assertEqual(site.not_judged, (ptpm.Lack("sources", ("identity_twice",)),))
+        self.assertEqual(str(site).splitlines()[-2:], ["findings: none that these lines can show", "not judged: identity_twice"])
+
     def test_how_many_looks_is_as_the_page_says(self) -> None:
         page = (TOP / "docs/ptpm-site.md").read_text(encoding="utf-8")
         two = set(re.findall(r"^\| `(\w+)` \| \w+ \| two \|", page, re.M))

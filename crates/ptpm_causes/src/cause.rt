@@ -4,6 +4,7 @@ ghost use Rattle.std.specs.Prelude.{◌≡◌};
 ghost use Rattle.ptpm_causes.specs.Kinds.{kind_of};
 
 use crate::kind::{Kind, kind_of};
+use ptpm_site::amounts::TooFarOff;
 use ptpm_site::finding::{Finding, What};
 use ptpm_site::site::Site;
 use ptpm_site::source::Source;
@@ -62,6 +63,7 @@ fn may_cause(site: &Site, source: Source, what: &What<'_>) -> bool {
         What::PortState(_, stay) => is_faulty(stay.state),
         What::NotAsExpected(_) => false,
         What::OffByUtc(how) => is_of_giver(*how),
+        What::Offset(offset) => matches!(offset, TooFarOff::Followers(_)),
         What::Changed(..) => site.is_own_grandmaster(source),
         _ => true,
     }

@@ -15,6 +15,8 @@ use std::collections::BTreeSet;
 pub(crate) struct Found {
     /// The findings that others may follow from.
     pub(crate) causes: BTreeSet<Key>,
+    /// Whether clocks follow each other in a loop.
+    pub(crate) has_loops: bool,
     /// The clocks whose grandmaster changed: they have `changed` grandmasterIdentity.
     pub(crate) moved: BTreeSet<Source>,
     /// The clocks of the findings that say that other clocks lead than an inventory wants. A domain has one at most.
@@ -29,6 +31,7 @@ impl Found {
     ) -> Result<Found, AllocError> {
         Ok(Found {
             causes: cause_set(alloc, site, findings)?,
+            has_loops: findings.iter().any(|finding| is_loop(&finding.what)),
             moved: moved_set(alloc, findings)?,
             leaders: all_leaders(alloc, findings)?,
         })
@@ -69,6 +72,10 @@ fn cause_set(
         set.insert(cause.key())?;
     }
     Ok(set)
+}
+
+fn is_loop(what: &What<'_>) -> bool {
+    matches!(what, What::Loop(_))
 }
 
 fn is_grandmaster(member: Member) -> bool {

@@ -4,22 +4,28 @@ ghost use Rattle.std.specs.Prelude.{◌≡◌};
 ghost use Rattle.ptpm_causes.specs.Kinds.{absence_kind, degradation_kind, kind_of};
 
 use ptpm_site::finding::What;
+use ptpm_site::lacks::Lack;
 use ptpm_site::leading::Degradation;
 use ptpm_site::unseen::Absence;
 
 /// A name that findings have. Each comes after those that it may follow from.
 #[derive(Clone, Copy, PartialEq, Eq)]
 pub enum Kind {
+    NotTaken,
     Gone,
     OwnHost,
     Mute,
     Absent,
     IdentityTwice,
+    Loop,
     TwoGrandmasters,
     Holdover,
     Degraded,
     FreeRunning,
+    UtcOffset,
+    GrandmasterTime,
     Intervals,
+    DelayMechanism,
     PortState,
     NotLocked,
     GrandmasterNotSeen,
@@ -33,13 +39,14 @@ pub enum Kind {
     NotAsExpected,
     Unexpected,
     ParentNotMaster,
-    Loop,
+    OffsetFrozen,
     Offset,
     Delay,
     Utc,
+    GrandmasterDoubtful,
     NotTraceable,
     UtcInvalid,
-    UtcOffset,
+    LeapFalse,
     Leap,
     BetterClock,
     Profile,
@@ -107,12 +114,13 @@ pub struct KindRow {
 
 impl Kind {
     /// All, in the order in which the findings of a clock are reported.
-    pub const ALL: [Kind; 36] = [
+    pub const ALL: [Kind; 42] = [
         Kind::Absent,
         Kind::Unexpected,
         Kind::NotAsExpected,
         Kind::Gone,
         Kind::OwnHost,
+        Kind::NotTaken,
         Kind::Mute,
         Kind::TwoGrandmasters,
         Kind::NoMaster,
@@ -124,17 +132,22 @@ impl Kind {
         Kind::Loop,
         Kind::PortState,
         Kind::NotLocked,
+        Kind::OffsetFrozen,
+        Kind::GrandmasterTime,
         Kind::OffByUtc,
         Kind::Offset,
         Kind::Delay,
         Kind::Utc,
         Kind::Intervals,
+        Kind::DelayMechanism,
+        Kind::GrandmasterDoubtful,
         Kind::Holdover,
         Kind::Degraded,
         Kind::FreeRunning,
         Kind::NotTraceable,
         Kind::UtcInvalid,
         Kind::UtcOffset,
+        Kind::LeapFalse,
         Kind::Leap,
         Kind::BetterClock,
         Kind::Profile,
@@ -171,6 +184,9 @@ impl Kind {
                 | Changed
                 | NotAsExpected
                 | Unexpected
+                | OffsetFrozen
+                | DelayMechanism
+                | LeapFalse
                 | Leap
                 | Profile
                 | OutOfReach
@@ -185,6 +201,7 @@ impl Kind {
         match self {
             Gone => ("gone", Critical, Steady),
             OwnHost => ("own_host", Warning, Steady),
+            NotTaken => ("not_taken", Warning, Moving),
             Mute => ("mute", Warning, Steady),
             Absent => ("absent", Critical, Steady),
             IdentityTwice => ("identity_twice", Critical, MovingOverTime),
@@ -193,6 +210,8 @@ impl Kind {
             Degraded => ("gm_degraded", Critical, Steady),
             FreeRunning => ("gm_free_running", Warning, Steady),
             Intervals => ("intervals", Warning, OverTime),
+            DelayMechanism => ("delay_mechanism", Warning, Steady),
+            GrandmasterDoubtful => ("gm_doubtful", Warning, Steady),
             PortState => ("port_state", Critical, MovingOverTime),
             NotLocked => ("not_locked", Critical, MovingOverTime),
             GrandmasterNotSeen => ("grandmaster_not_seen", Critical, Steady),
@@ -202,6 +221,8 @@ impl Kind {
             Changed => ("changed", Warning, Change),
             Steps => ("steps", Warning, Steady),
             GrandmasterDiffers => ("grandmaster_differs", Warning, Steady),
+            OffsetFrozen => ("offset_frozen", Critical, MovingOverTime),
+            GrandmasterTime => ("gm_time", Critical, Moving),
             OffByUtc => ("off_by_utc", Critical, Moving),
             NotAsExpected => ("not_as_expected", Warning, Steady),
             Unexpected => ("unexpected", Warning, Steady),
@@ -213,6 +234,7 @@ impl Kind {
             NotTraceable => ("not_traceable", Warning, Steady),
             UtcInvalid => ("utc_invalid", Warning, Steady),
             UtcOffset => ("utc_offset", Critical, Steady),
+            LeapFalse => ("leap_false", Critical, Steady),
             Leap => ("leap", Warning, Steady),
             BetterClock => ("better_clock", Warning, Steady),
             Profile => ("profile", Warning, Steady),
@@ -229,6 +251,7 @@ impl Kind {
             Gone => "The clock answered before, and answers no more.",
             OwnHost =>
                 "The clock is the host that asks, which does not hear itself at an interface.",
+            NotTaken => "The clock answers, and its answers were not taken.",
             Mute => "The clock sends messages of time, and answers no management message.",
             Absent => "The inventory names the clock, and it did not answer.",
             IdentityTwice => "Two clocks have one identity.",
@@ -237,6 +260,10 @@ impl Kind {
             Degraded => "The grandmaster has lost its source of time, and no longer keeps it well.",
             FreeRunning => "The grandmaster has no source of time.",
             Intervals => "A port and the one that it follows do not fit together.",
+            DelayMechanism =>
+                "A port measures its delay in another way than the one that it follows.",
+            GrandmasterDoubtful =>
+                "The grandmaster is of class 6, and says what a clock without a source says.",
             PortState => "A port is faulty, or stays on its way to another state.",
             NotLocked => "A port stays in UNCALIBRATED: it does not lock to its master.",
             GrandmasterNotSeen => "The grandmaster that the clock names did not answer.",
@@ -246,6 +273,8 @@ impl Kind {
             Changed => "The clock answered otherwise than before.",
             Steps => "Its stepsRemoved does not fit that of the clock that it follows.",
             GrandmasterDiffers => "What it says of its grandmaster is not what that one says.",
+            OffsetFrozen => "Its offset stays the same to the last digit: no Sync counts there.",
+            GrandmasterTime => "The grandmaster's time is not that of the host that asked.",
             OffByUtc => "TAI and UTC are taken for each other: the time is wrong by whole seconds.",
             NotAsExpected => "It is not as the inventory says.",
             Unexpected => "The inventory does not name the clock.",
@@ -255,8 +284,9 @@ impl Kind {
             Delay => "The delay to its master, or to its neighbour, is longer than is allowed.",
             Utc => "What it says of UTC is not what its grandmaster says.",
             NotTraceable => "The grandmaster does not say that its time can be traced to a source.",
-            UtcInvalid => "The grandmaster does not know how far TAI is before UTC.",
+            UtcInvalid => "The grandmaster does not know how far TAI is ahead of UTC.",
             UtcOffset => "The grandmaster says a wrong difference of TAI and UTC.",
+            LeapFalse => "The grandmaster announces a leap second that can't come.",
             Leap => "The grandmaster announces a leap second.",
             BetterClock => "A clock of a better class stands by, and does not lead.",
             Profile => "It is set to what the profile does not allow.",
@@ -291,6 +321,24 @@ impl Kind {
     }
 }
 
+static BY_REQUESTS: [Kind; 3] = [Kind::Gone, Kind::NotAsked, Kind::OutOfReach];
+
+static BY_TIMES: [Kind; 3] = [Kind::OffsetFrozen, Kind::GrandmasterTime, Kind::LeapFalse];
+
+static BY_SOURCES: [Kind; 1] = [Kind::IdentityTwice];
+
+static BY_SENDERS: [Kind; 1] = [Kind::Mute];
+
+/// The names of what can't be judged of lines that lack this, or not wholly.
+pub fn not_judged(lack: Lack) -> &'static [Kind] {
+    match lack {
+        Lack::Requests => &BY_REQUESTS,
+        Lack::Times => &BY_TIMES,
+        Lack::Sources => &BY_SOURCES,
+        Lack::Senders => &BY_SENDERS,
+    }
+}
+
 /// The name of what is wrong.
 pub(crate) fn kind_of(what: &What<'_>) -> Kind
     ensures { result ≡ kind_of what.now }
@@ -300,6 +348,7 @@ pub(crate) fn kind_of(what: &What<'_>) -> Kind
         What::Unexpected => Kind::Unexpected,
         What::NotAsExpected(_) | What::OtherLeaders(_) => Kind::NotAsExpected,
         What::Gone => Kind::Gone,
+        What::NotTaken(_) => Kind::NotTaken,
         What::Unseen(absence) => absence_kind(*absence),
         What::NotAsked(_) => Kind::NotAsked,
         What::TwoGrandmasters => Kind::TwoGrandmasters,
@@ -312,15 +361,20 @@ pub(crate) fn kind_of(what: &What<'_>) -> Kind
         What::Loop(_) => Kind::Loop,
         What::PortState(..) => Kind::PortState,
         What::NotLocked(..) => Kind::NotLocked,
+        What::OffsetFrozen(_) => Kind::OffsetFrozen,
+        What::GrandmasterTime(_) => Kind::GrandmasterTime,
         What::OffByUtc(_) => Kind::OffByUtc,
         What::Offset(_) => Kind::Offset,
         What::Delay(_) | What::LinkDelay(..) => Kind::Delay,
         What::Utc(_) => Kind::Utc,
-        What::Intervals(..) | What::Announces(..) => Kind::Intervals,
+        What::Intervals(..) => Kind::Intervals,
+        What::DelayMechanism(..) => Kind::DelayMechanism,
+        What::GrandmasterDoubtful(_) => Kind::GrandmasterDoubtful,
         What::Degraded(degraded) => degradation_kind(degraded.degradation),
         What::NotTraceable(_) => Kind::NotTraceable,
         What::UtcInvalid(_) => Kind::UtcInvalid,
         What::UtcOffset(_) => Kind::UtcOffset,
+        What::LeapFalse(_) => Kind::LeapFalse,
         What::Leap(_) => Kind::Leap,
         What::BetterClock(_) => Kind::BetterClock,
         What::Profile(_) => Kind::Profile,
@@ -328,9 +382,7 @@ pub(crate) fn kind_of(what: &What<'_>) -> Kind
         What::OutOfReach(_) => Kind::OutOfReach,
         What::GrandmasterChanged(_) => Kind::GrandmasterChanged,
         What::Changed(..) => Kind::Changed,
-        What::IdentityTwice(..) | What::TwoAddresses(_) | What::TwoOffsets(_) => {
-            Kind::IdentityTwice
-        }
+        What::IdentityTwice(_) => Kind::IdentityTwice,
     }
 }
 

@@ -6,10 +6,12 @@ use crate::kind::Kind;
 use crate::members::{is_by_handover, is_parent_identity, is_passed_on, is_quality};
 use ptpm_codec::ClockIdentity;
 use ptpm_members::Member;
+use ptpm_site::amounts::TooFarOff;
 use ptpm_site::expected::Unmet;
 use ptpm_site::finding::{Finding, What};
 use ptpm_site::grandmaster_changes::GrandmasterChange;
 use ptpm_site::grandmasters::Masterless;
+use ptpm_site::origin::TimeError;
 use ptpm_site::site::Site;
 use ptpm_site::source::Source;
 use ptpm_site::tai_and_utc::OffByUtc;
@@ -39,14 +41,55 @@ impl Found {
         self.first_of(&[
             at(Kind::Gone, source),
             at(Kind::Absent, source),
+            at(Kind::NotTaken, source),
             at(Kind::Mute, source),
             at(Kind::OwnHost, source),
         ])
     }
 
-    /// That a clock on the way to a grandmaster answers nothing.
+    /// That of a clock on the way to a grandmaster no answer comes.
     fn silent_cause(&self, source: Source) -> Option<Cause> {
-        self.first_of(&[at(Kind::Mute, source), at(Kind::OwnHost, source)])
+        self.first_of(&[
+            at(Kind::NotTaken, source),
+            at(Kind::Mute, source),
+            at(Kind::OwnHost, source),
+        ])
+    }
+
+    /// The loop in which the way of a clock ends, by parents.
+    fn loop_cause(&self, site: &Site, source: Source) -> Option<Cause> {
+        if !self.has_loops {
+            return None;
+        }
+        let mut here = source;
+        for _ in 0..LONGEST_WAY {
+            let cause = self.first_of(&[at(Kind::Loop, here)]);
+            if cause.is_some() {
+                return cause;
+            }
+            here = here.beside(site.followed(here)?.clock);
+        }
+        None
+    }
+
+    /// That two clocks have the identity of a clock, or else that of its parent, or else that of its grandmaster.
+    fn twin_cause(&self, site: &Site, source: Source) -> Option<Cause> {
+        let own = self.first_of(&[at(Kind::IdentityTwice, source)]);
+        if own.is_some() {
+            return own;
+        }
+        let parent = source.beside(site.followed(source)?.clock);
+        let grandmaster = source.beside(site.parent(source)?.grandmaster);
+        self.first_of(&[
+            at(Kind::IdentityTwice, parent),
+            at(Kind::IdentityTwice, grandmaster),
+        ])
+    }
+
+    /// The same, or else the loop in which its way ends.
+    fn misled_cause(&self, site: &Site, source: Source) -> Option<Cause> {
+        self.twin_cause(site, source)
+            .or(self.loop_cause(site, source))
     }
 
     /// `grandmaster_not_seen` of a clock that names this grandmaster.
@@ -54,27 +97,25 @@ impl Found {
         if let Some(cause) = self.unseen_cause(grandmaster) {
             return Some(cause);
         }
-        self.silent_cause(unseen_above(site, source)?)
+        match unseen_above(site, source) {
+            Some(above) => self.silent_cause(above),
+            None => self.loop_cause(site, source),
+        }
     }
 
     /// `parent_not_seen` of a clock whose parent this is.
     fn parent_cause(&self, parent: Source) -> Option<Cause> {
-        self.first_of(&[
-            at(Kind::Gone, parent),
-            at(Kind::Absent, parent),
-            at(Kind::Mute, parent),
-            at(Kind::OwnHost, parent),
-            at(Kind::GrandmasterNotSeen, parent),
-        ])
+        self.unseen_cause(parent)
+            .or(self.first_of(&[at(Kind::GrandmasterNotSeen, parent)]))
     }
 
-    /// That a grandmaster or a parent is lost.
-    fn lost_cause(&self, source: Source) -> Option<Cause> {
-        self.first_of(&[
-            at(Kind::Gone, source),
-            at(Kind::Absent, source),
-            at(Kind::GrandmasterNotSeen, source),
-        ])
+    /// That a grandmaster or a parent of a clock is lost. That it is not seen as a grandmaster counts if that follows from nothing.
+    fn lost_cause(&self, site: &Site, source: Source, above: Source) -> Option<Cause> {
+        let lost = self.first_of(&[at(Kind::Gone, above), at(Kind::Absent, above)]);
+        if lost.is_some() || self.grandmaster_cause(site, source, above).is_some() {
+            return lost;
+        }
+        self.first_of(&[at(Kind::GrandmasterNotSeen, above)])
     }
 
     /// `parent_not_seen` of the clock, if that follows from nothing.
@@ -93,13 +134,18 @@ impl Found {
         source: Source,
         grandmaster: ClockIdentity,
     ) -> Option<Cause> {
-        let of_port = self.first_of(&[at(Kind::Intervals, source), at(Kind::PortState, source)]);
-        let of_grandmaster = self.lost_cause(source.beside(grandmaster));
+        let of_port = self.first_of(&[
+            at(Kind::Intervals, source),
+            at(Kind::DelayMechanism, source),
+            at(Kind::PortState, source),
+        ]);
+        let of_grandmaster = self.lost_cause(site, source, source.beside(grandmaster));
         if let Some(cause) = of_port.or(of_grandmaster) {
             return Some(cause);
         }
         let parent = source.beside(site.followed(source)?.clock);
-        self.lost_cause(parent).or(self.parent_lost(source, parent))
+        self.lost_cause(site, source, parent)
+            .or(self.parent_lost(source, parent))
     }
 
     fn masterless_cause(&self, site: &Site, source: Source, why: Masterless) -> Option<Cause> {
@@ -120,6 +166,7 @@ impl Found {
         if self.is_by_itself(source, change) {
             self.first_of(&[
                 at(Kind::Intervals, source),
+                at(Kind::DelayMechanism, source),
                 at(Kind::NoMaster, source),
                 at(Kind::NotLocked, source),
             ])
@@ -170,13 +217,33 @@ impl Found {
     }
 
     fn change_cause(&self, site: &Site, source: Source, member: Member) -> Option<Cause> {
-        if let Some(cause) = self.first_of(&[at(Kind::IdentityTwice, source)]) {
+        if let Some(cause) = self.twin_cause(site, source) {
             return Some(cause);
         }
         let grandmaster = source.beside(site.parent(source)?.grandmaster);
         let is_own = site.is_own_grandmaster(source);
         self.moved_cause(source, member, grandmaster)
             .or(self.given_cause(source, member, grandmaster, is_own))
+    }
+
+    /// `offset`, of a clock that follows another or of its grandmaster.
+    fn far_cause(&self, site: &Site, source: Source, offset: TooFarOff) -> Option<Cause> {
+        match offset {
+            TooFarOff::Own(_) => {
+                let parent = source.beside(site.followed(source)?.clock);
+                self.first_of(&[at(Kind::OffsetFrozen, source), at(Kind::Offset, parent)])
+            }
+            TooFarOff::Followers(_) => self.first_of(&[at(Kind::GrandmasterTime, source)]),
+        }
+    }
+
+    /// `gm_time` of a clock that says a wrong difference of TAI and UTC, if its UTC is right by that.
+    fn time_cause(&self, source: Source, error: &TimeError) -> Option<Cause> {
+        if error.has_right_utc {
+            self.first_of(&[at(Kind::UtcOffset, source)])
+        } else {
+            None
+        }
     }
 
     /// `off_by_utc` of a clock whose grandmaster gives the wrong time to all.
@@ -201,17 +268,30 @@ impl Found {
 
     fn reason_of(&self, site: &Site, source: Source, what: &What<'_>) -> Option<Cause> {
         match what {
-            What::Absent(_) => self.first_of(&[at(Kind::Gone, source)]),
+            What::Absent(_) => self.first_of(&[at(Kind::NotTaken, source), at(Kind::Gone, source)]),
+            What::Gone => self.first_of(&[at(Kind::NotTaken, source)]),
             What::NotAsExpected(unmet) => self.unmet_cause(source, unmet),
             What::NoMaster(why) => self.masterless_cause(site, source, *why),
             What::GrandmasterNotSeen(clock) => {
                 self.grandmaster_cause(site, source, source.beside(*clock))
             }
             What::ParentNotSeen(port) => self.parent_cause(source.beside(port.clock)),
-            What::TwoGrandmasters | What::Steps(_) | What::GrandmasterDiffers(_) => {
-                self.first_of(&[at(Kind::IdentityTwice, source)])
+            What::TwoGrandmasters | What::Incomplete(_) => self.twin_cause(site, source),
+            What::ParentNotMaster(..)
+            | What::Steps(_)
+            | What::GrandmasterDiffers(_)
+            | What::Utc(_) => self.misled_cause(site, source),
+            What::NotLocked(..) => {
+                self.first_of(&[
+                    at(Kind::Intervals, source),
+                    at(Kind::DelayMechanism, source),
+                ])
             }
-            What::NotLocked(..) => self.first_of(&[at(Kind::Intervals, source)]),
+            What::Offset(offset) => self.far_cause(site, source, *offset),
+            What::Delay(_) | What::LinkDelay(..) => {
+                self.first_of(&[at(Kind::OffsetFrozen, source)])
+            }
+            What::GrandmasterTime(error) => self.time_cause(source, error),
             What::OffByUtc(how) => self.offset_cause(site, source, *how),
             What::Degraded(_) => self.first_of(&[at(Kind::TwoGrandmasters, source)]),
             What::GrandmasterChanged(change) => self.handover_cause(source, change),

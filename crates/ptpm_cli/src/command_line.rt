@@ -192,7 +192,7 @@ static SITE: [Argument; 16] = [
     Argument(
         "tai-utc",
         Number("S", I16),
-        "TAI is S seconds before UTC, 37 if it is not given",
+        "TAI is S seconds ahead of UTC, 37 if it is not given",
     ),
     Argument(
         "settle",

@@ -22,7 +22,7 @@ use std::str::FromStr;
 /// A millisecond, in nanoseconds.
 const MILLISECOND: u64 = 1_000_000;
 
-/// How many seconds TAI is before UTC, since 2017.
+/// How many seconds TAI is ahead of UTC, since 2017.
 const TAI_UTC: i16 = 37;
 
 /// How many seconds a port may take to settle without `--settle` (this project's profile).

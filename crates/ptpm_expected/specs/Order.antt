@@ -15,9 +15,7 @@ place_of (what.Incomplete missing) = 5
 place_of (what.OutOfReach hops) = 5
 place_of (what.GrandmasterChanged change) = 5
 place_of (what.Changed port change) = 5
-place_of (what.IdentityTwice port change) = 5
-place_of (what.TwoAddresses two) = 5
-place_of (what.TwoOffsets offsets) = 5
+place_of (what.IdentityTwice twice) = 5
 place_of _ = 3
 
 -- by what findings are sorted: the clock, by domain and identity, and the place

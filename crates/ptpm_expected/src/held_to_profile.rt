@@ -5,6 +5,7 @@ use crate::order::put_in_order;
 use crate::profile::Profile;
 use ptpm_site::evidence::Evidence;
 use ptpm_site::finding::{Finding, What};
+use ptpm_site::leaders::leaders_of;
 use ptpm_site::leading::Degradation;
 use ptpm_site::site::Site;
 use ptpm_site::source::Source;
@@ -20,7 +21,8 @@ fn is_shown(profile: Profile, what: &What<'_>) -> bool {
     }
 }
 
-/// Adds what a profile does not allow to the findings of a site, and takes away what it allows. `sources` has all clocks.
+/// Adds what a profile does not allow to the findings of a site, and takes away what it allows. `sources` has all clocks
+/// that are seen.
 pub fn hold_to_profile(
     alloc: Global,
     site: &Site,
@@ -30,6 +32,15 @@ pub fn hold_to_profile(
 ) -> Result<(), AllocError> {
     findings.retain(|finding| is_shown(profile, &finding.what));
     let evidence = Evidence::of(alloc, site.all_heard())?;
-    judge_profile(alloc, site, &evidence, profile, sources, findings)?;
+    let leaders = leaders_of(alloc, site)?;
+    judge_profile(
+        alloc,
+        site,
+        &evidence,
+        profile,
+        sources,
+        leaders.as_slice(),
+        findings,
+    )?;
     put_in_order(findings)
 }

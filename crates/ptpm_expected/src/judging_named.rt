@@ -3,7 +3,7 @@
 use crate::descriptions::Descriptions;
 use crate::inventory::Entry;
 use crate::named::Named;
-use crate::senders::announcing;
+use crate::senders::unseen_clocks;
 use ptpm_site::finding::{Added, Finding, What, add_finding};
 use ptpm_site::site::Site;
 use ptpm_site::source::Source;
@@ -27,7 +27,8 @@ pub(crate) fn judge_absent<'a>(
     Ok(())
 }
 
-/// Adds a finding for each clock of a closed domain that is seen or announces, and is not named. `sources` has all clocks.
+/// Adds a finding for each clock of a closed domain that is seen, announces, or gave answers that were not taken, and is not
+/// named. `sources` has all clocks that are seen.
 pub(crate) fn judge_unexpected(
     alloc: Global,
     site: &Site,
@@ -38,10 +39,8 @@ pub(crate) fn judge_unexpected(
     for source in sources {
         judge_unexpected_at(named, *source, findings)?;
     }
-    for sender in announcing(alloc, site)? {
-        if !site.is_seen(sender) {
-            judge_unexpected_at(named, sender, findings)?;
-        }
+    for source in unseen_clocks(alloc, site)? {
+        judge_unexpected_at(named, source, findings)?;
     }
     Ok(())
 }

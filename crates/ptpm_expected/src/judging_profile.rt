@@ -5,18 +5,20 @@ use crate::profile::Profile;
 use ptpm_site::evidence::Evidence;
 use ptpm_site::expected::Outside;
 use ptpm_site::finding::{Added, Finding, What, add_finding};
+use ptpm_site::leaders::Leader;
 use ptpm_site::site::Site;
 use ptpm_site::source::Source;
 use std::alloc::Global;
 
 /// Adds what a profile does not allow at these clocks, after all earlier findings. For each clock its own members come first:
-/// those of DEFAULT_DATA_SET, and ptpTimescale. Then come its ports.
+/// those of DEFAULT_DATA_SET, and ptpTimescale. Then come its ports. Of one that leads and is not seen only ptpTimescale is known.
 pub fn judge_profile(
     alloc: Global,
     site: &Site,
     evidence: &Evidence,
     profile: Profile,
     sources: &[Source],
+    leaders: &[Leader],
     findings: &mut Vec<Finding<'_>>,
 ) -> Added {
     for source in sources {
@@ -25,12 +27,23 @@ pub fn judge_profile(
             let outside = clock_outside(profile, source.domain, &default);
             add_outside(findings, source, &outside)?;
         }
-        add_outside(findings, source, &[timescale_outside(site, source)])?;
+        add_outside(findings, source, &[timescale_of(leaders, source)])?;
         for port in site.ports(alloc, source)? {
             judge_port(site, evidence, profile, source, port, findings)?;
         }
     }
+    for leader in leaders {
+        if !site.is_seen(leader.source) {
+            add_outside(findings, leader.source, &[timescale_outside(leader)])?;
+        }
+    }
     Ok(())
+}
+
+/// ptpTimescale of a clock, if it is one of these that lead, and it is not allowed.
+fn timescale_of(leaders: &[Leader], source: Source) -> Option<Outside> {
+    let leader = leaders.iter().find(|leader| leader.source == source)?;
+    timescale_outside(leader)
 }
 
 /// The members of a port that takes part.

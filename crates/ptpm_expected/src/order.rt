@@ -22,9 +22,7 @@ fn place_of(what: &What<'_>) -> u8
         | What::OutOfReach(_)
         | What::GrandmasterChanged(_)
         | What::Changed(..)
-        | What::IdentityTwice(..)
-        | What::TwoAddresses(_)
-        | What::TwoOffsets(_) => 5,
+        | What::IdentityTwice(_) => 5,
         _ => 3,
     }
 }

@@ -16,6 +16,7 @@ use ptpm_site::data_sets::{DefaultDataSet, PortDataSet};
 use ptpm_site::domain::Domain;
 use ptpm_site::evidence::Evidence;
 use ptpm_site::expected::{Allowed, Outside};
+use ptpm_site::leaders::Leader;
 use ptpm_site::site::Site;
 use ptpm_site::source::Source;
 
@@ -54,14 +55,10 @@ pub fn clock_outside(
     ]
 }
 
-/// ptpTimescale of a clock that is seen, leads, and has, or had, a primary source of time, if it is false.
-pub fn timescale_outside(site: &Site, source: Source) -> Option<Outside> {
-    if !site.leads_by_answers(source) {
-        return None;
-    }
-    let class = site.default(source)?.quality.class;
-    let time = site.time(source)?;
-    if class != 6 && class != 7 || time.ptp_timescale {
+/// ptpTimescale of a clock that leads and has, or had, a primary source of time, if it is false.
+pub fn timescale_outside(leader: &Leader) -> Option<Outside> {
+    let class = leader.quality()?.class;
+    if class != 6 && class != 7 || leader.time?.ptp_timescale {
         return None;
     }
     Some(Outside {

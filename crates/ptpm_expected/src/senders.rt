@@ -1,4 +1,4 @@
-//! The clocks that send by themselves.
+//! The clocks that send by themselves, or answer and are not seen.
 
 use ptpm_site::heard::{ANNOUNCE, DELAY_REQ, Heard};
 use ptpm_site::site::Site;
@@ -19,15 +19,24 @@ pub(crate) fn giving(alloc: Global, site: &Site) -> Result<BTreeSet<Source>, All
     Ok(set)
 }
 
-/// The clocks that send Announce, by domain and then by identity.
-pub(crate) fn announcing(alloc: Global, site: &Site) -> Result<Vec<Source>, AllocError> {
+/// The clocks that send Announce or whose answers were not taken, by domain and then by identity. All but those that are seen.
+pub(crate) fn unseen_clocks(alloc: Global, site: &Site) -> Result<Vec<Source>, AllocError> {
     let mut set = BTreeSet::new(alloc);
     for one in site.all_heard() {
-        if let Heard::Sent(sender) = one {
-            if sender.kind == ANNOUNCE {
-                set.insert(sender.source)?;
+        if let Some(source) = shown_by(one) {
+            if !site.is_seen(source) {
+                set.insert(source)?;
             }
         }
     }
     set.iter().copied().collect(alloc)
+}
+
+/// The clock that sends an Announce, or an answer that was not taken.
+fn shown_by(one: &Heard) -> Option<Source> {
+    match one {
+        Heard::Sent(sender) if sender.kind == ANNOUNCE => Some(sender.source),
+        Heard::Untaken(answer) => Some(answer.source),
+        _ => None,
+    }
 }

@@ -4,7 +4,7 @@ use crate::inventory::{Entry, Inventory, MemberRule, Presence, Rule};
 use crate::judging_inventory::leading_in;
 use crate::meeting::rule_value;
 use crate::ranges::PORT_MEMBERS;
-use crate::senders::announcing;
+use crate::senders::unseen_clocks;
 use ptpm_codec::ClockIdentity;
 use ptpm_data::Member::{ParentPort, Priority1, Priority2, UserDescription};
 use ptpm_members::Member::DataSet;
@@ -30,11 +30,11 @@ const CLOCK_MEMBERS: [Member; 7] = [
     DataSet(ParentPort),
 ];
 
-/// The inventory of a site: of each domain who leads, that no other clock is there, and its clocks. A clock that announces and is
-/// not seen is optional. By this inventory nothing is found of the site.
+/// The inventory of a site: of each domain who leads, that no other clock is there, and its clocks. A clock that is
+/// not seen, and announces or gave answers that were not taken, is optional. By this inventory nothing is found of the site.
 pub fn inventory_of(alloc: Global, site: &Site) -> Result<Inventory, AllocError> {
     let sources = site.sources(alloc)?;
-    let senders = announcing(alloc, site)?;
+    let unseen = unseen_clocks(alloc, site)?;
     let leaders = leaders_of(alloc, site)?;
     let mut entries = Vec::new(alloc);
     for domain in domains_of(alloc, sources.as_slice())? {
@@ -42,7 +42,7 @@ pub fn inventory_of(alloc: Global, site: &Site) -> Result<Inventory, AllocError>
         add_leaders(alloc, domain, leading, &mut entries)?;
         let rule = Rule::Only;
         entries.push(Entry { domain, rule })?;
-        add_excused(site, domain, senders.as_slice(), &mut entries)?;
+        add_excused(domain, unseen.as_slice(), &mut entries)?;
         add_clocks(alloc, site, domain, sources.as_slice(), &mut entries)?;
     }
     Ok(Inventory { entries })
@@ -74,10 +74,10 @@ fn add_leaders(
     Ok(())
 }
 
-/// Adds the clocks of a domain that announce and are not seen.
-fn add_excused(site: &Site, domain: Domain, senders: &[Source], entries: &mut Vec<Entry>) -> Added {
-    for source in senders {
-        if source.domain == domain && !site.is_seen(*source) {
+/// Adds those of these clocks that are of a domain, as optional.
+fn add_excused(domain: Domain, clocks: &[Source], entries: &mut Vec<Entry>) -> Added {
+    for source in clocks {
+        if source.domain == domain {
             let rule = Rule::Clock(source.clock, Presence::Optional);
             entries.push(Entry { domain, rule })?;
         }

@@ -32,6 +32,18 @@ pub fn six() -> [Asked; 6] {
     ]
 }
 
+/// The six, by their managementIds.
+pub fn by_number() -> [Asked; 6] {
+    [
+        Asked::UserDescription,
+        Asked::DefaultDataSet,
+        Asked::CurrentDataSet,
+        Asked::ParentDataSet,
+        Asked::TimePropertiesDataSet,
+        Asked::PortDataSet,
+    ]
+}
+
 impl Asked {
     /// The id of the six with this managementId, or `None` for any other managementId.
     pub fn of_id(id: u16) -> Option<Asked> {

@@ -11,8 +11,6 @@ pub enum Compared {
     Grandmaster,
     /// Its grandmaster: what both say of UTC.
     Time,
-    /// Its port of this number, compared with the port that it follows.
-    Port(u16),
 }
 
 impl Compared {
@@ -21,7 +19,6 @@ impl Compared {
         match self {
             Compared::Grandmaster => What::GrandmasterDiffers(differs),
             Compared::Time => What::Utc(differs),
-            Compared::Port(number) => What::Intervals(number, differs),
         }
     }
 }

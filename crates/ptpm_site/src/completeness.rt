@@ -1,6 +1,7 @@
 //! What a clock did not answer.
 
 use crate::asked::{Asked, six};
+use crate::evidence::Evidence;
 use crate::site::Site;
 use crate::source::Source;
 use std::alloc::{AllocError, Global};
@@ -40,31 +41,38 @@ pub struct Missing {
     pub ports: Vec<(u16, u16)>,
 }
 
-/// What a clock neither answered nor refused, or `None` if there is nothing. `ports` are its ports that answered.
+/// What a clock was asked for, and neither answered nor refused, or `None` if there is nothing. `ports` are its ports that answered.
 pub fn missing_answers(
     alloc: Global,
     site: &Site,
+    evidence: &Evidence,
     source: Source,
     ports: &[u16],
 ) -> Result<Option<Missing>, AllocError> {
-    let asked = missing_ids(alloc, site, source, &six())?;
-    let ports = missing_ports(alloc, ports, site.last_port(source))?;
+    let asked = missing_ids(alloc, site, evidence, source, &six())?;
+    let last = if evidence.was_asked_for(source, Asked::PortDataSet) {
+        site.last_port(source)
+    } else {
+        0
+    };
+    let ports = missing_ports(alloc, ports, last)?;
     if asked.as_slice().is_empty() && ports.as_slice().is_empty() {
         return Ok(None);
     }
     Ok(Some(Missing { asked, ports }))
 }
 
-/// Those of these ids that the clock neither answered nor refused.
+/// Those of these ids that the clock was asked for, and neither answered nor refused.
 fn missing_ids(
     alloc: Global,
     site: &Site,
+    evidence: &Evidence,
     source: Source,
     ids: &[Asked],
 ) -> Result<Vec<Asked>, AllocError> {
     let mut missing = Vec::new(alloc);
     for id in ids {
-        if site.lacks(source, *id) {
+        if evidence.was_asked_for(source, *id) && site.lacks(source, *id) {
             missing.push(*id)?;
         }
     }

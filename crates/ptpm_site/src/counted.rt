@@ -48,10 +48,11 @@ fn counted(
     Ok(found)
 }
 
-/// The clock that sent a message by itself.
+/// The clock that sent a message by itself, or an answer that was not taken.
 fn sent_by(one: &Heard) -> Option<Source> {
     match one {
         Heard::Sent(sender) => Some(sender.source),
+        Heard::Untaken(answer) => Some(answer.source),
         Heard::Timed(origin) => Some(origin.source),
         Heard::Announces(announced) => Some(announced.port.source),
         _ => None,

@@ -6,7 +6,8 @@ use crate::arrival::{Way, arrival_in};
 use crate::heard::Heard;
 use crate::origin::origin_in;
 use crate::site::Site;
-use ptpm_codec::view;
+use crate::untaken::{Untaken, untaken_in};
+use ptpm_codec::{ClockIdentity, view};
 use std::alloc::{AllocError, Global};
 
 impl Site {
@@ -18,19 +19,48 @@ impl Site {
         at: Option<u64>,
         datagram: &[u8],
     ) -> Result<(), AllocError> {
+        self.shown.add_time(at);
         self.take_answer(alloc, at, datagram)?;
         self.hear(at, datagram)
     }
 
+    /// Takes a datagram that the collector did not take: only its time counts, and which clock answered. A line says why it was not
+    /// taken, by a word, and it may say from which address it came.
+    pub fn take_untaken(
+        &mut self,
+        alloc: Global,
+        at: Option<u64>,
+        why: &str,
+        from: Option<&str>,
+        datagram: &[u8],
+    ) -> Result<(), AllocError> {
+        self.shown.add_time(at);
+        let Some(why) = Untaken::of_word(why) else {
+            return Ok(());
+        };
+        let from = match from {
+            Some(text) => Some(self.words.number_of(alloc, text)?),
+            None => None,
+        };
+        self.keep(untaken_in(why, from, at, datagram).map(Heard::Untaken))
+    }
+
+    /// Takes a clockIdentity that an interface of the host that asks would have.
+    pub fn take_host(&mut self, clock: ClockIdentity) -> Result<(), AllocError> {
+        self.keep(Some(Heard::Host(clock)))
+    }
+
     /// Takes what a datagram shows beside what an answer says.
     fn hear(&mut self, at: Option<u64>, datagram: &[u8]) -> Result<(), AllocError> {
-        self.keep(Heard::of(datagram))?;
+        let heard = Heard::of(at, datagram);
+        self.shown.add(&heard);
+        self.keep(heard)?;
         self.keep(origin_in(at, datagram).map(Heard::Timed))?;
         self.keep(announced_in(datagram).map(Heard::Announces))
     }
 
     /// Keeps from which address the answer came that a datagram is, and at which interface. If the line of the datagram says no
-    /// interface it is the empty one.
+    /// interface it is the empty one. An address with a slash is a Unix socket: that clock is of the host that asks.
     pub fn take_arrival(
         &mut self,
         alloc: Global,
@@ -38,6 +68,12 @@ impl Site {
         on: &str,
         datagram: &[u8],
     ) -> Result<(), AllocError> {
+        if let Some(clock) = answering_clock(datagram) {
+            self.shown.sources = true;
+            if from.contains('/') {
+                self.take_host(clock)?;
+            }
+        }
         let from = self.words.number_of(alloc, from)?;
         let on = self.words.number_of(alloc, on)?;
         self.keep_arrival(Way { from, on }, datagram)
@@ -70,5 +106,13 @@ impl Site {
             Some(answer) => self.take(alloc, answer),
             None => Ok(()),
         }
+    }
+}
+
+/// The clock that answers one of the six ids by a datagram.
+fn answering_clock(datagram: &[u8]) -> Option<ClockIdentity> {
+    match Heard::of(None, datagram) {
+        Some(Heard::Answered(travel)) => Some(travel.source.clock),
+        _ => None,
     }
 }

@@ -1,8 +1,11 @@
 //! The members in which a clock differs from its grandmaster or from the port that it follows.
 
+use crate::announcing::takes_time;
 use crate::data_sets::{DefaultDataSet, ParentDataSet, PortDataSet, TimePropertiesDataSet};
+use crate::site::Site;
+use crate::source::Source;
+use ptpm_codec::PortIdentity;
 use ptpm_data::Member::*;
-use ptpm_data::PortSetting;
 use ptpm_members::{Enumeration, Member, MemberValue};
 
 /// A member in which two clocks differ, with both values.
@@ -98,17 +101,31 @@ pub fn utc_differs(
     ]
 }
 
-/// delayMechanism, if one port measures the delay from end to end and the other that of the link. No other
-/// pair counts as different.
-pub fn mechanism_differs(own: &PortDataSet, parent: &PortDataSet) -> Option<Differs> {
-    if own.measures_link() && parent.measures_end_to_end()
+/// The delayMechanism of a port, and that of the port that it follows.
+#[derive(Clone, Copy)]
+pub struct OtherMechanism {
+    pub own: MemberValue<'static>,
+    pub parent: PortIdentity,
+    pub expected: MemberValue<'static>,
+}
+
+/// Whether one port measures the delay from end to end, and the other that of the link. No other pair counts as different.
+fn measures_otherwise(own: &PortDataSet, parent: &PortDataSet) -> bool {
+    own.measures_link() && parent.measures_end_to_end()
         || own.measures_end_to_end() && parent.measures_link()
-    {
-        return Some(Differs {
-            member: Member::DataSet(Setting(PortSetting::DelayMechanism)),
-            own: MemberValue::Named(Enumeration::DelayMechanism, own.delay_mechanism),
-            other: MemberValue::Named(Enumeration::DelayMechanism, parent.delay_mechanism),
-        });
+}
+
+/// How a port measures the delay, if the port that it takes time from does it in the other way.
+pub fn other_mechanism(site: &Site, source: Source, port: u16) -> Option<OtherMechanism> {
+    let parent = site.parent(source)?.parent;
+    let own = site.port(source, port)?;
+    let above = site.port(source.beside(parent.clock), parent.port)?;
+    if !takes_time(site, source, &own) || !measures_otherwise(&own, &above) {
+        return None;
     }
-    None
+    Some(OtherMechanism {
+        own: MemberValue::Named(Enumeration::DelayMechanism, own.delay_mechanism),
+        parent,
+        expected: MemberValue::Named(Enumeration::DelayMechanism, above.delay_mechanism),
+    })
 }

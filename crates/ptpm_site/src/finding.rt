@@ -1,21 +1,24 @@
 //! Findings.
 
+use crate::amounts::TooFarOff;
 use crate::announcing::Seldom;
 use crate::changes::Change;
 use crate::completeness::Missing;
-use crate::differences::Differs;
+use crate::differences::{Differs, OtherMechanism};
 use crate::expected::{OtherLeaders, Outside, Unmet};
+use crate::frozen::FrozenOffset;
 use crate::grandmaster_changes::GrandmasterChange;
 use crate::grandmasters::Masterless;
-use crate::leading::{Better, Degraded, Leap, Untraceable, WrongOffset};
+use crate::leading::{Better, Degraded, Doubtful, FalseLeap, Leap, Untraceable, WrongOffset};
+use crate::origin::TimeError;
 use crate::parents::{NoMaster, Steps};
 use crate::source::Source;
 use crate::stay::Stay;
 use crate::staying::Unlocked;
 use crate::tai_and_utc::OffByUtc;
-use crate::two_addresses::TwoAddresses;
-use crate::two_offsets::TwoOffsets;
+use crate::twice::Twice;
 use crate::unseen::Absence;
+use crate::untaken::NotTaken;
 use ptpm_codec::{ClockIdentity, PortIdentity};
 use std::alloc::AllocError;
 
@@ -39,6 +42,8 @@ pub enum What<'a> {
     OtherLeaders(OtherLeaders<'a>),
     /// It answered, and not to the last request to all clocks.
     Gone,
+    /// It is not seen, and its answers were not taken.
+    NotTaken(NotTaken<'a>),
     /// It is not seen, and a clock names it or it sends by itself.
     Unseen(Absence),
     /// Its domain was not asked. It is the first of this many clocks that send there.
@@ -64,20 +69,26 @@ pub enum What<'a> {
     PortState(u16, Stay),
     /// A port stays in UNCALIBRATED for too long.
     NotLocked(u16, Unlocked),
+    /// A port in SLAVE, and its offsetFromMaster stays the same.
+    OffsetFrozen(FrozenOffset),
+    /// It leads, and its time is not that of the host that asks.
+    GrandmasterTime(TimeError),
     /// It takes TAI and UTC for each other, or all clocks that follow it do.
     OffByUtc(OffByUtc),
-    /// offsetFromMaster is beyond the limit.
-    Offset(i64),
+    /// Its offsetFromMaster is beyond the limit, or it leads and those of all clocks that follow it are.
+    Offset(TooFarOff),
     /// meanDelay is beyond the limit.
     Delay(i64),
     /// meanLinkDelay of a port is beyond the limit.
     LinkDelay(u16, i64),
     /// What it says of UTC differs from what its grandmaster says.
     Utc(Differs),
-    /// A port differs from the port that it follows.
-    Intervals(u16, Differs),
     /// The port that a port follows announces too seldom for it.
-    Announces(u16, Seldom),
+    Intervals(u16, Seldom),
+    /// A port measures the delay in another way than the port that it follows.
+    DelayMechanism(u16, OtherMechanism),
+    /// It leads, says that it is locked to its source of time, and says what a clock without a source says.
+    GrandmasterDoubtful(Doubtful),
     /// It leads, and is without its source of time.
     Degraded(Degraded),
     /// It leads, and does not say that its time and its frequency are traceable.
@@ -86,6 +97,8 @@ pub enum What<'a> {
     UtcInvalid(i16),
     /// It leads, and its currentUtcOffset is not the difference of TAI and UTC.
     UtcOffset(WrongOffset),
+    /// It leads, and announces a leap second that can't come.
+    LeapFalse(FalseLeap),
     /// It leads, and announces a leap second.
     Leap(Leap),
     /// It leads, and there is a clock of a better class that does not.
@@ -100,12 +113,8 @@ pub enum What<'a> {
     GrandmasterChanged(GrandmasterChange),
     /// Answers to two requests differ.
     Changed(Option<u16>, Change<'a>),
-    /// Answers to one request differ.
-    IdentityTwice(Option<u16>, Change<'a>),
-    /// Answers of one port to one request came from two addresses.
-    TwoAddresses(TwoAddresses<'a>),
-    /// Answers to one request have two offsets, in the last look and in the one before.
-    TwoOffsets(TwoOffsets),
+    /// Answers to one request differ, or came from two addresses.
+    IdentityTwice(Twice<'a>),
 }
 
 /// Whether findings were added: not if memory is refused.

@@ -1,5 +1,6 @@
 //! Who follows whom.
 
+use crate::port_groups::PortGroup;
 use crate::site::Site;
 use crate::source::Source;
 use ptpm_codec::PortIdentity;
@@ -13,11 +14,23 @@ impl Site {
         }
     }
 
-    /// The port that a clock follows. `None` if it is its own grandmaster, or did not answer
+    /// Whether a clock stands by: each of its ports answered, one is in PASSIVE, and none gives or takes time. State decisions P1 and P2
+    /// write no data set (9.3.5): what it says of its parent, its offset and UTC was so before.
+    pub fn is_on_standby(&self, source: Source) -> bool {
+        let Some(default) = self.default(source) else {
+            return false;
+        };
+        default.quality.class < 128
+            && self.has_port_of(source, PortGroup::Passive)
+            && !self.has_port_of(source, PortGroup::Active)
+            && self.has_ports_to(source, default.number_of_ports)
+    }
+
+    /// The port that a clock follows. `None` if it is its own grandmaster, stands by, or did not answer
     /// PARENT_DATA_SET.
     pub fn followed(&self, source: Source) -> Option<PortIdentity> {
         let set = self.parent(source)?;
-        if set.grandmaster == source.clock {
+        if set.grandmaster == source.clock || self.is_on_standby(source) {
             None
         } else {
             Some(set.parent)

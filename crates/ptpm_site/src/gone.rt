@@ -33,7 +33,7 @@ fn present_set(
     let mut singles = BTreeSet::new(alloc);
     for one in heard {
         if let Heard::Asked(query) = one {
-            if !query.is_to_all {
+            if !query.is_to_all() {
                 singles.insert(query.request)?;
             }
         }

@@ -81,10 +81,10 @@ fn masterless_follower(
     Some(Masterless::Lost(grandmaster))
 }
 
-/// The grandmaster that a clock names, if that one is not seen.
+/// The grandmaster that a clock names, if that one is not seen. `None` if the clock stands by.
 pub fn unseen_grandmaster(site: &Site, source: Source) -> Option<ClockIdentity> {
     let parent = site.parent(source)?;
-    if site.is_seen(source.beside(parent.grandmaster)) {
+    if site.is_seen(source.beside(parent.grandmaster)) || site.is_on_standby(source) {
         None
     } else {
         Some(parent.grandmaster)

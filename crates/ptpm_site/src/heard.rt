@@ -10,6 +10,7 @@ use crate::domain::Domain;
 use crate::numbers::flag_at;
 use crate::origin::Origin;
 use crate::source::Source;
+use crate::untaken::UntakenAnswer;
 use ptpm_codec::{Action, ClockIdentity, PortIdentity, View, port_identity_at, view};
 
 /// A GET of one of the six ids.
@@ -17,12 +18,21 @@ use ptpm_codec::{Action, ClockIdentity, PortIdentity, View, port_identity_at, vi
 pub struct Query {
     pub domain: Domain,
     pub asked: Asked,
-    /// Whether all ports of all clocks are asked.
-    pub is_to_all: bool,
+    /// The port that is asked.
+    pub target: PortIdentity,
     /// Who asks, and with which sequenceId.
     pub request: Request,
     /// startingBoundaryHops.
     pub hops: u8,
+    /// When it was sent, in nanoseconds since 1970. `None` if that is not known.
+    pub at: Option<u64>,
+}
+
+impl Query {
+    /// Whether all ports of all clocks are asked.
+    pub fn is_to_all(&self) -> bool {
+        self.target.clock == ClockIdentity::EVERY && self.target.port == PortIdentity::EVERY_PORT
+    }
 }
 
 /// An answer on its way.
@@ -52,6 +62,10 @@ pub enum Heard {
     Asked(Query),
     /// An answer to a GET.
     Answered(Travel),
+    /// An answer that was not taken.
+    Untaken(UntakenAnswer),
+    /// A clock of the host that asks.
+    Host(ClockIdentity),
     /// An Announce, Sync, Follow_Up or Delay_Req.
     Sent(Sender),
     /// What time its sender had.
@@ -63,10 +77,10 @@ pub enum Heard {
 }
 
 impl Heard {
-    /// What a datagram shows. `None` if it is none of these.
-    pub fn of(datagram: &[u8]) -> Option<Heard> {
+    /// What a datagram shows that came or was sent at a time, in nanoseconds since 1970. `None` if it is none of these.
+    pub fn of(at: Option<u64>, datagram: &[u8]) -> Option<Heard> {
         match view(datagram) {
-            Ok(message) => heard_of(&message),
+            Ok(message) => heard_of(at, &message),
             Err(_) => sent_in(datagram),
         }
     }
@@ -78,30 +92,26 @@ fn sent_in(datagram: &[u8]) -> Option<Heard> {
 }
 
 /// What a management message shows.
-fn heard_of(message: &View<'_>) -> Option<Heard> {
+fn heard_of(at: Option<u64>, message: &View<'_>) -> Option<Heard> {
     let asked = Asked::of_id(message.id())?;
     match message.action() {
-        Action::Get => Some(Heard::Asked(get_in(asked, message))),
+        Action::Get => Some(Heard::Asked(get_in(asked, at, message))),
         Action::Response => Some(Heard::Answered(travel_in(asked, message))),
         _ => None,
     }
 }
 
-/// Whether all ports of all clocks are meant.
-fn is_to_all(target: PortIdentity) -> bool {
-    target.clock == ClockIdentity::EVERY && target.port == PortIdentity::EVERY_PORT
-}
-
-fn get_in(asked: Asked, message: &View<'_>) -> Query {
+fn get_in(asked: Asked, at: Option<u64>, message: &View<'_>) -> Query {
     Query {
         domain: Domain::of_message(message),
         asked,
-        is_to_all: is_to_all(message.target()),
+        target: message.target(),
         request: Request {
             target: message.source(),
             number: message.number(),
         },
         hops: message.starting_hops(),
+        at,
     }
 }
 

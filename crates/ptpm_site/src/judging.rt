@@ -4,24 +4,28 @@
 use crate::evidence::Evidence;
 use crate::finding::{Added, Finding, What, add_finding};
 use crate::forest::place_among;
+use crate::frozen::frozen_offset;
 use crate::grandmaster_changes::{GrandmasterChange, grandmaster_changes};
 use crate::judging_amounts::{judge_amounts, judge_lead_off, judge_utc};
 use crate::judging_answers::{judge_answers, judge_changes};
 use crate::judging_grandmasters::{judge_grandmaster, judge_parent};
 use crate::judging_leading::judge_leader;
 use crate::judging_loops::judge_loop;
-use crate::judging_ports::{judge_intervals, judge_locks, judge_ports};
-use crate::leaders::{Leader, all_witnesses, count_in, is_present, leader_of, present_leaders};
-use crate::leading::all_standing_by;
+use crate::judging_ports::{judge_intervals, judge_locks, judge_mechanisms, judge_ports};
+use crate::leaders::{
+    Leader, Witness, all_witnesses, count_in, is_present, leader_of, present_leaders,
+};
+use crate::leading::{all_standing_by, today};
 use crate::limits::Limits;
 use crate::marks::is_marked;
 use crate::reach::Reach;
 use crate::site::Site;
 use crate::source::Source;
 use crate::subjects::subjects_of;
-use crate::tai_and_utc::all_followers;
+use crate::tai_and_utc::{Slave, all_slaves};
 use crate::two_addresses::{Twins, all_twins};
 use crate::unseen::unseen;
+use crate::untaken::not_taken;
 use std::alloc::{AllocError, Global};
 
 /// All findings. Each loop is reported at its least clock, which is marked in `least`.
@@ -32,37 +36,32 @@ pub fn findings_of<'a>(
     limits: Limits,
 ) -> Result<Vec<Finding<'a>>, AllocError> {
     let sources = site.sources(alloc)?;
+    let sources = sources.as_slice();
     let evidence = Evidence::of(alloc, site.all_heard())?;
     let reach = Reach::of(alloc, site.all_heard())?;
-    let changes = grandmaster_changes(alloc, site, sources.as_slice())?;
-    let twins = all_twins(alloc, site.all_heard())?;
-    let witnesses = all_witnesses(alloc, site, sources.as_slice())?;
-    let leaders = present_leaders(alloc, site, &evidence, sources.as_slice())?;
-    let standing_by = all_standing_by(alloc, site, sources.as_slice())?;
-    let followers = all_followers(alloc, site, sources.as_slice())?;
+    let changes = grandmaster_changes(alloc, site, sources)?;
+    let twins = all_twins(alloc, site)?;
+    let witnesses = all_witnesses(alloc, site, sources)?;
+    let witnesses = witnesses.as_slice();
+    let leaders = present_leaders(alloc, site, &evidence, sources)?;
+    let standing_by = all_standing_by(alloc, site, sources)?;
+    let slaves = all_slaves(alloc, site, &evidence, witnesses, limits.tai_utc, sources)?;
     let given = Given {
         alloc,
-        sources: sources.as_slice(),
+        sources,
         evidence: &evidence,
         reach: &reach,
         changes: changes.as_slice(),
         twins: twins.as_slice(),
+        witnesses,
         leaders: leaders.as_slice(),
         standing_by: standing_by.as_slice(),
-        followers: followers.as_slice(),
+        slaves: slaves.as_slice(),
         least,
         limits,
+        today: today(site, limits),
     };
-    let mut findings = Vec::new(alloc);
-    for subject in subjects_of(alloc, site, sources.as_slice())? {
-        let leader = leader_of(site, &evidence, subject, witnesses.as_slice());
-        if site.is_seen(subject) {
-            judge(site, subject, leader, &given, &mut findings)?;
-        } else {
-            judge_absent(site, subject, leader, &given, &mut findings)?;
-        }
-    }
-    Ok(findings)
+    judge_all(site, &given)
 }
 
 /// What is known of all clocks of a site, and what is allowed.
@@ -79,36 +78,57 @@ struct Given<'a> {
     changes: &'a [GrandmasterChange],
     /// Which answers came from two addresses.
     twins: &'a [Twins],
-    /// Those that lead, and are seen or mute.
+    /// All that speak for the grandmaster that they name.
+    witnesses: &'a [Witness],
+    /// Those that lead, and are seen or send by themselves.
     leaders: &'a [Leader],
     /// Those that may lead, are of a class below 128, and do not lead.
     standing_by: &'a [Source],
     /// Those that follow another, and have a port in SLAVE.
-    followers: &'a [Source],
+    slaves: &'a [Slave],
     /// For each clock whether it is the least of a loop.
     least: &'a [bool],
     limits: Limits,
+    /// How many days after 1970-01-01 the last datagram came, if that is certain.
+    today: Option<u64>,
 }
 
-/// What is wrong with one clock that is not seen: `gone`, `own_host` and `mute`, what is wrong with it if it leads, and
+/// The findings of all clocks, whether they are seen or not.
+fn judge_all<'a>(site: &'a Site, given: &Given<'_>) -> Result<Vec<Finding<'a>>, AllocError> {
+    let mut findings = Vec::new(given.alloc);
+    for subject in subjects_of(given.alloc, site, given.sources)? {
+        let leader = leader_of(site, given.evidence, subject, given.witnesses);
+        if site.is_seen(subject) {
+            judge(site, subject, leader, given, &mut findings)?;
+        } else {
+            judge_absent(site, subject, leader, given, &mut findings)?;
+        }
+    }
+    Ok(findings)
+}
+
+/// What is wrong with one clock that is not seen: `gone`, `own_host`, `not_taken` and `mute`, what is wrong with it if it leads, and
 /// `grandmaster_changed`.
-fn judge_absent(
-    site: &Site,
+fn judge_absent<'a>(
+    site: &'a Site,
     subject: Source,
     leader: Option<Leader>,
     given: &Given<'_>,
-    findings: &mut Vec<Finding<'_>>,
+    findings: &mut Vec<Finding<'a>>,
 ) -> Added {
-    let (followers, limits) = (given.followers, given.limits);
+    let limits = given.limits;
     if given.evidence.gone.contains(&subject) {
         add_finding(findings, subject, What::Gone)?;
     }
     if let Some(why) = unseen(site, given.evidence, subject, given.sources) {
         add_finding(findings, subject, What::Unseen(why))?;
     }
+    if let Some(why) = not_taken(site, given.evidence, subject) {
+        add_finding(findings, subject, What::NotTaken(why))?;
+    }
     judge_two(site, subject, leader, given, findings)?;
-    judge_lead_off(site, subject, leader, followers, limits, findings)?;
-    judge_leader(site, subject, leader, given.standing_by, limits, findings)?;
+    judge_lead_off(given.evidence, leader, given.slaves, limits, findings)?;
+    judge_lead(site, subject, leader, given, findings)?;
     judge_changes(given.changes, subject, findings)
 }
 
@@ -128,7 +148,7 @@ fn judge<'a>(
     given: &Given<'_>,
     findings: &mut Vec<Finding<'a>>,
 ) -> Added {
-    let (alloc, limits) = (given.alloc, given.limits);
+    let alloc = given.alloc;
     judge_two(site, source, leader, given, findings)?;
     judge_grandmaster(site, source, findings)?;
     judge_parent(site, source, findings)?;
@@ -137,16 +157,11 @@ fn judge<'a>(
     }
     let ports = site.ports(alloc, source)?;
     let ports = ports.as_slice();
-    judge_ports(site, source, ports, limits, findings)?;
-    judge_locks(site, source, ports, limits, findings)?;
-    let followers = given.followers;
-    judge_amounts(site, source, leader, ports, followers, limits, findings)?;
-    judge_utc(site, source, findings)?;
-    judge_intervals(site, given.evidence, source, ports, findings)?;
-    judge_leader(site, source, leader, given.standing_by, limits, findings)?;
+    judge_time(site, source, leader, ports, given, findings)?;
     judge_answers(
         alloc,
         site,
+        given.evidence,
         given.reach,
         given.changes,
         given.twins,
@@ -154,6 +169,49 @@ fn judge<'a>(
         ports,
         findings,
     )
+}
+
+/// What is wrong with the ports of a clock that is seen, with its time, and with that of one that leads.
+fn judge_time(
+    site: &Site,
+    source: Source,
+    leader: Option<Leader>,
+    ports: &[u16],
+    given: &Given<'_>,
+    findings: &mut Vec<Finding<'_>>,
+) -> Added {
+    let (alloc, limits) = (given.alloc, given.limits);
+    judge_ports(site, source, ports, limits, findings)?;
+    judge_locks(site, source, ports, limits, findings)?;
+    if let Some(frozen) = frozen_offset(alloc, site, limits, source, ports)? {
+        add_finding(findings, source, What::OffsetFrozen(frozen))?;
+    }
+    judge_amounts(
+        site,
+        given.evidence,
+        source,
+        leader,
+        ports,
+        given.slaves,
+        limits,
+        findings,
+    )?;
+    judge_utc(site, source, findings)?;
+    judge_intervals(site, given.evidence, source, ports, findings)?;
+    judge_mechanisms(site, source, ports, findings)?;
+    judge_lead(site, source, leader, given, findings)
+}
+
+/// What is wrong with a clock if it leads, beside its time.
+fn judge_lead(
+    site: &Site,
+    source: Source,
+    leader: Option<Leader>,
+    given: &Given<'_>,
+    findings: &mut Vec<Finding<'_>>,
+) -> Added {
+    let (others, limits, today) = (given.standing_by, given.limits, given.today);
+    judge_leader(site, source, leader, others, limits, today, findings)
 }
 
 /// `two_grandmasters`.

@@ -1,91 +1,111 @@
 //! Amounts of a clock beyond what is allowed, and what it says of UTC.
 
-use crate::amounts::{large_delay, large_offset};
+use crate::amounts::{TooFarOff, large_delay, large_offset, shared_offset};
 use crate::comparing::{Compared, add_differences};
 use crate::differences::utc_differs;
+use crate::evidence::Evidence;
 use crate::finding::{Added, Finding, What, add_finding};
 use crate::judging_ports::judge_links;
 use crate::leaders::Leader;
 use crate::limits::Limits;
-use crate::origin::utc_by_host;
+use crate::origin::{JudgedTime, Origin, TimeError, TimeVerdict, judged_time};
 use crate::site::Site;
 use crate::source::Source;
-use crate::tai_and_utc::{OffByUtc, followers_off, offset_by_utc};
+use crate::tai_and_utc::{OffByUtc, Slave, followers_off, slave_among};
 
-/// `off_by_utc`, `offset` and `delay`, for a clock with these ports. `followers` has all that follow another.
+/// `gm_time`, `off_by_utc`, `offset` and `delay`, for a clock with these ports. `slaves` has all that follow another.
 pub fn judge_amounts(
     site: &Site,
+    evidence: &Evidence,
     source: Source,
     leader: Option<Leader>,
     ports: &[u16],
-    followers: &[Source],
+    slaves: &[Slave],
     limits: Limits,
     findings: &mut Vec<Finding<'_>>,
 ) -> Added {
-    judge_off_by_utc(site, source, limits, findings)?;
-    judge_lead_off(site, source, leader, followers, limits, findings)?;
-    judge_own(site, source, limits, findings)?;
+    judge_lead_off(evidence, leader, slaves, limits, findings)?;
+    judge_slave(source, slaves, limits, findings)?;
+    if let Some(delay) = large_delay(site, source, limits) {
+        add_finding(findings, source, What::Delay(delay))?;
+    }
     judge_links(site, source, ports, limits, findings)
 }
 
-/// `off_by_utc`, by its own offsetFromMaster.
-fn judge_off_by_utc(
-    site: &Site,
-    source: Source,
-    limits: Limits,
-    findings: &mut Vec<Finding<'_>>,
-) -> Added {
-    if let Some(offset) = offset_by_utc(site, limits.tai_utc, source) {
-        add_finding(findings, source, What::OffByUtc(OffByUtc::Offset(offset)))?;
-    }
-    Ok(())
-}
-
-/// `off_by_utc` of a clock that leads: by all clocks that follow it, and by the clock of the host that asks.
+/// `gm_time`, `off_by_utc` and `offset` of a clock that leads: by the clock of the host that asks, and by all clocks that follow it.
 pub fn judge_lead_off(
-    site: &Site,
-    source: Source,
+    evidence: &Evidence,
     leader: Option<Leader>,
-    followers: &[Source],
+    slaves: &[Slave],
     limits: Limits,
     findings: &mut Vec<Finding<'_>>,
 ) -> Added {
-    if let Some(count) = followers_off(site, limits.tai_utc, source, leader, followers) {
+    let Some(leader) = leader else {
+        return Ok(());
+    };
+    let source = leader.source;
+    let judged = judged_time(evidence, limits, &leader);
+    if let Some(error) = wrong_time(judged) {
+        add_finding(findings, source, What::GrandmasterTime(error))?;
+    }
+    if let Some(count) = followers_off(source, slaves) {
         add_finding(findings, source, What::OffByUtc(OffByUtc::Followers(count)))?;
     }
-    if let Some(origin) = utc_by_host(site, limits, source, leader) {
+    if let Some(origin) = utc_origin(judged) {
         add_finding(findings, source, What::OffByUtc(OffByUtc::Origin(origin)))?;
+    }
+    if let Some(shared) = shared_offset(source, slaves, limits) {
+        add_finding(findings, source, What::Offset(TooFarOff::Followers(shared)))?;
     }
     Ok(())
 }
 
-/// `offset`, and `delay` by meanDelay.
-fn judge_own(
-    site: &Site,
+/// How far a time is off that is neither TAI nor UTC.
+fn wrong_time(judged: Option<JudgedTime>) -> Option<TimeError> {
+    match judged?.verdict {
+        TimeVerdict::Wrong => Some(judged?.error),
+        _ => None,
+    }
+}
+
+/// The origin of a time that is UTC.
+fn utc_origin(judged: Option<JudgedTime>) -> Option<Origin> {
+    match judged?.verdict {
+        TimeVerdict::Utc => Some(judged?.error.origin),
+        _ => None,
+    }
+}
+
+/// `off_by_utc` and `offset`, by offsetFromMaster of the clock itself.
+fn judge_slave(
     source: Source,
+    slaves: &[Slave],
     limits: Limits,
     findings: &mut Vec<Finding<'_>>,
 ) -> Added {
-    if let Some(offset) = large_offset(site, source, limits) {
-        add_finding(findings, source, What::Offset(offset))?;
+    let Some(slave) = slave_among(slaves, source) else {
+        return Ok(());
+    };
+    match slave.offset {
+        Some(offset) if slave.is_off_by_utc => {
+            add_finding(findings, source, What::OffByUtc(OffByUtc::Offset(offset)))?;
+        }
+        _ => {}
     }
-    if let Some(delay) = large_delay(site, source, limits) {
-        add_finding(findings, source, What::Delay(delay))?;
+    if let Some(offset) = large_offset(slave, limits) {
+        add_finding(findings, source, What::Offset(TooFarOff::Own(offset)))?;
     }
     Ok(())
 }
 
 /// `utc`.
 pub fn judge_utc(site: &Site, source: Source, findings: &mut Vec<Finding<'_>>) -> Added {
-    let Some(parent) = site.parent(source) else {
+    let (Some(parent), Some(own)) = (site.parent(source), site.time(source)) else {
         return Ok(());
     };
-    if parent.grandmaster == source.clock {
+    if site.followed(source).is_none() {
         return Ok(());
     }
-    let Some(own) = site.time(source) else {
-        return Ok(());
-    };
     match site.time(source.beside(parent.grandmaster)) {
         Some(grandmaster) => add_differences(
             findings,

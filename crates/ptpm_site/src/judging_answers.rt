@@ -1,15 +1,17 @@
 //! What a clock did not answer, and what differs between its answers.
 
-use crate::asked::{Asked, six};
+use crate::asked::{Asked, by_number, six};
 use crate::changes::{Contradiction, first_change, first_contradiction, is_said_otherwise};
 use crate::clock::Received;
 use crate::completeness::missing_answers;
+use crate::evidence::Evidence;
 use crate::finding::{Added, Finding, What, add_finding};
 use crate::grandmaster_changes::GrandmasterChange;
 use crate::member::{is_moving, is_of_grandmaster, members_of};
 use crate::reach::{Reach, out_of_reach};
 use crate::site::Site;
 use crate::source::Source;
+use crate::twice::{OtherMember, Twice};
 use crate::two_addresses::{Twins, twins_of};
 use crate::two_offsets::two_offsets;
 use ptpm_members::{Enumeration, Member, MemberValue};
@@ -20,6 +22,7 @@ use std::alloc::{AllocError, Global};
 pub fn judge_answers<'a>(
     alloc: Global,
     site: &'a Site,
+    evidence: &Evidence,
     reach: &Reach,
     changes: &[GrandmasterChange],
     twins: &[Twins],
@@ -27,36 +30,15 @@ pub fn judge_answers<'a>(
     ports: &[u16],
     findings: &mut Vec<Finding<'a>>,
 ) -> Added {
-    if let Some(missing) = missing_answers(alloc, site, source, ports)? {
+    if let Some(missing) = missing_answers(alloc, site, evidence, source, ports)? {
         add_finding(findings, source, What::Incomplete(missing))?;
     }
     if let Some(hops) = out_of_reach(site, reach, source) {
         add_finding(findings, source, What::OutOfReach(hops))?;
     }
     judge_changes(changes, source, findings)?;
-    judge_contradictions(alloc, site, source, ports, Contradiction::Changed, findings)?;
-    judge_twice(alloc, site, source, ports, findings)?;
-    judge_addresses(site, twins, source, findings)?;
-    if let Some(offsets) = two_offsets(site.answers(source, Asked::CurrentDataSet)) {
-        add_finding(findings, source, What::TwoOffsets(offsets))?;
-    }
-    Ok(())
-}
-
-/// `identity_twice`, by two addresses.
-pub fn judge_addresses<'a>(
-    site: &'a Site,
-    twins: &[Twins],
-    source: Source,
-    findings: &mut Vec<Finding<'a>>,
-) -> Added {
-    match twins_of(twins, source) {
-        Some(twins) => {
-            let two = site.words.two_addresses(twins);
-            add_finding(findings, source, What::TwoAddresses(two))
-        }
-        None => Ok(()),
-    }
+    judge_changed(alloc, site, source, ports, findings)?;
+    judge_twice(alloc, site, twins, source, ports, findings)
 }
 
 /// `grandmaster_changed`: those of these changes that are shown at a clock.
@@ -73,39 +55,56 @@ pub fn judge_changes(
     Ok(())
 }
 
-/// `identity_twice`. States of ports may differ by themselves while they change: these alone are no finding.
-pub fn judge_twice<'a>(
+/// `changed`.
+fn judge_changed<'a>(
     alloc: Global,
     site: &'a Site,
     source: Source,
     ports: &[u16],
     findings: &mut Vec<Finding<'a>>,
 ) -> Added {
-    let mut twice = Vec::new(alloc);
-    let how = Contradiction::IdentityTwice;
-    judge_contradictions(alloc, site, source, ports, how, &mut twice)?;
-    if twice.iter().any(|finding| !is_of_state(finding)) {
-        for finding in twice {
-            findings.push(finding)?;
-        }
+    let changed = other_members(alloc, site, source, ports, Contradiction::Changed)?;
+    for other in changed {
+        add_finding(findings, source, What::Changed(other.port, other.change))?;
     }
     Ok(())
 }
 
-/// Whether a finding says how portState changed.
-fn is_of_state(finding: &Finding<'_>) -> bool {
-    match &finding.what {
-        What::Changed(_, change) | What::IdentityTwice(_, change) => {
-            matches!(change.before, MemberValue::Named(Enumeration::PortState, _))
-        }
-        _ => false,
+/// `identity_twice`.
+pub fn judge_twice<'a>(
+    alloc: Global,
+    site: &'a Site,
+    twins: &[Twins],
+    source: Source,
+    ports: &[u16],
+    findings: &mut Vec<Finding<'a>>,
+) -> Added {
+    let mut members = other_members(alloc, site, source, ports, Contradiction::IdentityTwice)?;
+    if members.iter().all(|other| is_of_state(other)) {
+        members.clear();
     }
+    let twice = Twice {
+        addresses: twins_of(twins, source).map(|twins| site.words.two_addresses(twins)),
+        offsets: two_offsets(site.answers(source, Asked::CurrentDataSet)),
+        members,
+    };
+    if twice.addresses.is_some() || twice.offsets.is_some() || !twice.members.is_empty() {
+        add_finding(findings, source, What::IdentityTwice(twice))?;
+    }
+    Ok(())
 }
 
-/// Whose answers are compared, and how.
+/// Whether it is portState. States of ports may differ by themselves while they change: these alone are no finding.
+fn is_of_state(other: &OtherMember<'_>) -> bool {
+    matches!(
+        other.change.before,
+        MemberValue::Named(Enumeration::PortState, _)
+    )
+}
+
+/// Which answers are compared, and how.
 #[derive(Clone, Copy)]
 struct Compared {
-    source: Source,
     /// The port whose answers they are.
     port: Option<u16>,
     /// The id that they answer.
@@ -115,20 +114,22 @@ struct Compared {
     is_own: bool,
 }
 
-/// `changed` or `identity_twice`, for all data sets of a clock. `ports` are the clock's ports that
-/// answered.
-fn judge_contradictions<'a>(
+/// The members in which answers of a clock differ. `ports` are the clock's ports that answered.
+fn other_members<'a>(
     alloc: Global,
     site: &'a Site,
     source: Source,
     ports: &[u16],
     how: Contradiction,
-    findings: &mut Vec<Finding<'a>>,
-) -> Added {
+) -> Result<Vec<OtherMember<'a>>, AllocError> {
     let is_own = site.is_own_grandmaster(source);
-    for asked in six() {
+    let mut found = Vec::new(alloc);
+    let ids = match how {
+        Contradiction::Changed => six(),
+        Contradiction::IdentityTwice => by_number(),
+    };
+    for asked in ids {
         let mut compared = Compared {
-            source,
             port: None,
             asked,
             how,
@@ -137,57 +138,53 @@ fn judge_contradictions<'a>(
         if matches!(asked, Asked::PortDataSet) {
             for port in ports {
                 compared.port = Some(*port);
-                judge_set(alloc, compared, site.port_answers(source, *port), findings)?;
+                compare_set(
+                    alloc,
+                    compared,
+                    site.port_answers(source, *port),
+                    &mut found,
+                )?;
             }
         } else {
-            judge_set(alloc, compared, site.answers(source, asked), findings)?;
+            compare_set(alloc, compared, site.answers(source, asked), &mut found)?;
         }
     }
-    Ok(())
+    Ok(found)
 }
 
 /// The members of a data set in which two of these answers differ. A member is passed over if its value moves though nothing was
 /// changed. Of a clock that is its own grandmaster, so is what it says of that one: it is what the clock says of itself.
-fn judge_set<'a>(
+fn compare_set<'a>(
     alloc: Global,
     compared: Compared,
     received: &'a [Received],
-    findings: &mut Vec<Finding<'a>>,
+    found: &mut Vec<OtherMember<'a>>,
 ) -> Added {
     for member in members_of(compared.asked) {
         let is_passed_over = is_moving(*member) || compared.is_own && is_of_grandmaster(*member);
         if !is_passed_over && is_said_otherwise(compared.asked, received, *member) {
-            judge_member(alloc, compared, received, *member, findings)?;
+            compare_member(alloc, compared, received, *member, found)?;
         }
     }
     Ok(())
 }
 
 /// The first two answers that differ in a member.
-fn judge_member<'a>(
+fn compare_member<'a>(
     alloc: Global,
     compared: Compared,
     received: &'a [Received],
     member: Member,
-    findings: &mut Vec<Finding<'a>>,
+    found: &mut Vec<OtherMember<'a>>,
 ) -> Added {
-    let Compared {
-        source,
-        port,
-        asked,
-        ..
-    } = compared;
-    match compared.how {
-        Contradiction::Changed => {
-            if let Some(change) = first_change(asked, received, member) {
-                add_finding(findings, source, What::Changed(port, change))?;
-            }
-        }
-        Contradiction::IdentityTwice => {
-            if let Some(change) = first_contradiction(alloc, asked, received, member)? {
-                add_finding(findings, source, What::IdentityTwice(port, change))?;
-            }
-        }
+    let asked = compared.asked;
+    let change = match compared.how {
+        Contradiction::Changed => first_change(asked, received, member),
+        Contradiction::IdentityTwice => first_contradiction(alloc, asked, received, member)?,
+    };
+    if let Some(change) = change {
+        let port = compared.port;
+        found.push(OtherMember { port, change })?;
     }
     Ok(())
 }

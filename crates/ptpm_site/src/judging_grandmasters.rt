@@ -33,14 +33,26 @@ pub fn judge_parent(site: &Site, source: Source, findings: &mut Vec<Finding<'_>>
     judge_said(site, source, findings)
 }
 
+/// Whether a clock's PARENT_DATA_SET is kept like the DEFAULT_DATA_SET of the grandmaster that it names. The decisions M1 and M2 write that
+/// of the clock's own grandmaster (9.3.5), so this has a port in MASTER.
+fn is_kept_alike(site: &Site, source: Source) -> bool {
+    !site.is_own_grandmaster(source) || site.leads_by_answers(source)
+}
+
 /// `grandmaster_differs`: by the DEFAULT_DATA_SET of the grandmaster, and by the clock that it follows.
 fn judge_said(site: &Site, source: Source, findings: &mut Vec<Finding<'_>>) -> Added {
     let Some(own) = site.parent(source) else {
         return Ok(());
     };
-    if let Some(grandmaster) = site.default(source.beside(own.grandmaster)) {
-        let differs = grandmaster_differs(&own, &grandmaster);
-        add_differences(findings, source, Compared::Grandmaster, &differs)?;
+    if site.is_on_standby(source) {
+        return Ok(());
+    }
+    match site.default(source.beside(own.grandmaster)) {
+        Some(grandmaster) if is_kept_alike(site, source) => {
+            let differs = grandmaster_differs(&own, &grandmaster);
+            add_differences(findings, source, Compared::Grandmaster, &differs)?;
+        }
+        _ => {}
     }
     if let Some(parent) = site.parent(source.beside(own.parent.clock)) {
         let differs = [other_grandmaster(&own, &parent)];

@@ -4,21 +4,23 @@ use crate::data_sets::TimePropertiesDataSet;
 use crate::finding::{Added, Finding, What, add_finding};
 use crate::leaders::Leader;
 use crate::leading::{
-    announced_leap, better_clock, invalid_offset, not_traceable, without_source, wrong_offset,
+    announced_leap, better_clock, doubtful_source, false_leap, invalid_offset, not_traceable,
+    without_source, wrong_offset,
 };
 use crate::limits::Limits;
 use crate::site::Site;
 use crate::source::Source;
 use ptpm_members::ClockQuality;
 
-/// `gm_holdover`, `gm_degraded`, `gm_free_running`, `not_traceable`, `utc_invalid`, `utc_offset`, `leap`, `better_clock`: all of a
-/// clock that leads. `others` has all clocks that stand by.
+/// `gm_doubtful`, `gm_holdover`, `gm_degraded`, `gm_free_running`, `not_traceable`, `utc_invalid`, `utc_offset`, `leap_false`, `leap`,
+/// `better_clock`: all of a clock that leads. `others` has all clocks that stand by.
 pub fn judge_leader(
     site: &Site,
     source: Source,
     leader: Option<Leader>,
     others: &[Source],
     limits: Limits,
+    today: Option<u64>,
     findings: &mut Vec<Finding<'_>>,
 ) -> Added {
     let Some(leader) = leader else {
@@ -30,6 +32,7 @@ pub fn judge_leader(
     }
     if let Some(time) = &leader.time {
         judge_properties(source, quality, time, limits, findings)?;
+        judge_leap(source, time, today, findings)?;
     }
     if let Some(better) = quality.and_then(|quality| better_clock(site, source, quality, others)) {
         add_finding(findings, source, What::BetterClock(better))?;
@@ -37,7 +40,7 @@ pub fn judge_leader(
     Ok(())
 }
 
-/// `not_traceable`, `utc_invalid`, `utc_offset` and `leap`.
+/// `gm_doubtful`, `not_traceable`, `utc_invalid` and `utc_offset`.
 fn judge_properties(
     source: Source,
     quality: Option<ClockQuality>,
@@ -45,6 +48,9 @@ fn judge_properties(
     limits: Limits,
     findings: &mut Vec<Finding<'_>>,
 ) -> Added {
+    if let Some(doubtful) = quality.and_then(|quality| doubtful_source(quality, time)) {
+        add_finding(findings, source, What::GrandmasterDoubtful(doubtful))?;
+    }
     if let Some(untraceable) = quality.and_then(|quality| not_traceable(quality, time)) {
         add_finding(findings, source, What::NotTraceable(untraceable))?;
     }
@@ -54,7 +60,20 @@ fn judge_properties(
     if let Some(offset) = wrong_offset(limits.tai_utc, time) {
         add_finding(findings, source, What::UtcOffset(offset))?;
     }
-    if let Some(leap) = announced_leap(time) {
+    Ok(())
+}
+
+/// `leap_false` and `leap`.
+fn judge_leap(
+    source: Source,
+    time: &TimePropertiesDataSet,
+    today: Option<u64>,
+    findings: &mut Vec<Finding<'_>>,
+) -> Added {
+    if let Some(leap) = false_leap(time, today) {
+        add_finding(findings, source, What::LeapFalse(leap))?;
+    }
+    if let Some(leap) = announced_leap(time, today) {
         add_finding(findings, source, What::Leap(leap))?;
     }
     Ok(())

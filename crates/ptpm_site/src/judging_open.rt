@@ -4,13 +4,14 @@ use crate::announcing::open_seldom;
 use crate::asked::Asked;
 use crate::evidence::Evidence;
 use crate::finding::{Added, Finding, What, add_finding};
-use crate::judging_answers::{judge_addresses, judge_twice};
-use crate::judging_ports::{judge_intervals, judge_locks, judge_ports};
+use crate::judging_answers::judge_twice;
+use crate::judging_ports::{judge_intervals, judge_locks, judge_mechanisms, judge_ports};
 use crate::limits::Limits;
 use crate::site::Site;
 use crate::source::Source;
 use crate::staying::{open_lock, open_state};
 use crate::subjects::subjects_of;
+use crate::twice::Twice;
 use crate::two_addresses::{Twins, all_twins};
 use crate::two_offsets::open_offsets;
 use crate::unasked::{not_asked, senders_of};
@@ -27,7 +28,7 @@ pub fn open_of<'a>(
     let subjects = subjects_of(alloc, site, sources.as_slice())?;
     let evidence = Evidence::of(alloc, site.all_heard())?;
     let senders = senders_of(alloc, site.all_heard())?;
-    let twins = all_twins(alloc, site.all_heard())?;
+    let twins = all_twins(alloc, site)?;
     let known = Known {
         alloc,
         sources: sources.as_slice(),
@@ -115,7 +116,8 @@ fn judge_open_states(
     Ok(())
 }
 
-/// `not_locked`, for a clock with these ports. Nothing is open where a port has the finding, or `intervals`.
+/// `not_locked`, for a clock with these ports. Nothing is open where a port has the finding, `intervals` or
+/// `delay_mechanism`.
 fn judge_open_locks(
     site: &Site,
     source: Source,
@@ -126,6 +128,7 @@ fn judge_open_locks(
     let mut found = Vec::new(known.alloc);
     judge_locks(site, source, ports, known.limits, &mut found)?;
     judge_intervals(site, known.evidence, source, ports, &mut found)?;
+    judge_mechanisms(site, source, ports, &mut found)?;
     if !found.is_empty() {
         return Ok(());
     }
@@ -152,7 +155,7 @@ fn judge_open_intervals(
     }
     for port in ports {
         if let Some(seldom) = open_seldom(site, known.evidence, source, *port) {
-            add_finding(findings, source, What::Announces(*port, seldom))?;
+            add_finding(findings, source, What::Intervals(*port, seldom))?;
         }
     }
     Ok(())
@@ -167,13 +170,15 @@ fn judge_open_twins(
     findings: &mut Vec<Finding<'_>>,
 ) -> Added {
     let mut found = Vec::new(known.alloc);
-    judge_twice(known.alloc, site, source, ports, &mut found)?;
-    judge_addresses(site, known.twins, source, &mut found)?;
+    judge_twice(known.alloc, site, known.twins, source, ports, &mut found)?;
     if !found.is_empty() {
         return Ok(());
     }
     match open_offsets(site.answers(source, Asked::CurrentDataSet)) {
-        Some(offsets) => add_finding(findings, source, What::TwoOffsets(offsets)),
+        Some(offsets) => {
+            let twice = Twice::by_offsets(known.alloc, offsets);
+            add_finding(findings, source, What::IdentityTwice(twice))
+        }
         None => Ok(()),
     }
 }

@@ -1,9 +1,8 @@
 //! What is wrong with the ports of a clock.
 
 use crate::amounts::large_link_delay;
-use crate::announcing::{seldom_announced, takes_time};
-use crate::comparing::{Compared, add_differences};
-use crate::differences::mechanism_differs;
+use crate::announcing::seldom_announced;
+use crate::differences::other_mechanism;
 use crate::evidence::Evidence;
 use crate::finding::{Added, Finding, What, add_finding};
 use crate::limits::Limits;
@@ -73,31 +72,24 @@ pub fn judge_intervals(
     findings: &mut Vec<Finding<'_>>,
 ) -> Added {
     for port in ports {
-        judge_mechanism(site, source, *port, findings)?;
         if let Some(seldom) = seldom_announced(site, evidence, source, *port) {
-            add_finding(findings, source, What::Announces(*port, seldom))?;
+            add_finding(findings, source, What::Intervals(*port, seldom))?;
         }
     }
     Ok(())
 }
 
-/// `intervals`, by delayMechanism.
-fn judge_mechanism(
+/// `delay_mechanism`, for these ports.
+pub fn judge_mechanisms(
     site: &Site,
     source: Source,
-    port: u16,
+    ports: &[u16],
     findings: &mut Vec<Finding<'_>>,
 ) -> Added {
-    let (Some(own), Some(set)) = (site.parent(source), site.port(source, port)) else {
-        return Ok(());
-    };
-    match site.port(source.beside(own.parent.clock), own.parent.port) {
-        Some(parent) if takes_time(site, source, &set) => add_differences(
-            findings,
-            source,
-            Compared::Port(port),
-            &[mechanism_differs(&set, &parent)],
-        ),
-        _ => Ok(()),
+    for port in ports {
+        if let Some(other) = other_mechanism(site, source, *port) {
+            add_finding(findings, source, What::DelayMechanism(*port, other))?;
+        }
     }
+    Ok(())
 }

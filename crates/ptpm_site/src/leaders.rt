@@ -8,7 +8,7 @@ use crate::port_groups::PortGroup;
 use crate::site::Site;
 use crate::source::Source;
 use crate::subjects::subjects_of;
-use crate::unseen::is_mute;
+use crate::unseen::is_heard;
 use ptpm_members::ClockQuality;
 use std::alloc::{AllocError, Global};
 
@@ -139,6 +139,32 @@ fn leader_by_followers(site: &Site, source: Source, witnesses: &[Witness]) -> Op
     })
 }
 
+/// A clock, if it leads by its Announce or by a clock that follows it.
+fn leader_by_others(
+    site: &Site,
+    evidence: &Evidence,
+    source: Source,
+    witnesses: &[Witness],
+) -> Option<Leader> {
+    match leader_by_announce(evidence, source) {
+        Some(leader) => Some(leader),
+        None => leader_by_followers(site, source, witnesses),
+    }
+}
+
+/// TIME_PROPERTIES_DATA_SET of a grandmaster: what it answers, or else what its Announce says, or a clock that follows it.
+pub fn grandmaster_time(
+    site: &Site,
+    evidence: &Evidence,
+    source: Source,
+    witnesses: &[Witness],
+) -> Option<TimePropertiesDataSet> {
+    match site.time(source) {
+        Some(time) => Some(time),
+        None => leader_by_others(site, evidence, source, witnesses)?.time,
+    }
+}
+
 /// A clock, if it leads, with what is said of it.
 pub fn leader_of(
     site: &Site,
@@ -147,11 +173,9 @@ pub fn leader_of(
     witnesses: &[Witness],
 ) -> Option<Leader> {
     if site.is_seen(source) {
-        return leader_by_answers(site, source);
-    }
-    match leader_by_announce(evidence, source) {
-        Some(leader) => Some(leader),
-        None => leader_by_followers(site, source, witnesses),
+        leader_by_answers(site, source)
+    } else {
+        leader_by_others(site, evidence, source, witnesses)
     }
 }
 
@@ -170,12 +194,12 @@ pub fn leaders_of(alloc: Global, site: &Site) -> Result<Vec<Leader>, AllocError>
     Ok(found)
 }
 
-/// Whether one that leads is seen, or mute. `sources` has all clocks that are seen.
+/// Whether one that leads is seen, or sends by itself. `sources` has all clocks that are seen.
 pub fn is_present(site: &Site, evidence: &Evidence, leader: &Leader, sources: &[Source]) -> bool {
-    site.is_seen(leader.source) || is_mute(evidence, leader.source, sources)
+    site.is_seen(leader.source) || is_heard(evidence, leader.source, sources)
 }
 
-/// Those of all that lead that are seen, or mute. `sources` has all clocks that are seen.
+/// Those of all that lead that are seen, or send by themselves. `sources` has all clocks that are seen.
 pub fn present_leaders(
     alloc: Global,
     site: &Site,

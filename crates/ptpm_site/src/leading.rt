@@ -1,7 +1,9 @@
 //! What a clock that leads says of its time: its clockClass (7.6.2.5) and its TIME_PROPERTIES_DATA_SET (8.2.4). And a clock that
 //! would be a better grandmaster.
 
+use crate::calendar::{Date, day_of, ends_month};
 use crate::data_sets::TimePropertiesDataSet;
+use crate::limits::Limits;
 use crate::site::Site;
 use crate::source::Source;
 use ptpm_codec::ClockIdentity;
@@ -49,6 +51,25 @@ pub struct WrongOffset {
 pub struct Leap {
     pub leap61: bool,
     pub leap59: bool,
+    /// Whether it would be at the end of another month than June and December: so far none was.
+    pub is_unusual: bool,
+}
+
+/// A leap second that can't come.
+#[derive(Clone, Copy)]
+pub struct FalseLeap {
+    pub leap61: bool,
+    pub leap59: bool,
+    /// The day, which is not the last of its month. `None`: both are announced.
+    pub date: Option<Date>,
+}
+
+/// What a clock says that says that it is locked to its source of time (clockClass 6), and says what one without a source says.
+#[derive(Clone, Copy)]
+pub struct Doubtful {
+    pub quality: ClockQuality,
+    /// timeSource.
+    pub time_source: u8,
 }
 
 /// A clock of a better class than the one that leads.
@@ -118,16 +139,72 @@ pub fn wrong_offset(tai_utc: i16, time: &TimePropertiesDataSet) -> Option<WrongO
     }
 }
 
-/// The leap second that a clock announces, if it announces one.
-pub fn announced_leap(time: &TimePropertiesDataSet) -> Option<Leap> {
-    if time.leap61 || time.leap59 {
-        Some(Leap {
-            leap61: time.leap61,
-            leap59: time.leap59,
+/// timeSource INTERNAL_OSCILLATOR (7.6.2.8).
+const INTERNAL_OSCILLATOR: u8 = 0xa0;
+
+/// clockAccuracy unknown (7.6.2.6).
+const ACCURACY_UNKNOWN: u8 = 0xfe;
+
+/// What a clock of class 6 says of its accuracy and of its source, if one without a source says that too. It is passed over if it claims neither
+/// the timescale PTP nor that its time is traceable.
+pub fn doubtful_source(quality: ClockQuality, time: &TimePropertiesDataSet) -> Option<Doubtful> {
+    let claims = time.ptp_timescale || time.time_traceable;
+    let is_vague = quality.accuracy == ACCURACY_UNKNOWN || time.time_source == INTERNAL_OSCILLATOR;
+    if quality.class == 6 && claims && is_vague {
+        Some(Doubtful {
+            quality,
+            time_source: time.time_source,
         })
     } else {
         None
     }
+}
+
+/// Nanoseconds in a minute.
+const MINUTE: u64 = 60_000_000_000;
+
+/// How many days after 1970-01-01 the last datagram came, in UTC. `None` if the clock of the host that asks may be wrong. A leap second is announced
+/// for some time after the midnight that it comes at (9.4): a minute is allowed.
+pub fn today(site: &Site, limits: Limits) -> Option<u64> {
+    if limits.is_synchronised {
+        Some(day_of(site.shown.latest?.saturating_sub(MINUTE)))
+    } else {
+        None
+    }
+}
+
+/// The leap second that a clock announces, if it can't come: both are announced, or the day is not the last of its month.
+pub fn false_leap(time: &TimePropertiesDataSet, today: Option<u64>) -> Option<FalseLeap> {
+    let date = match (time.leap61, time.leap59, today) {
+        (true, true, _) => None,
+        (false, false, _) | (_, _, None) => return None,
+        (_, _, Some(days)) => {
+            if ends_month(days) {
+                return None;
+            }
+            Some(Date::after(days))
+        }
+    };
+    Some(FalseLeap {
+        leap61: time.leap61,
+        leap59: time.leap59,
+        date,
+    })
+}
+
+/// The leap second that a clock announces, if it announces one that can come.
+pub fn announced_leap(time: &TimePropertiesDataSet, today: Option<u64>) -> Option<Leap> {
+    if !time.leap61 && !time.leap59 || false_leap(time, today).is_some() {
+        return None;
+    }
+    Some(Leap {
+        leap61: time.leap61,
+        leap59: time.leap59,
+        is_unusual: match today {
+            Some(days) => Date::after(days).month % 6 != 0,
+            None => false,
+        },
+    })
 }
 
 /// Whether a clock that may lead, of a class below 128, does not.

@@ -3,9 +3,10 @@
 use crate::answer::Request;
 use crate::asked::Asked;
 use crate::domain::Domain;
-use crate::heard::Heard;
+use crate::heard::{Heard, Query};
+use ptpm_codec::PortIdentity;
 use std::alloc::{AllocError, Global};
-use std::collections::BTreeMap;
+use std::collections::{BTreeMap, BTreeSet};
 
 /// What the clocks of a domain are asked for.
 #[derive(Clone, Copy, PartialEq, Eq, PartialOrd, Ord)]
@@ -16,7 +17,7 @@ pub struct Topic {
 }
 
 /// A GET to all clocks.
-#[derive(Clone, Copy)]
+#[derive(Clone, Copy, PartialEq, Eq, PartialOrd, Ord)]
 pub struct Look {
     pub topic: Topic,
     pub request: Request,
@@ -35,13 +36,42 @@ impl Look {
     /// The look that a datagram is. `None` if it is none.
     pub fn of(heard: &Heard) -> Option<Look> {
         match heard {
-            Heard::Asked(query) if query.is_to_all => Some(Look {
-                topic: Topic::of(query.domain, query.asked),
-                request: query.request,
-            }),
+            Heard::Asked(query) if query.is_to_all() => Some(Look::by(query)),
             _ => None,
         }
     }
+
+    /// The look with the topic and the request of a GET.
+    fn by(query: &Query) -> Look {
+        Look {
+            topic: Topic::of(query.domain, query.asked),
+            request: query.request,
+        }
+    }
+}
+
+/// A look that was sent again to one clock.
+#[derive(Clone, Copy, PartialEq, Eq, PartialOrd, Ord)]
+struct Repeat {
+    look: Look,
+    target: PortIdentity,
+}
+
+/// How many looks were sent again to clocks that had not answered: each look counts once for each of them.
+pub fn asked_again(alloc: Global, heard: &[Heard]) -> Result<usize, AllocError> {
+    let mut looks = BTreeSet::new(alloc);
+    let mut repeats = BTreeSet::new(alloc);
+    for one in heard {
+        if let Heard::Asked(query) = one {
+            let (look, target) = (Look::by(query), query.target);
+            if query.is_to_all() {
+                looks.insert(look)?;
+            } else if looks.contains(&look) {
+                repeats.insert(Repeat { look, target })?;
+            }
+        }
+    }
+    Ok(repeats.len())
 }
 
 /// The request of the last look for each topic.

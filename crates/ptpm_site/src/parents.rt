@@ -67,8 +67,11 @@ pub struct Steps {
 }
 
 /// The stepsRemoved of a clock, if it is wrong. It should be 0 at a grandmaster, and otherwise one more than that of the
-/// clock that it follows.
+/// clock that it follows. That of a clock that stands by is of an earlier time.
 pub fn wrong_steps(site: &Site, source: Source) -> Option<Steps> {
+    if site.is_on_standby(source) {
+        return None;
+    }
     let steps = site.current(source)?.steps_removed;
     if site.is_own_grandmaster(source) {
         let parent = None;

@@ -8,10 +8,12 @@ use crate::finding::Finding;
 use crate::forest::Forest;
 use crate::judging::findings_of;
 use crate::judging_open::open_of;
+use crate::lacks::{Lack, lacks_of};
 use crate::leaders::{Leader, leaders_of};
 use crate::left_out::LeftOut;
 use crate::limits::Limits;
 use crate::loops::least_of_loops;
+use crate::origin::{JudgedTime, judged_times};
 use crate::site::Site;
 use crate::tree::{TreeRow, rows};
 use std::alloc::{AllocError, Global};
@@ -24,9 +26,13 @@ pub struct Picture<'a> {
     pub rows: Vec<TreeRow>,
     /// The grandmasters that lead, by domain and identity, whether they are seen or not.
     pub leaders: Vec<Leader>,
+    /// The time of each of them. `None`: it is not judged.
+    pub times: Vec<Option<JudgedTime>>,
     pub findings: Vec<Finding<'a>>,
     /// What is a finding if it lasts.
     pub open_findings: Vec<Finding<'a>>,
+    /// What the lines lack, so that not all is judged.
+    pub lacks: Vec<Lack>,
     pub left_out: LeftOut,
 }
 
@@ -44,15 +50,19 @@ impl<'a> Picture<'a> {
         let least = least_of_loops(alloc, forest.followed.as_slice())?;
         let rows = rows(alloc, site, &forest, least.as_slice())?;
         let leaders = leaders_of(alloc, site)?;
+        let times = judged_times(alloc, site, limits, leaders.as_slice())?;
         let findings = findings_of(alloc, site, least.as_slice(), limits)?;
         let open_findings = open_of(alloc, site, limits)?;
+        let lacks = lacks_of(alloc, site)?;
         Ok(Picture {
             site,
             forest,
             rows,
             leaders,
+            times,
             findings,
             open_findings,
+            lacks,
             left_out,
         })
     }

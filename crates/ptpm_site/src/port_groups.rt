@@ -11,6 +11,8 @@ pub enum PortGroup {
     Giving,
     /// SLAVE and UNCALIBRATED: the port takes time, or is about to.
     Taking,
+    /// MASTER, PRE_MASTER, SLAVE and UNCALIBRATED: the port gives or takes time, or is about to.
+    Active,
     /// PASSIVE.
     Passive,
     /// SLAVE.
@@ -27,6 +29,15 @@ impl PortGroup {
                 Some(PortState::Master | PortState::PreMaster | PortState::Passive)
             ),
             PortGroup::Taking => matches!(state, Some(PortState::Slave | PortState::Uncalibrated)),
+            PortGroup::Active => matches!(
+                state,
+                Some(
+                    PortState::Master
+                        | PortState::PreMaster
+                        | PortState::Slave
+                        | PortState::Uncalibrated
+                )
+            ),
             PortGroup::Passive => matches!(state, Some(PortState::Passive)),
             PortGroup::Slave => matches!(state, Some(PortState::Slave)),
         }

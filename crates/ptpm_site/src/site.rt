@@ -7,6 +7,7 @@ use crate::data_sets::{
     CurrentDataSet, DefaultDataSet, ParentDataSet, PortDataSet, TimePropertiesDataSet,
 };
 use crate::heard::Heard;
+use crate::lacks::Shown;
 use crate::port_groups::PortGroup;
 use crate::source::Source;
 use crate::words::Words;
@@ -19,6 +20,8 @@ pub struct Site {
     pub clocks: BTreeMap<Source, Clock>,
     /// What the datagrams show beside, in the order of the lines.
     pub heard: Vec<Heard>,
+    /// What some line shows.
+    pub shown: Shown,
     /// The addresses and the interfaces of the lines.
     pub words: Words,
     /// The last userDescription of each clock that is gone and answered one.
@@ -31,6 +34,7 @@ impl Site {
         Site {
             clocks: BTreeMap::new(alloc),
             heard: Vec::new(alloc),
+            shown: Shown::nothing(),
             words: Words::new(alloc),
             gone_descriptions: BTreeMap::new(alloc),
         }

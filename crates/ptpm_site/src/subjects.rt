@@ -8,7 +8,8 @@ use crate::source::Source;
 use std::alloc::{AllocError, Global};
 use std::collections::BTreeSet;
 
-/// The clocks that are seen, those that they name, those that send by themselves, and those that are gone, by domain and identity.
+/// The clocks that are seen, those that they name, and those that are gone. And those that send by themselves, or whose answers were
+/// not taken. All by domain and identity.
 /// `sources` has all clocks that are seen.
 pub fn subjects_of(
     alloc: Global,
@@ -26,8 +27,14 @@ pub fn subjects_of(
         }
     }
     for one in heard {
-        if let Heard::Sent(sender) = one {
-            found.insert(sender.source)?;
+        match one {
+            Heard::Sent(sender) => {
+                found.insert(sender.source)?;
+            }
+            Heard::Untaken(answer) => {
+                found.insert(answer.source)?;
+            }
+            _ => {}
         }
     }
     found.iter().copied().collect(alloc)

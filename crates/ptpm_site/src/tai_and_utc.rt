@@ -1,12 +1,12 @@
 //! Clocks that take TAI and UTC for each other: they are off by as many whole seconds as TAI is before UTC.
 
-use crate::grandmasters::names;
-use crate::leaders::Leader;
+use crate::data_sets::TimePropertiesDataSet;
+use crate::evidence::Evidence;
+use crate::leaders::{Witness, grandmaster_time};
 use crate::origin::Origin;
 use crate::port_groups::PortGroup;
 use crate::site::Site;
 use crate::source::Source;
-use ptpm_codec::ClockIdentity;
 use std::alloc::{AllocError, Global};
 
 /// How it shows that TAI and UTC are taken for each other.
@@ -44,75 +44,92 @@ fn is_about_utc(interval: i64, utc_offset: i16) -> bool {
         || seconds != 1 && is_about(interval, seconds - 1)
 }
 
-/// The same by what is known of UTC, by what the clock says, or by what its grandmaster says.
-fn takes_utc_for_tai(
-    site: &Site,
-    tai_utc: i16,
-    source: Source,
-    grandmaster: ClockIdentity,
-    interval: i64,
-) -> bool {
-    let is_about_utc_of = |clock| match site.time(clock) {
-        Some(time) => is_about_utc(interval, time.utc_offset),
-        None => false,
-    };
-    is_about_utc(interval, tai_utc)
-        || is_about_utc_of(source)
-        || is_about_utc_of(source.beside(grandmaster))
+/// A clock that follows another, and has a port in SLAVE.
+#[derive(Clone, Copy)]
+pub struct Slave {
+    pub source: Source,
+    /// The clock of parentPortIdentity.
+    pub parent: Source,
+    /// grandmasterIdentity.
+    pub grandmaster: Source,
+    /// offsetFromMaster, a TimeInterval. `None` if CURRENT_DATA_SET was not answered.
+    pub offset: Option<i64>,
+    /// Whether it takes TAI and UTC for each other.
+    pub is_off_by_utc: bool,
 }
 
-/// offsetFromMaster of a clock that follows another, has a port in SLAVE, and takes TAI and UTC for each other.
-pub fn offset_by_utc(site: &Site, tai_utc: i16, source: Source) -> Option<i64> {
-    let _ = site.followed(source)?;
-    let parent = site.parent(source)?;
-    let current = site.current(source)?;
-    let offset = current.offset_from_master;
-    if site.has_port_of(source, PortGroup::Slave)
-        && takes_utc_for_tai(site, tai_utc, source, parent.grandmaster, offset)
-    {
-        Some(offset)
-    } else {
-        None
+/// Whether an offset is about what TAI is before UTC: by what is known, or by what these say of it.
+fn is_off_by_utc(offset: i64, tai_utc: i16, said: [Option<TimePropertiesDataSet>; 2]) -> bool {
+    is_about_utc(offset, tai_utc)
+        || said.iter().any(|time| match time {
+            Some(time) => is_about_utc(offset, time.utc_offset),
+            None => false,
+        })
+}
+
+/// A clock, if it follows another and has a port in SLAVE. `witnesses` has all clocks that speak for a grandmaster.
+fn slave_of(
+    site: &Site,
+    evidence: &Evidence,
+    witnesses: &[Witness],
+    tai_utc: i16,
+    source: Source,
+) -> Option<Slave> {
+    let parent = source.beside(site.followed(source)?.clock);
+    let grandmaster = source.beside(site.parent(source)?.grandmaster);
+    if !site.has_port_of(source, PortGroup::Slave) {
+        return None;
+    }
+    let offset = site.current(source).map(|set| set.offset_from_master);
+    let said = [
+        site.time(source),
+        grandmaster_time(site, evidence, grandmaster, witnesses),
+    ];
+    Some(Slave {
+        source,
+        parent,
+        grandmaster,
+        offset,
+        is_off_by_utc: match offset {
+            Some(offset) => is_off_by_utc(offset, tai_utc, said),
+            None => false,
+        },
+    })
+}
+
+/// Those of all clocks that follow another and have a port in SLAVE, in their order.
+pub fn all_slaves(
+    alloc: Global,
+    site: &Site,
+    evidence: &Evidence,
+    witnesses: &[Witness],
+    tai_utc: i16,
+    sources: &[Source],
+) -> Result<Vec<Slave>, AllocError> {
+    let mut found = Vec::new(alloc);
+    for source in sources {
+        if let Some(slave) = slave_of(site, evidence, witnesses, tai_utc, *source) {
+            found.push(slave)?;
+        }
+    }
+    Ok(found)
+}
+
+/// A clock among these, which are in their order.
+pub fn slave_among(slaves: &[Slave], source: Source) -> Option<&Slave> {
+    let place = slaves.partition_point(|slave| slave.source < source);
+    match slaves.get(place) {
+        Some(slave) if slave.source == source => Some(slave),
+        _ => None,
     }
 }
 
-/// Whether a clock takes TAI and UTC for each other.
-pub fn is_off_by_utc(site: &Site, tai_utc: i16, source: Source) -> bool {
-    offset_by_utc(site, tai_utc, source).is_some()
-}
-
-/// Whether a clock follows another, and has a port in SLAVE.
-fn is_follower(site: &Site, source: Source) -> bool {
-    site.followed(source).is_some() && site.has_port_of(source, PortGroup::Slave)
-}
-
-/// Those of all clocks that follow another, and have a port in SLAVE.
-pub fn all_followers(
-    alloc: Global,
-    site: &Site,
-    sources: &[Source],
-) -> Result<Vec<Source>, AllocError> {
-    sources
-        .iter()
-        .copied()
-        .filter(|source| is_follower(site, *source))
-        .collect(alloc)
-}
-
-/// How many clocks follow one that leads, if they are two or more and each takes TAI and UTC for each other. `followers` has all
-/// clocks that follow another.
-pub fn followers_off(
-    site: &Site,
-    tai_utc: i16,
-    source: Source,
-    leader: Option<Leader>,
-    followers: &[Source],
-) -> Option<usize> {
-    let _ = leader?;
+/// How many of all slaves name a clock that leads, if they are two or more and each takes TAI and UTC for each other.
+pub fn followers_off(source: Source, slaves: &[Slave]) -> Option<usize> {
     let mut count: usize = 0;
-    for follower in followers {
-        if names(site, source, *follower) {
-            if !is_off_by_utc(site, tai_utc, *follower) {
+    for slave in slaves {
+        if slave.grandmaster == source {
+            if !slave.is_off_by_utc {
                 return None;
             }
             count = count.saturating_add(1);

@@ -28,7 +28,8 @@ pub enum TreeRow {
 }
 
 /// The rows of the tree. `least` marks the least clock of each loop. In each domain come first the grandmasters, then the clocks
-/// whose parent is not seen. Then come those of loops, from their least one on, and those that did not say whom they follow.
+/// whose parent is not seen. Then come those of loops, from their least one on, and those that stand by or did not say whom they
+/// follow.
 /// Below each clock come those that follow it, by its port, and then by identity.
 pub fn rows(
     alloc: Global,
@@ -65,7 +66,7 @@ fn add_domain(
     add_lost(forest, domain, builder)?;
     add_roots(forest, domain, builder, |place| is_marked(least, place))?;
     add_roots(forest, domain, builder, |place| {
-        is_without_parent_at(site, forest, place)
+        is_following_none_at(site, forest, place)
     })
 }
 
@@ -97,10 +98,10 @@ fn is_grandmaster_at(site: &Site, forest: &Forest, place: usize) -> bool {
     }
 }
 
-/// Whether the clock at a place did not answer PARENT_DATA_SET, so that it is not known whom it follows.
-fn is_without_parent_at(site: &Site, forest: &Forest, place: usize) -> bool {
+/// Whether the clock at a place follows nobody, as far as is known.
+fn is_following_none_at(site: &Site, forest: &Forest, place: usize) -> bool {
     match forest.sources.get(place) {
-        Some(source) => site.parent(*source).is_none(),
+        Some(source) => site.followed(*source).is_none(),
         None => false,
     }
 }

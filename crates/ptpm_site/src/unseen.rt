@@ -42,19 +42,27 @@ fn sent_kind(evidence: &Evidence, source: Source) -> Option<u8> {
         .find(|kind| sends(evidence, source, *kind))
 }
 
+/// Whether a clock that is not seen answers nothing, in a domain that was asked.
+fn is_mute(evidence: &Evidence, source: Source, sources: &[Source]) -> bool {
+    was_asked(evidence, source.domain, sources) && !evidence.untaken.contains_key(&source)
+}
+
 /// That a clock sends by itself, and answers nothing in a domain that was asked.
 fn mute(evidence: &Evidence, source: Source, sources: &[Source]) -> Option<Absence> {
     let kind = sent_kind(evidence, source)?;
-    if was_asked(evidence, source.domain, sources) {
+    if is_mute(evidence, source, sources) {
         Some(Absence::Mute(kind))
     } else {
         None
     }
 }
 
-/// Whether a clock that is not seen has the finding `mute`. `sources` has all clocks that are seen.
-pub fn is_mute(evidence: &Evidence, source: Source, sources: &[Source]) -> bool {
-    !evidence.hosts.contains(&source.clock) && mute(evidence, source, sources).is_some()
+/// Whether a clock that is not seen sends by itself as a master does, and is not of the host that asks. `sources` has all clocks that
+/// are seen.
+pub fn is_heard(evidence: &Evidence, source: Source, sources: &[Source]) -> bool {
+    !evidence.hosts.contains(&source.clock)
+        && sent_kind(evidence, source).is_some()
+        && was_asked(evidence, source.domain, sources)
 }
 
 /// That a clock that is not seen sends Delay_Req alone, and answers nothing in a domain that was asked: a slave, or a transparent
@@ -63,7 +71,7 @@ pub fn open_mute(evidence: &Evidence, source: Source, sources: &[Source]) -> Opt
     if evidence.hosts.contains(&source.clock) || sent_kind(evidence, source).is_some() {
         return None;
     }
-    if sends(evidence, source, DELAY_REQ) && was_asked(evidence, source.domain, sources) {
+    if sends(evidence, source, DELAY_REQ) && is_mute(evidence, source, sources) {
         Some(Absence::Mute(DELAY_REQ))
     } else {
         None

@@ -27,6 +27,17 @@ impl Words {
         Ok(number)
     }
 
+    /// For each number the place of its text in the order of all texts.
+    pub fn places(&self, alloc: Global) -> Result<Vec<usize>, AllocError> {
+        let mut places = vec![in alloc; 0; self.numbers.len()]?;
+        for (place, number) in self.numbers.values().enumerate() {
+            if let Some(kept) = places.get_mut(*number) {
+                *kept = place;
+            }
+        }
+        Ok(places)
+    }
+
     /// The text of a number, or an empty one if no text has it.
     pub fn text(&self, number: usize) -> &str {
         for (text, its_number) in self.numbers.iter() {

@@ -49,6 +49,7 @@ IsShown viewing judged shown =
 -- ---- how a plugin says it
 
 abbrev pub is_silent : Kind → Bool
+is_silent kinds.NotTaken = true
 is_silent kinds.Mute = true
 is_silent kinds.OwnHost = true
 is_silent _ = false

@@ -43,10 +43,12 @@ fn add_query(asked: &mut Vec<AskedDomain>, query: &Query) -> Result<(), AllocErr
     Ok(())
 }
 
-/// Which domains were asked, with how many boundary hops, and when, as far as the lines have it.
+/// Which domains were asked, with how many boundary hops, when, and how many requests were repeated, as far as the lines have it.
 #[derive(Clone, Copy)]
 pub(crate) struct AskedText<'a> {
     pub(crate) asked: &'a [AskedDomain],
+    /// How many requests were repeated.
+    pub(crate) again: usize,
     pub(crate) span: Option<Span>,
 }
 
@@ -59,8 +61,12 @@ impl fmt::Display for AskedText<'_> {
         write_domains(self.asked, f)?;
         write_hops(self.asked, f)?;
         match self.span {
-            Some(Span { begin, end }) => write!(f, "; {} to {}", UtcText(begin), UtcText(end)),
-            None => Ok(()),
+            Some(Span { begin, end }) => write!(f, "; {} to {}", UtcText(begin), UtcText(end))?,
+            None => {}
+        }
+        match self.again {
+            0 => Ok(()),
+            again => write!(f, "; asked again: {again}"),
         }
     }
 }

@@ -24,27 +24,36 @@ pub(crate) struct Columns {
     pub(crate) delay: String,
 }
 
-/// How many characters the widest of each column has.
+/// How many characters the widest of each column has. That of stepsRemoved is its head.
 #[derive(Clone, Copy)]
 pub(crate) struct Widths {
     /// How far to the right an identity begins.
     indent: usize,
     description: usize,
-    steps: usize,
     offset: usize,
     delay: usize,
 }
 
 impl Widths {
-    /// The least widths.
-    pub(crate) fn of_none() -> Widths {
+    /// Those of the heads.
+    pub(crate) fn of_heads() -> Widths {
         Widths {
             indent: 0,
-            description: 1,
-            steps: 1,
-            offset: 1,
-            delay: 1,
+            description: "userDescription".len(),
+            offset: "offsetFromMaster".len(),
+            delay: "meanDelay".len(),
         }
+    }
+
+    /// Prints the head of each column, in the standard's words.
+    pub(crate) fn print_heads<O: Write>(&self, out: &mut O) -> io::Result<()> {
+        let (identity, description) = (self.indent.saturating_add(14), self.description);
+        let (offset, delay) = (self.offset, self.delay);
+        writeln!(
+            out,
+            "  {:identity$}  {:description$}  stepsRemoved  {:>offset$}  {:>delay$}  portState",
+            "clockIdentity", "userDescription", "offsetFromMaster", "meanDelay"
+        )
     }
 
     /// Widens them so that these columns fit after an identity that begins `indent` characters from the
@@ -55,7 +64,6 @@ impl Widths {
         if description <= DESCRIPTION {
             self.description = self.description.max(description);
         }
-        self.steps = self.steps.max(columns.steps.len());
         self.offset = self.offset.max(columns.offset.len());
         self.delay = self.delay.max(columns.delay.len());
     }
@@ -102,11 +110,11 @@ impl Columns {
         let gap = widths.indent.saturating_sub(indent);
         let (description, steps) = (self.description.as_str(), self.steps.as_str());
         let (offset, delay) = (self.offset.as_str(), self.delay.as_str());
-        let (wide, of_steps) = (widths.description, widths.steps);
+        let wide = widths.description;
         let (of_offset, of_delay) = (widths.offset, widths.delay);
         write!(
             out,
-            "{:indent$}{identity}{:gap$}  {description:wide$}  {steps:>of_steps$}  {offset:>of_offset$}  {delay:>of_delay$}",
+            "{:indent$}{identity}{:gap$}  {description:wide$}  {steps:>12}  {offset:>of_offset$}  {delay:>of_delay$}",
             "", ""
         )
     }

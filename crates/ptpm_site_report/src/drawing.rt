@@ -2,8 +2,10 @@
 
 use crate::lines::{DrawnRemark, Frame, Line, lines_of};
 use crate::look::Look;
+use crate::not_judged::NotJudged;
 use crate::remarks::Weight;
 use ptpm_commands::Fault;
+use ptpm_site::lacks::Lack;
 use ptpm_text::Escaped;
 use std::alloc::Global;
 use std::io;
@@ -113,7 +115,7 @@ fn sizes_of(lines: &[Line]) -> Sizes {
 pub(crate) fn draw<O: Write>(alloc: Global, look: &Look<'_, '_>, out: &mut O) -> Result<(), Fault> {
     let lines = lines_of(alloc, look)?;
     let sizes = sizes_of(lines.as_slice());
-    write_head(sizes, lines.as_slice(), out)?;
+    write_head(sizes, lines.as_slice(), look.picture.lacks.as_slice(), out)?;
     let mut tops: Vec<usize> = Vec::new(alloc);
     let mut top = MARGIN;
     for line in lines.as_slice() {
@@ -129,16 +131,28 @@ pub(crate) fn draw<O: Write>(alloc: Global, look: &Look<'_, '_>, out: &mut O) ->
 }
 
 /// Writes what comes before the rows.
-fn write_head<O: Write>(sizes: Sizes, lines: &[Line], out: &mut O) -> io::Result<()> {
+fn write_head<O: Write>(
+    sizes: Sizes,
+    lines: &[Line],
+    lacks: &[Lack],
+    out: &mut O,
+) -> io::Result<()> {
     let Sizes { width, height, .. } = sizes;
     let findings = count_wrong(lines);
-    writeln!(
+    write!(
         out,
         r##"<?xml version="1.0" encoding="UTF-8"?>
 <svg xmlns="http://www.w3.org/2000/svg" version="1.1" width="{width}" height="{height}" viewBox="0 0 {width} {height}"
 font-family="DejaVu Sans Mono, Menlo, Consolas, monospace" font-size="13" fill="#24292f">
 <title>Which clock follows which, and what is wrong</title>
-<desc>From top to bottom: the clocks of each domain, each below the clock that it follows. Findings: {findings}.</desc>
+<desc>From top to bottom: the clocks of each domain, each below the clock that it follows. Findings: {findings}."##
+    )?;
+    for lack in lacks {
+        write!(out, " {}.", NotJudged(*lack))?;
+    }
+    writeln!(
+        out,
+        r##"</desc>
 <rect width="{width}" height="{height}" fill="#ffffff"/>"##
     )
 }

@@ -1,6 +1,6 @@
 //! Which lines the findings of a site take as text: one for each that follows from no other, and one for many that are alike.
 
-use crate::finding_text::Said;
+use crate::finding_text::FindingText;
 use crate::followers::{Follower, Followers, Head, add_under};
 use crate::look::Look;
 use crate::remarks::Remark;
@@ -127,7 +127,7 @@ pub(crate) fn alike_together(
             together.push(*line)?;
             continue;
         };
-        let words = format!(in alloc; "{} {}", remark.source().domain, Said(remark))?;
+        let words = format!(in alloc; "{} {}", remark.source().domain, FindingText(remark))?;
         let repeat = count_one(&mut said, words, together.len())?;
         put_line(&mut together, *line, repeat)?;
         add_of_many(&mut of_many, line, remark, repeat, followers)?;

@@ -3,9 +3,10 @@
 ghost use Rattle.std.specs.Prelude.{◌≡◌, IfOk, length};
 
 use crate::finding_lines::{FindingLine, FindingLines, alike_together, each_line, open_lines};
-use crate::finding_text::{Said, Words};
+use crate::finding_text::{FindingText, Words};
 use crate::followers::{Followers, Head, SoToo};
 use crate::look::Look;
+use crate::not_judged::limit_of;
 use crate::remarks::Remark;
 use crate::trees::Clocks;
 use ptpm_site::source::Source;
@@ -28,13 +29,15 @@ pub(crate) struct Sum {
     found: usize,
     pub(crate) lines: usize,
     following: usize,
+    /// What comes after `none` if the lines lack something.
+    limit: &'static str,
 }
 
 /// The line above those of the findings: `findings: 3, and 2 that follow`.
 impl fmt::Display for Sum {
     fn fmt<W: fmt::Write>(&self, f: &mut fmt::Formatter<W>) -> fmt::Result {
         match (self.found, self.lines, self.following) {
-            (0, ..) => f.write_str("findings: none"),
+            (0, ..) => write!(f, "findings: none{}", self.limit),
             (_, lines, 0) => write!(f, "findings: {lines}"),
             (_, lines, following) => write!(f, "findings: {lines}, and {following} that follow"),
         }
@@ -52,6 +55,7 @@ impl FindingReport {
             found: look.found.len(),
             lines: found.lines.len(),
             following: count_following(look),
+            limit: limit_of(look.picture),
         };
         if look.beside.is_all {
             found.lines = each_line(alloc, look, true)?;
@@ -163,7 +167,7 @@ fn print_many<O: Write>(
     so_too: SoToo<'_>,
     out: &mut O,
 ) -> io::Result<()> {
-    let (domain, said, clocks) = (remark.source().domain, Said(remark), Clocks(more));
+    let (domain, said, clocks) = (remark.source().domain, FindingText(remark), Clocks(more));
     writeln!(out, "{domain} - {said} of {clocks} more{so_too}")
 }
 

@@ -3,11 +3,41 @@
 use ptpm_members::Enumeration;
 use ptpm_site::data_sets::TimePropertiesDataSet;
 use ptpm_site::leaders::Leader;
+use ptpm_site::origin::{JudgedTime, TimeVerdict};
+use ptpm_site::picture::Picture;
 use std::fmt;
 
 /// A grandmaster that leads. What is not said of it is left out.
 #[derive(Clone, Copy)]
-pub(crate) struct GrandmasterLine<'a>(pub(crate) &'a Leader);
+pub(crate) struct GrandmasterLine<'a> {
+    leader: &'a Leader,
+    time: Option<JudgedTime>,
+}
+
+impl<'a> GrandmasterLine<'a> {
+    pub(crate) fn of(picture: &Picture<'_>, leader: &'a Leader) -> GrandmasterLine<'a> {
+        let time = judged_time(picture, leader);
+        GrandmasterLine { leader, time }
+    }
+}
+
+/// The time of a grandmaster that leads, if it is judged.
+pub(crate) fn judged_time(picture: &Picture<'_>, leader: &Leader) -> Option<JudgedTime> {
+    let all = picture.leaders.as_slice();
+    let place = all.partition_point(|other| other.source < leader.source);
+    *picture.times.get(place)?
+}
+
+/// What is said of the time of a grandmaster. Nothing if it is wrong, since that is a finding.
+fn verdict_text(time: Option<JudgedTime>) -> &'static str {
+    match time {
+        None => " time not judged",
+        Some(judged) => match judged.verdict {
+            TimeVerdict::Right => " time right by the clock of this host",
+            TimeVerdict::Utc | TimeVerdict::Wrong => "",
+        },
+    }
+}
 
 impl fmt::Display for GrandmasterLine<'_> {
     fn fmt<W: fmt::Write>(&self, f: &mut fmt::Formatter<W>) -> fmt::Result {
@@ -16,7 +46,7 @@ impl fmt::Display for GrandmasterLine<'_> {
             attributes,
             time,
             ..
-        } = *self.0;
+        } = *self.leader;
         write!(f, "grandmaster {}", source.clock)?;
         let mut between = ":";
         if let Some(told) = attributes {
@@ -27,10 +57,14 @@ impl fmt::Display for GrandmasterLine<'_> {
         if let Some(set) = time {
             f.write_str(between)?;
             write_time(&set, f)?;
+            between = ",";
         }
-        match attributes {
-            Some(told) => write!(f, ", priorities {} and {}", told.priority1, told.priority2),
-            None => Ok(()),
+        if let Some(told) = attributes {
+            write!(f, ", priorities {} and {}", told.priority1, told.priority2)?;
+        }
+        match verdict_text(self.time) {
+            "" => Ok(()),
+            text => write!(f, "{between}{text}"),
         }
     }
 }

@@ -2,6 +2,7 @@
 
 use crate::asked_domains::AskedDomain;
 use crate::finding_json::finding_value;
+use crate::grandmaster_line::judged_time;
 use crate::look::Look;
 use crate::members::Members;
 use crate::names::Names;
@@ -9,6 +10,7 @@ use crate::remarks::Remark;
 use crate::span::Span;
 use crate::trees::leaders_in;
 use crate::utc_text::UtcText;
+use ptpm_causes::not_judged;
 use ptpm_codec::{ClockIdentity, PortIdentity};
 use ptpm_commands::Fault;
 use ptpm_data::Member::{
@@ -21,16 +23,18 @@ use ptpm_site::asked::{Asked, OF_CLOCK};
 use ptpm_site::clock::{Clock, Received};
 use ptpm_site::data_sets::TimePropertiesDataSet;
 use ptpm_site::domain::Domain;
+use ptpm_site::lacks::Lack;
 use ptpm_site::leaders::{HeardBy, Leader};
 use ptpm_site::member::{members_of, value_of};
+use ptpm_site::origin::{JudgedTime, TimeVerdict};
 use ptpm_site::source::Source;
 use serde_json::Value;
 use std::alloc::{AllocError, Global};
 use std::io::Write;
 use std::{fmt, io};
 
-/// Prints one object: what was asked and when, the domains with their clocks, what is open, the findings, and how much was left
-/// out.
+/// Prints one object: what was asked and when, the domains with their clocks, what is open, and the findings. Last is what is not judged,
+/// and how much was left out.
 pub(crate) fn print_object<O: Write>(
     alloc: Global,
     look: &Look<'_, '_>,
@@ -44,6 +48,7 @@ pub(crate) fn print_object<O: Write>(
     }
     print_findings(alloc, look, "open", look.open.as_slice(), out)?;
     print_findings(alloc, look, "findings", look.found.as_slice(), out)?;
+    print_lacks(picture.lacks.as_slice(), out)?;
     let (clocks, ports) = (picture.left_out.clocks, picture.left_out.ports);
     writeln!(
         out,
@@ -127,14 +132,23 @@ fn grandmasters_value(
 ) -> Result<Value, AllocError> {
     let mut values = Vec::new(alloc);
     for leader in leaders_in(look.picture, domain) {
-        values.push(grandmaster_value(alloc, leader)?)?;
+        let time = judged_time(look.picture, leader);
+        values.push(grandmaster_value(alloc, leader, time)?)?;
     }
     Ok(Value::Array(values))
 }
 
-/// A grandmaster that leads: its identity, its quality, what is said of its time, and by what it is known.
-fn grandmaster_value(alloc: Global, leader: &Leader) -> Result<Value, AllocError> {
+/// A grandmaster that leads: its identity, its quality, what is said of its time, whether that is right, and by what it is known.
+fn grandmaster_value(
+    alloc: Global,
+    leader: &Leader,
+    time: Option<JudgedTime>,
+) -> Result<Value, AllocError> {
     let mut members = Members::none(alloc);
+    match time {
+        Some(judged) => members.put_text("time", verdict_word(judged.verdict))?,
+        None => members.put_value("time", Value::Null)?,
+    }
     if let Some(time) = &leader.time {
         put_time(&mut members, time)?;
     }
@@ -144,6 +158,13 @@ fn grandmaster_value(alloc: Global, leader: &Leader) -> Result<Value, AllocError
     members.put_clock("clockIdentity", leader.source.clock)?;
     members.put_text("heard", heard_word(leader.heard))?;
     Ok(members.object())
+}
+
+fn verdict_word(verdict: TimeVerdict) -> &'static str {
+    match verdict {
+        TimeVerdict::Right => "right",
+        TimeVerdict::Utc | TimeVerdict::Wrong => "wrong",
+    }
 }
 
 fn heard_word(heard: HeardBy) -> &'static str {
@@ -189,6 +210,23 @@ fn print_findings<O: Write>(
     }
     writeln!(out, "],")?;
     Ok(())
+}
+
+/// Prints the member with what lines lack, each with the findings that are not judged for that.
+fn print_lacks<O: Write>(lacks: &[Lack], out: &mut O) -> io::Result<()> {
+    write!(out, "\"notJudged\":[")?;
+    let mut between = "";
+    for lack in lacks {
+        write!(out, "{between}{{\"findings\":[")?;
+        let mut comma = "";
+        for kind in not_judged(*lack) {
+            write!(out, "{comma}\"{}\"", kind.name())?;
+            comma = ",";
+        }
+        write!(out, "],\"lack\":\"{}\"}}", lack.name())?;
+        between = ",";
+    }
+    writeln!(out, "],")
 }
 
 fn print_value<O: Write>(alloc: Global, value: &Value, out: &mut O) -> Result<(), Fault> {

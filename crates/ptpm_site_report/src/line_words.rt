@@ -1,4 +1,5 @@
-//! The words before a datagram in a line: when it came, from which address, and at which interface. And those of a note: whether the host's clock has the right time.
+//! The words before a datagram in a line: when it came, from which address, at which interface, and whether it was taken. And those of
+//! a note: the identities of the host that asked, and whether its clock is right.
 
 use std::str::FromStr;
 
@@ -8,32 +9,38 @@ const SECOND: u64 = 1_000_000_000;
 /// When the datagram of a line came, in nanoseconds since 1970, by the first word `at=`. A time has seconds in decimal digits, and
 /// after a point one to nine digits more. It is `None` if there is no such word, or if it has no time.
 pub(crate) fn at_of(line: &str) -> Option<u64> {
-    for word in line.split(' ') {
-        if let Some(time) = word.strip_prefix("at=") {
-            return nanoseconds_of(time);
-        }
-    }
-    None
+    nanoseconds_of(said_by(line, "at=")?)
 }
 
-/// The value of the first word with a name, such as `from=`. It is `None` if there is no such word, or if it has no value.
-pub(crate) fn value_of<'a>(line: &'a str, name: &str) -> Option<&'a str> {
+/// What comes after the first name of this kind, such as `taken=`.
+pub(crate) fn said_by<'a>(line: &'a str, name: &str) -> Option<&'a str> {
     for word in line.split(' ') {
         if let Some(value) = word.strip_prefix(name) {
-            return if value.is_empty() { None } else { Some(value) };
+            return Some(value);
         }
     }
     None
 }
 
-/// Whether a note `#ptpm` has the word `clock=synchronised`. It is `None` if the line is no such note.
-pub(crate) fn synchronised_in(line: &str) -> Option<bool> {
+/// The same if it is not empty.
+pub(crate) fn value_of<'a>(line: &'a str, name: &str) -> Option<&'a str> {
+    let value = said_by(line, name)?;
+    if value.is_empty() { None } else { Some(value) }
+}
+
+/// The words of a note `#ptpm`. `None` if a line is no such note.
+pub(crate) fn note_in(line: &str) -> Option<&str> {
     let words = line.strip_prefix("#ptpm")?;
     if words.is_empty() || words.starts_with(' ') {
-        Some(words.split(' ').any(|word| word == "clock=synchronised"))
+        Some(words)
     } else {
         None
     }
+}
+
+/// Whether words say that the clock of the host that asked was right.
+pub(crate) fn is_synchronised(words: &str) -> bool {
+    words.split(' ').any(|word| word == "clock=synchronised")
 }
 
 fn nanoseconds_of(time: &str) -> Option<u64> {

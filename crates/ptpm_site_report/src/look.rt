@@ -87,6 +87,7 @@ impl Look<'_, '_> {
     pub(crate) fn asked_text(&self) -> AskedText<'_> {
         AskedText {
             asked: self.beside.said.asked.as_slice(),
+            again: self.beside.said.asked_again,
             span: self.beside.said.span,
         }
     }

@@ -5,7 +5,6 @@ use ptpm_members::MemberValue;
 use ptpm_message_json::member_value;
 use serde_json::{Map, Value, put};
 use std::alloc::{AllocError, Global};
-use std::fmt;
 
 /// The members of an object.
 #[derive(Drop)]
@@ -39,27 +38,9 @@ impl Members {
         self.put_value(name, Value::from(number))
     }
 
-    /// Puts a number, or null.
-    pub(crate) fn put_if_any(&mut self, name: &str, number: Option<i64>) -> Result<(), AllocError> {
-        match number {
-            Some(number) => self.put_number(name, number),
-            None => self.put_value(name, Value::Null),
-        }
-    }
-
     pub(crate) fn put_clock(&mut self, name: &str, clock: ClockIdentity) -> Result<(), AllocError> {
         let clock = identity_value(self.alloc, clock)?;
         self.put_value(name, clock)
-    }
-
-    /// Puts words as a text.
-    pub(crate) fn put_words<D: fmt::Display>(
-        &mut self,
-        name: &str,
-        words: &D,
-    ) -> Result<(), AllocError> {
-        let words = format!(in self.alloc; "{words}")?;
-        self.put_value(name, Value::String(words))
     }
 
     pub(crate) fn object(self) -> Value {

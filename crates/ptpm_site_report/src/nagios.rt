@@ -5,6 +5,7 @@ ghost use Rattle.ptpm_site_report.specs.Reporting.{standing};
 
 use crate::finding_report::FindingReport;
 use crate::look::Look;
+use crate::not_judged::KindNames;
 use crate::seconds::{IntervalSeconds, NanosecondSeconds};
 use crate::trees::Clocks;
 use ptpm_causes::{Kind, Severity};
@@ -103,7 +104,7 @@ fn print_head<O: Write>(
     writeln!(out)
 }
 
-/// Prints how many clocks there are, and whom they follow.
+/// Prints how many clocks there are, whom they follow, and what is not judged.
 fn print_grandmasters<O: Write>(picture: &Picture<'_>, out: &mut O) -> io::Result<()> {
     write!(out, "{}", Clocks(picture.forest.sources.len()))?;
     let mut word = "grandmaster";
@@ -113,6 +114,13 @@ fn print_grandmasters<O: Write>(picture: &Picture<'_>, out: &mut O) -> io::Resul
             write!(out, " of class {}", told.quality.class)?;
         }
         word = "and";
+    }
+    let mut between = "; not judged: ";
+    for lack in picture.lacks.as_slice() {
+        if lack.is_worth_a_word() {
+            write!(out, "{between}{}", KindNames::of(*lack))?;
+            between = ", ";
+        }
     }
     Ok(())
 }

@@ -1,10 +1,11 @@
 //! A site as numbers for a monitoring system, in OpenMetrics 1.0. Programs that read the older text format of Prometheus read it too.
 
+use crate::grandmaster_line::judged_time;
 use crate::label::Label;
 use crate::look::Look;
 use crate::metric_families::{OfClock, OfGrandmaster, OfPort, write_head};
 use crate::remarks::Remark;
-use crate::seconds::NanosecondSeconds;
+use crate::seconds::{ErrorSeconds, NanosecondSeconds};
 use crate::span::Span;
 use ptpm_causes::Kind;
 use ptpm_commands::Fault;
@@ -49,6 +50,7 @@ pub(crate) fn print_metrics<O: Write>(
     ] {
         print_of_grandmasters(picture, family, out)?;
     }
+    print_time_errors(picture, out)?;
     writeln!(out, "# EOF")?;
     Ok(())
 }
@@ -258,6 +260,23 @@ fn print_of_grandmasters<O: Write>(
         if let Some(amount) = family.amount(leader) {
             let labels = OfSource(leader.source, Role::Grandmaster);
             writeln!(out, "{name}{{{labels}}} {amount}")?;
+        }
+    }
+    Ok(())
+}
+
+/// Prints how far the time of each grandmaster that leads is from TAI, if it is judged.
+fn print_time_errors<O: Write>(picture: &Picture<'_>, out: &mut O) -> io::Result<()> {
+    let (name, help) = (
+        "ptp_grandmaster_time_error_seconds",
+        "The grandmaster's time minus TAI, by the clock of the host that asked.",
+    );
+    write_head(name, help, out)?;
+    for leader in picture.leaders.as_slice() {
+        if let Some(judged) = judged_time(picture, leader) {
+            let labels = OfSource(leader.source, Role::Grandmaster);
+            let error = ErrorSeconds(judged.error);
+            writeln!(out, "{name}{{{labels}}} {error}")?;
         }
     }
     Ok(())

@@ -1,8 +1,9 @@
 //! A site as a page in HTML that needs nothing else: its tree as a table, and below each clock what is wrong with it.
 
-use crate::finding_text::Said;
+use crate::finding_text::FindingText;
 use crate::grandmaster_line::GrandmasterLine;
 use crate::look::Look;
+use crate::not_judged::{NotJudged, limit_of};
 use crate::page_style::STYLE;
 use crate::phrases::clock_of;
 use crate::ports_text::PortsText;
@@ -45,6 +46,8 @@ struct Counts {
     critical: usize,
     all: usize,
     following: usize,
+    /// What comes after `no findings` if the lines lack something.
+    limit: &'static str,
 }
 
 fn counts_of(look: &Look<'_, '_>) -> Counts {
@@ -63,6 +66,7 @@ fn counts_of(look: &Look<'_, '_>) -> Counts {
         critical,
         all,
         following,
+        limit: limit_of(look.picture),
     }
 }
 
@@ -70,7 +74,7 @@ fn counts_of(look: &Look<'_, '_>) -> Counts {
 impl fmt::Display for Counts {
     fn fmt<W: fmt::Write>(&self, f: &mut fmt::Formatter<W>) -> fmt::Result {
         match (self.all, self.critical) {
-            (0, _) => f.write_str("no findings")?,
+            (0, _) => write!(f, "no findings{}", self.limit)?,
             (1, 0) => f.write_str("1 finding")?,
             (1, _) => f.write_str("1 finding, which is critical")?,
             (all, 0) => write!(f, "{all} findings")?,
@@ -90,7 +94,7 @@ fn print_head<O: Write>(look: &Look<'_, '_>, out: &mut O) -> io::Result<()> {
     let clocks = look.picture.forest.sources.len();
     let class = match look.severity() {
         Some(severity) => severity.word(),
-        None if clocks == 0 => "faint",
+        None if clocks == 0 || !counts.limit.is_empty() => "faint",
         None => "good",
     };
     let (clocks, asked) = (Clocks(clocks), look.asked_text());
@@ -110,7 +114,11 @@ fn print_head<O: Write>(look: &Look<'_, '_>, out: &mut O) -> io::Result<()> {
 <h1>PTP site</h1>
 <p class=\"sum {class}\">{clocks}, {counts}</p>
 <p class=\"faint\">{asked}</p>"
-    )
+    )?;
+    for lack in look.picture.lacks.as_slice() {
+        writeln!(out, "<p class=\"faint\">{}</p>", NotJudged(*lack))?;
+    }
+    Ok(())
 }
 
 /// Prints the findings that follow from no other, or what is open, each with a link to its clock.
@@ -147,7 +155,7 @@ fn print_found_row<O: Write>(
     out: &mut O,
 ) -> Result<(), Fault> {
     let name = called(alloc, look, remark.source())?;
-    let words = format!(in alloc; "{}", Said(remark))?;
+    let words = format!(in alloc; "{}", FindingText(remark))?;
     print_cells(remark, name.as_str(), words.as_str(), out)?;
     Ok(())
 }
@@ -201,12 +209,13 @@ fn print_tree<O: Write>(
 ) -> Result<(), Fault> {
     writeln!(out, "<h2>{tree}</h2>")?;
     for leader in tree.leaders {
-        writeln!(out, "<p class=\"faint\">{}</p>", GrandmasterLine(leader))?;
+        let line = GrandmasterLine::of(look.picture, leader);
+        writeln!(out, "<p class=\"faint\">{line}</p>")?;
     }
     writeln!(
         out,
         "<div class=\"wide\"><table>
-<thead><tr><th>Clock</th><th>Identity</th><th class=\"number\">Steps</th><th class=\"number\">Offset</th><th class=\"number\">Mean delay</th><th>Ports</th></tr></thead>"
+<thead><tr><th>Clock</th><th>clockIdentity</th><th class=\"number\">stepsRemoved</th><th class=\"number\">offsetFromMaster</th><th class=\"number\">meanDelay</th><th>portState</th></tr></thead>"
     )?;
     for row in tree.rows.as_slice() {
         match row {

@@ -31,8 +31,8 @@ pub(crate) fn clock_of_cause(cause: Cause) -> Option<ClockIdentity> {
 pub(crate) enum Phrase<'a> {
     /// A member as an inventory names it: with `port/N.` before a port's.
     Member(Option<u16>, Member),
-    /// The value of a member, as far as an inventory wants it. `not said` if it was not answered.
-    Said(Option<MemberValue<'a>>, &'a [Wanted]),
+    /// The value of a member, as far as an inventory wants it.
+    Said(MemberValue<'a>, &'a [Wanted]),
     /// What an inventory wants of a member: the values, with ` | ` between them.
     Wanted(&'a [Wanted]),
     /// Clocks with a space between them; `none` if there is none.
@@ -48,8 +48,7 @@ impl fmt::Display for Phrase<'_> {
         match *self {
             Phrase::Member(Some(port), member) => write!(f, "port/{port}.{}", member.name()),
             Phrase::Member(None, member) => f.write_str(member.name()),
-            Phrase::Said(Some(value), wanted) => write_said(value, wanted, f),
-            Phrase::Said(None, _) => f.write_str("not said"),
+            Phrase::Said(value, wanted) => write_said(value, wanted, f),
             Phrase::Wanted(wanted) => write_all_wanted(wanted, f),
             Phrase::Clocks(clocks) => write_clocks(clocks, f),
             Phrase::Choices(choices) => write_choices(choices, f),

@@ -4,7 +4,7 @@ ghost use Rattle.std.specs.Prelude.{◌≡◌, ◌&&◌, IfOk, None, length, map
 ghost use Rattle.std.specs.List.{list_any};
 ghost use Rattle.ptpm_site_report.specs.Reporting.{counts, is_critical};
 
-use crate::finding_text::Said;
+use crate::finding_text::FindingText;
 use crate::phrases::clock_of_cause;
 use ptpm_causes::{Cause, Kind, Severity, named};
 use ptpm_site::finding::Finding;
@@ -122,7 +122,7 @@ impl Remark<'_> {
         ensures { result ≡ counts self.now.cause }
     {
         match self.cause {
-            Some(cause) => !matches!(cause.kind, Kind::Mute | Kind::OwnHost),
+            Some(cause) => !matches!(cause.kind, Kind::NotTaken | Kind::Mute | Kind::OwnHost),
             None => true,
         }
     }
@@ -131,7 +131,7 @@ impl Remark<'_> {
 /// The name and the values, and from what it follows, with the clock of that if it is another.
 impl fmt::Display for Remark<'_> {
     fn fmt<W: fmt::Write>(&self, f: &mut fmt::Formatter<W>) -> fmt::Result {
-        write!(f, "{}", Said(self))?;
+        write!(f, "{}", FindingText(self))?;
         let Some(cause) = self.cause else {
             return Ok(());
         };

@@ -1,5 +1,6 @@
 //! Times in seconds, the unit of monitoring systems.
 
+use ptpm_site::origin::TimeError;
 use std::fmt;
 
 /// Nanoseconds in a second.
@@ -13,6 +14,10 @@ pub(crate) struct IntervalSeconds(pub(crate) i64);
 #[derive(Clone, Copy)]
 pub(crate) struct NanosecondSeconds(pub(crate) u64);
 
+/// How far a time is from TAI, with nine decimal places, negative if it is late.
+#[derive(Clone, Copy)]
+pub(crate) struct ErrorSeconds(pub(crate) TimeError);
+
 /// The whole seconds in N nanoseconds.
 pub(crate) fn whole_seconds(nanoseconds: u64) -> u64 {
     nanoseconds / SECOND
@@ -21,6 +26,13 @@ pub(crate) fn whole_seconds(nanoseconds: u64) -> u64 {
 impl fmt::Display for NanosecondSeconds {
     fn fmt<W: fmt::Write>(&self, f: &mut fmt::Formatter<W>) -> fmt::Result {
         write!(f, "{}.{:09}", self.0 / SECOND, self.0 % SECOND)
+    }
+}
+
+impl fmt::Display for ErrorSeconds {
+    fn fmt<W: fmt::Write>(&self, f: &mut fmt::Formatter<W>) -> fmt::Result {
+        let sign = if self.0.is_behind { "-" } else { "" };
+        write!(f, "{sign}{}.{:09}", self.0.seconds, self.0.nanoseconds)
     }
 }
 

@@ -1,11 +1,13 @@
 //! The answers among lines of datagrams.
 
 use crate::asked_domains::{AskedDomain, asked_domains};
-use crate::line_words::{at_of, synchronised_in, value_of};
+use crate::line_words::{at_of, is_synchronised, note_in, said_by, value_of};
 use crate::span::Span;
 use ptpm_commands::Fault;
 use ptpm_commands::lines::Lines;
+use ptpm_members::clock_identity_of;
 use ptpm_site::left_out::LeftOut;
+use ptpm_site::looks::asked_again;
 use ptpm_site::site::Site;
 use std::alloc::{AllocError, Global};
 use std::io::Read;
@@ -30,6 +32,8 @@ pub(crate) struct ShownSite {
 pub(crate) struct LinesSaid {
     /// The domains in which GETs among them ask.
     pub(crate) asked: Vec<AskedDomain>,
+    /// How many requests were repeated to clocks that had not answered.
+    pub(crate) asked_again: usize,
     /// When the datagrams came. `None` if no line says it.
     pub(crate) span: Option<Span>,
     /// Whether the last note `#ptpm` says that the clock of the host that asked was right.
@@ -40,11 +44,13 @@ pub(crate) struct LinesSaid {
 pub(crate) fn read_shown<R: Read + Drop>(alloc: Global, reader: R) -> Result<SiteLines, Fault> {
     let mut said = LinesSaid {
         asked: Vec::new(alloc),
+        asked_again: 0,
         span: None,
         is_synchronised: false,
     };
     let mut site = read_site(alloc, reader, &mut said)?;
     said.asked = asked_domains(alloc, site.all_heard())?;
+    said.asked_again = asked_again(alloc, site.all_heard())?;
     let left_out = site.keep_first();
     site.drop_gone(alloc)?;
     let shown = ShownSite { site, left_out };
@@ -68,11 +74,22 @@ fn read_site<R: Read + Drop>(
         if let Some(datagram) = lines.datagram(alloc, number)? {
             said.span = Span::with(said.span, at_of(line));
             take_line(alloc, &mut site, line, datagram.as_slice())?;
-        } else if let Some(says) = synchronised_in(line) {
-            said.is_synchronised = says;
+        } else if let Some(words) = note_in(line) {
+            said.is_synchronised = is_synchronised(words);
+            take_hosts(&mut site, words)?;
         }
     }
     Ok(site)
+}
+
+/// Takes the identities that the interfaces of the host that asked would have, by the words of a note. Another text is passed over.
+fn take_hosts(site: &mut Site, words: &str) -> Result<(), AllocError> {
+    for name in value_of(words, "own=").unwrap_or("").split(',') {
+        if let Some(clock) = clock_identity_of(name) {
+            site.take_host(clock)?;
+        }
+    }
+    Ok(())
 }
 
 /// Takes the datagram of a line, and the words before it. A line that says no interface counts as one of an interface without a name.
@@ -82,8 +99,12 @@ fn take_line(
     line: &str,
     datagram: &[u8],
 ) -> Result<(), AllocError> {
-    site.take_datagram_at(alloc, at_of(line), datagram)?;
-    match value_of(line, "from=") {
+    let (at, from) = (at_of(line), value_of(line, "from="));
+    if let Some(why) = said_by(line, "taken=") {
+        return site.take_untaken(alloc, at, why, from, datagram);
+    }
+    site.take_datagram_at(alloc, at, datagram)?;
+    match from {
         Some(from) => {
             let on = value_of(line, "on=").unwrap_or("");
             site.take_arrival(alloc, from, on, datagram)

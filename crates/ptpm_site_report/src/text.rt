@@ -4,6 +4,7 @@ use crate::columns::Widths;
 use crate::finding_report::FindingReport;
 use crate::grandmaster_line::GrandmasterLine;
 use crate::look::Look;
+use crate::not_judged::NotJudged;
 use crate::ports_text::PortsText;
 use crate::trees::{ClockRow, Row, Tree, notes_of, trees_of};
 use ptpm_commands::Fault;
@@ -11,7 +12,7 @@ use std::alloc::Global;
 use std::io;
 use std::io::Write;
 
-/// Prints what was asked, the tree of each domain, and the findings.
+/// Prints what was asked, the tree of each domain, the findings, and what is not judged.
 pub(crate) fn print_text<O: Write>(
     alloc: Global,
     look: &Look<'_, '_>,
@@ -33,6 +34,9 @@ pub(crate) fn print_text<O: Write>(
     for note in notes.as_slice() {
         writeln!(out, "{note}")?;
     }
+    for lack in look.picture.lacks.as_slice() {
+        writeln!(out, "{}", NotJudged(*lack))?;
+    }
     Ok(())
 }
 
@@ -44,18 +48,20 @@ fn print_momentary<O: Write>(look: &Look<'_, '_>, out: &mut O) -> io::Result<()>
     }
 }
 
-/// Prints the head of a tree, a line for each grandmaster that leads, and its rows.
+/// Prints the head of a tree, a line for each grandmaster that leads, and its rows below the heads of their columns.
 fn print_tree<O: Write>(tree: &Tree<'_>, look: &Look<'_, '_>, out: &mut O) -> io::Result<()> {
     writeln!(out, "{tree}")?;
-    let mut widths = Widths::of_none();
+    let mut widths = Widths::of_heads();
     for row in tree.rows.as_slice() {
         if let Row::Clock(row) = row {
             widths.widen(indent(row), &row.columns);
         }
     }
     for leader in tree.leaders {
-        writeln!(out, "  {}", GrandmasterLine(leader))?;
+        let line = GrandmasterLine::of(look.picture, leader);
+        writeln!(out, "  {line}")?;
     }
+    widths.print_heads(out)?;
     for row in tree.rows.as_slice() {
         print_row(row, look, &widths, out)?;
     }

@@ -73,7 +73,7 @@ static const char site_text[] =
     "      --max-offset NS     offsets above this limit are findings, in nanoseconds (1000000); none is no\n"
     "                          limit\n"
     "      --max-delay NS      delays above this limit too\n"
-    "      --tai-utc S         how many seconds TAI is before UTC (37)\n"
+    "      --tai-utc S         how many seconds TAI is ahead of UTC (37)\n"
     "      --settle SECONDS    a port that is not locked, or in no lasting state, is a finding after this (10)\n"
     "      --profile NAME      members that this profile does not allow are findings too: default,\n"
     "                          st2059-2, aes67 or gptp\n"
