@@ -159,7 +159,7 @@ fn show<R: Read, O: Write>(
         Shown::InForm(options) => options,
         Shown::Inventory => return Ok(write_inventory(alloc, reader, out)?.status()),
     };
-    let came = report(alloc, options, expectations, viewing, reader, out)?;
+    let came = report(alloc, options, &expectations, viewing, reader, out)?;
     Ok(match options.form {
         Form::Plugin => came.standing.status(),
         Form::OpenMetrics => came.conclusion.status_of_numbers(),

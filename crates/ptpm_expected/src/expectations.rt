@@ -1,5 +1,9 @@
 //! What a site is expected to be, and the picture of a site that is held to it.
 
+ghost use Rattle.std.specs.Prelude.{IfOk};
+ghost use Rattle.ptpm_site.specs.declared.picture.Picture.{Picture};
+ghost use Rattle.ptpm_site.specs.declared.site.Site.{Site};
+
 use crate::held_to_inventory::{hold_to_inventory, keep_open};
 use crate::held_to_profile::hold_to_profile;
 use crate::inventory::Inventory;
@@ -27,8 +31,38 @@ impl Expectations<'_> {
     }
 }
 
+/// What judges a site. Code over any judge can show no other picture than its judge's.
+pub trait Judge {
+    /// That the picture is this judge's, of the site.
+    ghost IsJudged : { Site → Picture → Type 0 };
+
+    /// The site, judged.
+    fn picture_of<'s>(
+        &'s self,
+        alloc: Global,
+        site: &'s Site,
+        left_out: LeftOut,
+        limits: Limits,
+    ) -> Result<Picture<'s>, AllocError>
+        ensures { IfOk result (Self.IsJudged site.now) };
+}
+
+impl Judge for Expectations<'_> {
+    ghost IsJudged = { λ site picture. ⊤ };
+
+    fn picture_of<'s>(
+        &'s self,
+        alloc: Global,
+        site: &'s Site,
+        left_out: LeftOut,
+        limits: Limits,
+    ) -> Result<Picture<'s>, AllocError> {
+        picture_of(alloc, site, left_out, limits, *self)
+    }
+}
+
 /// A site, judged and held to what is expected of it.
-pub fn picture_of<'a>(
+fn picture_of<'a>(
     alloc: Global,
     site: &'a Site,
     left_out: LeftOut,

@@ -6,7 +6,7 @@ ghost use Rattle.std.specs.List.{items_where_true};
 use crate::site_lines::{SiteLines, read_shown};
 use ptpm_causes::leave_out_momentary;
 use ptpm_commands::Fault;
-use ptpm_expected::expectations::{Expectations, picture_of};
+use ptpm_expected::expectations::Judge;
 use ptpm_site::limits::Limits;
 use ptpm_site::picture::Picture;
 use std::alloc::{AllocError, Global};
@@ -26,11 +26,11 @@ impl Before {
     }
 
     /// Leaves out of a picture the findings that do not count before a second look has them. Answers how many.
-    pub(crate) fn leave_out(
+    pub(crate) fn leave_out<J: Judge>(
         &self,
         alloc: Global,
         limits: Limits,
-        expectations: Expectations<'_>,
+        judge: &J,
         picture: &mut Picture<'_>,
     ) -> Result<usize, AllocError>
         ensures part { OnOk result ((stays : List Bool) × (picture.new.findings.items ≡ items_where_true stays picture.old.findings.items)) }
@@ -38,7 +38,7 @@ impl Before {
     {
         let SiteLines { shown, said } = &self.lines;
         let limits = limits.at_host(said.is_synchronised);
-        let before = picture_of(alloc, &shown.site, shown.left_out, limits, expectations)?;
+        let before = judge.picture_of(alloc, &shown.site, shown.left_out, limits)?;
         let all = picture.findings.len();
         leave_out_momentary(alloc, before.findings.as_slice(), &mut picture.findings)?;
         Ok(all.saturating_sub(picture.findings.len()))

@@ -2,6 +2,9 @@
 
 ghost use Rattle.std.specs.Prelude.{◌≡◌, ℕ, ◌<◌, IfOk, List, OnOk, length, map};
 ghost use Rattle.ptpm_causes.specs.Roots.{IsRoot};
+ghost use Rattle.ptpm_site.specs.declared.finding.Finding.{Finding};
+ghost use Rattle.ptpm_site.specs.declared.picture.Picture.{Picture};
+ghost use Rattle.ptpm_site.specs.declared.site.Site.{Site};
 ghost use Rattle.ptpm_site_report.specs.Reporting.{AreConcluded, IsShown, outcome, status};
 
 use crate::before::Before;
@@ -16,7 +19,7 @@ use crate::page::print_page;
 use crate::site_lines::{LinesSaid, SiteLines, read_shown};
 use crate::text::print_text;
 use ptpm_commands::Fault;
-use ptpm_expected::expectations::{Expectations, picture_of};
+use ptpm_expected::expectations::Judge;
 use ptpm_site::finding::Finding;
 use ptpm_site::limits::Limits;
 use ptpm_site::picture::Picture;
@@ -93,11 +96,11 @@ pub struct Viewing<'a, 'b> {
 
 impl Viewing<'_, '_> {
     /// Leaves out of a picture the findings that `--ignore` names, and those that the look before lacks. Answers how many it lacks.
-    fn leave_out(
+    fn leave_out<J: Judge>(
         self,
         alloc: Global,
         limits: Limits,
-        expectations: Expectations<'_>,
+        judge: &J,
         picture: &mut Picture<'_>,
     ) -> Result<Option<usize>, AllocError>
         ensures shown { OnOk result (IsShown self.entry picture.old.findings.items picture.new.findings.items) }
@@ -106,7 +109,7 @@ impl Viewing<'_, '_> {
         self.ignored.leave_out(&mut picture.findings);
         self.ignored.leave_out(&mut picture.open_findings);
         match self.before {
-            Some(before) => Ok(Some(before.leave_out(alloc, limits, expectations, picture)?)),
+            Some(before) => Ok(Some(before.leave_out(alloc, limits, judge, picture)?)),
             None => Ok(None),
         }
     }
@@ -119,26 +122,32 @@ pub struct Came {
     pub standing: Standing,
 }
 
-/// Prints the site of a reader's lines, as it is judged and as an operator wants to see it.
-pub fn report<R: Read + Drop, O: Write>(
+/// Prints the site of a reader's lines, as its judge has it and as an operator wants to see it.
+pub fn report<R: Read + Drop, O: Write, J: Judge>(
     alloc: Global,
     options: Options,
-    expectations: Expectations<'_>,
+    judge: &J,
     viewing: Viewing<'_, '_>,
     reader: R,
     out: &mut O,
-) -> Result<Came, Fault> {
+) -> Result<Came, Fault>
+    ensures { IfOk result (λ came. (site : Site) × (judged : Picture) × (shown : List Finding)
+        × J.IsJudged site judged
+        × IsShown viewing.entry judged.findings.items shown
+        × AreConcluded judged.forest.sources.items shown came) }
+{
     let SiteLines { shown, said } = read_shown(alloc, reader)?;
     let limits = options.limits.at_host(said.is_synchronised);
-    let picture = picture_of(alloc, &shown.site, shown.left_out, limits, expectations)?;
-    print_judged(alloc, options, expectations, viewing, said, picture, out)
+    let picture = judge.picture_of(alloc, &shown.site, shown.left_out, limits)?;
+    let came = print_judged(alloc, options, judge, viewing, said, picture, out)?;
+    Ok(came)
 }
 
 /// Prints a picture as it was judged, without the findings that an operator does not want to see.
-fn print_judged<O: Write>(
+fn print_judged<O: Write, J: Judge>(
     alloc: Global,
     options: Options,
-    expectations: Expectations<'_>,
+    judge: &J,
     viewing: Viewing<'_, '_>,
     said: LinesSaid,
     mut picture: Picture<'_>,
@@ -152,7 +161,7 @@ fn print_judged<O: Write>(
         names: viewing.names,
         said,
         is_all: viewing.is_all,
-        momentary: viewing.leave_out(alloc, options.limits, expectations, &mut picture)?,
+        momentary: viewing.leave_out(alloc, options.limits, judge, &mut picture)?,
     };
     let came = print_picture(alloc, options, &picture, beside, out)?;
     Ok(came)
