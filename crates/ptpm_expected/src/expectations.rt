@@ -1,6 +1,6 @@
 //! What a site is expected to be, and the picture of a site that is held to it.
 
-ghost use Rattle.std.specs.Prelude.{IfOk};
+ghost use Rattle.std.specs.Prelude.{IfOk, ⊤};
 ghost use Rattle.ptpm_site.specs.declared.picture.Picture.{Picture};
 ghost use Rattle.ptpm_site.specs.declared.site.Site.{Site};
 
