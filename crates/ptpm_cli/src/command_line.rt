@@ -231,7 +231,7 @@ static SITE: [Argument; 16] = [
     ),
 ];
 
-static PLAN: [Argument; 4] = [
+static PLAN: [Argument; 5] = [
     Argument("FILE", RequiredWord, "The plan file, in TOML"),
     JSON,
     Argument(
@@ -244,12 +244,22 @@ static PLAN: [Argument; 4] = [
         Nothing,
         "Prints only which GETs are to be answered, and reads no answers",
     ),
+    Argument(
+        "status-if-changes",
+        Nothing,
+        "Ends with status 5, and not 0, if there are changes",
+    ),
 ];
 
 static SHOW_GROUPS: [Group; 3] = [
     Group("datagrams", &["HEX", "lines"], true),
     Group("forms", &["members", "json"], false),
     Group("skipped", &["HEX", "skip"], false),
+];
+
+static PLAN_GROUPS: [Group; 2] = [
+    Group("forms", &["json", "steps", "asks"], false),
+    Group("printed", &["asks", "status-if-changes"], false),
 ];
 
 static SITE_GROUPS: [Group; 1] = [Group(
@@ -346,7 +356,7 @@ impl Subcommand {
             Subcommand::Show => &SHOW_GROUPS,
             Subcommand::Make => &[Group("values", &["VALUE", "member"], false)],
             Subcommand::Site => &SITE_GROUPS,
-            Subcommand::Plan => &[Group("forms", &["json", "steps", "asks"], false)],
+            Subcommand::Plan => &PLAN_GROUPS,
             _ => &[],
         }
     }

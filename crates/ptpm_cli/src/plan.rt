@@ -2,7 +2,7 @@
 
 use crate::files::{MOST_PLAN, read_file};
 use ptpm_commands::Fault;
-use ptpm_plan::{Form, PlanFault, print_plan, print_questions};
+use ptpm_plan::{PlanFault, PlanOptions, print_plan, print_questions};
 use std::alloc::Global;
 use std::io;
 use std::io::{Read, Write};
@@ -20,7 +20,7 @@ pub(crate) struct PlanWords<'a> {
 #[derive(Clone, Copy)]
 pub(crate) enum PlanShown {
     /// The plan, by the answers on standard input.
-    InForm(Form),
+    Plan(PlanOptions),
     /// What is to be asked first.
     Questions,
 }
@@ -43,7 +43,7 @@ pub(crate) fn plan<F: Files, R: Read, O: Write, E: Write>(
         }
     };
     let printed = match words.shown {
-        PlanShown::InForm(form) => print_plan(alloc, text.as_slice(), form, reader, out),
+        PlanShown::Plan(options) => print_plan(alloc, text.as_slice(), options, reader, out),
         PlanShown::Questions => questions(alloc, text.as_slice(), out),
     };
     match printed {

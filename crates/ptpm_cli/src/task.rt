@@ -10,7 +10,7 @@ use ptpm_commands::make::RequestWords;
 use ptpm_commands::show::Values;
 use ptpm_draw::Chosen;
 use ptpm_expected::profile::Profile;
-use ptpm_plan::Form as PlanForm;
+use ptpm_plan::{PlanForm, PlanOptions};
 use ptpm_schedule::Chances;
 use ptpm_site::limits::Limits;
 use ptpm_site_report::ignored::Ignored;
@@ -204,14 +204,21 @@ fn chosen(values: &ArgMatches<'_>) -> Option<Chosen> {
 }
 
 fn plan_words<'a>(values: &ArgMatches<'a>) -> Option<PlanWords<'a>> {
+    let form = if values.get_flag("steps") {
+        PlanForm::Steps
+    } else if values.get_flag("json") {
+        PlanForm::Json
+    } else {
+        PlanForm::Text
+    };
     let shown = if values.get_flag("asks") {
         PlanShown::Questions
-    } else if values.get_flag("steps") {
-        PlanShown::InForm(PlanForm::Steps)
-    } else if values.get_flag("json") {
-        PlanShown::InForm(PlanForm::Json)
     } else {
-        PlanShown::InForm(PlanForm::Text)
+        let tells_changes = values.get_flag("status-if-changes");
+        PlanShown::Plan(PlanOptions {
+            form,
+            tells_changes,
+        })
     };
     Some(PlanWords {
         file: values.get_str("FILE")?,

@@ -106,7 +106,7 @@ pub record OrdersRanks (cmp : OrderKey → OrderKey → Ordering) : Type 0 where
   pub best_to_be_first : (x y : OrderKey) (a b : Rank) → x.turn ≡ turns.Better a → y.turn ≡ turns.Better b → rank_cmp a b ≡ Less → cmp x y ≡ Less
   pub present_best_last : (x y : OrderKey) (a b : Rank) → x.turn ≡ turns.Worse false (record { 0 = a }) → y.turn ≡ turns.Worse true (record { 0 = b }) → cmp x y ≡ Less
 
-module _ (cmp : OrderKey → OrderKey → Ordering) (orders : OrdersRanks cmp) (s : Surveyed) (given asked : List Change) (domain : ℕ) (moved : IsPermutation given asked) (sorted : IsSortedByKey (order_key s given) cmp asked) (ranks : List RankedClock) (are : ranks ≡ ranks_of s.clocks.items) (apart : AreApart ranks) (one : HaveOneEach domain ranks given) where
+module _ (cmp : OrderKey → OrderKey → Ordering) (orders : OrdersRanks cmp) (s : Surveyed) (given asked : List Change) (domain : ℕ) (moved : IsPermutation given asked) (sorted : IsSortedByKey (order_key s given) cmp asked) (ranks : List RankedClock) (are : ranks ≡ ranks_of s) (apart : AreApart ranks) (one : HaveOneEach domain ranks given) where
   abbrev Is : RankedClock → Type 0
   Is r = IsIn r ranks × (r.domain ≡ domain)
 

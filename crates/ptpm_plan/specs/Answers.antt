@@ -44,7 +44,15 @@ unfoldable pub said_of : Message → Option Said
 said_of m = said_by (error_of m.body) m
 
 abbrev pub answer_with : Message → Said → Answer
-answer_with m said = record { domain = m.domain; source = m.source; hops = hops_of m; id = id_of m.body; said = said }
+answer_with m said = record {
+  domain = m.domain;
+  source = m.source;
+  hops = hops_of m;
+  id = id_of m.body;
+  target = m.target;
+  number = m.number;
+  said = said;
+}
 
 -- the answer that a message is
 unfoldable pub answer_of : Message → Option Answer
@@ -67,8 +75,11 @@ is_of domain clock port id a = is_answer_of domain clock a && ((a.id == id) && (
 abbrev pub last_answer : ℕ → ClockIdentity → ℕ → ℕ → List Answer → Option Answer
 last_answer domain clock port id answers = find (is_of domain clock port id) (reverse answers)
 
+abbrev pub text_in : List ℕ → Option (List ℕ)
+text_in octets = if is_ptp_text octets then Some (ptp_text octets) else None
+
 abbrev pub text_said : Said → Option (List ℕ)
-text_said (says.Is field) = if is_ptp_text field.items then Some (ptp_text field.items) else None
+text_said (says.Is field) = text_in field.items
 text_said (says.Refused error) = None
 
 -- the text of the userDescription (5.3.9, 8.2.1.4)

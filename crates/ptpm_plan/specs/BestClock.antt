@@ -1,5 +1,5 @@
 -- Which clock of a domain is the best one, by what a survey says and by the changes that are done (IEEE 1588-2019, 9.3.4).
-use Rattle.std.specs.Prelude.{ℕ, ◌≡◌, ◌≤◌, ◌+◌, ◌==◌, ◌&&◌, zero, suc, List, [], ◌++◌, map, take, length, Option, None, Some, if◌then◌else◌, Bool, true, false}
+use Rattle.std.specs.Prelude.{ℕ, ◌≡◌, ◌≤◌, ◌+◌, ◌==◌, nat_lt, not, ◌&&◌, ◌||◌, zero, suc, List, [], ◌++◌, map, take, length, Option, None, Some, if◌then◌else◌, Bool, true, false}
 use Rattle.std.specs.List.{All, count_by, filter_map, find, fold, list_any}
 use Rattle.std.specs.Option.{option_map, option_to_list}
 use Rattle.std.specs.Ordering.{is_lt, nat_cmp, ord_min, ordering_then}
@@ -9,6 +9,8 @@ use Rattle.ptpm_codec.specs.Identity.{same_clock}
 use Rattle.ptpm_codec.specs.Layout.{octet}
 use Rattle.ptpm_codec.specs.declared.identity.ClockIdentity.{ClockIdentity}
 use Rattle.ptpm_data.specs.declared.data_sets.ClockPrecedence.{ClockPrecedence}
+use Rattle.ptpm_data.specs.declared.port_state.PortState.{PortState}
+use Rattle.ptpm_data.specs.declared.port_state.PortState.TheVariants as states
 use Rattle.ptpm_plan.specs.Octets.{pair_at}
 use Rattle.ptpm_plan.specs.declared.best_clock.Alteration.{Alteration}
 use Rattle.ptpm_plan.specs.declared.best_clock.BestClocks.{BestClocks}
@@ -17,7 +19,9 @@ use Rattle.ptpm_plan.specs.declared.best_clock.RankedClock.{RankedClock}
 use Rattle.ptpm_plan.specs.declared.change.Change.{Change}
 use Rattle.ptpm_plan.specs.declared.change.PlannedId.{PlannedId}
 use Rattle.ptpm_plan.specs.declared.change.PlannedId.TheVariants as ids
+use Rattle.ptpm_plan.specs.declared.surveyed.Surveyed.{Surveyed}
 use Rattle.ptpm_plan.specs.declared.surveyed.SurveyedClock.{SurveyedClock}
+use Rattle.ptpm_plan.specs.declared.surveyed.SurveyedPort.{SurveyedPort}
 
 -- ---- ranks
 
@@ -53,12 +57,30 @@ rank_of identity p = record {
   identity = identity;
 }
 
--- a clock has a rank if its DEFAULT_DATA_SET was answered
-abbrev pub ranked : SurveyedClock → Option RankedClock
-ranked c = option_map (λ p. record { domain = c.domain; rank = rank_of c.identity p }) c.precedence
+-- a port in these states sends no Announce (9.2.5)
+abbrev pub is_down : Option PortState → Bool
+is_down (Some states.Faulty) = true
+is_down (Some states.Disabled) = true
+is_down _ = false
 
-abbrev pub ranks_of : List SurveyedClock → List RankedClock
-ranks_of = filter_map ranked
+abbrev pub is_down_port : SurveyedClock → SurveyedPort → Bool
+is_down_port c p = (p.domain == c.domain) && (same_clock p.clock c.identity && is_down p.state)
+
+abbrev pub has_more : ℕ → Option ℕ → Bool
+has_more count None = false
+has_more count (Some ports) = nat_lt count ports
+
+-- it is not slaveOnly (9.2.2.1), and not each of its numberPorts is down
+abbrev pub can_lead : Surveyed → SurveyedClock → Bool
+can_lead s c = not c.slave_only && has_more (count_by (is_down_port c) s.ports.items) c.number_ports
+
+-- a clock has a rank if its DEFAULT_DATA_SET was answered, and it can lead
+abbrev pub ranked : Surveyed → SurveyedClock → Option RankedClock
+ranked s c =
+    if can_lead s c then option_map (λ p. record { domain = c.domain; rank = rank_of c.identity p }) c.precedence else None
+
+abbrev pub ranks_of : Surveyed → List RankedClock
+ranks_of s = filter_map (ranked s) s.clocks.items
 
 -- ---- changes of ranks
 
@@ -120,26 +142,40 @@ alterations domain changes ranks (suc n) =
 abbrev pub is_rank_change_in : ℕ → Change → Bool
 is_rank_change_in domain c = is_of_rank c.id && (c.domain == domain)
 
--- what is said of a domain: its best clock now, and the alterations
-pub record Said : Type 0 where
+-- what is said of a domain: its best clock now and after all changes, and the alterations
+pub record BestOfDomain : Type 0 where
   pub domain : ℕ
-  pub first : ClockIdentity
+  pub before : Rank
+  pub after : Rank
   pub alterations : List Alteration
 
-abbrev pub shown : BestClocks → Said
-shown b = record { domain = b.domain; first = b.first; alterations = b.alterations.items }
+abbrev pub shown : BestClocks → BestOfDomain
+shown b = record { domain = b.domain; before = b.before; after = b.after; alterations = b.alterations.items }
+
+abbrev pub best_of_domain : ℕ → List Alteration → Option Rank → Option Rank → Option BestOfDomain
+best_of_domain domain altered (Some before) (Some after) =
+    Some (record { domain = domain; before = before; after = after; alterations = altered })
+best_of_domain domain altered (Some before) None = None
+best_of_domain domain altered None after = None
 
 -- it is said of a domain if a clock in it has a rank, and if there is a change of a rank in it
-abbrev pub best_clocks_in : List Change → List RankedClock → ℕ → Option Said
+unfoldable pub best_clocks_in : List Change → List RankedClock → ℕ → Option BestOfDomain
 best_clocks_in changes ranks domain =
     if list_any (is_rank_change_in domain) changes
-    then option_map (λ best. record { domain = domain; first = best.identity; alterations = alterations domain changes ranks (length changes) }) (best_in domain ranks)
+    then best_of_domain domain (alterations domain changes ranks (length changes)) (best_in domain ranks) (best_in domain (ranks_after changes ranks))
     else None
 
 -- of the domains below n
-unfoldable pub best_clocks : List Change → List RankedClock → ℕ → List Said
+unfoldable pub best_clocks : List Change → List RankedClock → ℕ → List BestOfDomain
 best_clocks changes ranks zero = []
 best_clocks changes ranks (suc n) = best_clocks changes ranks n ++ option_to_list (best_clocks_in changes ranks n)
+
+-- ---- what becomes of the time
+
+-- a worse clockClass, or the same and a worse clockAccuracy (7.6.2.5, 7.6.2.6): the lesser number is the better one
+abbrev pub is_worse_time : Rank → Rank → Bool
+is_worse_time before after =
+    nat_lt before.class after.class || ((before.class == after.class) && nat_lt before.accuracy after.accuracy)
 
 -- ---- one change each
 

@@ -1,5 +1,5 @@
 -- In which order the changes of a plan are asked (this project's profile).
-use Rattle.std.specs.Prelude.{ℕ, nat_lt, int_lt, List, find, Option, None, Some, if◌then◌else◌, Bool, true, false}
+use Rattle.std.specs.Prelude.{ℕ, nat_lt, int_lt, not, ◌&&◌, List, find, Option, None, Some, if◌then◌else◌, Bool, true, false}
 use Rattle.std.specs.Option.{option_map, option_map_or}
 use Rattle.ptpm_codec.specs.Identity.{same_clock}
 use Rattle.ptpm_codec.specs.Layout.{octet}
@@ -7,7 +7,7 @@ use Rattle.ptpm_codec.specs.declared.identity.ClockIdentity.{ClockIdentity}
 use Rattle.ptpm_data.specs.ImageReading.{i8_at}
 use Rattle.ptpm_data.specs.declared.port_state.PortState.{PortState}
 use Rattle.ptpm_data.specs.declared.port_state.PortState.TheVariants as states
-use Rattle.ptpm_plan.specs.BestClock.{best_in, is_better, is_ranked, ranks_after, ranks_of}
+use Rattle.ptpm_plan.specs.BestClock.{best_in, is_better, is_of_rank, is_ranked, ranks_after, ranks_of}
 use Rattle.ptpm_plan.specs.PlannedId.{concern_of}
 use Rattle.ptpm_plan.specs.Surveyed.{clock_in, port_in}
 use Rattle.ptpm_plan.specs.declared.best_clock.Rank.{Rank}
@@ -60,6 +60,14 @@ rank_turn best (Some before) (Some after) = if is_better after before then turns
 rank_turn best (Some before) None = turns.Unranked
 rank_turn best None after = turns.Unranked
 
+-- the clock of a change is the best one of its domain before and after all changes
+abbrev pub stays_best : List RankedClock → List RankedClock → Change → Bool
+stays_best before after c = is_best c.domain c.clock before && is_best c.domain c.clock after
+
+-- of a rank, what makes it worse if the clock stays the best one, and else what makes it better
+abbrev pub is_later : List RankedClock → List RankedClock → Change → Bool
+is_later before after c = is_of_rank c.id && (if stays_best before after c then grows c else not (grows c))
+
 -- by the ranks before and after all changes
 abbrev pub turn_of_ranks : List RankedClock → List RankedClock → Change → Turn
 turn_of_ranks before after c =
@@ -80,13 +88,20 @@ module _ (s : Surveyed) (before after : List RankedClock) where
   turn_by concerns.Domain c = turns.Move (record { 0 = hops_of s c })
   turn_by concerns.Free c = turns.Free
 
-  -- its turn, and then the place in the file, the clock, the port and the id
+  -- its turn, and of a rank whether it is of the later ones. Then the place in the file, the clock, the port and the id
   abbrev pub key_by : Change → OrderKey
-  key_by c = record { turn = turn_by (concern_of c.id) c; place = c.place; clock = c.clock; port = c.port; id = c.id }
+  key_by c = record {
+    turn = turn_by (concern_of c.id) c;
+    is_later = is_later before after c;
+    place = c.place;
+    clock = c.clock;
+    port = c.port;
+    id = c.id;
+  }
 
 -- by what a change is sorted into a plan of these changes
 abbrev pub order_key : Surveyed → List Change → Change → OrderKey
-order_key s changes = let before = ranks_of s.clocks.items in key_by s before (ranks_after changes before)
+order_key s changes = let before = ranks_of s in key_by s before (ranks_after changes before)
 
 -- the six groups, one after the other
 abbrev pub group : Turn → ℕ

@@ -1,7 +1,8 @@
 -- What the answers of a survey say of its clocks and ports. The last answer counts.
-use Rattle.std.specs.Prelude.{◌≡◌, ℕ, ◌+◌, List, map, Option, Some, None, reverse}
-use Rattle.std.specs.List.{All, find}
-use Rattle.std.specs.Option.{option_map}
+use Rattle.std.specs.Prelude.{◌≡◌, ℕ, ◌+◌, ◌==◌, bit_and, Bool, false, not, ◌&&◌, ◌||◌, bytes_eq, List, map, Option, Some, None, reverse}
+use Rattle.std.specs.List.{All, find, list_any}
+use Rattle.std.specs.Option.{option_map, option_map_or}
+use Rattle.ptpm_codec.specs.Identity.{same_identity}
 use Rattle.ptpm_codec.specs.declared.identity.ClockIdentity.{ClockIdentity}
 use Rattle.ptpm_data.specs.PortSetting.{place, port_settings}
 use Rattle.ptpm_data.specs.PortState.{state_of}
@@ -40,6 +41,36 @@ hops_by domain clock answers = hops_in (find (is_answer_of domain clock) (revers
 
 -- ---- a clock
 
+-- two answers are of one port, and to one request
+abbrev pub same_request : Answer → Answer → Bool
+same_request a b =
+    (a.domain == b.domain)
+    && (same_identity a.source b.source && ((a.id == b.id) && (same_identity a.target b.target && (a.number == b.number))))
+
+abbrev pub same_said : Said → Said → Bool
+same_said (says.Is one) (says.Is two) = bytes_eq one.items two.items
+same_said (says.Refused one) (says.Refused two) = one == two
+same_said _ _ = false
+
+abbrev pub contradicts : Answer → Answer → Bool
+contradicts a b = same_request a b && not (same_said a.said b.said)
+
+abbrev pub is_contradicted_in : List Answer → Option Answer → Bool
+is_contradicted_in answers None = false
+is_contradicted_in answers (Some a) = list_any (contradicts a) answers
+
+-- the last answer for an id is contradicted by another one to the same request
+abbrev pub is_contradicted : ℕ → ClockIdentity → ℕ → List Answer → Bool
+is_contradicted domain clock id answers = is_contradicted_in answers (last_answer domain clock 0 id answers)
+
+-- two answers to the last request for DEFAULT_DATA_SET, or to that for USER_DESCRIPTION, differ
+abbrev pub is_twice : ℕ → ClockIdentity → List Answer → Bool
+is_twice domain clock answers = is_contradicted domain clock 0x2000 answers || is_contradicted domain clock 2 answers
+
+-- slaveOnly of a DEFAULT_DATA_SET (15.5.3.3.1)
+abbrev pub is_slave_only : List ℕ → Bool
+is_slave_only field = not (bit_and (octet 0 field) 2 == 0)
+
 -- what its answers say of a clock
 abbrev pub clock_from : List Answer → ℕ → ClockIdentity → SurveyedClock
 clock_from answers domain identity = record {
@@ -48,6 +79,8 @@ clock_from answers domain identity = record {
   hops = hops_by domain identity answers;
   number_ports = option_map (pair_at 2) (field_by domain identity 0 0x2000 answers);
   precedence = option_map precedence_in (field_by domain identity 0 0x2000 answers);
+  slave_only = option_map_or is_slave_only (field_by domain identity 0 0x2000 answers) false;
+  is_twice = is_twice domain identity answers;
 }
 
 abbrev pub IsClockOf : List Answer → SurveyedClock → Type 0

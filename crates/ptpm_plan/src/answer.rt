@@ -18,6 +18,9 @@ pub struct Answer {
     pub hops: u8,
     /// managementId.
     pub id: u16,
+    /// targetPortIdentity and sequenceId: which request it answers.
+    pub target: PortIdentity,
+    pub number: u16,
     pub said: Said,
 }
 
@@ -44,6 +47,8 @@ impl Answer {
             source: message.source(),
             hops: message.starting_hops().saturating_sub(message.hops()),
             id: message.id(),
+            target: message.target(),
+            number: message.number(),
             said: said_of(message)?,
         })
     }

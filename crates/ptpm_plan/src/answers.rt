@@ -2,7 +2,7 @@
 
 ghost use Rattle.std.specs.Prelude.{◌≡◌, ◌++◌, OnOk, []};
 ghost use Rattle.std.specs.Option.{option_copied, option_map, option_to_list};
-ghost use Rattle.ptpm_plan.specs.Answers.{answer_in, description_by, is_answer_of, is_of, last_answer, text_said};
+ghost use Rattle.ptpm_plan.specs.Answers.{answer_in, description_by, is_answer_of, is_of, last_answer, text_in, text_said};
 
 use crate::answer::{Answer, Said};
 use ptpm_codec::{ClockIdentity, is_ptp_text, text_of_ptp_text, view};
@@ -15,6 +15,8 @@ const USER_DESCRIPTION: u16 = 0x0002;
 #[derive(Drop)]
 pub struct Answers {
     pub list: Vec<Answer>,
+    /// How many answers came for which the program that asked had no room.
+    pub left_out: u64,
 }
 
 impl Answers {
@@ -24,6 +26,7 @@ impl Answers {
     {
         Answers {
             list: Vec::new(alloc),
+            left_out: 0,
         }
     }
 
@@ -60,10 +63,19 @@ fn text_said(said: &Said) -> Option<&[u8]>
     ensures { option_map (λ t. t.now) result ≡ text_said said.now }
 {
     match said {
-        Said::Is(field) if is_ptp_text(field.as_slice()) => Some(text_of_ptp_text(
-            field.as_slice(),
-        )),
-        _ => None,
+        Said::Is(field) => text_in(field.as_slice()),
+        Said::Refused(_) => None,
+    }
+}
+
+/// The text that octets are, if they are a PTPText.
+pub(crate) fn text_in(octets: &[u8]) -> Option<&[u8]>
+    ensures { option_map (λ t. t.now) result ≡ text_in octets.now }
+{
+    if is_ptp_text(octets) {
+        Some(text_of_ptp_text(octets))
+    } else {
+        None
     }
 }
 

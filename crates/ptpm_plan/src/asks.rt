@@ -8,11 +8,14 @@ use std::io;
 use std::io::Write;
 
 /// Prints a line for each GET: the domain, and the id. Each id of the file is asked in each domain of the file, in the order of their
-/// numbers.
+/// numbers. If the best clock may change, its time properties are asked too.
 pub(crate) fn print_asks<O: Write>(file: &PlanFile, domains: &[u8], out: &mut O) -> io::Result<()> {
     for domain in domains {
         for name in ["DEFAULT_DATA_SET", "USER_DESCRIPTION", "PORT_DATA_SET"] {
             writeln!(out, "{domain} {name}")?;
+        }
+        if file.names_rank() {
+            writeln!(out, "{domain} TIME_PROPERTIES_DATA_SET")?;
         }
         for number in &MANAGEMENT_IDS {
             if let Some(name) = file.asked_name(*number) {
@@ -43,6 +46,13 @@ impl PlanFile {
             id if self.names(id) => Some(id.name()),
             _ => None,
         }
+    }
+
+    /// Whether the file names an id of what decides which clock is the best one.
+    fn names_rank(&self) -> bool {
+        PlannedId::ALL
+            .iter()
+            .any(|id| id.is_of_rank() && self.names(*id))
     }
 
     /// Whether the file names an id.

@@ -1,15 +1,16 @@
-//! Which clock of a domain is the best one (9.3.4), now and after each change of a plan. This is no forecast of the states of ports.
+//! Which clock of a domain is the best one (9.3.4), now and after each change of a plan. This is no forecast of the states of ports. A
+//! clock that can't lead is none.
 
-ghost use Rattle.std.specs.Prelude.{◌≡◌, IfOk, length, map, option_map};
+ghost use Rattle.std.specs.Prelude.{◌≡◌, IfOk, count_by, length, map, option_map};
 ghost use Rattle.std.specs.List.{list_any};
 ghost use Rattle.ptpm_codec.specs.Layout.{octet};
-ghost use Rattle.ptpm_plan.specs.BestClock.{after_change, altered, alterations, best_clocks, best_clocks_in, best_in, changes_rank, is_better, is_of_rank, is_rank_change_in, precedence_in, rank_of, rank_with, ranked, ranks_after, ranks_of, shown};
+ghost use Rattle.ptpm_plan.specs.BestClock.{after_change, altered, alterations, best_clocks, best_clocks_in, best_in, can_lead, changes_rank, has_more, is_better, is_down, is_down_port, is_of_rank, is_rank_change_in, precedence_in, rank_of, rank_with, ranked, ranks_after, ranks_of, shown};
 
 use crate::change::{Change, PlannedId};
 use crate::octets::{octet, pair_at};
-use crate::surveyed::{Surveyed, SurveyedClock};
+use crate::surveyed::{Surveyed, SurveyedClock, SurveyedPort};
 use ptpm_codec::ClockIdentity;
-use ptpm_data::{ClockPrecedence, Value};
+use ptpm_data::{ClockPrecedence, PortState, Value};
 use std::alloc::{AllocError, Global};
 
 /// What decides which of two clocks is the better master, one member after the other (9.3.4). The lesser rank is the better one.
@@ -47,9 +48,19 @@ pub struct Alteration {
 pub struct BestClocks {
     pub domain: u8,
     /// The best one now.
-    pub first: ClockIdentity,
+    pub before: Rank,
+    /// The best one after all changes.
+    pub after: Rank,
     /// Each change after which it is another one.
     pub alterations: Vec<Alteration>,
+}
+
+impl BestClocks {
+    /// Whether another clock becomes the best one, or it gets another clockAccuracy.
+    pub(crate) fn is_altered(&self) -> bool {
+        let (before, after) = (self.before, self.after);
+        !self.alterations.is_empty() || before.accuracy != after.accuracy
+    }
 }
 
 impl PlannedId {
@@ -113,11 +124,57 @@ impl Rank {
     }
 }
 
+/// Whether a clock may become grandmaster: it is not slaveOnly, and not each of its ports is in FAULTY or DISABLED.
+fn can_lead(surveyed: &Surveyed, clock: &SurveyedClock) -> bool
+    ensures { result ≡ can_lead surveyed.now clock.now }
+{
+    !clock.slave_only
+        && has_more(
+            count_down(surveyed.ports.as_slice(), clock),
+            clock.number_ports,
+        )
+}
+
+/// Whether a number of ports is known, and greater than this.
+fn has_more(count: usize, number_ports: Option<u16>) -> bool
+    ensures { result ≡ has_more count number_ports }
+{
+    match number_ports {
+        Some(ports) => count < usize::from(ports),
+        None => false,
+    }
+}
+
+/// How many ports of a clock are in FAULTY or DISABLED.
+fn count_down(ports: &[SurveyedPort], clock: &SurveyedClock) -> usize
+    ensures { result ≡ count_by (is_down_port clock.now) ports.now }
+{
+    ports
+        .iter()
+        .filter(|port| is_down_port(clock, port))
+        .count()
+}
+
+fn is_down_port(clock: &SurveyedClock, port: &SurveyedPort) -> bool
+    ensures { result ≡ is_down_port clock.now port.now }
+{
+    port.domain == clock.domain && port.clock == clock.identity && is_down(port.state)
+}
+
+fn is_down(state: Option<PortState>) -> bool
+    ensures { result ≡ is_down state }
+{
+    matches!(state, Some(PortState::Faulty) | Some(PortState::Disabled))
+}
+
 impl RankedClock {
-    /// A clock with its rank, if its DEFAULT_DATA_SET was answered.
-    fn of(clock: &SurveyedClock) -> Option<RankedClock>
-        ensures { result ≡ ranked clock.now }
+    /// A clock with its rank, if its DEFAULT_DATA_SET was answered and it can lead.
+    fn of(surveyed: &Surveyed, clock: &SurveyedClock) -> Option<RankedClock>
+        ensures { result ≡ ranked surveyed.now clock.now }
     {
+        if !can_lead(surveyed, clock) {
+            return None;
+        }
         Some(RankedClock {
             domain: clock.domain,
             rank: Rank::of(clock.identity, clock.precedence?),
@@ -150,10 +207,14 @@ pub(crate) fn first_octet(field: &Value) -> u8
 }
 
 /// The ranks of all clocks that have one.
-pub fn ranks_of(alloc: Global, clocks: &[SurveyedClock]) -> Result<Vec<RankedClock>, AllocError>
-    ensures { IfOk result (λ ranks. ranks.items ≡ ranks_of clocks.now) }
+pub fn ranks_of(alloc: Global, surveyed: &Surveyed) -> Result<Vec<RankedClock>, AllocError>
+    ensures { IfOk result (λ ranks. ranks.items ≡ ranks_of surveyed.now) }
 {
-    clocks.iter().filter_map(RankedClock::of).collect(alloc)
+    surveyed
+        .clocks
+        .iter()
+        .filter_map(|clock| RankedClock::of(surveyed, clock))
+        .collect(alloc)
 }
 
 /// Carries out a change.
@@ -243,6 +304,7 @@ fn has_rank_change(domain: u8, changes: &[Change]) -> bool
 
 /// The best clock of a domain, now and after each of these changes that alters it. `None` if no clock of the domain has a rank, or
 /// if no change is one of a rank in it.
+#[tactic(auto, unfolding(crate::specs::BestClock::best_clocks_in))]
 fn best_clocks_in(
     alloc: Global,
     domain: u8,
@@ -254,13 +316,15 @@ fn best_clocks_in(
     if !has_rank_change(domain, changes) {
         return Ok(None);
     }
-    match best_in(domain, ranks) {
-        Some(best) => Ok(Some(BestClocks {
+    let after = ranks_after(alloc, ranks, changes)?;
+    match (best_in(domain, ranks), best_in(domain, after.as_slice())) {
+        (Some(before), Some(after)) => Ok(Some(BestClocks {
             domain,
-            first: best.identity,
+            before,
+            after,
             alterations: alterations(alloc, domain, ranks, changes)?,
         })),
-        None => Ok(None),
+        _ => Ok(None),
     }
 }
 
@@ -270,9 +334,9 @@ pub fn best_clocks(
     changes: &[Change],
     surveyed: &Surveyed,
 ) -> Result<Vec<BestClocks>, AllocError>
-    ensures { IfOk result (λ found. map shown found.items ≡ best_clocks changes.now (ranks_of surveyed.now.clocks.items) 256) }
+    ensures { IfOk result (λ found. map shown found.items ≡ best_clocks changes.now (ranks_of surveyed.now) 256) }
 {
-    let ranks = ranks_of(alloc, surveyed.clocks.as_slice())?;
+    let ranks = ranks_of(alloc, surveyed)?;
     let mut found = Vec::new(alloc);
     for domain in 0..256u16 {
         if let Some(best) = best_clocks_in(alloc, domain as u8, ranks.as_slice(), changes)? {

@@ -1,8 +1,9 @@
 //! What a plan file asks of every clock of a domain.
 
-ghost use Rattle.std.specs.Prelude.{◌≡◌};
+ghost use Rattle.std.specs.Prelude.{◌≡◌, count_by};
 ghost use Rattle.ptpm_plan.specs.Asking.{is_included, is_left_out, is_one, is_port_of, rows_of_all, rows_of_every, rows_of_every_clock};
 ghost use Rattle.ptpm_plan.specs.Naming.{clock_named};
+ghost use Rattle.ptpm_plan.specs.Outcome.{found_by, is_in, is_short};
 ghost use Rattle.ptpm_plan.specs.Rows.{Adds};
 
 use crate::asking::{Known, Of};
@@ -11,6 +12,46 @@ use crate::rows::{Added, Row};
 use crate::surveyed::{SurveyedClock, SurveyedPort};
 use crate::wish::{EveryWishes, Target};
 use ptpm_codec::ClockIdentity;
+
+/// How many clocks a table of every clock found.
+#[derive(Clone, Copy)]
+pub struct FoundClocks {
+    pub domain: u8,
+    /// How many answered in the domain, those that the table leaves out among them.
+    pub count: usize,
+    /// How many are to answer, if the table says it.
+    pub expected: Option<u16>,
+}
+
+impl FoundClocks {
+    /// What a table found among the clocks that answered.
+    pub(crate) fn by(clocks: &[SurveyedClock], table: &EveryWishes) -> FoundClocks
+        ensures { result ≡ found_by clocks.now table.now }
+    {
+        FoundClocks {
+            domain: table.domain,
+            count: count_in(clocks, table.domain),
+            expected: table.clocks,
+        }
+    }
+
+    /// Whether it is another number than the table says, or none.
+    pub(crate) fn is_short(&self) -> bool
+        ensures { result ≡ is_short self.now }
+    {
+        match self.expected {
+            Some(expected) => self.count != usize::from(expected),
+            None => self.count == 0,
+        }
+    }
+}
+
+/// How many clocks are in a domain.
+fn count_in(clocks: &[SurveyedClock], domain: u8) -> usize
+    ensures { result ≡ count_by (is_in domain) clocks.now }
+{
+    clocks.iter().filter(|clock| clock.domain == domain).count()
+}
 
 impl Known<'_> {
     /// Adds the rows of what is asked of every clock, table by table.

@@ -2,7 +2,7 @@
 
 use crate::clock_table::clock_of_alias;
 use crate::file_fault::{FileFault, Place, TableFault};
-use crate::table_values::{domain_at, shaped};
+use crate::table_values::{clocks_at, domain_at, shaped};
 use crate::text::Text;
 use crate::wish::{ClockWishes, EveryWishes, Target, Wish};
 use crate::wishes_table::{Owner, read_wishes};
@@ -11,7 +11,7 @@ use std::alloc::{AllocError, Global};
 use toml::{Table, Value};
 
 /// The keys of `every` that are no managementId.
-const EVERY_KEYS: [&str; 3] = ["domain", "except", "port"];
+const EVERY_KEYS: [&str; 4] = ["domain", "clocks", "except", "port"];
 
 /// Reads a table of every clock, which comes after these tables of clocks. `except` may name their aliases.
 pub(crate) fn read_every(
@@ -23,12 +23,14 @@ pub(crate) fn read_every(
     let place = Place::Every(number);
     let table = shaped(value, "every", place)?;
     let domain = domain_at(table, place)?;
+    let expected = clocks_at(table, place)?;
     let except = read_except(alloc, table, place, clocks)?;
     let wishes = read_wishes(alloc, table, Owner::EveryClock, &EVERY_KEYS, place)?;
     let port_wishes = read_port_wishes(alloc, table, number)?;
     Ok(EveryWishes {
         place: clocks.len().saturating_add(number),
         domain,
+        clocks: expected,
         except,
         wishes,
         port_wishes,

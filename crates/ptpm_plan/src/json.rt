@@ -2,6 +2,8 @@
 
 use crate::best_clock::BestClocks;
 use crate::change::Change;
+use crate::clock_time::ClockTime;
+use crate::every::FoundClocks;
 use crate::outcome::{Why, is_refused, not_reached};
 use crate::places::Who;
 use crate::report::{Report, id_text};
@@ -10,6 +12,7 @@ use crate::subject::Subject;
 use crate::verdict::Verdict;
 use ptpm_codec::ClockIdentity;
 use ptpm_commands::Fault;
+use ptpm_members::Enumeration;
 use ptpm_message_json::members_value;
 use serde_json::{Map, Value, json, put};
 use std::alloc::{AllocError, Global};
@@ -34,8 +37,19 @@ impl Report<'_> {
         put(&mut map, alloc, "cannotBeSet", refused_value(alloc, rows)?)?;
         let lines = self.not_reached_value(alloc)?;
         put(&mut map, alloc, "notReached", lines)?;
-        let best = plan.best.as_slice();
-        put(&mut map, alloc, "bestClock", best_value(alloc, best)?)?;
+        put(
+            &mut map,
+            alloc,
+            "every",
+            found_value(alloc, plan.found.as_slice())?,
+        )?;
+        put(
+            &mut map,
+            alloc,
+            "answersLeftOut",
+            Value::from(plan.left_out),
+        )?;
+        put(&mut map, alloc, "bestClock", self.best_value(alloc)?)?;
         put(&mut map, alloc, "warnings", self.warnings_value(alloc)?)?;
         Ok(Value::Object(map))
     }
@@ -46,6 +60,19 @@ impl Report<'_> {
             lines.push(Value::String(line))?;
         }
         Ok(Value::Array(lines))
+    }
+
+    fn best_value(&self, alloc: Global) -> Result<Value, AllocError> {
+        let mut values = Vec::new(alloc);
+        for best in self.plan.best.as_slice() {
+            let mut map = best_map(alloc, best)?;
+            let before = time_value(alloc, self.time_of(best.domain, best.before))?;
+            put(&mut map, alloc, "before", before)?;
+            let after = time_value(alloc, self.time_of(best.domain, best.after))?;
+            put(&mut map, alloc, "after", after)?;
+            values.push(Value::Object(map))?;
+        }
+        Ok(Value::Array(values))
     }
 
     fn warnings_value(&self, alloc: Global) -> Result<Value, AllocError> {
@@ -123,23 +150,76 @@ fn refused_value(alloc: Global, rows: &[Row]) -> Result<Value, AllocError> {
     Ok(Value::Array(values))
 }
 
-fn best_value(alloc: Global, best: &[BestClocks]) -> Result<Value, AllocError> {
+fn found_value(alloc: Global, found: &[FoundClocks]) -> Result<Value, AllocError> {
     let mut values = Vec::new(alloc);
-    for of_domain in best {
+    for of_table in found {
         let mut map = Map::new(alloc);
-        let domain = Value::from(of_domain.domain);
-        put(&mut map, alloc, "domainNumber", domain)?;
-        let first = clock_value(alloc, of_domain.first)?;
-        put(&mut map, alloc, "clockIdentity", first)?;
-        let mut changes = Vec::new(alloc);
-        for altered in of_domain.alterations.as_slice() {
-            let (after, clock) = (altered.after as u64, clock_value(alloc, altered.clock)?);
-            changes.push(json!(in alloc; {"after": after, "clockIdentity": clock})?)?;
-        }
-        put(&mut map, alloc, "changes", Value::Array(changes))?;
+        put(
+            &mut map,
+            alloc,
+            "domainNumber",
+            Value::from(of_table.domain),
+        )?;
+        put(
+            &mut map,
+            alloc,
+            "clocks",
+            Value::from(of_table.count as u64),
+        )?;
+        let expected = match of_table.expected {
+            Some(expected) => Value::from(expected),
+            None => Value::Null,
+        };
+        put(&mut map, alloc, "expected", expected)?;
         values.push(Value::Object(map))?;
     }
     Ok(Value::Array(values))
+}
+
+/// The best clock of a domain now, and each that follows it.
+fn best_map(alloc: Global, best: &BestClocks) -> Result<Map<String, Value>, AllocError> {
+    let mut map = Map::new(alloc);
+    put(&mut map, alloc, "domainNumber", Value::from(best.domain))?;
+    let first = clock_value(alloc, best.before.identity)?;
+    put(&mut map, alloc, "clockIdentity", first)?;
+    let mut changes = Vec::new(alloc);
+    for altered in best.alterations.as_slice() {
+        let (after, clock) = (altered.after as u64, clock_value(alloc, altered.clock)?);
+        changes.push(json!(in alloc; {"after": after, "clockIdentity": clock})?)?;
+    }
+    put(&mut map, alloc, "changes", Value::Array(changes))?;
+    Ok(map)
+}
+
+/// What a clock says of its time. What is not known is null.
+fn time_value(alloc: Global, time: ClockTime) -> Result<Value, AllocError> {
+    let mut map = Map::new(alloc);
+    let clock = clock_value(alloc, time.rank.identity)?;
+    put(&mut map, alloc, "clockIdentity", clock)?;
+    let (class, accuracy) = (Value::from(time.rank.class), time.rank.accuracy);
+    put(&mut map, alloc, "clockClass", class)?;
+    let accuracy = Value::String(format!(in alloc; "0x{accuracy:02x}")?);
+    put(&mut map, alloc, "clockAccuracy", accuracy)?;
+    let (source, is_time, is_frequency) = match time.properties {
+        Some(properties) => (
+            source_value(alloc, properties.source)?,
+            Value::Bool(properties.is_time_traceable),
+            Value::Bool(properties.is_frequency_traceable),
+        ),
+        None => (Value::Null, Value::Null, Value::Null),
+    };
+    put(&mut map, alloc, "timeSource", source)?;
+    put(&mut map, alloc, "timeTraceable", is_time)?;
+    put(&mut map, alloc, "frequencyTraceable", is_frequency)?;
+    Ok(Value::Object(map))
+}
+
+/// The standard's name of a timeSource, or its number.
+fn source_value(alloc: Global, source: u8) -> Result<Value, AllocError> {
+    Ok(Value::String(match Enumeration::TimeSource.name_of(source) {
+        Some(name) => String::from_str(alloc, name)?,
+        None => format!(in alloc; "0x{source:02x}")?,
+    }))
 }
 
 fn clock_value(alloc: Global, clock: ClockIdentity) -> Result<Value, AllocError> {

@@ -28,6 +28,6 @@ pub fn groups_law()
 pub fn best_clock_once_law()
     ensures { (s : Surveyed) (given asked : List Change) (domain : ℕ)
         → IsPermutation given asked → IsSortedByKey (order_key s given) ⟦<OrderKey as Ord>⟧.cmp asked
-        → AreApart (ranks_of s.clocks.items) → HaveOneEach domain (ranks_of s.clocks.items) given
-        → length (alterations domain asked (ranks_of s.clocks.items) (length asked)) ≤ 1 }
+        → AreApart (ranks_of s) → HaveOneEach domain (ranks_of s) given
+        → length (alterations domain asked (ranks_of s) (length asked)) ≤ 1 }
 {}

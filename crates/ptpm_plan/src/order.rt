@@ -3,7 +3,7 @@
 
 ghost use Rattle.std.specs.Prelude.{◌≡◌, IfOk, List, Option, Some};
 ghost use Rattle.std.specs.List.Sorted.{IsPermutation, IsSortedByKey, IsStableByKey};
-ghost use Rattle.ptpm_plan.specs.Order.{grows, hops_of, is_best, is_longer, is_master, is_sender, key_by, order_key, patience, rank_in, rank_turn, turn_by, turn_of_interval, turn_of_ranks};
+ghost use Rattle.ptpm_plan.specs.Order.{grows, hops_of, is_best, is_later, is_longer, is_master, is_sender, key_by, order_key, patience, rank_in, rank_turn, stays_best, turn_by, turn_of_interval, turn_of_ranks};
 ghost use Rattle.ptpm_plan.specs.PlannedId.{concern_of};
 
 use crate::best_clock::{Rank, RankedClock, best_in, first_octet, ranks_after, ranks_of};
@@ -25,7 +25,7 @@ pub enum Turn {
     Free,
     /// A port that receives waits less long.
     LessPatience,
-    /// The rank of a clock whose DEFAULT_DATA_SET was not answered.
+    /// The rank of a clock that can't lead, or whose DEFAULT_DATA_SET was not answered.
     Unranked,
     /// A clock gets a better rank: the best-to-be first.
     Better(Rank),
@@ -39,6 +39,8 @@ pub enum Turn {
 #[derive(Clone, Copy, PartialEq, Eq, PartialOrd, Ord)]
 pub struct OrderKey {
     pub turn: Turn,
+    /// Among changes of one clock's rank: it is one of the second half.
+    pub is_later: bool,
     pub place: usize,
     pub clock: ClockIdentity,
     pub port: u16,
@@ -84,6 +86,28 @@ impl Outlook<'_> {
         )
     }
 
+    /// Whether a change comes late among those of its clock's rank. A clock that is the best one now and after all changes gets better
+    /// first, so that it stays the best one. Each other clock gets worse first, so that it does not lead in passing.
+    fn is_later(&self, change: &Change) -> bool
+        ensures { result ≡ is_later self.now.before.now self.now.after.now change.now }
+    {
+        let grows = grows(change);
+        change.id.is_of_rank()
+            && if self.stays_best(change) {
+                grows
+            } else {
+                !grows
+            }
+    }
+
+    /// Whether the clock of a change is the best one of its domain now and after all changes.
+    fn stays_best(&self, change: &Change) -> bool
+        ensures { result ≡ stays_best self.now.before.now self.now.after.now change.now }
+    {
+        is_best(change.domain, change.clock, self.before)
+            && is_best(change.domain, change.clock, self.after)
+    }
+
     fn turn(&self, change: &Change) -> Turn
         ensures { result ≡ turn_by self.now.surveyed.now self.now.before.now self.now.after.now (concern_of change.now.id) change.now }
     {
@@ -101,6 +125,7 @@ impl Outlook<'_> {
     {
         OrderKey {
             turn: self.turn(change),
+            is_later: self.is_later(change),
             place: change.place,
             clock: change.clock,
             port: change.port,
@@ -184,7 +209,7 @@ pub fn in_order(
     ensures sorted { IfOk result (λ ordered. IsSortedByKey (order_key surveyed.now changes.items) ⟦<OrderKey as Ord>⟧.cmp ordered.items) }
     ensures stable { IfOk result (λ ordered. IsStableByKey (order_key surveyed.now changes.items) ⟦<OrderKey as Ord>⟧.cmp changes.items ordered.items) }
 {
-    let before = ranks_of(alloc, surveyed.clocks.as_slice())?;
+    let before = ranks_of(alloc, surveyed)?;
     let after = ranks_after(alloc, before.as_slice(), changes.as_slice())?;
     let outlook = Outlook {
         surveyed,

@@ -2,9 +2,10 @@
 
 ghost use Rattle.std.specs.Prelude.{◌≡◌};
 ghost use Rattle.std.specs.List.{list_any};
-ghost use Rattle.ptpm_plan.specs.Outcome.{is_not_reached, is_refused, status_of, status_of_rows};
+ghost use Rattle.ptpm_plan.specs.Outcome.{has_unnamed, is_not_reached, is_refused, is_short, misses_some, or_changes, status_of, status_of_rows};
 
 use crate::asking::Unnamed;
+use crate::every::FoundClocks;
 use crate::plan::Plan;
 use crate::rows::Row;
 use crate::subject::Subject;
@@ -17,13 +18,46 @@ use std::fmt;
 
 /// The exit status of a plan. 0: it can be applied, or nothing is to be done. 1: something can't be set. 3: something is not
 /// reached.
-pub(crate) fn status_of(rows: &[Row], unnamed: &[Unnamed]) -> u8
-    ensures { result ≡ status_of rows.now unnamed.now }
+pub(crate) fn status_of(plan: &Plan) -> u8
+    ensures { result ≡ status_of plan.now.rows.items plan.now.unnamed.items plan.now.found.items plan.now.left_out }
+{
+    status_of_rows(misses_some(plan), has_refused(plan.rows.as_slice()))
+}
+
+/// The exit status, and 5 in place of 0 if there are changes.
+pub(crate) fn status_telling_changes(plan: &Plan) -> u8
+    ensures { result ≡ or_changes plan.now.changes.items
+        (status_of plan.now.rows.items plan.now.unnamed.items plan.now.found.items plan.now.left_out) }
+{
+    match (status_of(plan), plan.changes.as_slice()) {
+        (0, [_, ..]) => 5,
+        (status, _) => status,
+    }
+}
+
+/// Whether something is not reached.
+fn misses_some(plan: &Plan) -> bool
+    ensures { result ≡ misses_some plan.now.rows.items plan.now.unnamed.items plan.now.found.items plan.now.left_out }
+{
+    has_unnamed(plan.unnamed.as_slice())
+        || has_not_reached(plan.rows.as_slice())
+        || has_short(plan.found.as_slice())
+        || 0 < plan.left_out
+}
+
+fn has_unnamed(unnamed: &[Unnamed]) -> bool
+    ensures { result ≡ has_unnamed unnamed.now }
 {
     match unnamed {
-        [] => status_of_rows(has_not_reached(rows), has_refused(rows)),
-        _ => 3,
+        [] => false,
+        _ => true,
     }
+}
+
+fn has_short(found: &[FoundClocks]) -> bool
+    ensures { result ≡ list_any is_short found.now }
+{
+    found.iter().any(|found| found.is_short())
 }
 
 /// The status, by whether some row is not reached, and whether one can't be set.
@@ -89,7 +123,8 @@ impl fmt::Display for Why<'_> {
     }
 }
 
-/// A line for each table that names no clock, and for each clock that gave no answer.
+/// A line for each table that names no clock, and for each clock that gave no answer. So has each table of every clock that found
+/// another number than it says, or none. A last one is of the answers that were left out.
 pub(crate) fn not_reached(
     alloc: Global,
     plan: &Plan,
@@ -116,7 +151,37 @@ pub(crate) fn not_reached(
             lines.push(format!(in alloc; "{clock} in domain {domain}")?)?;
         }
     }
+    for (place, found) in plan.found.as_slice().iter().enumerate() {
+        if found.is_short() {
+            lines.push(format!(in alloc; "every {}: {found}", place + 1)?)?;
+        }
+    }
+    if 0 < plan.left_out {
+        lines.push(format!(in alloc; "answers for which there was no room: {}", plan.left_out)?)?;
+    }
     Ok(lines)
+}
+
+impl fmt::Display for FoundClocks {
+    fn fmt<W: fmt::Write>(&self, f: &mut fmt::Formatter<W>) -> fmt::Result {
+        let clocks = Counted(self.count, "clock");
+        write!(f, "{clocks} found in domain {}", self.domain)?;
+        match self.expected {
+            Some(expected) if self.is_short() => write!(f, ", not {expected}"),
+            _ => Ok(()),
+        }
+    }
+}
+
+/// A number of things: `1 change`, `2 changes`.
+#[derive(Clone, Copy)]
+pub(crate) struct Counted(pub(crate) usize, pub(crate) &'static str);
+
+impl fmt::Display for Counted {
+    fn fmt<W: fmt::Write>(&self, f: &mut fmt::Formatter<W>) -> fmt::Result {
+        let ending = if self.0 == 1 { "" } else { "s" };
+        write!(f, "{} {}{ending}", self.0, self.1)
+    }
 }
 
 /// Whether a row says that a clock of a domain was not reached.

@@ -1,7 +1,10 @@
 //! Clocks, ports and values as a plan prints them.
 
+use crate::answers::text_in;
 use crate::change::PlannedId;
+use crate::verdict::text_of;
 use ptpm_codec::ClockIdentity;
+use std::alloc::{AllocError, Global};
 use std::fmt;
 
 /// A clock, or one of its ports: `aabbccfffeddee01/1`. Port 0 means the clock itself.
@@ -14,6 +17,17 @@ impl fmt::Display for Who {
             0 => write!(f, "{}", self.0),
             port => write!(f, "{}/{port}", self.0),
         }
+    }
+}
+
+/// The members of a dataField, one a line. A text is in quotes, as the name of a clock is.
+pub(crate) fn shown_of(alloc: Global, id: PlannedId, octets: &[u8]) -> Result<String, AllocError> {
+    match (id, text_in(octets)) {
+        (PlannedId::UserDescription, Some(text)) => {
+            let text = String::from_utf8_lossy(alloc, text)?;
+            format!(in alloc; "userDescription {:?}", text.as_str())
+        }
+        _ => text_of(alloc, id, octets),
     }
 }
 

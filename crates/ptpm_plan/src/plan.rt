@@ -7,6 +7,7 @@ ghost use Rattle.std.specs.Option.{option_to_list};
 ghost use Rattle.ptpm_plan.specs.Asking.{rows_of_file, unnamed_of};
 ghost use Rattle.ptpm_plan.specs.BestClock.{best_clocks, ranks_of, shown};
 ghost use Rattle.ptpm_plan.specs.Order.{order_key};
+ghost use Rattle.ptpm_plan.specs.Outcome.{found_by};
 ghost use Rattle.ptpm_plan.specs.Plans.{change_of};
 ghost use Rattle.ptpm_plan.specs.Rows.{with_row};
 
@@ -15,6 +16,7 @@ use crate::answers::Answers;
 use crate::asking::{Known, Unnamed, unnamed_of};
 use crate::best_clock::{BestClocks, best_clocks};
 use crate::change::Change;
+use crate::every::FoundClocks;
 use crate::file_fault::FileFault;
 use crate::order::{OrderKey, in_order};
 use crate::rows::Row;
@@ -22,7 +24,7 @@ use crate::surveyed::{Surveyed, SurveyedClock};
 use crate::verdict::Verdict;
 use crate::warning::Warning;
 use crate::warnings::warnings_of;
-use crate::wish::{ClockWishes, PlanFile};
+use crate::wish::{ClockWishes, EveryWishes, PlanFile};
 use std::alloc::{AllocError, Global};
 
 /// What a file changes at the clocks of a site.
@@ -34,6 +36,10 @@ pub struct Plan {
     pub changes: Vec<Change>,
     /// The tables whose description is not that of one clock.
     pub unnamed: Vec<Unnamed>,
+    /// Of each table of every clock, how many clocks it found.
+    pub found: Vec<FoundClocks>,
+    /// How many answers came for which there was no room.
+    pub left_out: u64,
     /// The best clock of each domain in which a rank changes.
     pub best: Vec<BestClocks>,
     pub warnings: Vec<Warning>,
@@ -48,21 +54,24 @@ impl Plan {
         ensures sorted { IfOk result
             (λ p. IsSortedByKey (order_key p.surveyed (filter_map change_of p.rows.items)) ⟦<OrderKey as Ord>⟧.cmp p.changes.items) }
         ensures best { IfOk result
-            (λ p. map shown p.best.items ≡ best_clocks p.changes.items (ranks_of p.surveyed.clocks.items) 256) }
+            (λ p. map shown p.best.items ≡ best_clocks p.changes.items (ranks_of p.surveyed) 256) }
     {
         let surveyed = answers.surveyed(alloc)?;
         let rows = rows_of_file(alloc, file, answers, &surveyed)?;
         let clocks = surveyed.clocks.as_slice();
         let unnamed = all_unnamed(alloc, answers, clocks, file.clocks.as_slice())?;
+        let found = all_found(alloc, clocks, file.every.as_slice())?;
         let changes = changes_of(alloc, rows.as_slice())?;
         let changes = in_order(alloc, changes, &surveyed)?;
         let best = best_clocks(alloc, changes.as_slice(), &surveyed)?;
-        let warnings = warnings_of(alloc, changes.as_slice(), &surveyed)?;
+        let warnings = warnings_of(alloc, changes.as_slice(), best.as_slice(), &surveyed)?;
         Ok(Plan {
             surveyed,
             rows,
             changes,
             unnamed,
+            found,
+            left_out: answers.left_out,
             best,
             warnings,
         })
@@ -101,6 +110,20 @@ fn all_unnamed(
     tables
         .iter()
         .filter_map(|table| unnamed_of(answers, clocks, table))
+        .collect(alloc)
+}
+
+/// How many clocks each table of every clock found.
+fn all_found(
+    alloc: Global,
+    clocks: &[SurveyedClock],
+    tables: &[EveryWishes],
+) -> Result<Vec<FoundClocks>, AllocError>
+    ensures { IfOk result (λ v. v.items ≡ map (found_by clocks.now) tables.now) }
+{
+    tables
+        .iter()
+        .map(|table| FoundClocks::by(clocks, table))
         .collect(alloc)
 }
 

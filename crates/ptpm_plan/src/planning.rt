@@ -3,7 +3,7 @@
 use crate::answers::Answers;
 use crate::asks::print_asks;
 use crate::file_fault::FileFault;
-use crate::outcome::status_of;
+use crate::outcome::{status_of, status_telling_changes};
 use crate::plan::Plan;
 use crate::report::Report;
 use crate::wish::PlanFile;
@@ -14,12 +14,20 @@ use std::io::{Read, Write};
 
 /// How a plan is printed.
 #[derive(Clone, Copy)]
-pub enum Form {
+pub enum PlanForm {
     Text,
     /// One object.
     Json,
     /// The text, an empty line, and a line for each change with its dataFields.
     Steps,
+}
+
+/// How a plan is printed, and what its exit status says.
+#[derive(Clone, Copy)]
+pub struct PlanOptions {
+    pub form: PlanForm,
+    /// Changes that can be made have a status of their own.
+    pub tells_changes: bool,
 }
 
 /// Why there is no plan.
@@ -51,7 +59,7 @@ impl From<FileFault> for PlanFault {
 pub fn print_plan<R: Read + Drop, O: Write>(
     alloc: Global,
     text: &[u8],
-    form: Form,
+    options: PlanOptions,
     reader: R,
     out: &mut O,
 ) -> Result<u8, PlanFault> {
@@ -63,15 +71,18 @@ pub fn print_plan<R: Read + Drop, O: Write>(
         file: &file,
         answers: &answers,
     };
-    match form {
-        Form::Text => report.print(alloc, out)?,
-        Form::Json => report.print_json(alloc, out)?,
-        Form::Steps => {
+    match options.form {
+        PlanForm::Text => report.print(alloc, out)?,
+        PlanForm::Json => report.print_json(alloc, out)?,
+        PlanForm::Steps => {
             report.print(alloc, out)?;
             report.print_steps(alloc, out)?;
         }
     }
-    Ok(status_of(plan.rows.as_slice(), plan.unnamed.as_slice()))
+    if options.tells_changes {
+        return Ok(status_telling_changes(&plan));
+    }
+    Ok(status_of(&plan))
 }
 
 /// Prints what is asked before the plan of a file can be made.
@@ -83,7 +94,7 @@ pub fn print_questions<O: Write>(alloc: Global, text: &[u8], out: &mut O) -> Res
 }
 
 /// The answers among a reader's lines. A datagram that is no answer is passed over; a line that is no datagram in hexadecimal is a
-/// fault.
+/// fault. A note `#ptpm` may have the word `left_out=` and how many answers were left out; the last one counts.
 fn read_answers<R: Read + Drop>(alloc: Global, reader: R) -> Result<Answers, Fault> {
     let mut lines = Lines::new(alloc, reader)?;
     let mut answers = Answers::new(alloc);
@@ -93,7 +104,15 @@ fn read_answers<R: Read + Drop>(alloc: Global, reader: R) -> Result<Answers, Fau
         }
         if let Some(datagram) = lines.datagram(alloc, number)? {
             answers.take(datagram.as_slice())?;
+        } else if let Some(count) = left_out(lines.text(number)?) {
+            answers.left_out = count;
         }
     }
     Ok(answers)
+}
+
+/// How many answers were left out, if a line is a note that says it.
+fn left_out(line: &str) -> Option<u64> {
+    let mut words = line.strip_prefix("#ptpm ")?.split(' ');
+    words.find_map(|word| word.strip_prefix("left_out=")?.parse().ok())
 }

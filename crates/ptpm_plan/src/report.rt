@@ -3,10 +3,10 @@
 use crate::answers::Answers;
 use crate::change::Change;
 use crate::digest::digest_of;
-use crate::outcome::{Why, is_refused, not_reached};
-use crate::places::{Arrow, Values, Who};
+use crate::outcome::{Counted, Why, is_refused, not_reached};
+use crate::places::{Arrow, Values, Who, shown_of};
 use crate::plan::Plan;
-use crate::verdict::{Verdict, text_of};
+use crate::verdict::Verdict;
 use crate::wish::PlanFile;
 use ptpm_commands::Fault;
 use std::alloc::{AllocError, Global};
@@ -28,6 +28,7 @@ impl Report<'_> {
         self.print_changes(alloc, out)?;
         self.print_staying(alloc, out)?;
         self.print_refused(out)?;
+        self.print_found(out)?;
         self.print_not_reached(alloc, out)?;
         self.print_best(out)?;
         for warning in self.plan.warnings.as_slice() {
@@ -61,7 +62,7 @@ impl Report<'_> {
         for row in self.plan.rows.as_slice() {
             if let Verdict::Stays(field) = &row.verdict {
                 let id = row.subject.id;
-                let lines = text_of(alloc, id, field.as_slice())?;
+                let lines = shown_of(alloc, id, field.as_slice())?;
                 let values = Values(id, lines.as_str());
                 let who = Who(row.subject.clock, row.subject.port);
                 writeln!(out, "{head}  {who} {id} {values}")?;
@@ -84,6 +85,16 @@ impl Report<'_> {
         Ok(())
     }
 
+    /// Prints how many clocks each table of every clock found. One that found another number than it says is not reached.
+    fn print_found<O: Write>(&self, out: &mut O) -> Result<(), Fault> {
+        for (place, found) in self.plan.found.as_slice().iter().enumerate() {
+            if !found.is_short() {
+                writeln!(out, "every {}: {found}", place + 1)?;
+            }
+        }
+        Ok(())
+    }
+
     fn print_not_reached<O: Write>(&self, alloc: Global, out: &mut O) -> Result<(), Fault> {
         let mut head = "not reached:\n";
         let lines = not_reached(alloc, self.plan, self.file)?;
@@ -96,7 +107,8 @@ impl Report<'_> {
 
     fn print_best<O: Write>(&self, out: &mut O) -> Result<(), Fault> {
         for best in self.plan.best.as_slice() {
-            write!(out, "best clock of domain {}: {}", best.domain, best.first)?;
+            let (domain, before, after) = (best.domain, best.before, best.after);
+            write!(out, "best clock of domain {domain}: {}", before.identity)?;
             if best.alterations.is_empty() {
                 write!(out, " stays")?;
             }
@@ -104,6 +116,10 @@ impl Report<'_> {
                 write!(out, ", after change {} {}", altered.after, altered.clock)?;
             }
             writeln!(out)?;
+            if best.is_altered() {
+                writeln!(out, "  before: {}", self.time_of(domain, before))?;
+                writeln!(out, "  after: {}", self.time_of(domain, after))?;
+            }
         }
         Ok(())
     }
@@ -127,8 +143,8 @@ impl Report<'_> {
 /// Prints what a change does: its id, and its values before and after.
 fn print_change<O: Write>(alloc: Global, change: &Change, out: &mut O) -> Result<(), Fault> {
     let id = change.id;
-    let before = text_of(alloc, id, change.before.as_slice())?;
-    let after = text_of(alloc, id, change.after.as_slice())?;
+    let before = shown_of(alloc, id, change.before.as_slice())?;
+    let after = shown_of(alloc, id, change.after.as_slice())?;
     let arrow = Arrow(id, before.as_str(), after.as_str());
     writeln!(out, "{id} {arrow}")?;
     Ok(())
@@ -151,17 +167,6 @@ fn clock_count(changes: &[Change]) -> usize {
         }
     }
     count
-}
-
-/// A number of things: `1 change`, `2 changes`.
-#[derive(Clone, Copy)]
-struct Counted(usize, &'static str);
-
-impl fmt::Display for Counted {
-    fn fmt<W: fmt::Write>(&self, f: &mut fmt::Formatter<W>) -> fmt::Result {
-        let ending = if self.0 == 1 { "" } else { "s" };
-        write!(f, "{} {}{ending}", self.0, self.1)
-    }
 }
 
 /// A domain after a space; nothing for domain 0.

@@ -18,6 +18,10 @@ pub struct SurveyedClock {
     pub number_ports: Option<u16>,
     /// What DEFAULT_DATA_SET says of its rank (9.3.4). `None` if it gave no such answer.
     pub precedence: Option<ClockPrecedence>,
+    /// slaveOnly, by DEFAULT_DATA_SET: such a clock never leads (9.2.2.1).
+    pub slave_only: bool,
+    /// Two answers of it to one request differ: two clocks have this identity.
+    pub is_twice: bool,
 }
 
 /// A port whose PORT_DATA_SET was answered.

@@ -4,7 +4,7 @@ ghost use Rattle.std.specs.Prelude.{◌≡◌, IfOk, OnOk, reverse};
 ghost use Rattle.std.specs.List.{All, find};
 ghost use Rattle.std.specs.Option.{option_copied, option_map};
 ghost use Rattle.ptpm_plan.specs.Answers.{is_answer_of};
-ghost use Rattle.ptpm_plan.specs.Surveying.{IsClockOf, IsPortOf, IsSurvey, clock_from, field_by, hops_by, port_from};
+ghost use Rattle.ptpm_plan.specs.Surveying.{IsClockOf, IsPortOf, IsSurvey, clock_from, contradicts, field_by, hops_by, is_contradicted, is_slave_only, is_twice, port_from, same_request, same_said};
 
 use crate::answer::{Answer, Said};
 use crate::answers::{Answers, is_answer_of};
@@ -19,6 +19,12 @@ use std::alloc::{AllocError, Global};
 const DEFAULT_DATA_SET: u16 = 0x2000;
 
 const PORT_DATA_SET: u16 = 0x2004;
+
+/// managementId of USER_DESCRIPTION.
+const USER_DESCRIPTION: u16 = 0x0002;
+
+/// The bit of slaveOnly in the flags of DEFAULT_DATA_SET (15.5.3.3.1).
+const SLAVE_ONLY: u8 = 2;
 
 impl Answers {
     /// The clocks that answered, and the ports whose PORT_DATA_SET they answered, ascending.
@@ -88,6 +94,8 @@ impl Answers {
             hops: self.hops(domain, identity),
             number_ports: field.map(|field| pair_at(field, 2)),
             precedence: field.map(precedence_in),
+            slave_only: field.map_or(false, is_slave_only),
+            is_twice: self.is_twice(domain, identity),
         }
     }
 
@@ -106,12 +114,36 @@ impl Answers {
     }
 
     /// The dataField that a clock answered last for an id, if it did not refuse it.
-    fn field(&self, domain: u8, clock: ClockIdentity, port: u16, id: u16) -> Option<&[u8]>
+    pub(crate) fn field(
+        &self,
+        domain: u8,
+        clock: ClockIdentity,
+        port: u16,
+        id: u16,
+    ) -> Option<&[u8]>
         ensures { option_map (λ f. f.now) result ≡ field_by domain clock port id self.now.list.items }
     {
         match &self.last(domain, clock, port, id)?.said {
             Said::Is(field) => Some(field.as_slice()),
             Said::Refused(_) => None,
+        }
+    }
+
+    /// Whether two answers of a clock to the last request for DEFAULT_DATA_SET, or to that for USER_DESCRIPTION, differ.
+    fn is_twice(&self, domain: u8, clock: ClockIdentity) -> bool
+        ensures { result ≡ is_twice domain clock self.now.list.items }
+    {
+        self.is_contradicted(domain, clock, DEFAULT_DATA_SET)
+            || self.is_contradicted(domain, clock, USER_DESCRIPTION)
+    }
+
+    /// Whether another answer to the last request of an id differs from the last answer.
+    fn is_contradicted(&self, domain: u8, clock: ClockIdentity, id: u16) -> bool
+        ensures { result ≡ is_contradicted domain clock id self.now.list.items }
+    {
+        match self.last(domain, clock, 0, id) {
+            Some(last) => self.list.iter().any(|other| contradicts(last, other)),
+            None => false,
         }
     }
 
@@ -133,5 +165,40 @@ impl Answers {
             .iter()
             .rev()
             .find(|answer| is_answer_of(answer, domain, clock))
+    }
+}
+
+/// slaveOnly of a DEFAULT_DATA_SET.
+fn is_slave_only(field: &[u8]) -> bool
+    ensures { result ≡ is_slave_only field.now }
+{
+    octet(field, 0) & SLAVE_ONLY != 0
+}
+
+/// Whether two answers of one port to one request differ.
+fn contradicts(answer: &Answer, other: &Answer) -> bool
+    ensures { result ≡ contradicts answer.now other.now }
+{
+    is_same_request(answer, other) && !is_same_said(&answer.said, &other.said)
+}
+
+/// Whether two answers are of one port, and to one request.
+fn is_same_request(answer: &Answer, other: &Answer) -> bool
+    ensures { result ≡ same_request answer.now other.now }
+{
+    answer.domain == other.domain
+        && answer.source == other.source
+        && answer.id == other.id
+        && answer.target == other.target
+        && answer.number == other.number
+}
+
+fn is_same_said(said: &Said, other: &Said) -> bool
+    ensures { result ≡ same_said said.now other.now }
+{
+    match (said, other) {
+        (Said::Is(field), Said::Is(another)) => field.as_slice() == another.as_slice(),
+        (Said::Refused(error), Said::Refused(another)) => error == another,
+        _ => false,
     }
 }

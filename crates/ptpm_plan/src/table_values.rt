@@ -40,3 +40,14 @@ pub(crate) fn domain_at(table: &Table, place: Place) -> Result<u8, FileFault> {
         _ => Err(FileFault::takes(place, "domain", "a number from 0 to 255")),
     }
 }
+
+/// How many clocks are to answer, at `clocks`, if the key is there.
+pub(crate) fn clocks_at(table: &Table, place: Place) -> Result<Option<u16>, FileFault> {
+    let Some(value) = table.get("clocks") else {
+        return Ok(None);
+    };
+    match value.as_integer() {
+        Some(number) if 1 <= number && number <= 0xffff => Ok(Some(number as u16)),
+        _ => Err(FileFault::takes(place, "clocks", "a number from 1 to 65535")),
+    }
+}

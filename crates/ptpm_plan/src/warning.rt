@@ -1,5 +1,6 @@
 //! A warning of a plan, as it is printed.
 
+use crate::best_clock::Rank;
 use crate::change::PlannedId;
 use ptpm_codec::{ClockIdentity, PortIdentity};
 use std::fmt;
@@ -11,6 +12,10 @@ pub enum Warning {
     Refused(PortIdentity, PlannedId),
     /// The best clock of a domain changes this often.
     BestClock(u8, usize),
+    /// The best clock of a domain has worse time after all changes than the one before.
+    WorseTime(u8, Rank, Rank),
+    /// Two clocks of a domain have this identity.
+    Twice(u8, ClockIdentity),
     /// From a change on a port waits for less than two Announces, and may lose its master.
     Impatient(usize, PortIdentity),
     /// A change of how a port measures delay.
@@ -33,6 +38,16 @@ impl fmt::Display for Warning {
             Warning::BestClock(domain, times) => {
                 write!(f, "domain {domain}: the best clock changes {times} times")
             }
+            Warning::WorseTime(domain, before, after) => write!(
+                f,
+                "domain {domain}: the time gets worse: {} before, {} after",
+                Quality(*before),
+                Quality(*after)
+            ),
+            Warning::Twice(domain, clock) => write!(
+                f,
+                "{clock} in domain {domain}: two answers to one request differ: two clocks have this identity"
+            ),
             Warning::Impatient(number, port) => write!(
                 f,
                 "change {number}: {port} may lose its master: it waits for less than two Announces"
@@ -46,6 +61,20 @@ impl fmt::Display for Warning {
                 "change {number}: {clock} is not reached after it: a clock before it is not in domain {domain} then"
             ),
         }
+    }
+}
+
+/// clockClass and clockAccuracy of a clock.
+#[derive(Clone, Copy)]
+pub(crate) struct Quality(pub(crate) Rank);
+
+impl fmt::Display for Quality {
+    fn fmt<W: fmt::Write>(&self, f: &mut fmt::Formatter<W>) -> fmt::Result {
+        write!(
+            f,
+            "class {}, accuracy 0x{:02x}",
+            self.0.class, self.0.accuracy
+        )
     }
 }
 

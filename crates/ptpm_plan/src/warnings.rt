@@ -2,34 +2,37 @@
 
 ghost use Rattle.std.specs.Prelude.{◌≡◌, ◌^◌, nat_lt, IfOk};
 ghost use Rattle.std.specs.List.{filter_map};
+ghost use Rattle.ptpm_plan.specs.BestClock.{is_worse_time};
 ghost use Rattle.ptpm_data.specs.declared.management_id.Layout.TheVariants as layouts;
 ghost use Rattle.ptpm_data.specs.ManagementId.{set_of};
 ghost use Rattle.ptpm_data.specs.Refusals.{is_set_value};
 ghost use Rattle.ptpm_plan.specs.PlannedId.{setting_of};
-ghost use Rattle.ptpm_plan.specs.Warnings.{below_doublings, is_taken, is_taken_of_clock, refusal};
+ghost use Rattle.ptpm_plan.specs.Warnings.{below_doublings, is_taken, is_taken_of_clock, refusal, twice, worse_time};
 
-use crate::best_clock::{best_clocks, first_octet};
+use crate::best_clock::{BestClocks, Rank, first_octet};
 use crate::change::{Change, PlannedId};
 use crate::reach::is_out_of_reach;
-use crate::surveyed::{Surveyed, SurveyedPort};
+use crate::surveyed::{Surveyed, SurveyedClock, SurveyedPort};
 use crate::warning::Warning;
 use ptpm_codec::PortIdentity;
 use ptpm_data::{PortSetting, PortState, Value};
 use std::alloc::{AllocError, Global};
 
-/// The warnings of a plan with these changes, in the order in which they are asked.
+/// The warnings of a plan with these changes, in the order in which they are asked. `best` are its best clocks.
 pub fn warnings_of(
     alloc: Global,
     changes: &[Change],
+    best: &[BestClocks],
     surveyed: &Surveyed,
 ) -> Result<Vec<Warning>, AllocError> {
     let mut found = refusals(alloc, changes)?;
-    let all = best_clocks(alloc, changes, surveyed)?;
-    for best in all.as_slice() {
-        let times = best.alterations.len();
-        if times > 1 {
-            found.push(Warning::BestClock(best.domain, times))?;
+    for clock in surveyed.clocks.as_slice() {
+        if let Some(warning) = twice(clock) {
+            found.push(warning)?;
         }
+    }
+    for of_domain in best {
+        add_of_best(of_domain, &mut found)?;
     }
     add_impatient(alloc, changes, surveyed, &mut found)?;
     for (place, change) in changes.iter().enumerate() {
@@ -42,6 +45,46 @@ pub fn warnings_of(
         }
     }
     Ok(found)
+}
+
+/// Two clocks have one identity.
+fn twice(clock: &SurveyedClock) -> Option<Warning>
+    ensures { result ≡ twice clock.now }
+{
+    if clock.is_twice {
+        Some(Warning::Twice(clock.domain, clock.identity))
+    } else {
+        None
+    }
+}
+
+/// Adds what there is to warn of in the best clocks of a domain.
+fn add_of_best(best: &BestClocks, found: &mut Vec<Warning>) -> Result<(), AllocError> {
+    let times = best.alterations.len();
+    if times > 1 {
+        found.push(Warning::BestClock(best.domain, times))?;
+    }
+    if let Some(warning) = worse_time(best) {
+        found.push(warning)?;
+    }
+    Ok(())
+}
+
+/// The best clock gets a worse clockClass, or the same and a worse clockAccuracy.
+fn worse_time(best: &BestClocks) -> Option<Warning>
+    ensures { result ≡ worse_time best.now }
+{
+    if is_worse_time(best.before, best.after) {
+        Some(Warning::WorseTime(best.domain, best.before, best.after))
+    } else {
+        None
+    }
+}
+
+fn is_worse_time(before: Rank, after: Rank) -> bool
+    ensures { result ≡ is_worse_time before after }
+{
+    before.class < after.class || before.class == after.class && before.accuracy < after.accuracy
 }
 
 /// The values that a clock with this project's agent refuses.

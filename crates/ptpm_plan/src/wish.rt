@@ -65,6 +65,8 @@ pub struct EveryWishes {
     /// Its place in the file, after all clocks.
     pub place: usize,
     pub domain: u8,
+    /// How many clocks are to answer in the domain, those that are left out among them.
+    pub clocks: Option<u16>,
     pub except: Vec<Target>,
     pub wishes: Vec<Wish>,
     /// What it asks of each port.

@@ -21,4 +21,4 @@ returns c = λ s given asked domain moved sorted apart one.
       present_best_last = λ x y a b p q.
           ap (λ t. (key_order.ghosts).cmp (record x { turn = t }) y) p
           ∙ ap (λ t. (key_order.ghosts).cmp (record x { turn = turns.Worse false (record { 0 = a }) }) (record y { turn = t })) q;
-    }) s given asked domain moved sorted (ranks_of s.clocks.items) refl apart one
+    }) s given asked domain moved sorted (ranks_of s) refl apart one
