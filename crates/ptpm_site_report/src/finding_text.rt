@@ -35,8 +35,9 @@ impl fmt::Display for FindingText<'_> {
     fn fmt<W: fmt::Write>(&self, f: &mut fmt::Formatter<W>) -> fmt::Result {
         f.write_str(self.0.named.kind.name())?;
         let values = values_of(&self.0.finding.what);
-        let FindingValue::Template(words) = values[0].1 else {
-            return Ok(());
+        let words = match &values[0].1 {
+            FindingValue::Template(words) => *words,
+            _ => return Ok(()),
         };
         for (place, piece) in words.split("{}").enumerate() {
             match values.get(place) {

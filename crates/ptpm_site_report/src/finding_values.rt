@@ -81,7 +81,7 @@ fn template(words: &'static str) -> NamedValue<'static> {
     ("", FindingValue::Template(words))
 }
 
-fn none(words: &'static str) -> FindingValues<'static> {
+fn none<'a>(words: &'static str) -> FindingValues<'a> {
     [template(words), NONE, NONE, NONE, NONE, NONE, NONE, NONE]
 }
 
@@ -186,7 +186,7 @@ fn of_other_leaders<'a>(other: &'a OtherLeaders<'a>) -> FindingValues<'a> {
     three(" {} {}, not {}", values)
 }
 
-fn of_outside(outside: &Outside) -> FindingValues<'static> {
+fn of_outside<'a>(outside: &Outside) -> FindingValues<'a> {
     let values = [
         ("portNumber", AtPort(outside.port)),
         ("member", Name(outside.member.name())),
@@ -228,7 +228,7 @@ fn of_not_taken<'a>(not_taken: &NotTaken<'a>) -> FindingValues<'a> {
     }
 }
 
-fn of_unseen(unseen: Absence) -> FindingValues<'static> {
+fn of_unseen<'a>(unseen: Absence) -> FindingValues<'a> {
     match unseen {
         Absence::OwnHost => none(
             " is the host that asks: at an interface it does not hear itself; ask its Unix socket too",
@@ -240,7 +240,7 @@ fn of_unseen(unseen: Absence) -> FindingValues<'static> {
     }
 }
 
-fn of_not_asked(clocks: usize) -> FindingValues<'static> {
+fn of_not_asked<'a>(clocks: usize) -> FindingValues<'a> {
     let words = if clocks == 1 {
         " {} clock sends here"
     } else {
@@ -249,7 +249,7 @@ fn of_not_asked(clocks: usize) -> FindingValues<'static> {
     one(words, ("clocks", Of(Unsigned(clocks as u64))))
 }
 
-fn of_masterless(why: &Masterless) -> FindingValues<'static> {
+fn of_masterless<'a>(why: &Masterless) -> FindingValues<'a> {
     match why {
         Masterless::SlaveOnly => one(
             " {}, and its own grandmaster",
@@ -269,7 +269,7 @@ fn of_masterless(why: &Masterless) -> FindingValues<'static> {
     }
 }
 
-fn of_not_master(parent: PortIdentity, why: &NoMaster) -> FindingValues<'static> {
+fn of_not_master<'a>(parent: PortIdentity, why: &NoMaster) -> FindingValues<'a> {
     let parent = ("parentPortIdentity", Of(Port(parent)));
     match why {
         NoMaster::NoPort => two(
@@ -283,7 +283,7 @@ fn of_not_master(parent: PortIdentity, why: &NoMaster) -> FindingValues<'static>
     }
 }
 
-fn of_steps(steps: &Steps) -> FindingValues<'static> {
+fn of_steps<'a>(steps: &Steps) -> FindingValues<'a> {
     let own = ("stepsRemoved", number(steps.steps));
     match steps.parent {
         Some(parent) => two(
@@ -302,7 +302,7 @@ fn number(number: u16) -> FindingValue<'static> {
 }
 
 /// The member, its value, and what the other clock has.
-fn of_differs(differs: &Differs) -> FindingValues<'static> {
+fn of_differs<'a>(differs: &Differs) -> FindingValues<'a> {
     let values = [
         ("member", Name(differs.member.name())),
         ("value", Of(differs.own)),
@@ -323,7 +323,7 @@ fn of_change<'a>(port: Option<u16>, change: &Change<'a>, words: &'static str) ->
 }
 
 /// The state of a port, and for how many whole seconds it is known to be in it or in another on its way.
-fn of_state(port: u16, stay: &Stay) -> FindingValues<'static> {
+fn of_state<'a>(port: u16, stay: &Stay) -> FindingValues<'a> {
     let state = ("portState", Name(state_name(stay.state)));
     let words = if stay.time.is_some() {
         " port {} {} for {} s"
@@ -347,7 +347,7 @@ fn seconds(time: Option<u64>) -> FindingValue<'static> {
     }
 }
 
-fn of_unlocked(port: u16, unlocked: &Unlocked) -> FindingValues<'static> {
+fn of_unlocked<'a>(port: u16, unlocked: &Unlocked) -> FindingValues<'a> {
     let words = match (unlocked.time, unlocked.offset) {
         (Some(_), Some(_)) => " port {} {} for {} s, offset {} ns",
         (Some(_), None) => " port {} {} for {} s",
@@ -367,7 +367,7 @@ fn of_unlocked(port: u16, unlocked: &Unlocked) -> FindingValues<'static> {
     four(words, values)
 }
 
-fn of_frozen(frozen: &FrozenOffset) -> FindingValues<'static> {
+fn of_frozen<'a>(frozen: &FrozenOffset) -> FindingValues<'a> {
     let values = [
         ("offsetFromMaster", Exact(frozen.offset)),
         ("answers", Of(Unsigned(frozen.answers as u64))),
@@ -413,7 +413,7 @@ fn amount_of(error: &TimeError) -> (FindingValue<'static>, &'static str) {
 }
 
 /// The clock's own offset, or those of all clocks that follow it.
-fn of_offset(offset: &TooFarOff) -> FindingValues<'static> {
+fn of_offset<'a>(offset: &TooFarOff) -> FindingValues<'a> {
     match offset {
         TooFarOff::Own(offset) => two(
             " offsetFromMaster {} ns",
@@ -467,7 +467,7 @@ fn of_origin(origin: &Origin) -> FindingValues<'_> {
 }
 
 /// What the port says of its intervals, and the interval of the port that it follows.
-fn of_seldom(port: u16, seldom: &Seldom) -> FindingValues<'static> {
+fn of_seldom<'a>(port: u16, seldom: &Seldom) -> FindingValues<'a> {
     let values = [
         ("portNumber", number(port)),
         (
@@ -487,7 +487,7 @@ fn of_seldom(port: u16, seldom: &Seldom) -> FindingValues<'static> {
 }
 
 /// How a port measures the delay, and how the port that it follows does.
-fn of_mechanism(port: u16, other: &OtherMechanism) -> FindingValues<'static> {
+fn of_mechanism<'a>(port: u16, other: &OtherMechanism) -> FindingValues<'a> {
     let values = [
         ("portNumber", number(port)),
         ("delayMechanism", Of(other.own)),
@@ -497,7 +497,7 @@ fn of_mechanism(port: u16, other: &OtherMechanism) -> FindingValues<'static> {
     four(" port {} {}, and {} has {}", values)
 }
 
-fn of_doubtful(doubtful: &Doubtful) -> FindingValues<'static> {
+fn of_doubtful<'a>(doubtful: &Doubtful) -> FindingValues<'a> {
     let quality = doubtful.quality;
     let source = MemberValue::Named(Enumeration::TimeSource, doubtful.time_source);
     let values = [
@@ -509,7 +509,7 @@ fn of_doubtful(doubtful: &Doubtful) -> FindingValues<'static> {
     four(" class {}, accuracy {}, {}", values)
 }
 
-fn of_untraceable(untraceable: &Untraceable) -> FindingValues<'static> {
+fn of_untraceable<'a>(untraceable: &Untraceable) -> FindingValues<'a> {
     let values = [
         ("clockClass", number(untraceable.class as u16)),
         ("timeTraceable", Of(Flag(untraceable.time))),
@@ -518,13 +518,13 @@ fn of_untraceable(untraceable: &Untraceable) -> FindingValues<'static> {
     three(" class {}, timeTraceable {}, frequencyTraceable {}", values)
 }
 
-fn of_utc_invalid(offset: i16) -> FindingValues<'static> {
+fn of_utc_invalid<'a>(offset: i16) -> FindingValues<'a> {
     let offset = ("currentUtcOffset", Of(Signed(offset as i64)));
     let valid = ("currentUtcOffsetValid", Of(Flag(false)));
     two(" currentUtcOffset {} is not valid", [offset, valid])
 }
 
-fn of_utc_offset(offset: &WrongOffset) -> FindingValues<'static> {
+fn of_utc_offset<'a>(offset: &WrongOffset) -> FindingValues<'a> {
     let said = ("currentUtcOffset", Of(Signed(offset.said as i64)));
     let is = ("expected", Of(Signed(offset.is as i64)));
     two(
@@ -533,7 +533,7 @@ fn of_utc_offset(offset: &WrongOffset) -> FindingValues<'static> {
     )
 }
 
-fn of_leap(leap: &Leap) -> FindingValues<'static> {
+fn of_leap<'a>(leap: &Leap) -> FindingValues<'a> {
     let words = if leap.is_unusual {
         " {} at the end of this day in UTC, and so far none came but in June and December"
     } else {
@@ -549,7 +549,7 @@ fn of_leap(leap: &Leap) -> FindingValues<'static> {
 }
 
 /// The leap second that is announced, and the day, unless both are.
-fn of_false_leap(leap: &FalseLeap) -> FindingValues<'static> {
+fn of_false_leap<'a>(leap: &FalseLeap) -> FindingValues<'a> {
     let (words, date) = match leap.date {
         Some(date) => (
             " {}, and {} is not the last day of a month",
@@ -571,7 +571,7 @@ fn of_false_leap(leap: &FalseLeap) -> FindingValues<'static> {
 }
 
 /// The clock of a better class, with what it says of itself.
-fn of_better(better: &Better) -> FindingValues<'static> {
+fn of_better<'a>(better: &Better) -> FindingValues<'a> {
     let values = [
         ("", number(better.class as u16)),
         ("better", Of(Clock(better.clock))),
@@ -590,12 +590,12 @@ fn of_missing(missing: &Missing) -> FindingValues<'_> {
     two("{}{}", [("managementIds", ids), ("portNumbers", ports)])
 }
 
-fn of_reach(hops: u8) -> FindingValues<'static> {
+fn of_reach<'a>(hops: u8) -> FindingValues<'a> {
     let words = " the last of {} boundary hops: clocks behind it are not asked";
     one(words, ("boundaryHops", number(hops as u16)))
 }
 
-fn of_grandmaster_change(change: &GrandmasterChange) -> FindingValues<'static> {
+fn of_grandmaster_change<'a>(change: &GrandmasterChange) -> FindingValues<'a> {
     let words = if change.clocks == 1 {
         " {}, then {}; {} clock"
     } else {
