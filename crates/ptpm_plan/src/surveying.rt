@@ -1,7 +1,7 @@
 //! What the answers of a survey say of its clocks and ports.
 
 ghost use Rattle.std.specs.Prelude.{◌≡◌, IfOk, OnOk, reverse};
-ghost use Rattle.std.specs.List.{All, find};
+ghost use Rattle.std.specs.List.{All, find, list_any};
 ghost use Rattle.std.specs.Option.{option_copied, option_map};
 ghost use Rattle.ptpm_plan.specs.Answers.{is_answer_of};
 ghost use Rattle.ptpm_plan.specs.Surveying.{IsClockOf, IsPortOf, IsSurvey, clock_from, contradicts, field_by, hops_by, is_contradicted, is_slave_only, is_twice, port_from, same_request, same_said};
@@ -142,9 +142,16 @@ impl Answers {
         ensures { result ≡ is_contradicted domain clock id self.now.list.items }
     {
         match self.last(domain, clock, 0, id) {
-            Some(last) => self.list.iter().any(|other| contradicts(last, other)),
+            Some(last) => self.has_contradiction(last),
             None => false,
         }
+    }
+
+    /// Whether another answer to the same request differs from this one.
+    fn has_contradiction(&self, last: &Answer) -> bool
+        ensures { result ≡ list_any (λ other. contradicts last.now other) self.now.list.items }
+    {
+        self.list.iter().any(|other| contradicts(last, other))
     }
 
     /// How many boundary clocks the last answer of a clock passed.
