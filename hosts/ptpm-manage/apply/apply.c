@@ -144,13 +144,19 @@ static void take_up(const struct task *task, struct journal *journal) {
     if (!mark_sessions()) exit(NOT_WRITTEN);
 }
 
-/* Ends it without an answer to the uncertain step. */
-static int give_up_apply(const struct task *task, struct journal *journal) {
-    if (!note_begun_step(journal)) return NOT_WRITTEN;
+/* Ends it without an answer to the uncertain step; ANSWERED, or the program's status. */
+static int end_given_up(struct journal *journal) {
+    if (!journal->is_let_go && !note_letting_go(journal)) return NOT_WRITTEN;
     int status = let_go_of_steps(journal);
     if (status != ANSWERED) return status;
     if (!end_journal(journal, GIVEN_UP, journal->begun)) return NOT_WRITTEN;
     if (journal->begun != NO_STEP) complain("step %ld may have been carried out", journal->begun + 1);
+    return ANSWERED;
+}
+
+static int give_up_apply(const struct task *task, struct journal *journal) {
+    int status = end_given_up(journal);
+    if (status != ANSWERED) return status;
     print_apply(journal, &(struct journal){ 0 }, true, task->is_json);
     return NOT_ANSWERED;
 }
@@ -161,8 +167,9 @@ static int resume(const struct task *task) {
     if (!find_open_journal(&journal)) refuse("nothing was sent: no apply is open in %s", journals_folder());
     task = as_manager(task, &journal);
     take_up(task, &journal);
-    if (!task->is_letting_go) open_transport(task);
-    int status = task->is_letting_go ? give_up_apply(task, &journal) : carry_out(task, &journal);
+    bool is_given_up = task->is_letting_go || journal.is_let_go;
+    if (!is_given_up) open_transport(task);
+    int status = is_given_up ? give_up_apply(task, &journal) : carry_out(task, &journal);
     leave_journal(&journal);
     return status;
 }
@@ -226,11 +233,13 @@ static int begin_back(const struct task *task, struct journal *journal, struct j
     return end_without_steps(task, journal, back);
 }
 
-/* The uncertain step of an apply that is open is settled first. */
+/* The uncertain step of an apply that is open is settled first. If it was being given up, the apply ends first. */
 static int roll_back_by(const struct task *task, struct journal *journal, struct journal *back) {
     bool is_open = journal->ending == IS_OPEN;
     if (is_open) take_up(task, journal);
-    int status = is_open ? settle_begun_steps(journal) : ANSWERED;
+    int status = !is_open ? ANSWERED : journal->is_let_go ? end_given_up(journal) : settle_begun_steps(journal);
+    is_open = journal->ending == IS_OPEN;
+    if (!is_open) leave_sessions();
     if (status == ANSWERED) {
         take_back(back, journal);
         status = leave_needed_steps(task, back);

@@ -109,11 +109,12 @@ bool continue_journal(struct journal *journal) {
     return found.st_size == (off_t)journal->size || (ftruncate(journal->file, (off_t)journal->size) == 0 && fsync(journal->file) == 0);
 }
 
-/* All of a file and an end of text; NULL if it can't be read, and then errno says why. */
+/* All of a file and an end of text, synchronized; NULL if it can't be, and then errno says why. */
 static char *read_file(const char *path, size_t *size) {
     struct stat found;
     int file = open(path, O_RDONLY | O_CLOEXEC | O_NOFOLLOW | O_NONBLOCK);
-    char *octets = file >= 0 && fstat(file, &found) == 0 ? malloc((size_t)found.st_size + 1) : NULL;
+    bool is_kept = file >= 0 && fsync(file) == 0 && fstat(file, &found) == 0;
+    char *octets = is_kept ? malloc((size_t)found.st_size + 1) : NULL;
     *size = 0;
     for (ssize_t count = 1; octets != NULL && count > 0 && *size < (size_t)found.st_size; *size += (size_t)count) {
         count = read(file, octets + *size, (size_t)found.st_size - *size);
@@ -211,7 +212,16 @@ bool note_told(struct journal *journal, long step, const struct told *told) {
     write_told(begin_line(&line), step, told);
     if (!append(journal, &line)) return false;
     journal->told[step] = *told;
+    journal->told_count++;
     journal->begun = NO_STEP;
+    return true;
+}
+
+bool note_let_go(struct journal *journal) {
+    struct line line;
+    write_let_go(begin_line(&line), journal->begun);
+    if (!append(journal, &line)) return false;
+    journal->is_let_go = true;
     return true;
 }
 
@@ -225,16 +235,11 @@ bool note_end(struct journal *journal, enum ending ending, long step) {
 }
 
 long failed_step(const struct journal *journal) {
-    for (size_t i = 0; i < journal->count; i++) {
-        if (journal->told[i].outcome != NOT_TOLD && journal->told[i].outcome != DONE) return (long)i;
-    }
-    return NO_STEP;
+    long last = (long)journal->told_count - 1;
+    return last >= 0 && journal->told[last].outcome != DONE ? last : NO_STEP;
 }
 
 long next_step(const struct journal *journal) {
     if (failed_step(journal) != NO_STEP) return NO_STEP;
-    for (size_t i = 0; i < journal->count; i++) {
-        if (journal->told[i].outcome == NOT_TOLD) return (long)i;
-    }
-    return NO_STEP;
+    return journal->told_count < journal->count ? (long)journal->told_count : NO_STEP;
 }

@@ -42,9 +42,10 @@ struct journal {
     struct step *steps;
     struct told *told;
     uint16_t *numbers;                      /* of each step that was begun, the latest sequenceId */
-    size_t count;
+    size_t count, told_count;               /* of all, and of those that have an outcome: the first ones */
     long begun;                             /* the step that was begun and has no outcome, or NO_STEP, */
-    bool is_unsent;                         /* and this run knows that no message of it left */
+    bool is_unsent;                         /* and this run knows that no message of it left, */
+    bool is_let_go;                         /* or it is given up: its request may still be in the session */
     enum ending ending;
     long end_step;                          /* at which it ended, or NO_STEP */
     int file;
@@ -63,7 +64,8 @@ bool make_journal(struct journal *journal);
 
 enum found_journal { FOUND_JOURNAL, NO_JOURNAL, DAMAGED_JOURNAL, OTHER_JOURNAL, UNREADABLE_JOURNAL };
 
-/* Reads the journal at its path. A last line that was torn does not count. OTHER_JOURNAL is one of another version of this program. */
+/* Reads the journal at its path, and synchronizes it: a run that was killed may not have. A last line that was torn does not count.
+   OTHER_JOURNAL is one of another version of this program. DAMAGED_JOURNAL is also one that no run writes. */
 enum found_journal read_journal(struct journal *journal, const char *path);
 
 /* Opens its file for more notes, and cuts a torn line off; whether it could. */
@@ -76,6 +78,7 @@ bool may_be_open(const char *path);
 bool note_begun(struct journal *journal, long step, uint16_t number);
 bool note_not_begun(struct journal *journal);
 bool note_told(struct journal *journal, long step, const struct told *told);
+bool note_let_go(struct journal *journal);
 bool note_end(struct journal *journal, enum ending ending, long step);
 
 /* The next step to be asked; NO_STEP if all are done, or one was answered and is not done. */
@@ -98,13 +101,14 @@ void leave_journal(struct journal *journal);
 void write_journal_head(FILE *to, const struct journal *journal);
 void write_begun(FILE *to, long step, uint16_t number);
 void write_not_begun(FILE *to, long step);
+void write_let_go(FILE *to, long step);
 void write_told(FILE *to, long step, const struct told *told);
 void write_end(FILE *to, enum ending ending, long step);
 
 /* Whether it is the head of a journal in the form of another version. */
 bool is_head_of_other_version(const char *text);
 
-/* Takes the head, or a note; whether the text is one. */
+/* Takes the head, or a note; whether the text is one, and comes where a run may write it. */
 bool take_head(struct journal *journal, const char *text);
 bool take_note(struct journal *journal, const char *text);
 

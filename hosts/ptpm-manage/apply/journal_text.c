@@ -31,7 +31,7 @@ static void write_one_step(FILE *to, const struct step *step) {
 void write_journal_head(FILE *to, const struct journal *journal) {
     char manager[IDENTITY_TEXT];
     write_identity(manager, journal->manager);
-    fprintf(to, "{\"version\":1,\"name\":\"%s\"", journal->name);
+    fprintf(to, "{\"version\":2,\"name\":\"%s\"", journal->name);
     if (*journal->rolls_back != '\0') fprintf(to, ",\"rolls_back\":\"%s\"", journal->rolls_back);
     fprintf(to, ",\"manager\":\"%s/%u\",\"steps\":[", manager, journal->manager_port);
     for (size_t i = 0; i < journal->count; i++) {
@@ -44,6 +44,8 @@ void write_journal_head(FILE *to, const struct journal *journal) {
 void write_begun(FILE *to, long step, uint16_t number) { fprintf(to, "{\"begun\":%ld,\"number\":%u}", step, number); }
 
 void write_not_begun(FILE *to, long step) { fprintf(to, "{\"not_begun\":%ld}", step); }
+
+void write_let_go(FILE *to, long step) { fprintf(to, "{\"let_go\":%ld}", step); }
 
 void write_told(FILE *to, long step, const struct told *told) {
     const char *error = error_name(told->error);
@@ -145,12 +147,12 @@ static void take_steps(struct reader *reader, struct journal *journal) {
 
 bool is_head_of_other_version(const char *text) {
     struct reader reader = { text, false };
-    return is_next(&reader, "{\"version\":") && !is_next(&reader, "1,");
+    return is_next(&reader, "{\"version\":") && !is_next(&reader, "2,");
 }
 
 bool take_head(struct journal *journal, const char *text) {
     struct reader reader = { text, false };
-    take(&reader, "{\"version\":1,\"name\":");
+    take(&reader, "{\"version\":2,\"name\":");
     take_string(&reader, journal->name, sizeof journal->name);
     if (is_next(&reader, ",\"rolls_back\":")) take_string(&reader, journal->rolls_back, sizeof journal->rolls_back);
     take(&reader, ",\"manager\":\"");
@@ -162,6 +164,8 @@ bool take_head(struct journal *journal, const char *text) {
     take(&reader, "]}");
     return !reader.is_wrong && *reader.at == '\0';
 }
+
+/* ---- notes */
 
 /* One of the steps. */
 static long take_step(struct reader *reader, const struct journal *journal) {
@@ -199,9 +203,25 @@ static void take_told(struct reader *reader, struct journal *journal) {
     take_outcome(reader, &told);
     take(reader, ",\"octets\":");
     take_octets(reader, &told.answer);
+    reader->is_wrong |= journal->begun != step || journal->is_let_go;
     if (reader->is_wrong) return;
     journal->told[step] = told;
-    if (journal->begun == step) journal->begun = NO_STEP;
+    journal->told_count++;
+    journal->begun = NO_STEP;
+}
+
+/* Whether a run ends it so. */
+static bool may_end(const struct journal *journal, enum ending ending, long step) {
+    long failed = failed_step(journal);
+    bool is_refused = failed != NO_STEP && journal->told[failed].outcome == IS_REFUSED;
+    if (ending == GIVEN_UP) return step == journal->begun && journal->is_let_go == (step != NO_STEP);
+    if (journal->begun != NO_STEP) return false;
+    switch (ending) {
+    case COMPLETE: return step == NO_STEP && failed == NO_STEP && next_step(journal) == NO_STEP;
+    case ENDED_REFUSED: return step == failed && is_refused;
+    case ENDED_ANSWERED: return step == failed && failed != NO_STEP && !is_refused;
+    default: return true;
+    }
 }
 
 static void take_end(struct reader *reader, struct journal *journal) {
@@ -210,18 +230,25 @@ static void take_end(struct reader *reader, struct journal *journal) {
     for (enum ending ending = COMPLETE; ending < ENDINGS; ending++) {
         if (strcmp(text, endings[ending]) == 0) journal->ending = ending;
     }
-    if (journal->ending == IS_OPEN) reader->is_wrong = true;
     take(reader, ",\"step\":");
     journal->end_step = is_next(reader, "null") ? NO_STEP : take_step(reader, journal);
+    reader->is_wrong |= journal->ending == IS_OPEN || !may_end(journal, journal->ending, journal->end_step);
 }
 
 static void take_begun(struct reader *reader, struct journal *journal) {
     long step = take_step(reader, journal);
     take(reader, ",\"number\":");
     uint16_t number = (uint16_t)take_number(reader, 65535);
+    reader->is_wrong |= journal->begun != NO_STEP || step != next_step(journal);
     if (reader->is_wrong) return;
     journal->begun = step;
     journal->numbers[step] = number;
+}
+
+/* The step that is begun, and is not given up. */
+static void take_step_begun(struct reader *reader, const struct journal *journal) {
+    long step = take_step(reader, journal);
+    reader->is_wrong |= journal->begun != step || journal->is_let_go;
 }
 
 bool take_note(struct journal *journal, const char *text) {
@@ -229,9 +256,12 @@ bool take_note(struct journal *journal, const char *text) {
     if (is_next(&reader, "{\"begun\":")) take_begun(&reader, journal);
     else if (is_next(&reader, "{\"told\":")) take_told(&reader, journal);
     else if (is_next(&reader, "{\"end\":")) take_end(&reader, journal);
-    else {
+    else if (is_next(&reader, "{\"let_go\":")) {
+        take_step_begun(&reader, journal);
+        journal->is_let_go = true;
+    } else {
         take(&reader, "{\"not_begun\":");
-        take_step(&reader, journal);
+        take_step_begun(&reader, journal);
         journal->begun = NO_STEP;
     }
     take(&reader, "}");

@@ -22,6 +22,13 @@ static void make_folder(const char *path) {
     if (mkdir(path, 0700) && errno != EEXIST) refuse_folder(path);
 }
 
+/* A run that was killed may not have synchronized the name of its journal. */
+static void synchronize_folder(void) {
+    int opened = open(folder, O_RDONLY | O_DIRECTORY | O_CLOEXEC);
+    if (opened < 0 || fsync(opened)) refuse_folder(folder);
+    close(opened);
+}
+
 void take_journals(void) {
     char path[PATH_MAX];
     const char *state = state_folder();
@@ -32,7 +39,10 @@ void take_journals(void) {
     snprintf(path, sizeof path, "%s/lock", folder);
     int lock = open(path, O_RDWR | O_CREAT | O_NOFOLLOW | O_CLOEXEC, 0660);
     if (lock < 0) refuse_folder(path);
-    if (take_kept_lock(lock)) return;
+    if (take_kept_lock(lock)) {
+        synchronize_folder();
+        return;
+    }
     if (errno != EAGAIN && errno != EACCES) refuse_folder(path);
     refuse("nothing was sent: another apply, process %ld, has %s", (long)kept_lock_owner(lock), path);
 }
@@ -77,32 +87,32 @@ static void read_it(struct journal *journal, const char *path) {
     }
 }
 
-/* Whether this one is open, and comes before an open one that was found already. */
-static bool is_first(const struct journal *journal, bool is_any_found) {
-    return journal->ending == IS_OPEN && (!is_any_found || *journal->rolls_back != '\0');
+static bool rolls_back(const struct journal *back, const struct journal *journal) { return strcmp(back->rolls_back, journal->name) == 0; }
+
+/* The one that goes on, of two that are open: a rollback, and not the apply that it takes back. */
+static bool goes_on(const struct journal *one, const struct journal *other) {
+    if (*other->name == '\0' || rolls_back(one, other)) return true;
+    if (rolls_back(other, one)) return false;
+    const char *earlier = strcmp(one->name, other->name) < 0 ? one->path : other->path;
+    refuse("nothing was sent: %s and %s are both open, and no run leaves that: move %s away, and then resume", one->name, other->name, earlier);
 }
 
 bool find_open_journal(struct journal *journal) {
     char path[PATH_MAX];
     struct journal one;
     DIR *names = opendir(folder);
-    bool is_found = false;
     if (names == NULL) refuse_folder(folder);
     *journal = (struct journal){ 0 };
     for (struct dirent *entry; (entry = readdir(names)) != NULL;) {
         if (!is_journal(entry->d_name)) continue;
         write_path(path, entry->d_name);
         read_it(&one, path);
-        if (!is_first(&one, is_found)) {
-            leave_journal(&one);
-            continue;
-        }
-        leave_journal(journal);
-        *journal = one;
-        is_found = true;
+        struct journal *left = one.ending == IS_OPEN && goes_on(&one, journal) ? journal : &one;
+        leave_journal(left);
+        if (left == journal) *journal = one;
     }
     closedir(names);
-    return is_found;
+    return *journal->name != '\0';
 }
 
 bool find_rolled_back(struct journal *journal, const struct journal *back) {

@@ -13,7 +13,7 @@ void take_journals(void);
 const char *journals_folder(void);
 
 /* Finds the journal that is open; whether there is one. A rollback comes before the apply that it takes back. Ends the program with status 2
-   if one is damaged, or can't be read. */
+   if any other two are open, or one is damaged or can't be read. */
 bool find_open_journal(struct journal *journal);
 
 /* Finds the apply that a rollback takes back; whether it is there. */

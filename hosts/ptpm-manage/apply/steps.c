@@ -257,8 +257,8 @@ static int see_to_sessions(struct journal *journal) {
     return end_with(journal, ENDED_CHANGED, NO_STEP);
 }
 
-bool note_begun_step(struct journal *journal) {
-    return journal->begun == NO_STEP || note_standing(desk_of(&journal->steps[journal->begun]), journal);
+bool note_letting_go(struct journal *journal) {
+    return journal->begun == NO_STEP || note_given_up(desk_of(&journal->steps[journal->begun]), journal);
 }
 
 int let_go_of_steps(const struct journal *journal) {

@@ -18,8 +18,9 @@ int carry_out_steps(const struct task *task, struct journal *journal);
 /* Sees to the step that was begun and has no answer, and to the sessions of those that have one. ANSWERED, or the program's status. */
 int settle_begun_steps(struct journal *journal);
 
-/* Finds whether the step that was begun last was never sent, and notes it then. Nothing is sent. Whether it could. */
-bool note_begun_step(struct journal *journal);
+/* Notes that the step that was begun last is given up; or, if it was never sent, that. Nothing is sent. Whether it could, which is said
+   otherwise. */
+bool note_letting_go(struct journal *journal);
 
 /* Gives up the steps of the journal that are still in a session, so that no later run sends them again. Nothing is sent. ANSWERED, or the
    program's status. */

@@ -23,7 +23,7 @@ struct session_file {
 /* What is at a path: a file whose octets are not those that were saved is broken. */
 enum found_session { NO_SESSION_FILE, SESSION_FILE, BROKEN_SESSION_FILE };
 
-/* Takes the file at this path only for this run, and reads what is before its seal, or all if it has none. If there is no file,
+/* Takes the file at this path only for this run, and reads what is before its seal, or all if it has none. That is on the disk then. If there is no file,
    none is made, but the call makes sure that one can be. The file's folder is made if it is missing. A manager has one request on
    its way at a time. So runs take turns, by a lock on the file PATH.lock, which stays if there is a file at the end. Ends the
    program, status 2, if the file is a link or no file, or if its turn does not come within a minute. So it does if an apply has marked
