@@ -21,7 +21,7 @@ static int status_of(enum ending ending) {
     case ENDED_REFUSED:
     case ENDED_ANSWERED: return REFUSED;
     case ENDED_CHANGED: return NOT_AS_ASKED;
-    default: return NOT_ANSWERED;
+    default: return IN_PART;
     }
 }
 
@@ -31,7 +31,7 @@ static int status_of(enum ending ending) {
 static void judge_ports(const struct step *steps, size_t count) {
     for (size_t i = 0; i < count; i++) {
         if (!is_beyond_session(steps[i].port)) continue;
-        refuse("nothing was sent: change %zu: no session is kept of a port above %d", i + 1, SESSION_PORTS);
+        refuse_usage("nothing was sent: change %zu: no session is kept of a port above %d", i + 1, SESSION_PORTS);
     }
 }
 
@@ -41,20 +41,31 @@ static int show_plan(const struct task *task) {
     if (task->plan.is_probed && !stopped) probed = probe_clocks(&plan, task);
     print_plan(&plan, task->is_json);
     if (status == ANSWERED) judge_ports(plan.steps, plan.count);
+    if (probed == ANSWERED) probed = status;
+    if (probed == ANSWERED) note_of_end(plan.count > 0 ? CHANGES : NOTHING_TO_DO);
+    if (probed == ANSWERED && plan.count > 0 && task->plan.tells_changes) probed = HAS_CHANGES;
     leave_plan(&plan);
-    return probed == ANSWERED ? status : probed;
+    return probed;
 }
 
 /* ---- a journal is carried out */
+
+/* What was left out, or has no answer, leaves a rollback done in part. */
+static int judge_left_out(const struct task *task, struct journal *journal) {
+    int status = find_left_out(task, journal);
+    return status == NOT_ANSWERED ? IN_PART : status;
+}
 
 /* Goes on with a journal whose sessions are taken and marked, and says what became of it. If it is a rollback that is complete, and the journal
    of the apply is there, it also says what was left out. */
 static int carry_out(const struct task *task, struct journal *journal) {
     struct journal back_of = { 0 };
+    refuse_as(LEFT_OPEN);
     int status = carry_out_steps(task, journal);
     if (status == ANSWERED) status = status_of(journal->ending);
-    if (status == ANSWERED && find_rolled_back(&back_of, journal)) status = find_left_out(task, &back_of);
-    print_apply(journal, &back_of, status == NOT_ANSWERED, task->is_json);
+    else if (status == NOT_ANSWERED) status = LEFT_OPEN;
+    if (status == ANSWERED && find_rolled_back(&back_of, journal)) status = judge_left_out(task, &back_of);
+    print_apply(journal, &back_of, status == LEFT_OPEN, task->is_json);
     leave_journal(&back_of);
     leave_sessions();
     return status;
@@ -85,7 +96,10 @@ static int apply_plan(const struct task *task, const struct plan *plan) {
         complain("nothing was sent: the plan is another one by now");
         return NOT_AS_ASKED;
     }
-    if (plan->count == 0) return ANSWERED;
+    if (plan->count == 0) {
+        note_of_end(NOTHING_TO_DO);
+        return ANSWERED;
+    }
     give_steps(&journal, plan->steps, plan->count);
     name_journal(&journal, plan->id);
     int status = begin(task, &journal);
@@ -116,10 +130,10 @@ static const struct task *as_manager(const struct task *task, const struct journ
     static struct task own;
     own = *task;
     if (task->path == NULL && memcmp(journal->manager, of_socket, 8) == 0) {
-        refuse("nothing was sent: %s was begun on a Unix socket: --unix names it", journal->name);
+        refuse_usage("nothing was sent: %s was begun on a Unix socket: --unix names it", journal->name);
     }
     bool is_other = memcmp(journal->manager, task->settings.clock, 8) != 0 || journal->manager_port != task->settings.port;
-    if (task->has_manager && is_other) refuse("nothing was sent: %s is by another manager than --manager says", journal->name);
+    if (task->has_manager && is_other) refuse_usage("nothing was sent: %s is by another manager than --manager says", journal->name);
     memcpy(own.settings.clock, journal->manager, 8);
     own.settings.port = journal->manager_port;
     return &own;
@@ -130,9 +144,8 @@ static void end_rolled_back(const struct journal *back) {
     struct journal journal;
     if (!find_rolled_back(&journal, back)) return;
     bool is_ended = journal.ending != IS_OPEN || (continue_journal(&journal) && note_end(&journal, ROLLED_BACK, NO_STEP));
-    if (!is_ended) complain("nothing was sent: %s: %s", journal.path, strerror(errno));
+    if (!is_ended) refuse_storage("nothing was sent: %s: %s", journal.path, strerror(errno));
     leave_journal(&journal);
-    if (!is_ended) exit(NOT_WRITTEN);
 }
 
 /* Takes the journal up where a run before left it. */
@@ -140,8 +153,11 @@ static void take_up(const struct task *task, struct journal *journal) {
     end_rolled_back(journal);
     own_marks(journal->path);
     take_sessions(task, journal);
-    if (!continue_journal(journal)) refuse("nothing was sent: %s: %s", journal->path, strerror(errno));
-    if (!mark_sessions()) exit(NOT_WRITTEN);
+    if (!continue_journal(journal)) refuse_storage("nothing was sent: %s: %s", journal->path, strerror(errno));
+    if (!mark_sessions()) {
+        end_object(NOT_WRITTEN);
+        exit(NOT_WRITTEN);
+    }
 }
 
 /* Ends it without an answer to the uncertain step; ANSWERED, or the program's status. */
@@ -158,13 +174,17 @@ static int give_up_apply(const struct task *task, struct journal *journal) {
     int status = end_given_up(journal);
     if (status != ANSWERED) return status;
     print_apply(journal, &(struct journal){ 0 }, true, task->is_json);
-    return NOT_ANSWERED;
+    return IN_PART;
 }
 
 static int resume(const struct task *task) {
     struct journal journal;
     take_journals();
-    if (!find_open_journal(&journal)) refuse("nothing was sent: no apply is open in %s", journals_folder());
+    if (!find_open_journal(&journal)) {
+        complain("nothing was sent: no apply is open in %s", journals_folder());
+        note_of_end(NOTHING_TO_DO);
+        return ANSWERED;
+    }
     task = as_manager(task, &journal);
     take_up(task, &journal);
     bool is_given_up = task->is_letting_go || journal.is_let_go;
@@ -215,9 +235,10 @@ static int go_over_to(const struct task *task, struct journal *journal, struct j
 /* Says that no step is to be taken back, and what is left out. It is no apply, and has no name. */
 static int end_without_steps(const struct task *task, struct journal *journal, struct journal *back) {
     complain("%s: no step is to be rolled back", journal->name);
-    int status = find_left_out(task, journal);
+    int status = judge_left_out(task, journal);
     back->ending = COMPLETE;
     if (task->is_json) print_apply(back, journal, false, true);
+    note_of_end(NOTHING_TO_DO);
     return status;
 }
 
@@ -246,7 +267,7 @@ static int roll_back_by(const struct task *task, struct journal *journal, struct
     }
     if (status == ANSWERED) return begin_back(task, journal, back);
     complain("nothing was rolled back%s", is_open ? ": the apply stays open" : "");
-    return status;
+    return is_open && status == NOT_ANSWERED ? LEFT_OPEN : status;
 }
 
 static int roll_back(const struct task *task, struct journal *journal) {
@@ -271,11 +292,18 @@ static int rollback(const struct task *task) {
     return status;
 }
 
-int change_site(const struct task *task) {
+static int change(const struct task *task) {
     switch (task->plan.verb) {
     case APPLY: return apply(task);
     case RESUME: return resume(task);
     case ROLLBACK: return rollback(task);
     default: return show_plan(task);
     }
+}
+
+int change_site(const struct task *task) {
+    refuse_as(NOT_ANSWERED);
+    int status = change(task);
+    end_object(status);
+    return status;
 }

@@ -3,6 +3,8 @@
 #include "field_text.h"
 #include "names.h"
 #include "notices.h"
+#include "program.h"
+#include "text.h"
 #include "words.h"
 #include <string.h>
 
@@ -140,18 +142,67 @@ static void print_steps_as_json(const char *name, const struct journal *journal,
     putchar(']');
 }
 
+/* The object: whether it is printed at all, and whether its head is; and what its end has. */
+static bool is_object, has_head;
+static const char *word_of_done = "done";
+static bool is_open;
+
+static void begin_member(void) {
+    putchar(has_head ? ',' : '{');
+    has_head = true;
+}
+
+/* By the status. */
+static const char *const words[] = {
+    [REFUSED] = "refused", [NOT_ASKED] = "usage", [NOT_ANSWERED] = "nothingSent", [NOT_WRITTEN] = "storage", [NOT_AS_ASKED] = "changed",
+    [LEFT_OPEN] = "open", [IN_PART] = "inPart", [HAS_CHANGES] = "changes",
+};
+
+static void end_with_reason(enum status status, const char *why) {
+    if (!is_object) return;
+    const char *word = status == ANSWERED ? word_of_done : status > HAS_CHANGES ? words[is_open ? LEFT_OPEN : NOT_ANSWERED] : words[status];
+    begin_member();
+    printf("\"status\":\"%s\"", word);
+    if (why != NULL) fputs(",\"why\":", stdout);
+    if (why != NULL) print_json_text(stdout, (const uint8_t *)why, strlen(why));
+    puts("}");
+    is_object = false;
+}
+
+static void end_by_failure(const char *what, const char *why) {
+    char text[512];
+    snprintf(text, sizeof text, "%s: %s", what, why);
+    end_with_reason(NOT_WRITTEN, text);
+}
+
+void begin_object(void) {
+    is_object = true;
+    refuse_also(end_with_reason);
+    end_otherwise(NOT_WRITTEN, end_by_failure);
+}
+
+void print_members(const char *text, size_t size) {
+    print_json(stdout, text, size);
+    has_head = true;
+}
+
+void end_object(int status) { end_with_reason((enum status)status, NULL); }
+
+void note_of_end(enum noted noted) { word_of_done = noted == CHANGES ? "changes" : "nothingToDo"; }
+
 static void print_json_of(const struct journal *journal, const struct journal *back_of, const char *end) {
-    if (*journal->name == '\0') fputs("{\"apply\":null", stdout);
-    else printf("{\"apply\":\"%s\"", journal->name);
+    begin_member();
+    if (*journal->name == '\0') fputs("\"apply\":null", stdout);
+    else printf("\"apply\":\"%s\"", journal->name);
     if (*journal->rolls_back != '\0') printf(",\"rollsBack\":\"%s\"", journal->rolls_back);
     printf(",\"end\":\"%s\"", end);
     print_steps_as_json("steps", journal, false);
     if (*journal->rolls_back != '\0') print_steps_as_json("leftOut", back_of, true);
-    puts("}");
 }
 
 void print_apply(const struct journal *journal, const struct journal *back_of, bool is_silent, bool is_json) {
     const char *end = journal->ending == IS_OPEN && is_silent ? "silent" : ending_name(journal->ending);
+    is_open = journal->ending == IS_OPEN;
     clear_progress();
     if (is_json) print_json_of(journal, back_of, end);
     else print_text_of(journal, end);

@@ -6,6 +6,19 @@
 #include <stdbool.h>
 #include <stdio.h>
 
+/* Whatever a run comes to, with --json it prints one object. From now on what is refused ends it. */
+void begin_object(void);
+
+/* The head of that object: a text that begins with its bracket and lacks the last one. */
+void print_members(const char *text, size_t size);
+
+/* Ends it with a word for the program's status. */
+void end_object(int status);
+
+/* Notes what the status does not have: that there was nothing to do, or that there are changes. */
+enum noted { NOTHING_TO_DO, CHANGES };
+void note_of_end(enum noted noted);
+
 /* Prints it on standard output. An apply without an end is `silent` if an answer is missing, and otherwise `open`. `back_of` is the apply
    that it takes back, if it is a rollback: JSON names the steps of that one that are left out. */
 void print_apply(const struct journal *journal, const struct journal *back_of, bool is_silent, bool is_json);

@@ -16,7 +16,7 @@
 static const char ending[] = ".journal";
 static char folder[PATH_MAX - JOURNAL_NAME - 16];
 
-_Noreturn static void refuse_folder(const char *path) { refuse("nothing was sent: %s: %s", path, strerror(errno)); }
+_Noreturn static void refuse_folder(const char *path) { refuse_storage("nothing was sent: %s: %s", path, strerror(errno)); }
 
 static void make_folder(const char *path) {
     if (mkdir(path, 0700) && errno != EEXIST) refuse_folder(path);
@@ -33,7 +33,7 @@ void take_journals(void) {
     char path[PATH_MAX];
     const char *state = state_folder();
     int size = snprintf(folder, sizeof folder, "%s/apply", state);
-    if ((size_t)size >= sizeof folder) refuse("nothing was sent: %s: the path is too long", state);
+    if ((size_t)size >= sizeof folder) refuse_storage("nothing was sent: %s: the path is too long", state);
     make_folder(state);
     make_folder(folder);
     snprintf(path, sizeof path, "%s/lock", folder);
@@ -72,17 +72,17 @@ static void refuse_copy(const struct journal *journal, const char *path) {
     const char *name = strrchr(path, '/') + 1;
     size_t size = strlen(name) - strlen(ending);
     if (journal->ending != IS_OPEN || (size == strlen(journal->name) && memcmp(name, journal->name, size) == 0)) return;
-    refuse("nothing was sent: %s: it is the journal of %s, which is open: remove a copy, or give it that name", path, journal->name);
+    refuse_storage("nothing was sent: %s: it is the journal of %s, which is open: remove a copy, or give it that name", path, journal->name);
 }
 
 /* Reads one that is there. */
 static void read_it(struct journal *journal, const char *path) {
     switch (read_journal(journal, path)) {
     case FOUND_JOURNAL: refuse_copy(journal, path); return;
-    case NO_JOURNAL: refuse("nothing was sent: %s: there is no such journal", path);
+    case NO_JOURNAL: refuse_usage("nothing was sent: %s: there is no such journal", path);
     case DAMAGED_JOURNAL:
-        refuse("nothing was sent: DAMAGED: %s: octets of the journal were lost or changed; without it no apply is open", path);
-    case OTHER_JOURNAL: refuse("nothing was sent: OTHER_VERSION: %s: another version of this program wrote it, and goes on with it", path);
+        refuse_storage("nothing was sent: DAMAGED: %s: octets of the journal were lost or changed; without it no apply is open", path);
+    case OTHER_JOURNAL: refuse_storage("nothing was sent: OTHER_VERSION: %s: another version of this program wrote it, and goes on with it", path);
     case UNREADABLE_JOURNAL: refuse_folder(path);
     }
 }
@@ -94,7 +94,7 @@ static bool goes_on(const struct journal *one, const struct journal *other) {
     if (*other->name == '\0' || rolls_back(one, other)) return true;
     if (rolls_back(other, one)) return false;
     const char *earlier = strcmp(one->name, other->name) < 0 ? one->path : other->path;
-    refuse("nothing was sent: %s and %s are both open, and no run leaves that: move %s away, and then resume", one->name, other->name, earlier);
+    refuse_storage("nothing was sent: %s and %s are both open, and no run leaves that: move %s away, and then resume", one->name, other->name, earlier);
 }
 
 bool find_open_journal(struct journal *journal) {
@@ -126,7 +126,7 @@ bool find_rolled_back(struct journal *journal, const struct journal *back) {
 
 void find_journal(struct journal *journal, const char *name) {
     char path[PATH_MAX];
-    if (strchr(name, '/') != NULL || strlen(name) >= JOURNAL_NAME) refuse("%s: it is no name of an apply", name);
+    if (strchr(name, '/') != NULL || strlen(name) >= JOURNAL_NAME) refuse_usage("%s: it is no name of an apply", name);
     snprintf(path, sizeof path, "%s/%s%s", folder, name, ending);
     read_it(journal, path);
 }

@@ -1,5 +1,6 @@
 #define _GNU_SOURCE
 #include "plan.h"
+#include "apply_report.h"
 #include "collect.h"
 #include "exchange.h"
 #include "in_session.h"
@@ -155,7 +156,7 @@ static void name_silent_domains(const struct domains *domains) {
 static void refuse_pipe(const char *path) {
     struct stat found;
     bool is_pipe = stat(path, &found) == 0 && S_ISFIFO(found.st_mode);
-    if (is_pipe || strcmp(path, "/dev/stdin") == 0) refuse("%s: it is read more than once, so it has to be a file, and no pipe", path);
+    if (is_pipe || strcmp(path, "/dev/stdin") == 0) refuse_usage("%s: it is read more than once, so it has to be a file, and no pipe", path);
 }
 
 int make_plan(struct plan *plan, const struct task *task) {
@@ -199,10 +200,11 @@ static void add_warning(struct plan *plan, const char *text, bool is_json) {
 }
 
 void print_plan(const struct plan *plan, bool is_json) {
+    const char *text = plan->text.text, *end = text == NULL || !is_json ? NULL : strrchr(text, '}');
     clear_progress();
-    if (plan->text.text == NULL) return;
-    if (is_json) print_json(stdout, plan->text.text, plan->text.size);
-    else print_lines(stdout, plan->text.text, plan->text.size);
+    if (text == NULL) return;
+    if (end != NULL) print_members(text, (size_t)(end - text));
+    else print_lines(stdout, text, plan->text.size);
 }
 
 void leave_plan(struct plan *plan) {

@@ -21,7 +21,7 @@ struct plan {
    could not be asked. */
 int make_plan(struct plan *plan, const struct task *task);
 
-/* Prints it. */
+/* Prints it. Of JSON, the object is still to be ended. */
 void print_plan(const struct plan *plan, bool is_json);
 
 /* Frees what it holds. */

@@ -65,6 +65,7 @@ static const char help_text[] =
 static const char site_text[] =
     "Several clocks from one file:\n"
     "      --probe             plan also asks each clock a SET that changes nothing: does it take any?\n"
+    "      --status-if-changes plan ends with status 8 if there are changes\n"
     "      --expect PLAN       apply sends nothing if its plan is another one than this, of eight digits\n"
     "      --give-up           resume ends the apply, whose last step may have been carried out\n"
     "\n"
@@ -113,8 +114,11 @@ static const char asking_text[] =
 static const char help_end[] =
     "Exit status: 0 answered, and of status nothing was found. 1 the clock refuses, or there are findings.\n"
     "2 nothing was asked or sent; 3 no answer came; 4 the answer could not be printed. 5 a set is\n"
-    "answered by another value than was asked, or a value has been changed by somebody else. 128 and its\n"
-    "number: a signal ended it.\n";
+    "answered by another value than was asked. 128 and its number: a signal ended it.\n"
+    "\n"
+    "Of plan, apply, resume and rollback: 0 done, or nothing to do; 1 refused by a clock. 2 the command\n"
+    "line or FILE is refused; 3 nothing was sent. 4 a file could not be read or written; 5 changed by\n"
+    "somebody else; 6 the apply is open, for resume. 7 done in part; 8 there are changes.\n";
 
 /* The names of all ids that a call gives, in their order. */
 static void print_ids(uint32_t id_at(size_t place)) {

@@ -1,5 +1,6 @@
 #define _GNU_SOURCE
 #include "task.h"
+#include "apply_report.h"
 #include "clock_names.h"
 #include "domains.h"
 #include "exchange.h"
@@ -20,7 +21,7 @@
 #include <strings.h>
 
 /* Options without a letter of their own, and a word that is none: getopt's for a string that begins with a hyphen. */
-enum { WORD = 1, UDP = 256, TEXT, VERSION, GIVE_UP, JSON, ANY_SOURCE, NAMES, EXPECT, PROBE };
+enum { WORD = 1, UDP = 256, TEXT, VERSION, GIVE_UP, JSON, ANY_SOURCE, NAMES, EXPECT, PROBE, STATUS_IF_CHANGES };
 
 /* The same, only for `collect` and `status`. */
 enum site_option {
@@ -45,6 +46,7 @@ static const struct option options[] = {
     { "timeout", required_argument, NULL, 't' }, { "times", required_argument, NULL, 'n' },
     { "give-up", no_argument, NULL, GIVE_UP }, { "listen", required_argument, NULL, LISTEN }, { "json", no_argument, NULL, JSON },
     { "names", required_argument, NULL, NAMES }, { "expect", required_argument, NULL, EXPECT }, { "probe", no_argument, NULL, PROBE },
+    { "status-if-changes", no_argument, NULL, STATUS_IF_CHANGES },
     { "draw", no_argument, NULL, DRAW }, { "html", no_argument, NULL, HTML },
     { "openmetrics", no_argument, NULL, OPENMETRICS }, { "nagios", no_argument, NULL, NAGIOS },
     { "output", required_argument, NULL, OUTPUT }, { "max-offset", required_argument, NULL, MAX_OFFSET },
@@ -255,6 +257,7 @@ static void take_option(struct task *task, struct words *words, int option, cons
         break;
     case EXPECT: take_once(&task->plan.expected, "--expect", value); break;
     case PROBE: task->plan.is_probed = true; break;
+    case STATUS_IF_CHANGES: task->plan.tells_changes = true; break;
     case 'p': read_port(words, value); break;
     case 'd': take_domain(words, value); break;
     case 'b': words->hops = number("hops", value, 0, 255); break;
@@ -311,10 +314,16 @@ static const struct { const char *name; uint8_t action; } actions[ACTIONS] = {
 /* By their names: `plan` and what follows it. */
 static const char *const plan_verbs[] = { [PLAN] = "plan", [APPLY] = "apply", [RESUME] = "resume", [ROLLBACK] = "rollback" };
 
-static void read_verb(struct task *task, const char *verb) {
+static enum plan_verb verb_of_plan(const char *verb) {
     for (enum plan_verb one = PLAN; one <= ROLLBACK; one++) {
-        if (strcasecmp(verb, plan_verbs[one]) != 0) continue;
-        task->plan.verb = one;
+        if (strcasecmp(verb, plan_verbs[one]) == 0) return one;
+    }
+    return NO_PLAN;
+}
+
+static void read_verb(struct task *task, const char *verb) {
+    task->plan.verb = verb_of_plan(verb);
+    if (task->plan.verb != NO_PLAN) {
         task->action = PTPM_SET;
         return;
     }
@@ -493,14 +502,23 @@ static void read_reach(struct task *task, const struct words *words) {
     if (!is_site) see_to_one_interface(task);
 }
 
+/* What is refused from now on is also for what reads standard output. */
+static void prepare_refusals(int argc, char **argv) {
+    bool is_json = false, is_plan = false;
+    for (int i = 1; i < argc; i++) {
+        if (strcmp(argv[i], "--nagios") == 0) be_plugin();
+        is_json |= strcmp(argv[i], "--json") == 0;
+        is_plan |= verb_of_plan(argv[i]) != NO_PLAN;
+    }
+    if (is_json && is_plan) begin_object();
+}
+
 void read_task(struct task *task, int argc, char **argv) {
     struct words words = { .port = NOT_NAMED, .target_port = NOT_NAMED, .hops = NOT_NAMED, .attempts = NOT_NAMED };
     *task = (struct task){
         .settings = { .port = 1, .target_ports = SESSION_PORTS }, .site = { .listen = NOT_NAMED }, .wait = 3000, .timeout = 200, .times = 1,
     };
-    for (int i = 1; i < argc; i++) {
-        if (strcmp(argv[i], "--nagios") == 0) be_plugin();
-    }
+    prepare_refusals(argc, argv);
     read_words(task, &words, argc, argv);
     if (words.count == 0) {
         refuse("it takes get, set, command or survey and a managementId, or collect, status, plan, apply, resume or rollback; see "
@@ -516,6 +534,7 @@ void read_task(struct task *task, int argc, char **argv) {
     judge_json(task);
     judge_expected(task);
     if (task->plan.is_probed && task->plan.verb != PLAN) refuse("--probe: it is of plan alone");
+    if (task->plan.tells_changes && task->plan.verb != PLAN) refuse("--status-if-changes: it is of plan alone");
     if (task->site.listen < 0) task->site.listen = task->site.is_every_domain || task->site.is_every_sdo ? LISTENED : 0;
     long port = words.port >= 0 ? words.port : words.target_port;
     task->port = port < 0 ? 0 : (uint16_t)port;

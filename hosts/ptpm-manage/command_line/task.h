@@ -38,6 +38,7 @@ struct plan_options {
     const char *word;                           /* the file, or the apply that is rolled back */
     const char *expected;                       /* the id of the plan that was approved, or NULL */
     bool is_probed;                             /* each clock is asked whether it takes SETs of this manager */
+    bool tells_changes;                         /* by a status of its own: there are some */
 };
 
 struct task {

@@ -41,7 +41,7 @@ _Noreturn static void refuse_octets(uint32_t refusal) {
     case PTPM_OTHER_KIND: why = "it has the state of a clock, and not a session"; break;
     default: break;
     }
-    refuse("nothing was asked: %s: %s: %s", answer_name(refusal), session_path(), why);
+    refuse_storage("nothing was asked: %s: %s: %s", answer_name(refusal), session_path(), why);
 }
 
 /* What the asker of the task's session is set up with; octets are drawn too. */

@@ -30,7 +30,7 @@ void name_session_file(const struct session_file *file) { named = file; }
 
 _Noreturn static void refuse_session_file(const struct session_file *file, const char *why) {
     if (file->is_named) refuse("--numbers %s: %s", file->path, why);
-    refuse("nothing was sent: %s: %s", file->path, why);
+    refuse_storage("nothing was sent: %s: %s", file->path, why);
 }
 
 /* Whether the folder is that of a plan. No option names its file, but a variable its folder. */
@@ -43,8 +43,8 @@ static const char *elsewhere(void) {
 _Noreturn void refuse_place(const struct session_file *file) {
     const char *fault = kept_fault();
     if (file->is_named) refuse("the request was not sent: --numbers %s%s: %s", file->path, fault, strerror(errno));
-    if (has_own_marks()) refuse("nothing was sent: %s%s: %s", file->path, fault, strerror(errno));
-    refuse("the request was not sent: %s%s: %s; %s", file->path, fault, strerror(errno), elsewhere());
+    if (has_own_marks()) refuse_storage("nothing was sent: %s%s: %s", file->path, fault, strerror(errno));
+    refuse_storage("the request was not sent: %s%s: %s; %s", file->path, fault, strerror(errno), elsewhere());
 }
 
 static void open_folder(struct session_file *file) {
@@ -201,7 +201,7 @@ static void make_parents(void) {
         struct stat found;
         if (failure != 0 && (stat(usual_path, &found) || !S_ISDIR(found.st_mode))) {
             const char *why = strerror(failure == EEXIST ? ENOTDIR : failure);
-            refuse("the request was not sent: %s: %s; %s", usual_path, why, elsewhere());
+            refuse_storage("the request was not sent: %s: %s; %s", usual_path, why, elsewhere());
         }
         *slash = '/';
     }
