@@ -64,6 +64,7 @@ static int carry_out(const struct task *task, struct journal *journal) {
     int status = carry_out_steps(task, journal);
     if (status == ANSWERED) status = status_of(journal->ending);
     else if (status == NOT_ANSWERED) status = LEFT_OPEN;
+    if (status == ANSWERED && journal->skipped != NULL) status = IN_PART;
     if (status == ANSWERED && find_rolled_back(&back_of, journal)) status = judge_left_out(task, &back_of);
     print_apply(journal, &back_of, status == LEFT_OPEN, task->is_json);
     leave_journal(&back_of);
@@ -92,19 +93,27 @@ static int begin(const struct task *task, struct journal *journal) {
 
 static int apply_plan(const struct task *task, const struct plan *plan) {
     struct journal journal = { 0 };
+    bool is_with_skips = plan->unreached != NULL && *plan->unreached != '\0';
     if (task->plan.expected != NULL && strcmp(task->plan.expected, plan->id) != 0) {
         complain("nothing was sent: the plan is another one by now");
         return NOT_AS_ASKED;
     }
     if (plan->count == 0) {
         note_of_end(NOTHING_TO_DO);
-        return ANSWERED;
+        return is_with_skips ? IN_PART : ANSWERED;
     }
     give_steps(&journal, plan->steps, plan->count);
     name_journal(&journal, plan->id);
+    if (task->plan.check != NULL) snprintf(journal.check, sizeof journal.check, "%s", task->plan.check);
+    if (is_with_skips) journal.skipped = strdup(plan->unreached);
     int status = begin(task, &journal);
     leave_journal(&journal);
     return status;
+}
+
+/* Whether what is not reached stops nothing: the user leaves it out, or asks none of it. */
+static bool may_skip(const struct task *task, const struct plan *plan) {
+    return is_reached_in_part(plan) && (task->plan.skips_unreached || *plan->unreached == '\0');
 }
 
 static int apply(const struct task *task) {
@@ -115,6 +124,8 @@ static int apply(const struct task *task) {
     int status = make_plan(&plan, task);
     print_plan(&plan, task->is_json);
     if (fflush(stdout) || ferror(stdout)) return NOT_WRITTEN;
+    limit_plan(&plan, &task->plan);
+    if (status == NOT_ANSWERED && may_skip(task, &plan)) status = ANSWERED;
     if (stopped && status == ANSWERED) status = BY_SIGNAL + stopped;
     if (stopped || status == REFUSED || status == NOT_ANSWERED) complain("nothing was sent");
     if (status == ANSWERED) status = apply_plan(task, &plan);

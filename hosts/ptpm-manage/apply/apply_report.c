@@ -83,9 +83,17 @@ static size_t count_done(const struct journal *journal) {
     return count;
 }
 
+static size_t count_lines(const char *lines) {
+    size_t count = 0;
+    for (; *lines != '\0'; lines++) count += *lines == '\n';
+    return count;
+}
+
 static void print_text_of(const struct journal *journal, const char *end) {
     const char *what = *journal->rolls_back != '\0' ? "rollback" : "apply";
-    printf("%s %s: %s: %zu of %zu done\n", what, journal->name, end, count_done(journal), journal->count);
+    printf("%s %s: %s", what, journal->name, end);
+    if (journal->skipped != NULL) printf(" except %zu not reached", count_lines(journal->skipped));
+    printf(": %zu of %zu done\n", count_done(journal), journal->count);
     for (size_t i = 0; i < journal->count; i++) {
         printf("  %zu ", i + 1);
         print_state(journal, i);
@@ -93,6 +101,12 @@ static void print_text_of(const struct journal *journal, const char *end) {
         write_member_name(stdout, &journal->steps[i]);
         write_change(stdout, &journal->steps[i]);
         putchar('\n');
+    }
+    if (journal->skipped == NULL) return;
+    for (const char *at = journal->skipped, *line; *(line = at) != '\0';) {
+        at = strchr(line, '\n') + 1;
+        fputs("  not reached: ", stdout);
+        print_lines(stdout, line, (size_t)(at - line));
     }
 }
 
@@ -190,6 +204,15 @@ void end_object(int status) { end_with_reason((enum status)status, NULL); }
 
 void note_of_end(enum noted noted) { word_of_done = noted == CHANGES ? "changes" : "nothingToDo"; }
 
+static void print_skipped(const char *lines) {
+    fputs(",\"skipped\":[", stdout);
+    for (const char *at = lines, *end; (end = strchr(at, '\n')) != NULL; at = end + 1) {
+        if (at > lines) putchar(',');
+        print_json_text(stdout, (const uint8_t *)at, (size_t)(end - at));
+    }
+    putchar(']');
+}
+
 static void print_json_of(const struct journal *journal, const struct journal *back_of, const char *end) {
     begin_member();
     if (*journal->name == '\0') fputs("\"apply\":null", stdout);
@@ -197,6 +220,7 @@ static void print_json_of(const struct journal *journal, const struct journal *b
     if (*journal->rolls_back != '\0') printf(",\"rollsBack\":\"%s\"", journal->rolls_back);
     printf(",\"end\":\"%s\"", end);
     print_steps_as_json("steps", journal, false);
+    if (journal->skipped != NULL) print_skipped(journal->skipped);
     if (*journal->rolls_back != '\0') print_steps_as_json("leftOut", back_of, true);
 }
 

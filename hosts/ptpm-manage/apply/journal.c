@@ -47,6 +47,7 @@ void leave_journal(struct journal *journal) {
     free(journal->steps);
     free(journal->told);
     free(journal->numbers);
+    free(journal->skipped);
     *journal = (struct journal){ 0 };
 }
 

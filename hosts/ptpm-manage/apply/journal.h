@@ -32,11 +32,13 @@ struct told {
 };
 
 /* How it ended. */
-enum ending { IS_OPEN, COMPLETE, ENDED_REFUSED, ENDED_ANSWERED, ENDED_CHANGED, GIVEN_UP, ROLLED_BACK, ENDINGS };
+enum ending { IS_OPEN, COMPLETE, ENDED_REFUSED, ENDED_ANSWERED, ENDED_CHANGED, GIVEN_UP, ROLLED_BACK, STOPPED, ENDINGS };
 
 struct journal {
     char path[PATH_MAX], name[JOURNAL_NAME];
     char rolls_back[JOURNAL_NAME];          /* the apply that it rolls back; empty if none */
+    char check[PATH_MAX];                   /* the program that says whether to go on at another clock; empty if none */
+    char *skipped;                          /* lines: what of the plan was not reached, and is left out; or NULL */
     uint8_t manager[8];
     uint16_t manager_port;
     struct step *steps;

@@ -1,12 +1,13 @@
 #define _GNU_SOURCE
 #include "journal.h"
 #include "names.h"
+#include "program.h"
 #include "ptpm.h"
 #include "words.h"
 #include <stdlib.h>
 #include <string.h>
 
-static const char *const endings[ENDINGS] = { "open", "complete", "refused", "answered", "changed", "given up", "rolled back" };
+static const char *const endings[ENDINGS] = { "open", "complete", "refused", "answered", "changed", "given up", "rolled back", "stopped" };
 static const char *const outcomes[] = { "", "done", "refused", "answered" };
 
 const char *ending_name(enum ending ending) { return endings[ending]; }
@@ -28,11 +29,33 @@ static void write_one_step(FILE *to, const struct step *step) {
     putc('}', to);
 }
 
+/* As a string, of which quotation marks and backslashes are escaped. */
+static void write_string(FILE *to, const char *text, size_t size) {
+    putc('"', to);
+    for (size_t i = 0; i < size; i++) {
+        if (text[i] == '"' || text[i] == '\\') putc('\\', to);
+        putc(text[i], to);
+    }
+    putc('"', to);
+}
+
+/* Lines, as an array of strings. */
+static void write_lines(FILE *to, const char *lines) {
+    putc('[', to);
+    for (const char *at = lines, *end; (end = strchr(at, '\n')) != NULL; at = end + 1) {
+        if (at > lines) putc(',', to);
+        write_string(to, at, (size_t)(end - at));
+    }
+    putc(']', to);
+}
+
 void write_journal_head(FILE *to, const struct journal *journal) {
     char manager[IDENTITY_TEXT];
     write_identity(manager, journal->manager);
     fprintf(to, "{\"version\":2,\"name\":\"%s\"", journal->name);
     if (*journal->rolls_back != '\0') fprintf(to, ",\"rolls_back\":\"%s\"", journal->rolls_back);
+    if (*journal->check != '\0') fputs(",\"check\":", to), write_string(to, journal->check, strlen(journal->check));
+    if (journal->skipped != NULL) fputs(",\"skipped\":", to), write_lines(to, journal->skipped);
     fprintf(to, ",\"manager\":\"%s/%u\",\"steps\":[", manager, journal->manager_port);
     for (size_t i = 0; i < journal->count; i++) {
         if (i > 0) putc(',', to);
@@ -89,15 +112,30 @@ static long take_number(struct reader *reader, long most) {
     return number < 0 ? 0 : number;
 }
 
-/* A string without a backslash. */
 static void take_string(struct reader *reader, char *text, size_t room) {
+    size_t size = 0;
     take(reader, "\"");
-    size_t size = strcspn(reader->at, "\"\\");
-    *text = '\0';
-    if (size >= room) reader->is_wrong = true;
-    else memcpy(text, reader->at, size), text[size] = '\0';
-    reader->at += size;
+    for (; *reader->at != '"' && *reader->at != '\0' && size + 1 < room; text[size++] = *reader->at++) {
+        if (*reader->at == '\\' && reader->at[1] != '\0') reader->at++;
+    }
+    text[size] = '\0';
     take(reader, "\"");
+}
+
+/* An array of strings, as lines. */
+static void take_lines(struct reader *reader, char **lines) {
+    size_t room = strlen(reader->at) + 1, size = 0;
+    *lines = malloc(room);
+    if (*lines == NULL) give_up("the journal");
+    take(reader, "[");
+    for (bool is_first = true; !reader->is_wrong && *reader->at != ']'; is_first = false) {
+        if (!is_first) take(reader, ",");
+        take_string(reader, *lines + size, room - size);
+        size += strlen(*lines + size);
+        (*lines)[size++] = '\n';
+    }
+    (*lines)[size] = '\0';
+    take(reader, "]");
 }
 
 static void take_octets(struct reader *reader, struct value *value) {
@@ -155,6 +193,8 @@ bool take_head(struct journal *journal, const char *text) {
     take(&reader, "{\"version\":2,\"name\":");
     take_string(&reader, journal->name, sizeof journal->name);
     if (is_next(&reader, ",\"rolls_back\":")) take_string(&reader, journal->rolls_back, sizeof journal->rolls_back);
+    if (is_next(&reader, ",\"check\":")) take_string(&reader, journal->check, sizeof journal->check);
+    if (is_next(&reader, ",\"skipped\":")) take_lines(&reader, &journal->skipped);
     take(&reader, ",\"manager\":\"");
     take_identity(&reader, journal->manager);
     take(&reader, "/");

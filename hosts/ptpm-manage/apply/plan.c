@@ -127,6 +127,22 @@ static void read_id(struct plan *plan, const char *lead) {
     snprintf(plan->id, sizeof plan->id, "%s", found + strspn(found, " :\""));
 }
 
+/* The lines below a heading of the text, without the two spaces before each; NULL if there are none. They are to be freed. */
+static char *lines_below(const char *text, const char *heading) {
+    const char *at = strstr(text, heading);
+    char *lines = at == NULL ? NULL : malloc(strlen(at)), *end = lines;
+    if (at == NULL) return NULL;
+    if (lines == NULL) give_up("the plan");
+    for (at += strlen(heading); strncmp(at, "  ", 2) == 0; at = strchrnul(at, '\n') + 1) {
+        const char *line = at + 2, *feed = strchrnul(line, '\n');
+        end = mempcpy(end, line, (size_t)(feed - line));
+        *end++ = '\n';
+        if (*feed == '\0') break;
+    }
+    *end = '\0';
+    return lines;
+}
+
 /* As an object of JSON. It is of the same plan, unless the file has changed in between. */
 static void take_json(struct plan *plan, const struct task *task, const struct piece *lines) {
     char id[PLAN_ID + 1];
@@ -180,6 +196,9 @@ int make_plan(struct plan *plan, const struct task *task) {
         if (plan->text.size > 0) {
             read_id(plan, "plan");
             read_steps(plan);
+            plan->unreached = lines_below(plan->text.text, "\nnot reached:\n");
+            plan->has_unsettable = strstr(plan->text.text, "\ncan't be set:\n") != NULL;
+            plan->has_reached = plan->count > 0 || strstr(plan->text.text, "\nstays:\n") != NULL;
         }
         if (plan->text.size > 0 && task->is_json) take_json(plan, task, &lines);
     }
@@ -207,9 +226,50 @@ void print_plan(const struct plan *plan, bool is_json) {
     else print_lines(stdout, text, plan->text.size);
 }
 
+static bool is_within(const struct plan_options *options, const struct step *step) {
+    for (size_t i = 0; i < options->limit_count; i++) {
+        if (memcmp(options->limits[i], step->clock, 8) == 0) return true;
+    }
+    return options->limit_count == 0;
+}
+
+/* Whether a line of what is not reached is of none of these clocks. One without an identity may be of any. */
+static bool is_without(const struct plan_options *options, const char *line) {
+    uint8_t clock[8];
+    size_t size = strcspn(line, " \n");
+    if (options->limit_count == 0 || !ptpm_identity_parse(line, size, clock)) return false;
+    struct step step = { 0 };
+    memcpy(step.clock, clock, 8);
+    return !is_within(options, &step);
+}
+
+static void limit_unreached(struct plan *plan, const struct plan_options *options) {
+    char *to = plan->unreached;
+    for (char *line = plan->unreached, *next; line != NULL && *line != '\0'; line = next) {
+        next = strchr(line, '\n') + 1;
+        if (is_without(options, line)) continue;
+        memmove(to, line, (size_t)(next - line));
+        to += next - line;
+    }
+    if (to != NULL) *to = '\0';
+}
+
+void limit_plan(struct plan *plan, const struct plan_options *options) {
+    size_t all = plan->count;
+    plan->count = 0;
+    for (size_t i = 0; i < all; i++) {
+        if (is_within(options, &plan->steps[i])) plan->steps[plan->count++] = plan->steps[i];
+    }
+    limit_unreached(plan, options);
+    if (options->limit_count > 0) complain("--limit leaves %zu of %zu changes", plan->count, all);
+}
+
+bool is_reached_in_part(const struct plan *plan) { return plan->unreached != NULL && !plan->has_unsettable && plan->has_reached; }
+
 void leave_plan(struct plan *plan) {
     free(plan->text.text);
     free(plan->steps);
+    free(plan->unreached);
     *plan = (struct plan){ 0 };
 }
 

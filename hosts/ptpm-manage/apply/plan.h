@@ -14,12 +14,20 @@ struct plan {
     char id[PLAN_ID + 1];               /* of what it changes */
     struct step *steps;                 /* in the order in which they are asked */
     size_t count;
+    char *unreached;                    /* lines: what is not reached; or NULL */
+    bool has_unsettable, has_reached;   /* something can't be set; something is reached */
 };
 
 /* Opens the transport, asks the clocks, and has the plan made. The status is that of `ptpm plan`. It is 0 if it can be applied, and 1 if
    something can't be set. It is 2 if the file is refused, and 3 if something is not reached. Or it is that of the program, if the clocks
    could not be asked. */
 int make_plan(struct plan *plan, const struct task *task);
+
+/* Leaves the steps of these clocks. That others change nothing there is said. */
+void limit_plan(struct plan *plan, const struct plan_options *options);
+
+/* Whether it can be applied to what was reached. */
+bool is_reached_in_part(const struct plan *plan);
 
 /* Prints it. Of JSON, the object is still to be ended. */
 void print_plan(const struct plan *plan, bool is_json);

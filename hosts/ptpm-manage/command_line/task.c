@@ -19,9 +19,10 @@
 #include <stdlib.h>
 #include <string.h>
 #include <strings.h>
+#include <unistd.h>
 
 /* Options without a letter of their own, and a word that is none: getopt's for a string that begins with a hyphen. */
-enum { WORD = 1, UDP = 256, TEXT, VERSION, GIVE_UP, JSON, ANY_SOURCE, NAMES, EXPECT, PROBE, STATUS_IF_CHANGES };
+enum { WORD = 1, UDP = 256, TEXT, VERSION, GIVE_UP, JSON, ANY_SOURCE, NAMES, EXPECT, PROBE, STATUS_IF_CHANGES, SKIP_UNREACHED, LIMIT, CHECK };
 
 /* The same, only for `collect` and `status`. */
 enum site_option {
@@ -46,7 +47,8 @@ static const struct option options[] = {
     { "timeout", required_argument, NULL, 't' }, { "times", required_argument, NULL, 'n' },
     { "give-up", no_argument, NULL, GIVE_UP }, { "listen", required_argument, NULL, LISTEN }, { "json", no_argument, NULL, JSON },
     { "names", required_argument, NULL, NAMES }, { "expect", required_argument, NULL, EXPECT }, { "probe", no_argument, NULL, PROBE },
-    { "status-if-changes", no_argument, NULL, STATUS_IF_CHANGES },
+    { "status-if-changes", no_argument, NULL, STATUS_IF_CHANGES }, { "skip-unreached", no_argument, NULL, SKIP_UNREACHED },
+    { "limit", required_argument, NULL, LIMIT }, { "check", required_argument, NULL, CHECK },
     { "draw", no_argument, NULL, DRAW }, { "html", no_argument, NULL, HTML },
     { "openmetrics", no_argument, NULL, OPENMETRICS }, { "nagios", no_argument, NULL, NAGIOS },
     { "output", required_argument, NULL, OUTPUT }, { "max-offset", required_argument, NULL, MAX_OFFSET },
@@ -242,6 +244,25 @@ static void judge_expected(struct task *task) {
     if (!is_id) refuse("--expect %s: it takes the eight digits of a plan", text);
 }
 
+/* One clock, or several with commas between them. */
+static void read_limits(struct plan_options *plan, const char *text) {
+    for (const char *at = text, *end; at != NULL; at = *end == '\0' ? NULL : end + 1) {
+        end = strchrnul(at, ',');
+        plan->limits = reallocarray(plan->limits, plan->limit_count + 1, sizeof *plan->limits);
+        if (plan->limits == NULL) give_up("the options");
+        if (!ptpm_identity_parse(at, (size_t)(end - at), plan->limits[plan->limit_count++])) {
+            refuse("--limit %s: it takes identities such as aabbccfffeddee01, with commas between them", text);
+        }
+    }
+}
+
+/* A later run, which may be in another folder, has the path too. */
+static void read_check(struct plan_options *plan, const char *path) {
+    take_once(&plan->check, "--check", path);
+    plan->check = realpath(path, NULL);
+    if (plan->check == NULL || access(plan->check, X_OK)) refuse("--check %s: %s", path, strerror(errno));
+}
+
 static void take_option(struct task *task, struct words *words, int option, const char *value) {
     switch (option) {
     case 'i': take_interface(task, value); break;
@@ -258,6 +279,9 @@ static void take_option(struct task *task, struct words *words, int option, cons
     case EXPECT: take_once(&task->plan.expected, "--expect", value); break;
     case PROBE: task->plan.is_probed = true; break;
     case STATUS_IF_CHANGES: task->plan.tells_changes = true; break;
+    case SKIP_UNREACHED: task->plan.skips_unreached = true; break;
+    case LIMIT: read_limits(&task->plan, value); break;
+    case CHECK: read_check(&task->plan, value); break;
     case 'p': read_port(words, value); break;
     case 'd': take_domain(words, value); break;
     case 'b': words->hops = number("hops", value, 0, 255); break;
@@ -535,6 +559,8 @@ void read_task(struct task *task, int argc, char **argv) {
     judge_expected(task);
     if (task->plan.is_probed && task->plan.verb != PLAN) refuse("--probe: it is of plan alone");
     if (task->plan.tells_changes && task->plan.verb != PLAN) refuse("--status-if-changes: it is of plan alone");
+    bool is_of_apply = task->plan.skips_unreached || task->plan.check != NULL || task->plan.limit_count > 0;
+    if (is_of_apply && task->plan.verb != APPLY) refuse("--skip-unreached, --limit and --check: they are of apply alone");
     if (task->site.listen < 0) task->site.listen = task->site.is_every_domain || task->site.is_every_sdo ? LISTENED : 0;
     long port = words.port >= 0 ? words.port : words.target_port;
     task->port = port < 0 ? 0 : (uint16_t)port;
