@@ -118,11 +118,11 @@ asks() {
     echo $? > "$work/status"
     [ "$(echo $printed)" = "$wanted" ] && echo yes
 }
-refuses() { # what it says on standard error, and that nothing is asked or printed
+refuses() { # what it says on standard error, and that nothing is asked or printed; `refused` is its status, if that is not 2
     wanted=$1
     shift
     printed=$(ip netns exec $near ./manage "$@" 2>&1 > "$work/asked")
-    [ $? = 2 ] && [ ! -s "$work/asked" ] && [[ $printed == "ptpm-manage: "*$wanted* ]] && echo yes
+    [ $? = "${refused:-2}" ] && [ ! -s "$work/asked" ] && [[ $printed == "ptpm-manage: "*$wanted* ]] && echo yes
 }
 
 session_from() { # a number, and perhaps a manager and a clock: the file of their session, which begins there

@@ -91,10 +91,14 @@ static int begin(const struct task *task, struct journal *journal) {
 
 /* ---- apply */
 
+static bool is_expected(const struct task *task, const struct plan *plan) {
+    return task->plan.expected == NULL || strcmp(task->plan.expected, plan->id) == 0;
+}
+
 static int apply_plan(const struct task *task, const struct plan *plan) {
     struct journal journal = { 0 };
     bool is_with_skips = plan->unreached != NULL && *plan->unreached != '\0';
-    if (task->plan.expected != NULL && strcmp(task->plan.expected, plan->id) != 0) {
+    if (!is_expected(task, plan)) {
         complain("nothing was sent: the plan is another one by now");
         return NOT_AS_ASKED;
     }
@@ -128,6 +132,7 @@ static int apply(const struct task *task) {
     if (status == NOT_ANSWERED && may_skip(task, &plan)) status = ANSWERED;
     if (stopped && status == ANSWERED) status = BY_SIGNAL + stopped;
     if (stopped || status == REFUSED || status == NOT_ANSWERED) complain("nothing was sent");
+    if (status == ANSWERED && task->plan.is_probed && is_expected(task, &plan)) status = probe_steps(&plan, task);
     if (status == ANSWERED) status = apply_plan(task, &plan);
     leave_plan(&plan);
     return status;

@@ -29,7 +29,7 @@ static void write_one_step(FILE *to, const struct step *step) {
     putc('}', to);
 }
 
-/* As a string, of which quotation marks and backslashes are escaped. */
+/* As a string: quotation marks and backslashes are escaped. */
 static void write_string(FILE *to, const char *text, size_t size) {
     putc('"', to);
     for (size_t i = 0; i < size; i++) {

@@ -2,6 +2,7 @@
 #include "plan.h"
 #include "apply_report.h"
 #include "collect.h"
+#include "desk.h"
 #include "exchange.h"
 #include "in_session.h"
 #include "names.h"
@@ -303,23 +304,29 @@ static void add_refusal(struct plan *plan, const struct task *task, const char *
 }
 
 /* What a clock is asked, and the session for it. */
-struct probe { struct task request; struct run *run; };
+struct probe { struct task request; struct run *run; size_t number; };
 
-static void take_probe(struct probe *probe, const struct plan *plan, const struct task *task, const struct step *first) {
+static void take_probe(struct probe *probe, const struct task *task, const struct step *step, uint16_t id, uint16_t port) {
     probe->request = *task;
     probe->request.action = PTPM_SET;
-    probe->request.id = PTPM_ID_NULL_PTP_MANAGEMENT;
-    probe->request.port = port_of(plan, first);
-    probe->request.settings.domain = first->domain;
-    memcpy(probe->request.settings.target, first->clock, 8);
+    probe->request.id = id;
+    probe->request.port = port;
+    probe->request.settings.domain = step->domain;
+    memcpy(probe->request.settings.target, step->clock, 8);
     probe->run = take_run(&probe->request, take_answer);
+}
+
+/* Where no way leads out, there is no answer. */
+static int end_asked(struct run *run) {
+    int status = end_run(run);
+    return status == NOT_ASKED ? NOT_ANSWERED : status;
 }
 
 static int end_probe(struct plan *plan, const struct probe *probe, const struct task *task) {
     char clock[IDENTITY_TEXT];
     write_identity(clock, probe->request.settings.target);
     show_progress("%s: does it take SETs of this manager?", clock);
-    int status = end_run(probe->run);
+    int status = end_asked(probe->run);
     if (status == ANSWERED && refusal != 0) add_refusal(plan, task, clock);
     if (status == NOT_ANSWERED) complain("%s gave no answer: whether it takes SETs of this manager is not known", clock);
     return status;
@@ -332,12 +339,66 @@ int probe_clocks(struct plan *plan, const struct task *task) {
     if (probes == NULL) give_up("the probes");
     if (plan->count > 0) state_folder();
     for (const struct step *first = NULL; (first = next_clock(plan->steps, plan->count, first)) != NULL;) {
-        take_probe(&probes[count++], plan, task, first);
+        take_probe(&probes[count++], task, first, PTPM_ID_NULL_PTP_MANAGEMENT, port_of(plan, first));
     }
     for (size_t i = 0; i < count && status == ANSWERED; i++) status = end_probe(plan, &probes[i], task);
     free(probes);
     if (has_settled_change()) {
         add_warning(plan, "a request of an earlier run was carried out after the clocks were read: plan again", task->is_json);
     }
+    return status;
+}
+
+/* ---- before an apply */
+
+/* The SET of the value that the member of a step has. */
+static void take_standing(struct probe *probe, const struct task *task, const struct step *step) {
+    struct task valued = *task;
+    valued.size = step->before.size;
+    memcpy(valued.octets, step->before.octets, step->before.size);
+    take_probe(probe, &valued, step, step->id, step->port);
+}
+
+static void say_refusal(const struct task *task, const struct step *step) {
+    char clock[IDENTITY_TEXT], number[8];
+    const char *error = error_name(refusal);
+    write_identity(clock, step->clock);
+    snprintf(number, sizeof number, "0x%04x", refusal);
+    complain("%s refuses a SET of %s to the value that it has: %s", clock, id_name(step->id), error != NULL ? error : number);
+    say_right(task, refusal);
+}
+
+/* What is not as it was read is not asked: that would set it back. */
+static int end_standing(const struct probe *probe, const struct task *task, const struct step *step, size_t *refused) {
+    static struct answer answer;
+    show_progress("does each clock take SETs of what is changed?");
+    int status = read_member(task, step, step->domain, &answer);
+    if (status == ANSWERED && !has_value(step->id, step->before.octets, step->before.size, &answer)) status = NOT_AS_ASKED;
+    if (status == NOT_AS_ASKED) complain("change %zu: the value before it has changed since", probe->number);
+    if (status == ANSWERED) status = end_asked(probe->run);
+    if (status == ANSWERED && refusal != 0) say_refusal(task, step);
+    *refused += status == ANSWERED && refusal != 0;
+    return status;
+}
+
+int probe_steps(const struct plan *plan, const struct task *task) {
+    int status = ANSWERED;
+    size_t refused = 0;
+    struct probe *probes = calloc(plan->count + 1, sizeof *probes);
+    if (probes == NULL) give_up("the probes");
+    if (plan->count > 0) state_folder();
+    for (const struct step *first = NULL; (first = next_clock(plan->steps, plan->count, first)) != NULL;) {
+        take_standing(&probes[first - plan->steps], task, first);
+    }
+    for (size_t i = 0; i < plan->count && status == ANSWERED; i++) {
+        probes[i].number = i + 1;
+        if (probes[i].run == NULL) take_standing(&probes[i], task, &plan->steps[i]);
+        status = end_standing(&probes[i], task, &plan->steps[i], &refused);
+    }
+    free(probes);
+    if (status == ANSWERED && refused > 0) status = REFUSED;
+    if (status == ANSWERED && has_settled_change()) status = NOT_AS_ASKED;
+    if (has_settled_change()) complain("a request of an earlier run was carried out after the clocks were read: plan again");
+    if (status != ANSWERED) complain("nothing was changed");
     return status;
 }

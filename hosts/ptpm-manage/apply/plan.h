@@ -40,4 +40,9 @@ void leave_plan(struct plan *plan);
    ANSWERED, or the program's status if one does not answer, which is said. */
 int probe_clocks(struct plan *plan, const struct task *task);
 
+/* Before the first step of an apply: whether each clock takes what it is asked. Each is asked a SET of the value that it has, in the manager's
+   session with it, once, and only if it has that value still. A refusal is said. ANSWERED, REFUSED if a clock refuses, NOT_AS_ASKED if a
+   value has changed, or the program's status. */
+int probe_steps(const struct plan *plan, const struct task *task);
+
 #endif

@@ -65,6 +65,7 @@ static const char help_text[] =
 static const char site_text[] =
     "Several clocks from one file:\n"
     "      --probe             plan also asks each clock a SET that changes nothing: does it take any?\n"
+    "                          apply asks each a SET of the value that it has, before it changes anything\n"
     "      --status-if-changes plan ends with status 8 if there are changes\n"
     "      --expect PLAN       apply sends nothing if its plan is another one than this, of eight digits\n"
     "      --skip-unreached    apply leaves out what is not reached, and names it\n"

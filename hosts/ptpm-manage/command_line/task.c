@@ -557,7 +557,7 @@ void read_task(struct task *task, int argc, char **argv) {
     judge_site_options(&task->site);
     judge_json(task);
     judge_expected(task);
-    if (task->plan.is_probed && task->plan.verb != PLAN) refuse("--probe: it is of plan alone");
+    if (task->plan.is_probed && task->plan.verb != PLAN && task->plan.verb != APPLY) refuse("--probe: it is of plan and apply alone");
     if (task->plan.tells_changes && task->plan.verb != PLAN) refuse("--status-if-changes: it is of plan alone");
     bool is_of_apply = task->plan.skips_unreached || task->plan.check != NULL || task->plan.limit_count > 0;
     if (is_of_apply && task->plan.verb != APPLY) refuse("--skip-unreached, --limit and --check: they are of apply alone");

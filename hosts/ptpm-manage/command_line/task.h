@@ -41,7 +41,7 @@ struct plan_options {
     bool tells_changes;                         /* by a status of its own: there are some */
     bool skips_unreached;                       /* what is not reached is left out */
     const char *check;                          /* the path of a program that is run before it goes on at another clock, or NULL */
-    uint8_t (*limits)[8];                       /* the clocks that alone are changed, */
+    uint8_t (*limits)[8];                       /* the only clocks that are changed, */
     size_t limit_count;                         /* and how many these are; 0 if all are changed */
 };
 

@@ -69,9 +69,10 @@ $to_utc -32769 leap61 0 leap59 0 currentUtcOffsetValid 1|currentUtcOffset -32769
 -i near0 --target $to -m $other/1 -p all get PRIORITY1|--port all asks by no manager
 -i near0 --target ffffffffffffffff -p all get PRIORITY1|nothing was asked: TARGET_IS_EVERY
 END
-for words in "resume|XDG_STATE_HOME names another folder" "set PRIORITY1 1 --target $to|--numbers FILE keeps the session elsewhere"; do
-    check "what keeps the state of manage ${words%|*} elsewhere" \
-        "$(XDG_STATE_HOME=$work/names refuses "$work/names: Not a directory; ${words#*|}" -i near0 ${words%|*})"
+for words in "4 resume|XDG_STATE_HOME names another folder" "2 set PRIORITY1 1 --target $to|--numbers FILE keeps the session elsewhere"; do
+    asked=${words#* }
+    check "what keeps the state of manage ${asked%|*} elsewhere" \
+        "$(XDG_STATE_HOME=$work/names refused=${words%% *} refuses "$work/names: Not a directory; ${asked#*|}" -i near0 ${asked%|*})"
 done
 for most in 4 5 6 7; do
     for way in '' -2; do
