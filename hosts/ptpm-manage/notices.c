@@ -125,6 +125,14 @@ void head_progress(const char *format, ...) {
     if (*heading != '\0') show(heading, "", "");
 }
 
+void log_progress(const char *format, ...) {
+    va_list values;
+    if (is_quiet || isatty(STDERR_FILENO)) return;
+    va_start(values, format);
+    say(format, values);
+    va_end(values);
+}
+
 void clear_progress(void) {
     if (is_shown) fputs("\r\033[K", stderr);
     if (is_shown) fflush(stderr);

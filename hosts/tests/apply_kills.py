@@ -7,11 +7,10 @@ import os
 import signal
 import subprocess
 import time
-import zlib
 
 from apply_link import SET, Troubles
 from apply_network import ANSWERED_NEW, MANAGER, Clock, Network
-from apply_runs import Broken, Journal, Runs
+from apply_runs import Broken, Journal, Runs, chained
 from trying import HOME
 
 IDENTITIES = [f"02c0fffffe00010{number}" for number in (1, 2, 3)]
@@ -225,7 +224,7 @@ class Points(Changes):
         text = json.dumps({"version": 2, "name": name, "manager": MANAGER, "steps": steps}, separators=(",", ":"))
         path = os.path.join(self.folder, name + ".journal")
         with open(path, "w") as file:
-            file.write(f"{zlib.crc32(text.encode()):08x} {text}\n")
+            file.write(f"{next(chained([text.encode()])).decode()}\n")
         return path
 
     def is_killed_at(self, call, by, *more):

@@ -15,6 +15,14 @@ from apply_network import environment
 STRANGER = "another program has used its session"
 
 
+def chained(texts):
+    """The lines of a journal that has these texts: before each is the CRC-32 of it and of those before."""
+    crc = 0
+    for text in texts:
+        crc = zlib.crc32(text, crc)
+        yield b"%08x %s" % (crc, text)
+
+
 class Broken(Exception):
     """What was promised does not hold."""
 
@@ -25,7 +33,7 @@ class Journal:
     def __init__(self, path):
         with open(path, "rb") as file:
             lines = file.read().split(b"\n")[:-1]
-        notes = [json.loads(line[9:]) for line in lines if f"{zlib.crc32(line[9:]):08x} ".encode() == line[:9]]
+        notes = [json.loads(line[9:]) for line, whole in zip(lines, chained(line[9:] for line in lines)) if line == whole]
         if len(notes) != len(lines):
             raise Broken(f"{path} has a wrong line")
         self.steps, self.told, self.begun, self.end, self.is_let_go = notes[0]["steps"], {}, None, None, False

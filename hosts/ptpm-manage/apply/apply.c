@@ -35,9 +35,17 @@ static void judge_ports(const struct step *steps, size_t count) {
     }
 }
 
+static void warn_of_open(struct plan *plan, const struct task *task) {
+    char name[JOURNAL_NAME], text[2 * JOURNAL_NAME];
+    if (plan->text.text == NULL || !find_journals() || !is_apply_open(name)) return;
+    snprintf(text, sizeof text, "apply %s is open: resume comes first", name);
+    add_warning(plan, text, task->is_json);
+}
+
 static int show_plan(const struct task *task) {
     struct plan plan;
     int status = make_plan(&plan, task), probed = ANSWERED;
+    warn_of_open(&plan, task);
     if (task->plan.is_probed && !stopped) probed = probe_clocks(&plan, task);
     print_plan(&plan, task->is_json);
     if (status == ANSWERED) judge_ports(plan.steps, plan.count);
@@ -308,8 +316,25 @@ static int rollback(const struct task *task) {
     return status;
 }
 
+/* ---- what was applied */
+
+static int show_applies(const struct task *task) {
+    struct journal journal;
+    if (!find_journals()) refuse_storage("neither XDG_STATE_HOME nor HOME names a folder with applies");
+    if (task->plan.word == NULL) {
+        print_applies(task->is_json);
+        return ANSWERED;
+    }
+    find_journal(&journal, task->plan.word);
+    journal.shows_times = true;
+    print_apply(&journal, &(struct journal){ 0 }, false, task->is_json);
+    leave_journal(&journal);
+    return ANSWERED;
+}
+
 static int change(const struct task *task) {
     switch (task->plan.verb) {
+    case APPLIES: return show_applies(task);
     case APPLY: return apply(task);
     case RESUME: return resume(task);
     case ROLLBACK: return rollback(task);
@@ -320,6 +345,7 @@ static int change(const struct task *task) {
 int change_site(const struct task *task) {
     refuse_as(NOT_ANSWERED);
     int status = change(task);
+    if (task->plan.kept >= 0) tidy_journals((size_t)task->plan.kept);
     end_object(status);
     return status;
 }

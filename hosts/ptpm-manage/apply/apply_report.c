@@ -1,12 +1,18 @@
+#define _GNU_SOURCE
 #include "apply_report.h"
 #include "answer.h"
 #include "field_text.h"
+#include "journals.h"
 #include "names.h"
 #include "notices.h"
 #include "program.h"
 #include "text.h"
 #include "words.h"
+#include <stdlib.h>
 #include <string.h>
+
+/* At this place the name of an apply has its plan: after the time. */
+enum { PLAN_AT = sizeof "20260101-000000" };
 
 /* ---- members */
 
@@ -60,21 +66,41 @@ static bool is_uncertain(const struct journal *journal, size_t place) {
     return journal->told[place].outcome == NOT_TOLD && journal->begun == (long)place && !journal->is_unsent;
 }
 
-static void print_state(const struct journal *journal, size_t place) {
+static void write_state(FILE *to, const struct journal *journal, size_t place) {
     const struct told *told = &journal->told[place];
     const char *error = error_name(told->error);
     switch (told->outcome) {
-    case DONE: fputs("done", stdout); break;
+    case DONE: fputs("done", to); break;
     case IS_REFUSED:
-        if (error != NULL) printf("refused %s", error);
-        else printf("refused 0x%04x", told->error);
+        if (error != NULL) fprintf(to, "refused %s", error);
+        else fprintf(to, "refused 0x%04x", told->error);
         break;
     case OTHER_VALUE:
-        fputs("answered ", stdout);
-        write_value(stdout, journal->steps[place].id, told->answer.octets, told->answer.size);
+        fputs("answered ", to);
+        write_value(to, journal->steps[place].id, told->answer.octets, told->answer.size);
         break;
-    case NOT_TOLD: fputs(is_uncertain(journal, place) ? "may be: it was sent, and has no answer" : "not asked", stdout); break;
+    case NOT_TOLD: fputs(is_uncertain(journal, place) ? "may be: it was sent, and has no answer" : "not asked", to); break;
     }
+}
+
+/* Its number, what became of it, whose member it is, and what changes. */
+static void write_step_line(FILE *to, const struct journal *journal, size_t place) {
+    fprintf(to, "%zu ", place + 1);
+    write_state(to, journal, place);
+    fputs(": ", to);
+    write_member_name(to, &journal->steps[place]);
+    write_change(to, &journal->steps[place]);
+}
+
+void say_step(const struct journal *journal, long place) {
+    char *text = NULL;
+    size_t size;
+    FILE *to = open_memstream(&text, &size);
+    if (to == NULL) give_up("a notice");
+    write_step_line(to, journal, (size_t)place);
+    if (fclose(to)) give_up("a notice");
+    log_progress("step %s", text);
+    free(text);
 }
 
 static size_t count_done(const struct journal *journal) {
@@ -95,11 +121,9 @@ static void print_text_of(const struct journal *journal, const char *end) {
     if (journal->skipped != NULL) printf(" except %zu not reached", count_lines(journal->skipped));
     printf(": %zu of %zu done\n", count_done(journal), journal->count);
     for (size_t i = 0; i < journal->count; i++) {
-        printf("  %zu ", i + 1);
-        print_state(journal, i);
-        fputs(": ", stdout);
-        write_member_name(stdout, &journal->steps[i]);
-        write_change(stdout, &journal->steps[i]);
+        fputs("  ", stdout);
+        write_step_line(stdout, journal, i);
+        if (journal->shows_times && *journal->told[i].time != '\0') printf(", %s", journal->told[i].time);
         putchar('\n');
     }
     if (journal->skipped == NULL) return;
@@ -122,6 +146,7 @@ static void print_state_as_json(const struct journal *journal, size_t place) {
     const struct told *told = &journal->told[place];
     const char *error = error_name(told->error);
     printf(",\"state\":\"%s\"", is_uncertain(journal, place) ? "mayBe" : names[told->outcome]);
+    if (*told->time != '\0') printf(",\"time\":\"%s\"", told->time);
     if (told->outcome == OTHER_VALUE) print_value_as_json("answer", journal->steps[place].id, &told->answer);
     if (told->outcome != IS_REFUSED) return;
     if (error != NULL) printf(",\"managementErrorId\":\"%s\"", error);
@@ -222,6 +247,45 @@ static void print_json_of(const struct journal *journal, const struct journal *b
     print_steps_as_json("steps", journal, false);
     if (journal->skipped != NULL) print_skipped(journal->skipped);
     if (*journal->rolls_back != '\0') print_steps_as_json("leftOut", back_of, true);
+}
+
+/* ---- all applies */
+
+static bool is_list_json, is_first_listed;
+
+/* When it began, by its name. */
+static void write_begin(FILE *to, const struct journal *journal) {
+    const char *name = journal->name;
+    fprintf(to, "%.4s-%.2s-%.2sT%.2s:%.2s:%.2sZ", name, name + 4, name + 6, name + 9, name + 11, name + 13);
+}
+
+static void list_one(struct journal *journal, enum found_journal found) {
+    const char *file = strrchr(journal->path, '/') + 1, *plan = journal->name + PLAN_AT;
+    bool is_read = found == FOUND_JOURNAL && strlen(journal->name) > PLAN_AT;
+    size_t size = is_read ? strcspn(plan, "-") : 0;
+    int name = (int)(strlen(file) - strlen(".journal"));
+    if (is_list_json && !is_first_listed) putchar(',');
+    is_first_listed = false;
+    if (is_list_json) printf("{\"apply\":\"%.*s\"", name, file);
+    if (!is_read && is_list_json) printf(",\"end\":\"damaged\"}");
+    else if (!is_read) printf("%.*s: damaged\n", name, file);
+    else if (is_list_json) {
+        fputs(",\"begun\":\"", stdout);
+        write_begin(stdout, journal);
+        printf("\",\"latest\":\"%s\",\"plan\":\"%.*s\",\"end\":\"%s\",\"done\":%zu,\"steps\":%zu}", journal->latest, (int)size, plan,
+               ending_name(journal->ending), count_done(journal), journal->count);
+    } else {
+        write_begin(stdout, journal);
+        printf(" %.*s %s, %zu of %zu done: %.*s\n", (int)size, plan, ending_name(journal->ending), count_done(journal), journal->count, name, file);
+    }
+}
+
+void print_applies(bool is_json) {
+    is_list_json = is_json;
+    is_first_listed = true;
+    if (is_json) print_members("{\"applies\":[", strlen("{\"applies\":["));
+    read_journals(list_one);
+    if (is_json) putchar(']');
 }
 
 void print_apply(const struct journal *journal, const struct journal *back_of, bool is_silent, bool is_json) {

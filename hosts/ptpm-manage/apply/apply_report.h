@@ -23,6 +23,12 @@ void note_of_end(enum noted noted);
    that it takes back, if it is a rollback: JSON names the steps of that one that are left out. */
 void print_apply(const struct journal *journal, const struct journal *back_of, bool is_silent, bool is_json);
 
+/* Says on standard error what became of a step, if that is no terminal. */
+void say_step(const struct journal *journal, long place);
+
+/* Prints each apply whose journal is there: when it began, its plan, how it ended, and its name. */
+void print_applies(bool is_json);
+
 /* Writes whose member a step sets: `aabbccfffeddee01/1 LOG_SYNC_INTERVAL`. */
 void write_member_name(FILE *to, const struct step *step);
 

@@ -1,5 +1,6 @@
 #include "desk.h"
 #include "answer.h"
+#include "apply_report.h"
 #include "exchange.h"
 #include "monotonic.h"
 #include "names.h"
@@ -52,7 +53,9 @@ static bool note_answer(struct desk *desk, struct journal *journal, long step, b
     if (is_anothers) say_settled(&desk->session.earlier, &desk->task, &answer);
     if (step == NO_STEP) return true;
     struct told told = told_of(&journal->steps[step], &answer);
-    return note_told(journal, step, &told);
+    if (!note_told(journal, step, &told)) return false;
+    say_step(journal, step);
+    return true;
 }
 
 /* ---- what is asked */

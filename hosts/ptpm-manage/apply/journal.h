@@ -1,5 +1,5 @@
-/* The journal of an apply: its steps, and what became of each. A file keeps it, a line for each thing that is noted: the CRC-32 of a JSON
-   text, a space, and that text (docs/changing-a-site.md, "The journal"). What is noted is on the disk before anything else happens. */
+/* The journal of an apply: its steps, and what became of each. A file keeps it, a line for each thing that is noted: a CRC-32, a space,
+   and a JSON text (docs/changing-a-site.md, "The journal"). What is noted is on the disk before anything else happens. */
 #ifndef JOURNAL_H
 #define JOURNAL_H
 
@@ -9,8 +9,8 @@
 #include <stdint.h>
 #include <stdio.h>
 
-/* The largest dataField of a member that is set, a text; how long the name of a journal is; and no step. */
-enum { MOST_VALUE = 258, JOURNAL_NAME = 64, NO_STEP = -1 };
+/* The largest dataField of a member that is set, a text; how long the name of a journal and a time are; and no step. */
+enum { MOST_VALUE = 258, JOURNAL_NAME = 64, TIME_TEXT = sizeof "2026-01-01T00:00:00Z", NO_STEP = -1 };
 
 /* A dataField. */
 struct value { size_t size; uint8_t octets[MOST_VALUE]; };
@@ -29,6 +29,7 @@ struct told {
     uint16_t error;
     struct value answer;
     bool is_left_out;           /* by a rollback, and the member is not as before */
+    char time[TIME_TEXT];       /* when that was noted, in UTC */
 };
 
 /* How it ended. */
@@ -51,7 +52,10 @@ struct journal {
     enum ending ending;
     long end_step;                          /* at which it ended, or NO_STEP */
     int file;
-    size_t size;                            /* octets of whole lines in the file */
+    size_t size;                            /* octets of whole lines in the file, */
+    uint32_t crc;                           /* and their checksum */
+    char latest[TIME_TEXT];                 /* when the latest note was made that was read */
+    bool shows_times;                       /* its report has them */
 };
 
 /* Makes the steps' places. Ends the program with status 2 if there is no memory. */
@@ -98,6 +102,9 @@ const char *ending_name(enum ending ending);
 void leave_journal(struct journal *journal);
 
 /* The lines of a journal as texts: written, and read again. */
+
+/* Writes what time it is. */
+void write_time(char text[TIME_TEXT]);
 
 /* Write the JSON of each kind of line. */
 void write_journal_head(FILE *to, const struct journal *journal);

@@ -6,6 +6,7 @@
 #include "words.h"
 #include <stdlib.h>
 #include <string.h>
+#include <time.h>
 
 static const char *const endings[ENDINGS] = { "open", "complete", "refused", "answered", "changed", "given up", "rolled back", "stopped" };
 static const char *const outcomes[] = { "", "done", "refused", "answered" };
@@ -64,11 +65,33 @@ void write_journal_head(FILE *to, const struct journal *journal) {
     fputs("]}", to);
 }
 
-void write_begun(FILE *to, long step, uint16_t number) { fprintf(to, "{\"begun\":%ld,\"number\":%u}", step, number); }
+void write_time(char text[TIME_TEXT]) {
+    struct tm parts;
+    time_t now = time(NULL);
+    strftime(text, TIME_TEXT, "%Y-%m-%dT%H:%M:%SZ", gmtime_r(&now, &parts));
+}
 
-void write_not_begun(FILE *to, long step) { fprintf(to, "{\"not_begun\":%ld}", step); }
+/* A note has the time last. */
+static void end_note(FILE *to) {
+    char text[TIME_TEXT];
+    write_time(text);
+    fprintf(to, ",\"time\":\"%s\"}", text);
+}
 
-void write_let_go(FILE *to, long step) { fprintf(to, "{\"let_go\":%ld}", step); }
+void write_begun(FILE *to, long step, uint16_t number) {
+    fprintf(to, "{\"begun\":%ld,\"number\":%u", step, number);
+    end_note(to);
+}
+
+void write_not_begun(FILE *to, long step) {
+    fprintf(to, "{\"not_begun\":%ld", step);
+    end_note(to);
+}
+
+void write_let_go(FILE *to, long step) {
+    fprintf(to, "{\"let_go\":%ld", step);
+    end_note(to);
+}
 
 void write_told(FILE *to, long step, const struct told *told) {
     const char *error = error_name(told->error);
@@ -77,13 +100,14 @@ void write_told(FILE *to, long step, const struct told *told) {
     else if (told->outcome == IS_REFUSED) fprintf(to, " 0x%04x", told->error);
     putc('"', to);
     write_octets(to, "octets", &told->answer);
-    putc('}', to);
+    end_note(to);
 }
 
 void write_end(FILE *to, enum ending ending, long step) {
     fprintf(to, "{\"end\":\"%s\",\"step\":", endings[ending]);
-    if (step == NO_STEP) fputs("null}", to);
-    else fprintf(to, "%ld}", step);
+    if (step == NO_STEP) fputs("null", to);
+    else fprintf(to, "%ld", step);
+    end_note(to);
 }
 
 /* ---- read */
@@ -293,8 +317,9 @@ static void take_step_begun(struct reader *reader, const struct journal *journal
 
 bool take_note(struct journal *journal, const char *text) {
     struct reader reader = { text, journal->ending != IS_OPEN };
-    if (is_next(&reader, "{\"begun\":")) take_begun(&reader, journal);
-    else if (is_next(&reader, "{\"told\":")) take_told(&reader, journal);
+    bool is_told = is_next(&reader, "{\"told\":");
+    if (is_told) take_told(&reader, journal);
+    else if (is_next(&reader, "{\"begun\":")) take_begun(&reader, journal);
     else if (is_next(&reader, "{\"end\":")) take_end(&reader, journal);
     else if (is_next(&reader, "{\"let_go\":")) {
         take_step_begun(&reader, journal);
@@ -304,6 +329,9 @@ bool take_note(struct journal *journal, const char *text) {
         take_step_begun(&reader, journal);
         journal->begun = NO_STEP;
     }
+    take(&reader, ",\"time\":");
+    take_string(&reader, journal->latest, sizeof journal->latest);
+    if (is_told && !reader.is_wrong) memcpy(journal->told[journal->told_count - 1].time, journal->latest, sizeof journal->latest);
     take(&reader, "}");
     return !reader.is_wrong && *reader.at == '\0';
 }

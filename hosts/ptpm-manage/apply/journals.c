@@ -8,6 +8,7 @@
 #include <errno.h>
 #include <fcntl.h>
 #include <stdio.h>
+#include <stdlib.h>
 #include <string.h>
 #include <sys/stat.h>
 #include <time.h>
@@ -29,11 +30,16 @@ static void synchronize_folder(void) {
     close(opened);
 }
 
+static bool write_folder(const char *state) {
+    return state != NULL && (size_t)snprintf(folder, sizeof folder, "%s/apply", state) < sizeof folder;
+}
+
+bool find_journals(void) { return write_folder(named_state_folder()); }
+
 void take_journals(void) {
     char path[PATH_MAX];
     const char *state = state_folder();
-    int size = snprintf(folder, sizeof folder, "%s/apply", state);
-    if ((size_t)size >= sizeof folder) refuse_storage("nothing was sent: %s: the path is too long", state);
+    if (!write_folder(state)) refuse_storage("nothing was sent: %s: the path is too long", state);
     make_folder(state);
     make_folder(folder);
     snprintf(path, sizeof path, "%s/lock", folder);
@@ -129,6 +135,61 @@ void find_journal(struct journal *journal, const char *name) {
     if (strchr(name, '/') != NULL || strlen(name) >= JOURNAL_NAME) refuse_usage("%s: it is no name of an apply", name);
     snprintf(path, sizeof path, "%s/%s%s", folder, name, ending);
     read_it(journal, path);
+}
+
+static int is_listed(const struct dirent *entry) { return ends_with(entry->d_name, ending); }
+
+void read_journals(void (*take)(struct journal *journal, enum found_journal found)) {
+    char path[PATH_MAX];
+    struct dirent **names;
+    struct journal journal;
+    int count = scandir(folder, &names, is_listed, alphasort);
+    for (int i = 0; i < count; i++) {
+        write_path(path, names[i]->d_name);
+        enum found_journal found = read_journal(&journal, path);
+        if (found != NO_JOURNAL) take(&journal, found);
+        leave_journal(&journal);
+        free(names[i]);
+    }
+    if (count >= 0) free(names);
+}
+
+/* What `read_journals` is asked. */
+static size_t ended, to_remove;
+static bool is_any_open;
+static char name_of_open[JOURNAL_NAME];
+
+static void count_one(struct journal *journal, enum found_journal found) {
+    bool is_ended = found == FOUND_JOURNAL && journal->ending != IS_OPEN;
+    ended += is_ended;
+    if (is_ended) return;
+    is_any_open = true;
+    snprintf(name_of_open, sizeof name_of_open, "%s", journal->name);
+}
+
+static void count_journals(void) {
+    ended = 0;
+    is_any_open = false;
+    read_journals(count_one);
+}
+
+bool is_apply_open(char name[JOURNAL_NAME]) {
+    count_journals();
+    if (is_any_open) memcpy(name, name_of_open, JOURNAL_NAME);
+    return is_any_open;
+}
+
+static void remove_one(struct journal *journal, enum found_journal found) {
+    (void)found;
+    if (to_remove == 0) return;
+    to_remove--;
+    if (unlink(journal->path)) complain("%s: %s", journal->path, strerror(errno));
+}
+
+void tidy_journals(size_t kept) {
+    count_journals();
+    to_remove = is_any_open || ended <= kept ? 0 : ended - kept;
+    if (to_remove > 0) read_journals(remove_one);
 }
 
 void name_journal(struct journal *journal, const char *word) {

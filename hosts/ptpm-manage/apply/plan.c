@@ -15,6 +15,7 @@
 #include "text.h"
 #include "transport.h"
 #include "words.h"
+#include <errno.h>
 #include <stdbool.h>
 #include <stdio.h>
 #include <stdlib.h>
@@ -23,10 +24,30 @@
 
 enum { MOST_ARGUMENTS = 5, STEP_WORDS = 8 };
 
+/* The plan of a pipe: `ptpm plan` reads it for each of its forms. */
+static struct piece piped;
+
+static bool is_pipe(const char *path) {
+    struct stat found;
+    return strcmp(path, "-") == 0 || strcmp(path, "/dev/stdin") == 0 || (stat(path, &found) == 0 && S_ISFIFO(found.st_mode));
+}
+
+/* Reads all of a pipe, or as much of it as is refused for its size. */
+static void read_pipe(const char *path) {
+    enum { MOST_PLAN = 262144, ROOM = MOST_PLAN + 1 };
+    static char octets[ROOM];
+    FILE *from = strcmp(path, "-") == 0 ? stdin : fopen(path, "re");
+    if (from == NULL) refuse_usage("%s: %s", path, strerror(errno));
+    piped = (struct piece){ octets, fread(octets, 1, ROOM, from) };
+    if (ferror(from)) refuse_usage("%s: %s", path, strerror(errno));
+}
+
 /* Runs `ptpm plan` over these lines; its status. */
 static int run_plan(const struct task *task, const char *form, const struct piece *lines, struct printed *printed) {
-    char *arguments[MOST_ARGUMENTS] = { NULL, (char *)"plan", (char *)form, (char *)task->plan.word, NULL };
-    return run_ptpm_program(arguments, &(struct given){ .lines = lines, .count = lines != NULL }, printed);
+    static const struct piece none;
+    const char *path = piped.at != NULL ? FILE_BESIDE : task->plan.word;
+    char *arguments[MOST_ARGUMENTS] = { NULL, (char *)"plan", (char *)form, (char *)path, NULL };
+    return run_ptpm_program(arguments, &(struct given){ lines != NULL ? lines : &none, piped.at != NULL ? &piped : NULL, 1 }, printed);
 }
 
 /* ---- what is asked */
@@ -169,19 +190,12 @@ static void name_silent_domains(const struct domains *domains) {
     }
 }
 
-/* `ptpm plan` reads the file for each of its forms: of a pipe the second one would have nothing. Its standard input is not this program's. */
-static void refuse_pipe(const char *path) {
-    struct stat found;
-    bool is_pipe = stat(path, &found) == 0 && S_ISFIFO(found.st_mode);
-    if (is_pipe || strcmp(path, "/dev/stdin") == 0) refuse_usage("%s: it is read more than once, so it has to be a file, and no pipe", path);
-}
-
 int make_plan(struct plan *plan, const struct task *task) {
     struct collected what;
     struct domains domains;
     struct printed answers;
     *plan = (struct plan){ 0 };
-    refuse_pipe(task->plan.word);
+    if (is_pipe(task->plan.word)) read_pipe(task->plan.word);
     find_ptpm_program();
     int status = find_asks(task, &what, &domains);
     if (status != 0) return stopped ? BY_SIGNAL + stopped : status;
@@ -208,8 +222,7 @@ int make_plan(struct plan *plan, const struct task *task) {
 }
 
 /* Of an object of JSON, the warnings are the last member: they end with a bracket. */
-/* Adds a warning to what is printed. Its text needs no escape in JSON. */
-static void add_warning(struct plan *plan, const char *text, bool is_json) {
+void add_warning(struct plan *plan, const char *text, bool is_json) {
     char *more = NULL;
     const char *old = plan->text.text, *end = is_json ? strrchr(old, ']') : old + plan->text.size;
     int size = end == NULL ? -1 : is_json ? asprintf(&more, "%.*s%s\"%s\"%s", (int)(end - old), old, end[-1] == '[' ? "" : ",", text, end)
@@ -316,7 +329,7 @@ static void take_probe(struct probe *probe, const struct task *task, const struc
     probe->run = take_run(&probe->request, take_answer);
 }
 
-/* Where no way leads out, there is no answer. */
+/* If no way leads out, there is no answer. */
 static int end_asked(struct run *run) {
     int status = end_run(run);
     return status == NOT_ASKED ? NOT_ANSWERED : status;

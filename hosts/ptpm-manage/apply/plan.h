@@ -29,6 +29,9 @@ void limit_plan(struct plan *plan, const struct plan_options *options);
 /* Whether it can be applied to what was reached. */
 bool is_reached_in_part(const struct plan *plan);
 
+/* Adds a warning to what is printed. Its text needs no escape in JSON. */
+void add_warning(struct plan *plan, const char *text, bool is_json);
+
 /* Prints it. Of JSON, the object is still to be ended. */
 void print_plan(const struct plan *plan, bool is_json);
 
@@ -40,8 +43,8 @@ void leave_plan(struct plan *plan);
    ANSWERED, or the program's status if one does not answer, which is said. */
 int probe_clocks(struct plan *plan, const struct task *task);
 
-/* Before the first step of an apply: whether each clock takes what it is asked. Each is asked a SET of the value that it has, in the manager's
-   session with it, once, and only if it has that value still. A refusal is said. ANSWERED, REFUSED if a clock refuses, NOT_AS_ASKED if a
+/* Before the first step of an apply: whether each clock takes what it is asked. Each is asked a SET of the value that it has, once, in the
+   manager's session with it. If it has another value by now, it is not asked. A refusal is said. ANSWERED, REFUSED if a clock refuses, NOT_AS_ASKED if a
    value has changed, or the program's status. */
 int probe_steps(const struct plan *plan, const struct task *task);
 

@@ -22,7 +22,7 @@
 #include <unistd.h>
 
 /* Options without a letter of their own, and a word that is none: getopt's for a string that begins with a hyphen. */
-enum { WORD = 1, UDP = 256, TEXT, VERSION, GIVE_UP, JSON, ANY_SOURCE, NAMES, EXPECT, PROBE, STATUS_IF_CHANGES, SKIP_UNREACHED, LIMIT, CHECK };
+enum { WORD = 1, UDP = 256, TEXT, VERSION, GIVE_UP, JSON, ANY_SOURCE, NAMES, EXPECT, PROBE, STATUS_IF_CHANGES, SKIP_UNREACHED, LIMIT, CHECK, KEEP };
 
 /* The same, only for `collect` and `status`. */
 enum site_option {
@@ -49,6 +49,7 @@ static const struct option options[] = {
     { "names", required_argument, NULL, NAMES }, { "expect", required_argument, NULL, EXPECT }, { "probe", no_argument, NULL, PROBE },
     { "status-if-changes", no_argument, NULL, STATUS_IF_CHANGES }, { "skip-unreached", no_argument, NULL, SKIP_UNREACHED },
     { "limit", required_argument, NULL, LIMIT }, { "check", required_argument, NULL, CHECK },
+    { "keep", required_argument, NULL, KEEP },
     { "draw", no_argument, NULL, DRAW }, { "html", no_argument, NULL, HTML },
     { "openmetrics", no_argument, NULL, OPENMETRICS }, { "nagios", no_argument, NULL, NAGIOS },
     { "output", required_argument, NULL, OUTPUT }, { "max-offset", required_argument, NULL, MAX_OFFSET },
@@ -282,6 +283,7 @@ static void take_option(struct task *task, struct words *words, int option, cons
     case SKIP_UNREACHED: task->plan.skips_unreached = true; break;
     case LIMIT: read_limits(&task->plan, value); break;
     case CHECK: read_check(&task->plan, value); break;
+    case KEEP: task->plan.kept = number("keep", value, 0, 1000000); break;
     case 'p': read_port(words, value); break;
     case 'd': take_domain(words, value); break;
     case 'b': words->hops = number("hops", value, 0, 255); break;
@@ -336,10 +338,10 @@ static const struct { const char *name; uint8_t action; } actions[ACTIONS] = {
 };
 
 /* By their names: `plan` and what follows it. */
-static const char *const plan_verbs[] = { [PLAN] = "plan", [APPLY] = "apply", [RESUME] = "resume", [ROLLBACK] = "rollback" };
+static const char *const plan_verbs[] = { [PLAN] = "plan", [APPLY] = "apply", [RESUME] = "resume", [ROLLBACK] = "rollback", [APPLIES] = "applies" };
 
 static enum plan_verb verb_of_plan(const char *verb) {
-    for (enum plan_verb one = PLAN; one <= ROLLBACK; one++) {
+    for (enum plan_verb one = PLAN; one <= APPLIES; one++) {
         if (strcasecmp(verb, plan_verbs[one]) == 0) return one;
     }
     return NO_PLAN;
@@ -359,7 +361,7 @@ static void read_verb(struct task *task, const char *verb) {
         task->action = actions[i].action;
         return;
     }
-    if (!task->is_survey) refuse("%s: it is none of get, set, command, survey, collect, status, plan, apply, resume and rollback", verb);
+    if (!task->is_survey) refuse("%s: it is none of get, set, command, survey, collect, status, plan, apply, resume, rollback and applies", verb);
 }
 
 /* A get of every port is a survey of one clock. It asks as nobody, since a clock numbers the requests that its managers send only
@@ -433,7 +435,8 @@ static void part_own_socket(struct task *task) {
 
 /* Whether what is said about the clock and the way to it is complete, and said once. */
 static void judge(const struct task *task, const struct words *words) {
-    if (task->path == NULL && task->interface_count == 0 && task->address == NULL) {
+    bool is_sent = task->plan.verb != APPLIES && !(task->plan.verb == RESUME && task->is_letting_go);
+    if (is_sent && task->path == NULL && task->interface_count == 0 && task->address == NULL) {
         refuse("the way to the clock is missing: --interface NAME, --udp ADDRESS or --unix PATH");
     }
     if (task->path != NULL && (task->interface_count > 0 || task->address != NULL || task->is_six || task->is_ethernet)) {
@@ -472,10 +475,10 @@ static bool is_by_one_manager(const struct task *task) {
 /* The file of a plan, or the apply that is rolled back. */
 static void read_plan(struct task *task, const struct words *words) {
     const char *verb = words->at[0];
-    int most = task->plan.verb == RESUME ? 1 : 2;
+    int most = task->plan.verb == RESUME ? 1 : 2, least = task->plan.verb == APPLIES ? 1 : most;
     if (words->count > most) refuse("%s: there is a word too many; see ptpm-manage --help", words->at[most]);
-    bool lacks_word = words->count < most || (most == 2 && *words->at[1] == '\0');
-    if (lacks_word) refuse("%s: it takes %s", verb, task->plan.verb == ROLLBACK ? "the name of an apply" : "a file");
+    bool lacks_word = words->count < least || (words->count == 2 && *words->at[1] == '\0');
+    if (lacks_word) refuse("%s: it takes %s", verb, task->plan.verb >= ROLLBACK ? "the name of an apply" : "a file");
     task->plan.word = words->at[1];
     if (words->domain != NULL) refuse("--domain: %s takes the domains of its file", verb);
     if (task->interface_count > 1) refuse("--interface: %s takes one", verb);
@@ -540,12 +543,12 @@ static void prepare_refusals(int argc, char **argv) {
 void read_task(struct task *task, int argc, char **argv) {
     struct words words = { .port = NOT_NAMED, .target_port = NOT_NAMED, .hops = NOT_NAMED, .attempts = NOT_NAMED };
     *task = (struct task){
-        .settings = { .port = 1, .target_ports = SESSION_PORTS }, .site = { .listen = NOT_NAMED }, .wait = 3000, .timeout = 200, .times = 1,
+        .settings = { .port = 1, .target_ports = SESSION_PORTS }, .site = { .listen = NOT_NAMED }, .plan = { .kept = NOT_NAMED }, .wait = 3000, .timeout = 200, .times = 1,
     };
     prepare_refusals(argc, argv);
     read_words(task, &words, argc, argv);
     if (words.count == 0) {
-        refuse("it takes get, set, command or survey and a managementId, or collect, status, plan, apply, resume or rollback; see "
+        refuse("it takes get, set, command or survey and a managementId, or collect, status, plan, apply, resume, rollback or applies; see "
                "ptpm-manage --help");
     }
     read_verb(task, words.at[0]);
@@ -560,6 +563,8 @@ void read_task(struct task *task, int argc, char **argv) {
     if (task->plan.is_probed && task->plan.verb != PLAN && task->plan.verb != APPLY) refuse("--probe: it is of plan and apply alone");
     if (task->plan.tells_changes && task->plan.verb != PLAN) refuse("--status-if-changes: it is of plan alone");
     bool is_of_apply = task->plan.skips_unreached || task->plan.check != NULL || task->plan.limit_count > 0;
+    bool may_keep = task->plan.verb == APPLY || task->plan.verb == RESUME || task->plan.verb == ROLLBACK;
+    if (task->plan.kept >= 0 && !may_keep) refuse("--keep: it is of apply, resume and rollback alone");
     if (is_of_apply && task->plan.verb != APPLY) refuse("--skip-unreached, --limit and --check: they are of apply alone");
     if (task->site.listen < 0) task->site.listen = task->site.is_every_domain || task->site.is_every_sdo ? LISTENED : 0;
     long port = words.port >= 0 ? words.port : words.target_port;

@@ -32,10 +32,10 @@ struct site_options {
 };
 
 /* What is changed at several clocks by a file. */
-enum plan_verb { NO_PLAN, PLAN, APPLY, RESUME, ROLLBACK };
+enum plan_verb { NO_PLAN, PLAN, APPLY, RESUME, ROLLBACK, APPLIES };
 struct plan_options {
     enum plan_verb verb;
-    const char *word;                           /* the file, or the apply that is rolled back */
+    const char *word;                           /* the file, or the apply that is rolled back or shown; NULL if each is */
     const char *expected;                       /* the id of the plan that was approved, or NULL */
     bool is_probed;                             /* each clock is asked whether it takes SETs of this manager */
     bool tells_changes;                         /* by a status of its own: there are some */
@@ -43,6 +43,7 @@ struct plan_options {
     const char *check;                          /* the path of a program that is run before it goes on at another clock, or NULL */
     uint8_t (*limits)[8];                       /* the only clocks that are changed, */
     size_t limit_count;                         /* and how many these are; 0 if all are changed */
+    long kept;                                  /* how many journals with an end stay, or -1 if all do */
 };
 
 struct task {

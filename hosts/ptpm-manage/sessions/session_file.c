@@ -214,6 +214,11 @@ const char *state_folder(void) {
     return usual_path;
 }
 
+const char *named_state_folder(void) {
+    size_t size = find_folder();
+    return size > 0 && size < sizeof usual_path ? usual_path : NULL;
+}
+
 const char *usual_file(const struct ptpm_session_settings *settings) {
     size_t size = write_folder();
     if (size < sizeof usual_path) make_parents();

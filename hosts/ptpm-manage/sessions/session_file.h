@@ -47,6 +47,9 @@ void name_session_file(const struct session_file *file);
    missing. Ends the program with status 2 if there is no such folder. The text is there until the next call of this or the next. */
 const char *state_folder(void);
 
+/* The same, and nothing is made. NULL if there is no such folder. */
+const char *named_state_folder(void);
+
 /* The file of the session of these settings' manager with their clock, if the command line names none: MANAGER-PORT.CLOCK. It
    is in $XDG_STATE_HOME/ptpm. If that is not set, it is in /var/lib/ptpm for root, and in $HOME/.local/state/ptpm for others.
    The folders above it are made if they are missing. Ends the program with status 2 if there is no such folder. */
