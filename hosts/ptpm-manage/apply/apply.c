@@ -343,6 +343,7 @@ static int change(const struct task *task) {
 }
 
 int change_site(const struct task *task) {
+    begin_object(task->is_json);
     refuse_as(NOT_ANSWERED);
     int status = change(task);
     if (task->plan.kept >= 0) tidy_journals((size_t)task->plan.kept);

@@ -214,8 +214,8 @@ static void end_by_failure(const char *what, const char *why) {
     end_with_reason(NOT_WRITTEN, text);
 }
 
-void begin_object(void) {
-    is_object = true;
+void begin_object(bool is_json) {
+    is_object = is_json;
     refuse_also(end_with_reason);
     end_otherwise(NOT_WRITTEN, end_by_failure);
 }
@@ -259,25 +259,43 @@ static void write_begin(FILE *to, const struct journal *journal) {
     fprintf(to, "%.4s-%.2s-%.2sT%.2s:%.2s:%.2sZ", name, name + 4, name + 6, name + 9, name + 11, name + 13);
 }
 
-static void list_one(struct journal *journal, enum found_journal found) {
-    const char *file = strrchr(journal->path, '/') + 1, *plan = journal->name + PLAN_AT;
-    bool is_read = found == FOUND_JOURNAL && strlen(journal->name) > PLAN_AT;
-    size_t size = is_read ? strcspn(plan, "-") : 0;
-    int name = (int)(strlen(file) - strlen(".journal"));
-    if (is_list_json && !is_first_listed) putchar(',');
-    is_first_listed = false;
-    if (is_list_json) printf("{\"apply\":\"%.*s\"", name, file);
-    if (!is_read && is_list_json) printf(",\"end\":\"damaged\"}");
-    else if (!is_read) printf("%.*s: damaged\n", name, file);
-    else if (is_list_json) {
+/* Its plan, by its name. */
+static void write_plan(FILE *to, const struct journal *journal) {
+    const char *plan = journal->name + PLAN_AT;
+    fprintf(to, "%.*s", (int)strcspn(plan, "-"), plan);
+}
+
+static void print_listed_json(const struct journal *journal, const char *file, bool is_read) {
+    fputs("{\"apply\":", stdout);
+    print_json_text(stdout, (const uint8_t *)file, strlen(file) - strlen(".journal"));
+    if (is_read) {
         fputs(",\"begun\":\"", stdout);
         write_begin(stdout, journal);
-        printf("\",\"latest\":\"%s\",\"plan\":\"%.*s\",\"end\":\"%s\",\"done\":%zu,\"steps\":%zu}", journal->latest, (int)size, plan,
-               ending_name(journal->ending), count_done(journal), journal->count);
-    } else {
-        write_begin(stdout, journal);
-        printf(" %.*s %s, %zu of %zu done: %.*s\n", (int)size, plan, ending_name(journal->ending), count_done(journal), journal->count, name, file);
+        printf("\",\"latest\":\"%s\",\"plan\":\"", journal->latest);
+        write_plan(stdout, journal);
+        printf("\",\"done\":%zu,\"steps\":%zu", count_done(journal), journal->count);
     }
+    printf(",\"end\":\"%s\"}", is_read ? ending_name(journal->ending) : "damaged");
+}
+
+static void print_listed(const struct journal *journal, const char *file, bool is_read) {
+    if (is_read) {
+        write_begin(stdout, journal);
+        putchar(' ');
+        write_plan(stdout, journal);
+        printf(" %s, %zu of %zu done: ", ending_name(journal->ending), count_done(journal), journal->count);
+    } else fputs("damaged: ", stdout);
+    print_text(stdout, (const uint8_t *)file, strlen(file) - strlen(".journal"));
+    putchar('\n');
+}
+
+static void list_one(struct journal *journal, enum found_journal found) {
+    const char *file = strrchr(journal->path, '/') + 1;
+    bool is_read = found == FOUND_JOURNAL && strlen(journal->name) > PLAN_AT;
+    if (is_list_json && !is_first_listed) putchar(',');
+    is_first_listed = false;
+    if (is_list_json) print_listed_json(journal, file, is_read);
+    else print_listed(journal, file, is_read);
 }
 
 void print_applies(bool is_json) {

@@ -6,8 +6,8 @@
 #include <stdbool.h>
 #include <stdio.h>
 
-/* Whatever a run comes to, with --json it prints one object. From now on what is refused ends it. */
-void begin_object(void);
+/* Whatever a run comes to, with --json it prints one object. From now on what is refused ends it, and what else fails is NOT_WRITTEN. */
+void begin_object(bool is_json);
 
 /* The head of that object: a text that begins with its bracket and lacks the last one. */
 void print_members(const char *text, size_t size);

@@ -262,6 +262,7 @@ static void read_check(struct plan_options *plan, const char *path) {
     take_once(&plan->check, "--check", path);
     plan->check = realpath(path, NULL);
     if (plan->check == NULL || access(plan->check, X_OK)) refuse("--check %s: %s", path, strerror(errno));
+    if (strchr(plan->check, '\n') != NULL) refuse("--check: no line feed may be in the path");
 }
 
 static void take_option(struct task *task, struct words *words, int option, const char *value) {
@@ -537,7 +538,7 @@ static void prepare_refusals(int argc, char **argv) {
         is_json |= strcmp(argv[i], "--json") == 0;
         is_plan |= verb_of_plan(argv[i]) != NO_PLAN;
     }
-    if (is_json && is_plan) begin_object();
+    if (is_json && is_plan) begin_object(true);
 }
 
 void read_task(struct task *task, int argc, char **argv) {
