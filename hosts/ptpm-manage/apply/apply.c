@@ -10,7 +10,6 @@
 #include "stopping.h"
 #include "transport.h"
 #include <errno.h>
-#include <stdlib.h>
 #include <string.h>
 
 /* The program's status after this end. */
@@ -80,12 +79,10 @@ static int carry_out(const struct task *task, struct journal *journal) {
     return status;
 }
 
-static bool make_journal_of(const struct task *task, struct journal *journal) {
+static void make_journal_of(const struct task *task, struct journal *journal) {
     memcpy(journal->manager, task->settings.clock, 8);
     journal->manager_port = task->settings.port;
-    if (make_journal(journal)) return true;
-    complain("nothing was sent: %s: %s", journal->path, strerror(errno));
-    return false;
+    if (!make_journal(journal)) refuse_storage("nothing was sent: %s: %s", journal->path, strerror(errno));
 }
 
 /* Begins a new one: the sessions are taken, the journal is made, and then the marks that name it. */
@@ -93,8 +90,9 @@ static int begin(const struct task *task, struct journal *journal) {
     own_marks(journal->path);
     judge_ports(journal->steps, journal->count);
     take_sessions(task, journal);
-    if (!make_journal_of(task, journal)) return NOT_WRITTEN;
-    return mark_sessions() ? carry_out(task, journal) : NOT_WRITTEN;
+    make_journal_of(task, journal);
+    mark_sessions();
+    return carry_out(task, journal);
 }
 
 /* ---- apply */
@@ -178,10 +176,7 @@ static void take_up(const struct task *task, struct journal *journal) {
     own_marks(journal->path);
     take_sessions(task, journal);
     if (!continue_journal(journal)) refuse_storage("nothing was sent: %s: %s", journal->path, strerror(errno));
-    if (!mark_sessions()) {
-        end_object(NOT_WRITTEN);
-        exit(NOT_WRITTEN);
-    }
+    mark_sessions();
 }
 
 /* Ends it without an answer to the uncertain step; ANSWERED, or the program's status. */
@@ -249,11 +244,13 @@ static void take_back(struct journal *back, const struct journal *journal) {
 
 /* The journal of the rollback is there before the apply has its end. So wherever a run ends, one of the two is open. */
 static int go_over_to(const struct task *task, struct journal *journal, struct journal *back) {
-    if (!make_journal_of(task, back) || !end_journal(journal, ROLLED_BACK, NO_STEP)) return NOT_WRITTEN;
+    make_journal_of(task, back);
+    if (!end_journal(journal, ROLLED_BACK, NO_STEP)) return NOT_WRITTEN;
     leave_sessions();
     own_marks(back->path);
     take_sessions(task, back);
-    return mark_sessions() ? carry_out(task, back) : NOT_WRITTEN;
+    mark_sessions();
+    return carry_out(task, back);
 }
 
 /* Says that no step is to be taken back, and what is left out. It is no apply, and has no name. */

@@ -49,13 +49,11 @@ void take_sessions(const struct task *task, const struct journal *journal) {
     }
 }
 
-bool mark_sessions(void) {
+void mark_sessions(void) {
     for (size_t i = 0; i < desk_count; i++) {
         if (make_mark(desks[i]->session.file->path)) continue;
-        complain("nothing was sent: %s.apply: %s: the apply stays open", desks[i]->session.file->path, strerror(errno));
-        return false;
+        refuse_storage("nothing was sent: %s.apply: %s: the apply stays open", desks[i]->session.file->path, strerror(errno));
     }
-    return true;
 }
 
 void leave_sessions(void) {

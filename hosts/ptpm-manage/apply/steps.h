@@ -8,8 +8,8 @@
 /* Takes the sessions of all clocks of the journal, and marks their files. Ends the program with status 2 if one can't be taken. */
 void take_sessions(const struct task *task, const struct journal *journal);
 
-/* Makes the marks; whether all are made, which is said otherwise. */
-bool mark_sessions(void);
+/* Makes the marks. Ends the program with NOT_WRITTEN if one can't be made. */
+void mark_sessions(void);
 
 /* Sees to what an earlier run left, asks the steps that have no answer, and reads at last what was set. ANSWERED if the journal has an end
    then. Otherwise it stays open, and the answer is the program's status. */
