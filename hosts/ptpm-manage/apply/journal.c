@@ -13,10 +13,15 @@
 /* The CRC-32 (IEEE 802.3) of a text after others, whose CRC-32 is given; 0 is that of none. The library has none of a text: that in its seal is
    of an image, a mark and a count. */
 static uint32_t crc_of(uint32_t before, const char *text, size_t size) {
+    static const uint32_t rests[] = {               /* of four bits each */
+        0x00000000, 0x1db71064, 0x3b6e20c8, 0x26d930ac, 0x76dc4190, 0x6b6b51f4, 0x4db26158, 0x5005713c,
+        0xedb88320, 0xf00f9344, 0xd6d6a3e8, 0xcb61b38c, 0x9b64c2b0, 0x86d3d2d4, 0xa00ae278, 0xbdbdf21c,
+    };
     uint32_t crc = ~before;
     for (size_t place = 0; place < size; place++) {
         crc ^= (uint8_t)text[place];
-        for (int bit = 0; bit < 8; bit++) crc = (crc >> 1) ^ (0xedb88320 & -(crc & 1));
+        crc = (crc >> 4) ^ rests[crc & 15];
+        crc = (crc >> 4) ^ rests[crc & 15];
     }
     return ~crc;
 }

@@ -155,7 +155,7 @@ void read_journals(void (*take)(struct journal *journal, enum found_journal foun
 }
 
 /* What `read_journals` is asked. */
-static size_t ended, to_remove;
+static size_t ended;
 static bool is_any_open;
 static char name_of_open[JOURNAL_NAME];
 
@@ -179,17 +179,17 @@ bool is_apply_open(char name[JOURNAL_NAME]) {
     return is_any_open;
 }
 
-static void remove_one(struct journal *journal, enum found_journal found) {
-    (void)found;
-    if (to_remove == 0) return;
-    to_remove--;
-    if (unlink(journal->path)) complain("%s: %s", journal->path, strerror(errno));
-}
-
 void tidy_journals(size_t kept) {
+    char path[PATH_MAX];
+    struct dirent **names;
     count_journals();
-    to_remove = is_any_open || ended <= kept ? 0 : ended - kept;
-    if (to_remove > 0) read_journals(remove_one);
+    int count = is_any_open || ended <= kept ? 0 : scandir(folder, &names, is_listed, alphasort);
+    for (int i = 0; i < count; i++) {
+        write_path(path, names[i]->d_name);
+        if ((size_t)i + kept < ended && unlink(path)) complain("%s: %s", path, strerror(errno));
+        free(names[i]);
+    }
+    if (count > 0) free(names);
 }
 
 void name_journal(struct journal *journal, const char *word) {
