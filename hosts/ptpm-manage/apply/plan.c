@@ -138,17 +138,32 @@ static void take_json(struct plan *plan, const struct task *task, const struct p
 
 static bool has_clock(struct domain domain) {
     for (size_t i = 0; i < seen_count(); i++) {
-        if (is_same_domain(seen_clock(i)->domain, domain)) return true;
+        if (is_same_domain(seen_clock(i)->domain, domain) && seen_clock(i)->answered != 0) return true;
     }
     return false;
 }
 
-/* A table of every clock is of those that answer. If none does, the plan has nothing of it. */
-static void name_silent_domains(const struct domains *domains) {
+/* A table of every clock is of those that answer. If none does, the plan has nothing of it. Whether one does in each domain. */
+static bool name_silent_domains(const struct domains *domains) {
     struct domain domain;
+    bool is_answered = true;
     for (size_t place = 0; next_domain(domains, &place, &domain);) {
-        if (!has_clock(domain)) complain("no clock answered in domain %u", domain.number);
+        if (has_clock(domain)) continue;
+        complain("no clock answered in domain %u", domain.number);
+        is_answered = false;
     }
+    return is_answered;
+}
+
+/* Says how many clocks were found; whether that is sure to be all of them. */
+static bool tell_found(const struct domains *domains) {
+    const struct sureness *found = sureness_of_collection();
+    if (found->is_sure) {
+        complain("%zu clock%s answered in %zu rounds, of which the last two brought nothing new", found->clocks, found->clocks == 1 ? "" : "s",
+                 found->rounds);
+        if (found->late > 0) complain("%zu answers came only after the first round: messages are lost", found->late);
+    }
+    return name_silent_domains(domains) && found->is_sure && found->left_out == 0;
 }
 
 /* `ptpm plan` reads the file for each of its forms: of a pipe the second one would have nothing. Its standard input is not this program's. */
@@ -171,10 +186,10 @@ int make_plan(struct plan *plan, const struct task *task) {
     widen_transport();
     int asked = status = ask_clocks(task, &what, &domains, &answers);
     struct piece lines = { answers.text, answers.size };
-    if (status == ANSWERED && what.count > 0) name_silent_domains(&domains);
+    if (status == ANSWERED && what.count > 0 && !tell_found(&domains)) asked = NOT_ANSWERED;
     if (status == ANSWERED || status == NOT_ANSWERED) {
         status = run_plan(task, "--steps", &lines, &plan->text);
-        /* A table of every clock is of none then, and all else is said to be not reached. */
+        /* A table of every clock is of none then, or some may be missing; all else is said to be not reached. */
         if (status == ANSWERED) status = asked;
         if (plan->text.size > 0) {
             read_id(plan, "plan");

@@ -3,6 +3,7 @@
 #ifndef LINES_H
 #define LINES_H
 
+#include <stdbool.h>
 #include <stddef.h>
 #include <stdint.h>
 #include <stdio.h>
@@ -30,5 +31,13 @@ void write_sent(FILE *to, const uint8_t *message, size_t size);
 /* What is known of this host: a line that begins with #ptpm. The word own= has the identities that its interfaces would have. The
    word clock=synchronised is there if the kernel says so of its clock, which at= is read from. */
 void write_host_note(FILE *to);
+
+/* How sure it is that no clock is missing from a collection: how many answered, in how many rounds, and how many answers came only after
+   the first one, since messages were lost. And how many answers had no room. It is not sure if the last rounds brought something new, or so
+   much is lost that one may be missed. */
+struct sureness { size_t clocks, rounds, late; unsigned long left_out; bool is_sure; };
+
+/* The same as a line that begins with #ptpm. */
+void write_sureness_note(FILE *to, const struct sureness *known);
 
 #endif
