@@ -24,7 +24,7 @@ enum { STEP = 50, DOMAIN_STEP = 4, BURST = 128, MOST_SILENT = 128, DOMAINS_AT_ON
 /* Every clock is asked again whether it is there, until this many rounds brought nothing new, and a clock is missed less than once in so many
    collections. Rounds begin at least 300 ms apart, so that a clock is found that was silent for half a second. Where answers are lost a
    round has several censuses. */
-enum { QUIET_ROUNDS = 2, MOST_MISSED = 1000, ROUND = 300, MOST_ROUNDS = 12, CENSUSES_OF_LOSSY = 3 };
+enum { QUIET_ROUNDS = 2, MOST_MISSED = 1000, ROUND = 300, MOST_ROUNDS = 10, CENSUSES_OF_LOSSY = 3 };
 
 /* A socket without room is tried again this often, this many milliseconds apart. A silence that never comes is waited for this
    many time-outs at most. */
@@ -411,10 +411,10 @@ static bool ask_again(const struct task *task, struct rounds *rounds) {
     if (is_found && lacks == 0) return false;
     show_progress("%zu clocks so far; attempt %d for %zu answers that are missing", seen_count(), rounds->round, lacks);
     begin_round();
-    unsigned censuses = is_found ? 0 : take_census(task, rounds);
-    if (censuses > 0 && lacks > 0) hear_until(milliseconds() + STEP);
     ask_absent(rounds->round == 1);
     if (rounds->round <= task->settings.attempts) ask_lacking();
+    if (lacks > 0 && !is_found) hear_until(milliseconds() + STEP);
+    unsigned censuses = is_found ? 0 : take_census(task, rounds);
     hear_until_quiet(task);
     end_round(censuses);
     stop_requests(base);
