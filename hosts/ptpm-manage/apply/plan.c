@@ -158,10 +158,11 @@ static bool name_silent_domains(const struct domains *domains) {
 /* Says how many clocks were found; whether that is sure to be all of them. */
 static bool tell_found(const struct domains *domains) {
     const struct sureness *found = sureness_of_collection();
-    if (found->is_sure) {
-        complain("%zu clock%s answered in %zu rounds, of which the last two brought nothing new", found->clocks, found->clocks == 1 ? "" : "s",
-                 found->rounds);
-        if (found->late > 0) complain("%zu answers came only after the first round: messages are lost", found->late);
+    const char *plural = found->clocks == 1 ? "" : "s";
+    if (found->is_sure && found->late == 0) complain("%zu clock%s answered, and two more rounds brought nothing new", found->clocks, plural);
+    else if (found->is_sure) {
+        complain("%zu clock%s answered in %zu rounds; %zu answers came only after the first one: messages are lost", found->clocks, plural,
+                 found->rounds, found->late);
     }
     return name_silent_domains(domains) && found->is_sure && found->left_out == 0;
 }
@@ -186,16 +187,17 @@ int make_plan(struct plan *plan, const struct task *task) {
     widen_transport();
     int asked = status = ask_clocks(task, &what, &domains, &answers);
     struct piece lines = { answers.text, answers.size };
-    if (status == ANSWERED && what.count > 0 && !tell_found(&domains)) asked = NOT_ANSWERED;
     if (status == ANSWERED || status == NOT_ANSWERED) {
         status = run_plan(task, "--steps", &lines, &plan->text);
+        bool is_refused = plan->text.size == 0;
+        if (!is_refused && asked == ANSWERED && what.count > 0 && !tell_found(&domains)) asked = NOT_ANSWERED;
         /* A table of every clock is of none then, or some may be missing; all else is said to be not reached. */
         if (status == ANSWERED) status = asked;
-        if (plan->text.size > 0) {
+        if (!is_refused) {
             read_id(plan, "plan");
             read_steps(plan);
         }
-        if (plan->text.size > 0 && task->is_json) take_json(plan, task, &lines);
+        if (!is_refused && task->is_json) take_json(plan, task, &lines);
     }
     free(answers.text);
     return stopped ? BY_SIGNAL + stopped : status;

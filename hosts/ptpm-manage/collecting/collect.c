@@ -17,12 +17,15 @@
 
 /* One request to every clock each 50 ms: all at once lose answers in the buffers of the clocks, which hear each other's answers too. If each
    domain gets one, there is one each 4 ms. Of all that is sent at most BURST messages go out in these 50 ms. A burst of requests to only one
-   clock has fewer answers than such a buffer holds. One host may answer as thousands, or send as thousands: if more clocks than MOST_SILENT
+   clock has fewer answers than such a buffer holds. One host may answer as thousands, or send as thousands. If more clocks than MOST_SILENT
    give no answer when they are asked by themselves, they are such. A clock that was only heard is asked TRIES_OF_HEARD times. */
 enum { STEP = 50, DOMAIN_STEP = 4, BURST = 128, MOST_SILENT = 128, DOMAINS_AT_ONCE = 32, TRIES_OF_HEARD = 3, MOST_ABSENT = 8192 };
 
-/* Every clock is asked again whether it is there, until this many rounds brought nothing new, and a clock is missed less than once in so many
-   collections. Rounds begin at least 300 ms apart, so that a clock is found that was silent for half a second. Where answers are lost a
+/* A clock that is heard may take this many milliseconds to answer. */
+enum { SLOW = 2000 };
+
+/* Every clock is asked again whether it is there. That ends if QUIET_ROUNDS brought nothing new, and a clock is missed less than once in
+   MOST_MISSED collections. A round lasts 300 ms at least, so that a clock is found that was silent for half a second. If answers are lost a
    round has several censuses. */
 enum { QUIET_ROUNDS = 2, MOST_MISSED = 1000, ROUND = 300, MOST_ROUNDS = 10, CENSUSES_OF_LOSSY = 3 };
 
@@ -224,17 +227,19 @@ static void hear_until_quiet(const struct task *task) {
     }
 }
 
+/* When the latest message went out. */
+static int64_t latest_sent;
+
 /* Waits until one more message may go out. */
 static void keep_pace(void) {
-    static int64_t before;
     static size_t in_step;
-    if (milliseconds() >= before + STEP) in_step = 0;
+    if (milliseconds() >= latest_sent + STEP) in_step = 0;
     if (in_step == BURST) {
-        hear_until(before + STEP);
+        hear_until(latest_sent + STEP);
         in_step = 0;
     }
     in_step++;
-    before = milliseconds();
+    latest_sent = milliseconds();
 }
 
 /* Sends a message, which waits for its time and for room; whether it went out. That is a line, if it is to be written. */
@@ -324,9 +329,13 @@ static struct absent_clock absent[MOST_ABSENT];
 static size_t absent_count;
 static bool is_absent_let_go;
 
-/* Adds one, if it is asked in its domain, and has not answered. */
+/* Whether it is asked in its domain, and has not answered. */
+static bool is_absent(struct domain domain, const uint8_t clock[8]) {
+    return !is_seen(domain, clock) && !is_own(clock) && request_of(domain, 0) != NULL;
+}
+
 static void add_absent(struct domain domain, const uint8_t clock[8]) {
-    if (absent_count == MOST_ABSENT || is_seen(domain, clock) || is_own(clock) || request_of(domain, 0) == NULL) return;
+    if (absent_count == MOST_ABSENT || !is_absent(domain, clock)) return;
     absent[absent_count].domain = domain;
     memcpy(absent[absent_count++].identity, clock, 8);
 }
@@ -370,6 +379,21 @@ static void let_go_of_absent(void) {
     let_go += silent;
 }
 
+static bool is_one_slow(void) {
+    struct domain domain;
+    const uint8_t *clock;
+    for (size_t place = 0; !is_absent_let_go && (clock = heard_clock(place, &domain)) != NULL; place++) {
+        if (is_absent(domain, clock)) return true;
+    }
+    return false;
+}
+
+/* Hears the answer of a clock that is heard, and has not answered yet. */
+static void wait_for_slow(const struct task *task) {
+    int64_t end = latest_sent + (task->timeout > SLOW ? task->timeout : SLOW);
+    while (!stopped && milliseconds() < end && is_one_slow()) hear_until(milliseconds() + STEP < end ? milliseconds() + STEP : end);
+}
+
 /* The rounds in which some domains are asked. */
 struct rounds {
     const struct domain *domains;
@@ -380,8 +404,8 @@ struct rounds {
     int64_t begun;                      /* when the latest round was */
 };
 
-/* Whether no clock is missing, as far as the rounds show. If a part of what every clock is asked has no answer, one that is asked so often
-   is missed by that part to this power. */
+/* Whether no clock is missing, as far as the rounds show. Of what every clock is asked a part has no answer. A clock that is asked N times is
+   missed by this part to the power N. */
 static bool is_sure(const struct rounds *rounds) {
     double missed = (double)(seen_count() + 1) * MOST_MISSED, lost = lost_share();
     for (unsigned i = 0; i < rounds->asked; i++) missed *= lost;
@@ -392,7 +416,6 @@ static bool is_sure(const struct rounds *rounds) {
 static unsigned take_census(const struct task *task, struct rounds *rounds) {
     size_t first = request_count;
     unsigned censuses = lost_share() > 0 ? CENSUSES_OF_LOSSY : 1;
-    hear_until(rounds->begun + ROUND);
     rounds->begun = milliseconds();
     for (unsigned census = 0; census < censuses; census++) {
         for (size_t i = 0; i < rounds->count; i++) start_request(task, rounds->domains[i], census, true);
@@ -416,6 +439,7 @@ static bool ask_again(const struct task *task, struct rounds *rounds) {
     if (lacks > 0 && !is_found) hear_until(milliseconds() + STEP);
     unsigned censuses = is_found ? 0 : take_census(task, rounds);
     hear_until_quiet(task);
+    if (censuses > 0) hear_until(rounds->begun + ROUND);
     end_round(censuses);
     stop_requests(base);
     let_go += let_go_of_silent(MOST_SILENT);
@@ -449,8 +473,10 @@ static bool ask_in(const struct task *task, const struct domain *domains, size_t
     is_absent_let_go = false;
     ask_every(0, (unsigned)collected->count, false);
     hear_until_quiet(task);
+    hear_until(rounds.begun + ROUND);
     do rounds.round++;
     while (!stopped && !has_no_transport && ask_again(task, &rounds));
+    wait_for_slow(task);
     note_sureness(&rounds);
     stop_requests(0);
     return true;
@@ -496,7 +522,7 @@ static void tell_sureness(void) {
         complain("there is room for %d clocks and %d answers: %lu more answers are left out", MOST_CLOCKS, MOST_KEPT, known->left_out);
     }
     if (!known->is_sure && !stopped && sent > 0) {
-        complain("%zu clocks answered in %zu rounds, and more may be there: %zu answers came only after the first round", known->clocks,
+        complain("%zu clocks answered in %zu rounds, and more may be there: %zu answers came only after the first one", known->clocks,
                  known->rounds, known->late);
     }
 }

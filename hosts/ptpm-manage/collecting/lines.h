@@ -32,9 +32,9 @@ void write_sent(FILE *to, const uint8_t *message, size_t size);
    word clock=synchronised is there if the kernel says so of its clock, which at= is read from. */
 void write_host_note(FILE *to);
 
-/* How sure it is that no clock is missing from a collection: how many answered, in how many rounds, and how many answers came only after
-   the first one, since messages were lost. And how many answers had no room. It is not sure if the last rounds brought something new, or so
-   much is lost that one may be missed. */
+/* How sure it is that no clock is missing from a collection. `late` answers came only after the first round, since messages were lost, and
+   those that are `left_out` had no room. It is not sure if the last rounds brought something new, or if a clock may still be missed by what
+   is lost. */
 struct sureness { size_t clocks, rounds, late; unsigned long left_out; bool is_sure; };
 
 /* The same as a line that begins with #ptpm. */

@@ -6,7 +6,7 @@
 /* Half of the places stay free. */
 enum { CLOCK_PLACES = 2 * MOST_CLOCKS, ANSWER_PLACES = 2 * MOST_KEPT };
 
-/* A clock that is in none of so many censuses heeds only what is asked of it alone. */
+/* A clock that is in none of this many censuses heeds only requests to one clock. */
 enum { LEAST_CENSUSES = 3 };
 
 /* The first answer of a clock's port to an id. */
@@ -171,7 +171,7 @@ size_t late_answers(void) {
     return late;
 }
 
-/* Whether it answers what every clock is asked, as far as is known: some heed only what is asked of them alone. */
+/* Whether it heeds what every clock is asked, as far as is known: some heed only requests to one clock. */
 static bool answers_all(const struct seen_clock *clock) {
     return !clock->is_let_go && (clock->in_censuses > 0 || clock->censuses < LEAST_CENSUSES);
 }

@@ -70,7 +70,7 @@ size_t let_go_of_silent(size_t most);
 /* Begins the rounds of domains that were not asked before. What comes before `begin_round` is of the first round. */
 void begin_rounds(void);
 
-/* Begins a later round, in which every clock is asked in so many censuses whether it is there. Then ends it. */
+/* Begins a later round, in which every clock is asked in a number of censuses whether it is there. Then ends it. */
 void begin_round(void);
 void end_round(unsigned censuses);
 
