@@ -115,12 +115,12 @@ def strangers_that_are_one():
     site = Site(reply, "-t", "100", "-a", "10", "collect")
     pace = max(sum(begin <= one < begin + 0.5 for one in times[place:place + 5000]) for place, begin in enumerate(times) if place % 50 == 0)
     check(f"1,000 clocks that are one are asked {len(times)} times, and {pace} in half a second", site.status == 0
-          and 5000 < len(times) < 5100 and pace < 1700)
+          and 5000 < len(times) < 5700 and pace < 1700)
     check("they are let go", "1000 clocks gave no new answer when they were asked alone: they were let go\n" in site.said())
     few = Site(lambda request: [answer(request, clock) for clock in many[:100]] if request[52:54] == b"\x20\0" else [], "-t", "1000", "-a", "3",
                "collect")
     alone = sum(request[34:42] != bytes([255]) * 8 for request in few.requests)
-    check(f"a hundred are not, and are asked {alone} times", alone == 3 * 500 and "let go" not in few.said())
+    check(f"a hundred are not, and are asked {alone} times", 500 < alone <= 3 * 500 and "let go" not in few.said())
 
 
 def strangers_that_never_end():
@@ -258,14 +258,14 @@ int main(int count, char **words) {
     subprocess.run(["cc", "-O1", "-fPIC", "-shared", "-o", refuser, os.path.join(HOME, "../tools/refuse_memory.c")], check=True)
     subprocess.run(["cc", "-o", os.path.join(folder, "ptpm"), os.path.join(folder, "ptpm.c")], check=True)
     environment = dict(os.environ, PATH=folder + ":" + os.environ["PATH"], LD_PRELOAD=refuser)
-    wrong, refused = [], 0
-    for number in range(14, 60):
+    wrong, refused, numbers = [], 0, range(14, 90, 2)
+    for number in numbers:
         site = Site(lambda request: [answer(request, me)], "-t", "20", "status", "--once", env=dict(environment, REFUSE_MEMORY=f"{number}+"))
         is_whole = site.status == 1 and len(site.lines()) == 4
         refused += not is_whole
         if not is_whole and not (site.status in (1, 2) and site.lines() == [] and site.said() != ""):
             wrong.append((number, site.status, site.lines(), site.said()))
-    check(f"without memory a site is whole or fails, except {wrong}", wrong == [] and 0 < refused < 46)
+    check(f"without memory a site is whole or fails, except {wrong}", wrong == [] and 0 < refused < len(numbers))
 
 
 ATTACKS = [strangers_without_end, plan_of_too_many, strangers_that_are_one, strangers_that_never_end, junk, one_identity, ids_that_lack,

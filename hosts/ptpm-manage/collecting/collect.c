@@ -412,13 +412,24 @@ static bool is_sure(const struct rounds *rounds) {
     return rounds->quiet >= QUIET_ROUNDS && missed < 1;
 }
 
-/* Asks every clock whether it is there; in how many censuses. */
+/* Starts the requests of this many censuses; whether the library would ask them. */
+static bool start_censuses(const struct task *task, const struct rounds *rounds, unsigned censuses) {
+    for (unsigned census = 0; census < censuses; census++) {
+        for (size_t i = 0; i < rounds->count; i++) {
+            if (!start_request(task, rounds->domains[i], census, true)) return false;
+        }
+    }
+    return true;
+}
+
+/* Asks every clock whether it is there; in how many censuses. Without memory it is none, and no other round has one. */
 static unsigned take_census(const struct task *task, struct rounds *rounds) {
     size_t first = request_count;
     unsigned censuses = lost_share() > 0 ? CENSUSES_OF_LOSSY : 1;
     rounds->begun = milliseconds();
-    for (unsigned census = 0; census < censuses; census++) {
-        for (size_t i = 0; i < rounds->count; i++) start_request(task, rounds->domains[i], census, true);
+    if (!start_censuses(task, rounds, censuses)) {
+        rounds->round = MOST_ROUNDS;
+        return 0;
     }
     ask_every(first, censuses, true);
     rounds->asked += censuses;
