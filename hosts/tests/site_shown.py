@@ -104,7 +104,7 @@ def writes():
     found = os.stat(page)
     check("a file that is replaced keeps its owner and mode", text_in(page) == text_of()
           and (found.st_mode & 0o777, found.st_uid, found.st_gid) == (0o640, 7, 8))
-    moves = f"mkdir {work}/pages; (sleep 1; mv {work}/pages {work}/moved; mkdir {work}/pages) & exec \"$@\""
+    moves = f"mkdir {work}/pages; (until [ -e {work}/pages/page ]; do sleep 0.1; done; mv {work}/pages {work}/moved; mkdir {work}/pages) & exec \"$@\""
     Shown([(0, text_of())] * 4, "status", "--watch", "1", "--output", f"{work}/pages/page", around=["sh", "-c", moves, "sh"])
     check("a folder is the one that has the name by then", os.listdir(f"{work}/pages") == os.listdir(f"{work}/moved") == ["page"])
 
@@ -169,7 +169,7 @@ def open_ones():
     check("what the last two looks have is found while something is open", shown.done.stdout == alone and len(shown.calls) == 3)
     shown = Shown([(0, text_of() + OPENED)], "status")
     check(f"it looks on for 30 s, each two seconds: {shown.took:.1f}", shown.done.stdout == text_of() + OPENED and shown.done.returncode == 0
-          and 30 < shown.took < 36 and 10 < len(shown.calls) < 16)
+          and 30 < shown.took < 36 and 8 < len(shown.calls) < 14)
     kept = OPENED.replace("not_locked port 1 UNCALIBRATED", "mute sends Delay_Req, and answers no management message")
     check("but not for who is mute", len(Shown([(0, text_of() + kept)], "status").calls) == 1)
 

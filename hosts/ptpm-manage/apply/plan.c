@@ -177,17 +177,33 @@ static void take_json(struct plan *plan, const struct task *task, const struct p
 
 static bool has_clock(struct domain domain) {
     for (size_t i = 0; i < seen_count(); i++) {
-        if (is_same_domain(seen_clock(i)->domain, domain)) return true;
+        if (is_same_domain(seen_clock(i)->domain, domain) && seen_clock(i)->answered != 0) return true;
     }
     return false;
 }
 
-/* A table of every clock is of those that answer. If none does, the plan has nothing of it. */
-static void name_silent_domains(const struct domains *domains) {
+/* A table of every clock is of those that answer. If none does, the plan has nothing of it. Whether one does in each domain. */
+static bool name_silent_domains(const struct domains *domains) {
     struct domain domain;
+    bool is_answered = true;
     for (size_t place = 0; next_domain(domains, &place, &domain);) {
-        if (!has_clock(domain)) complain("no clock answered in domain %u", domain.number);
+        if (has_clock(domain)) continue;
+        complain("no clock answered in domain %u", domain.number);
+        is_answered = false;
     }
+    return is_answered;
+}
+
+/* Says how many clocks were found; whether that is sure to be all of them. */
+static bool tell_found(const struct domains *domains) {
+    const struct sureness *found = sureness_of_collection();
+    const char *plural = found->clocks == 1 ? "" : "s";
+    if (found->is_sure && found->late == 0) complain("%zu clock%s answered, and two more rounds brought nothing new", found->clocks, plural);
+    else if (found->is_sure) {
+        complain("%zu clock%s answered in %zu rounds; %zu answers came only after the first one: messages are lost", found->clocks, plural,
+                 found->rounds, found->late);
+    }
+    return name_silent_domains(domains) && found->is_sure && found->left_out == 0;
 }
 
 int make_plan(struct plan *plan, const struct task *task) {
@@ -203,19 +219,20 @@ int make_plan(struct plan *plan, const struct task *task) {
     widen_transport();
     int asked = status = ask_clocks(task, &what, &domains, &answers);
     struct piece lines = { answers.text, answers.size };
-    if (status == ANSWERED && what.count > 0) name_silent_domains(&domains);
     if (status == ANSWERED || status == NOT_ANSWERED) {
         status = run_plan(task, "--steps", &lines, &plan->text);
-        /* A table of every clock is of none then, and all else is said to be not reached. */
+        bool is_refused = plan->text.size == 0;
+        if (!is_refused && asked == ANSWERED && what.count > 0 && !tell_found(&domains)) asked = NOT_ANSWERED;
+        /* A table of every clock is of none then, or some may be missing; all else is said to be not reached. */
         if (status == ANSWERED) status = asked;
-        if (plan->text.size > 0) {
+        if (!is_refused) {
             read_id(plan, "plan");
             read_steps(plan);
             plan->unreached = lines_below(plan->text.text, "\nnot reached:\n");
             plan->has_unsettable = strstr(plan->text.text, "\ncan't be set:\n") != NULL;
             plan->has_reached = plan->count > 0 || strstr(plan->text.text, "\nstays:\n") != NULL;
         }
-        if (plan->text.size > 0 && task->is_json) take_json(plan, task, &lines);
+        if (!is_refused && task->is_json) take_json(plan, task, &lines);
     }
     free(answers.text);
     return stopped ? BY_SIGNAL + stopped : status;

@@ -146,12 +146,18 @@ static int look_once(struct look *look, const struct task *task, const struct do
     return show_look(look, task, earlier, !task->site.is_once);
 }
 
-/* Looks at the site. If others name a clock of this host, it looks again, also at the socket of the ptp4l here. As long as a clock may have
+/* Whether another clock names this host, or a clock that is not seen: it may be on this host, whatever its identity is. */
+static bool may_be_here(const struct report *report) {
+    return has_finding_named(report, "own_host") || has_finding_named(report, "grandmaster_not_seen")
+           || has_finding_named(report, "parent_not_seen");
+}
+
+/* Looks at the site. If a clock that others name may be on this host, it looks again, also at the socket of the ptp4l here. As long as a clock may have
    others after it that a request did not come to, it looks again, further. From then on each look goes as far. */
 static int look_at_site(struct look *look, const struct task *task, const struct domains *domains, struct look *earlier) {
     look_once(look, task, domains, earlier);
     if (hops < task->settings.hops) hops = task->settings.hops;
-    if (!stopped && has_finding_named(&look->report, "own_host") && may_write_beside(OWN_CLOCK) && ask_own_clock(OWN_CLOCK)) {
+    if (!stopped && task->path == NULL && may_be_here(&look->report) && may_write_beside(OWN_CLOCK) && ask_own_clock(OWN_CLOCK)) {
         forget_answers(look);
         look_once(look, task, domains, earlier);
     }
