@@ -460,7 +460,7 @@ static const char *offset_line(unsigned sequence, unsigned offset) {
     return line;
 }
 
-/* Which of so many answers with an offset are kept before one more, as digits from a on; the first one has another offset. */
+/* Whether these answers with an offset are kept before one more, as letters from a on. The first one has another offset. */
 static bool keeps_offsets(unsigned count, unsigned offset, const char *expected) {
     struct lines earlier = lines_of(offset_line(0, offset + 1), "", ""), look = lines_of(offset_line(count, offset), "", "");
     char found[32] = "";

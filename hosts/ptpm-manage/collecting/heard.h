@@ -1,6 +1,6 @@
-/* What clocks send by themselves, heard while a site is asked, or between two times: the latest Announce, Sync and Follow_Up of each port, and
-   the latest Delay_Req of each clock. So a clock shows itself that answers no management message. Strangers may send without end. So each of
-   these types has room for a number of messages, which no other type takes, and what comes after that is counted. */
+/* What clocks send by themselves, heard while a site is asked, or between two times. These are the latest Announce, Sync and Follow_Up of each
+   port, and the latest Delay_Req of each clock. So a clock shows itself that answers no management message. Strangers may send without end. So
+   each type has room for a number of messages, which no other type takes, and what comes after that is counted. */
 #ifndef HEARD_H
 #define HEARD_H
 

@@ -6,8 +6,8 @@
 #include "task.h"
 #include <stdbool.h>
 
-/* Lines to be shown: those of clocks that are gone, those of the looks before, and its own. And the same of the look before, if what may be
-   momentary counts only if that has it too. */
+/* Lines to be shown: those of clocks that are gone, those of the looks before, and its own. And those of the look before, if what may be
+   momentary counts only if that look has it too. */
 enum { GONE_LINES, EARLIER_LINES, OWN_LINES, LINE_PARTS };
 struct shown_lines { struct piece now[LINE_PARTS], before[LINE_PARTS]; bool is_beside; };
 

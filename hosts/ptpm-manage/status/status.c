@@ -142,7 +142,7 @@ static int show_look(struct look *look, const struct task *task, const struct lo
     return look->status;
 }
 
-/* Takes out of the lines of an earlier look what counts only in their own, and sets their times by what the clock of this host was set by. */
+/* Takes out of the lines of an earlier look what counts only in that look. If the clock of this host was set, their times are set too. */
 static void make_earlier(struct look *earlier, int64_t step) {
     for (int part = EARLIER_LINES; part < LINE_PARTS; part++) {
         struct lines *lines = &earlier->lines[part];
@@ -256,7 +256,7 @@ static bool looks_on(const struct look *look, int64_t begin, int unlike, const s
     return is_undecided(look, begin + MOST_OPEN, unlike) || (look->status <= FINDINGS && milliseconds() < begin + task->site.duration);
 }
 
-/* Looks at the site, and then again and again while something is undecided, or for as long as the task says, over the lines of all these
+/* Looks at the site, and then again and again while something is undecided, or for as long as the task says. What is found is of all these
    looks. */
 static void look_until_decided(struct look *look, const struct task *task, struct domains *domains) {
     int64_t begin = milliseconds();
