@@ -174,6 +174,13 @@ def open_ones():
     check("but not for who is mute", len(Shown([(0, text_of() + kept)], "status").calls) == 1)
 
 
+def looks_for_a_time():
+    """As many looks as fit into a time, and one site."""
+    shown = Shown([(1, text_of(STEPS)), (0, text_of())], "status", "--for", "7")
+    check(f"it looks each two seconds for as long as is wanted: {len(shown.calls)} looks, {shown.took:.1f} s", shown.done.stdout == text_of()
+          and shown.done.returncode == 0 and 7 < shown.took < 14 and len(shown.calls) in (4, 5))
+
+
 def passing_ones():
     """What a watch leaves out, and which look it judges beside which."""
     steps = f"0 {OTHER} steps stepsRemoved 2"
@@ -309,8 +316,8 @@ def watches(clocks):
 def shows():
     clocks = [start_clock(clock, "far0") for clock in (ONE, OTHER)]
     time.sleep(1)
-    for trial in (given_options, writes, descriptions, looks_again, ends_and_hops, open_ones, passing_ones, followers, lines_of_earlier_looks,
-                  same_whatever_it_says, failing_looks, events_in_json):
+    for trial in (given_options, writes, descriptions, looks_again, ends_and_hops, open_ones, looks_for_a_time, passing_ones, followers,
+                  lines_of_earlier_looks, same_whatever_it_says, failing_looks, events_in_json):
         trial()
     watches(clocks)
     stop(clocks[1:])
