@@ -17,7 +17,7 @@ def _parser() -> argparse.ArgumentParser:
     parser = argparse.ArgumentParser(
         prog="python -m ptpm site",
         description="Shows a whole site: who is grandmaster, who follows whom, and what is wrong.",
-        epilog="It runs `ptpm-manage collect` and `ptpm site`. The status is 0 if there is no finding, and 3 if no clock answered, or none at "
+        epilog="It runs `ptpm-manage collect` and `ptpm site`. The status is 0 if there is no finding. It is 3 if no clock answered, or none at "
         "one of several interfaces, or if something was left out.",
     )
     add = parser.add_argument

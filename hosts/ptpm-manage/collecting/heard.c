@@ -26,6 +26,7 @@ struct kept {
     int64_t at;                 /* when it was heard */
     bool is_written;
     char from[MOST_SENDER], on[IF_NAMESIZE];
+    uint8_t clock[CLOCK_IDENTITY];
     size_t size;
     uint8_t *message;
 };
@@ -33,6 +34,7 @@ struct kept {
 static struct kept all[MOST_KEPT_MESSAGES];
 static uint16_t places[PLACES];                     /* of a message, plus one; 0 in a place that is free */
 static size_t kept_count, counts[HEARD_TYPES];
+static int64_t forgotten_at;                        /* when silent ones were forgotten last */
 static unsigned long dropped[HEARD_TYPES], unheard_before[HEARD_TYPES];     /* since the latest collection; for it */
 static uint64_t seed;                               /* which nobody else knows, so that nobody fills one place again and again */
 
@@ -82,20 +84,6 @@ static size_t place_of(const uint8_t *message) {
     return place;
 }
 
-/* The one that this message replaces, or a new one. NULL if there is no room. */
-static struct kept *find_kept(const uint8_t *message) {
-    enum heard_type type = heard_type(message);
-    if (length_of(message) > MOST_OCTETS_KEPT) return NULL;
-    if (seed == 0) draw_octets((uint8_t *)&seed, sizeof seed);
-    size_t place = place_of(message);
-    if (places[place] != 0) return &all[places[place] - 1];
-    if (counts[type] == (type == DELAY_REQS ? MOST_OF_CLOCKS : MOST_OF_PORTS)) return NULL;
-    counts[type]++;
-    all[kept_count] = (struct kept){ 0 };
-    places[place] = (uint16_t)++kept_count;
-    return &all[kept_count - 1];
-}
-
 /* How long it is kept, in nanoseconds. */
 static int64_t lasting(const uint8_t *message) {
     int interval = (int8_t)message[INTERVAL_AT];
@@ -105,10 +93,11 @@ static int64_t lasting(const uint8_t *message) {
 
 void forget_silent(void) {
     size_t left = 0;
+    forgotten_at = nanoseconds();
     memset(places, 0, sizeof places);
     memset(counts, 0, sizeof counts);
     for (size_t i = 0; i < kept_count; i++) {
-        if (nanoseconds() - all[i].at >= lasting(all[i].message)) {
+        if (forgotten_at - all[i].at >= lasting(all[i].message)) {
             free(all[i].message);
             continue;
         }
@@ -118,6 +107,25 @@ void forget_silent(void) {
         left++;
     }
     kept_count = left;
+}
+
+static bool is_full(enum heard_type type) { return counts[type] == (type == DELAY_REQS ? MOST_OF_CLOCKS : MOST_OF_PORTS); }
+
+/* The one that this message replaces, or a new one. NULL if there is no room, even if the silent ones are forgotten. That is done each second at
+   most. */
+static struct kept *find_kept(const uint8_t *message) {
+    enum heard_type type = heard_type(message);
+    if (length_of(message) > MOST_OCTETS_KEPT) return NULL;
+    if (seed == 0) draw_octets((uint8_t *)&seed, sizeof seed);
+    bool is_new = places[place_of(message)] == 0;
+    if (is_new && is_full(type) && nanoseconds() - forgotten_at >= SECOND) forget_silent();
+    size_t place = place_of(message);
+    if (places[place] != 0) return &all[places[place] - 1];
+    if (is_full(type)) return NULL;
+    counts[type]++;
+    all[kept_count] = (struct kept){ 0 };
+    places[place] = (uint16_t)++kept_count;
+    return &all[kept_count - 1];
 }
 
 bool keep_heard(const uint8_t *datagram, size_t size) {
@@ -133,6 +141,7 @@ bool keep_heard(const uint8_t *datagram, size_t size) {
     kept->message = realloc(kept->message, kept->size);
     if (kept->message == NULL) give_up("what is heard");
     memcpy(kept->message, datagram, kept->size);
+    memcpy(kept->clock, datagram + SOURCE_AT, sizeof kept->clock);
     snprintf(kept->from, sizeof kept->from, "%s", sender_text());
     snprintf(kept->on, sizeof kept->on, "%s", came_in_at() == NULL ? "" : came_in_at());
     return true;
@@ -142,7 +151,7 @@ const uint8_t *heard_clock(size_t place, struct domain *domain) {
     for (size_t i = 0; i < kept_count; i++) {
         if (type_of(all[i].message) == DELAY_REQ || place-- > 0) continue;
         *domain = domain_of(all[i].message);
-        return all[i].message + SOURCE_AT;
+        return all[i].clock;
     }
     return NULL;
 }
