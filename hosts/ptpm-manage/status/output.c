@@ -19,7 +19,7 @@
 #include <unistd.h>
 
 /* Findings that need what may be left out. */
-enum { ALL, GONE = 1, MUTE = 2, NOT_ASKED_THERE = 4, OFF_BY_UTC = 8, OWN_HOST = 16, TWO_GRANDMASTERS = 32, UNEXPECTED = 64, FINDINGS = 7 };
+enum { GONE = 1, MUTE = 2, NOT_ASKED_THERE = 4, OFF_BY_UTC = 8, OWN_HOST = 16, TWO_GRANDMASTERS = 32, UNEXPECTED = 64, FINDINGS = 7, ALL = 128 };
 static const char *const findings[FINDINGS] = { "gone", "mute", "not_asked", "off_by_utc", "own_host", "two_grandmasters", "unexpected" };
 
 /* What is left out: in words, as the value of a label, and as a member of JSON; and the findings that need it. */
@@ -59,24 +59,28 @@ unsigned kinds_left_out(const struct left_out *left_out) {
     return found;
 }
 
-void write_left_out(FILE *to, const struct left_out *left_out) {
+/* Writes the names of the findings that need it, with this between them. */
+static void write_needing(FILE *to, const struct left_out *left_out, const char *between) {
     unsigned needed_by = 0;
-    bool is_all = false;
-    const char *between = "left out: ";
+    const char *before = "";
+    for (int kind = 0; kind < LEFT_KINDS; kind++) needed_by |= left_out->counts[kind] > 0 ? kinds[kind].needed_by : 0;
+    if ((needed_by & ALL) != 0) fputs("all", to);
+    for (int i = 0; i < FINDINGS && (needed_by & ALL) == 0; i++) {
+        if ((needed_by >> i & 1) == 0) continue;
+        fprintf(to, "%s%s", before, findings[i]);
+        before = between;
+    }
+}
+
+void write_left_out(FILE *to, const struct left_out *left_out) {
+    const char *before = "left out: ";
     for (int kind = 0; kind < LEFT_KINDS; kind++) {
         if (left_out->counts[kind] == 0) continue;
-        fprintf(to, "%s%lu %s", between, left_out->counts[kind], kinds[kind].words);
-        between = ", ";
-        needed_by |= kinds[kind].needed_by;
-        is_all |= kinds[kind].needed_by == ALL;
+        fprintf(to, "%s%lu %s", before, left_out->counts[kind], kinds[kind].words);
+        before = ", ";
     }
-    between = "; not looked for there: ";
-    if (is_all) fprintf(to, "%sall findings", between);
-    for (int i = 0; i < FINDINGS && !is_all; i++) {
-        if ((needed_by >> i & 1) == 0) continue;
-        fprintf(to, "%s%s", between, findings[i]);
-        between = ", ";
-    }
+    fputs("; not looked for there: ", to);
+    write_needing(to, left_out, ", ");
 }
 
 /* The members of JSON for what `ptpm site` does not know of. */
@@ -85,6 +89,9 @@ static void write_members(FILE *to, const struct left_out *left_out) {
         bool is_there = left_out->counts[kind] > 0 && kinds[kind].member != NULL;
         if (is_there) fprintf(to, "\"%s\":%lu,", kinds[kind].member, left_out->counts[kind]);
     }
+    fputs("\"notLookedFor\":[\"", to);
+    write_needing(to, left_out, "\",\"");
+    fputs("\"],", to);
 }
 
 void add_left_out(struct report *report, const struct left_out *left_out) {
