@@ -250,10 +250,10 @@ static bool is_undecided(const struct look *look, int64_t end, int unlike) {
     return (has_open(&look->report) && milliseconds() < end) || (0 < unlike && unlike < MOST_UNLIKE);
 }
 
-/* Whether it looks on. Without an answer there is nothing to look on at. */
 static bool looks_on(const struct look *look, int64_t begin, int unlike, const struct task *task) {
     if (stopped || task->site.is_once) return false;
-    return is_undecided(look, begin + MOST_OPEN, unlike) || (look->status <= FINDINGS && milliseconds() < begin + task->site.duration);
+    bool has_time = look->status != NOT_ASKED && milliseconds() < begin + task->site.duration;
+    return has_time || is_undecided(look, begin + MOST_OPEN, unlike);
 }
 
 /* Looks at the site, and then again and again while something is undecided, or for as long as the task says. What is found is of all these
