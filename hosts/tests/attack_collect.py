@@ -2,12 +2,13 @@
 become of the program that shows the site."""
 import os
 import random
+import re
 import select
 import signal
 import subprocess
 import time
 
-from attacking import HOME, MANAGE, ME, OTHER, SLOW, Peer, check, has_own_socket, is_sanitized, path, response, start, work, write
+from attacking import HOME, MANAGE, ME, OTHER, SLOW, Peer, check, has_own_socket, is_sanitized, path, read, response, start, started, work, write
 
 # The dataFields of the six ids and of PRIORITY1, of a clock with one port (IEEE 1588-2019, 15.5.3).
 DEFAULT, CURRENT, PARENT, TIMES, PORT, TEXT, PRIORITY1 = 0x2000, 0x2001, 0x2002, 0x2003, 0x2004, 0x0002, 0x2005
@@ -42,13 +43,13 @@ class Site:
     """Whoever answers at a Unix socket: each request is handed to a function, which has a list of datagrams for it. More than
     `most` requests are not read."""
 
-    def __init__(self, answers, *words, idle=lambda: [], most=1 << 30, **streams):
+    def __init__(self, answers, *words, idle=lambda: [], most=1 << 30, most_seconds=100, **streams):
         self.peer = Peer("socket")
         self.output = [open(os.path.join(work, name), "w+b") for name in ("printed", "said")]
         self.process = start("manage", "-u", path, *words, stdout=self.output[0], stderr=self.output[1], **streams)
         began = time.monotonic()
         self.requests, self.asker = [], None
-        while self.process.poll() is None and time.monotonic() < began + 100:
+        while self.process.poll() is None and time.monotonic() < began + most_seconds:
             if select.select([self.peer.socket][:most - len(self.requests)], [], [], 0.02)[0]:
                 request, self.asker = self.peer.socket.recvfrom(2048)
                 self.requests.append(request)
@@ -134,6 +135,50 @@ def strangers_that_never_end():
 
     site = Site(reply, "-t", "50", "-a", "3", "collect", idle=lambda: [answer(asked[0], identity(next(count)))])
     check("a silence that never comes is not waited for", site.status == 0 and site.answers() and site.took < 10 * SLOW)
+
+
+class Strangers:
+    """One host that answers as 2,100 new clocks in each look of a watch, beside a clock that is there. That one ends before the sixth look, and
+    the attack after the tenth. `seen` has what was written before each look, and `most` the memory that the watch took, in KiB."""
+    REAL, NEW, ENDS, LAST = identity(0xFFFFFFFFFF), 2100, 6, 10
+
+    def __init__(self, *words):
+        self.number, self.looks, self.seen, self.most = None, 0, [], 0
+        self.written = os.path.join(work, "written")
+        environment = dict(os.environ, PATH=os.path.dirname(HOME) + ":" + os.environ["PATH"])
+        Site(self.answers, *words, "--output", self.written, "-t", "500", "-a", "1", "--once", "--watch", "1", "status", most_seconds=300, env=environment)
+
+    def answers(self, request):
+        to_all = request[34:42] == bytes([255]) * 8
+        if to_all and request[52:54] == b"\x20\x00" and request[30:32] != self.number:
+            self.next_look(request[30:32])
+        clocks = [self.REAL] if self.looks < self.ENDS else []
+        if to_all and self.looks <= self.LAST:
+            clocks += [identity(self.looks << 16 | place) for place in range(self.NEW)]
+        of_real = answer(request, self.REAL)
+        return (of_real.replace(self.REAL, clock) for clock in clocks if to_all or request[34:42] == clock)
+
+    def next_look(self, number):
+        self.number, self.looks = number, self.looks + 1
+        self.seen.append(read(self.written) if os.path.exists(self.written) else "")
+        process = started[-1]
+        with open(f"/proc/{process.pid}/status") as status:
+            self.most = int(re.search(r"VmHWM:\s*(\d+)", status.read())[1])
+        if self.looks == self.LAST + 4:
+            process.send_signal(signal.SIGINT)
+
+
+def strangers_in_a_watch():
+    """A watch names the clock that is there, finds within two looks that it ended, and is never OK from then on."""
+    name = Strangers.REAL.hex()
+    shown = Strangers("--json")
+    check("a watch names the clock that is there", all(f'"clockIdentity":"{name}"' in text for text in shown.seen[1:6]))
+    finds = [f'"clockIdentity":"{name}","domainNumber":0,"finding":"gone"' in text for text in shown.seen]
+    check(f"it finds within two looks that it ended: {finds}", not any(finds[:6]) and all(finds[7:]))
+    print(f"a watch of 2,100 new clocks a look takes {shown.most} KiB")
+    check("it takes less than 40 MB", shown.most < 40000 or is_sanitized(MANAGE))
+    words = [text.partition(" - ")[0] for text in Strangers("--nagios", "--ignore", "two_grandmasters,gm_free_running").seen[1:]]
+    check(f"a plugin is never OK again: {words}", "PTP OK" not in words[6:])
 
 
 def junk():
@@ -268,5 +313,6 @@ int main(int count, char **words) {
     check(f"without memory a site is whole or fails, except {wrong}", wrong == [] and 0 < refused < len(numbers))
 
 
-ATTACKS = [strangers_without_end, plan_of_too_many, strangers_that_are_one, strangers_that_never_end, junk, one_identity, ids_that_lack,
+ATTACKS = [strangers_without_end, plan_of_too_many, strangers_that_are_one, strangers_that_never_end, strangers_in_a_watch, junk,
+           one_identity, ids_that_lack]
            signals_to_collect, programs_that_show, refusals_of_memory]

@@ -166,10 +166,16 @@ class Site:
         ways = [note[len(_SILENT_WAY):] for note in self.notes if note.startswith(_SILENT_WAY)]
         return tuple(way.partition(": nothing was sent: ")[0] for way in ways)
 
+    @property
+    def gaps(self) -> Tuple[str, ...]:
+        """What is left out for want of room, in words: findings may be missing."""
+        counts = (f"left out: {count} {what}" for count, what in zip(self.left_out, ("clocks", "ports")) if count)
+        return (*counts, *(note.partition(": ")[2] for note in self.notes if note.endswith(" left out")))
+
     def __str__(self) -> str:
         head = f"findings: {len(self.findings) or 'none'}"
         undecided = [f"open: {len(self.open)}", *map(str, self.open)] if self.open else []
-        return "\n".join([*map(str, self.domains), "", head, *map(str, self.findings), *undecided])
+        return "\n".join([*map(str, self.domains), "", head, *map(str, self.findings), *undecided, *self.gaps])
 
 
 def _text(value: object) -> str:

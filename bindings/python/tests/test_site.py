@@ -3,6 +3,7 @@ ptpm of the repository."""
 
 from __future__ import annotations
 
+import dataclasses
 import os
 import re
 import subprocess
@@ -270,6 +271,16 @@ class Programs(Folder):
         notes = "".join(f"ptpm-manage: no clock answered at {way}\n" for way in said)
         self.write("ptpm-manage", f"cat {self.folder}/0; printf '{notes}' >&2")
         self.assertEqual(ptpm.site(["eth0", "eth1", "eth2"]).silent_ways, ("eth1", "eth2"))
+        self.assertEqual(subprocess.run(words, capture_output=True, check=False).returncode, 3)
+
+    def test_what_is_left_out(self) -> None:
+        self.collects("a_chain")
+        gap = "there is room for 4096 Delay_Req: 7 more are left out"
+        self.write("ptpm-manage", f"cat {self.folder}/0; echo 'ptpm-manage: {gap}' >&2")
+        found = ptpm.site("eth0", once=True)
+        self.assertEqual((found.findings, found.gaps, str(found).splitlines()[-1]), ((), (gap,), gap))
+        self.assertEqual(dataclasses.replace(found, notes=(), left_out=(0, 3)).gaps, ("left out: 3 ports",))
+        words = [sys.executable, "-m", "ptpm", "site", "-i", "eth0", "--once"]
         self.assertEqual(subprocess.run(words, capture_output=True, check=False).returncode, 3)
 
     def test_a_second_look(self) -> None:

@@ -94,7 +94,9 @@ static const char site_text[] =
     "      --nagios            status as a line for Nagios or Icinga, with the status of a plugin\n"
     "      --output FILE       what status prints goes into FILE, which is replaced whole\n"
     "      --once              status does not look a second time at findings that may pass\n"
+    "      --for SECONDS       status looks each 2 seconds for this long, and then prints once\n"
     "      --watch SECONDS     status looks again and again, and prints what came and what went\n"
+    "      --forget SECONDS    in a watch a clock that answers no more is a finding for this long (86400)\n"
     "\n";
 
 static const char asking_text[] =

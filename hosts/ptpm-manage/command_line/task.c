@@ -26,7 +26,7 @@ enum { WORD = 1, UDP = 256, TEXT, VERSION, GIVE_UP, JSON, ANY_SOURCE, NAMES, EXP
 
 /* The same, only for `collect` and `status`. */
 enum site_option {
-    LISTEN = 512, SDO, DRAW, HTML, OPENMETRICS, NAGIOS, OUTPUT, MAX_OFFSET, MAX_DELAY, TAI_UTC, SETTLE, PROFILE, IGNORE, ALL, ONCE, WATCH
+    LISTEN = 512, SDO, DRAW, HTML, OPENMETRICS, NAGIOS, OUTPUT, MAX_OFFSET, MAX_DELAY, TAI_UTC, SETTLE, PROFILE, IGNORE, ALL, ONCE, WATCH, FOR, FORGET
 };
 
 enum { MOST_WORDS = 2 + MOST_FIELD_WORDS, MOST_FIELD = 1418, NOT_NAMED = -1 };
@@ -34,7 +34,7 @@ enum { MOST_WORDS = 2 + MOST_FIELD_WORDS, MOST_FIELD = 1418, NOT_NAMED = -1 };
 /* What holds if no option says otherwise. A request to only one clock is repeated for two seconds. */
 enum { HOPS = 1, ATTEMPTS = 30, SITE_ATTEMPTS = 10, LISTENED = 4000, PLAN_DIGITS = 8 };
 
-enum { SECOND = 1000, MOST_SECONDS = 86400 };
+enum { SECOND = 1000, DAY = 86400, YEAR = 366 * DAY };
 
 static const struct option options[] = {
     { "interface", required_argument, NULL, 'i' }, { "udp", required_argument, NULL, UDP }, { "ipv6", no_argument, NULL, '6' },
@@ -57,6 +57,7 @@ static const struct option options[] = {
     { "settle", required_argument, NULL, SETTLE }, { "profile", required_argument, NULL, PROFILE },
     { "ignore", required_argument, NULL, IGNORE }, { "all", no_argument, NULL, ALL },
     { "once", no_argument, NULL, ONCE }, { "watch", required_argument, NULL, WATCH },
+    { "for", required_argument, NULL, FOR }, { "forget", required_argument, NULL, FORGET },
     { "hexadecimal", no_argument, NULL, 'x' }, { "text", no_argument, NULL, TEXT }, { "quiet", no_argument, NULL, 'q' },
     { "help", no_argument, NULL, 'h' }, { "version", no_argument, NULL, VERSION },
     { NULL, 0, NULL, 0 },
@@ -76,10 +77,10 @@ static long number(const char *option, const char *text, long least, long most) 
     return found;
 }
 
-static long seconds(const char *option, const char *text, long least) {
-    long found = decimal(text, MOST_SECONDS);
-    if (found < least) refuse("%s %s: it takes a number from %ld to %d", option, text, least, MOST_SECONDS);
-    return found * SECOND;
+static int64_t seconds(const char *option, const char *text, long least, long most) {
+    long found = decimal(text, most);
+    if (found < least) refuse("%s %s: it takes a number from %ld to %ld", option, text, least, most);
+    return (int64_t)found * SECOND;
 }
 
 /* A whole number in the range that `ptpm site` takes, which gets it as it is written. A + may come before it, or a - if the range has
@@ -127,15 +128,17 @@ static void add_ignored(struct site_options *site, const char *names) {
 static bool take_site_option(struct site_options *site, int option, const char *value) {
     static const char *const names[] = {
         "--listen", "--sdo", "--draw", "--html", "--openmetrics", "--nagios", "--output", "--max-offset", "--max-delay", "--tai-utc",
-        "--settle", "--profile", "--ignore", "--all", "--once", "--watch",
+        "--settle", "--profile", "--ignore", "--all", "--once", "--watch", "--for", "--forget",
     };
     static const char or_none[] = "none, or a number of nanoseconds";
-    if (option < LISTEN || option > WATCH) return false;
+    if (option < LISTEN || option > FORGET) return false;
     const char *name = names[option - LISTEN];
     switch ((enum site_option)option) {
-    case LISTEN: site->listen = seconds(name, value, 0); break;
+    case LISTEN: site->listen = (long)seconds(name, value, 0, DAY); break;
     case SDO: read_sdo(site, value); break;
-    case WATCH: site->watch = seconds(name, value, 1); break;
+    case WATCH: site->watch = (long)seconds(name, value, 1, DAY); break;
+    case FOR: site->duration = (long)seconds(name, value, 1, DAY); break;
+    case FORGET: site->forget = seconds(name, value, 1, YEAR); break;
     case MAX_OFFSET: site->max_offset = strcmp(value, "none") == 0 ? value : for_site(name, value, or_none, 0, UINT64_MAX); break;
     case MAX_DELAY: site->max_delay = for_site(name, value, "a number of nanoseconds", 0, UINT64_MAX); break;
     case TAI_UTC: site->tai_utc = for_site(name, value, "a number of seconds", INT16_MIN, INT16_MAX); break;
@@ -173,6 +176,8 @@ static void judge_site_options(const struct site_options *site) {
     if (site->given != NULL && !site->is_shown) refuse("%s: it is of status alone", site->given);
     if (site->is_sdo_named && !site->is_collected) refuse("--sdo: it is of collect and status alone");
     if (site->listen >= 0 && !site->is_collected) refuse("--listen: it is of collect and status alone");
+    if (site->duration > 0 && (site->is_once || site->watch > 0)) refuse("--for excludes --once and --watch");
+    if (site->forget > 0 && site->watch == 0) refuse("--forget: it goes with --watch alone");
     if (site->form != AS_TEXT && site->watch > 0 && site->output == NULL) {
         refuse("--watch excludes --draw, --html, --openmetrics and --nagios, unless there is a file for them: --output FILE");
     }
@@ -559,6 +564,7 @@ void read_task(struct task *task, int argc, char **argv) {
     part_own_socket(task);
     judge(task, &words);
     judge_site_options(&task->site);
+    if (task->site.forget == 0) task->site.forget = (int64_t)DAY * SECOND;
     judge_json(task);
     judge_expected(task);
     if (task->plan.is_probed && task->plan.verb != PLAN && task->plan.verb != APPLY) refuse("--probe: it is of plan and apply alone");

@@ -20,6 +20,8 @@ struct site_options {
     uint16_t sdo;                               /* the sdoId of these domains */
     bool is_sdo_named, is_every_sdo;            /* it was given; those in which clocks are heard, and 0 */
     long listen, watch;                         /* in milliseconds: for clocks, or -1 by default; between two looks, or 0 */
+    long duration;                              /* of looks that are shown as one, at least */
+    int64_t forget;                             /* how long a clock is gone */
     enum shown_as form;                         /* how it is shown, except by `--json` */
     bool is_once, is_as_far_as_named;           /* it does not look a second time; nor any further than by the hops that were named */
     const char *output;                         /* the file that gets what is printed, or NULL */
