@@ -6,6 +6,7 @@
 #include "output.h"
 #include "program.h"
 #include "shares.h"
+#include "udp.h"
 #include <errno.h>
 #include <string.h>
 #include <sys/random.h>
@@ -43,8 +44,10 @@ void say_deaf_ports(void) {
 }
 
 bool admit_datagram(const struct heard *heard) {
-    if (heard->port == NULL || limits.is_any_source || transport == ETHERNET) return true;
-    if (is_on_link(heard->port->index, &heard->sender.any)) return true;
+    if (heard->port == NULL || transport == ETHERNET) return true;
+    bool is_near = !limits.is_near || !heard->is_unicast || heard->ttl == FULL_TTL;
+    bool is_of_link = !heard->is_passed_on && is_on_link(heard->port->index, &heard->sender.any);
+    if (is_near && (limits.is_any_source || is_of_link)) return true;
     kept_back.strangers++;
     return false;
 }

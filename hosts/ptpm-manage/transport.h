@@ -7,6 +7,7 @@
 #include <stdbool.h>
 #include <stddef.h>
 #include <stdint.h>
+#include <sys/socket.h>
 
 /* Finds the transport that the task names. If the task names no manager, its settings get the transport's own. Over UDP and
    Ethernet that is the interface's hardware address with ff and fe in its middle. On a Unix socket it is clock 0, like that of
@@ -33,7 +34,8 @@ void renew_transport(void);
    come in what the program may hear. */
 void receive_every_type(bool is_every);
 
-/* Says what clock isn't heard, if the program may hear no copies of what comes by unicast to UDP port 320 of this host. */
+/* Says what clock isn't heard, if the program may hear no copies of what comes by unicast to UDP port 320 of this host, or took one for
+   another's. */
 void tell_deaf_port(void);
 
 /* Says which of its interfaces are gone, are a part of a bridge or a bond, or have no address to ask from. */
@@ -63,6 +65,13 @@ const uint8_t *receive_message(size_t *size, int64_t end);
    not known. And the interface that it came in at; NULL on a Unix socket. */
 const char *sender_text(void);
 const char *came_in_at(void);
+
+/* How a message came in: at which socket, from whom, and whether no router had passed it on. */
+struct way { int socket; struct sockaddr_storage sender; bool is_near; };
+
+/* That of the message that came in last; and whether it came in by this one. */
+struct way way_of_message(void);
+bool came_by(const struct way *way);
 
 /* If several interfaces were named, or one and a Unix socket: from now on no answer came at any of them. Then the message that came in last
    is one. And the first of them at which none came; NULL if there is none. */

@@ -6,7 +6,8 @@ import subprocess
 import time
 
 from attack_collect import Site, changed
-from attacking import MANAGER, ME, SLOW, check, response, start, work
+from attack_wire import Wire, frame_four
+from attacking import MANAGER, ME, SLOW, check, response, run, start, work
 
 NOT_AS_ASKED = 5
 
@@ -154,4 +155,78 @@ def ports_above_eight():
     check("no session is kept of it", site.status == 2 and site.requests == [] and os.listdir(work).count("number") == 0)
 
 
-ATTACKS = [values_that_were_not_asked, values_of_an_earlier_run, errors_of_other_ports, ports_above_eight]
+def asked_at(wire, answers, *words):
+    """The status of a run at this link, and what it prints and says. Each request that comes is handed to a function, which puts frames."""
+    asking = start("manage", "-i", wire.name, "-m", MANAGER + "/1", "-w", "0", "-a", "5", "-t", "300", *words, stdout=subprocess.PIPE,
+                   stderr=subprocess.PIPE, text=True)
+    while asking.poll() is None:
+        for request in wire.sent(0.05):
+            answers(request)
+    printed, said = asking.communicate()
+    return asking.returncode, printed, said
+
+
+def answer_to(request, value=100):
+    """What the clock answers: the priority1 that was asked, or another one."""
+    field = {b"\x20\x05": request[54:] or bytes([value, 0])}.get(request[52:54], bytes(20))
+    return response(request, request[52:54] + field)
+
+
+def blind_answers():
+    """Somebody beyond a router guesses the numbers of a manager, at a clock that isn't there, and answers in the name of a neighbour. Or the
+    clock answers so: to UDP port 320 of this host, where it is heard as a copy."""
+    wire, router = Wire("clk0", 10), bytes.fromhex("0200000000fe")
+    run("ip", "neigh", "replace", "10.7.10.254", "lladdr", router.hex(":"), "dev", wire.name)
+    def guesses(request):
+        """From all numbers the right one is among these, as if it had been hit early."""
+        answer = answer_to(request)
+        for number in [*range(5), int.from_bytes(request[30:32], "big")]:
+            wire.put(frame_four(answer[:30] + number.to_bytes(2, "big") + answer[32:], wire.neighbour, wire.own, wire.station, ttl=250, by=router))
+    for words in [("set", "PRIORITY1", "100"), ("get", "PRIORITY1")]:
+        status, printed, said = asked_at(wire, guesses, "--target", ME, *words)
+        check(f"nobody answers {words} from beyond a router", (status, printed) == (3, ""))
+        check("and that is said", f"what came from {wire.neighbour} to this host's UDP port 320 is not taken" in said)
+    for ttl, words, is_taken in [(64, (), True), (64, ("--ttl-security",), False), (255, ("--ttl-security",), True)]:
+        status, printed, said = asked_at(
+            wire, lambda request: wire.put(frame_four(answer_to(request), wire.neighbour, wire.own, wire.station, ttl=ttl)),
+            "--target", ME, *words, "set", "PRIORITY1", "100")
+        check(f"a neighbour answers so with TTL {ttl} and {words}", (status, printed) == ((0, "priority1 100\n") if is_taken else (3, "")))
+        check("what a router may have passed on is said", ("may have passed it on: --ttl-security" in said) != is_taken)
+    wire.remove()
+
+
+def guessed_numbers():
+    """A neighbour who guesses. Few wrong numbers are late answers; more of them let no answer count, even a right one."""
+    wire = Wire("clk0", 10)
+    for wrong, is_taken in [(5, True), (100, False)]:
+        def guesses(request):
+            answer = answer_to(request)
+            right = int.from_bytes(request[30:32], "big")
+            for number in [*((right + 1000 + ahead) % 65536 for ahead in range(wrong)), right]:
+                wire.come_in(answer[:30] + number.to_bytes(2, "big") + answer[32:])
+        words = ("-k", os.path.join(work, f"number{wrong}"), "--target", ME)
+        status, printed, said = asked_at(wire, guesses, *words, "get", "PRIORITY1")
+        check(f"with {wrong} wrong numbers an answer is taken: {is_taken}", (status, printed) == ((0, "priority1 100\n") if is_taken else (3, "")))
+        check("many are said", ("answers had numbers that were not asked" in said) != is_taken)
+    wire.remove()
+
+
+def answers_in_another_way():
+    """The first answer of a run shows in which way the clock answers. Its others count only there."""
+    wire, other = Wire("clk0", 10), bytes.fromhex("0200000000fd")
+    run("ip", "neigh", "replace", "10.7.10.8", "lladdr", other.hex(":"), "dev", wire.name)
+    by_group = lambda answer: wire.come_in(answer)
+    ways = {"by unicast": lambda answer: wire.put(frame_four(answer, wire.neighbour, wire.own, wire.station)),
+            "from another neighbour": lambda answer: wire.put(frame_four(answer, "10.7.10.8", by=other))}
+    for name, other_way in [("by the group", by_group), *ways.items()]:
+        def answers(request):
+            (other_way if request[46] == 1 else by_group)(answer_to(request))
+        status, printed, said = asked_at(wire, answers, "--target", ME, "set", "PRIORITY1", "100")
+        check(f"a SET is answered {name} alone after a GET by the group",
+              (status, printed) == ((0, "priority1 100\n") if name == "by the group" else (3, "")))
+        check("another way is said", ("came in another way than the first one" in said) == (name != "by the group"))
+        shutil.rmtree(os.path.join(work, "state"), ignore_errors=True)
+    wire.remove()
+
+
+ATTACKS = [blind_answers, guessed_numbers, answers_in_another_way, values_that_were_not_asked, values_of_an_earlier_run, errors_of_other_ports, ports_above_eight]

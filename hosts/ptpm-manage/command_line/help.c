@@ -43,6 +43,8 @@ static const char help_text[] =
     "  -2, --ethernet          there in frames of IEEE 802.3, and not over UDP\n"
     "      --udp ADDRESS       over UDP to this address, also without --interface\n"
     "      --any-source        hears addresses too that are not on the link, over UDP\n"
+    "      --ttl-security      of what is sent to this machine alone over UDP, hears only what has TTL 255: no router\n"
+    "                          has passed it on. ptpm-clock sends it so\n"
     "  -u, --unix PATH         at a Unix socket, such as /var/run/ptp4l\n"
     "\n"
     "What is asked of whom:\n"
