@@ -18,7 +18,8 @@
 #include <sys/stat.h>
 #include <unistd.h>
 
-enum { FOUR_FROM_AT = 12, FOUR_TO_AT = 16, SIX_FROM_AT = 8, SIX_TO_AT = 24, SIX_HEAD = 40, GROUPS_FOUR = 0xe0, GROUPS_SIX = 0xff, UPPER_HALF = 0xf0, PORT_AT = 2 };
+enum { FOUR_FROM_AT = 12, FOUR_TO_AT = 16, SIX_FROM_AT = 8, SIX_TO_AT = 24, SIX_HEAD = 40 };
+enum { GROUPS_FOUR = 0xe0, GROUPS_SIX = 0xff, UPPER_HALF = 0xf0, PORT_AT = 2 };
 
 /* Of copies over IPv4, which begin with their IP header: those to port 320 of no group whose messageType is 0xD. */
 static const struct sock_filter wanted_of_four[] = {
@@ -42,7 +43,7 @@ static const struct sock_filter wanted_of_six[] = {
     LETS_IN_MANAGEMENT,
 };
 
-/* The same of packets of IPv6, which begin with their IP header. */
+/* The same for packets of IPv6, which begin with their IP header. */
 static const struct sock_filter wanted_packets_of_six[] = {
     BPF_STMT(BPF_LD | BPF_H | BPF_ABS, SIX_HEAD + PORT_AT),
     BPF_JUMP(BPF_JMP | BPF_JEQ | BPF_K, GENERAL_PORT, 0, 5),
@@ -112,10 +113,11 @@ static struct packet { struct sockaddr_ll from; size_t size; uint8_t octets[MOST
 
 /* Whether a packet has the octets of a copy. Those over IPv6 begin after the IP header; a short packet is padded. */
 static bool has_copy(const struct packet *packet, unsigned index, const struct sockaddr *sender, const uint8_t *copy, size_t size) {
-    size_t place = sender->sa_family == AF_INET6 ? SIX_HEAD : 0;
-    if ((unsigned)packet->from.sll_ifindex != index || packet->from.sll_pkttype != PACKET_HOST || packet->size < place + size) return false;
-    if (place > 0 && memcmp(packet->octets + SIX_FROM_AT, &((const struct sockaddr_in6 *)sender)->sin6_addr, SIX_TO_AT - SIX_FROM_AT) != 0) return false;
-    return memcmp(packet->octets + place, copy, size) == 0;
+    const struct in6_addr *six = sender->sa_family == AF_INET6 ? &((const struct sockaddr_in6 *)sender)->sin6_addr : NULL;
+    size_t place = six != NULL ? SIX_HEAD : 0;
+    if ((unsigned)packet->from.sll_ifindex != index || packet->from.sll_pkttype != PACKET_HOST) return false;
+    if (packet->size < place + size || memcmp(packet->octets + place, copy, size) != 0) return false;
+    return six == NULL || memcmp(packet->octets + SIX_FROM_AT, six, sizeof *six) == 0;
 }
 
 /* The packet that a copy came in; NULL if there is none. */

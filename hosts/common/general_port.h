@@ -22,8 +22,8 @@ int open_copies(bool is_six);
    and errno as above. */
 int open_packets(bool is_six);
 
-/* Whether a copy, as it was heard at an interface, was sent by the neighbour who has the sender's address. It also is if that can't be
-   known: no packets are heard, the link has no hardware addresses, or the address is not of the link. */
+/* Whether a copy, as it was heard at an interface, was sent by the neighbour who has the sender's address. It counts as that if
+   nobody knows: no packets are heard, the link has no hardware addresses, or the address is of no link. */
 bool is_of_neighbour(int packets, unsigned index, const struct sockaddr *sender, const uint8_t *copy, size_t size);
 
 /* The place of the message in such a copy, and its size in *size, which was that of the copy. 0 if there is none, or its UDP checksum is

@@ -123,7 +123,8 @@ static bool read_station(uint8_t station[STATION], const struct answer *answer, 
     if (size < NLMSG_LENGTH(sizeof *found) || head->nlmsg_type != RTM_NEWNEIGH || !(found->ndm_state & RIGHT)) return false;
     for (size_t place = NLMSG_LENGTH(sizeof *found); place + sizeof(struct rtattr) <= size;) {
         const struct rtattr *attribute = (const void *)(answer->octets + place);
-        bool is_station = attribute->rta_type == NDA_LLADDR && attribute->rta_len == RTA_LENGTH(STATION) && place + RTA_LENGTH(STATION) <= size;
+        bool is_whole = attribute->rta_len == RTA_LENGTH(STATION) && place + RTA_LENGTH(STATION) <= size;
+        bool is_station = attribute->rta_type == NDA_LLADDR && is_whole;
         if (is_station) memcpy(station, RTA_DATA(attribute), STATION);
         if (is_station || attribute->rta_len < sizeof *attribute) return is_station;
         place += RTA_ALIGN(attribute->rta_len);

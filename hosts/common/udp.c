@@ -117,7 +117,8 @@ static bool bind_alone(int socket, const char *interface, bool is_six, const cha
     struct sockaddr_storage any = { .ss_family = is_six ? AF_INET6 : AF_INET };
     if (!stay_at(socket, interface, is_six, what)) return false;
     *what = "a UDP port";
-    return tell_ttl(socket, is_six) && bind(socket, (const struct sockaddr *)&any, is_six ? sizeof(struct sockaddr_in6) : sizeof(struct sockaddr_in)) == 0;
+    socklen_t size = is_six ? sizeof(struct sockaddr_in6) : sizeof(struct sockaddr_in);
+    return tell_ttl(socket, is_six) && bind(socket, (const struct sockaddr *)&any, size) == 0;
 }
 
 /* A socket that a step makes ready. */

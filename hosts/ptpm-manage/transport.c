@@ -51,7 +51,7 @@ static int copies = -1, packets = -1;
 /* What the transport is called in a notice. */
 static char name[MOST_INTERFACES * (IFNAMSIZ + 2) + sizeof ((struct sockaddr_un *)0)->sun_path];
 static bool is_six, is_ethernet, is_any_source;
-static bool is_near_alone;      /* of what is sent to this host alone, only what no router has passed on is taken (RFC 5082) */
+static bool is_near_alone;      /* of unicast only what no router has passed on is taken (RFC 5082) */
 static bool has_link_group;     /* over Ethernet clocks of 802.1AS are heard too */
 static bool is_to_one;          /* messages go to one address, and not to a group */
 static bool has_several_ways;   /* several interfaces were named, or one and a Unix socket */
@@ -310,7 +310,10 @@ void widen_transport(void) {
 static char passed_on[INET6_ADDRSTRLEN];
 
 void tell_deaf_port(void) {
-    if (*passed_on != '\0') complain("what came from %s to this host's UDP port 320 is not taken: the link has that address at another machine, or not at all", passed_on);
+    if (*passed_on != '\0') {
+        complain("what came from %s to UDP port 320 of this host alone is not taken: another machine sent it, or nobody is there",
+                 passed_on);
+    }
     if (copies >= 0 || is_ethernet || ends[0].interface == NULL) return;
     complain("a clock that answers to UDP port 320 of this host alone isn't heard: it takes root, or the capability CAP_NET_RAW");
 }
@@ -511,8 +514,7 @@ static bool is_from_here(const struct end *end, const struct sockaddr *sender) {
     return false;
 }
 
-/* Whether a datagram to this host alone comes as near as it is to: from the neighbour who has the address, as far as that is known, and
-   with --ttl-security past no router. */
+/* Whether a datagram is none that a router has passed on, as far as that is known and wanted. */
 static bool is_near(const struct arrival *arrival, const struct end *end, struct place *from, const uint8_t *octets, size_t found) {
     const struct sockaddr *sender = (const struct sockaddr *)&from->sender;
     bool is_unicast = arrival->end == NULL || arrival->socket == end->asking;

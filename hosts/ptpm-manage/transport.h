@@ -34,8 +34,8 @@ void renew_transport(void);
    come in what the program may hear. */
 void receive_every_type(bool is_every);
 
-/* Says what clock isn't heard, if the program may hear no copies of what comes by unicast to UDP port 320 of this host, or took one for
-   another's. */
+/* Says which clock isn't heard, if the program may hear no copies of what comes by unicast to UDP port 320 of this host. Says too whose
+   copies it did not take. */
 void tell_deaf_port(void);
 
 /* Says which of its interfaces are gone, are a part of a bridge or a bond, or have no address to ask from. */
