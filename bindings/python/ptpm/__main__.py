@@ -64,6 +64,8 @@ def _parser() -> argparse.ArgumentParser:
     add("-i", "--interface", action=_Once, metavar="NAME", help="over UDP port 320 at this interface")
     add("--ipv6", action="store_true", help="with IPv6")
     add("--udp", metavar="ADDRESS", help="over UDP to this address")
+    add("--any-source", action="store_true", help="over UDP, takes answers from addresses that are not on the link")
+    add("--ttl-security", action="store_true", help="of unicast over UDP, takes only what no router has passed on")
     add("-u", "--unix", metavar="PATH", help="at a Unix socket of this machine, as /var/run/ptp4l")
     add("-T", "--target", metavar="IDENTITY", help="the clock, such as aabbccfffeddee01 or aabbcc.fffe.ddee01-1 for its port 1")
     add("-p", "--port", type=_number(0, 65535), help="the clock's port, named apart")
@@ -154,7 +156,9 @@ class Task:
     def way(self) -> Transport:
         """The socket that it uses."""
         words = self.words
-        return UnixTransport(words.unix) if words.unix is not None else UdpTransport(words.interface, words.udp, ipv6=words.ipv6)
+        if words.unix is not None:
+            return UnixTransport(words.unix)
+        return UdpTransport(words.interface, words.udp, ipv6=words.ipv6, any_source=words.any_source, ttl_security=words.ttl_security)
 
     @property
     def is_numbered(self) -> bool:
