@@ -13,6 +13,7 @@
 #include "stopping.h"
 #include "udp.h"
 #include "unix_socket.h"
+#include "words.h"
 #include <arpa/inet.h>
 #include <errno.h>
 #include <ifaddrs.h>
@@ -122,6 +123,16 @@ static bool write_own_identity(uint8_t identity[8], const char *interface) {
     return is_read;
 }
 
+/* That with its universal/local bit turned, as IPv6 does. A clock of this host, such as a ptp4l, has it as it is, and no manager may have
+   the clockIdentity of a clock. */
+static void turn_local_bit(uint8_t identity[8]) { identity[0] ^= 0x02; }
+
+bool former_identity(uint8_t identity[8]) {
+    if (ends[0].interface == NULL) return false;
+    turn_local_bit(identity);
+    return true;
+}
+
 bool own_identity(size_t place, uint8_t identity[8]) {
     return place < end_count && ends[place].interface != NULL && write_own_identity(identity, ends[place].interface);
 }
@@ -168,7 +179,9 @@ static void find_at_interfaces(struct task *task) {
         size = strlen(name);
         snprintf(name + size, sizeof name - size, ", %s", ends[i].interface);
     }
-    if (!task->has_manager && !write_own_identity(task->settings.clock, ends[0].interface)) give_up(ends[0].interface);
+    if (task->has_manager) return;
+    if (!write_own_identity(task->settings.clock, ends[0].interface)) give_up(ends[0].interface);
+    turn_local_bit(task->settings.clock);
 }
 
 static void find_unix(const struct task *task) {
@@ -384,12 +397,11 @@ static ssize_t send_datagram(const struct end *end, const uint8_t *octets, size_
 
 /* A clock of this host may have the identity of the one who asks, and heeds no message of its own. So clock 0 asks it. */
 static const uint8_t nobody[8];
-static uint8_t asker[8];
+static uint8_t asker[8];                /* the clockIdentity in the latest message */
 
 static void send_to_own_clock(const uint8_t *octets, size_t size) {
     static uint8_t message[MOST_DATAGRAM];
     if (size < SOURCE_PORT_AT || size > sizeof message) return;
-    memcpy(asker, octets + SOURCE_AT, sizeof asker);
     memcpy(message, octets, size);
     memcpy(message + SOURCE_AT, nobody, sizeof nobody);
     sendto(own_clock.socket, message, size, MSG_DONTWAIT, (struct sockaddr *)&own_clock_address, sizeof own_clock_address);
@@ -403,6 +415,7 @@ static void address_to_asker(uint8_t *message, size_t size) {
 
 enum sending send_message(const uint8_t *octets, size_t size) {
     enum sending sending = NO_TRANSPORT;
+    if (size >= SOURCE_PORT_AT) memcpy(asker, octets + SOURCE_AT, sizeof asker);
     for (size_t i = 0; i < end_count; i++) {
         ends[i].has_sent = (is_ethernet ? send_frame(&ends[i], octets, size) : send_datagram(&ends[i], octets, size)) >= 0;
         ends[i].failure = ends[i].has_sent ? 0 : errno;
@@ -666,6 +679,20 @@ static const uint8_t *message_of(const struct arrival *arrival, const uint8_t *o
     return is_frame && (place == 0 || is_of_other_network(octets + place, sender)) ? NULL : octets + place;
 }
 
+/* Whether a clock sends under the identity of the one who asks; that is said once. A request may be one of his own, which a boundary clock
+   has passed on. */
+static bool is_of_namesake(const struct arrival *arrival, const uint8_t *message, size_t size) {
+    static bool is_told;
+    char identity[IDENTITY_TEXT];
+    bool is_request = size > ACTION_AT && (message[TYPE_AT] & LOWER_HALF) == MANAGEMENT_TYPE
+                      && (message[ACTION_AT] & LOWER_HALF) != RESPONSE && (message[ACTION_AT] & LOWER_HALF) != ACKNOWLEDGE;
+    if (arrival->end == &own_clock || size < SOURCE_PORT_AT || is_request || memcmp(asker, nobody, sizeof asker) == 0) return false;
+    if (memcmp(message + SOURCE_AT, asker, sizeof asker) != 0) return false;
+    write_identity(identity, asker);
+    if (!is_told) complain("a clock has this manager's identity %s: what it sends is not taken, and -m names another manager", identity);
+    return is_told = true;
+}
+
 const uint8_t *receive_message(size_t *size, int64_t end) {
     static uint8_t datagram[MOST_DATAGRAM];
     for (int64_t left; (left = end - milliseconds()) > 0 && !stopped;) {
@@ -674,7 +701,7 @@ const uint8_t *receive_message(size_t *size, int64_t end) {
         ssize_t found = next_arrival(&arrival, left) ? receive_from(arrival.socket, datagram, sizeof datagram, &from) : -1;
         if (found > 0 && arrival.end == &own_clock) address_to_asker(datagram, (size_t)found);
         const uint8_t *message = found < 0 ? NULL : message_of(&arrival, datagram, (size_t)found, &from, size);
-        if (message != NULL) return message;
+        if (message != NULL && !is_of_namesake(&arrival, message, *size)) return message;
     }
     return NULL;
 }

@@ -10,7 +10,7 @@
 #include <sys/socket.h>
 
 /* Finds the transport that the task names. If the task names no manager, its settings get the transport's own. Over UDP and
-   Ethernet that is the interface's hardware address with ff and fe in its middle. On a Unix socket it is clock 0, like that of
+   Ethernet that is the interface's hardware address with ff and fe in its middle, and its universal/local bit turned. On a Unix socket it is clock 0, like that of
    pmc. Its port is 1. What is in no session has a port of this process instead (port_of_nobody). Only a SET or a COMMAND has that
    of the manager, if one is named. Ends the program with status 2 if there is no transport. */
 void find_transport(struct task *task);
@@ -90,6 +90,10 @@ bool asks_one_address(void);
 
 /* Whether it came from whom is asked: from the address of --udp, or else from anybody. */
 bool came_from_asked(void);
+
+/* Makes such an identity the one that earlier versions gave the manager, which is also that of a clock of this host. Whether there is
+   one. */
+bool former_identity(uint8_t identity[8]);
 
 /* The identity that this host has at an interface by its hardware address: at the first, the second and so on. Whether there is
    one. */

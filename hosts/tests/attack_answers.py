@@ -239,4 +239,46 @@ def answers_in_another_way():
     wire.remove()
 
 
-ATTACKS = [blind_answers, guessed_numbers, answers_in_another_way, values_that_were_not_asked, values_of_an_earlier_run, errors_of_other_ports, ports_above_eight]
+@by_both
+def names_of_this_host():
+    """A manager that nobody names has not the identity of a clock of this host, whose MAC it takes. It says its name at first, and how a
+    session of its former name goes on."""
+    wire = Wire("clk0", 10)
+    mac = wire.station
+    clock = (mac[:3] + b"\xff\xfe" + mac[3:]).hex()
+    own = (bytes([mac[0] ^ 2]) + mac[1:3] + b"\xff\xfe" + mac[3:]).hex()
+    former = os.path.join(work, f"state/ptpm/{clock}-1.{ME}")
+    for has_former in [False, True]:
+        if has_former:
+            os.rename(os.path.join(work, f"state/ptpm/{own}-1.{ME}"), former)
+        asked = []
+        asking = start("manage", "-i", wire.name, "-w", "0", "-a", "5", "-t", "300", "--target", ME, "set", "PRIORITY1", "100",
+                       stdout=subprocess.PIPE, stderr=subprocess.PIPE, text=True)
+        while asking.poll() is None:
+            for request in wire.sent(0.05):
+                asked.append(request[20:28].hex())
+                wire.come_in(answer_to(request))
+        printed, said = asking.communicate()
+        check("a manager has no identity of a clock of this host", printed == "priority1 100\n" and set(asked) == {own})
+        check("it says its name at first", f"it asks as manager {own}/1, by the MAC of the interface" in said)
+        check(f"and that there is a session of its former name: {has_former}", (f"{former} has the session of an earlier version: -m {clock}/1 "
+                                                                               "goes on with it" in said) == has_former)
+    wire.remove()
+
+
+def namesakes():
+    """A clock that answers under the identity of the manager is refused by its name."""
+    wire = Wire("clk0", 10)
+    asking = start("manage", "-i", wire.name, "-a", "2", "-t", "200", "-m", MANAGER + "/1", "survey", "PRIORITY1", stdout=subprocess.PIPE,
+                   stderr=subprocess.PIPE, text=True)
+    while asking.poll() is None:
+        for request in wire.sent(0.05):
+            wire.come_in(response(request, request[52:54] + b"\x07\x00", clock=bytes.fromhex(MANAGER)))
+            wire.come_in(response(request, request[52:54] + b"\x08\x00"))
+    printed, said = asking.communicate()
+    check("a namesake is no clock of a survey", printed == f"{ME}/1 priority1 8\n")
+    check("and is named", said.count(f"ptpm-manage: a clock has this manager's identity {MANAGER}: ") == 1)
+    wire.remove()
+
+
+ATTACKS = [names_of_this_host, namesakes, blind_answers, guessed_numbers, answers_in_another_way, values_that_were_not_asked, values_of_an_earlier_run, errors_of_other_ports, ports_above_eight]

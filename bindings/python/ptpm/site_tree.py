@@ -93,7 +93,7 @@ class SiteClock:
 
 @dataclass(frozen=True)
 class Grandmaster:
-    """A clock that leads a domain, as `ptpm site` finds it. `heard` says by what: "answer", "announce", or "followers" if only a clock
+    """A clock that leads a domain by what `ptpm site` finds. `heard` says by what: "answer", "announce", or "followers" if only a clock
     that follows it says so. `clock` is what it answered, or None."""
 
     identity: Identity

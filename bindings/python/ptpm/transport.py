@@ -208,8 +208,10 @@ def _ask_interface(name: str, request: int) -> bytes:
             raise OSError(error.errno, error.strerror, name) from None
 
 
-def _mac_of(interface: str) -> bytes:
-    return _ask_interface(interface, _SIOCGIFHWADDR)[18:24]
+def _identity_of(interface: str) -> Identity:
+    """That of a manager at an interface: its MAC with fffe in the middle, and the universal/local bit turned, as IPv6 does. A clock of
+    this host, such as a ptp4l, has it as it is, and no manager may have the clockIdentity of a clock."""
+    return Identity.of_mac(_ask_interface(interface, _SIOCGIFHWADDR)[18:24]).turned
 
 
 def _has_address(interface: str, own: str) -> bool:
@@ -268,7 +270,7 @@ class UdpTransport(Transport):
         ttl_security: bool = False,
     ) -> None:
         self.interface, family, to = _destination(interface, address, ipv6)
-        self.identity = Identity.of_mac(_mac_of(self.interface))
+        self.identity = _identity_of(self.interface)
         self._link = Link(self.interface, address, any_source, ttl_security)
         self.not_taken = self._link.refused
         self._group, asking, self._copies, self._packets = _opened(self.interface, family)
@@ -295,7 +297,7 @@ class UdpTransport(Transport):
     @staticmethod
     def identity_at(interface: Optional[str] = None, address: Optional[str] = None, *, ipv6: bool = False) -> Identity:
         """The clockIdentity that a manager has by default with such a transport. No socket is opened at UDP port 320."""
-        return Identity.of_mac(_mac_of(_destination(interface, address, ipv6)[0]))
+        return _identity_of(_destination(interface, address, ipv6)[0])
 
 
 def _at(opened: socket.socket, interface: str, wanted: bytes) -> socket.socket:
