@@ -42,6 +42,9 @@ struct ptpm_manager_settings sender_of(const struct heard *heard);
 /* Whether such a datagram is taken: its sender has not sent too many, or is a program of this host. One that is not is counted. */
 bool admit_manager(const struct heard *heard);
 
+/* Whether the answer to a GET is within the rate, before its value is read. Then it is not asked again. */
+bool admit_answer_ahead(struct heard *heard, const uint8_t own[8]);
+
 /* Counts one that finds no room. */
 void count_manager_dropped(void);
 

@@ -62,6 +62,7 @@ static void take_head(struct heard *heard, const struct port *port, struct mmsgh
     heard->is_unicast = port == NULL;
     heard->is_passed_on = false;
     heard->ttl = 0;
+    heard->share = NO_SHARE_ASKED;
 }
 
 static bool take_heard(struct heard *heard, const struct port *port, struct mmsghdr *message) {

@@ -34,6 +34,7 @@ struct heard {
     bool is_unicast;                    /* it was sent only to this host, and the answer goes only to its sender */
     bool is_passed_on;                  /* such a datagram came from another neighbour than the one who has its sender's address */
     int ttl;                            /* 0 if it isn't known */
+    enum { NO_SHARE_ASKED, HAS_SHARE, OVER_RATE } share;     /* whether its answer is within the rate, if that was asked ahead */
     struct in_pktinfo own_four;         /* the address that it was sent to */
     struct in6_pktinfo own_six;
 };
