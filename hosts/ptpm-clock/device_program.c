@@ -230,7 +230,7 @@ bool start_run(const struct ptpm_question *asked) {
 }
 
 bool end_run(struct run *run) {
-    static pid_t under_way;                 /* the run, of which all are one group */
+    static pid_t under_way;                 /* the run, whose processes are one group */
     ssize_t size = recv(beside, run, sizeof *run, MSG_DONTWAIT);
     if (size == (ssize_t)sizeof *run) {
         under_way = run->end == RUN_BEGUN ? run->number : 0;
