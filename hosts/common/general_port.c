@@ -12,6 +12,7 @@
 #include <linux/inet_diag.h>
 #include <linux/netlink.h>
 #include <linux/sock_diag.h>
+#include <net/if_arp.h>
 #include <netinet/udp.h>
 #include <stddef.h>
 #include <string.h>
@@ -141,7 +142,7 @@ bool is_of_neighbour(int packets, unsigned index, const struct sockaddr *sender,
     struct packet *packet = packet_of(packets, index, sender, copy, size);
     if (packet == NULL) return false;
     packet->size = 0;
-    return packet->from.sll_halen != STATION || is_station_of(index, sender, packet->from.sll_addr);
+    return packet->from.sll_hatype != ARPHRD_ETHER || is_station_of(index, sender, packet->from.sll_addr);
 }
 
 /* The sum of the Internet protocols (RFC 1071), which goes on from `sum`. */

@@ -3,6 +3,7 @@ of what holds."""
 import ctypes
 import functools
 import os
+import select
 import shutil
 import signal
 import socket
@@ -261,6 +262,8 @@ def has_own_socket():
 
 def asked_of(liar, id, field, kind=1):
     """What manage prints of a clock that answers its GET by this dataField, or by the error status of this managementErrorId."""
+    while select.select([liar.socket], [], [], 0)[0]:
+        liar.socket.recv(2048)                                  # what an earlier one sent again
     asking = start("manage", "-u", path, "--target", ME + "-1", "get", id, stdout=subprocess.PIPE)
     liar.socket.settimeout(20)
     request, peer = liar.socket.recvfrom(2048)

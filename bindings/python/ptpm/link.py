@@ -16,9 +16,9 @@ MOST_DATAGRAM = 65536
 FULL_TTL = 255
 
 _SO_ATTACH_FILTER, _SO_BINDTODEVICE = 26, 25
-_SOL_PACKET, _PACKET_IGNORE_OUTGOING, _PACKET_HOST = 263, 23, 0
+_SOL_PACKET, _PACKET_IGNORE_OUTGOING, _PACKET_HOST, _ETHERNET = 263, 23, 0, 1
 _ETH_P_IP, _ETH_P_IPV6 = 0x0800, 0x86DD
-_STATION, _IPV6_HEAD, _UDP_HEAD, _DISCARD_PORT = 6, 40, 8, 9
+_IPV6_HEAD, _UDP_HEAD, _DISCARD_PORT = 40, 8, 9
 _PACKETS = 128
 
 # Of netlink (rtnetlink(7)).
@@ -132,10 +132,10 @@ class Packets:
             while True:
                 octets, place = self._socket.recvfrom(MOST_DATAGRAM)
                 if place[2] == _PACKET_HOST:
-                    self._latest.append((octets, place[4]))
+                    self._latest.append((octets, place[4] if place[3] == _ETHERNET else b""))
 
     def stations(self, sender: bytes, copy: bytes) -> Iterator[bytes]:
-        """The hardware addresses of the packets that have the octets of a copy."""
+        """The hardware addresses of the packets that have the octets of a copy. One is empty if the link has none."""
         self._hear()
         for octets, station in list(self._latest):
             begin = _IPV6_HEAD if self._is_six else 0
@@ -197,7 +197,7 @@ class Link:
         if packets is None or self._any_source or not self._is_on(address):
             return True
         stations = list(packets.stations(address.packed, copy))
-        if any(len(station) != _STATION for station in stations):
+        if b"" in stations:
             return True
         neighbour = _neighbour(self._index, address.packed)
         if neighbour is None:
