@@ -44,6 +44,8 @@ static const char help_text[] =
     "  -2, --ethernet          there in frames of IEEE 802.3, and not over UDP\n"
     "      --udp ADDRESS       over UDP to this address, also without --interface\n"
     "      --any-source        hears addresses too that are not on the link, over UDP\n"
+    "      --ttl-security      of unicast over UDP hears only what has TTL 255, as ptpm-clock sends it: no\n"
+    "                          router has passed it on\n"
     "  -u, --unix PATH         at a Unix socket, such as /var/run/ptp4l\n"
     "\n"
     "What is asked of whom:\n"
@@ -101,9 +103,10 @@ static const char site_text[] =
 
 static const char asking_text[] =
     "Who asks, and how often:\n"
-    "  -m, --manager ID-PORT   the manager's own identity and port, below 61440. Otherwise that of the\n"
-    "                          interface, or clock 0 at a Unix socket, at port 1. A survey, and what no\n"
-    "                          file keeps, have a port of this process\n"
+    "  -m, --manager ID-PORT   the manager's own identity and port, below 61440. Otherwise the MAC of\n"
+    "                          the interface with its local bit turned, which is no clock's. At a Unix\n"
+    "                          socket it is clock 0. The port is 1. A survey, and what no file keeps, have\n"
+    "                          a port of this process\n"
     "  -k, --numbers FILE      keeps the session of this manager with this clock from run to run.\n"
     "                          Without it, a file in $XDG_STATE_HOME/ptpm, /var/lib/ptpm or\n"
     "                          ~/.local/state/ptpm does so for a set or a command over UDP or\n"

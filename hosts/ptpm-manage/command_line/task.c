@@ -22,7 +22,7 @@
 #include <unistd.h>
 
 /* Options without a letter of their own, and a word that is none: getopt's for a string that begins with a hyphen. */
-enum { WORD = 1, UDP = 256, TEXT, VERSION, GIVE_UP, JSON, ANY_SOURCE, NAMES, EXPECT, PROBE, STATUS_IF_CHANGES, SKIP_UNREACHED, LIMIT, CHECK, KEEP };
+enum { WORD = 1, UDP = 256, TEXT, VERSION, GIVE_UP, JSON, ANY_SOURCE, TTL_SECURITY, NAMES, EXPECT, PROBE, STATUS_IF_CHANGES, SKIP_UNREACHED, LIMIT, CHECK, KEEP };
 
 /* The same, only for `collect` and `status`. */
 enum site_option {
@@ -39,6 +39,7 @@ enum { SECOND = 1000, DAY = 86400, YEAR = 366 * DAY };
 static const struct option options[] = {
     { "interface", required_argument, NULL, 'i' }, { "udp", required_argument, NULL, UDP }, { "ipv6", no_argument, NULL, '6' },
     { "ethernet", no_argument, NULL, '2' }, { "any-source", no_argument, NULL, ANY_SOURCE },
+    { "ttl-security", no_argument, NULL, TTL_SECURITY },
     { "unix", required_argument, NULL, 'u' }, { "target", required_argument, NULL, 'T' },
     { "port", required_argument, NULL, 'p' }, { "domain", required_argument, NULL, 'd' }, { "sdo", required_argument, NULL, SDO },
     { "hops", required_argument, NULL, 'b' },
@@ -277,6 +278,7 @@ static void take_option(struct task *task, struct words *words, int option, cons
     case '6': task->is_six = true; break;
     case '2': task->is_ethernet = true; break;
     case ANY_SOURCE: task->is_any_source = true; break;
+    case TTL_SECURITY: task->is_near_alone = true; break;
     case 'u': take_once(&task->path, "--unix", value); break;
     case 'T': take_once(&words->target, "--target", value); break;
     case NAMES:

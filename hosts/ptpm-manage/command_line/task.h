@@ -68,6 +68,7 @@ struct task {
     const char *own_socket;                     /* the Unix socket of a clock on this host, asked beside the interfaces of a site, or NULL */
     bool is_six, is_ethernet;                   /* at an interface IPv6, or IEEE 802.3, instead of IPv4 */
     bool is_any_source;                         /* over UDP also what comes from addresses that are not on the link */
+    bool is_near_alone;                         /* and of unicast only what no router has passed on */
     const char *numbers;                        /* the file that keeps the session, or NULL */
     long wait;                                  /* how long a session waits that has no such file yet, in milliseconds */
     long timeout;                               /* how long an answer is waited for, in milliseconds */
