@@ -55,14 +55,14 @@ static int start(const char *file) {
 /* Whether the device has its clock: that of the file, or a fresh one if there is no file. A file that is refused is no reason for a
    fresh one, which would carry out old requests once more. */
 static int go_on(const char *file) {
-    size_t gone, found;
+    size_t gone, found, count;
     int at = open(file, O_RDONLY);
     if (at < 0) return errno == ENOENT && start(file);
     ssize_t size = read(at, image, sizeof image);
     close(at);
     if (size < 0 || ptpm_image_unseal(image, (size_t)size, &saves, &found) != PTPM_RESTORED) return 0;
     return ptpm_clock_restore(&device, identity, 1, &manager, 1, image, found, &gone) == PTPM_RESTORED
-           && ptpm_clock_saving(&device) == PTPM_SAVING;
+           && ptpm_clock_saving(&device) == PTPM_SAVING && save(file, &count);      /* what was read may not last */
 }
 
 int main(int count_of_words, char **words) {

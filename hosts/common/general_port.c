@@ -1,20 +1,26 @@
 #define _GNU_SOURCE
 #include "general_port.h"
 #include "message_places.h"
+#include "netlink.h"
+#include "route.h"
 #include "socket_option.h"
 #include "udp.h"
 #include <arpa/inet.h>
 #include <linux/filter.h>
+#include <linux/if_ether.h>
+#include <linux/if_packet.h>
 #include <linux/inet_diag.h>
 #include <linux/netlink.h>
 #include <linux/sock_diag.h>
+#include <net/if_arp.h>
 #include <netinet/udp.h>
 #include <stddef.h>
 #include <string.h>
 #include <sys/stat.h>
 #include <unistd.h>
 
-enum { FOUR_FROM_AT = 12, FOUR_TO_AT = 16, SIX_TO_AT = 24, GROUPS_FOUR = 0xe0, GROUPS_SIX = 0xff, UPPER_HALF = 0xf0, PORT_AT = 2 };
+enum { FOUR_FROM_AT = 12, FOUR_TO_AT = 16, SIX_FROM_AT = 8, SIX_TO_AT = 24, SIX_HEAD = 40 };
+enum { GROUPS_FOUR = 0xe0, GROUPS_SIX = 0xff, UPPER_HALF = 0xf0, PORT_AT = 2 };
 
 /* Of copies over IPv4, which begin with their IP header: those to port 320 of no group whose messageType is 0xD. */
 static const struct sock_filter wanted_of_four[] = {
@@ -38,6 +44,16 @@ static const struct sock_filter wanted_of_six[] = {
     LETS_IN_MANAGEMENT,
 };
 
+/* The same for packets of IPv6, which begin with their IP header. */
+static const struct sock_filter wanted_packets_of_six[] = {
+    BPF_STMT(BPF_LD | BPF_H | BPF_ABS, SIX_HEAD + PORT_AT),
+    BPF_JUMP(BPF_JMP | BPF_JEQ | BPF_K, GENERAL_PORT, 0, 5),
+    BPF_STMT(BPF_LD | BPF_B | BPF_ABS, SIX_TO_AT),
+    BPF_JUMP(BPF_JMP | BPF_JEQ | BPF_K, GROUPS_SIX, 3, 0),
+    BPF_STMT(BPF_LD | BPF_B | BPF_ABS, SIX_HEAD + sizeof(struct udphdr) + TYPE_AT),
+    LETS_IN_MANAGEMENT,
+};
+
 /* Nothing at all. */
 static const struct sock_filter wanted_of_none[] = { BPF_STMT(BPF_RET | BPF_K, 0) };
 
@@ -45,9 +61,10 @@ static bool set_number(int socket, int level, int option, int value) {
     return setsockopt(socket, level, option, &value, sizeof value) == 0;
 }
 
-/* The kernel is to report of each datagram where it came in, and which address it was sent to. */
+/* The kernel is to report of each datagram where it came in, which address it was sent to, and its TTL. */
 static bool tell_places(int socket, bool is_six) {
-    return is_six ? set_number(socket, IPPROTO_IPV6, IPV6_RECVPKTINFO, 1) : set_number(socket, IPPROTO_IP, IP_PKTINFO, 1);
+    return tell_ttl(socket, is_six)
+           && (is_six ? set_number(socket, IPPROTO_IPV6, IPV6_RECVPKTINFO, 1) : set_number(socket, IPPROTO_IP, IP_PKTINFO, 1));
 }
 
 /* Of the sockets at a port Linux prefers one of IPv4 for what comes by IPv4. Then it prefers one that is bound to an interface, and
@@ -79,6 +96,53 @@ int open_copies(bool is_six) {
                               : set_filter(opened, wanted_of_four, sizeof wanted_of_four / sizeof *wanted_of_four);
     bool is_checked = !is_six || set_number(opened, IPPROTO_IPV6, IPV6_CHECKSUM, offsetof(struct udphdr, uh_sum));
     return is_filtered && is_checked && tell_places(opened, is_six) ? opened : closed(opened);
+}
+
+int open_packets(bool is_six) {
+    const int one = 1;
+    const char *what;
+    int opened = socket(AF_PACKET, SOCK_DGRAM | SOCK_CLOEXEC, htons(is_six ? ETH_P_IPV6 : ETH_P_IP));
+    if (opened < 0) return -1;
+    bool is_filtered = is_six ? set_filter(opened, wanted_packets_of_six, sizeof wanted_packets_of_six / sizeof *wanted_packets_of_six)
+                              : set_filter(opened, wanted_of_four, sizeof wanted_of_four / sizeof *wanted_of_four);
+    return is_filtered && SET_OPTION(opened, SOL_PACKET, PACKET_IGNORE_OUTGOING, one, &what) ? opened : closed(opened);
+}
+
+/* The latest packets. The kernel hands each to this socket before it hears a copy of the datagram, but drops some in between. */
+enum { PACKETS = 128, MOST_PACKET = 2048 };
+static struct packet { struct sockaddr_ll from; size_t size; uint8_t octets[MOST_PACKET]; } latest[PACKETS];
+
+/* Whether a packet has the octets of a copy. Those over IPv6 begin after the IP header; a short packet is padded. */
+static bool has_copy(const struct packet *packet, unsigned index, const struct sockaddr *sender, const uint8_t *copy, size_t size) {
+    const struct in6_addr *six = sender->sa_family == AF_INET6 ? &((const struct sockaddr_in6 *)sender)->sin6_addr : NULL;
+    size_t place = six != NULL ? SIX_HEAD : 0;
+    if ((unsigned)packet->from.sll_ifindex != index || packet->from.sll_pkttype != PACKET_HOST) return false;
+    if (packet->size < place + size || memcmp(packet->octets + place, copy, size) != 0) return false;
+    return six == NULL || memcmp(packet->octets + SIX_FROM_AT, six, sizeof *six) == 0;
+}
+
+/* The packet that a copy came in; NULL if there is none. */
+static struct packet *packet_of(int packets, unsigned index, const struct sockaddr *sender, const uint8_t *copy, size_t size) {
+    static size_t next;
+    for (size_t i = 0; i < PACKETS; i++) {
+        if (has_copy(&latest[i], index, sender, copy, size)) return &latest[i];
+    }
+    for (;;) {
+        struct packet *packet = &latest[next++ % PACKETS];
+        socklen_t room = sizeof packet->from;
+        ssize_t found = recvfrom(packets, packet->octets, sizeof packet->octets, MSG_DONTWAIT, (struct sockaddr *)&packet->from, &room);
+        packet->size = found < 0 ? 0 : (size_t)found;
+        if (found < 0) return NULL;
+        if (has_copy(packet, index, sender, copy, size)) return packet;
+    }
+}
+
+bool is_of_neighbour(int packets, unsigned index, const struct sockaddr *sender, const uint8_t *copy, size_t size) {
+    if (packets < 0 || !is_on_link(index, sender)) return true;
+    struct packet *packet = packet_of(packets, index, sender, copy, size);
+    if (packet == NULL) return false;
+    packet->size = 0;
+    return packet->from.sll_hatype != ARPHRD_ETHER || is_station_of(index, sender, packet->from.sll_addr);
 }
 
 /* The sum of the Internet protocols (RFC 1071), which goes on from `sum`. */

@@ -18,6 +18,14 @@ int open_general_port(bool is_six, bool is_heard);
    It needs the capability CAP_NET_RAW. -1 and errno if it can't be made. */
 int open_copies(bool is_six);
 
+/* A socket that hears the packets with such datagrams as they come in from a link, with the hardware address of who sent them. -1
+   and errno as above. */
+int open_packets(bool is_six);
+
+/* Whether a copy, as it was heard at an interface, was sent by the neighbour who has the sender's address. It counts as that if
+   nobody knows: no packets are heard, the link has no hardware addresses, or the address is of no link. */
+bool is_of_neighbour(int packets, unsigned index, const struct sockaddr *sender, const uint8_t *copy, size_t size);
+
 /* The place of the message in such a copy, and its size in *size, which was that of the copy. 0 if there is none, or its UDP checksum is
    wrong. The sender gets the port that it was sent from. */
 size_t message_in_copy(const uint8_t *octets, size_t *size, struct sockaddr *sender);

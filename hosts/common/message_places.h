@@ -26,7 +26,7 @@ enum {
 /* How many octets a clockIdentity and a portIdentity have. */
 enum { CLOCK_IDENTITY = 8, PORT_IDENTITY = 10 };
 
-/* A half of an octet, messageTypes, the actionField of a response (15.4.1), and the tlvType of a MANAGEMENT_ERROR_STATUS (15.5.4). */
-enum { LOWER_HALF = 0x0f, ANNOUNCE_TYPE = 0xb, MANAGEMENT_TYPE = 0xd, RESPONSE = 2, ERROR_TLV = 2 };
+/* A half of an octet, messageTypes, the actionField of a RESPONSE and of an ACKNOWLEDGE (15.4.1), and the tlvType of a MANAGEMENT_ERROR_STATUS (15.5.4). */
+enum { LOWER_HALF = 0x0f, ANNOUNCE_TYPE = 0xb, MANAGEMENT_TYPE = 0xd, RESPONSE = 2, ACKNOWLEDGE = 4, ERROR_TLV = 2 };
 
 #endif

@@ -1,12 +1,18 @@
-/* The routes of the kernel. */
+/* The routes and the neighbours of the kernel. */
 #ifndef ROUTE_H
 #define ROUTE_H
 
+#include "ethernet.h"
 #include <stdbool.h>
+#include <stdint.h>
 #include <sys/socket.h>
 
 /* Whether a route that is no default route leads to an address over the interface without a gateway. The kernel is asked a hundred
    times a second at most; beyond that the answer is no. */
 bool is_routed_to_link(unsigned index, const struct sockaddr *address);
+
+/* Whether an address belongs to the neighbour at the interface who has this hardware address. What a router passes on has the
+   router's. If the kernel doesn't know who has the address, the answer is no, and the kernel asks the link. */
+bool is_station_of(unsigned index, const struct sockaddr *address, const uint8_t station[STATION]);
 
 #endif

@@ -39,18 +39,36 @@ bool filter_udp(int socket, bool is_management_alone) {
     return set_filter(socket, is_management_alone ? wanted : NULL, sizeof wanted / sizeof *wanted);
 }
 
+bool tell_ttl(int socket, bool is_six) {
+    const int one = 1;
+    return (is_six ? setsockopt(socket, IPPROTO_IPV6, IPV6_RECVHOPLIMIT, &one, sizeof one)
+                   : setsockopt(socket, IPPROTO_IP, IP_RECVTTL, &one, sizeof one)) == 0;
+}
+
+int ttl_in(struct msghdr *head) {
+    int ttl = 0;
+    for (struct cmsghdr *one = CMSG_FIRSTHDR(head); one != NULL; one = CMSG_NXTHDR(head, one)) {
+        bool is_ttl = (one->cmsg_level == IPPROTO_IP && one->cmsg_type == IP_TTL)
+                      || (one->cmsg_level == IPPROTO_IPV6 && one->cmsg_type == IPV6_HOPLIMIT);
+        if (is_ttl) memcpy(&ttl, CMSG_DATA(one), sizeof ttl);
+    }
+    return ttl;
+}
+
 /* From here on what is sent goes out at the interface, and doesn't come back to this host. */
 static bool send_at_four(int socket, unsigned interface, const char **what) {
-    const int none = 0;
+    const int none = 0, full = FULL_TTL;
     const struct ip_mreqn at = { .imr_ifindex = (int)interface };
-    return SET_OPTION(socket, IPPROTO_IP, IP_MULTICAST_IF, at, what) && SET_OPTION(socket, IPPROTO_IP, IP_MULTICAST_LOOP, none, what);
+    return SET_OPTION(socket, IPPROTO_IP, IP_MULTICAST_IF, at, what) && SET_OPTION(socket, IPPROTO_IP, IP_MULTICAST_LOOP, none, what)
+           && SET_OPTION(socket, IPPROTO_IP, IP_TTL, full, what);
 }
 
 static bool send_at_six(int socket, unsigned interface, const char **what) {
-    const int one = 1, none = 0;
+    const int one = 1, none = 0, full = FULL_TTL;
     return SET_OPTION(socket, IPPROTO_IPV6, IPV6_V6ONLY, one, what)
            && SET_OPTION(socket, IPPROTO_IPV6, IPV6_MULTICAST_IF, interface, what)
-           && SET_OPTION(socket, IPPROTO_IPV6, IPV6_MULTICAST_LOOP, none, what);
+           && SET_OPTION(socket, IPPROTO_IPV6, IPV6_MULTICAST_LOOP, none, what)
+           && SET_OPTION(socket, IPPROTO_IPV6, IPV6_UNICAST_HOPS, full, what);
 }
 
 /* Only management messages come in at the socket, which hears nothing until it is bound. */
@@ -99,7 +117,8 @@ static bool bind_alone(int socket, const char *interface, bool is_six, const cha
     struct sockaddr_storage any = { .ss_family = is_six ? AF_INET6 : AF_INET };
     if (!stay_at(socket, interface, is_six, what)) return false;
     *what = "a UDP port";
-    return bind(socket, (const struct sockaddr *)&any, is_six ? sizeof(struct sockaddr_in6) : sizeof(struct sockaddr_in)) == 0;
+    socklen_t size = is_six ? sizeof(struct sockaddr_in6) : sizeof(struct sockaddr_in);
+    return tell_ttl(socket, is_six) && bind(socket, (const struct sockaddr *)&any, size) == 0;
 }
 
 /* A socket that a step makes ready. */

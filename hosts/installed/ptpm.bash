@@ -90,14 +90,14 @@ _ptpm_offer_applies() {
 
 _ptpm_manage() {
     local before=${COMP_WORDS[COMP_CWORD - 1]}
-    local -a actions=(get set command survey collect status plan apply resume rollback)
+    local -a actions=(get set command survey collect status plan apply resume rollback applies)
     case $before,${COMP_WORDS[COMP_CWORD]} in
     *,-*) _ptpm_offer_lines < <(_ptpm_options ptpm-manage) ;;
     get,* | survey,*) _ptpm_offer_lines < <(_ptpm_ids && _ptpm_other_ids) ;;
     set,* | command,*) _ptpm_offer_lines < <(_ptpm_ids) ;;
     -i,* | --interface,*) _ptpm_offer_interfaces ;;
     -p,* | --port,*) _ptpm_offer all ;;
-    rollback,*) _ptpm_offer_applies ;;
+    rollback,* | applies,*) _ptpm_offer_applies ;;
     plan,* | apply,*) ;;
     --max-offset,*) _ptpm_offer none ;;
     --profile,*) _ptpm_offer_profiles ;;

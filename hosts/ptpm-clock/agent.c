@@ -373,6 +373,7 @@ void observe(char *text) {
     enum ptpm_observed answer = ptpm_clock_observe(&clock_held, &observation.clock, observation.ports, observation.port_count,
                                                    &left);
     count_observation(answer == PTPM_OBSERVED);
+    if (answer == PTPM_OBSERVED) note_observation(&observation);
     if (is_saving && answer == PTPM_OBSERVED) {
         ptpm_clock_observe(&clock_before, &observation.clock, observation.ports, observation.port_count, &(uint8_t){ 0 });
     }

@@ -118,6 +118,7 @@ static void run_program(char *const *words, int children) {
         report_run(RUN_NOT_STARTED, errno);
         return;
     }
+    report_run(RUN_BEGUN, run_started);
     bool is_in_time = wait_for_run(children);
     if (!is_in_time) report_run(RUN_TOOK_TOO_LONG, 0);
     kill_run();
@@ -229,9 +230,14 @@ bool start_run(const struct ptpm_question *asked) {
 }
 
 bool end_run(struct run *run) {
+    static pid_t under_way;                 /* the run, whose processes are one group */
     ssize_t size = recv(beside, run, sizeof *run, MSG_DONTWAIT);
-    if (size == (ssize_t)sizeof *run) return true;
+    if (size == (ssize_t)sizeof *run) {
+        under_way = run->end == RUN_BEGUN ? run->number : 0;
+        return under_way == 0;
+    }
     if (size < 0 && (errno == EAGAIN || errno == EINTR)) return false;
+    if (under_way > 0) kill(-under_way, SIGKILL);       /* the kernel ends the program itself, but nothing that it has started */
     say("--ask %s: the process that runs it is gone", path);
     end_output();
     exit(2);

@@ -9,8 +9,8 @@
 #include <stdbool.h>
 
 /* What became of a run. It exited with a status, a signal ended it, or its time was up. Or it could not be started, as an errno
-   says. */
-enum run_end { RUN_EXITED, RUN_KILLED, RUN_TOOK_TOO_LONG, RUN_NOT_STARTED };
+   says. Before that it has begun, with the number of its process. */
+enum run_end { RUN_EXITED, RUN_KILLED, RUN_TOOK_TOO_LONG, RUN_NOT_STARTED, RUN_BEGUN };
 
 struct run { enum run_end end; int number; };
 

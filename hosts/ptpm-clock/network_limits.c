@@ -6,6 +6,7 @@
 #include "output.h"
 #include "program.h"
 #include "shares.h"
+#include "udp.h"
 #include <errno.h>
 #include <string.h>
 #include <sys/random.h>
@@ -43,8 +44,10 @@ void say_deaf_ports(void) {
 }
 
 bool admit_datagram(const struct heard *heard) {
-    if (heard->port == NULL || limits.is_any_source || transport == ETHERNET) return true;
-    if (is_on_link(heard->port->index, &heard->sender.any)) return true;
+    if (heard->port == NULL || transport == ETHERNET) return true;
+    bool is_near = !limits.is_near || !heard->is_unicast || heard->ttl == FULL_TTL;
+    bool is_of_link = !heard->is_passed_on && is_on_link(heard->port->index, &heard->sender.any);
+    if (is_near && (limits.is_any_source || is_of_link)) return true;
     kept_back.strangers++;
     return false;
 }
@@ -94,10 +97,16 @@ static bool admit_copies(const struct heard *heard, uint64_t now) {
 
 /* Answers to programs of this host are not counted, nor those to requests of managers, which were counted as they came in. */
 static bool admit_answer(const struct heard *heard, uint32_t answer, uint64_t now) {
-    if (heard->port == NULL || answer != PTPM_ANSWERED_UNNUMBERED) return true;
-    if (take_share(&answers[ingress_of(heard) - 1], heard, now)) return true;
+    if (heard->port == NULL || answer != PTPM_ANSWERED_UNNUMBERED || heard->share == HAS_SHARE) return true;
+    if (heard->share == NO_SHARE_ASKED && take_share(&answers[ingress_of(heard) - 1], heard, now)) return true;
     kept_back.unanswered++;
     return false;
+}
+
+bool admit_answer_ahead(struct heard *heard, const uint8_t own[8]) {
+    if (heard->port == NULL || is_of_manager(heard, own)) return true;
+    heard->share = take_share(&answers[ingress_of(heard) - 1], heard, time_now()) ? HAS_SHARE : OVER_RATE;
+    return heard->share == HAS_SHARE;
 }
 
 size_t keep_back(const struct heard *heard, uint32_t answer, const struct ptpm_sent *sent, size_t count,

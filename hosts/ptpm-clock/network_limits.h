@@ -16,6 +16,7 @@ struct limits {
     bool is_passed_on;                  /* messages are forwarded between the ports */
     bool is_passed_on_from_host;        /* and those of programs of this host */
     bool is_any_source;                 /* also from addresses that are not on the link */
+    bool is_near;                       /* of unicast only what no router has passed on (RFC 5082) */
     const struct ptpm_manager_settings *managers;
     size_t manager_count;
 };
@@ -28,8 +29,7 @@ void start_limits(const struct limits *given);
 /* Says at which interfaces nobody is heard, since they have no address whose network a sender could be in. */
 void say_deaf_ports(void);
 
-/* Whether a datagram is heard at all: it comes from an address on the link, or any may, or from a program of this host. One that is not
-   is counted. */
+/* Whether a datagram is heard at all: it comes from a program of this host, from a neighbour at his own address, or any may. One that is not is counted. */
 bool admit_datagram(const struct heard *heard);
 
 /* Whether it is from a manager and only for this clock, so that it may be answered as a numbered request, and be saved. Nobody can
@@ -41,6 +41,9 @@ struct ptpm_manager_settings sender_of(const struct heard *heard);
 
 /* Whether such a datagram is taken: its sender has not sent too many, or is a program of this host. One that is not is counted. */
 bool admit_manager(const struct heard *heard);
+
+/* Whether the answer to a GET is within the rate, before its value is read. Then it is not asked again. */
+bool admit_answer_ahead(struct heard *heard, const uint8_t own[8]);
 
 /* Counts one that finds no room. */
 void count_manager_dropped(void);

@@ -21,14 +21,16 @@ enum { SECOND = 1000, HOPS_AT_FIRST = 8, RATE_AT_FIRST = 1000, MANAGER_RATE_AT_F
 
 /* Options without a letter of their own. */
 enum {
-    VERSION = 256, HOPS, RATE, MANAGER_RATE, NO_FORWARD, ANY_SOURCE, USER, UNIX_GROUP, UNIX_MODE, OWNER, NO_FILTER, LIMITS, ASK, ASK_TIME, GIVE
+    VERSION = 256, HOPS, RATE, MANAGER_RATE, NO_FORWARD, ANY_SOURCE, TTL_SECURITY, USER, UNIX_GROUP, UNIX_MODE, OWNER, NO_FILTER, LIMITS,
+    ASK, ASK_TIME, GIVE
 };
 
 static const struct option names[] = {
     { "ipv6", no_argument, NULL, '6' }, { "ethernet", no_argument, NULL, '2' }, { "hops", required_argument, NULL, HOPS },
     { "rate", required_argument, NULL, RATE }, { "manager-rate", required_argument, NULL, MANAGER_RATE },
     { "no-forward", no_argument, NULL, NO_FORWARD },
-    { "any-source", no_argument, NULL, ANY_SOURCE }, { "user", required_argument, NULL, USER },
+    { "any-source", no_argument, NULL, ANY_SOURCE }, { "ttl-security", no_argument, NULL, TTL_SECURITY },
+    { "user", required_argument, NULL, USER },
     { "unix-group", required_argument, NULL, UNIX_GROUP }, { "unix-mode", required_argument, NULL, UNIX_MODE },
     { "owner", required_argument, NULL, OWNER },
     { "limits", required_argument, NULL, LIMITS }, { "ask", required_argument, NULL, ASK },
@@ -62,6 +64,7 @@ static const char help[] =
     "                      managers (1000). Each address has a few more\n"
     "  --manager-rate N    how many requests of managers a port takes a second (100). Each address has a few more\n"
     "  --any-source        datagrams from addresses that are not on the link are heard too\n"
+    "  --ttl-security      of what comes by unicast, only datagrams with TTL 255 are heard: no router has passed them on\n"
     "\n"
     "  -s, --state FILE    the clock is saved to FILE before it answers, and goes on from FILE at its next start\n"
     "  -o FILE             what the clock observes, like a servo: a file, which is read at the start and whenever it is\n"
@@ -194,6 +197,7 @@ static void take_limit(struct options *options, int option) {
     case MANAGER_RATE: options->limits.manager_rate = number("--manager-rate", 1, MOST_RATE); break;
     case NO_FORWARD: options->limits.is_passed_on = false; break;
     case ANY_SOURCE: options->limits.is_any_source = true; break;
+    case TTL_SECURITY: options->limits.is_near = true; break;
     case USER: take_user(&options->privileges); break;
     case UNIX_GROUP: options->meeting.group = group_named(); break;
     case UNIX_MODE: options->meeting.mode = mode(); break;

@@ -95,7 +95,7 @@ static const unsigned allowed[] = {
     SYS_clone, SYS_clone3, SYS_set_robust_list, SYS_rseq, SYS_sched_yield, SYS_munmap, SYS_mremap, SYS_mprotect, SYS_madvise,
     SYS_brk,
     SYS_timerfd_settime, SYS_getrandom, SYS_gettimeofday, SYS_clock_nanosleep, SYS_nanosleep, SYS_rt_sigaction, SYS_rt_sigprocmask,
-    SYS_rt_sigreturn, SYS_restart_syscall, SYS_getpid, SYS_gettid, SYS_tgkill, SYS_getuid, SYS_geteuid, SYS_exit, SYS_exit_group,
+    SYS_rt_sigreturn, SYS_restart_syscall, SYS_getpid, SYS_gettid, SYS_tgkill, SYS_kill, SYS_getuid, SYS_geteuid, SYS_exit, SYS_exit_group,
 #ifdef SYS_renameat
     SYS_renameat,
 #else

@@ -11,7 +11,7 @@
 enum { PLACES = ROUND + PTPM_MOST_SENT, LEAST_JOINED = 8, MOST_JOINED = 64, MOST_OCTETS = 60000 };
 
 /* What the kernel reports of, or gets for, a datagram's addresses. */
-struct control { _Alignas(struct cmsghdr) char octets[CMSG_SPACE(sizeof(struct in6_pktinfo))]; };
+struct control { _Alignas(struct cmsghdr) char octets[CMSG_SPACE(sizeof(struct in6_pktinfo)) + CMSG_SPACE(sizeof(int))]; };
 
 /* A message that is to go out. */
 struct outgoing { const struct ptpm_sent *message; const struct heard *answered; };
@@ -60,6 +60,9 @@ static void take_head(struct heard *heard, const struct port *port, struct mmsgh
     heard->port = port;
     heard->is_of_owner = false;
     heard->is_unicast = port == NULL;
+    heard->is_passed_on = false;
+    heard->ttl = 0;
+    heard->share = NO_SHARE_ASKED;
 }
 
 static bool take_heard(struct heard *heard, const struct port *port, struct mmsghdr *message) {
@@ -76,7 +79,11 @@ static void take_inner_address(struct heard *heard) {
     heard->sender_size = sizeof heard->sender.four;
 }
 
+/* The socket that hears the packets with copies. */
+static int packets = -1;
+
 static bool take_copy(struct heard *heard) {
+    heard->is_passed_on = !is_of_neighbour(packets, heard->port->index, &heard->sender.any, heard->octets, heard->size);
     size_t size = heard->size, place = message_in_copy(heard->octets, &size, &heard->sender.any);
     if (place == 0) return false;
     heard->octets += place;
@@ -89,6 +96,7 @@ static bool take_of_host(struct heard *heard, const struct port *none, struct mm
     heard->own_four = (struct in_pktinfo){ 0 };
     heard->own_six = (struct in6_pktinfo){ 0 };
     take_control(heard, &message->msg_hdr);
+    heard->ttl = ttl_in(&message->msg_hdr);
     take_inner_address(heard);
     if (heard->sender.any.sa_family != (transport == UDP_IPV6 ? AF_INET6 : AF_INET)) return false;
     heard->port = port_at(transport == UDP_IPV6 ? heard->own_six.ipi6_ifindex : (unsigned)heard->own_four.ipi_ifindex);
@@ -138,7 +146,8 @@ static size_t hear(taker *take, const struct port *port, int socket, struct hear
 
 size_t hear_round(const struct port *port, int socket, struct heard heard[ROUND]) { return hear(take_heard, port, socket, heard); }
 
-size_t hear_host(int socket, bool is_copied, struct heard heard[ROUND]) {
+size_t hear_host(int socket, bool is_copied, int packets_of_host, struct heard heard[ROUND]) {
+    packets = packets_of_host;
     return hear(is_copied ? take_copied : take_of_host, NULL, socket, heard);
 }
 

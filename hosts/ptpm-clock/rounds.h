@@ -32,6 +32,9 @@ struct heard {
     const struct port *port;            /* that of the interface; NULL on the Unix socket */
     bool is_of_owner;                   /* it came in at the socket of the device's owner */
     bool is_unicast;                    /* it was sent only to this host, and the answer goes only to its sender */
+    bool is_passed_on;                  /* such a datagram came from another neighbour than the one who has its sender's address */
+    int ttl;                            /* 0 if it isn't known */
+    enum { NO_SHARE_ASKED, HAS_SHARE, OVER_RATE } share;     /* whether its answer is within the rate, if that was asked ahead */
     struct in_pktinfo own_four;         /* the address that it was sent to */
     struct in6_pktinfo own_six;
 };
@@ -43,9 +46,9 @@ static inline uint16_t ingress_of(const struct heard *heard) { return heard->por
    round. */
 size_t hear_round(const struct port *port, int socket, struct heard heard[ROUND]);
 
-/* The same at a socket of what is sent to this host by unicast, which may hear copies of it (general_port.h). What comes in at no
-   interface of a port is left out. */
-size_t hear_host(int socket, bool is_copied, struct heard heard[ROUND]);
+/* The same at a socket of what is sent to this host by unicast. It may hear copies of it, whose packets are heard at another one
+   (general_port.h). What comes in at no interface of a port is left out. */
+size_t hear_host(int socket, bool is_copied, int packets, struct heard heard[ROUND]);
 
 /* The places of a turn's messages, PTPM_MOST_SENT of them. NULL if there are fewer: then what is to go out has to be sent first. */
 struct ptpm_sent *places_to_send(void);

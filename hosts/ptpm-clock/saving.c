@@ -26,6 +26,8 @@ static size_t size_of_file;         /* of what is saved */
 static unsigned long begun;         /* when that was begun, in microseconds */
 bool is_unsaved, is_saving;
 static struct saves saves;
+static struct observation unsaved;  /* what was observed since the image that the file has, */
+static struct observation later;    /* and since the latest image was made */
 
 _Noreturn static void end_with(int status) {
     end_output();
@@ -165,11 +167,15 @@ static bool fill_octets(const struct ptpm_clock *clock) {
     begun = microseconds();
     if (ptpm_clock_image(clock, octets, PTPM_CLOCK_IMAGE_OCTETS, &size) != PTPM_SAVED) return false;
     size_of_file = write_seal(octets, size, saves_of_file + 1);
+    later = (struct observation){ 0 };
     return true;
 }
 
 static void count_outcome(enum replaced answer) {
-    if (answer != NOT_REPLACED) saves_of_file++;
+    if (answer != NOT_REPLACED) {
+        saves_of_file++;
+        unsaved = later;
+    }
     if (answer == REPLACED) count_save(size_of_file, microseconds() - begun);
     else saves.failed++;
 }
@@ -196,15 +202,22 @@ bool may_save(void) {
 
 void note_change(void) { is_unsaved = options->state != NULL; }
 
+void note_observation(const struct observation *observation) {
+    add_observation(&unsaved, observation);
+    add_observation(&later, observation);
+}
+
 /* What becomes of the clock after a save; whether nothing is unsaved. After an uncertain save the store holds what was to be saved,
    but may lose it with the power. So no message leaves before it is saved. */
 static bool go_on_after(struct ptpm_clock *clock, enum replaced answer) {
     size_t size;
+    uint8_t left;
     is_unsaved = answer == IN_DOUBT;
     if (answer == REPLACED) return true;
     say_at_times("%s%s: nothing is answered: %s", options->state, kept_fault(), strerror(errno));
     if (!read_state(&size)) refuse_file("it is gone");
     restore(clock, size);
+    ptpm_clock_observe(clock, &unsaved.clock, unsaved.ports, unsaved.port_count, &left);
     return false;
 }
 

@@ -4,6 +4,7 @@
 #ifndef SAVING_H
 #define SAVING_H
 
+#include "observation.h"
 #include "options.h"
 #include "ptpm.h"
 #include <stdbool.h>
@@ -23,8 +24,12 @@ extern bool is_unsaved;
 /* Notes that a turn has changed what is to be saved. */
 void note_change(void);
 
+/* Notes what the clock has observed. */
+void note_observation(const struct observation *observation);
+
 /* Saves what is not saved; whether there is nothing to save after that. If a save fails, the clock is the one that the file
-   has, and standard error says why. Then nothing that waits is to be sent. Ends the program if the file can't be read then. */
+   has, with what was observed since, and standard error says why. Then nothing that waits is to be sent. Ends the program if the
+   file can't be read then. */
 bool save_changes(struct ptpm_clock *clock);
 
 /* Begins to save the clock, which a thread does; whether it is begun. Then nothing counts as unsaved, but what shows the changes is

@@ -6,7 +6,7 @@
 #include <unistd.h>
 
 /* The port itself, from which nothing is read while copies are heard: anyone who asks gets no ICMP message that nobody is there. */
-static int general = -1, copies = -1;
+static int general = -1, copies = -1, packets = -1;
 static bool is_of_another[PORTS];       /* what was said last of each port */
 
 static bool is_six(void) { return transport == UDP_IPV6; }
@@ -39,14 +39,16 @@ void renew_unicast(void) {
 
 void open_unicast(void) {
     if (port_count > 0 && transport != ETHERNET) copies = open_copies(is_six());
+    if (copies >= 0) packets = open_packets(is_six());
     renew_unicast();
 }
 
 int unicast_socket(void) { return copies >= 0 ? copies : general; }
 
-size_t hear_unicast(struct heard heard[ROUND]) { return hear_host(unicast_socket(), copies >= 0, heard); }
+size_t hear_unicast(struct heard heard[ROUND]) { return hear_host(unicast_socket(), copies >= 0, packets, heard); }
 
 void close_unicast(void) {
     if (general >= 0) close(general);
     if (copies >= 0) close(copies);
+    if (packets >= 0) close(packets);
 }

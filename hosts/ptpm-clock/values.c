@@ -1,6 +1,7 @@
 #define _GNU_SOURCE
 #include "values.h"
 #include "message_places.h"
+#include "network_limits.h"
 #include "output.h"
 #include "source.h"
 #include <errno.h>
@@ -60,12 +61,13 @@ static const char *read_value(const char *path, struct ptpm_say *say) {
     return NULL;
 }
 
-const struct ptpm_say *value_to_give(const struct ptpm_clock *clock, const struct heard *heard) {
+const struct ptpm_say *value_to_give(const struct ptpm_clock *clock, struct heard *heard) {
     static struct ptpm_say say_value;
     struct ptpm_question asked;
     size_t place = value_named(heard);
     if (place == options->value_count) return NULL;
     if (ptpm_clock_ask(clock, ingress_of(heard), heard->octets, heard->size, &asked) != PTPM_ASKED_VALUE) return NULL;
+    if (!admit_answer_ahead(heard, options->settings.identity)) return NULL;
     const char *path = options->values[place].path, *fault = read_value(path, &say_value);
     if (fault != NULL && !is_told[place]) say_at_times("%s: %s, and a GET of %04x is answered with NO_SUCH_ID", path, fault, asked.id);
     is_told[place] = fault != NULL;

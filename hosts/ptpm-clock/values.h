@@ -15,6 +15,6 @@ void start_values(const struct options *given);
 
 /* What the device says of a datagram that came in at this clock. That is the value that it is asked for, as its file has
    it now. NULL if it says nothing. A file without a value is said once. What is returned stays until the next call. */
-const struct ptpm_say *value_to_give(const struct ptpm_clock *clock, const struct heard *heard);
+const struct ptpm_say *value_to_give(const struct ptpm_clock *clock, struct heard *heard);
 
 #endif

@@ -23,7 +23,7 @@ const char program[] = "ptpm-manage";
 
 /* Asks it. */
 static int ask(struct task *task) {
-    bool sends_nothing = task->plan.verb == RESUME && task->is_letting_go;
+    bool sends_nothing = task->plan.verb == APPLIES || (task->plan.verb == RESUME && task->is_letting_go);
     if (!sends_nothing) find_transport(task);
     if (task->plan.verb != NO_PLAN) return change_site(task);
     int status = task->is_survey ? ANSWERED : judge_request(task);

@@ -1,3 +1,4 @@
+#define _GNU_SOURCE
 #include "notices.h"
 #include "program.h"
 #include <stdarg.h>
@@ -10,10 +11,14 @@
 
 enum { MOST_PROGRESS = 256 };
 
-/* The statuses of a program that asked nothing; of a plugin 2 says that the site is in a critical state. */
-enum { NOT_DONE = 2, UNKNOWN = 3 };
+/* Of a plugin status 2 says that the site is in a critical state. */
+enum { UNKNOWN = 3 };
 
-static bool is_quiet, is_shown, is_plugin;
+static bool is_quiet, is_shown;
+
+/* What becomes of what is refused. */
+static enum status refused = NOT_ASKED, usage_refused = NOT_ASKED, storage_refused = NOT_ASKED;
+static void (*say_refused)(enum status status, const char *why);
 
 /* What lines of progress begin with. */
 static char heading[MOST_PROGRESS];
@@ -32,24 +37,49 @@ void complain(const char *format, ...) {
     va_end(values);
 }
 
+_Noreturn static void end_refused(enum status status, const char *format, va_list values) {
+    char *why;
+    if (vasprintf(&why, format, values) < 0) give_up("a notice");
+    complain("%s", why);
+    if (say_refused != NULL) say_refused(status, why);
+    exit((int)status);
+}
+
 _Noreturn void refuse(const char *format, ...) {
     va_list values;
     va_start(values, format);
-    say(format, values);
-    va_end(values);
-    if (!is_plugin) exit(NOT_DONE);
-    va_start(values, format);
-    printf("PTP UNKNOWN - ");
-    vprintf(format, values);
-    putchar('\n');
-    va_end(values);
-    exit(UNKNOWN);
+    end_refused(refused, format, values);
 }
+
+_Noreturn void refuse_usage(const char *format, ...) {
+    va_list values;
+    va_start(values, format);
+    end_refused(usage_refused, format, values);
+}
+
+_Noreturn void refuse_storage(const char *format, ...) {
+    va_list values;
+    va_start(values, format);
+    end_refused(storage_refused, format, values);
+}
+
+void refuse_as(enum status status) {
+    refused = status;
+    storage_refused = NOT_WRITTEN;
+}
+
+void refuse_also(void (*say_it)(enum status status, const char *why)) { say_refused = say_it; }
 
 static void say_unknown(const char *what, const char *why) { printf("PTP UNKNOWN - %s: %s\n", what, why); }
 
+static void refuse_unknown(enum status status, const char *why) {
+    (void)status;
+    printf("PTP UNKNOWN - %s\n", why);
+}
+
 void be_plugin(void) {
-    is_plugin = true;
+    refused = usage_refused = storage_refused = (enum status)UNKNOWN;
+    refuse_also(refuse_unknown);
     end_otherwise(UNKNOWN, say_unknown);
 }
 
@@ -93,6 +123,14 @@ void head_progress(const char *format, ...) {
     vsnprintf(heading, sizeof heading, format, values);
     va_end(values);
     if (*heading != '\0') show(heading, "", "");
+}
+
+void log_progress(const char *format, ...) {
+    va_list values;
+    if (is_quiet || isatty(STDERR_FILENO)) return;
+    va_start(values, format);
+    say(format, values);
+    va_end(values);
 }
 
 void clear_progress(void) {

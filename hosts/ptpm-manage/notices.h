@@ -2,14 +2,27 @@
 #ifndef NOTICES_H
 #define NOTICES_H
 
-/* The status with which the program ends. */
-enum status { ANSWERED = 0, REFUSED = 1, NOT_ASKED = 2, NOT_ANSWERED = 3, NOT_WRITTEN = 4, NOT_AS_ASKED = 5, BY_SIGNAL = 128 };
+/* The status with which the program ends. Those from LEFT_OPEN to HAS_CHANGES are of `plan` and what follows it. */
+enum status {
+    ANSWERED = 0, REFUSED = 1, NOT_ASKED = 2, NOT_ANSWERED = 3, NOT_WRITTEN = 4, NOT_AS_ASKED = 5, LEFT_OPEN = 6, IN_PART = 7, HAS_CHANGES = 8,
+    BY_SIGNAL = 128
+};
 
 /* A line after the program's name. */
 __attribute__((format(printf, 1, 2))) void complain(const char *format, ...);
 
 /* The same, and the program ends with status 2: nothing was asked or sent. */
 _Noreturn __attribute__((format(printf, 1, 2))) void refuse(const char *format, ...);
+
+/* The same for what the user asks, which is to be asked otherwise; and for a file that can't be read or written. */
+_Noreturn __attribute__((format(printf, 1, 2))) void refuse_usage(const char *format, ...);
+_Noreturn __attribute__((format(printf, 1, 2))) void refuse_storage(const char *format, ...);
+
+/* From now on the program ends with this status after `refuse`, and with NOT_WRITTEN after `refuse_storage`. */
+void refuse_as(enum status status);
+
+/* From now on what is refused is passed on there too. */
+void refuse_also(void (*say)(enum status status, const char *why));
 
 /* From now on this program is a plugin of Nagios: what it refuses is said on standard output too, and it ends with status 3. */
 void be_plugin(void);
@@ -22,6 +35,9 @@ __attribute__((format(printf, 1, 2))) void show_progress(const char *format, ...
 
 /* Shows a line too, and each line of progress after it begins with this one, until another one is shown so. An empty text ends that. */
 __attribute__((format(printf, 1, 2))) void head_progress(const char *format, ...);
+
+/* Says what progress was made, if standard error is no terminal: a line after the program's name. */
+__attribute__((format(printf, 1, 2))) void log_progress(const char *format, ...);
 
 /* Takes that line away. It comes before what is printed otherwise. */
 void clear_progress(void);

@@ -15,7 +15,7 @@
 #include <sys/wait.h>
 #include <unistd.h>
 
-enum { PART = 65536, TURN = 1000, FAULT = 1, BESIDE = 3 };
+enum { PART = 65536, TURN = 1000, AGAIN = 20, FAULT = 1, BESIDE = 3 };
 
 static char ptpm_program[2 * PATH_MAX];
 
@@ -75,7 +75,7 @@ static bool start_program(pid_t *process, char *const *arguments, const struct e
     posix_spawnattr_setsigmask(&attributes, &none);
     posix_spawnattr_setsigdefault(&attributes, &usual);
     posix_spawnattr_setflags(&attributes, POSIX_SPAWN_SETSIGMASK | POSIX_SPAWN_SETSIGDEF);
-    errno = posix_spawn(process, ptpm_program, &files, &attributes, arguments, environ);
+    errno = posix_spawn(process, arguments[0], &files, &attributes, arguments, environ);
     posix_spawn_file_actions_destroy(&files);
     posix_spawnattr_destroy(&attributes);
     return errno == 0;
@@ -107,7 +107,7 @@ static int status_of(pid_t process) {
         if (errno != EINTR) return FAULT;
     }
     if (WIFEXITED(status)) return WEXITSTATUS(status);
-    if (!stopped) complain("%s was ended by signal %d", ptpm_program, WTERMSIG(status));
+    if (!stopped) complain("a program was ended by signal %d", WTERMSIG(status));
     return FAULT;
 }
 
@@ -126,6 +126,24 @@ static bool open_ends(struct ends *ends, int *output, const struct given *given)
     *output = both[0];
     ends->to = both[1];
     return true;
+}
+
+/* Waits for it, also while it works for long, until a signal asks this program to end. */
+static int status_at_end(pid_t process) {
+    siginfo_t ended = { 0 };
+    while (!stopped && waitid(P_PID, (id_t)process, &ended, WEXITED | WNOHANG | WNOWAIT) == 0 && ended.si_pid == 0) wait_for(NULL, 0, AGAIN);
+    return status_of(process);
+}
+
+int run_check_program(const char *path) {
+    struct ends ends = { open("/dev/null", O_RDONLY | O_CLOEXEC), STDERR_FILENO, -1 };
+    char *arguments[] = { (char *)path, NULL };
+    pid_t process;
+    clear_progress();
+    bool has_started = ends.from >= 0 && start_program(&process, arguments, &ends);
+    if (!has_started) complain("%s: %s", path, strerror(errno));
+    close_end(&ends.from);
+    return has_started ? status_at_end(process) : FAULT;
 }
 
 int run_ptpm_program(char **arguments, const struct given *given, struct printed *printed) {

@@ -19,4 +19,7 @@ struct given { const struct piece *lines, *beside; size_t count; };
    normally, which is said. */
 int run_ptpm_program(char **arguments, const struct given *given, struct printed *printed);
 
+/* Runs another program, without words. What it prints goes to standard error. Its status, or 1 if it did not end normally, which is said. */
+int run_check_program(const char *path);
+
 #endif

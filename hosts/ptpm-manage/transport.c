@@ -13,6 +13,7 @@
 #include "stopping.h"
 #include "udp.h"
 #include "unix_socket.h"
+#include "words.h"
 #include <arpa/inet.h>
 #include <errno.h>
 #include <ifaddrs.h>
@@ -46,10 +47,12 @@ static struct end ends[MOST_INTERFACES];
 static size_t end_count;
 static struct end own_clock = { .socket = -1, .asking = -1, .events = -1 };        /* a Unix socket to ask the one on this host */
 static struct sockaddr_un own_clock_address = { .sun_family = AF_UNIX };
-static int copies = -1;         /* of what comes by unicast to UDP port 320 of this host; -1 if the program may hear none */
+/* What hears copies of what comes by unicast to UDP port 320 of this host, and their packets; -1 if the program may hear none. */
+static int copies = -1, packets = -1;
 /* What the transport is called in a notice. */
 static char name[MOST_INTERFACES * (IFNAMSIZ + 2) + sizeof ((struct sockaddr_un *)0)->sun_path];
 static bool is_six, is_ethernet, is_any_source;
+static bool is_near_alone;      /* of unicast only what no router has passed on is taken (RFC 5082) */
 static bool has_link_group;     /* over Ethernet clocks of 802.1AS are heard too */
 static bool is_to_one;          /* messages go to one address, and not to a group */
 static bool has_several_ways;   /* several interfaces were named, or one and a Unix socket */
@@ -120,6 +123,16 @@ static bool write_own_identity(uint8_t identity[8], const char *interface) {
     return is_read;
 }
 
+/* That with its universal/local bit turned, as IPv6 does. A clock of this host, such as a ptp4l, has it as it is, and no manager may have
+   the clockIdentity of a clock. */
+static void turn_local_bit(uint8_t identity[8]) { identity[0] ^= 0x02; }
+
+bool former_identity(uint8_t identity[8]) {
+    if (ends[0].interface == NULL) return false;
+    turn_local_bit(identity);
+    return true;
+}
+
 bool own_identity(size_t place, uint8_t identity[8]) {
     return place < end_count && ends[place].interface != NULL && write_own_identity(identity, ends[place].interface);
 }
@@ -134,6 +147,7 @@ static void find_udp(const struct task *task) {
     is_six = task->is_six;
     is_to_one = task->address != NULL;
     is_any_source = task->is_any_source;
+    is_near_alone = task->is_near_alone;
     if (task->address == NULL) {
         clock_size = group(&clock_address, is_six);
         return;
@@ -165,7 +179,9 @@ static void find_at_interfaces(struct task *task) {
         size = strlen(name);
         snprintf(name + size, sizeof name - size, ", %s", ends[i].interface);
     }
-    if (!task->has_manager && !write_own_identity(task->settings.clock, ends[0].interface)) give_up(ends[0].interface);
+    if (task->has_manager) return;
+    if (!write_own_identity(task->settings.clock, ends[0].interface)) give_up(ends[0].interface);
+    turn_local_bit(task->settings.clock);
 }
 
 static void find_unix(const struct task *task) {
@@ -283,6 +299,7 @@ void open_transport(const struct task *task) {
     if (task->path != NULL) ends[0] = (struct end){ .socket = open_beside(task->path), .asking = -1, .events = -1 };
     for (size_t i = 0; i < end_count && task->path == NULL; i++) open_at_interface(&ends[i]);
     if (task->path == NULL && !is_ethernet) copies = open_copies(is_six);
+    if (copies >= 0) packets = open_packets(is_six);
     has_several_ways = end_count > 1 || task->own_socket != NULL;
     if (task->own_socket != NULL && !ask_own_clock(task->own_socket)) refuse("nothing was sent: %s: no clock is there", task->own_socket);
 }
@@ -299,9 +316,17 @@ void widen_transport(void) {
         if (ends[i].asking >= 0) widen(ends[i].asking);
     }
     if (copies >= 0) widen(copies);
+    if (packets >= 0) widen(packets);
 }
 
+/* The latest sender of a copy that another neighbour sent. */
+static char passed_on[INET6_ADDRSTRLEN];
+
 void tell_deaf_port(void) {
+    if (*passed_on != '\0') {
+        complain("what came from %s to UDP port 320 of this host alone is not taken: another machine sent it, or nobody is there",
+                 passed_on);
+    }
     if (copies >= 0 || is_ethernet || ends[0].interface == NULL) return;
     complain("a clock that answers to UDP port 320 of this host alone isn't heard: it takes root, or the capability CAP_NET_RAW");
 }
@@ -372,12 +397,11 @@ static ssize_t send_datagram(const struct end *end, const uint8_t *octets, size_
 
 /* A clock of this host may have the identity of the one who asks, and heeds no message of its own. So clock 0 asks it. */
 static const uint8_t nobody[8];
-static uint8_t asker[8];
+static uint8_t asker[8];                /* the clockIdentity in the latest message */
 
 static void send_to_own_clock(const uint8_t *octets, size_t size) {
     static uint8_t message[MOST_DATAGRAM];
     if (size < SOURCE_PORT_AT || size > sizeof message) return;
-    memcpy(asker, octets + SOURCE_AT, sizeof asker);
     memcpy(message, octets, size);
     memcpy(message + SOURCE_AT, nobody, sizeof nobody);
     sendto(own_clock.socket, message, size, MSG_DONTWAIT, (struct sockaddr *)&own_clock_address, sizeof own_clock_address);
@@ -391,6 +415,7 @@ static void address_to_asker(uint8_t *message, size_t size) {
 
 enum sending send_message(const uint8_t *octets, size_t size) {
     enum sending sending = NO_TRANSPORT;
+    if (size >= SOURCE_PORT_AT) memcpy(asker, octets + SOURCE_AT, sizeof asker);
     for (size_t i = 0; i < end_count; i++) {
         ends[i].has_sent = (is_ethernet ? send_frame(&ends[i], octets, size) : send_datagram(&ends[i], octets, size)) >= 0;
         ends[i].failure = ends[i].has_sent ? 0 : errno;
@@ -431,8 +456,8 @@ static bool next_arrival(struct arrival *arrival, int64_t wait) {
     return true;
 }
 
-/* Who sent a datagram, and the index of the interface at which it came in, if the kernel was to report that. */
-struct place { struct sockaddr_storage sender; unsigned index; };
+/* Who sent a datagram, and the index of the interface at which it came in, and its TTL, if the kernel was to report them. */
+struct place { struct sockaddr_storage sender; unsigned index; int ttl; };
 
 static void take_index(struct place *from, struct msghdr *head) {
     struct in_pktinfo four;
@@ -448,23 +473,19 @@ static void take_index(struct place *from, struct msghdr *head) {
     }
 }
 
-static ssize_t receive_copy(uint8_t *octets, size_t most, struct place *from) {
-    _Alignas(struct cmsghdr) char control[CMSG_SPACE(sizeof(struct in6_pktinfo))];
+static ssize_t receive_from(int socket, uint8_t *octets, size_t most, struct place *from) {
+    _Alignas(struct cmsghdr) char control[CMSG_SPACE(sizeof(struct in6_pktinfo)) + CMSG_SPACE(sizeof(int))];
     struct iovec part = { octets, most };
     struct msghdr head = {
         .msg_name = &from->sender, .msg_namelen = sizeof from->sender, .msg_iov = &part, .msg_iovlen = 1,
         .msg_control = control, .msg_controllen = sizeof control,
     };
-    ssize_t found = recvmsg(copies, &head, MSG_DONTWAIT);
-    if (found >= 0) take_index(from, &head);
-    return found;
-}
-
-static ssize_t receive_from(int socket, uint8_t *octets, size_t most, struct place *from) {
-    socklen_t size = sizeof from->sender;
     *from = (struct place){ .index = 0 };
-    if (socket == copies) return receive_copy(octets, most, from);
-    return recvfrom(socket, octets, most, MSG_DONTWAIT, (struct sockaddr *)&from->sender, &size);
+    ssize_t found = recvmsg(socket, &head, MSG_DONTWAIT);
+    if (found < 0) return found;
+    take_index(from, &head);
+    from->ttl = ttl_in(&head);
+    return found;
 }
 
 static const struct end *end_at(unsigned index) {
@@ -477,19 +498,24 @@ static const struct end *end_at(unsigned index) {
 /* What is not taken is said once of each address, and of as many addresses as this. */
 enum { MOST_STRANGERS = 8 };
 
-static void tell_stranger(const struct end *end, const struct sockaddr *sender) {
-    static char told[MOST_STRANGERS][INET6_ADDRSTRLEN];
-    static size_t count;
-    char address[INET6_ADDRSTRLEN] = "";
+static void write_address(char address[INET6_ADDRSTRLEN], const struct sockaddr *sender) {
     const void *octets = is_six ? (const void *)&((const struct sockaddr_in6 *)sender)->sin6_addr
                                 : (const void *)&((const struct sockaddr_in *)sender)->sin_addr;
-    inet_ntop(sender->sa_family, octets, address, sizeof address);
+    *address = '\0';
+    inet_ntop(sender->sa_family, octets, address, INET6_ADDRSTRLEN);
+}
+
+static void tell_stranger(const struct end *end, const struct sockaddr *sender, const char *why) {
+    static char told[MOST_STRANGERS][INET6_ADDRSTRLEN];
+    static size_t count;
+    char address[INET6_ADDRSTRLEN];
+    write_address(address, sender);
     for (size_t i = 0; i < count; i++) {
         if (strcmp(told[i], address) == 0) return;
     }
     if (count == MOST_STRANGERS) return;
     strcpy(told[count++], address);
-    complain("%s: what came from %s is not taken, which is not on the link: --any-source takes it", end->interface, address);
+    complain("%s: what came from %s is not taken, %s", end->interface, address, why);
 }
 
 /* Whether a datagram comes from the link, or from the address that is asked. An interface without an address has no link that is
@@ -497,7 +523,20 @@ static void tell_stranger(const struct end *end, const struct sockaddr *sender) 
 static bool is_from_here(const struct end *end, const struct sockaddr *sender) {
     if (is_any_source || is_ethernet || end->interface == NULL || is_on_link(end->index, sender)) return true;
     if ((is_to_one && is_same(sender, &clock_address)) || !has_address(end->index, family())) return true;
-    tell_stranger(end, sender);
+    tell_stranger(end, sender, "which is not on the link: --any-source takes it");
+    return false;
+}
+
+/* Whether a datagram is none that a router has passed on, as far as that is known and wanted. */
+static bool is_near(const struct arrival *arrival, const struct end *end, struct place *from, const uint8_t *octets, size_t found) {
+    const struct sockaddr *sender = (const struct sockaddr *)&from->sender;
+    bool is_unicast = arrival->end == NULL || arrival->socket == end->asking;
+    if (is_near_alone && is_unicast && from->ttl != FULL_TTL) {
+        tell_stranger(end, sender, "since a router may have passed it on: --ttl-security takes TTL 255 alone");
+        return false;
+    }
+    if (arrival->end != NULL || is_any_source || is_of_neighbour(packets, from->index, sender, octets, found)) return true;
+    write_address(passed_on, sender);
     return false;
 }
 
@@ -510,11 +549,29 @@ static bool is_sent_by_itself(const struct arrival *arrival, const uint8_t *octe
 /* The sender of the message that came in last, and the end that it came in at. */
 static struct place latest_place;
 static const struct end *latest_end;
+static int latest_socket;
 
 bool asks_one_address(void) { return is_to_one && !is_to_group(); }
 
 bool came_from_asked(void) {
     return !asks_one_address() || is_same((const struct sockaddr *)&latest_place.sender, &clock_address);
+}
+
+struct way way_of_message(void) {
+    return (struct way){ .socket = latest_socket, .sender = latest_place.sender, .is_near = latest_place.ttl == FULL_TTL };
+}
+
+/* An address of UDP without its port, a hardware address, or a path. */
+static bool is_same_sender(const struct sockaddr_storage *one, const struct sockaddr_storage *other) {
+    if (one->ss_family != other->ss_family) return false;
+    if (one->ss_family == AF_INET || one->ss_family == AF_INET6) return is_same((const struct sockaddr *)one, other);
+    if (one->ss_family != AF_PACKET) return memcmp(one, other, sizeof *one) == 0;
+    return memcmp(((const struct sockaddr_ll *)one)->sll_addr, ((const struct sockaddr_ll *)other)->sll_addr, STATION) == 0;
+}
+
+bool came_by(const struct way *way) {
+    bool is_as_near = !way->is_near || latest_place.ttl == FULL_TTL;
+    return latest_socket == way->socket && is_as_near && is_same_sender(&latest_place.sender, &way->sender);
 }
 
 const char *came_in_at(void) { return latest_end == NULL ? NULL : latest_end->interface; }
@@ -607,8 +664,10 @@ static const uint8_t *message_of(const struct arrival *arrival, const uint8_t *o
     const struct end *end = arrival->end != NULL ? arrival->end : end_at(from->index);
     *size = found;
     if (end == NULL || !(is_sent_by_itself(arrival, octets, found) || is_from_here(end, sender))) return NULL;
+    if (!is_ethernet && !is_near(arrival, end, from, octets, found)) return NULL;
     latest_place = *from;
     latest_end = end;
+    latest_socket = arrival->socket;
     if (arrival->end == NULL) {
         size_t place = message_in_copy(octets, size, sender);
         return place == 0 ? NULL : octets + place;
@@ -620,6 +679,20 @@ static const uint8_t *message_of(const struct arrival *arrival, const uint8_t *o
     return is_frame && (place == 0 || is_of_other_network(octets + place, sender)) ? NULL : octets + place;
 }
 
+/* Whether a clock sends under the identity of the one who asks; that is said once. A request may be one of his own, which a boundary clock
+   has passed on. */
+static bool is_of_namesake(const struct arrival *arrival, const uint8_t *message, size_t size) {
+    static bool is_told;
+    char identity[IDENTITY_TEXT];
+    bool is_request = size > ACTION_AT && (message[TYPE_AT] & LOWER_HALF) == MANAGEMENT_TYPE
+                      && (message[ACTION_AT] & LOWER_HALF) != RESPONSE && (message[ACTION_AT] & LOWER_HALF) != ACKNOWLEDGE;
+    if (arrival->end == &own_clock || size < SOURCE_PORT_AT || is_request || memcmp(asker, nobody, sizeof asker) == 0) return false;
+    if (memcmp(message + SOURCE_AT, asker, sizeof asker) != 0) return false;
+    write_identity(identity, asker);
+    if (!is_told) complain("a clock has this manager's identity %s: what it sends is not taken, and -m names another manager", identity);
+    return is_told = true;
+}
+
 const uint8_t *receive_message(size_t *size, int64_t end) {
     static uint8_t datagram[MOST_DATAGRAM];
     for (int64_t left; (left = end - milliseconds()) > 0 && !stopped;) {
@@ -628,7 +701,7 @@ const uint8_t *receive_message(size_t *size, int64_t end) {
         ssize_t found = next_arrival(&arrival, left) ? receive_from(arrival.socket, datagram, sizeof datagram, &from) : -1;
         if (found > 0 && arrival.end == &own_clock) address_to_asker(datagram, (size_t)found);
         const uint8_t *message = found < 0 ? NULL : message_of(&arrival, datagram, (size_t)found, &from, size);
-        if (message != NULL) return message;
+        if (message != NULL && !is_of_namesake(&arrival, message, *size)) return message;
     }
     return NULL;
 }

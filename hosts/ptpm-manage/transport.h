@@ -7,9 +7,10 @@
 #include <stdbool.h>
 #include <stddef.h>
 #include <stdint.h>
+#include <sys/socket.h>
 
 /* Finds the transport that the task names. If the task names no manager, its settings get the transport's own. Over UDP and
-   Ethernet that is the interface's hardware address with ff and fe in its middle. On a Unix socket it is clock 0, like that of
+   Ethernet that is the interface's hardware address with ff and fe in its middle, and its universal/local bit turned. On a Unix socket it is clock 0, like that of
    pmc. Its port is 1. What is in no session has a port of this process instead (port_of_nobody). Only a SET or a COMMAND has that
    of the manager, if one is named. Ends the program with status 2 if there is no transport. */
 void find_transport(struct task *task);
@@ -33,7 +34,8 @@ void renew_transport(void);
    come in what the program may hear. */
 void receive_every_type(bool is_every);
 
-/* Says what clock isn't heard, if the program may hear no copies of what comes by unicast to UDP port 320 of this host. */
+/* Says which clock isn't heard, if the program may hear no copies of what comes by unicast to UDP port 320 of this host. Says too whose
+   copies it did not take. */
 void tell_deaf_port(void);
 
 /* Says which of its interfaces are gone, are a part of a bridge or a bond, or have no address to ask from. */
@@ -64,6 +66,13 @@ const uint8_t *receive_message(size_t *size, int64_t end);
 const char *sender_text(void);
 const char *came_in_at(void);
 
+/* How a message came in: at which socket, from whom, and whether no router had passed it on. */
+struct way { int socket; struct sockaddr_storage sender; bool is_near; };
+
+/* That of the message that came in last; and whether it came in by this one. */
+struct way way_of_message(void);
+bool came_by(const struct way *way);
+
 /* If several interfaces were named, or one and a Unix socket: from now on no answer came at any of them. Then the message that came in last
    is one. And the first of them at which none came; NULL if there is none. */
 void forget_ways(void);
@@ -81,6 +90,10 @@ bool asks_one_address(void);
 
 /* Whether it came from whom is asked: from the address of --udp, or else from anybody. */
 bool came_from_asked(void);
+
+/* Makes such an identity the one that earlier versions gave the manager, which is also that of a clock of this host. Whether there is
+   one. */
+bool former_identity(uint8_t identity[8]);
 
 /* The identity that this host has at an interface by its hardware address: at the first, the second and so on. Whether there is
    one. */

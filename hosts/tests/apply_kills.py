@@ -7,11 +7,10 @@ import os
 import signal
 import subprocess
 import time
-import zlib
 
 from apply_link import SET, Troubles
 from apply_network import ANSWERED_NEW, MANAGER, Clock, Network
-from apply_runs import Broken, Journal, Runs
+from apply_runs import Broken, Journal, Runs, chained
 from trying import HOME
 
 IDENTITIES = [f"02c0fffffe00010{number}" for number in (1, 2, 3)]
@@ -22,7 +21,8 @@ TROUBLES = Troubles(loss=0.30, repeat=0.20, swap=0.10)
 CRASHES = 0.1                                       # of a clock after a run
 MOST_LIVES, PATIENT_AFTER, PATIENCE = 400, 60, 60
 KILLS, LOSES, FAILS = ENDS = ("KILLS", "LOSES", "FAILS")     # what may become of a run at a call (dies.c)
-MOST_CALLS = 25                                      # of a step and what comes before it
+MOST_CALLS, FEW_CALLS = 25, 12                      # of a step and what comes before it; of what comes before it
+GIVE_UPS = 0.15                                     # of the runs after the first
 SETTLED = 0.1                                       # by then what was on its way has come in,
 MOST_SAVING = 10                                    # and a clock has saved, and judged it
 
@@ -199,8 +199,8 @@ def kill_at_clocks(work, kills, seed):
 class Points(Changes):
     """An apply of three steps, or four with one that is refused, whose journal is made here. Its first `resume` is killed at one of the calls
     by which it saves and sends: at the first, in the next apply at the second, and so on. At the next three such calls it is
-    killed again, or the call fails; the last run is left alone. At some kills the machine loses its power too (dies.c). Every second apply
-    begins without files of sessions."""
+    killed again, or the call fails; the last run is left alone. Some of these runs give up. At some kills the machine loses its power too
+    (dies.c), and what earlier runs did not synchronize is lost with it. Every second apply begins without files of sessions."""
 
     def __init__(self, work, seed):
         super().__init__(work, seed)
@@ -210,8 +210,6 @@ class Points(Changes):
 
     def step(self, place, port, number, after):
         before = self.has[place, port, number]
-        if after != REFUSED_FIELD:
-            self.has[place, port, number] = after
         return {"clock": IDENTITIES[place], "domain": 0, "port": port, "id": number, "before": before, "after": after}
 
     def make(self, call):
@@ -223,33 +221,46 @@ class Points(Changes):
         if call % 4 == 0:
             steps.append(self.step(1, 1, REFUSED_ID, REFUSED_FIELD))
         name = f"20260101-000000-{call:08x}-0000"
-        text = json.dumps({"version": 1, "name": name, "manager": MANAGER, "steps": steps}, separators=(",", ":"))
+        text = json.dumps({"version": 2, "name": name, "manager": MANAGER, "steps": steps}, separators=(",", ":"))
         path = os.path.join(self.folder, name + ".journal")
         with open(path, "w") as file:
-            file.write(f"{zlib.crc32(text.encode()):08x} {text}\n")
+            file.write(f"{next(chained([text.encode()])).decode()}\n")
         return path
 
-    def is_killed_at(self, call, by):
+    def is_killed_at(self, call, by, *more):
         """Whether a `resume` was killed at this call; 0 is none."""
         preloaded = {"LD_PRELOAD": os.path.join(HOME, "dies.so"), "DIES_AT": str(call), "DIES_FROM": "start", by: "1"}
-        is_killed = self.start(["resume"], **preloaded).wait(PATIENCE) in (-signal.SIGKILL, 128 + signal.SIGKILL)
+        is_killed = self.start(["resume", *more], **preloaded).wait(PATIENCE) in (-signal.SIGKILL, 128 + signal.SIGKILL)
         self.counts["kills"] += is_killed
+        self.counts["kills that give up"] += is_killed and more != ()
         self.counts["power cuts"] += is_killed and by == LOSES
+        self.counts["power cuts after a kill and a run"] += is_killed and by == LOSES and self.is_after_kill
+        self.is_after_kill = is_killed and by == KILLS
         return is_killed
+
+    def now_has(self, journal):
+        """What the clocks have after an apply: what was done, and of a step that was given up what the clock took."""
+        for place, step in enumerate(journal.steps):
+            is_taken = place in journal.told or (place == journal.begun and self.is_taken)
+            if is_taken and step["after"] != REFUSED_FIELD:
+                self.has[IDENTITIES.index(step["clock"]), step["port"], step["id"]] = step["after"]
 
     def point(self, call):
         """Whether the apply was killed at this call, and so goes on beyond it."""
-        path = self.make(call)
+        path, more = self.make(call), []
+        self.is_after_kill = False
         is_killed = self.is_killed_at(call, self.chance.choice(ENDS[:2]))
-        for at in (None, *(self.chance.randrange(1, MOST_CALLS) for _ in range(3)), 0):
+        for at in (None, *(self.chance.randrange(1, self.chance.choice((FEW_CALLS, MOST_CALLS))) for _ in range(3)), 0):
             if at is not None:
-                self.is_killed_at(at, self.chance.choice(ENDS))
+                self.is_killed_at(at, self.chance.choice(ENDS), *more)
+            more = ["--give-up"] if self.chance.random() < GIVE_UPS else []
             time.sleep(SETTLED)
             journal = Journal(path)
             self.places[journal.place()] += 1
             self.check(journal)
             self.check_report(journal)
         self.check_end(journal)
+        self.now_has(journal)
         return is_killed
 
     def run(self, kills=None):

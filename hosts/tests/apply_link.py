@@ -87,6 +87,8 @@ class Middle(threading.Thread):
         self.near, self.far = near, far
         self.to_clocks, self.to_manager = (Way(end, troubles or NO_TROUBLES, 2 * seed + way) for way, end in enumerate((far, near)))
         self.is_mute = self.is_cut = False  # answers are lost; all is
+        self.hushed = None                  # the identity of a clock whose answers are lost, and for how many seconds from the next request on
+        self.hushed_until = 0.0
         self.before = None                  # called with each request before it passes on
         self.is_over = False
 
@@ -94,8 +96,16 @@ class Middle(threading.Thread):
         request = request_of(frame)
         if request is not None and self.before is not None:
             self.before(request)
+        if request is not None and self.hushed is not None and not self.hushed_until:
+            self.hushed_until = time.monotonic() + self.hushed[1]
         if not self.is_cut:
             self.to_clocks.pass_on(frame)
+
+    def hush(self, identity, seconds):
+        self.hushed, self.hushed_until = (bytes.fromhex(identity), seconds), 0.0
+
+    def is_hushed(self, frame):
+        return time.monotonic() < self.hushed_until and frame[HEADERS + 20:HEADERS + 28] == self.hushed[0]
 
     def run(self):
         while not self.is_over:
@@ -103,7 +113,7 @@ class Middle(threading.Thread):
                 frame = os.read(end, 2048)
                 if end == self.near:
                     self.ask(frame)
-                elif not self.is_mute and not self.is_cut:
+                elif not self.is_mute and not self.is_cut and not self.is_hushed(frame):
                     self.to_manager.pass_on(frame)
             self.to_clocks.release_late()
             self.to_manager.release_late()

@@ -12,7 +12,7 @@ from apply_link import Middle
 from apply_observer import Observer
 from trying import CLOCK, HOME, MANAGE, run
 
-MANAGER, OTHER = "020000fffe000010/1", "0a0000fffe000099/1"
+MANAGER, OTHER = "000000fffe000010/1", "0a0000fffe000099/1"
 MANAGERS_STATION = "02:00:00:00:00:10"
 TUNSETIFF, IFF_TAP, IFF_NO_PI = 0x400454CA, 2, 0x1000
 ANSWERED_NEW = "5"

@@ -12,6 +12,17 @@ from collections import Counter
 from apply_network import environment
 
 
+STRANGER = "another program has used its session"
+
+
+def chained(texts):
+    """The lines of a journal that has these texts: before each is the CRC-32 of it and of those before."""
+    crc = 0
+    for text in texts:
+        crc = zlib.crc32(text, crc)
+        yield b"%08x %s" % (crc, text)
+
+
 class Broken(Exception):
     """What was promised does not hold."""
 
@@ -22,10 +33,10 @@ class Journal:
     def __init__(self, path):
         with open(path, "rb") as file:
             lines = file.read().split(b"\n")[:-1]
-        notes = [json.loads(line[9:]) for line in lines if f"{zlib.crc32(line[9:]):08x} ".encode() == line[:9]]
+        notes = [json.loads(line[9:]) for line, whole in zip(lines, chained(line[9:] for line in lines)) if line == whole]
         if len(notes) != len(lines):
             raise Broken(f"{path} has a wrong line")
-        self.steps, self.told, self.begun, self.end = notes[0]["steps"], {}, None, None
+        self.steps, self.told, self.begun, self.end, self.is_let_go = notes[0]["steps"], {}, None, None, False
         for note in notes[1:]:
             self.take(note)
 
@@ -36,6 +47,8 @@ class Journal:
             self.begun = None
         elif "told" in note:
             self.told[note["told"]], self.begun = note, None
+        elif "let_go" in note:
+            self.is_let_go = True
         else:
             self.end = note["end"]
 
@@ -97,6 +110,8 @@ class Runs:
             if state != journal.state(int(place) - 1) and not is_unsent:
                 raise Broken(f"step {place} is reported as {state}, and is {journal.state(int(place) - 1)}")
             self.counts["lines of reports"] += 1
+        if STRANGER in self.said():
+            raise Broken(f"no other program is there: {self.said()}")
 
     def check_marks(self):
         """One that ended may have been killed before it removed its marks."""
@@ -109,7 +124,8 @@ class Runs:
         """It ends after its last step, or at the first that is refused."""
         is_refused = any(note["outcome"] != "done" for note in journal.told.values())
         is_over = is_refused or len(journal.told) == len(journal.steps)
-        if journal.begun is not None or journal.end != ("refused" if is_refused else "complete") or not is_over:
+        is_given_up = journal.end == "given up" and journal.is_let_go == (journal.begun is not None)
+        if not is_given_up and (journal.begun is not None or journal.end != ("refused" if is_refused else "complete") or not is_over):
             raise Broken(f"it ended as {journal.end}, with {len(journal.told)} of {len(journal.steps)} told")
         self.check_marks()
         self.counts[journal.end] += 1

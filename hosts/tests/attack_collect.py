@@ -2,15 +2,16 @@
 become of the program that shows the site."""
 import os
 import random
+import re
 import select
 import signal
 import subprocess
 import time
 
-from attacking import HOME, MANAGE, ME, OTHER, SLOW, Peer, check, has_own_socket, is_sanitized, path, response, start, work, write
+from attacking import HOME, MANAGE, ME, OTHER, SLOW, Peer, check, has_own_socket, is_sanitized, path, read, response, start, started, work, write
 
-# The dataFields of the six ids, of a clock with one port (IEEE 1588-2019, 15.5.3).
-DEFAULT, CURRENT, PARENT, TIMES, PORT, TEXT = 0x2000, 0x2001, 0x2002, 0x2003, 0x2004, 0x0002
+# The dataFields of the six ids and of PRIORITY1, of a clock with one port (IEEE 1588-2019, 15.5.3).
+DEFAULT, CURRENT, PARENT, TIMES, PORT, TEXT, PRIORITY1 = 0x2000, 0x2001, 0x2002, 0x2003, 0x2004, 0x0002, 0x2005
 
 
 def field(name, clock, priority=128, ports=1):
@@ -21,7 +22,12 @@ def field(name, clock, priority=128, ports=1):
         TIMES: bytes([0, 37, 0, 0xA0]),
         PORT: clock + bytes([0, 1, 6]) + bytes(9) + bytes([1, 3, 0, 1, 0, 2]),
         TEXT: bytes([1, 0x61]),
+        PRIORITY1: bytes([priority, 0]),
     }[name]
+
+
+# Finds the repository's `ptpm` if there is no other.
+WITH_OWN = dict(os.environ, PATH=os.environ["PATH"] + ":" + os.path.dirname(HOME))
 
 
 def answer(request, clock, **members):
@@ -37,13 +43,13 @@ class Site:
     """Whoever answers at a Unix socket: each request is handed to a function, which has a list of datagrams for it. More than
     `most` requests are not read."""
 
-    def __init__(self, answers, *words, idle=lambda: [], most=1 << 30, **streams):
+    def __init__(self, answers, *words, idle=lambda: [], most=1 << 30, most_seconds=100, **streams):
         self.peer = Peer("socket")
         self.output = [open(os.path.join(work, name), "w+b") for name in ("printed", "said")]
         self.process = start("manage", "-u", path, *words, stdout=self.output[0], stderr=self.output[1], **streams)
         began = time.monotonic()
         self.requests, self.asker = [], None
-        while self.process.poll() is None and time.monotonic() < began + 100:
+        while self.process.poll() is None and time.monotonic() < began + most_seconds:
             if select.select([self.peer.socket][:most - len(self.requests)], [], [], 0.02)[0]:
                 request, self.asker = self.peer.socket.recvfrom(2048)
                 self.requests.append(request)
@@ -91,6 +97,15 @@ def strangers_without_end():
     check("where there is no room for requests it ends all the same", site.took < 60 * SLOW)
 
 
+def plan_of_too_many():
+    """4,200 clocks answer all that a plan of every clock asks, and 104 have no place: the plan does not end as if it had all of them."""
+    many = [identity(number) for number in range(4200)]
+    file = write("plan.toml", "version = 1\n[[every]]\nPRIORITY1 = 128\n")
+    site = Site(lambda request: [answer(request, clock) for clock in many], "-t", "4000", "-a", "1", "plan", file, env=WITH_OWN)
+    check("of 4,200 clocks a plan has 4,096", f"{identity(4095).hex()} PRIORITY1" in site.read(0))
+    check("and the status says so", site.status == 3 and "more answers are left out" in site.said())
+
+
 def strangers_that_are_one():
     """One host answers the first request as 1,000 clocks, and then reads: each is asked alone once, at a pace, and let go."""
     many, times = [identity(number) for number in range(1000)], []
@@ -101,11 +116,12 @@ def strangers_that_are_one():
     site = Site(reply, "-t", "100", "-a", "10", "collect")
     pace = max(sum(begin <= one < begin + 0.5 for one in times[place:place + 5000]) for place, begin in enumerate(times) if place % 50 == 0)
     check(f"1,000 clocks that are one are asked {len(times)} times, and {pace} in half a second", site.status == 0
-          and 5000 < len(times) < 5100 and pace < 1700)
+          and 5000 < len(times) < 5700 and pace < 1700)
     check("they are let go", "1000 clocks gave no new answer when they were asked alone: they were let go\n" in site.said())
     few = Site(lambda request: [answer(request, clock) for clock in many[:100]] if request[52:54] == b"\x20\0" else [], "-t", "1000", "-a", "3",
                "collect")
-    check(f"a hundred are not, and are asked {len(few.requests)} times", len(few.requests) == 6 + 3 * 500 and "let go" not in few.said())
+    alone = sum(request[34:42] != bytes([255]) * 8 for request in few.requests)
+    check(f"a hundred are not, and are asked {alone} times", 500 < alone <= 3 * 500 and "let go" not in few.said())
 
 
 def strangers_that_never_end():
@@ -119,6 +135,50 @@ def strangers_that_never_end():
 
     site = Site(reply, "-t", "50", "-a", "3", "collect", idle=lambda: [answer(asked[0], identity(next(count)))])
     check("a silence that never comes is not waited for", site.status == 0 and site.answers() and site.took < 10 * SLOW)
+
+
+class Strangers:
+    """One host that answers as 2,100 new clocks in each look of a watch, beside a clock that is there. That one ends before the sixth look, and
+    the attack after the tenth. `seen` has what was written before each look, and `most` the memory that the watch took, in KiB."""
+    REAL, NEW, ENDS, LAST = identity(0xFFFFFFFFFF), 2100, 6, 10
+
+    def __init__(self, *words):
+        self.number, self.looks, self.seen, self.most = None, 0, [], 0
+        self.written = os.path.join(work, "written")
+        environment = dict(os.environ, PATH=os.path.dirname(HOME) + ":" + os.environ["PATH"])
+        Site(self.answers, *words, "--output", self.written, "-t", "500", "-a", "1", "--once", "--watch", "1", "status", most_seconds=300, env=environment)
+
+    def answers(self, request):
+        to_all = request[34:42] == bytes([255]) * 8
+        if to_all and request[52:54] == b"\x20\x00" and request[30:32] != self.number:
+            self.next_look(request[30:32])
+        clocks = [self.REAL] if self.looks < self.ENDS else []
+        if to_all and self.looks <= self.LAST:
+            clocks += [identity(self.looks << 16 | place) for place in range(self.NEW)]
+        of_real = answer(request, self.REAL)
+        return (of_real.replace(self.REAL, clock) for clock in clocks if to_all or request[34:42] == clock)
+
+    def next_look(self, number):
+        self.number, self.looks = number, self.looks + 1
+        self.seen.append(read(self.written) if os.path.exists(self.written) else "")
+        process = started[-1]
+        with open(f"/proc/{process.pid}/status") as status:
+            self.most = int(re.search(r"VmHWM:\s*(\d+)", status.read())[1])
+        if self.looks == self.LAST + 4:
+            process.send_signal(signal.SIGINT)
+
+
+def strangers_in_a_watch():
+    """A watch names the clock that is there, finds within two looks that it ended, and is never OK from then on."""
+    name = Strangers.REAL.hex()
+    shown = Strangers("--json")
+    check("a watch names the clock that is there", all(f'"clockIdentity":"{name}"' in text for text in shown.seen[1:6]))
+    finds = [f'"clockIdentity":"{name}","domainNumber":0,"finding":"gone"' in text for text in shown.seen]
+    check(f"it finds within two looks that it ended: {finds}", not any(finds[:6]) and all(finds[7:]))
+    print(f"a watch of 2,100 new clocks a look takes {shown.most} KiB")
+    check("it takes less than 40 MB", shown.most < 40000 or is_sanitized(MANAGE))
+    words = [text.partition(" - ")[0] for text in Strangers("--nagios", "--ignore", "two_grandmasters,gm_free_running").seen[1:]]
+    check(f"a plugin is never OK again: {words}", "PTP OK" not in words[6:])
 
 
 def junk():
@@ -160,8 +220,10 @@ def ids_that_lack():
 
     site = Site(reply, "-t", "300", "-a", "4", "collect")
     everybody = [request for request in site.requests if request[34:44] == bytes([255]) * 10]
+    everybody, censuses = everybody[:6], everybody[6:]
     alone = [request for request in site.requests if request[34:44] == me + bytes([255, 255])]
     ids = sorted(request[52:54].hex() for request in alone)
+    check("two censuses ask whether others are there", [request[52:54] for request in censuses] == [b"\x20\0"] * 2)
     check("what a clock lacks is asked of it alone", site.status == 0 and len(everybody) == 6
           and ids == sorted(4 * ["0002", "2002", "2003", "2004"]))
     numbers = {request[52:54]: request[30:32] for request in everybody}
@@ -241,15 +303,16 @@ int main(int count, char **words) {
     subprocess.run(["cc", "-O1", "-fPIC", "-shared", "-o", refuser, os.path.join(HOME, "../tools/refuse_memory.c")], check=True)
     subprocess.run(["cc", "-o", os.path.join(folder, "ptpm"), os.path.join(folder, "ptpm.c")], check=True)
     environment = dict(os.environ, PATH=folder + ":" + os.environ["PATH"], LD_PRELOAD=refuser)
-    wrong, refused = [], 0
-    for number in range(14, 60):
+    wrong, refused, numbers = [], 0, range(14, 90, 2)
+    for number in numbers:
         site = Site(lambda request: [answer(request, me)], "-t", "20", "status", "--once", env=dict(environment, REFUSE_MEMORY=f"{number}+"))
         is_whole = site.status == 1 and len(site.lines()) == 4
         refused += not is_whole
         if not is_whole and not (site.status in (1, 2) and site.lines() == [] and site.said() != ""):
             wrong.append((number, site.status, site.lines(), site.said()))
-    check(f"without memory a site is whole or fails, except {wrong}", wrong == [] and 0 < refused < 46)
+    check(f"without memory a site is whole or fails, except {wrong}", wrong == [] and 0 < refused < len(numbers))
 
 
-ATTACKS = [strangers_without_end, strangers_that_are_one, strangers_that_never_end, junk, one_identity, ids_that_lack, signals_to_collect, programs_that_show,
-           refusals_of_memory]
+ATTACKS = [strangers_without_end, plan_of_too_many, strangers_that_are_one, strangers_that_never_end, strangers_in_a_watch, junk,
+           one_identity, ids_that_lack]
+           signals_to_collect, programs_that_show, refusals_of_memory]

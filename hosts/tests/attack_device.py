@@ -7,7 +7,7 @@ import time
 
 from attack_saves import FAILING, SLOWLY, Calls, Disk
 from attack_wire import Wire
-from attacking import (HAS_STRACE, MANAGER, ME, SLOW, STRANGER, TRACED, Clock, Peer, check, field_set, get, manage, message, pause, path, read,
+from attacking import (HAS_STRACE, LIBC, MANAGER, ME, SLOW, STRANGER, TRACED, Clock, Peer, check, field_set, get, manage, message, pause, path, read,
                        set_of, wait_until, work, write)
 
 SECOND_MANAGER = "0011223344556688"
@@ -280,13 +280,30 @@ def kills_while_a_program_runs():
     clock = device_clock(*words)
     check("and its next copy is none", asked(peer, set_of(7, 100)) == (7, "value", 100) and len(runs()) == 3)
     beside = [one for one in filter(str.isdigit, os.listdir("/proc")) if is_child(one, clock.process.pid)]
-    write("says", f"exec sleep {LONG}\n")
+    write("says", f"sleep {LONG}; exit 0\n")
     peer.ask(set_of(8, 50))
     check("it runs", len(beside) == 1 and wait_until(lambda: processes_with(LONG) == 1))
     os.kill(int(beside[0]), signal.SIGKILL)
     check("without the process between, the clock ends, and says so", clock.end(None)[0] == 2 and "the process that runs it is gone\n" in clock.text())
     check("and its program with it", wait_until(lambda: processes_with(LONG) == 0, 1))
     peer.close()
+
+
+def values_over_the_rate():
+    """The file of a value is read for a GET that is answered, and for no GET above the rate."""
+    wire, file = Wire("clk0", 10), write("value", "4711")
+    clock = Clock("--rate", "10", "--give", "2017", file, ME, wire.name)
+    watch = LIBC.inotify_init1(os.O_NONBLOCK)
+    LIBC.inotify_add_watch(watch, file.encode(), 0x20 | 0x10)           # IN_OPEN, and IN_CLOSE_NOWRITE: no two alike
+    for number in range(200):
+        wire.come_in(message(number)[:52] + bytes.fromhex("2017"))
+    answers = wire.sent(0.5)
+    opened = len(os.read(watch, 65536)) // 16 // 2
+    check(f"of 200 GETs {len(answers)} are answered, and its file is read {opened} times",
+          opened == len(answers) < 40 and all(one[54:] == b"4711" for one in answers))
+    os.close(watch)
+    clock.end()
+    wire.remove()
 
 
 def changes_that_are_not_saved():
@@ -334,6 +351,6 @@ def is_child(process, parent):
 
 
 ATTACKS = [limits_of_hardware, limits_that_are_wrong, what_a_program_says, what_a_program_inherits, programs_that_say_nothing,
-           changes_that_wait, floods_while_a_program_runs, kills_while_a_program_runs]
+           changes_that_wait, floods_while_a_program_runs, kills_while_a_program_runs, values_over_the_rate]
 if HAS_STRACE:
     ATTACKS += [changes_that_are_not_saved, questions_that_are_not_taken]

@@ -10,7 +10,7 @@ import subprocess
 import tempfile
 import time
 
-from attacking import (HAS_STRACE, MANAGE, MANAGER, ME, OTHER, SLOW, Clock, Peer, asks, check, fill_disk, flips, image_in, manage, octets, path,
+from attacking import (HAS_STRACE, MANAGE, MANAGER, ME, OTHER, SLOW, Clock, Peer, asks, by_both, check, fill_disk, flips, image_in, manage, octets, path,
                        read, response, run, saves_in, sealed, start, wait_until, work, write, write_octets)
 
 
@@ -216,6 +216,7 @@ def next_sent(port, is_wanted):
     return found[0]
 
 
+@by_both
 def answers_to_others(port):
     """A SET is lost, and another run of this host asks for the same id with the same number, in no session. The answer to that one
     is none to the SET."""

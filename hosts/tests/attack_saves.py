@@ -102,25 +102,33 @@ def ends_during_a_save():
 
 
 def saves_that_fail_beside_strangers():
-    """Nobody is shown what was not saved, and nothing leaves before what is in doubt is."""
-    wire = Wire("clk0", 10)
-    clock = Clock(*WORDS, ME, wire.name, env=TRACED)
+    """Nobody is shown what was not saved, and nothing leaves before what is in doubt is. What was observed stays."""
+    wire, source = Wire("clk0", 10), write("observed", "steps_removed 1\n")
+    clock = Clock(*WORDS, "-o", source, ME, wire.name, env=TRACED)
+    check("it observes", wait_until(lambda: asked(wire, 101, "2001")[0] == 1))
+    write("observed", "steps_removed 2\n")
+    check("and again", wait_until(lambda: asked(wire, 102, "2001")[0] == 2))
     disk = Disk(clock, FAILING)
     wire.come_in(set_of(7, 50))
     found = [asked(wire, number) for number in range(1, 12)]
     time.sleep(0.3)
     found.append(asked(wire, 12))
     check(f"strangers are answered beside a save that fails: {found}", found == [(128 << 8, [])] * 12 and answers_of_manager(wire, 0.1) == [])
+    found = asked(wire, 103, "2001")[0]
+    check(f"what was observed before a save that fails is shown after it: {found}", found == 2)
     disk.mend()
     wire.come_in(set_of(7, 50))
     check("later the manager is answered", answers_of_manager(wire) == [50] and asked(wire, 13)[0] == 50 << 8)
     disk = Disk(clock, "error=EIO", "-P", work)         # the folder is not synchronized
+    write("observed", "utc_offset 40\n")
     wire.come_in(set_of(8, 60))
     time.sleep(0.3)
     found = [asked(wire, 14), asked(wire, 15)]
     check(f"nothing leaves while a save is in doubt: {found}", found == [(None, [])] * 2)
     disk.mend()
     check("and then it is as was saved", wait_until(lambda: asked(wire, 16)[0] == 60 << 8))
+    found = [asked(wire, 17, "2001")[0], asked(wire, 18, "2003")[0]]
+    check(f"and as was observed, before it and meanwhile: {found}", found == [2, 40])
     check("it ends in order", clock.end()[0] == 0)
     # each of the two strangers may have it try once more
     check("both are counted", re.search(r"^not saved: [2-4]$", clock.text(), re.M) is not None)

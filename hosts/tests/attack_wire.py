@@ -20,14 +20,14 @@ def sum_of(octets):
     return 0xFFFF - total
 
 
-def frame_four(octets, source, to="224.0.1.129", station=None, summed=None):
+def frame_four(octets, source, to="224.0.1.129", station=None, summed=None, ttl=1, by=STATION, port=320):
     """One whose UDP checksum is of the message `summed`; it has none where that is None."""
-    head = struct.pack("!BBHHHBBH4s4s", 0x45, 0, 28 + len(octets), 0, 0, 1, 17, 0, socket.inet_aton(source), socket.inet_aton(to))
+    head = struct.pack("!BBHHHBBH4s4s", 0x45, 0, 28 + len(octets), 0, 0, ttl, 17, 0, socket.inet_aton(source), socket.inet_aton(to))
     head = head[:10] + struct.pack("!H", sum_of(head)) + head[12:]
-    udp = struct.pack("!HHHH", 320, 320, 8 + len(octets), 0)
+    udp = struct.pack("!HHHH", 320, port, 8 + len(octets), 0)
     if summed is not None:
         udp = udp[:6] + struct.pack("!H", sum_of(head[12:] + struct.pack("!HH", 17, 8 + len(octets)) + udp + summed))
-    return (station or bytes.fromhex("01005e000181")) + STATION + b"\x08\x00" + head + udp + octets
+    return (station or bytes.fromhex("01005e000181")) + by + b"\x08\x00" + head + udp + octets
 
 
 def frame_six(octets, source, to="ff0e::181", station=None, summed=None):

@@ -1,7 +1,9 @@
 """What the attacks of hosts/tests/attack and attack_clock share: the programs that they start, who asks a clock, the messages, and the count
 of what holds."""
 import ctypes
+import functools
 import os
+import select
 import shutil
 import signal
 import socket
@@ -40,6 +42,11 @@ if not HAS_STRACE:
 
 # Programs that were built with a sanitizer take longer for all that they do.
 SLOW = 5 if is_sanitized(CLOCK) or is_sanitized(MANAGE) else 1
+# The managers that are tried, each by what its lines begin with.
+MANAGERS = {"ptpm-manage": [MANAGE], "ptpm": [sys.executable, "-m", "ptpm"]}
+manager = "ptpm-manage"
+os.environ["PYTHONPATH"] = os.path.join(HOME, "../bindings/python")
+os.environ["PYTHONDONTWRITEBYTECODE"] = "1"
 started = []            # the programs that may still run: none outlives its attack
 work = tempfile.mkdtemp()
 path = os.path.join(work, "socket")
@@ -49,7 +56,8 @@ os.environ["XDG_STATE_HOME"] = os.path.join(work, "state")
 def start(name, *words, **streams):
     """A program of this folder, which is ended with the attack that started it. A clock stays root where no user is named."""
     stays = ["--user", "root"] if name == "clock" and "--user" not in words else []
-    process = subprocess.Popen([os.path.join(HOME, name), *stays, *words], **streams)
+    program = MANAGERS[manager] if name == "manage" else [os.path.join(HOME, name)]
+    process = subprocess.Popen([*program, *stays, *words], **streams)
     started.append(process)
     return process
 
@@ -254,11 +262,31 @@ def has_own_socket():
 
 def asked_of(liar, id, field, kind=1):
     """What manage prints of a clock that answers its GET by this dataField, or by the error status of this managementErrorId."""
+    while select.select([liar.socket], [], [], 0)[0]:
+        liar.socket.recv(2048)                                  # what an earlier one sent again
     asking = start("manage", "-u", path, "--target", ME + "-1", "get", id, stdout=subprocess.PIPE)
+    liar.socket.settimeout(20)
     request, peer = liar.socket.recvfrom(2048)
     tlv = bytes.fromhex(id) + field if kind == 1 else field + bytes.fromhex(id) + bytes(4)
     liar.socket.sendto(response(request, tlv, kind), peer)
     return asking.communicate(timeout=20)[0]
+
+
+def by_both(attack):
+    """The attack on ptpm-manage, and then on the module for Python, which has the same words."""
+    @functools.wraps(attack)
+    def tried(*ports):
+        global manager
+        before = trying.failed
+        for manager in MANAGERS:
+            try:
+                attack(*ports)
+            finally:
+                if trying.failed > before:
+                    print(f"of {manager}")
+                before, manager = trying.failed, "ptpm-manage"
+            clear()
+    return tried
 
 
 def try_each(attacks, wanted):

@@ -1,10 +1,13 @@
 /* dies.so, for hosts/tests/apply: LD_PRELOAD of a program that saves and sends. With DIES_AT=N in the environment it is killed right
    before the N-th call by which it writes, synchronizes, renames or sends. What it prints does not count. Calls are counted from the
    rename of a journal on, or from its start if DIES_FROM is `start`. Of a write that counts, half is written first: so a line is torn.
-   With LOSES=1 the machine loses its power too. What was appended to a file and not synchronized is gone then. If a file was renamed and
-   its folder not synchronized, the file before it is there again. With FAILS=1 the call only fails, and nothing is killed: a write since
-   the disk is full, and a message since there is no way. */
+   With FAILS=1 the call only fails, and nothing is killed: a write since the disk is full, and a message since there is no way.
+
+   With LOSES=1 the machine loses its power too. What was not synchronized is gone then, also that of earlier runs. So each run leaves
+   beside a file what the disk still has of it. FILE.appended has its size there, FILE.before is the file that had its name, and
+   FILE.none says that there was none. Who synchronizes the file, or its folder, takes these away. */
 #define _GNU_SOURCE
+#include <dirent.h>
 #include <errno.h>
 #include <fcntl.h>
 #include <limits.h>
@@ -17,11 +20,6 @@
 #include <sys/stat.h>
 #include <sys/syscall.h>
 #include <unistd.h>
-
-/* What is not on the disk yet: the octets of a file after this size, and that a file has this name in this folder. The one that had the
-   name before is kept as NAME.before, if there was one. */
-static struct { bool is_there; int file; off_t size; } appended;
-static struct { bool is_there, had_one; int folder; char name[NAME_MAX]; } renamed;
 
 static bool has_begun, loses, fails;
 static long left;
@@ -42,16 +40,55 @@ __attribute__((constructor)) static void begin(void) {
 /* Whether this is the call. */
 static bool is_last(void) { return has_begun && left > 0 && --left == 0; }
 
-static void before_of(char before[NAME_MAX], const char *name) { snprintf(before, NAME_MAX, "%.200s.before", name); }
+/* Writes a name with an end to it. */
+static void add_end(char *to, const char *name, const char *end) {
+    if (snprintf(to, PATH_MAX, "%s%s", name, end) >= PATH_MAX) abort();
+}
 
+/* Whether a name has this end, which is taken off it. */
+static bool take_end(char *name, const char *end) {
+    size_t size = strlen(name), more = strlen(end);
+    if (size <= more || strcmp(name + size - more, end) != 0) return false;
+    name[size - more] = '\0';
+    return true;
+}
+
+static void cut(int folder, const char *note, const char *name) {
+    char digits[24] = "";
+    int from = openat(folder, note, O_RDONLY), file = openat(folder, name, O_WRONLY);
+    if (from >= 0 && file >= 0 && (read(from, digits, sizeof digits - 1) <= 0 || ftruncate(file, atol(digits)))) abort();
+    close(from);
+    close(file);
+}
+
+/* Sees to what is noted in a folder of its files: that is lost, or else it is on the disk by now. */
+static void see_to_folder(int folder, bool is_lost) {
+    DIR *names = fdopendir(openat(folder, ".", O_RDONLY | O_DIRECTORY));
+    char name[PATH_MAX];
+    if (names == NULL) abort();
+    for (struct dirent *entry; (entry = readdir(names)) != NULL;) {
+        strcpy(name, entry->d_name);
+        bool is_appended = is_lost && take_end(name, ".appended");
+        bool had_one = !is_appended && take_end(name, ".before"), had_none = !is_appended && !had_one && take_end(name, ".none");
+        if (is_appended) cut(folder, entry->d_name, name);
+        else if (is_lost && had_one) syscall(SYS_renameat2, folder, entry->d_name, folder, name, 0);
+        else if (is_lost && had_none) unlinkat(folder, name, 0);
+        if (is_appended || had_one || had_none) unlinkat(folder, entry->d_name, 0);
+    }
+    closedir(names);
+}
+
+/* All that was not synchronized in the folders of the sessions and of the journals. */
 static void lose(void) {
-    char before[NAME_MAX];
-    if (appended.is_there && ftruncate(appended.file, appended.size)) abort();
-    if (!renamed.is_there) return;
-    before_of(before, renamed.name);
-    int answer = renamed.had_one ? (int)syscall(SYS_renameat2, renamed.folder, before, renamed.folder, renamed.name, 0)
-                                 : unlinkat(renamed.folder, renamed.name, 0);
-    if (answer) abort();
+    static const char *const folders[] = { "/ptpm", "/ptpm/apply" };
+    char path[PATH_MAX];
+    for (size_t i = 0; i < sizeof folders / sizeof *folders; i++) {
+        add_end(path, getenv("XDG_STATE_HOME"), folders[i]);
+        int folder = open(path, O_RDONLY | O_DIRECTORY);
+        if (folder < 0) continue;
+        see_to_folder(folder, true);
+        close(folder);
+    }
 }
 
 /* What the call answers, if it is not the end. */
@@ -62,14 +99,29 @@ static int die(int error) {
     return -1;
 }
 
+/* The path of the note of what was appended to a file. */
+static void find_note(char note[PATH_MAX], int file) {
+    char link[64], path[PATH_MAX];
+    snprintf(link, sizeof link, "/proc/self/fd/%d", file);
+    ssize_t size = readlink(link, path, sizeof path - 1);
+    if (size < 0) abort();
+    path[size] = '\0';
+    add_end(note, path, ".appended");
+}
+
+static void note_append(int file, off_t size) {
+    char note[PATH_MAX];
+    find_note(note, file);
+    int to = open(note, O_WRONLY | O_CREAT | O_EXCL, 0600);
+    if (to < 0) return;
+    dprintf(to, "%ld", (long)size);
+    close(to);
+}
+
 ssize_t write(int file, const void *octets, size_t size) {
     struct stat found;
     bool is_file = file > STDERR_FILENO && fstat(file, &found) == 0 && S_ISREG(found.st_mode);
-    if (is_file && (fcntl(file, F_GETFL) & O_APPEND) != 0 && !appended.is_there) {
-        appended.is_there = true;
-        appended.file = file;
-        appended.size = found.st_size;
-    }
+    if (is_file && (fcntl(file, F_GETFL) & O_APPEND) != 0) note_append(file, found.st_size);
     if (is_file && is_last()) {
         ssize_t written = syscall(SYS_write, file, octets, size / 2);
         die(ENOSPC);
@@ -78,35 +130,35 @@ ssize_t write(int file, const void *octets, size_t size) {
     return syscall(SYS_write, file, octets, size);
 }
 
-/* A folder is on the disk then, and what has got its name there. */
+/* A folder is on the disk then, and what has got its name there; or a file. */
 static void keep(int file) {
-    char before[NAME_MAX];
+    char note[PATH_MAX];
     struct stat found;
-    if (appended.is_there && appended.file == file) appended.is_there = false;
-    if (!renamed.is_there || fstat(file, &found) != 0 || !S_ISDIR(found.st_mode)) return;
-    before_of(before, renamed.name);
-    if (renamed.had_one) unlinkat(renamed.folder, before, 0);
-    renamed.is_there = false;
+    if (fstat(file, &found)) return;
+    if (S_ISDIR(found.st_mode)) see_to_folder(file, false);
+    else find_note(note, file), unlink(note);
 }
 
 int fsync(int file) {
     if (is_last()) return die(EIO);
     int answer = (int)syscall(SYS_fsync, file);
-    if (answer == 0 && loses) keep(file);
+    if (answer == 0) keep(file);
     return answer;
 }
 
+/* What the disk has there, if it is not noted already. */
+static void note_rename(int folder, const char *name) {
+    char before[PATH_MAX], none[PATH_MAX];
+    add_end(before, name, ".before");
+    add_end(none, name, ".none");
+    if (faccessat(folder, before, F_OK, 0) == 0 || faccessat(folder, none, F_OK, 0) == 0) return;
+    if (linkat(folder, name, folder, before, 0)) close(openat(folder, none, O_WRONLY | O_CREAT, 0600));
+}
+
 int renameat(int from, const char *old, int to, const char *new) {
-    char before[NAME_MAX];
     if (is_last()) return die(ENOSPC);
-    before_of(before, new);
-    if (loses) renamed.had_one = linkat(to, new, to, before, 0) == 0;
+    note_rename(to, new);
     int answer = (int)syscall(SYS_renameat2, from, old, to, new, 0);
-    if (loses && answer == 0) {
-        renamed.is_there = true;
-        renamed.folder = to;
-        snprintf(renamed.name, sizeof renamed.name, "%s", new);
-    }
     size_t size = strlen(new);
     if (size > 8 && strcmp(new + size - 8, ".journal") == 0) has_begun = true;
     return answer;

@@ -29,6 +29,12 @@ collect --target aabbccfffeddee01|collect asks every clock: it takes no --target
 --sdo 1@0 status|--sdo 1@0: it takes
 --sdo 0 survey PRIORITY1|--sdo: it is of collect and status alone
 --watch 0 status|--watch 0: it takes a number from 1 to 86400
+--for 0 status|--for 0: it takes a number from 1 to 86400
+--for 4 collect|--for: it is of status alone
+--for 4 --once status|--for excludes --once and --watch
+--for 4 --watch 1 status|--for excludes --once and --watch
+--watch 1 --forget 31622401 status|--forget 31622401: it takes a number from 1 to 31622400
+--forget 60 status|--forget: it goes with --watch alone
 --max-offset -1 status|--max-offset -1: it takes none, or a number of nanoseconds from 0 to 18446744073709551615
 --max-delay none status|--max-delay none: it takes a number of nanoseconds from 0 to 18446744073709551615
 --tai-utc 32768 status|--tai-utc 32768: it takes a number of seconds from -32768 to 32767

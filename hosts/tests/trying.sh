@@ -118,17 +118,17 @@ asks() {
     echo $? > "$work/status"
     [ "$(echo $printed)" = "$wanted" ] && echo yes
 }
-refuses() { # what it says on standard error, and that nothing is asked or printed
+refuses() { # what it says on standard error, and that nothing is asked or printed; `refused` is its status, if that is not 2
     wanted=$1
     shift
     printed=$(ip netns exec $near ./manage "$@" 2>&1 > "$work/asked")
-    [ $? = 2 ] && [ ! -s "$work/asked" ] && [[ $printed == "ptpm-manage: "*$wanted* ]] && echo yes
+    [ $? = "${refused:-2}" ] && [ ! -s "$work/asked" ] && [[ $printed == "ptpm-manage: "*$wanted* ]] && echo yes
 }
 
 session_from() { # a number, and perhaps a manager and a clock: the file of their session, which begins there
     python3 -c 'import sys
 sys.stdout.buffer.write(bytes.fromhex("7074706d0201000000000029%s0001%s08%04x011e00%034x" % (sys.argv[2], sys.argv[3], int(sys.argv[1]), 0)))' \
-        "$1" "${2:-020000fffe000010}" "${3:-$identity}"
+        "$1" "${2:-000000fffe000010}" "${3:-$identity}"
 }
 next_number() { # of the session that a file has: that of its first request, and how many were begun
     python3 -c 'import sys

@@ -351,6 +351,8 @@ static void waits(void) {
     check(waited(1020) >= 1020, "a wait of more than a second");
 }
 
+const char program[] = "units";
+
 enum { SEEN = 1, LOST = 2 };
 
 /* Which clocks the latest look has. */
@@ -373,15 +375,19 @@ static struct lines lines_of(const char *one, const char *two, const char *three
     return lines;
 }
 
+/* Whether these are the lines, which are freed. */
+static bool are_lines(struct lines lines, const char *one, const char *two) {
+    size_t size = strlen(one);
+    bool is_same = lines.size == size + strlen(two) && memcmp(lines.at, one, size) == 0 && memcmp(lines.at + size, two, strlen(two)) == 0;
+    free(lines.at);
+    return is_same;
+}
+
 /* Whether this is kept before a look, of the looks before it. */
 static bool keeps(struct lines earlier, struct lines look, bool is_over_time, const char *one, const char *two) {
-    struct lines expected = lines_of(one, two, look.at);
-    keep_lines_before(&look, &earlier, is_over_time);
-    bool is_same = look.size == expected.size && memcmp(look.at, expected.at, look.size) == 0;
-    free(earlier.at);
+    keep_over_time(&earlier, &look, is_over_time);
     free(look.at);
-    free(expected.at);
-    return is_same;
+    return are_lines(earlier, one, two);
 }
 
 /* A line in which a clock says its stepsRemoved, or that its port is a master with a logAnnounceInterval. */
@@ -436,10 +442,47 @@ static void kept_lines(void) {
     one = look_line(words, SEEN, 7, PTPM_STATE_MASTER);
     look = look_line("", SEEN, 9, PTPM_STATE_MASTER);
     check(keeps(lines_of(one, "", ""), lines_of(look, "", ""), true, "", ""), "a state that may last");
-    one = look_line(words, LOST, 7, PTPM_STATE_MASTER);
-    check(keeps(lines_of(one, "", ""), lines_of(look, "", ""), false, one + strlen(words), ""), "what a clock answered that is gone");
-    one = look_line(words, LOST, 7, PTPM_STATE_LISTENING);
-    check(keeps(lines_of(one, "", ""), lines_of(look, "", ""), true, "", ""), "but not that its port was on its way");
+    struct lines kept = lines_of(look, "", ""), earlier = lines_of(get, look_line(words, LOST, 7, PTPM_STATE_MASTER), one);
+    add_lines_of_seen(&kept, &earlier);
+    free(earlier.at);
+    char *added;
+    check(asprintf(&added, "%s%s", get, one) > 0 && are_lines(kept, look, added), "nothing that a clock answered that is gone");
+    free(added);
+}
+
+/* A line in which a clock says its offset. */
+static const char *offset_line(unsigned sequence, unsigned offset) {
+    static char lines[32][256];
+    static size_t next;
+    char *line = lines[next++ % 32];
+    snprintf(line, sizeof lines[0], "at=%u 0d02004a%032x%016x0001%04x04%02x%020x0101%02x000001001a2001%04x%016x\n", sequence, 0, SEEN, sequence,
+             0x7f, 0, 2, 1, offset);
+    return line;
+}
+
+/* Whether these answers with an offset are kept before one more, as letters from a on. The first one has another offset. */
+static bool keeps_offsets(unsigned count, unsigned offset, const char *expected) {
+    struct lines earlier = lines_of(offset_line(0, offset + 1), "", ""), look = lines_of(offset_line(count, offset), "", "");
+    char found[32] = "";
+    for (unsigned i = 1; i < count; i++) {
+        struct lines more = lines_of(offset_line(i, offset), "", ""), both = lines_of(earlier.at, more.at, "");
+        free(earlier.at);
+        free(more.at);
+        earlier = both;
+    }
+    keep_over_time(&earlier, &look, false);
+    const char *end = earlier.at + earlier.size;
+    size_t place = 0;
+    for (const char *at = earlier.at; at < end; at = end_of_line(at, end)) found[place++] = (char)('a' + strtoul(at + strlen("at="), NULL, 10));
+    free(earlier.at);
+    free(look.at);
+    return strcmp(found, expected) == 0;
+}
+
+static void offsets(void) {
+    check(keeps_offsets(4, 7, "bcd"), "the answers with the offset that a clock still has");
+    check(keeps_offsets(17, 7, "bhijklmnopq"), "of these the first, and eleven with the latest");
+    check(keeps_offsets(4, 0, ""), "but none of a clock that is not off");
 }
 
 int main(void) {
@@ -456,6 +499,7 @@ int main(void) {
     intervals();
     json();
     kept_lines();
+    offsets();
     change_times();
     single_gets();
     waits();

@@ -37,7 +37,7 @@ from .session import Session
 from .session_file import DamagedFileError, OpenApplyError, SessionFile, SessionFileError, usual_path
 from .settings import ClockSettings, DelayMechanism, Manager, PortSettings, PortState, Rights, TimeSource
 from .site import SiteError, site
-from .site_tree import AskedDomain, Domain, Finding, Lack, Site, SiteClock, read_site
+from .site_tree import AskedDomain, Domain, Finding, Grandmaster, Lack, Site, SiteClock, read_site
 from .survey import SURVEY_PORT, Survey, SurveySettings, survey
 from .time_interval import TimeInterval, time_interval
 from .transport import Transport, UdpTransport, UnixTransport
@@ -45,8 +45,9 @@ from .transport import Transport, UdpTransport, UnixTransport
 __all__ = [
     "__version__", "Action", "answer_name", "ask_as_nobody", "Asked", "AskedDomain", "Changed", "ChangeRefused", "Clock",
     "ClockMembers", "ClockQuality", "ClockSettings", "CurrentDataSet", "DamagedFileError", "data_field", "DefaultDataSet",
-    "DelayMechanism", "Domain", "DomainIdentity", "Error", "error_name", "Finding", "get", "Gives", "HandleAnswer", "Handled",
-    "id_name", "id_of", "Identity", "Lack", "Limit", "ManagementId", "Manager", "members", "newest_image", "NoAnswer", "Objection", "ObservedClock",
+    "DelayMechanism", "Domain", "DomainIdentity", "Error", "error_name", "Finding", "get", "Gives", "Grandmaster", "HandleAnswer",
+    "Handled", "id_name", "id_of", "Identity", "Lack", "Limit", "ManagementId", "Manager", "members", "newest_image", "NoAnswer",
+    "Objection", "ObservedClock",
     "ObservedGrandmaster", "ObservedPort", "OpenApplyError", "ParentDataSet", "PassedOn", "PortDataSet", "PortIdentity",
     "PortMembers", "PortSettings", "PortState", "PtpmError", "Rate", "read_site", "Report", "Requests", "Rights", "SavingClock",
     "SavingSession", "Say", "sealed", "Session", "SessionAnswer", "SessionFile", "SessionFileError", "SessionSettings", "Site", "site",

@@ -3,6 +3,7 @@
 from __future__ import annotations
 
 import argparse
+import os
 import re
 import signal
 import sys
@@ -19,7 +20,7 @@ from .nobody import ask_as_nobody, ask_in_no_session, nobody, refuse_nobody
 from .report import Report
 from .requests import Requests, SessionSettings, begin_request
 from .session import Session
-from .session_file import SessionFile, SessionFileError
+from .session_file import SessionFile, SessionFileError, usual_path
 from .site_command import main as show_site
 from .streams import NOT_AS_ASKED, NOT_WRITTEN, NotWritten, complain, flush, hold_streams, parsed
 from .survey import survey
@@ -64,12 +65,14 @@ def _parser() -> argparse.ArgumentParser:
     add("-i", "--interface", action=_Once, metavar="NAME", help="over UDP port 320 at this interface")
     add("--ipv6", action="store_true", help="with IPv6")
     add("--udp", metavar="ADDRESS", help="over UDP to this address")
+    add("--any-source", action="store_true", help="over UDP, takes answers from addresses that are not on the link")
+    add("--ttl-security", action="store_true", help="of unicast over UDP, takes only what no router has passed on")
     add("-u", "--unix", metavar="PATH", help="at a Unix socket of this machine, as /var/run/ptp4l")
     add("-T", "--target", metavar="IDENTITY", help="the clock, such as aabbccfffeddee01 or aabbcc.fffe.ddee01-1 for its port 1")
     add("-p", "--port", type=_number(0, 65535), help="the clock's port, named apart")
     add("-d", "--domain", action=_Once, type=_number(0, 255), default=0)
     add("-b", "--hops", type=_number(0, 255), default=1, help="boundary clocks that pass the request on")
-    add("-m", "--manager", metavar="IDENTITY-PORT", help="the manager's own identity")
+    add("-m", "--manager", metavar="IDENTITY-PORT", help="the manager's own identity; else the MAC of the interface with its local bit turned")
     add("-k", "--numbers", metavar="FILE", help="the file of the manager's session with the clock")
     add("--give-up", action="store_true", help="lets the request of an earlier run go that had no answer")
     add("-w", "--wait", type=_number(0, 100000), default=3000, help="milliseconds before a new session asks")
@@ -154,7 +157,9 @@ class Task:
     def way(self) -> Transport:
         """The socket that it uses."""
         words = self.words
-        return UnixTransport(words.unix) if words.unix is not None else UdpTransport(words.interface, words.udp, ipv6=words.ipv6)
+        if words.unix is not None:
+            return UnixTransport(words.unix)
+        return UdpTransport(words.interface, words.udp, ipv6=words.ipv6, any_source=words.any_source, ttl_security=words.ttl_security)
 
     @property
     def is_numbered(self) -> bool:
@@ -190,11 +195,26 @@ class Task:
         if self.is_numbered:
             # An answer to this host alone comes in at the latest socket, so who waits for its turn has none yet.
             with SessionFile(settings.manager, self.target, words.numbers) as file, self.way() as way:
+                if file.octets is None and self._is_unnamed:
+                    self._tell_former_session(PortIdentity.of(settings.manager))
                 return self._ask_by(file, settings, way)
         is_managers = words.manager is not None and self.action != Action.GET
         ask = ask_in_no_session if is_managers else ask_as_nobody
         with self.way() as way:
             return _print([ask(way, settings, self.action, self.id, self.data, self.port, timeout=seconds)], words.hexadecimal)
+
+    @property
+    def _is_unnamed(self) -> bool:
+        """Whether the manager has the name of its interface."""
+        return self.words.manager is None and self.words.numbers is None and self.words.unix is None
+
+    def _tell_former_session(self, manager: PortIdentity) -> None:
+        """Says how the session goes on that earlier versions kept under the identity of a clock of this host."""
+        assert self.target is not None
+        former = PortIdentity(manager.clock.turned, manager.port)
+        path = usual_path(former, self.target)
+        if os.path.exists(path):
+            complain(f"{path} has the session of an earlier version: -m {former} goes on with it")
 
     def _ask_by(self, file: SessionFile, settings: SessionSettings, way: Transport) -> int:
         words = self.words
@@ -205,6 +225,9 @@ class Task:
                 report = self._ask_in(session, way)
                 if is_new:
                     complain(f"{file.path} is new: the session begins at number {(session.next_number - 1) % 65536}")
+                    if self._is_unnamed:
+                        who = settings.manager
+                        complain(f"it asks as manager {who}, by the MAC of the interface: a ptpm-clock takes its changes with -m {who}")
                 status = _print([report], words.hexadecimal)  # and then it is kept without the request
         except OSError as error:
             if status is None:

@@ -69,13 +69,13 @@ def octets_of(given: bytes) -> bytes:
 
 class Handle:
     """What owns a handle of the library. It is all zeros before its first call, and has one live copy. Only one thread at a
-    time makes calls with it."""
+    time makes calls with it. A signal handler of that thread may: it runs between two calls of the library."""
 
     def __init__(self, kind: Type[ctypes.Structure], stop: Callable[..., None]) -> None:
         self._handle = kind()
         self._at = ctypes.byref(self._handle)
         self._stop = stop
-        self._turn = threading.Lock()
+        self._turn = threading.RLock()
 
     def _call(self, call: Callable[..., Any], *words: Any) -> int:
         """A call with the handle, which ctypes hands its words as the header takes them."""

@@ -21,12 +21,13 @@ import contextlib
 import threading
 import time
 import weakref
-from typing import Any, AsyncIterator, Callable, MutableMapping, Optional, Tuple, TypeVar
+from typing import Any, AsyncIterator, Callable, Mapping, MutableMapping, Optional, Tuple, TypeVar
 
 from . import nobody
 from .asking import judge_seconds
 from .identity import IdentityLike
 from .ids import IdLike
+from .link import Way
 from .members import DataField
 from .report import Report
 from .requests import SessionSettings
@@ -58,6 +59,18 @@ class _Asked(Transport):
     def end(self) -> None:
         """Nothing is sent, or waited for, from now on."""
         self._is_ended.set()
+
+    @property
+    def origin(self) -> Transport:
+        return self._way.origin
+
+    @property
+    def came_by(self) -> Optional[Way]:  # type: ignore[override]
+        return self._way.came_by
+
+    @property
+    def not_taken(self) -> Mapping[str, str]:  # type: ignore[override]
+        return self._way.not_taken
 
     def send(self, octets: bytes) -> bool:
         if self._is_ended.is_set():

@@ -3,8 +3,9 @@
 from __future__ import annotations
 
 import ctypes
+from contextlib import contextmanager
 from dataclasses import dataclass
-from typing import Any, List, Optional, Sequence, Set, Tuple, Type
+from typing import Any, Iterator, List, Optional, Sequence, Set, Tuple, Type
 
 from . import _header as header
 from ._library import Handle, library, octets_of
@@ -42,6 +43,11 @@ def _trusted(identity: IdentityLike, managers: Sequence[Manager]) -> Any:
     return _array(header.ptpm_manager_settings, places)
 
 
+def _messages(places: Any, count: int) -> List[Tuple[int, bytes]]:
+    """The messages in the first places."""
+    return [(sent.port, bytes(memoryview(sent.octets)[: sent.size])) for sent in places[:count]]
+
+
 def port_number(port: int) -> int:
     """A number of a port that fits its type."""
     if not 0 <= port <= 65535:
@@ -67,7 +73,7 @@ class Clock(Handle):
     def _begin(self) -> None:
         """A handle that holds nothing, and room for what a turn sends."""
         super().__init__(header.ptpm_clock, library.ptpm_clock_stop)
-        self._sent = (header.ptpm_sent * header.PTPM_MOST_SENT)()
+        self._rooms: List[Any] = []  # for what a turn sends; a signal handler in a turn takes another one
 
     @classmethod
     def restore(cls, identity: IdentityLike, ports: int, managers: Sequence[Manager], image: bytes) -> Tuple[Clock, int]:
@@ -114,13 +120,13 @@ class Clock(Handle):
         changed = header.ptpm_changed()
         datagram = octets_of(octets)
         came_in = (port_number(port), datagram, len(datagram))
-        with self._turn:
-            room = (self._sent, len(self._sent), ctypes.byref(count), ctypes.byref(changed))
+        with self._room() as sent:
+            room = (sent, len(sent), ctypes.byref(count), ctypes.byref(changed))
             if say is None:
                 answer = judged(library.ptpm_clock_handle_changed(self._at, *came_in, *room))
             else:
                 answer = judged(library.ptpm_clock_handle_said(self._at, *came_in, ctypes.byref(say_of(say)), *room))
-            messages = self._messages(count.value)
+            messages = _messages(sent, count.value)
         return Handled(HandleAnswer(answer), messages, Changed.of_library(changed))
 
     def set(self, action: Action, named: IdLike, port: int = 0xFFFF, octets: bytes = b"") -> Changed:
@@ -141,16 +147,22 @@ class Clock(Handle):
         bring."""
         return self._call(library.ptpm_clock_most_sent)
 
-    def _messages(self, count: int) -> List[Tuple[int, bytes]]:
-        """The messages in the first places."""
-        return [(sent.port, bytes(memoryview(sent.octets)[: sent.size])) for sent in self._sent[:count]]
+    @contextmanager
+    def _room(self) -> Iterator[Any]:
+        """Places for what a turn sends."""
+        with self._turn:
+            room = self._rooms.pop() if self._rooms else (header.ptpm_sent * header.PTPM_MOST_SENT)()
+            try:
+                yield room
+            finally:
+                self._rooms.append(room)
 
     def _saved(self, token: int) -> List[Tuple[int, bytes]]:
         """Says that a restart would find the image of this token. Returns what waited for that."""
         count = ctypes.c_size_t()
-        with self._turn:
-            done(library.ptpm_clock_saved(self._at, token, self._sent, len(self._sent), ctypes.byref(count)))
-            return self._messages(count.value)
+        with self._room() as sent:
+            done(library.ptpm_clock_saved(self._at, token, sent, len(sent), ctypes.byref(count)))
+            return _messages(sent, count.value)
 
     def observe(self, observed: ObservedClock, ports: Sequence[ObservedPort] = ()) -> Set[int]:
         """Sets what the host observes about its clock and its first ports. Returns the disabled ports for which a state was

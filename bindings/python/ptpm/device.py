@@ -42,12 +42,15 @@ class Limit:
     def __init__(self, id: IdLike, port: int = 0xFFFF, values: Union[Tuple[int, int], AbstractSet[int], None] = None):
         self._limit = header.ptpm_limit(id=id_of(id))
         write_number(self._limit, "port", port)
+        for octet in values or ():
+            if not _is_value(octet):
+                raise OverflowError(f"a value is -128 to 255, not {octet}")
         if isinstance(values, AbstractSet):
             for octet in values:
-                if not _is_value(octet):
-                    raise OverflowError(f"a value is -128 to 255, not {octet}")
                 self._limit.values[octet % 256 // 8] |= 1 << octet % 8
-        elif values is not None and all(map(_is_value, values)):
+        elif values is not None:
+            if values[0] > values[1]:
+                raise ValueError(f"no value is from {values[0]} to {values[1]}")
             library.ptpm_limit_range(ctypes.byref(self._limit), *values)
 
     def __contains__(self, octet: int) -> bool:

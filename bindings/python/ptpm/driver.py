@@ -7,6 +7,7 @@ from typing import Callable, Optional
 
 from . import _header as header
 from .asker import Asker
+from .asking import Answerer
 from .named_port import NamedPort
 from .transport import Transport
 
@@ -18,6 +19,7 @@ class Driver:
         self,
         asker: Asker,
         way: Transport,
+        answerer: Answerer,
         port: NamedPort,
         timeout: float,
         wait: float,
@@ -25,6 +27,7 @@ class Driver:
         is_begun: bool,
     ) -> None:
         self._asker, self._way, self._port, self._save = asker, way, port, save
+        self._answerer = answerer
         self._timeout, self._wait = timeout, wait
         self._due = 0.0
         self.is_begun = is_begun
@@ -58,6 +61,7 @@ class Driver:
         """Sends what is handed out. Its answer is waited for from when it left."""
         message, time_outs = self._port.goes_out(self._asker.message()), self._asker.time_outs
         self._asker.take()
+        self._answerer.is_asked(message, self._way)
         try:
             is_out = self._is_out(message)
         except OSError as error:
@@ -86,8 +90,11 @@ class Driver:
             datagram = self._way.receive(until)
             if datagram is None:
                 return False
+            if not self._answerer.may_answer(datagram, self._way):
+                continue
             for heard in self._port.comes_in(datagram):
                 self._asker.hear(heard)
                 if self._asker.next != header.PTPM_NOTHING:
+                    self._answerer.has_answered(self._way)
                     break
         return True

@@ -43,6 +43,11 @@ class Identity:
         return cls(mac[:3] + b"\xff\xfe" + mac[3:])
 
     @property
+    def turned(self) -> Identity:
+        """The same with its universal/local bit turned."""
+        return Identity(bytes([self.octets[0] ^ 2]) + self.octets[1:])
+
+    @property
     def pointed(self) -> str:
         """As pmc writes it."""
         text = self.octets.hex()

@@ -18,7 +18,7 @@ class PassedOn:
             raise ValueError(f"a table has 16 to 1,048,576 places, not {places}")
         self._seed, self._count = ctypes.c_uint64(seed), places
         self._places = (ctypes.c_uint64 * (6 * places))()
-        self._turn = threading.Lock()
+        self._turn = threading.RLock()
 
     def is_first(self, message: bytes, now: int, time: int) -> bool:
         """Whether a message is to be forwarded; it is then recorded for a time. The time now and that one are in the same unit."""
@@ -35,7 +35,7 @@ class Rate:
         if tokens < 0:
             raise OverflowError(f"a rate is no {tokens}")
         self._rate = header.ptpm_rate()
-        self._turn = threading.Lock()
+        self._turn = threading.RLock()
         library.ptpm_rate_start(ctypes.byref(self._rate), tokens, now)
 
     def take(self, now: int) -> bool:

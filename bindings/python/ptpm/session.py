@@ -11,7 +11,7 @@ from typing import Iterator, Optional, Type
 from . import _header as header
 from .answers import Error, SessionAnswer
 from .asker import Asker
-from .asking import NoAnswer, judge_seconds, no_answer
+from .asking import Answerer, NoAnswer, judge_seconds, no_answer
 from .clock import port_number
 from .driver import Driver
 from .identity import PortIdentity
@@ -48,6 +48,7 @@ class Session(Requests):
         self._saved: Optional[bytes] = None  # what it goes on from after a failure; None if the next number is not known
         self._in_file: Optional[bytes] = None
         self._told: Optional[Report] = None
+        self._answerer = Answerer()
         self._file = file
         self._wait = wait
         self.is_under_way = False
@@ -183,7 +184,7 @@ class Session(Requests):
 
     def _carry_out(self, asker: Asker, way: Transport, timeout: float, request: Request, is_begun: bool) -> Report:
         """Carries out what was asked, or what is settled."""
-        driver = Driver(asker, way, self._port, timeout, self._wait, self._save, is_begun)
+        driver = Driver(asker, way, self._answerer, self._port, timeout, self._wait, self._save, is_begun)
         with self._turn_of(asker):
             if not driver.run():
                 raise driver.why or self._why(asker, driver, way, request, timeout)
@@ -192,15 +193,17 @@ class Session(Requests):
 
     def _why(self, asker: Asker, driver: Driver, way: Transport, request: Request, timeout: float) -> NoAnswer:
         """Why there is no answer."""
+        known = self._answerer.why_none(way)
         if driver.is_begun or driver.sent == 0:
-            return no_answer(driver.sent)
+            return no_answer(driver.sent, known)
         image = asker.image()
         if self._saved is None:
             what, is_read = "each of four numbers", asker.is_read_answered
         else:
             what, is_read = f"number {latest_number(image)}", self._is_read(way, image, request.port, timeout)
         why = f"the clock answers reads, and drops {what} of manager {PortIdentity.of(self.settings.manager)}"
-        return NoAnswer(f"{why if is_read else 'no answer, and to no read either'}: the request itself was not sent", was_sent=False)
+        what = why if is_read else "no answer, and to no read either"
+        return NoAnswer(f"{what}: the request itself was not sent{known}", was_sent=False)
 
     def _is_read(self, way: Transport, image: bytes, port: int, timeout: float) -> bool:
         """Whether the clock answers nobody what a session's question asks."""

@@ -17,8 +17,8 @@ def _parser() -> argparse.ArgumentParser:
     parser = argparse.ArgumentParser(
         prog="python -m ptpm site",
         description="Shows a whole site: who is grandmaster, who follows whom, and what is wrong.",
-        epilog="It runs `ptpm-manage collect` and `ptpm site`. The status is 0 if there is no finding, and 3 if no clock answered, or none at "
-        "one of several interfaces.",
+        epilog="It runs `ptpm-manage collect` and `ptpm site`. The status is 0 if there is no finding. It is 3 if no clock answered, or none at "
+        "one of several interfaces, or if something was left out.",
     )
     add = parser.add_argument
     add("-i", "--interface", metavar="NAME", action="append", help="over UDP port 320 at this interface; up to eight of them")
@@ -75,4 +75,4 @@ def main(arguments: List[str]) -> int:
         print(found)
     if found.findings:
         return FOUND
-    return NO_CLOCK if found.silent_ways else NOTHING_FOUND
+    return NO_CLOCK if found.silent_ways or found.gaps else NOTHING_FOUND

@@ -12,7 +12,6 @@ from .data_sets import (
 from .domain_identity import DomainIdentity
 from .enumeration import Enumeration
 from .identity import Identity, PortIdentity
-from .settings import PortState
 
 _HEAD = ("domainNumber", "sdoId", "clockIdentity", "userDescription", "finding", "severity", "because")
 
@@ -96,29 +95,32 @@ class SiteClock:
 
 
 @dataclass(frozen=True)
+class Grandmaster:
+    """A clock that leads a domain by what `ptpm site` finds. `heard` says by what: "answer", "announce", or "followers" if only a clock
+    that follows it says so. `clock` is what it answered, or None."""
+
+    identity: Identity
+    heard: str
+    clock: Optional[SiteClock] = None
+
+
+@dataclass(frozen=True)
 class Domain:
-    """A domain: its domainNumber and sdoId, its clocks by identity, and the same as a tree. `roots` are the clocks at its left. They
-    are their own grandmasters, or the lowest of a loop, or did not say whom they follow. `lost` are those that follow a port of a
-    clock that did not answer."""
+    """A domain: its domainNumber and sdoId, who leads it, its clocks by identity, and the same as a tree. `roots` are the clocks at its
+    left. They are their own grandmasters, or the lowest of a loop, or did not say whom they follow. `lost` are those that follow a port
+    of a clock that did not answer."""
 
     number: int
     clocks: Tuple[SiteClock, ...]
     roots: Tuple[SiteClock, ...]
     lost: Mapping[PortIdentity, Tuple[SiteClock, ...]]
     sdo_id: int = 0
+    grandmasters: Tuple[Grandmaster, ...] = ()
 
     @property
     def identity(self) -> DomainIdentity:
         """Which domain it is."""
         return DomainIdentity(self.number, self.sdo_id)
-
-    @property
-    def grandmasters(self) -> Tuple[SiteClock, ...]:
-        """The clocks that are their own grandmasters and have a port in MASTER."""
-        return tuple(
-            clock for clock in self.clocks
-            if clock.is_own_grandmaster and any(port.port_state == PortState.MASTER for port in clock.ports)
-        )
 
     def rows(self) -> Iterator[Tuple[int, SiteClock]]:
         """Each clock once, below the one that it follows, with the number of those above it. One that follows a port which is not
@@ -177,12 +179,18 @@ class Site:
         ways = [note[len(_SILENT_WAY):] for note in self.notes if note.startswith(_SILENT_WAY)]
         return tuple(way.partition(": nothing was sent: ")[0] for way in ways)
 
+    @property
+    def gaps(self) -> Tuple[str, ...]:
+        """What is left out for want of room, in words: findings may be missing."""
+        counts = (f"left out: {count} {what}" for count, what in zip(self.left_out, ("clocks", "ports")) if count)
+        return (*counts, *(note.partition(": ")[2] for note in self.notes if note.endswith(" left out")))
+
     def __str__(self) -> str:
         none = "none that these lines can show" if any(lack.name != "senders" for lack in self.not_judged) else "none"
         head = f"findings: {len(self.findings) or none}"
         lacking = [f"not judged: {', '.join(lack.findings)}" for lack in self.not_judged]
         undecided = [f"open: {len(self.open)}", *map(str, self.open)] if self.open else []
-        return "\n".join([*map(str, self.domains), "", head, *map(str, self.findings), *undecided, *lacking])
+        return "\n".join([*map(str, self.domains), "", head, *map(str, self.findings), *undecided, *lacking, *self.gaps])
 
 
 def _text(value: object) -> str:
@@ -286,7 +294,11 @@ def _domain(told: Mapping[str, Any]) -> Domain:
     own = [clock for clock in clocks if clock.is_own_grandmaster]
     silent = [clock for clock in clocks if clock.parent is None]
     roots = (*own, *(seen[identity] for identity in loops), *silent)
-    return Domain(domain.number, tuple(clocks), roots, {port: tuple(clocks) for port, clocks in lost.items()}, domain.sdo_id)
+    grandmasters = tuple(
+        Grandmaster(identity, text_of(one["heard"]), seen.get(identity))
+        for one in told["grandmasters"] for identity in [identity_of(one["clockIdentity"])]
+    )
+    return Domain(domain.number, tuple(clocks), roots, {port: tuple(clocks) for port, clocks in lost.items()}, domain.sdo_id, grandmasters)
 
 
 def read_site(text: str) -> Site:

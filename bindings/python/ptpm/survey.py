@@ -23,6 +23,9 @@ SURVEY_PORT: int = header.PTPM_SURVEY_PORT
 _QUIET = 2
 _QUIET_AT_FIRST = 5
 
+# The place of the sourcePortIdentity in a message (13.3).
+_SOURCE = 20
+
 
 @dataclass(frozen=True)
 class SurveySettings:
@@ -124,7 +127,8 @@ def survey(
             until = time.monotonic() + timeout
             datagram = way.receive(until)
             while datagram is not None:
-                if asked.receive(datagram) == SurveyAnswer.TAKEN:
+                is_own = datagram[_SOURCE : _SOURCE + 8] == who.clock.octets != bytes(8)  # a clock that has the manager's identity
+                if not is_own and asked.receive(datagram) == SurveyAnswer.TAKEN:
                     quiet = 0
                     yield asked[len(asked) - 1]
                 datagram = way.receive(until)

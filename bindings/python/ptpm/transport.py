@@ -5,7 +5,6 @@ from __future__ import annotations
 
 import contextlib
 import errno
-import ctypes
 import fcntl
 import ipaddress
 import itertools
@@ -14,32 +13,25 @@ import select
 import selectors
 import socket
 import struct
+import sys
 import time
-from typing import List, Optional, Sequence, Tuple, Union
+from typing import Any, List, Mapping, Optional, Sequence, Tuple, Union
 
 from .identity import Identity
-
-GENERAL_PORT = 320
-MOST_DATAGRAM = 65536
+from .link import FULL_TTL, GENERAL_PORT, MOST_DATAGRAM, Link, Packets, Way, attach_filter, filter_program, message_in_copy
 
 _GROUP_4 = "224.0.1.129"
 _GROUP_6 = "ff0e::181"
 _SO_BINDTODEVICE = 25
-_SO_ATTACH_FILTER = 26
+_IP_RECVTTL, _IP_TTL = 12, 2
+_IPV6_CHECKSUM, _UDP_CHECKSUM_AT = 7, 6
 _SIOCGIFADDR = 0x8915
 _SIOCGIFHWADDR = 0x8927
-
-
-
-def _program(*instructions: Tuple[int, int, int, int]) -> bytes:
-    """A filter of the kernel's (linux/filter.h)."""
-    return b"".join(struct.pack("=HBBI", *one) for one in instructions)
-
 
 _DROP, _KEEP = (0x06, 0, 0, 0), (0x06, 0, 0, MOST_DATAGRAM - 1)
 
 # Of datagrams, which begin with their UDP header here, those whose messageType is 0xD: management messages.
-_WANTED = _program(
+_WANTED = filter_program(
     (0x30, 0, 0, 8),  # load the octet after the header
     (0x54, 0, 0, 0x0F),  # its lower half
     (0x15, 0, 1, 0x0D),  # if it is not 0xD, pass over the next
@@ -48,7 +40,7 @@ _WANTED = _program(
 )
 
 # Of copies over IPv4, which begin with their IP header, such messages to port 320 of no group.
-_WANTED_COPIES_4 = _program(
+_WANTED_COPIES_4 = filter_program(
     (0xB1, 0, 0, 0),  # the size of the IP header
     (0x48, 0, 0, 2),  # load the port after it
     (0x15, 0, 7, GENERAL_PORT),
@@ -63,12 +55,25 @@ _WANTED_COPIES_4 = _program(
 )
 
 # The same over IPv6, where they begin with their UDP header; the address is before it.
-_WANTED_COPIES_6 = _program(
+_WANTED_COPIES_6 = filter_program(
     (0x28, 0, 0, 2),
     (0x15, 0, 6, GENERAL_PORT),
     (0x30, 0, 0, 0xFFF00000 + 24),
     (0x15, 4, 0, 0xFF),
     (0x30, 0, 0, 8),
+    (0x54, 0, 0, 0x0F),
+    (0x15, 0, 1, 0x0D),
+    _KEEP,
+    _DROP,
+)
+
+# The same for packets of IPv6, which begin with their IP header.
+_WANTED_PACKETS_6 = filter_program(
+    (0x28, 0, 0, 40 + 2),
+    (0x15, 0, 6, GENERAL_PORT),
+    (0x30, 0, 0, 24),
+    (0x15, 4, 0, 0xFF),
+    (0x30, 0, 0, 40 + 8),
     (0x54, 0, 0, 0x0F),
     (0x15, 0, 1, 0x0D),
     _KEEP,
@@ -86,6 +91,17 @@ class Transport:
 
     is_local = False
     """Whether it leads to clocks of this machine only."""
+
+    came_by: Optional[Way] = None
+    """How the message came in that was received last, if that is known."""
+
+    not_taken: Mapping[str, str] = {}
+    """Whose datagrams were not taken, and why."""
+
+    @property
+    def origin(self) -> Transport:
+        """The transport whose sockets it uses: itself, unless it only wraps another one."""
+        return self
 
     def __init__(
         self, opened: socket.socket, to: Address, name: Optional[str] = None, beside: Sequence[socket.socket] = ()
@@ -166,13 +182,21 @@ class Transport:
     def _read(self, opened: socket.socket) -> Optional[bytes]:
         """The message that a socket has. None for what is none, and for an error such as an ICMP of an earlier message."""
         try:
-            return self._message_of(opened, opened.recv(MOST_DATAGRAM))
+            octets, control, _, sender = opened.recvmsg(MOST_DATAGRAM, socket.CMSG_SPACE(4))
+            return self._message_of(opened, octets, sender, _ttl_in(control))
         except OSError:
             return None
 
-    def _message_of(self, opened: socket.socket, octets: bytes) -> Optional[bytes]:
+    def _message_of(self, opened: socket.socket, octets: bytes, sender: Any, ttl: int) -> Optional[bytes]:
         """The message in what a socket heard."""
+        self.came_by = Way(opened.fileno(), sender, False)
         return octets
+
+
+def _ttl_in(control: Sequence[Tuple[int, int, bytes]]) -> int:
+    """The TTL, or hop limit, that the kernel reports of a datagram; 0 if it reports none."""
+    kinds = ((socket.IPPROTO_IP, _IP_TTL), (socket.IPPROTO_IPV6, socket.IPV6_HOPLIMIT))
+    return next((int.from_bytes(octets, sys.byteorder) for level, kind, octets in control if (level, kind) in kinds), 0)
 
 
 def _ask_interface(name: str, request: int) -> bytes:
@@ -184,8 +208,10 @@ def _ask_interface(name: str, request: int) -> bytes:
             raise OSError(error.errno, error.strerror, name) from None
 
 
-def _mac_of(interface: str) -> bytes:
-    return _ask_interface(interface, _SIOCGIFHWADDR)[18:24]
+def _identity_of(interface: str) -> Identity:
+    """That of a manager at an interface: its MAC with fffe in the middle, and the universal/local bit turned, as IPv6 does. A clock of
+    this host, such as a ptp4l, has it as it is, and no manager may have the clockIdentity of a clock."""
+    return Identity.of_mac(_ask_interface(interface, _SIOCGIFHWADDR)[18:24]).turned
 
 
 def _has_address(interface: str, own: str) -> bool:
@@ -230,51 +256,73 @@ class UdpTransport(Transport):
     """UDP port 320 at an interface, to the group of all clocks there, or to one address. It needs root, or the capability
     CAP_NET_BIND_SERVICE. What comes to the group is heard, and what is answered to the port of the request. A clock may answer by
     unicast to port 320 of this host, from whatever port it was asked. Then a copy of that is heard if the program has the
-    capability CAP_NET_RAW, as root has. Nothing is taken from another program that has the port, such as a ptp4l."""
+    capability CAP_NET_RAW, as root has. Nothing is taken from another program that has the port, such as a ptp4l.
 
-    def __init__(self, interface: Optional[str] = None, address: Optional[str] = None, *, ipv6: bool = False) -> None:
+    What comes from an address off the link is taken with `any_source`. With `ttl_security` no unicast is taken whose TTL is below 255."""
+
+    def __init__(
+        self,
+        interface: Optional[str] = None,
+        address: Optional[str] = None,
+        *,
+        ipv6: bool = False,
+        any_source: bool = False,
+        ttl_security: bool = False,
+    ) -> None:
         self.interface, family, to = _destination(interface, address, ipv6)
-        self.identity = Identity.of_mac(_mac_of(self.interface))
-        group, asking, self._copies = _opened(self.interface, family)
-        beside = [group] if self._copies is None else [group, self._copies]
+        self.identity = _identity_of(self.interface)
+        self._link = Link(self.interface, address, any_source, ttl_security)
+        self.not_taken = self._link.refused
+        self._group, asking, self._copies, self._packets = _opened(self.interface, family)
+        beside = [self._group] if self._copies is None else [self._group, self._copies]
         super().__init__(asking, to, address or self.interface, beside)
 
-    def _message_of(self, opened: socket.socket, octets: bytes) -> Optional[bytes]:
-        if opened is not self._copies:
-            return octets
-        place = 4 * (octets[0] & 0x0F) if opened.family == socket.AF_INET and octets else 0
-        size = int.from_bytes(octets[place + 4 : place + 6], "big")  # with the UDP header
-        return octets[place + 8 : place + size] if 8 < size <= len(octets) - place else None
+    def close(self) -> None:
+        super().close()
+        if self._packets is not None:
+            self._packets.close()
+
+    def _message_of(self, opened: socket.socket, octets: bytes, sender: Any, ttl: int) -> Optional[bytes]:
+        if not self._link.takes(sender[0], ttl, is_unicast=opened is not self._group):
+            return None
+        message: Optional[bytes] = octets
+        if opened is self._copies:
+            if not self._link.takes_copy(self._packets, sender[0], octets):
+                return None
+            message = message_in_copy(octets, opened.family == socket.AF_INET6)
+        if message is not None:
+            self.came_by = Way(opened.fileno(), sender[0], ttl == FULL_TTL)
+        return message
 
     @staticmethod
     def identity_at(interface: Optional[str] = None, address: Optional[str] = None, *, ipv6: bool = False) -> Identity:
         """The clockIdentity that a manager has by default with such a transport. No socket is opened at UDP port 320."""
-        return Identity.of_mac(_mac_of(_destination(interface, address, ipv6)[0]))
-
-
-def _filter(opened: socket.socket, wanted: bytes) -> None:
-    """Has the kernel drop what is no management message, so that other messages leave the answers their room."""
-    octets = ctypes.create_string_buffer(wanted, len(wanted))
-    opened.setsockopt(socket.SOL_SOCKET, _SO_ATTACH_FILTER, struct.pack("HP", len(wanted) // 8, ctypes.addressof(octets)))
+        return _identity_of(_destination(interface, address, ipv6)[0])
 
 
 def _at(opened: socket.socket, interface: str, wanted: bytes) -> socket.socket:
     """The socket hears and sends only on this interface. It is not bound yet, and hears nothing until then."""
-    _filter(opened, wanted)
+    attach_filter(opened, wanted)
     opened.setsockopt(socket.SOL_SOCKET, _SO_BINDTODEVICE, interface.encode() + b"\0")
+    if opened.family == socket.AF_INET6:
+        opened.setsockopt(socket.IPPROTO_IPV6, socket.IPV6_RECVHOPLIMIT, 1)
+    else:
+        opened.setsockopt(socket.IPPROTO_IP, _IP_RECVTTL, 1)
     return opened
 
 
 def _send_at(opened: socket.socket, index: int) -> None:
-    """What is sent to the group goes out at that interface, and doesn't come back."""
+    """What is sent to the group goes out at that interface, and doesn't come back. No router passes unicast on with its TTL."""
     if opened.family == socket.AF_INET6:
         opened.setsockopt(socket.IPPROTO_IPV6, socket.IPV6_V6ONLY, 1)
         opened.setsockopt(socket.IPPROTO_IPV6, socket.IPV6_MULTICAST_IF, index)
         opened.setsockopt(socket.IPPROTO_IPV6, socket.IPV6_MULTICAST_LOOP, 0)
+        opened.setsockopt(socket.IPPROTO_IPV6, socket.IPV6_UNICAST_HOPS, FULL_TTL)
         opened.bind(("::", 0))
     else:
         opened.setsockopt(socket.IPPROTO_IP, socket.IP_MULTICAST_IF, struct.pack("=4s4si", bytes(4), bytes(4), index))
         opened.setsockopt(socket.IPPROTO_IP, socket.IP_MULTICAST_LOOP, 0)
+        opened.setsockopt(socket.IPPROTO_IP, socket.IP_TTL, FULL_TTL)
         opened.bind(("", 0))
 
 
@@ -293,8 +341,17 @@ def _join(opened: socket.socket, index: int) -> None:
         opened.setsockopt(socket.IPPROTO_IP, socket.IP_ADD_MEMBERSHIP, join)
 
 
-def _opened(interface: str, family: socket.AddressFamily) -> Tuple[socket.socket, socket.socket, Optional[socket.socket]]:
-    """A socket that hears what comes to the group, one that asks, and one that hears copies, if the program may."""
+def _open_copies(interface: str, family: socket.AddressFamily) -> socket.socket:
+    copies = socket.socket(family, socket.SOCK_RAW | socket.SOCK_CLOEXEC, socket.IPPROTO_UDP)
+    if family == socket.AF_INET6:
+        copies.setsockopt(socket.IPPROTO_IPV6, _IPV6_CHECKSUM, _UDP_CHECKSUM_AT)
+    return _at(copies, interface, _WANTED_COPIES_6 if family == socket.AF_INET6 else _WANTED_COPIES_4)
+
+
+def _opened(
+    interface: str, family: socket.AddressFamily
+) -> Tuple[socket.socket, socket.socket, Optional[socket.socket], Optional[Packets]]:
+    """A socket that hears what comes to the group, one that asks, and those that hear copies and their packets, if the program may."""
     kind = socket.SOCK_DGRAM | socket.SOCK_CLOEXEC
     with contextlib.ExitStack() as opened:
         try:
@@ -305,12 +362,12 @@ def _opened(interface: str, family: socket.AddressFamily) -> Tuple[socket.socket
             _join(group, index)
         except OSError as error:
             raise OSError(error.errno, error.strerror, f"UDP port {GENERAL_PORT} at {interface}") from None
-        copies = None
+        copies = packets = None
         with contextlib.suppress(PermissionError):
-            copies = opened.enter_context(socket.socket(family, socket.SOCK_RAW | socket.SOCK_CLOEXEC, socket.IPPROTO_UDP))
-            _at(copies, interface, _WANTED_COPIES_6 if family == socket.AF_INET6 else _WANTED_COPIES_4)
+            copies = opened.enter_context(_open_copies(interface, family))
+            packets = Packets(interface, family, _WANTED_PACKETS_6 if family == socket.AF_INET6 else _WANTED_COPIES_4)
         opened.pop_all()
-    return group, asking, copies
+    return group, asking, copies, packets
 
 
 # The most octets of a path that has room for what is put after it.

@@ -26,7 +26,7 @@ from ptpm.session_file import usual_path
 from . import CLOCK, MANAGER, TOP, Folder
 
 
-HEAD = '{"version":1,"name":"n","manager":"020000fffe000010/1","steps":[]}'
+HEAD = '{"version":1,"name":"n","manager":"000000fffe000010/1","steps":[]}'
 
 
 def journal_line(text: str) -> str:

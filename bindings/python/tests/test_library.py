@@ -6,6 +6,7 @@ from __future__ import annotations
 import copy
 import doctest
 import os
+import signal
 import socket
 import tempfile
 import unittest
@@ -48,6 +49,29 @@ def clock(ports: int = 2) -> ptpm.Clock:
 
 
 class Clocks(unittest.TestCase):
+    def test_a_signal_handler_handles_and_saves_in_a_turn(self) -> None:
+        """It comes between any two steps of the turn that it interrupts."""
+        asked_many = [request(number, "aabbccfffeddee01ffff", 1, 0, "2005") for number in range(1, 400)]
+        with clock() as asked:
+            def save(*_: object) -> None:
+                asked.handle(1, bytes(54))
+                images.append(asked.image())
+
+            images: "list[bytes]" = []
+            before = signal.signal(signal.SIGALRM, save)
+            self.addCleanup(signal.signal, signal.SIGALRM, before)
+            signal.setitimer(signal.ITIMER_REAL, 0.001, 0.0005)
+            try:
+                handled = [asked.handle(1, octets) for octets in asked_many]
+            finally:
+                signal.setitimer(signal.ITIMER_REAL, 0)
+            self.assertTrue(images)
+            self.assertEqual([one.messages[0][1][30:32] for one in handled], [octets[30:32] for octets in asked_many])
+
+    def test_a_handler_in_the_middle_of_a_turn(self) -> None:
+        with clock() as asked, asked._turn:
+            self.assertEqual(asked.handle(1, bytes(54)).messages, [])
+
     def test_a_set_is_carried_out_once(self) -> None:
         with clock() as asked:
             set_priority1 = request(7, "aabbccfffeddee01ffff", 1, 1, "20056400")
@@ -63,6 +87,8 @@ class Clocks(unittest.TestCase):
 
     def test_a_device_objects_to_a_value_that_it_lacks(self) -> None:
         limits = [ptpm.Limit("LOG_SYNC_INTERVAL", values=(-4, 1)), ptpm.Limit("DOMAIN", 1)]
+        for wrong, error in (((0, 300), OverflowError), ((-129, 0), OverflowError), ({300}, OverflowError), ((5, 4), ValueError)):
+            self.assertRaises(error, ptpm.Limit, "PRIORITY1", values=wrong)
         self.assertEqual([octet for octet in range(-300, 300) if octet in limits[0]], [-4, -3, -2, -1, 0, 1, 0xFC, 0xFD, 0xFE, 0xFF])
         self.assertRaises(OverflowError, ptpm.Limit, "DOMAIN", 70000)
         self.assertRaises(OverflowError, ptpm.Limit, "DOMAIN", 1, {256})

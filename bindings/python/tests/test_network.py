@@ -59,18 +59,18 @@ class Network(Folder):
         return path
 
     def test_a_clock_over_udp(self) -> None:
-        self.start_far_clock("-m", "020000fffe000010/1")
+        self.start_far_clock("-m", "000000fffe000010/1")
         self.assertEqual(self.asked("-i", "near0", "get", "PRIORITY1", "--target", CLOCK), "priority1 128\n")
         said = self.asked("-i", "near0", "-w", "0", "set", "PRIORITY1", "100", "--target", CLOCK)
-        new = r"ptpm: .*/020000fffe000010-1.aabbccfffeddee01 is new: the session begins at number \d+"
-        self.assertRegex(said, rf"^priority1 100\n{new}\n$")
+        new = r"ptpm: .*/000000fffe000010-1.aabbccfffeddee01 is new: the session begins at number \d+"
+        self.assertRegex(said, rf"^priority1 100\n{new}\nptpm: it asks as manager 000000fffe000010/1, by the MAC of the interface: .*\n$")
         self.assertEqual(self.asked("-i", "near0", "set", "PRIORITY1", "101", "--target", CLOCK), "priority1 101\n")
         self.assertEqual(self.asked("--udp", "10.9.9.2", "get", "PRIORITY1", "--target", CLOCK), "priority1 101\n")
         self.assertEqual(self.asked("-i", "near0", "survey", "PRIORITY1"), f"{CLOCK}/1 priority1 101\n")
 
     def test_runs_beside_each_other_are_answered(self) -> None:
         """The answers are unicast, each to the port of its request."""
-        self.start_far_clock("-m", "020000fffe000010/1")
+        self.start_far_clock("-m", "000000fffe000010/1")
         self.asked("-i", "near0", "-w", "0", "set", "PRIORITY1", "100", "-T", CLOCK)
         words = [*self.inside(self.near), sys.executable, "-m", "ptpm", "--udp", "10.9.9.2", "-T", CLOCK, "set", "PRIORITY1"]
         runs = [subprocess.Popen([*words, str(value)], stdout=subprocess.PIPE, text=True) for value in (1, 2, 3)]

@@ -3,6 +3,7 @@ ptpm of the repository."""
 
 from __future__ import annotations
 
+import dataclasses
 import os
 import re
 import subprocess
@@ -89,7 +90,8 @@ class Recorded(unittest.TestCase):
 
     def test_members(self) -> None:
         [domain] = ptpm.site(lines=lines("a_changing")).domains
-        self.assertEqual([str(clock.identity) for clock in domain.grandmasters], ["0200a1fffe000201"])
+        leads = [(str(one.identity), one.heard, one.clock in domain.clocks) for one in domain.grandmasters]
+        self.assertEqual(leads, [("0200a1fffe000101", "followers", False), ("0200a1fffe000201", "answer", True)])
         clock = domain.roots[0].followers[0]
         assert clock.current is not None and clock.parent is not None and clock.default is not None
         self.assertEqual((clock.description, clock.default.number_ports), ("bc2;rack 161", 2))
@@ -162,6 +164,12 @@ class Recorded(unittest.TestCase):
         heads = [line for line in str(site).splitlines() if not line.startswith(" ")]
         found = ["findings: 2", "4@0x100 0200a1fffe000101 own_host", "4 0200a1fffe000101 own_host"]
         self.assertEqual(heads, ["domain 4: 1 clocks", "domain 4@0x100: 1 clocks", "", *found])
+
+    def test_a_grandmaster_that_is_only_heard(self) -> None:
+        """Two clocks follow one that sends Announce messages, and answers nothing."""
+        heard = '{"clockIdentity":"0200a1fffe000109","heard":"announce"}'
+        [domain] = ptpm.read_site(told(sdo_ids=[0]).replace('"grandmasters":[]', f'"grandmasters":[{heard}]')).domains
+        self.assertEqual(domain.grandmasters, (ptpm.Grandmaster(ptpm.Identity.of("0200a1fffe000109"), "announce"),))
 
     def test_what_is_open(self) -> None:
         site = ptpm.read_site(told(undecided=[
@@ -287,6 +295,16 @@ class Programs(Folder):
         notes = "".join(f"ptpm-manage: no clock answered at {way}\n" for way in said)
         self.write("ptpm-manage", f"cat {self.folder}/0; printf '{notes}' >&2")
         self.assertEqual(ptpm.site(["eth0", "eth1", "eth2"]).silent_ways, ("eth1", "eth2"))
+        self.assertEqual(subprocess.run(words, capture_output=True, check=False).returncode, 3)
+
+    def test_what_is_left_out(self) -> None:
+        self.collects("a_chain")
+        gap = "there is room for 4096 Delay_Req: 7 more are left out"
+        self.write("ptpm-manage", f"cat {self.folder}/0; echo 'ptpm-manage: {gap}' >&2")
+        found = ptpm.site("eth0", once=True)
+        self.assertEqual((found.findings, found.gaps, str(found).splitlines()[-1]), ((), (gap,), gap))
+        self.assertEqual(dataclasses.replace(found, notes=(), left_out=(0, 3)).gaps, ("left out: 3 ports",))
+        words = [sys.executable, "-m", "ptpm", "site", "-i", "eth0", "--once"]
         self.assertEqual(subprocess.run(words, capture_output=True, check=False).returncode, 3)
 
     def test_a_second_look(self) -> None:

@@ -6,9 +6,6 @@
 use core::ffi::{c_char, c_void};
 use core::mem::size_of;
 
-#[cfg(not(all(target_pointer_width = "64", target_endian = "little")))]
-compile_error!("ptpm is built for 64-bit little-endian processors alone");
-
 /// Says whether a call with this answer was refused.
 #[inline]
 pub const fn ptpm_is_refusal(answer: u32) -> bool {

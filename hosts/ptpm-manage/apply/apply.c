@@ -10,7 +10,6 @@
 #include "stopping.h"
 #include "transport.h"
 #include <errno.h>
-#include <stdlib.h>
 #include <string.h>
 
 /* The program's status after this end. */
@@ -21,7 +20,7 @@ static int status_of(enum ending ending) {
     case ENDED_REFUSED:
     case ENDED_ANSWERED: return REFUSED;
     case ENDED_CHANGED: return NOT_AS_ASKED;
-    default: return NOT_ANSWERED;
+    default: return IN_PART;
     }
 }
 
@@ -31,41 +30,59 @@ static int status_of(enum ending ending) {
 static void judge_ports(const struct step *steps, size_t count) {
     for (size_t i = 0; i < count; i++) {
         if (!is_beyond_session(steps[i].port)) continue;
-        refuse("nothing was sent: change %zu: no session is kept of a port above %d", i + 1, SESSION_PORTS);
+        refuse_usage("nothing was sent: change %zu: no session is kept of a port above %d", i + 1, SESSION_PORTS);
     }
+}
+
+static void warn_of_open(struct plan *plan, const struct task *task) {
+    char name[JOURNAL_NAME], text[2 * JOURNAL_NAME];
+    if (plan->text.text == NULL || !find_journals() || !is_apply_open(name)) return;
+    snprintf(text, sizeof text, "apply %s is open: resume comes first", name);
+    add_warning(plan, text, task->is_json);
 }
 
 static int show_plan(const struct task *task) {
     struct plan plan;
     int status = make_plan(&plan, task), probed = ANSWERED;
+    warn_of_open(&plan, task);
     if (task->plan.is_probed && !stopped) probed = probe_clocks(&plan, task);
     print_plan(&plan, task->is_json);
     if (status == ANSWERED) judge_ports(plan.steps, plan.count);
+    if (probed == ANSWERED) probed = status;
+    if (probed == ANSWERED) note_of_end(plan.count > 0 ? CHANGES : NOTHING_TO_DO);
+    if (probed == ANSWERED && plan.count > 0 && task->plan.tells_changes) probed = HAS_CHANGES;
     leave_plan(&plan);
-    return probed == ANSWERED ? status : probed;
+    return probed;
 }
 
 /* ---- a journal is carried out */
+
+/* What was left out, or has no answer, leaves a rollback done in part. */
+static int judge_left_out(const struct task *task, struct journal *journal) {
+    int status = find_left_out(task, journal);
+    return status == NOT_ANSWERED ? IN_PART : status;
+}
 
 /* Goes on with a journal whose sessions are taken and marked, and says what became of it. If it is a rollback that is complete, and the journal
    of the apply is there, it also says what was left out. */
 static int carry_out(const struct task *task, struct journal *journal) {
     struct journal back_of = { 0 };
+    refuse_as(LEFT_OPEN);
     int status = carry_out_steps(task, journal);
     if (status == ANSWERED) status = status_of(journal->ending);
-    if (status == ANSWERED && find_rolled_back(&back_of, journal)) status = find_left_out(task, &back_of);
-    print_apply(journal, &back_of, status == NOT_ANSWERED, task->is_json);
+    else if (status == NOT_ANSWERED) status = LEFT_OPEN;
+    if (status == ANSWERED && journal->skipped != NULL) status = IN_PART;
+    if (status == ANSWERED && find_rolled_back(&back_of, journal)) status = judge_left_out(task, &back_of);
+    print_apply(journal, &back_of, status == LEFT_OPEN, task->is_json);
     leave_journal(&back_of);
     leave_sessions();
     return status;
 }
 
-static bool make_journal_of(const struct task *task, struct journal *journal) {
+static void make_journal_of(const struct task *task, struct journal *journal) {
     memcpy(journal->manager, task->settings.clock, 8);
     journal->manager_port = task->settings.port;
-    if (make_journal(journal)) return true;
-    complain("nothing was sent: %s: %s", journal->path, strerror(errno));
-    return false;
+    if (!make_journal(journal)) refuse_storage("nothing was sent: %s: %s", journal->path, strerror(errno));
 }
 
 /* Begins a new one: the sessions are taken, the journal is made, and then the marks that name it. */
@@ -73,24 +90,40 @@ static int begin(const struct task *task, struct journal *journal) {
     own_marks(journal->path);
     judge_ports(journal->steps, journal->count);
     take_sessions(task, journal);
-    if (!make_journal_of(task, journal)) return NOT_WRITTEN;
-    return mark_sessions() ? carry_out(task, journal) : NOT_WRITTEN;
+    make_journal_of(task, journal);
+    mark_sessions();
+    return carry_out(task, journal);
 }
 
 /* ---- apply */
 
+static bool is_expected(const struct task *task, const struct plan *plan) {
+    return task->plan.expected == NULL || strcmp(task->plan.expected, plan->id) == 0;
+}
+
 static int apply_plan(const struct task *task, const struct plan *plan) {
     struct journal journal = { 0 };
-    if (task->plan.expected != NULL && strcmp(task->plan.expected, plan->id) != 0) {
+    bool is_with_skips = plan->unreached != NULL && *plan->unreached != '\0';
+    if (!is_expected(task, plan)) {
         complain("nothing was sent: the plan is another one by now");
         return NOT_AS_ASKED;
     }
-    if (plan->count == 0) return ANSWERED;
+    if (plan->count == 0) {
+        note_of_end(NOTHING_TO_DO);
+        return is_with_skips ? IN_PART : ANSWERED;
+    }
     give_steps(&journal, plan->steps, plan->count);
     name_journal(&journal, plan->id);
+    if (task->plan.check != NULL) snprintf(journal.check, sizeof journal.check, "%s", task->plan.check);
+    if (is_with_skips) journal.skipped = strdup(plan->unreached);
     int status = begin(task, &journal);
     leave_journal(&journal);
     return status;
+}
+
+/* Whether what is not reached stops nothing: the user leaves it out, or asks none of it. */
+static bool may_skip(const struct task *task, const struct plan *plan) {
+    return is_reached_in_part(plan) && (task->plan.skips_unreached || *plan->unreached == '\0');
 }
 
 static int apply(const struct task *task) {
@@ -101,8 +134,11 @@ static int apply(const struct task *task) {
     int status = make_plan(&plan, task);
     print_plan(&plan, task->is_json);
     if (fflush(stdout) || ferror(stdout)) return NOT_WRITTEN;
+    limit_plan(&plan, &task->plan);
+    if (status == NOT_ANSWERED && may_skip(task, &plan)) status = ANSWERED;
     if (stopped && status == ANSWERED) status = BY_SIGNAL + stopped;
     if (stopped || status == REFUSED || status == NOT_ANSWERED) complain("nothing was sent");
+    if (status == ANSWERED && task->plan.is_probed && is_expected(task, &plan)) status = probe_steps(&plan, task);
     if (status == ANSWERED) status = apply_plan(task, &plan);
     leave_plan(&plan);
     return status;
@@ -116,10 +152,10 @@ static const struct task *as_manager(const struct task *task, const struct journ
     static struct task own;
     own = *task;
     if (task->path == NULL && memcmp(journal->manager, of_socket, 8) == 0) {
-        refuse("nothing was sent: %s was begun on a Unix socket: --unix names it", journal->name);
+        refuse_usage("nothing was sent: %s was begun on a Unix socket: --unix names it", journal->name);
     }
     bool is_other = memcmp(journal->manager, task->settings.clock, 8) != 0 || journal->manager_port != task->settings.port;
-    if (task->has_manager && is_other) refuse("nothing was sent: %s is by another manager than --manager says", journal->name);
+    if (task->has_manager && is_other) refuse_usage("nothing was sent: %s is by another manager than --manager says", journal->name);
     memcpy(own.settings.clock, journal->manager, 8);
     own.settings.port = journal->manager_port;
     return &own;
@@ -130,9 +166,8 @@ static void end_rolled_back(const struct journal *back) {
     struct journal journal;
     if (!find_rolled_back(&journal, back)) return;
     bool is_ended = journal.ending != IS_OPEN || (continue_journal(&journal) && note_end(&journal, ROLLED_BACK, NO_STEP));
-    if (!is_ended) complain("nothing was sent: %s: %s", journal.path, strerror(errno));
+    if (!is_ended) refuse_storage("nothing was sent: %s: %s", journal.path, strerror(errno));
     leave_journal(&journal);
-    if (!is_ended) exit(NOT_WRITTEN);
 }
 
 /* Takes the journal up where a run before left it. */
@@ -140,29 +175,40 @@ static void take_up(const struct task *task, struct journal *journal) {
     end_rolled_back(journal);
     own_marks(journal->path);
     take_sessions(task, journal);
-    if (!continue_journal(journal)) refuse("nothing was sent: %s: %s", journal->path, strerror(errno));
-    if (!mark_sessions()) exit(NOT_WRITTEN);
+    if (!continue_journal(journal)) refuse_storage("nothing was sent: %s: %s", journal->path, strerror(errno));
+    mark_sessions();
 }
 
-/* Ends it without an answer to the uncertain step. */
-static int give_up_apply(const struct task *task, struct journal *journal) {
-    if (!note_begun_step(journal)) return NOT_WRITTEN;
+/* Ends it without an answer to the uncertain step; ANSWERED, or the program's status. */
+static int end_given_up(struct journal *journal) {
+    if (!journal->is_let_go && !note_letting_go(journal)) return NOT_WRITTEN;
     int status = let_go_of_steps(journal);
     if (status != ANSWERED) return status;
     if (!end_journal(journal, GIVEN_UP, journal->begun)) return NOT_WRITTEN;
     if (journal->begun != NO_STEP) complain("step %ld may have been carried out", journal->begun + 1);
+    return ANSWERED;
+}
+
+static int give_up_apply(const struct task *task, struct journal *journal) {
+    int status = end_given_up(journal);
+    if (status != ANSWERED) return status;
     print_apply(journal, &(struct journal){ 0 }, true, task->is_json);
-    return NOT_ANSWERED;
+    return IN_PART;
 }
 
 static int resume(const struct task *task) {
     struct journal journal;
     take_journals();
-    if (!find_open_journal(&journal)) refuse("nothing was sent: no apply is open in %s", journals_folder());
+    if (!find_open_journal(&journal)) {
+        complain("nothing was sent: no apply is open in %s", journals_folder());
+        note_of_end(NOTHING_TO_DO);
+        return ANSWERED;
+    }
     task = as_manager(task, &journal);
     take_up(task, &journal);
-    if (!task->is_letting_go) open_transport(task);
-    int status = task->is_letting_go ? give_up_apply(task, &journal) : carry_out(task, &journal);
+    bool is_given_up = task->is_letting_go || journal.is_let_go;
+    if (!is_given_up) open_transport(task);
+    int status = is_given_up ? give_up_apply(task, &journal) : carry_out(task, &journal);
     leave_journal(&journal);
     return status;
 }
@@ -198,19 +244,22 @@ static void take_back(struct journal *back, const struct journal *journal) {
 
 /* The journal of the rollback is there before the apply has its end. So wherever a run ends, one of the two is open. */
 static int go_over_to(const struct task *task, struct journal *journal, struct journal *back) {
-    if (!make_journal_of(task, back) || !end_journal(journal, ROLLED_BACK, NO_STEP)) return NOT_WRITTEN;
+    make_journal_of(task, back);
+    if (!end_journal(journal, ROLLED_BACK, NO_STEP)) return NOT_WRITTEN;
     leave_sessions();
     own_marks(back->path);
     take_sessions(task, back);
-    return mark_sessions() ? carry_out(task, back) : NOT_WRITTEN;
+    mark_sessions();
+    return carry_out(task, back);
 }
 
 /* Says that no step is to be taken back, and what is left out. It is no apply, and has no name. */
 static int end_without_steps(const struct task *task, struct journal *journal, struct journal *back) {
     complain("%s: no step is to be rolled back", journal->name);
-    int status = find_left_out(task, journal);
+    int status = judge_left_out(task, journal);
     back->ending = COMPLETE;
     if (task->is_json) print_apply(back, journal, false, true);
+    note_of_end(NOTHING_TO_DO);
     return status;
 }
 
@@ -226,18 +275,20 @@ static int begin_back(const struct task *task, struct journal *journal, struct j
     return end_without_steps(task, journal, back);
 }
 
-/* The uncertain step of an apply that is open is settled first. */
+/* The uncertain step of an apply that is open is settled first. If it was being given up, the apply ends first. */
 static int roll_back_by(const struct task *task, struct journal *journal, struct journal *back) {
     bool is_open = journal->ending == IS_OPEN;
     if (is_open) take_up(task, journal);
-    int status = is_open ? settle_begun_steps(journal) : ANSWERED;
+    int status = !is_open ? ANSWERED : journal->is_let_go ? end_given_up(journal) : settle_begun_steps(journal);
+    is_open = journal->ending == IS_OPEN;
+    if (!is_open) leave_sessions();
     if (status == ANSWERED) {
         take_back(back, journal);
         status = leave_needed_steps(task, back);
     }
     if (status == ANSWERED) return begin_back(task, journal, back);
     complain("nothing was rolled back%s", is_open ? ": the apply stays open" : "");
-    return status;
+    return is_open && status == NOT_ANSWERED ? LEFT_OPEN : status;
 }
 
 static int roll_back(const struct task *task, struct journal *journal) {
@@ -262,11 +313,37 @@ static int rollback(const struct task *task) {
     return status;
 }
 
-int change_site(const struct task *task) {
+/* ---- what was applied */
+
+static int show_applies(const struct task *task) {
+    struct journal journal;
+    if (!find_journals()) refuse_storage("neither XDG_STATE_HOME nor HOME names a folder with applies");
+    if (task->plan.word == NULL) {
+        print_applies(task->is_json);
+        return ANSWERED;
+    }
+    find_journal(&journal, task->plan.word);
+    journal.shows_times = true;
+    print_apply(&journal, &(struct journal){ 0 }, false, task->is_json);
+    leave_journal(&journal);
+    return ANSWERED;
+}
+
+static int change(const struct task *task) {
     switch (task->plan.verb) {
+    case APPLIES: return show_applies(task);
     case APPLY: return apply(task);
     case RESUME: return resume(task);
     case ROLLBACK: return rollback(task);
     default: return show_plan(task);
     }
+}
+
+int change_site(const struct task *task) {
+    begin_object(task->is_json);
+    refuse_as(NOT_ANSWERED);
+    int status = change(task);
+    if (task->plan.kept >= 0) tidy_journals((size_t)task->plan.kept);
+    end_object(status);
+    return status;
 }

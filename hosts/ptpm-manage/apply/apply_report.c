@@ -1,10 +1,18 @@
+#define _GNU_SOURCE
 #include "apply_report.h"
 #include "answer.h"
 #include "field_text.h"
+#include "journals.h"
 #include "names.h"
 #include "notices.h"
+#include "program.h"
+#include "text.h"
 #include "words.h"
+#include <stdlib.h>
 #include <string.h>
+
+/* At this place the name of an apply has its plan: after the time. */
+enum { PLAN_AT = sizeof "20260101-000000" };
 
 /* ---- members */
 
@@ -58,21 +66,41 @@ static bool is_uncertain(const struct journal *journal, size_t place) {
     return journal->told[place].outcome == NOT_TOLD && journal->begun == (long)place && !journal->is_unsent;
 }
 
-static void print_state(const struct journal *journal, size_t place) {
+static void write_state(FILE *to, const struct journal *journal, size_t place) {
     const struct told *told = &journal->told[place];
     const char *error = error_name(told->error);
     switch (told->outcome) {
-    case DONE: fputs("done", stdout); break;
+    case DONE: fputs("done", to); break;
     case IS_REFUSED:
-        if (error != NULL) printf("refused %s", error);
-        else printf("refused 0x%04x", told->error);
+        if (error != NULL) fprintf(to, "refused %s", error);
+        else fprintf(to, "refused 0x%04x", told->error);
         break;
     case OTHER_VALUE:
-        fputs("answered ", stdout);
-        write_value(stdout, journal->steps[place].id, told->answer.octets, told->answer.size);
+        fputs("answered ", to);
+        write_value(to, journal->steps[place].id, told->answer.octets, told->answer.size);
         break;
-    case NOT_TOLD: fputs(is_uncertain(journal, place) ? "may be: it was sent, and has no answer" : "not asked", stdout); break;
+    case NOT_TOLD: fputs(is_uncertain(journal, place) ? "may be: it was sent, and has no answer" : "not asked", to); break;
     }
+}
+
+/* Its number, what became of it, whose member it is, and what changes. */
+static void write_step_line(FILE *to, const struct journal *journal, size_t place) {
+    fprintf(to, "%zu ", place + 1);
+    write_state(to, journal, place);
+    fputs(": ", to);
+    write_member_name(to, &journal->steps[place]);
+    write_change(to, &journal->steps[place]);
+}
+
+void say_step(const struct journal *journal, long place) {
+    char *text = NULL;
+    size_t size;
+    FILE *to = open_memstream(&text, &size);
+    if (to == NULL) give_up("a notice");
+    write_step_line(to, journal, (size_t)place);
+    if (fclose(to)) give_up("a notice");
+    log_progress("step %s", text);
+    free(text);
 }
 
 static size_t count_done(const struct journal *journal) {
@@ -81,16 +109,28 @@ static size_t count_done(const struct journal *journal) {
     return count;
 }
 
+static size_t count_lines(const char *lines) {
+    size_t count = 0;
+    for (; *lines != '\0'; lines++) count += *lines == '\n';
+    return count;
+}
+
 static void print_text_of(const struct journal *journal, const char *end) {
     const char *what = *journal->rolls_back != '\0' ? "rollback" : "apply";
-    printf("%s %s: %s: %zu of %zu done\n", what, journal->name, end, count_done(journal), journal->count);
+    printf("%s %s: %s", what, journal->name, end);
+    if (journal->skipped != NULL) printf(" except %zu not reached", count_lines(journal->skipped));
+    printf(": %zu of %zu done\n", count_done(journal), journal->count);
     for (size_t i = 0; i < journal->count; i++) {
-        printf("  %zu ", i + 1);
-        print_state(journal, i);
-        fputs(": ", stdout);
-        write_member_name(stdout, &journal->steps[i]);
-        write_change(stdout, &journal->steps[i]);
+        fputs("  ", stdout);
+        write_step_line(stdout, journal, i);
+        if (journal->shows_times && *journal->told[i].time != '\0') printf(", %s", journal->told[i].time);
         putchar('\n');
+    }
+    if (journal->skipped == NULL) return;
+    for (const char *at = journal->skipped, *line; *(line = at) != '\0';) {
+        at = strchr(line, '\n') + 1;
+        fputs("  not reached: ", stdout);
+        print_lines(stdout, line, (size_t)(at - line));
     }
 }
 
@@ -106,6 +146,7 @@ static void print_state_as_json(const struct journal *journal, size_t place) {
     const struct told *told = &journal->told[place];
     const char *error = error_name(told->error);
     printf(",\"state\":\"%s\"", is_uncertain(journal, place) ? "mayBe" : names[told->outcome]);
+    if (*told->time != '\0') printf(",\"time\":\"%s\"", told->time);
     if (told->outcome == OTHER_VALUE) print_value_as_json("answer", journal->steps[place].id, &told->answer);
     if (told->outcome != IS_REFUSED) return;
     if (error != NULL) printf(",\"managementErrorId\":\"%s\"", error);
@@ -140,18 +181,134 @@ static void print_steps_as_json(const char *name, const struct journal *journal,
     putchar(']');
 }
 
+/* The object: whether it is printed at all, and whether its head is; and what its end has. */
+static bool is_object, has_head;
+static const char *word_of_done = "done";
+static bool is_open;
+
+static void begin_member(void) {
+    putchar(has_head ? ',' : '{');
+    has_head = true;
+}
+
+/* By the status. */
+static const char *const words[] = {
+    [REFUSED] = "refused", [NOT_ASKED] = "usage", [NOT_ANSWERED] = "nothingSent", [NOT_WRITTEN] = "storage", [NOT_AS_ASKED] = "changed",
+    [LEFT_OPEN] = "open", [IN_PART] = "inPart", [HAS_CHANGES] = "changes",
+};
+
+static void end_with_reason(enum status status, const char *why) {
+    if (!is_object) return;
+    const char *word = status == ANSWERED ? word_of_done : status > HAS_CHANGES ? words[is_open ? LEFT_OPEN : NOT_ANSWERED] : words[status];
+    begin_member();
+    printf("\"status\":\"%s\"", word);
+    if (why != NULL) fputs(",\"why\":", stdout);
+    if (why != NULL) print_json_text(stdout, (const uint8_t *)why, strlen(why));
+    puts("}");
+    is_object = false;
+}
+
+static void end_by_failure(const char *what, const char *why) {
+    char text[512];
+    snprintf(text, sizeof text, "%s: %s", what, why);
+    end_with_reason(NOT_WRITTEN, text);
+}
+
+void begin_object(bool is_json) {
+    is_object = is_json;
+    refuse_also(end_with_reason);
+    end_otherwise(NOT_WRITTEN, end_by_failure);
+}
+
+void print_members(const char *text, size_t size) {
+    print_json(stdout, text, size);
+    has_head = true;
+}
+
+void end_object(int status) { end_with_reason((enum status)status, NULL); }
+
+void note_of_end(enum noted noted) { word_of_done = noted == CHANGES ? "changes" : "nothingToDo"; }
+
+static void print_skipped(const char *lines) {
+    fputs(",\"skipped\":[", stdout);
+    for (const char *at = lines, *end; (end = strchr(at, '\n')) != NULL; at = end + 1) {
+        if (at > lines) putchar(',');
+        print_json_text(stdout, (const uint8_t *)at, (size_t)(end - at));
+    }
+    putchar(']');
+}
+
 static void print_json_of(const struct journal *journal, const struct journal *back_of, const char *end) {
-    if (*journal->name == '\0') fputs("{\"apply\":null", stdout);
-    else printf("{\"apply\":\"%s\"", journal->name);
+    begin_member();
+    if (*journal->name == '\0') fputs("\"apply\":null", stdout);
+    else printf("\"apply\":\"%s\"", journal->name);
     if (*journal->rolls_back != '\0') printf(",\"rollsBack\":\"%s\"", journal->rolls_back);
     printf(",\"end\":\"%s\"", end);
     print_steps_as_json("steps", journal, false);
+    if (journal->skipped != NULL) print_skipped(journal->skipped);
     if (*journal->rolls_back != '\0') print_steps_as_json("leftOut", back_of, true);
-    puts("}");
+}
+
+/* ---- all applies */
+
+static bool is_list_json, is_first_listed;
+
+/* When it began, by its name. */
+static void write_begin(FILE *to, const struct journal *journal) {
+    const char *name = journal->name;
+    fprintf(to, "%.4s-%.2s-%.2sT%.2s:%.2s:%.2sZ", name, name + 4, name + 6, name + 9, name + 11, name + 13);
+}
+
+/* Its plan, by its name. */
+static void write_plan(FILE *to, const struct journal *journal) {
+    const char *plan = journal->name + PLAN_AT;
+    fprintf(to, "%.*s", (int)strcspn(plan, "-"), plan);
+}
+
+static void print_listed_json(const struct journal *journal, const char *file, bool is_read) {
+    fputs("{\"apply\":", stdout);
+    print_json_text(stdout, (const uint8_t *)file, strlen(file) - strlen(".journal"));
+    if (is_read) {
+        fputs(",\"begun\":\"", stdout);
+        write_begin(stdout, journal);
+        printf("\",\"latest\":\"%s\",\"plan\":\"", journal->latest);
+        write_plan(stdout, journal);
+        printf("\",\"done\":%zu,\"steps\":%zu", count_done(journal), journal->count);
+    }
+    printf(",\"end\":\"%s\"}", is_read ? ending_name(journal->ending) : "damaged");
+}
+
+static void print_listed(const struct journal *journal, const char *file, bool is_read) {
+    if (is_read) {
+        write_begin(stdout, journal);
+        putchar(' ');
+        write_plan(stdout, journal);
+        printf(" %s, %zu of %zu done: ", ending_name(journal->ending), count_done(journal), journal->count);
+    } else fputs("damaged: ", stdout);
+    print_text(stdout, (const uint8_t *)file, strlen(file) - strlen(".journal"));
+    putchar('\n');
+}
+
+static void list_one(struct journal *journal, enum found_journal found) {
+    const char *file = strrchr(journal->path, '/') + 1;
+    bool is_read = found == FOUND_JOURNAL && strlen(journal->name) > PLAN_AT;
+    if (is_list_json && !is_first_listed) putchar(',');
+    is_first_listed = false;
+    if (is_list_json) print_listed_json(journal, file, is_read);
+    else print_listed(journal, file, is_read);
+}
+
+void print_applies(bool is_json) {
+    is_list_json = is_json;
+    is_first_listed = true;
+    if (is_json) print_members("{\"applies\":[", strlen("{\"applies\":["));
+    read_journals(list_one);
+    if (is_json) putchar(']');
 }
 
 void print_apply(const struct journal *journal, const struct journal *back_of, bool is_silent, bool is_json) {
     const char *end = journal->ending == IS_OPEN && is_silent ? "silent" : ending_name(journal->ending);
+    is_open = journal->ending == IS_OPEN;
     clear_progress();
     if (is_json) print_json_of(journal, back_of, end);
     else print_text_of(journal, end);

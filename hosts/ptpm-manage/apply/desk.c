@@ -1,5 +1,6 @@
 #include "desk.h"
 #include "answer.h"
+#include "apply_report.h"
 #include "exchange.h"
 #include "monotonic.h"
 #include "names.h"
@@ -52,7 +53,9 @@ static bool note_answer(struct desk *desk, struct journal *journal, long step, b
     if (is_anothers) say_settled(&desk->session.earlier, &desk->task, &answer);
     if (step == NO_STEP) return true;
     struct told told = told_of(&journal->steps[step], &answer);
-    return note_told(journal, step, &told);
+    if (!note_told(journal, step, &told)) return false;
+    say_step(journal, step);
+    return true;
 }
 
 /* ---- what is asked */
@@ -189,14 +192,14 @@ static int stop_at_stranger(const struct desk *desk, const struct journal *journ
     return NOT_ANSWERED;
 }
 
-bool note_standing(struct desk *desk, struct journal *journal) {
+bool note_given_up(struct desk *desk, struct journal *journal) {
     uint32_t standing = find_standing(desk, journal);
-    if ((standing != PTPM_STEP_NEVER_BEGUN && standing != PTPM_STEP_NUMBER_TAKEN) || note_not_begun(journal)) return true;
+    bool is_unsent = standing == PTPM_STEP_NEVER_BEGUN || standing == PTPM_STEP_NUMBER_TAKEN;
+    if (is_unsent ? note_not_begun(journal) : note_let_go(journal)) return true;
     not_noted(journal);
     return false;
 }
 
-/* The session is saved before the journal gets its end. Should a crash come in between, the step is unknown, and nothing is sent. */
 int let_go_at_desk(struct desk *desk, const struct journal *journal) {
     uint32_t standing = find_standing(desk, journal);
     if (standing != PTPM_STEP_UNDER_WAY && standing != PTPM_STEP_TOLD) return ANSWERED;

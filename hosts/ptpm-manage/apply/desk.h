@@ -26,8 +26,9 @@ void open_desk(struct desk *desk, const struct task *task, const struct step *fi
    ends, and then it is said why. */
 int see_to_desk(struct desk *desk, struct journal *journal);
 
-/* Finds whether the step that was begun last was never sent, and notes it then. Nothing is sent. */
-bool note_standing(struct desk *desk, struct journal *journal);
+/* Notes that the step that was begun last is given up; or, if it was never sent, that. Nothing is sent. Whether it could, which is said
+   otherwise. */
+bool note_given_up(struct desk *desk, struct journal *journal);
 
 /* Gives up a step of the journal whose request is still in the session, and saves that. Nothing is sent. ANSWERED, or the program's
    status. */

@@ -10,12 +10,18 @@
 #include <sys/stat.h>
 #include <unistd.h>
 
-/* The CRC-32 of a text (IEEE 802.3). The library has none of a text: that in its seal is of an image, a mark and a count. */
-static uint32_t crc_of(const char *text, size_t size) {
-    uint32_t crc = UINT32_MAX;
+/* The CRC-32 (IEEE 802.3) of a text after others, whose CRC-32 is given; 0 is that of none. The library has none of a text: that in its seal is
+   of an image, a mark and a count. */
+static uint32_t crc_of(uint32_t before, const char *text, size_t size) {
+    static const uint32_t rests[] = {               /* of four bits each */
+        0x00000000, 0x1db71064, 0x3b6e20c8, 0x26d930ac, 0x76dc4190, 0x6b6b51f4, 0x4db26158, 0x5005713c,
+        0xedb88320, 0xf00f9344, 0xd6d6a3e8, 0xcb61b38c, 0x9b64c2b0, 0x86d3d2d4, 0xa00ae278, 0xbdbdf21c,
+    };
+    uint32_t crc = ~before;
     for (size_t place = 0; place < size; place++) {
         crc ^= (uint8_t)text[place];
-        for (int bit = 0; bit < 8; bit++) crc = (crc >> 1) ^ (0xedb88320 & -(crc & 1));
+        crc = (crc >> 4) ^ rests[crc & 15];
+        crc = (crc >> 4) ^ rests[crc & 15];
     }
     return ~crc;
 }
@@ -47,13 +53,14 @@ void leave_journal(struct journal *journal) {
     free(journal->steps);
     free(journal->told);
     free(journal->numbers);
+    free(journal->skipped);
     *journal = (struct journal){ 0 };
 }
 
 /* ---- lines */
 
 /* A line of a text that is being written; it is freed by its caller. */
-struct line { FILE *to; char *text; size_t size; };
+struct line { FILE *to; char *text; size_t size; uint32_t crc; };
 
 static FILE *begin_line(struct line *line) {
     *line = (struct line){ 0 };
@@ -63,21 +70,23 @@ static FILE *begin_line(struct line *line) {
     return line->to;
 }
 
-/* Ends it, and puts the checksum in its place. */
-static void end_line(struct line *line) {
+/* Ends it, and puts the checksum of it and of the lines before in its place. */
+static void end_line(struct line *line, const struct journal *journal) {
     char crc[CRC_DIGITS + 1];
     if (fflush(line->to)) give_up("the journal");
-    snprintf(crc, sizeof crc, "%08x", crc_of(line->text + LEAD, line->size - LEAD));
+    line->crc = crc_of(journal->crc, line->text + LEAD, line->size - LEAD);
+    snprintf(crc, sizeof crc, "%08x", line->crc);
     putc('\n', line->to);
     if (fclose(line->to)) give_up("the journal");
     memcpy(line->text, crc, CRC_DIGITS);
 }
 
 /* The text of a line without its checksum; NULL if that is wrong. The line feed is the end of a text already. */
-static const char *text_of(const char *line, size_t size) {
+static const char *text_of(struct journal *journal, const char *line, size_t size) {
     char crc[LEAD + 1];
     if (size < LEAD || strlen(line) != size) return NULL;
-    snprintf(crc, sizeof crc, "%08x ", crc_of(line + LEAD, size - LEAD));
+    journal->crc = crc_of(journal->crc, line + LEAD, size - LEAD);
+    snprintf(crc, sizeof crc, "%08x ", journal->crc);
     return strncmp(line, crc, LEAD) == 0 ? line + LEAD : NULL;
 }
 
@@ -93,10 +102,11 @@ bool make_journal(struct journal *journal) {
     struct kept_file file = { .folder = -1, .mode = 0666 };
     struct line line;
     write_journal_head(begin_line(&line), journal);
-    end_line(&line);
+    end_line(&line, journal);
     bool is_made = open_kept_folder(&file, journal->path) && replace_kept(&file, (const uint8_t *)line.text, line.size) == REPLACED;
     int failure = errno;
     journal->size = line.size;
+    journal->crc = line.crc;
     free(line.text);
     if (file.folder >= 0) close(file.folder);
     errno = failure;
@@ -109,11 +119,12 @@ bool continue_journal(struct journal *journal) {
     return found.st_size == (off_t)journal->size || (ftruncate(journal->file, (off_t)journal->size) == 0 && fsync(journal->file) == 0);
 }
 
-/* All of a file and an end of text; NULL if it can't be read, and then errno says why. */
+/* All of a file and an end of text, synchronized; NULL if it can't be, and then errno says why. */
 static char *read_file(const char *path, size_t *size) {
     struct stat found;
     int file = open(path, O_RDONLY | O_CLOEXEC | O_NOFOLLOW | O_NONBLOCK);
-    char *octets = file >= 0 && fstat(file, &found) == 0 ? malloc((size_t)found.st_size + 1) : NULL;
+    bool is_kept = file >= 0 && fsync(file) == 0 && fstat(file, &found) == 0;
+    char *octets = is_kept ? malloc((size_t)found.st_size + 1) : NULL;
     *size = 0;
     for (ssize_t count = 1; octets != NULL && count > 0 && *size < (size_t)found.st_size; *size += (size_t)count) {
         count = read(file, octets + *size, (size_t)found.st_size - *size);
@@ -134,7 +145,7 @@ static enum found_journal take_lines(struct journal *journal, char *octets, size
     char *at = octets;
     for (char *end; (end = memchr(at, '\n', size - (size_t)(at - octets))) != NULL; at = end + 1, is_head = false) {
         *end = '\0';
-        const char *text = text_of(at, (size_t)(end - at));
+        const char *text = text_of(journal, at, (size_t)(end - at));
         if (text != NULL && is_head && is_head_of_other_version(text)) return OTHER_JOURNAL;
         if (text == NULL || !(is_head ? take_head(journal, text) : take_note(journal, text))) return DAMAGED_JOURNAL;
     }
@@ -177,12 +188,12 @@ const char *journal_rest(const struct journal *journal) {
 
 /* Appends a line, and synchronizes it. If it can't be, what there is of it is cut off. */
 static bool append(struct journal *journal, struct line *line) {
-    end_line(line);
+    end_line(line, journal);
     ssize_t written = write(journal->file, line->text, line->size);
     if (written >= 0 && (size_t)written < line->size) errno = ENOSPC;
     bool is_noted = written == (ssize_t)line->size && fsync(journal->file) == 0 && is_there(journal);
     int failure = errno;
-    if (is_noted) journal->size += line->size;
+    if (is_noted) journal->size += line->size, journal->crc = line->crc;
     else if (ftruncate(journal->file, (off_t)journal->size)) failure = errno;
     free(line->text);
     errno = failure;
@@ -211,7 +222,17 @@ bool note_told(struct journal *journal, long step, const struct told *told) {
     write_told(begin_line(&line), step, told);
     if (!append(journal, &line)) return false;
     journal->told[step] = *told;
+    write_time(journal->told[step].time);
+    journal->told_count++;
     journal->begun = NO_STEP;
+    return true;
+}
+
+bool note_let_go(struct journal *journal) {
+    struct line line;
+    write_let_go(begin_line(&line), journal->begun);
+    if (!append(journal, &line)) return false;
+    journal->is_let_go = true;
     return true;
 }
 
@@ -225,16 +246,11 @@ bool note_end(struct journal *journal, enum ending ending, long step) {
 }
 
 long failed_step(const struct journal *journal) {
-    for (size_t i = 0; i < journal->count; i++) {
-        if (journal->told[i].outcome != NOT_TOLD && journal->told[i].outcome != DONE) return (long)i;
-    }
-    return NO_STEP;
+    long last = (long)journal->told_count - 1;
+    return last >= 0 && journal->told[last].outcome != DONE ? last : NO_STEP;
 }
 
 long next_step(const struct journal *journal) {
     if (failed_step(journal) != NO_STEP) return NO_STEP;
-    for (size_t i = 0; i < journal->count; i++) {
-        if (journal->told[i].outcome == NOT_TOLD) return (long)i;
-    }
-    return NO_STEP;
+    return journal->told_count < journal->count ? (long)journal->told_count : NO_STEP;
 }

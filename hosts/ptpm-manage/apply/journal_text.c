@@ -1,12 +1,14 @@
 #define _GNU_SOURCE
 #include "journal.h"
 #include "names.h"
+#include "program.h"
 #include "ptpm.h"
 #include "words.h"
 #include <stdlib.h>
 #include <string.h>
+#include <time.h>
 
-static const char *const endings[ENDINGS] = { "open", "complete", "refused", "answered", "changed", "given up", "rolled back" };
+static const char *const endings[ENDINGS] = { "open", "complete", "refused", "answered", "changed", "given up", "rolled back", "stopped" };
 static const char *const outcomes[] = { "", "done", "refused", "answered" };
 
 const char *ending_name(enum ending ending) { return endings[ending]; }
@@ -28,11 +30,33 @@ static void write_one_step(FILE *to, const struct step *step) {
     putc('}', to);
 }
 
+/* As a string: quotation marks and backslashes are escaped. */
+static void write_string(FILE *to, const char *text, size_t size) {
+    putc('"', to);
+    for (size_t i = 0; i < size; i++) {
+        if (text[i] == '"' || text[i] == '\\') putc('\\', to);
+        putc(text[i], to);
+    }
+    putc('"', to);
+}
+
+/* Lines, as an array of strings. */
+static void write_lines(FILE *to, const char *lines) {
+    putc('[', to);
+    for (const char *at = lines, *end; (end = strchr(at, '\n')) != NULL; at = end + 1) {
+        if (at > lines) putc(',', to);
+        write_string(to, at, (size_t)(end - at));
+    }
+    putc(']', to);
+}
+
 void write_journal_head(FILE *to, const struct journal *journal) {
     char manager[IDENTITY_TEXT];
     write_identity(manager, journal->manager);
-    fprintf(to, "{\"version\":1,\"name\":\"%s\"", journal->name);
+    fprintf(to, "{\"version\":2,\"name\":\"%s\"", journal->name);
     if (*journal->rolls_back != '\0') fprintf(to, ",\"rolls_back\":\"%s\"", journal->rolls_back);
+    if (*journal->check != '\0') fputs(",\"check\":", to), write_string(to, journal->check, strlen(journal->check));
+    if (journal->skipped != NULL) fputs(",\"skipped\":", to), write_lines(to, journal->skipped);
     fprintf(to, ",\"manager\":\"%s/%u\",\"steps\":[", manager, journal->manager_port);
     for (size_t i = 0; i < journal->count; i++) {
         if (i > 0) putc(',', to);
@@ -41,9 +65,33 @@ void write_journal_head(FILE *to, const struct journal *journal) {
     fputs("]}", to);
 }
 
-void write_begun(FILE *to, long step, uint16_t number) { fprintf(to, "{\"begun\":%ld,\"number\":%u}", step, number); }
+void write_time(char text[TIME_TEXT]) {
+    struct tm parts;
+    time_t now = time(NULL);
+    strftime(text, TIME_TEXT, "%Y-%m-%dT%H:%M:%SZ", gmtime_r(&now, &parts));
+}
 
-void write_not_begun(FILE *to, long step) { fprintf(to, "{\"not_begun\":%ld}", step); }
+/* A note has the time last. */
+static void end_note(FILE *to) {
+    char text[TIME_TEXT];
+    write_time(text);
+    fprintf(to, ",\"time\":\"%s\"}", text);
+}
+
+void write_begun(FILE *to, long step, uint16_t number) {
+    fprintf(to, "{\"begun\":%ld,\"number\":%u", step, number);
+    end_note(to);
+}
+
+void write_not_begun(FILE *to, long step) {
+    fprintf(to, "{\"not_begun\":%ld", step);
+    end_note(to);
+}
+
+void write_let_go(FILE *to, long step) {
+    fprintf(to, "{\"let_go\":%ld", step);
+    end_note(to);
+}
 
 void write_told(FILE *to, long step, const struct told *told) {
     const char *error = error_name(told->error);
@@ -52,13 +100,14 @@ void write_told(FILE *to, long step, const struct told *told) {
     else if (told->outcome == IS_REFUSED) fprintf(to, " 0x%04x", told->error);
     putc('"', to);
     write_octets(to, "octets", &told->answer);
-    putc('}', to);
+    end_note(to);
 }
 
 void write_end(FILE *to, enum ending ending, long step) {
     fprintf(to, "{\"end\":\"%s\",\"step\":", endings[ending]);
-    if (step == NO_STEP) fputs("null}", to);
-    else fprintf(to, "%ld}", step);
+    if (step == NO_STEP) fputs("null", to);
+    else fprintf(to, "%ld", step);
+    end_note(to);
 }
 
 /* ---- read */
@@ -87,15 +136,30 @@ static long take_number(struct reader *reader, long most) {
     return number < 0 ? 0 : number;
 }
 
-/* A string without a backslash. */
 static void take_string(struct reader *reader, char *text, size_t room) {
+    size_t size = 0;
     take(reader, "\"");
-    size_t size = strcspn(reader->at, "\"\\");
-    *text = '\0';
-    if (size >= room) reader->is_wrong = true;
-    else memcpy(text, reader->at, size), text[size] = '\0';
-    reader->at += size;
+    for (; *reader->at != '"' && *reader->at != '\0' && size + 1 < room; text[size++] = *reader->at++) {
+        if (*reader->at == '\\' && reader->at[1] != '\0') reader->at++;
+    }
+    text[size] = '\0';
     take(reader, "\"");
+}
+
+/* An array of strings, as lines. */
+static void take_lines(struct reader *reader, char **lines) {
+    size_t room = strlen(reader->at) + 1, size = 0;
+    *lines = malloc(room);
+    if (*lines == NULL) give_up("the journal");
+    take(reader, "[");
+    for (bool is_first = true; !reader->is_wrong && *reader->at != ']'; is_first = false) {
+        if (!is_first) take(reader, ",");
+        take_string(reader, *lines + size, room - size);
+        size += strlen(*lines + size);
+        (*lines)[size++] = '\n';
+    }
+    (*lines)[size] = '\0';
+    take(reader, "]");
 }
 
 static void take_octets(struct reader *reader, struct value *value) {
@@ -145,14 +209,16 @@ static void take_steps(struct reader *reader, struct journal *journal) {
 
 bool is_head_of_other_version(const char *text) {
     struct reader reader = { text, false };
-    return is_next(&reader, "{\"version\":") && !is_next(&reader, "1,");
+    return is_next(&reader, "{\"version\":") && !is_next(&reader, "2,");
 }
 
 bool take_head(struct journal *journal, const char *text) {
     struct reader reader = { text, false };
-    take(&reader, "{\"version\":1,\"name\":");
+    take(&reader, "{\"version\":2,\"name\":");
     take_string(&reader, journal->name, sizeof journal->name);
     if (is_next(&reader, ",\"rolls_back\":")) take_string(&reader, journal->rolls_back, sizeof journal->rolls_back);
+    if (is_next(&reader, ",\"check\":")) take_string(&reader, journal->check, sizeof journal->check);
+    if (is_next(&reader, ",\"skipped\":")) take_lines(&reader, &journal->skipped);
     take(&reader, ",\"manager\":\"");
     take_identity(&reader, journal->manager);
     take(&reader, "/");
@@ -162,6 +228,8 @@ bool take_head(struct journal *journal, const char *text) {
     take(&reader, "]}");
     return !reader.is_wrong && *reader.at == '\0';
 }
+
+/* ---- notes */
 
 /* One of the steps. */
 static long take_step(struct reader *reader, const struct journal *journal) {
@@ -199,9 +267,25 @@ static void take_told(struct reader *reader, struct journal *journal) {
     take_outcome(reader, &told);
     take(reader, ",\"octets\":");
     take_octets(reader, &told.answer);
+    reader->is_wrong |= journal->begun != step || journal->is_let_go;
     if (reader->is_wrong) return;
     journal->told[step] = told;
-    if (journal->begun == step) journal->begun = NO_STEP;
+    journal->told_count++;
+    journal->begun = NO_STEP;
+}
+
+/* Whether a run ends it so. */
+static bool may_end(const struct journal *journal, enum ending ending, long step) {
+    long failed = failed_step(journal);
+    bool is_refused = failed != NO_STEP && journal->told[failed].outcome == IS_REFUSED;
+    if (ending == GIVEN_UP) return step == journal->begun && journal->is_let_go == (step != NO_STEP);
+    if (journal->begun != NO_STEP) return false;
+    switch (ending) {
+    case COMPLETE: return step == NO_STEP && failed == NO_STEP && next_step(journal) == NO_STEP;
+    case ENDED_REFUSED: return step == failed && is_refused;
+    case ENDED_ANSWERED: return step == failed && failed != NO_STEP && !is_refused;
+    default: return true;
+    }
 }
 
 static void take_end(struct reader *reader, struct journal *journal) {
@@ -210,30 +294,44 @@ static void take_end(struct reader *reader, struct journal *journal) {
     for (enum ending ending = COMPLETE; ending < ENDINGS; ending++) {
         if (strcmp(text, endings[ending]) == 0) journal->ending = ending;
     }
-    if (journal->ending == IS_OPEN) reader->is_wrong = true;
     take(reader, ",\"step\":");
     journal->end_step = is_next(reader, "null") ? NO_STEP : take_step(reader, journal);
+    reader->is_wrong |= journal->ending == IS_OPEN || !may_end(journal, journal->ending, journal->end_step);
 }
 
 static void take_begun(struct reader *reader, struct journal *journal) {
     long step = take_step(reader, journal);
     take(reader, ",\"number\":");
     uint16_t number = (uint16_t)take_number(reader, 65535);
+    reader->is_wrong |= journal->begun != NO_STEP || step != next_step(journal);
     if (reader->is_wrong) return;
     journal->begun = step;
     journal->numbers[step] = number;
 }
 
+/* The step that is begun, and is not given up. */
+static void take_step_begun(struct reader *reader, const struct journal *journal) {
+    long step = take_step(reader, journal);
+    reader->is_wrong |= journal->begun != step || journal->is_let_go;
+}
+
 bool take_note(struct journal *journal, const char *text) {
     struct reader reader = { text, journal->ending != IS_OPEN };
-    if (is_next(&reader, "{\"begun\":")) take_begun(&reader, journal);
-    else if (is_next(&reader, "{\"told\":")) take_told(&reader, journal);
+    bool is_told = is_next(&reader, "{\"told\":");
+    if (is_told) take_told(&reader, journal);
+    else if (is_next(&reader, "{\"begun\":")) take_begun(&reader, journal);
     else if (is_next(&reader, "{\"end\":")) take_end(&reader, journal);
-    else {
+    else if (is_next(&reader, "{\"let_go\":")) {
+        take_step_begun(&reader, journal);
+        journal->is_let_go = true;
+    } else {
         take(&reader, "{\"not_begun\":");
-        take_step(&reader, journal);
+        take_step_begun(&reader, journal);
         journal->begun = NO_STEP;
     }
+    take(&reader, ",\"time\":");
+    take_string(&reader, journal->latest, sizeof journal->latest);
+    if (is_told && !reader.is_wrong) memcpy(journal->told[journal->told_count - 1].time, journal->latest, sizeof journal->latest);
     take(&reader, "}");
     return !reader.is_wrong && *reader.at == '\0';
 }

@@ -9,11 +9,23 @@
    of the program. Ends the program with status 2 if it can't be taken. */
 void take_journals(void);
 
-/* Its path, once it is taken. */
+/* Its path, once it is taken or found. */
 const char *journals_folder(void);
 
+/* Finds the folder, and takes no lock: nothing is made or written there. Whether there may be one. */
+bool find_journals(void);
+
+/* Reads each journal in turn, the earliest first, and hands it over with what it is. Those that can't be read are handed over too. */
+void read_journals(void (*take)(struct journal *journal, enum found_journal found));
+
+/* Whether an apply is open; its name, if it can be read. Nothing ends the program. */
+bool is_apply_open(char name[JOURNAL_NAME]);
+
+/* Removes the journals that have an end, except this many of the latest. If one is open, or can't be read, all stay. */
+void tidy_journals(size_t kept);
+
 /* Finds the journal that is open; whether there is one. A rollback comes before the apply that it takes back. Ends the program with status 2
-   if one is damaged, or can't be read. */
+   if any other two are open, or one is damaged or can't be read. */
 bool find_open_journal(struct journal *journal);
 
 /* Finds the apply that a rollback takes back; whether it is there. */

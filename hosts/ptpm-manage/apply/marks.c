@@ -63,7 +63,7 @@ static void see_to_mark(const char *session, bool may_remove) {
     if (mark.folder >= 0) close(mark.folder);
     if (is_past || found == KEPT_NONE || (found == KEPT_FILE && is_own(journal))) return;
     const char *why = found == KEPT_UNREADABLE ? strerror(errno) : "it can't be read";
-    if (found != KEPT_FILE) refuse("nothing was asked: %s.apply: %s: an apply may be open", session, why);
+    if (found != KEPT_FILE) refuse_storage("nothing was asked: %s.apply: %s: an apply may be open", session, why);
     refuse("nothing was asked: the apply of %s is open: ptpm-manage resume goes on with it", journal);
 }
 

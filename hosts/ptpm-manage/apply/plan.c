@@ -1,6 +1,8 @@
 #define _GNU_SOURCE
 #include "plan.h"
+#include "apply_report.h"
 #include "collect.h"
+#include "desk.h"
 #include "exchange.h"
 #include "in_session.h"
 #include "names.h"
@@ -13,6 +15,7 @@
 #include "text.h"
 #include "transport.h"
 #include "words.h"
+#include <errno.h>
 #include <stdbool.h>
 #include <stdio.h>
 #include <stdlib.h>
@@ -21,10 +24,30 @@
 
 enum { MOST_ARGUMENTS = 5, STEP_WORDS = 8 };
 
+/* The plan of a pipe: `ptpm plan` reads it for each of its forms. */
+static struct piece piped;
+
+static bool is_pipe(const char *path) {
+    struct stat found;
+    return strcmp(path, "-") == 0 || strcmp(path, "/dev/stdin") == 0 || (stat(path, &found) == 0 && S_ISFIFO(found.st_mode));
+}
+
+/* Reads all of a pipe, or as much of it as is refused for its size. */
+static void read_pipe(const char *path) {
+    enum { MOST_PLAN = 262144, ROOM = MOST_PLAN + 1 };
+    static char octets[ROOM];
+    FILE *from = strcmp(path, "-") == 0 ? stdin : fopen(path, "re");
+    if (from == NULL) refuse_usage("%s: %s", path, strerror(errno));
+    piped = (struct piece){ octets, fread(octets, 1, ROOM, from) };
+    if (ferror(from)) refuse_usage("%s: %s", path, strerror(errno));
+}
+
 /* Runs `ptpm plan` over these lines; its status. */
 static int run_plan(const struct task *task, const char *form, const struct piece *lines, struct printed *printed) {
-    char *arguments[MOST_ARGUMENTS] = { NULL, (char *)"plan", (char *)form, (char *)task->plan.word, NULL };
-    return run_ptpm_program(arguments, &(struct given){ .lines = lines, .count = lines != NULL }, printed);
+    static const struct piece none;
+    const char *path = piped.at != NULL ? FILE_BESIDE : task->plan.word;
+    char *arguments[MOST_ARGUMENTS] = { NULL, (char *)"plan", (char *)form, (char *)path, NULL };
+    return run_ptpm_program(arguments, &(struct given){ lines != NULL ? lines : &none, piped.at != NULL ? &piped : NULL, 1 }, printed);
 }
 
 /* ---- what is asked */
@@ -126,6 +149,22 @@ static void read_id(struct plan *plan, const char *lead) {
     snprintf(plan->id, sizeof plan->id, "%s", found + strspn(found, " :\""));
 }
 
+/* The lines below a heading of the text, without the two spaces before each; NULL if there are none. They are to be freed. */
+static char *lines_below(const char *text, const char *heading) {
+    const char *at = strstr(text, heading);
+    char *lines = at == NULL ? NULL : malloc(strlen(at)), *end = lines;
+    if (at == NULL) return NULL;
+    if (lines == NULL) give_up("the plan");
+    for (at += strlen(heading); strncmp(at, "  ", 2) == 0; at = strchrnul(at, '\n') + 1) {
+        const char *line = at + 2, *feed = strchrnul(line, '\n');
+        end = mempcpy(end, line, (size_t)(feed - line));
+        *end++ = '\n';
+        if (*feed == '\0') break;
+    }
+    *end = '\0';
+    return lines;
+}
+
 /* As an object of JSON. It is of the same plan, unless the file has changed in between. */
 static void take_json(struct plan *plan, const struct task *task, const struct piece *lines) {
     char id[PLAN_ID + 1];
@@ -138,24 +177,33 @@ static void take_json(struct plan *plan, const struct task *task, const struct p
 
 static bool has_clock(struct domain domain) {
     for (size_t i = 0; i < seen_count(); i++) {
-        if (is_same_domain(seen_clock(i)->domain, domain)) return true;
+        if (is_same_domain(seen_clock(i)->domain, domain) && seen_clock(i)->answered != 0) return true;
     }
     return false;
 }
 
-/* A table of every clock is of those that answer. If none does, the plan has nothing of it. */
-static void name_silent_domains(const struct domains *domains) {
+/* A table of every clock is of those that answer. If none does, the plan has nothing of it. Whether one does in each domain. */
+static bool name_silent_domains(const struct domains *domains) {
     struct domain domain;
+    bool is_answered = true;
     for (size_t place = 0; next_domain(domains, &place, &domain);) {
-        if (!has_clock(domain)) complain("no clock answered in domain %u", domain.number);
+        if (has_clock(domain)) continue;
+        complain("no clock answered in domain %u", domain.number);
+        is_answered = false;
     }
+    return is_answered;
 }
 
-/* `ptpm plan` reads the file for each of its forms: of a pipe the second one would have nothing. Its standard input is not this program's. */
-static void refuse_pipe(const char *path) {
-    struct stat found;
-    bool is_pipe = stat(path, &found) == 0 && S_ISFIFO(found.st_mode);
-    if (is_pipe || strcmp(path, "/dev/stdin") == 0) refuse("%s: it is read more than once, so it has to be a file, and no pipe", path);
+/* Says how many clocks were found; whether that is sure to be all of them. */
+static bool tell_found(const struct domains *domains) {
+    const struct sureness *found = sureness_of_collection();
+    const char *plural = found->clocks == 1 ? "" : "s";
+    if (found->is_sure && found->late == 0) complain("%zu clock%s answered, and two more rounds brought nothing new", found->clocks, plural);
+    else if (found->is_sure) {
+        complain("%zu clock%s answered in %zu rounds; %zu answers came only after the first one: messages are lost", found->clocks, plural,
+                 found->rounds, found->late);
+    }
+    return name_silent_domains(domains) && found->is_sure && found->left_out == 0;
 }
 
 int make_plan(struct plan *plan, const struct task *task) {
@@ -163,7 +211,7 @@ int make_plan(struct plan *plan, const struct task *task) {
     struct domains domains;
     struct printed answers;
     *plan = (struct plan){ 0 };
-    refuse_pipe(task->plan.word);
+    if (is_pipe(task->plan.word)) read_pipe(task->plan.word);
     find_ptpm_program();
     int status = find_asks(task, &what, &domains);
     if (status != 0) return stopped ? BY_SIGNAL + stopped : status;
@@ -171,24 +219,27 @@ int make_plan(struct plan *plan, const struct task *task) {
     widen_transport();
     int asked = status = ask_clocks(task, &what, &domains, &answers);
     struct piece lines = { answers.text, answers.size };
-    if (status == ANSWERED && what.count > 0) name_silent_domains(&domains);
     if (status == ANSWERED || status == NOT_ANSWERED) {
         status = run_plan(task, "--steps", &lines, &plan->text);
-        /* A table of every clock is of none then, and all else is said to be not reached. */
+        bool is_refused = plan->text.size == 0;
+        if (!is_refused && asked == ANSWERED && what.count > 0 && !tell_found(&domains)) asked = NOT_ANSWERED;
+        /* A table of every clock is of none then, or some may be missing; all else is said to be not reached. */
         if (status == ANSWERED) status = asked;
-        if (plan->text.size > 0) {
+        if (!is_refused) {
             read_id(plan, "plan");
             read_steps(plan);
+            plan->unreached = lines_below(plan->text.text, "\nnot reached:\n");
+            plan->has_unsettable = strstr(plan->text.text, "\ncan't be set:\n") != NULL;
+            plan->has_reached = plan->count > 0 || strstr(plan->text.text, "\nstays:\n") != NULL;
         }
-        if (plan->text.size > 0 && task->is_json) take_json(plan, task, &lines);
+        if (!is_refused && task->is_json) take_json(plan, task, &lines);
     }
     free(answers.text);
     return stopped ? BY_SIGNAL + stopped : status;
 }
 
 /* Of an object of JSON, the warnings are the last member: they end with a bracket. */
-/* Adds a warning to what is printed. Its text needs no escape in JSON. */
-static void add_warning(struct plan *plan, const char *text, bool is_json) {
+void add_warning(struct plan *plan, const char *text, bool is_json) {
     char *more = NULL;
     const char *old = plan->text.text, *end = is_json ? strrchr(old, ']') : old + plan->text.size;
     int size = end == NULL ? -1 : is_json ? asprintf(&more, "%.*s%s\"%s\"%s", (int)(end - old), old, end[-1] == '[' ? "" : ",", text, end)
@@ -199,15 +250,57 @@ static void add_warning(struct plan *plan, const char *text, bool is_json) {
 }
 
 void print_plan(const struct plan *plan, bool is_json) {
+    const char *text = plan->text.text, *end = text == NULL || !is_json ? NULL : strrchr(text, '}');
     clear_progress();
-    if (plan->text.text == NULL) return;
-    if (is_json) print_json(stdout, plan->text.text, plan->text.size);
-    else print_lines(stdout, plan->text.text, plan->text.size);
+    if (text == NULL) return;
+    if (end != NULL) print_members(text, (size_t)(end - text));
+    else print_lines(stdout, text, plan->text.size);
 }
+
+static bool is_within(const struct plan_options *options, const struct step *step) {
+    for (size_t i = 0; i < options->limit_count; i++) {
+        if (memcmp(options->limits[i], step->clock, 8) == 0) return true;
+    }
+    return options->limit_count == 0;
+}
+
+/* Whether a line of what is not reached is of none of these clocks. One without an identity may be of any. */
+static bool is_without(const struct plan_options *options, const char *line) {
+    uint8_t clock[8];
+    size_t size = strcspn(line, " \n");
+    if (options->limit_count == 0 || !ptpm_identity_parse(line, size, clock)) return false;
+    struct step step = { 0 };
+    memcpy(step.clock, clock, 8);
+    return !is_within(options, &step);
+}
+
+static void limit_unreached(struct plan *plan, const struct plan_options *options) {
+    char *to = plan->unreached;
+    for (char *line = plan->unreached, *next; line != NULL && *line != '\0'; line = next) {
+        next = strchr(line, '\n') + 1;
+        if (is_without(options, line)) continue;
+        memmove(to, line, (size_t)(next - line));
+        to += next - line;
+    }
+    if (to != NULL) *to = '\0';
+}
+
+void limit_plan(struct plan *plan, const struct plan_options *options) {
+    size_t all = plan->count;
+    plan->count = 0;
+    for (size_t i = 0; i < all; i++) {
+        if (is_within(options, &plan->steps[i])) plan->steps[plan->count++] = plan->steps[i];
+    }
+    limit_unreached(plan, options);
+    if (options->limit_count > 0) complain("--limit leaves %zu of %zu changes", plan->count, all);
+}
+
+bool is_reached_in_part(const struct plan *plan) { return plan->unreached != NULL && !plan->has_unsettable && plan->has_reached; }
 
 void leave_plan(struct plan *plan) {
     free(plan->text.text);
     free(plan->steps);
+    free(plan->unreached);
     *plan = (struct plan){ 0 };
 }
 
@@ -241,23 +334,29 @@ static void add_refusal(struct plan *plan, const struct task *task, const char *
 }
 
 /* What a clock is asked, and the session for it. */
-struct probe { struct task request; struct run *run; };
+struct probe { struct task request; struct run *run; size_t number; };
 
-static void take_probe(struct probe *probe, const struct plan *plan, const struct task *task, const struct step *first) {
+static void take_probe(struct probe *probe, const struct task *task, const struct step *step, uint16_t id, uint16_t port) {
     probe->request = *task;
     probe->request.action = PTPM_SET;
-    probe->request.id = PTPM_ID_NULL_PTP_MANAGEMENT;
-    probe->request.port = port_of(plan, first);
-    probe->request.settings.domain = first->domain;
-    memcpy(probe->request.settings.target, first->clock, 8);
+    probe->request.id = id;
+    probe->request.port = port;
+    probe->request.settings.domain = step->domain;
+    memcpy(probe->request.settings.target, step->clock, 8);
     probe->run = take_run(&probe->request, take_answer);
+}
+
+/* If no way leads out, there is no answer. */
+static int end_asked(struct run *run) {
+    int status = end_run(run);
+    return status == NOT_ASKED ? NOT_ANSWERED : status;
 }
 
 static int end_probe(struct plan *plan, const struct probe *probe, const struct task *task) {
     char clock[IDENTITY_TEXT];
     write_identity(clock, probe->request.settings.target);
     show_progress("%s: does it take SETs of this manager?", clock);
-    int status = end_run(probe->run);
+    int status = end_asked(probe->run);
     if (status == ANSWERED && refusal != 0) add_refusal(plan, task, clock);
     if (status == NOT_ANSWERED) complain("%s gave no answer: whether it takes SETs of this manager is not known", clock);
     return status;
@@ -270,12 +369,66 @@ int probe_clocks(struct plan *plan, const struct task *task) {
     if (probes == NULL) give_up("the probes");
     if (plan->count > 0) state_folder();
     for (const struct step *first = NULL; (first = next_clock(plan->steps, plan->count, first)) != NULL;) {
-        take_probe(&probes[count++], plan, task, first);
+        take_probe(&probes[count++], task, first, PTPM_ID_NULL_PTP_MANAGEMENT, port_of(plan, first));
     }
     for (size_t i = 0; i < count && status == ANSWERED; i++) status = end_probe(plan, &probes[i], task);
     free(probes);
     if (has_settled_change()) {
         add_warning(plan, "a request of an earlier run was carried out after the clocks were read: plan again", task->is_json);
     }
+    return status;
+}
+
+/* ---- before an apply */
+
+/* The SET of the value that the member of a step has. */
+static void take_standing(struct probe *probe, const struct task *task, const struct step *step) {
+    struct task valued = *task;
+    valued.size = step->before.size;
+    memcpy(valued.octets, step->before.octets, step->before.size);
+    take_probe(probe, &valued, step, step->id, step->port);
+}
+
+static void say_refusal(const struct task *task, const struct step *step) {
+    char clock[IDENTITY_TEXT], number[8];
+    const char *error = error_name(refusal);
+    write_identity(clock, step->clock);
+    snprintf(number, sizeof number, "0x%04x", refusal);
+    complain("%s refuses a SET of %s to the value that it has: %s", clock, id_name(step->id), error != NULL ? error : number);
+    say_right(task, refusal);
+}
+
+/* What is not as it was read is not asked: that would set it back. */
+static int end_standing(const struct probe *probe, const struct task *task, const struct step *step, size_t *refused) {
+    static struct answer answer;
+    show_progress("does each clock take SETs of what is changed?");
+    int status = read_member(task, step, step->domain, &answer);
+    if (status == ANSWERED && !has_value(step->id, step->before.octets, step->before.size, &answer)) status = NOT_AS_ASKED;
+    if (status == NOT_AS_ASKED) complain("change %zu: the value before it has changed since", probe->number);
+    if (status == ANSWERED) status = end_asked(probe->run);
+    if (status == ANSWERED && refusal != 0) say_refusal(task, step);
+    *refused += status == ANSWERED && refusal != 0;
+    return status;
+}
+
+int probe_steps(const struct plan *plan, const struct task *task) {
+    int status = ANSWERED;
+    size_t refused = 0;
+    struct probe *probes = calloc(plan->count + 1, sizeof *probes);
+    if (probes == NULL) give_up("the probes");
+    if (plan->count > 0) state_folder();
+    for (const struct step *first = NULL; (first = next_clock(plan->steps, plan->count, first)) != NULL;) {
+        take_standing(&probes[first - plan->steps], task, first);
+    }
+    for (size_t i = 0; i < plan->count && status == ANSWERED; i++) {
+        probes[i].number = i + 1;
+        if (probes[i].run == NULL) take_standing(&probes[i], task, &plan->steps[i]);
+        status = end_standing(&probes[i], task, &plan->steps[i], &refused);
+    }
+    free(probes);
+    if (status == ANSWERED && refused > 0) status = REFUSED;
+    if (status == ANSWERED && has_settled_change()) status = NOT_AS_ASKED;
+    if (has_settled_change()) complain("a request of an earlier run was carried out after the clocks were read: plan again");
+    if (status != ANSWERED) complain("nothing was changed");
     return status;
 }

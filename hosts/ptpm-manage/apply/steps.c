@@ -6,6 +6,8 @@
 #include "marks.h"
 #include "notices.h"
 #include "program.h"
+#include "ptpm_program.h"
+#include "stopping.h"
 #include <errno.h>
 #include <stdlib.h>
 #include <string.h>
@@ -47,13 +49,11 @@ void take_sessions(const struct task *task, const struct journal *journal) {
     }
 }
 
-bool mark_sessions(void) {
+void mark_sessions(void) {
     for (size_t i = 0; i < desk_count; i++) {
         if (make_mark(desks[i]->session.file->path)) continue;
-        complain("nothing was sent: %s.apply: %s: the apply stays open", desks[i]->session.file->path, strerror(errno));
-        return false;
+        refuse_storage("nothing was sent: %s.apply: %s: the apply stays open", desks[i]->session.file->path, strerror(errno));
     }
-    return true;
 }
 
 void leave_sessions(void) {
@@ -257,8 +257,8 @@ static int see_to_sessions(struct journal *journal) {
     return end_with(journal, ENDED_CHANGED, NO_STEP);
 }
 
-bool note_begun_step(struct journal *journal) {
-    return journal->begun == NO_STEP || note_standing(desk_of(&journal->steps[journal->begun]), journal);
+bool note_letting_go(struct journal *journal) {
+    return journal->begun == NO_STEP || note_given_up(desk_of(&journal->steps[journal->begun]), journal);
 }
 
 int let_go_of_steps(const struct journal *journal) {
@@ -292,10 +292,24 @@ static void say_value_of_refused(const struct task *task, const struct journal *
     complain("a rollback leaves it out");
 }
 
+/* Before the first step at another clock than the one before: whether the program for that says that it may go on. */
+static int check_before(struct journal *journal, long place) {
+    bool is_other = place > 0 && memcmp(journal->steps[place].clock, journal->steps[place - 1].clock, 8) != 0;
+    if (!is_other || *journal->check == '\0') return ANSWERED;
+    show_step("check before step", journal, place);
+    int status = run_check_program(journal->check);
+    if (stopped) complain("ended by a signal: the apply stays open");
+    if (stopped) return BY_SIGNAL + stopped;
+    if (status == 0) return ANSWERED;
+    complain("%s ended with status %d before step %ld: no further step is sent", journal->check, status, place + 1);
+    return end_with(journal, STOPPED, place);
+}
+
 int carry_out_steps(const struct task *task, struct journal *journal) {
     int status = see_to_sessions(journal);
     for (long place; status == ANSWERED && journal->ending == IS_OPEN && (place = next_step(journal)) != NO_STEP;) {
-        status = take_step(task, journal, place);
+        status = check_before(journal, place);
+        if (status == ANSWERED && journal->ending == IS_OPEN) status = take_step(task, journal, place);
     }
     if (status != ANSWERED || journal->ending != IS_OPEN) return status;
     long failed = failed_step(journal);

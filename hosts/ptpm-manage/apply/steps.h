@@ -8,8 +8,8 @@
 /* Takes the sessions of all clocks of the journal, and marks their files. Ends the program with status 2 if one can't be taken. */
 void take_sessions(const struct task *task, const struct journal *journal);
 
-/* Makes the marks; whether all are made, which is said otherwise. */
-bool mark_sessions(void);
+/* Makes the marks. Ends the program with NOT_WRITTEN if one can't be made. */
+void mark_sessions(void);
 
 /* Sees to what an earlier run left, asks the steps that have no answer, and reads at last what was set. ANSWERED if the journal has an end
    then. Otherwise it stays open, and the answer is the program's status. */
@@ -18,8 +18,9 @@ int carry_out_steps(const struct task *task, struct journal *journal);
 /* Sees to the step that was begun and has no answer, and to the sessions of those that have one. ANSWERED, or the program's status. */
 int settle_begun_steps(struct journal *journal);
 
-/* Finds whether the step that was begun last was never sent, and notes it then. Nothing is sent. Whether it could. */
-bool note_begun_step(struct journal *journal);
+/* Notes that the step that was begun last is given up; or, if it was never sent, that. Nothing is sent. Whether it could, which is said
+   otherwise. */
+bool note_letting_go(struct journal *journal);
 
 /* Gives up the steps of the journal that are still in a session, so that no later run sends them again. Nothing is sent. ANSWERED, or the
    program's status. */

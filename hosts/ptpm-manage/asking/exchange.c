@@ -35,7 +35,45 @@ static void swap_port(uint8_t *at) {
     at[1] = (uint8_t)port;
 }
 
+/* The latest numbers under which something was asked. */
+enum { NUMBERS = 256, FEW = 16 };
+static uint16_t asked[NUMBERS];
+static size_t asked_count;
+
+static uint16_t number_in(const uint8_t *message) { return (uint16_t)(message[SEQUENCE_AT] << 8 | message[SEQUENCE_AT + 1]); }
+
+static bool was_asked(uint16_t number) {
+    for (size_t i = 0; i < NUMBERS && i < asked_count; i++) {
+        if (asked[i] == number) return true;
+    }
+    return false;
+}
+
+/* How many answers had a number that was not asked; one after the other with the same number are one. */
+static long guesses;
+
+bool is_response_of_clock(const uint8_t *copy, size_t size) {
+    uint8_t action = size >= LEAST_MESSAGE ? copy[ACTION_AT] & LOWER_HALF : 0;
+    return (action == RESPONSE || action == ACKNOWLEDGE) && memcmp(copy + TARGET_AT, source, sizeof source) == 0
+           && memcmp(copy + SOURCE_AT, target, CLOCK_IDENTITY) == 0;
+}
+
+bool may_answer(const uint8_t *copy, size_t size) {
+    static uint16_t latest;
+    if (is_response_of_clock(copy, size) && !was_asked(number_in(copy))) {
+        guesses += guesses == 0 || number_in(copy) != latest;
+        latest = number_in(copy);
+    }
+    return guesses <= FEW;
+}
+
+void tell_guesses(void) {
+    if (guesses <= FEW) return;
+    complain("%ld answers had numbers that were not asked: somebody guesses numbers, or asks by this manager too, and no answer is taken", guesses);
+}
+
 void name_target(uint8_t *message) {
+    if (!was_asked(number_in(message))) asked[asked_count++ % NUMBERS] = number_in(message);
     memcpy(source, message + SOURCE_AT, sizeof source);
     memcpy(target, message + TARGET_AT, sizeof target);
     swap_port(message + TARGET_AT + CLOCK_IDENTITY);
@@ -70,6 +108,7 @@ bool is_error_of_clock(uint8_t *copy, size_t size) {
 static bool is_answered(struct ptpm_session *session, const uint8_t *datagram, size_t size) {
     static uint8_t copy[PTPM_MOST_OCTETS];
     size = copy_datagram(copy, datagram, size);
+    if (!may_answer(copy, size)) return false;
     enum ptpm_session_received became = ptpm_session_receive(session, copy, size);
     if (became == PTPM_ANSWERED) return true;
     tell_unreadable(became, source, copy, size);

@@ -32,6 +32,14 @@ void name_target(uint8_t *message);
 /* Copies a datagram as the session of the latest message is to hear it; how many octets it has then. */
 size_t copy_datagram(uint8_t copy[PTPM_MOST_OCTETS], const uint8_t *datagram, size_t size);
 
+/* Whether such a copy may answer. It may not if it has the name of the clock that was asked, but a number that was not. If more than a
+   few had, somebody guesses numbers, and nothing more answers in this run: tell_guesses says so. */
+bool may_answer(const uint8_t *copy, size_t size);
+void tell_guesses(void);
+
+/* Whether a datagram is a response of the clock that was asked to who asked. */
+bool is_response_of_clock(const uint8_t *copy, size_t size);
+
 /* Whether a copy is an error of the clock that was asked. It is one of the port that was asked from now on. */
 bool is_error_of_clock(uint8_t *copy, size_t size);
 

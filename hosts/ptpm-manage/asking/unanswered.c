@@ -117,6 +117,7 @@ static const char *request_clause(const struct task *task, enum unanswered what)
 void say_silence(const struct task *task, enum unanswered what, uint16_t number, const char *path) {
     tell_unfit_interfaces();
     tell_deaf_port();
+    tell_guesses();
     if (say_value(task)) say_reason(task, what, number, path);
 }
 
@@ -132,6 +133,7 @@ int no_answer(const struct task *task, enum unanswered what, uint16_t number, lo
     if (stopped) return BY_SIGNAL + stopped;
     tell_unfit_interfaces();
     tell_deaf_port();
+    tell_guesses();
     if (task->is_survey && !task->is_of_clock) {
         advise_on_every(task);
         return NOT_ANSWERED;

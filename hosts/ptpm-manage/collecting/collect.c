@@ -12,13 +12,22 @@
 #include "unanswered.h"
 #include <errno.h>
 #include <stdbool.h>
+#include <stdlib.h>
 #include <string.h>
 
-/* One request each 50 ms: all at once lose answers in the buffers of the clocks, which hear each other's answers too. If each domain
-   gets one, there is one each 4 ms. A burst of requests to only one clock has fewer answers than such a buffer holds. There are no more,
-   however many clocks are asked: one host may answer as thousands. If more clocks than MOST_SILENT give no answer when they are asked by
-   themselves, they are such. */
-enum { STEP = 50, DOMAIN_STEP = 4, BURST = 128, MOST_SILENT = 128, DOMAINS_AT_ONCE = 32 };
+/* One request to every clock each 50 ms: all at once lose answers in the buffers of the clocks, which hear each other's answers too. If each
+   domain gets one, there is one each 4 ms. Of all that is sent at most BURST messages go out in these 50 ms. A burst of requests to only one
+   clock has fewer answers than such a buffer holds. One host may answer as thousands, or send as thousands. If more clocks than MOST_SILENT
+   give no answer when they are asked by themselves, they are such. A clock that was only heard is asked TRIES_OF_HEARD times. */
+enum { STEP = 50, DOMAIN_STEP = 4, BURST = 128, MOST_SILENT = 128, DOMAINS_AT_ONCE = 32, TRIES_OF_HEARD = 3, MOST_ABSENT = 8192 };
+
+/* A clock that is heard may take this many milliseconds to answer. */
+enum { SLOW = 2000 };
+
+/* Every clock is asked again whether it is there. That ends if QUIET_ROUNDS brought nothing new, and a clock is missed less than once in
+   MOST_MISSED collections. A round lasts 300 ms at least, so that a clock is found that was silent for half a second. If answers are lost a
+   round has several censuses. */
+enum { QUIET_ROUNDS = 2, MOST_MISSED = 1000, ROUND = 300, MOST_ROUNDS = 10, CENSUSES_OF_LOSSY = 3 };
 
 /* A socket without room is tried again this often, this many milliseconds apart. A silence that never comes is waited for this
    many time-outs at most. */
@@ -41,23 +50,27 @@ static const uint16_t of_ports[] = {
     PTPM_ID_DELAY_MECHANISM, PTPM_ID_LOG_MIN_PDELAY_REQ_INTERVAL,
 };
 
-/* A request to every clock of a domain. */
+/* A request to every clock of a domain. A census only shows who is there: its answer is no line. It has a number of its own, so that a clock
+   passes it on which does not pass the same message on again. */
 struct request {
     struct ptpm_survey survey;
     uint16_t number;
     struct domain domain;
-    unsigned id;                        /* its place among what is collected */
+    bool is_census;
+    unsigned id;                        /* its place among what is collected, or among the censuses of a round */
     size_t size;
     uint8_t message[PTPM_MOST_OCTETS];
 };
 
 static const struct collected *collected;           /* what is asked for now */
-static struct request requests[DOMAINS_AT_ONCE * MOST_COLLECTED];
+static struct request requests[DOMAINS_AT_ONCE * (MOST_COLLECTED + CENSUSES_OF_LOSSY)];
 static size_t request_count;
 static FILE *output;
 static long sent;                       /* messages that went out */
 static int64_t latest;                  /* when an answer came that is no copy */
+static size_t news;                     /* how many of these came */
 static size_t let_go;                   /* clocks that are asked no more */
+static struct sureness sureness;
 static bool has_no_transport;
 static uint8_t farthest, farthest_switch;   /* past how many boundary clocks any clock answered, and one with two ports or more */
 static const struct seen_clock *expected;
@@ -75,11 +88,12 @@ static bool is_of_port(unsigned id) {
 
 static unsigned two_octets(const uint8_t *at) { return (unsigned)at[0] << 8 | at[1]; }
 
-/* Starts the request of an id; whether the library would ask it. If not, that is said. */
-static bool start_request(const struct task *task, struct domain domain, unsigned id) {
+/* Starts a request; whether the library would ask it. If not, that is said. */
+static bool start_request(const struct task *task, struct domain domain, unsigned id, bool is_census) {
     struct request *request = &requests[request_count];
     struct ptpm_survey_settings settings = {
-        .port = task->settings.port, .number = next_number(), .id = collected->ids[id], .domain = domain.number, .hops = task->settings.hops,
+        .port = task->settings.port, .number = next_number(), .id = is_census ? PTPM_ID_DEFAULT_DATA_SET : collected->ids[id],
+        .domain = domain.number, .hops = task->settings.hops,
     };
     memcpy(settings.clock, task->settings.clock, sizeof settings.clock);
     uint32_t refusal = ptpm_survey_start(&request->survey, &settings);
@@ -94,14 +108,15 @@ static bool start_request(const struct task *task, struct domain domain, unsigne
     ask_as(request->message + SOURCE_AT);
     request->number = settings.number;
     request->domain = domain;
+    request->is_census = is_census;
     request->id = id;
     request_count++;
     return true;
 }
 
-static void stop_requests(void) {
-    for (size_t i = 0; i < request_count; i++) ptpm_survey_stop(&requests[i].survey);
-    request_count = 0;
+/* Stops those from a place on. */
+static void stop_requests(size_t first) {
+    while (request_count > first) ptpm_survey_stop(&requests[--request_count].survey);
 }
 
 /* FNV-1a. */
@@ -121,6 +136,17 @@ static uint64_t sum_of_answer(const uint8_t *message, size_t size) {
 static void note_distance(uint8_t hops, uint16_t port_count) {
     if (hops > farthest) farthest = hops;
     if (port_count > 1 && hops > farthest_switch) farthest_switch = hops;
+}
+
+static void note_news(void) {
+    latest = milliseconds();
+    news++;
+}
+
+/* A clock that a census finds lacks all that is collected. */
+static void take_present(const struct request *request, const uint8_t *message) {
+    note_way();
+    if (see_present(request->domain, message + SOURCE_AT, request->id)) note_news();
 }
 
 /* Records an answer that the library accepted, and prints it unless it is a copy. Octets may follow the message. */
@@ -144,7 +170,7 @@ static void take_answer(const struct request *request, const uint8_t *message) {
     note_distance(message[STARTING_HOPS_AT], answer.port_count);
     enum seen seen = see_answer(&answer);
     if (seen == SEEN_BEFORE || seen == NO_PLACE) return;
-    latest = milliseconds();
+    note_news();
     if (output == NULL) return;
     clear_progress();
     write_line(output, &(struct message_line){ .at = nanoseconds(), .from = sender_text(), .on = came_in_at(), .message = message, .size = size });
@@ -169,23 +195,27 @@ static uint32_t judge(struct request *request, const uint8_t *datagram, size_t s
     return ptpm_survey_receive(&request->survey, copy, size);
 }
 
+static void hear(struct request *request, const uint8_t *datagram, size_t size) {
+    uint32_t became = judge(request, datagram, size);
+    switch (became) {
+    case PTPM_TAKEN:
+    case PTPM_AGAIN:                                    /* which may be of another port, or of another clock with that identity */
+    case PTPM_FULL:
+    case PTPM_NO_MEMORY: (request->is_census ? take_present : take_answer)(request, datagram); break;
+    default: tell_unreadable(became, request->message + SOURCE_AT, datagram, size);
+    }
+}
+
 static void hear_until(int64_t end) {
     size_t size;
     for (const uint8_t *datagram; (datagram = receive_message(&size, end)) != NULL;) {
         struct request *request = asked_under(datagram, size);
-        if (request == NULL) {
-            keep_heard(datagram, size);
-            note_late(datagram, size);
+        if (request != NULL) {
+            hear(request, datagram, size);
             continue;
         }
-        uint32_t became = judge(request, datagram, size);
-        switch (became) {
-        case PTPM_TAKEN:
-        case PTPM_AGAIN:                                /* which may be of another port, or of another clock with that identity */
-        case PTPM_FULL:
-        case PTPM_NO_MEMORY: take_answer(request, datagram); break;
-        default: tell_unreadable(became, request->message + SOURCE_AT, datagram, size);
-        }
+        keep_heard(datagram, size);
+        note_late(datagram, size);
     }
 }
 
@@ -197,8 +227,24 @@ static void hear_until_quiet(const struct task *task) {
     }
 }
 
-/* Sends a message, which waits for room; whether it went out. That is a line, if it is to be written. */
+/* When the latest message went out. */
+static int64_t latest_sent;
+
+/* Waits until one more message may go out. */
+static void keep_pace(void) {
+    static size_t in_step;
+    if (milliseconds() >= latest_sent + STEP) in_step = 0;
+    if (in_step == BURST) {
+        hear_until(latest_sent + STEP);
+        in_step = 0;
+    }
+    in_step++;
+    latest_sent = milliseconds();
+}
+
+/* Sends a message, which waits for its time and for room; whether it went out. That is a line, if it is to be written. */
 static bool send_when_room(const uint8_t *message, size_t size, bool is_written) {
+    keep_pace();
     for (int tries = 0; tries < TRIES && !stopped && !has_no_transport; tries++) {
         enum sending sending = send_message(message, size);
         sent += sending == OUT;
@@ -210,20 +256,20 @@ static bool send_when_room(const uint8_t *message, size_t size, bool is_written)
     return false;
 }
 
-/* Asks every clock, one id after the other. */
-static void ask_every(void) {
-    for (unsigned id = 0; id < collected->count && !stopped && !has_no_transport; id++) {
+/* Asks every clock for the ids, or in the censuses, of a number of requests, one after the other. */
+static void ask_every(size_t first, unsigned count, bool is_census) {
+    for (unsigned id = 0; id < count && !stopped && !has_no_transport; id++) {
         int64_t end = milliseconds() + STEP;
-        for (size_t i = 0; i < request_count; i++) {
-            if (requests[i].id == id) send_when_room(requests[i].message, requests[i].size, true);
+        for (size_t i = first; i < request_count; i++) {
+            if (requests[i].id == id) send_when_room(requests[i].message, requests[i].size, !is_census);
         }
-        if (id + 1 < collected->count) hear_until(end);
+        if (id + 1 < count) hear_until(end);
     }
 }
 
 static const struct request *request_of(struct domain domain, unsigned id) {
     for (size_t i = 0; i < request_count; i++) {
-        if (is_same_domain(requests[i].domain, domain) && requests[i].id == id) return &requests[i];
+        if (is_same_domain(requests[i].domain, domain) && requests[i].id == id && !requests[i].is_census) return &requests[i];
     }
     return NULL;
 }
@@ -243,26 +289,21 @@ static size_t count_lacking(void) {
 
 /* Asks one clock, and all its ports: the message of the request with its identity as the target's. Whether that went out. */
 static bool ask_alone(const struct request *request, const uint8_t clock[8], bool is_written) {
-    static uint8_t message[PTPM_MOST_OCTETS];
+    uint8_t message[PTPM_MOST_OCTETS];
     memcpy(message, request->message, request->size);
     memcpy(message + TARGET_AT, clock, 8);
     return send_when_room(message, request->size, is_written);
 }
 
 /* Asks each clock of these domains for what it lacks, until there is no room for more. */
-static void ask_lacking(bool is_written) {
-    size_t asked = 0;
-    int64_t end = milliseconds() + STEP;
-    for (size_t place = 0; place < seen_count(); place++) {
+static void ask_lacking(void) {
+    for (size_t place = 0; place < seen_count() && !stopped; place++) {
+        bool is_first = !seen_clock(place)->was_asked;
         for (unsigned id = 0; id < collected->count; id++) {
             const struct request *request = lacking(seen_clock(place), id);
             if (request == NULL) continue;
-            if (!ask_alone(request, seen_clock(place)->identity, is_written)) return;
+            if (!ask_alone(request, seen_clock(place)->identity, is_first)) return;
             note_asked(place);
-            if (++asked % BURST != 0) continue;
-            hear_until(end);
-            end = milliseconds() + STEP;
-            if (stopped) return;
         }
     }
 }
@@ -276,64 +317,179 @@ static bool is_own(const uint8_t clock[8]) {
     return false;
 }
 
-/* The request for a clock that was heard and has not answered; NULL for any other one. */
-static const struct request *unanswered_by(struct domain domain, const uint8_t clock[8]) {
-    return is_seen(domain, clock) || is_own(clock) ? NULL : request_of(domain, 0);
-}
-
 void expect_clocks(const struct seen_clock *clocks, size_t count) {
     expected = clocks;
     expected_count = count;
 }
 
-/* Asks a clock for the first id, if it has not answered; whether it was asked. If it answers, it lacks the others. */
-static bool ask_silent(struct domain domain, const uint8_t clock[8], bool is_written) {
-    const struct request *request = unanswered_by(domain, clock);
-    return request != NULL && ask_alone(request, clock, is_written);
+/* A clock that was heard or is expected, and has not answered. */
+struct absent_clock { struct domain domain; uint8_t identity[8]; };
+
+static struct absent_clock absent[MOST_ABSENT];
+static size_t absent_count;
+static bool is_absent_let_go;
+
+/* Whether it is asked in its domain, and has not answered. */
+static bool is_absent(struct domain domain, const uint8_t clock[8]) {
+    return !is_seen(domain, clock) && !is_own(clock) && request_of(domain, 0) != NULL;
 }
 
-/* Asks each clock of these domains that was heard or is expected and has not answered; how many these are. */
-static size_t ask_absent(bool is_written) {
+static void add_absent(struct domain domain, const uint8_t clock[8]) {
+    if (absent_count == MOST_ABSENT || !is_absent(domain, clock)) return;
+    absent[absent_count].domain = domain;
+    memcpy(absent[absent_count++].identity, clock, 8);
+}
+
+static int compare_absent(const void *one, const void *other) {
+    const struct absent_clock *first = one, *second = other;
+    int order = memcmp(first->identity, second->identity, sizeof first->identity);
+    if (order == 0) order = first->domain.number - second->domain.number;
+    return order == 0 ? first->domain.sdo - second->domain.sdo : order;
+}
+
+/* Finds those that are asked in this later round, each once; how many they are. */
+static size_t find_absent(const struct task *task, int round) {
+    struct domain domain;
+    absent_count = 0;
+    if (is_absent_let_go || round > task->settings.attempts) return 0;
+    const uint8_t *clock;
+    for (size_t place = 0; round <= TRIES_OF_HEARD && (clock = heard_clock(place, &domain)) != NULL; place++) add_absent(domain, clock);
+    for (size_t i = 0; i < expected_count; i++) add_absent(expected[i].domain, expected[i].identity);
+    qsort(absent, absent_count, sizeof *absent, compare_absent);
     size_t count = 0;
-    struct domain domain, domain_before = { 0 };
-    const uint8_t *before = NULL;
-    size_t place = 0;
-    for (const uint8_t *clock; !stopped && (clock = heard_clock(place, &domain)) != NULL; place++) {
-        bool is_again = before != NULL && memcmp(before, clock, 8) == 0 && is_same_domain(domain_before, domain);
-        count += !is_again && ask_silent(domain, clock, is_written);
-        before = clock;
-        domain_before = domain;
+    for (size_t i = 0; i < absent_count; i++) {
+        if (count == 0 || compare_absent(&absent[i], &absent[count - 1]) != 0) absent[count++] = absent[i];
     }
-    for (size_t i = 0; i < expected_count && !stopped; i++) {
-        count += ask_silent(expected[i].domain, expected[i].identity, is_written);
-        if (count % BURST == BURST - 1) hear_until(milliseconds() + STEP);
+    return absent_count = count;
+}
+
+/* Asks them for the first id. A clock that answers lacks the others. */
+static void ask_absent(bool is_written) {
+    for (size_t i = 0; i < absent_count && !stopped; i++) {
+        if (!is_seen(absent[i].domain, absent[i].identity)) ask_alone(request_of(absent[i].domain, 0), absent[i].identity, is_written);
     }
-    return count;
+}
+
+/* Asks none of them any more, if too many gave no answer. */
+static void let_go_of_absent(void) {
+    size_t silent = 0;
+    for (size_t i = 0; i < absent_count; i++) silent += !is_seen(absent[i].domain, absent[i].identity);
+    if (silent <= MOST_SILENT) return;
+    is_absent_let_go = true;
+    let_go += silent;
+}
+
+static bool is_one_slow(void) {
+    struct domain domain;
+    const uint8_t *clock;
+    for (size_t place = 0; !is_absent_let_go && (clock = heard_clock(place, &domain)) != NULL; place++) {
+        if (is_absent(domain, clock)) return true;
+    }
+    return false;
+}
+
+/* Hears the answer of a clock that is heard, and has not answered yet. */
+static void wait_for_slow(const struct task *task) {
+    int64_t end = latest_sent + (task->timeout > SLOW ? task->timeout : SLOW);
+    while (!stopped && milliseconds() < end && is_one_slow()) hear_until(milliseconds() + STEP < end ? milliseconds() + STEP : end);
+}
+
+/* The rounds in which some domains are asked. */
+struct rounds {
+    const struct domain *domains;
+    size_t count;
+    int round, quiet;                   /* the later round that it is; how many of the latest brought nothing new */
+    size_t with_census;                 /* how many later rounds had one */
+    unsigned asked;                     /* how often every clock was asked something */
+    int64_t begun;                      /* when the latest round was */
+};
+
+/* Whether no clock is missing, as far as the rounds show. Of what every clock is asked a part has no answer. A clock that is asked N times is
+   missed by this part to the power N. */
+static bool is_sure(const struct rounds *rounds) {
+    double missed = (double)(seen_count() + 1) * MOST_MISSED, lost = lost_share();
+    for (unsigned i = 0; i < rounds->asked; i++) missed *= lost;
+    return rounds->quiet >= QUIET_ROUNDS && missed < 1;
+}
+
+/* Starts the requests of this many censuses; whether the library would ask them. */
+static bool start_censuses(const struct task *task, const struct rounds *rounds, unsigned censuses) {
+    for (unsigned census = 0; census < censuses; census++) {
+        for (size_t i = 0; i < rounds->count; i++) {
+            if (!start_request(task, rounds->domains[i], census, true)) return false;
+        }
+    }
+    return true;
+}
+
+/* Asks every clock whether it is there; in how many censuses. Without memory it is none, and no other round has one. */
+static unsigned take_census(const struct task *task, struct rounds *rounds) {
+    size_t first = request_count;
+    unsigned censuses = lost_share() > 0 ? CENSUSES_OF_LOSSY : 1;
+    rounds->begun = milliseconds();
+    if (!start_censuses(task, rounds, censuses)) {
+        rounds->round = MOST_ROUNDS;
+        return 0;
+    }
+    ask_every(first, censuses, true);
+    rounds->asked += censuses;
+    rounds->with_census++;
+    return censuses;
+}
+
+/* Asks once more who is there, and each clock for what it lacks; whether there was something to ask. */
+static bool ask_again(const struct task *task, struct rounds *rounds) {
+    bool is_found = is_sure(rounds) || rounds->round > MOST_ROUNDS;
+    size_t lacks = find_absent(task, rounds->round), before = news, base = request_count;
+    if (rounds->round <= task->settings.attempts) lacks += count_lacking();
+    if (is_found && lacks == 0) return false;
+    show_progress("%zu clocks so far; attempt %d for %zu answers that are missing", seen_count(), rounds->round, lacks);
+    begin_round();
+    ask_absent(rounds->round == 1);
+    if (rounds->round <= task->settings.attempts) ask_lacking();
+    if (lacks > 0 && !is_found) hear_until(milliseconds() + STEP);
+    unsigned censuses = is_found ? 0 : take_census(task, rounds);
+    hear_until_quiet(task);
+    if (censuses > 0) hear_until(rounds->begun + ROUND);
+    end_round(censuses);
+    stop_requests(base);
+    let_go += let_go_of_silent(MOST_SILENT);
+    let_go_of_absent();
+    rounds->quiet = news == before ? rounds->quiet + 1 : 0;
+    return true;
+}
+
+/* A clock that a census found may have answered nothing else. */
+static void note_sureness(const struct rounds *rounds) {
+    sureness.late += late_answers();
+    if (rounds->with_census >= sureness.rounds) sureness.rounds = rounds->with_census + 1;
+    sureness.is_sure &= is_sure(rounds);
+    for (size_t place = 0; place < seen_count(); place++) sureness.is_sure &= seen_clock(place)->answered != 0;
 }
 
 /* Asks in this many domains; whether the library would ask at all. */
 static bool ask_in(const struct task *task, const struct domain *domains, size_t count) {
+    struct rounds rounds = { .domains = domains, .count = count, .asked = (unsigned)collected->count, .begun = milliseconds() };
     for (size_t i = 0; i < count; i++) {
         for (unsigned id = 0; id < collected->count; id++) {
-            if (start_request(task, domains[i], id)) continue;
-            stop_requests();
+            if (start_request(task, domains[i], id, false)) continue;
+            stop_requests(0);
             return false;
         }
     }
     char first[DOMAIN_TEXT];
     write_domain(first, domains[0]);
     show_progress("%zu clocks so far; asking from domain %s on", seen_count(), first);
-    ask_every();
+    begin_rounds();
+    is_absent_let_go = false;
+    ask_every(0, (unsigned)collected->count, false);
     hear_until_quiet(task);
-    for (int round = 1; round <= task->settings.attempts && !stopped && !has_no_transport; round++) {
-        size_t lacks = count_lacking() + ask_absent(round == 1);
-        if (lacks == 0) break;
-        show_progress("%zu clocks so far; attempt %d for %zu answers that are missing", seen_count(), round, lacks);
-        ask_lacking(round == 1);
-        hear_until_quiet(task);
-        let_go += let_go_of_silent(MOST_SILENT);
-    }
-    stop_requests();
+    hear_until(rounds.begun + ROUND);
+    do rounds.round++;
+    while (!stopped && !has_no_transport && ask_again(task, &rounds));
+    wait_for_slow(task);
+    note_sureness(&rounds);
+    stop_requests(0);
     return true;
 }
 
@@ -364,11 +520,27 @@ static void tell_lowered_hops(const struct task *task) {
              "without --hops", HOPS_OF_CLOCKS);
 }
 
+const struct sureness *sureness_of_collection(void) {
+    sureness.clocks = seen_count();
+    sureness.left_out = unseen_answers();
+    return &sureness;
+}
+
+/* Says what is not known of who is there. */
+static void tell_sureness(void) {
+    const struct sureness *known = sureness_of_collection();
+    if (known->left_out > 0) {
+        complain("there is room for %d clocks and %d answers: %lu more answers are left out", MOST_CLOCKS, MOST_KEPT, known->left_out);
+    }
+    if (!known->is_sure && !stopped && sent > 0) {
+        complain("%zu clocks answered in %zu rounds, and more may be there: %zu answers came only after the first one", known->clocks,
+                 known->rounds, known->late);
+    }
+}
+
 static int end_of_collection(const struct task *task, const struct domains *domains) {
     clear_progress();
-    if (unseen_answers() > 0) {
-        complain("there is room for %d clocks and %d answers: %lu more answers are left out", MOST_CLOCKS, MOST_KEPT, unseen_answers());
-    }
+    tell_sureness();
     if (let_go > 0) complain("%zu clocks gave no new answer when they were asked alone: they were let go", let_go);
     if (has_no_transport) complain("nothing was sent: %s: %s", transport_name(), strerror(errno));
     else if (stopped && task->site.watch == 0) complain("ended by a signal: more may answer");
@@ -417,6 +589,7 @@ static void begin(const struct collected *what, FILE *to) {
     output = to;
     sent = 0;
     let_go = 0;
+    sureness = (struct sureness){ .is_sure = true };
     has_no_transport = false;
     farthest = farthest_switch = 0;
     forget_ways();
@@ -425,12 +598,12 @@ static void begin(const struct collected *what, FILE *to) {
 /* Asks once in each domain of an sdoId. */
 static void ask_each_domain(const struct task *task, uint16_t sdo) {
     for (int number = 0; number < DOMAINS && !stopped && !has_no_transport; number++) {
-        if (!start_request(task, (struct domain){ (uint8_t)number, sdo }, 0)) break;
+        if (!start_request(task, (struct domain){ (uint8_t)number, sdo }, 0, false)) break;
         send_when_room(requests[number].message, requests[number].size, false);
         hear_until(milliseconds() + DOMAIN_STEP);
     }
     hear_until_quiet(task);
-    stop_requests();
+    stop_requests(0);
 }
 
 void add_answering_domains(struct domains *domains, const struct task *task) {
@@ -443,6 +616,7 @@ void add_answering_domains(struct domains *domains, const struct task *task) {
 int collect_answers(const struct task *task, const struct collected *what, const struct domains *domains, FILE *to) {
     begin(what, to);
     bool is_asked = is_site() ? ask_and_hear(task, domains) : ask_in_all(task, domains);
+    if (is_asked) write_sureness_note(to, sureness_of_collection());
     return is_asked ? end_of_collection(task, domains) : NOT_ASKED;
 }
 

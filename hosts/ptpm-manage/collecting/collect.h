@@ -3,6 +3,7 @@
 #define COLLECT_H
 
 #include "domains.h"
+#include "lines.h"
 #include "seen.h"
 #include "task.h"
 #include <stdio.h>
@@ -24,6 +25,9 @@ void add_answering_domains(struct domains *domains, const struct task *task);
    clock answered; else the program's status, and why is said. Each call asks with new numbers, and after it `seen.h` has the clocks
    of the latest. */
 int collect_answers(const struct task *task, const struct collected *what, const struct domains *domains, FILE *to);
+
+/* What is known of the latest collection. It is there until the next one. */
+const struct sureness *sureness_of_collection(void);
 
 /* Carries out `collect`; the program's status. */
 int collect(const struct task *task);

@@ -1,6 +1,6 @@
-/* What clocks send by themselves, heard while a site is asked, or between two times: the latest Announce, Sync, Follow_Up and Delay_Req
-   of each port. So a clock shows itself that answers no management message. Strangers may send without end, so there is room for a number
-   of ports. */
+/* What clocks send by themselves, heard while a site is asked, or between two times. These are the latest Announce, Sync and Follow_Up of each
+   port, and the latest Delay_Req of each clock. So a clock shows itself that answers no management message. Strangers may send without end. So
+   each type has room for a number of messages, which no other type takes, and what comes after that is counted. */
 #ifndef HEARD_H
 #define HEARD_H
 
@@ -23,7 +23,12 @@ const uint8_t *heard_clock(size_t place, struct domain *domain);
 /* The domain of the message at a place; whether there is one. */
 bool heard_domain(size_t place, struct domain *domain);
 
-/* Writes a line of each message that is kept, or only of those that came after the last time. */
+/* Writes a line of each message that is kept, or only of those that came after the last time. Then a collection ends: messages that found no
+   room for it are said. */
 void write_heard(FILE *to, bool is_of_all);
+
+/* The types, and how many messages of each found no room for the latest collection. */
+enum heard_type { ANNOUNCES, SYNCS, FOLLOW_UPS, DELAY_REQS, HEARD_TYPES };
+unsigned long unheard(enum heard_type type);
 
 #endif

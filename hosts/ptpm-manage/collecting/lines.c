@@ -92,6 +92,9 @@ static bool is_synchronised(void) {
     return answer >= 0 && answer != TIME_ERROR && (state.status & STA_UNSYNC) == 0;
 }
 
+/* The word that each note has: of several the last one counts. */
+static void end_note(FILE *to) { fputs(is_synchronised() ? " clock=synchronised\n" : "\n", to); }
+
 void write_host_note(FILE *to) {
     uint8_t identity[8];
     char text[IDENTITY_TEXT];
@@ -100,5 +103,11 @@ void write_host_note(FILE *to) {
         write_identity(text, identity);
         fprintf(to, "%s%s", i == 0 ? " own=" : ",", text);
     }
-    fputs(is_synchronised() ? " clock=synchronised\n" : "\n", to);
+    end_note(to);
+}
+
+void write_sureness_note(FILE *to, const struct sureness *known) {
+    fprintf(to, "#ptpm clocks=%zu rounds=%zu late=%zu left_out=%lu sure=%s", known->clocks, known->rounds, known->late, known->left_out,
+            known->is_sure ? "true" : "false");
+    end_note(to);
 }

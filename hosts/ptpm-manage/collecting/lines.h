@@ -3,6 +3,7 @@
 #ifndef LINES_H
 #define LINES_H
 
+#include <stdbool.h>
 #include <stddef.h>
 #include <stdint.h>
 #include <stdio.h>
@@ -30,5 +31,13 @@ void write_sent(FILE *to, const uint8_t *message, size_t size);
 /* What is known of this host: a line that begins with #ptpm. The word own= has the identities that its interfaces would have. The
    word clock=synchronised is there if the kernel says so of its clock, which at= is read from. */
 void write_host_note(FILE *to);
+
+/* How sure it is that no clock is missing from a collection. `late` answers came only after the first round, since messages were lost, and
+   those that are `left_out` had no room. It is not sure if the last rounds brought something new, or if a clock may still be missed by what
+   is lost. */
+struct sureness { size_t clocks, rounds, late; unsigned long left_out; bool is_sure; };
+
+/* The same as a line that begins with #ptpm. */
+void write_sureness_note(FILE *to, const struct sureness *known);
 
 #endif

@@ -6,6 +6,9 @@
 /* Half of the places stay free. */
 enum { CLOCK_PLACES = 2 * MOST_CLOCKS, ANSWER_PLACES = 2 * MOST_KEPT };
 
+/* A clock that is in none of this many censuses heeds only requests to one clock. */
+enum { LEAST_CENSUSES = 3 };
+
 /* The first answer of a clock's port to an id. */
 struct first_answer {
     uint64_t sum;
@@ -19,6 +22,8 @@ static struct seen_clock clocks[MOST_CLOCKS];
 static uint32_t clock_places[CLOCK_PLACES];         /* of a clock, plus one */
 static struct first_answer answers[ANSWER_PLACES];
 static size_t clock_count, answer_count;
+static size_t first_of_rounds;                      /* the place of the first clock of these rounds */
+static bool is_later_round;
 static unsigned long not_kept;
 static uint64_t seed;                               /* which nobody else knows, so that nobody fills one place again and again */
 
@@ -50,12 +55,12 @@ static size_t place_of_clock(struct domain domain, const uint8_t clock[8]) {
 }
 
 /* The number of a clock, which is a new one if it wasn't seen yet: from 1 on; 0 if there is no room. */
-static uint32_t number_of_clock(const struct seen_answer *answer) {
-    size_t place = place_of_clock(answer->domain, answer->clock);
+static uint32_t number_of_clock(struct domain domain, const uint8_t identity[8]) {
+    size_t place = place_of_clock(domain, identity);
     if (clock_places[place] != 0 || clock_count == MOST_CLOCKS) return clock_places[place];
     struct seen_clock *clock = &clocks[clock_count++];
-    *clock = (struct seen_clock){ .domain = answer->domain };
-    memcpy(clock->identity, answer->clock, 8);
+    *clock = (struct seen_clock){ .domain = domain };
+    memcpy(clock->identity, identity, 8);
     clock_places[place] = (uint32_t)clock_count;
     return clock_places[place];
 }
@@ -73,13 +78,14 @@ static void note(struct seen_clock *clock, const struct seen_answer *answer) {
     uint16_t bit = (uint16_t)(1 << answer->id);
     clock->answered |= bit;
     clock->answers++;
+    clock->late += is_later_round;
     if (answer->is_refusal) clock->refused |= bit;
     else if (answer->is_of_port && answer->port != 0) clock->ports[answer->id]++;
     if (answer->port_count != 0) clock->port_count = answer->port_count;
 }
 
 enum seen see_answer(const struct seen_answer *answer) {
-    uint32_t clock = number_of_clock(answer);
+    uint32_t clock = number_of_clock(answer->domain, answer->clock);
     struct first_answer *kept = clock == 0 ? NULL : place_of_answer(clock, answer);
     if (kept == NULL || (kept->clock == 0 && answer_count == MOST_KEPT)) {
         not_kept++;
@@ -111,7 +117,7 @@ bool is_lacking(const struct seen_clock *clock, unsigned id, bool is_of_port) {
 void note_asked(size_t place) {
     struct seen_clock *clock = &clocks[place];
     if (clock->is_asked) return;
-    clock->is_asked = true;
+    clock->is_asked = clock->was_asked = true;
     clock->answers_before = clock->answers;
 }
 
@@ -127,6 +133,58 @@ size_t let_go_of_silent(size_t most) {
         clocks[place].is_asked = false;
     }
     return silent > most ? silent : 0;
+}
+
+void begin_rounds(void) {
+    first_of_rounds = clock_count;
+    is_later_round = false;
+}
+
+void begin_round(void) {
+    is_later_round = true;
+    for (size_t place = first_of_rounds; place < clock_count; place++) {
+        clocks[place].is_expected = true;
+        clocks[place].in_round = 0;
+    }
+}
+
+void end_round(unsigned censuses) {
+    for (size_t place = first_of_rounds; place < clock_count; place++) {
+        struct seen_clock *clock = &clocks[place];
+        if (!clock->is_expected) continue;
+        clock->censuses = (uint16_t)(clock->censuses + censuses);
+        clock->in_censuses = (uint16_t)(clock->in_censuses + __builtin_popcount(clock->in_round));
+    }
+}
+
+bool see_present(struct domain domain, const uint8_t clock[8], unsigned census) {
+    size_t count_before = clock_count;
+    uint32_t number = number_of_clock(domain, clock);
+    if (number == 0) not_kept++;
+    else clocks[number - 1].in_round |= (uint8_t)(1 << census);
+    return clock_count > count_before;
+}
+
+size_t late_answers(void) {
+    size_t late = 0;
+    for (size_t place = first_of_rounds; place < clock_count; place++) late += clocks[place].late;
+    return late;
+}
+
+/* Whether it heeds what every clock is asked, as far as is known: some heed only requests to one clock. */
+static bool answers_all(const struct seen_clock *clock) {
+    return !clock->is_let_go && (clock->in_censuses > 0 || clock->censuses < LEAST_CENSUSES);
+}
+
+double lost_share(void) {
+    size_t asked = 0, lost = 0;
+    for (size_t place = first_of_rounds; place < clock_count; place++) {
+        const struct seen_clock *clock = &clocks[place];
+        if (!answers_all(clock)) continue;
+        asked += clock->answers + clock->censuses;
+        lost += clock->late + clock->censuses - clock->in_censuses;
+    }
+    return asked == 0 ? 0 : (double)lost / (double)asked;
 }
 
 unsigned long unseen_answers(void) { return not_kept; }

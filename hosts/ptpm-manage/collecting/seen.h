@@ -19,8 +19,12 @@ struct seen_clock {
     uint16_t port_count;                /* numberPorts, 0 until it is known */
     uint16_t ports[MOST_COLLECTED];     /* of an id of a port, how many ports answered */
     uint32_t answers, answers_before;   /* all of these answers; those that it had given when it was last asked by itself */
-    bool is_asked;                      /* it was asked by itself since the last look at who was silent */
+    bool is_asked, was_asked;           /* it was asked by itself since the last look at who was silent; it was ever */
     bool is_let_go;                     /* it is asked no more */
+    uint32_t late;                      /* answers that came after the first round */
+    uint16_t censuses, in_censuses;     /* in how many it was to answer; in how many it did */
+    uint8_t in_round;                   /* a bit for each census of this round that it answered */
+    bool is_expected;                   /* it was seen before this round */
 };
 
 /* An answer: who gave it, to what, and its content. Copies of it have the same sum. */
@@ -62,6 +66,20 @@ void note_asked(size_t place);
 /* Looks which of the clocks that were asked by themselves have given no new answer since. If they are more than `most`, they are
    asked no more; how many these are. */
 size_t let_go_of_silent(size_t most);
+
+/* Begins the rounds of domains that were not asked before. What comes before `begin_round` is of the first round. */
+void begin_rounds(void);
+
+/* Begins a later round, in which every clock is asked in a number of censuses whether it is there. Then ends it. */
+void begin_round(void);
+void end_round(unsigned censuses);
+
+/* Notes that a clock answered this census of the round; whether it was not seen before. */
+bool see_present(struct domain domain, const uint8_t clock[8], unsigned census);
+
+/* Of these rounds, how many answers came after the first, and which share of what every clock was asked had no answer in its round. */
+size_t late_answers(void);
+double lost_share(void);
 
 /* How many answers found no room. */
 unsigned long unseen_answers(void);

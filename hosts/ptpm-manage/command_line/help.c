@@ -23,6 +23,7 @@ static const char help_text[] =
     "ptpm-manage [OPTION].. apply FILE\n"
     "ptpm-manage [OPTION].. resume\n"
     "ptpm-manage [OPTION].. rollback APPLY\n"
+    "ptpm-manage [OPTION].. applies [APPLY]\n"
     "\n"
     "Asks a PTP clock for a data set, sets a value, or has a command carried out, and prints what the\n"
     "clock answers. The request is sent again until it is answered. survey asks every clock and port.\n"
@@ -34,7 +35,7 @@ static const char help_text[] =
     "\n"
     "plan says what FILE would change at several clocks, and in which order. It only reads. With apply\n"
     "its SETs are asked too, one after the other. A kill or a missing answer leaves an apply open, and\n"
-    "resume goes on with it. With rollback what an apply set becomes what it was.\n"
+    "resume goes on with it. With rollback what an apply set becomes what it was. applies lists them.\n"
     "\n"
     "The way to the clock:\n"
     "  -i, --interface NAME    over UDP at this interface, to every clock there, with IPv4; collect and\n"
@@ -43,6 +44,8 @@ static const char help_text[] =
     "  -2, --ethernet          there in frames of IEEE 802.3, and not over UDP\n"
     "      --udp ADDRESS       over UDP to this address, also without --interface\n"
     "      --any-source        hears addresses too that are not on the link, over UDP\n"
+    "      --ttl-security      of unicast over UDP hears only what has TTL 255, as ptpm-clock sends it: no\n"
+    "                          router has passed it on\n"
     "  -u, --unix PATH         at a Unix socket, such as /var/run/ptp4l\n"
     "\n"
     "What is asked of whom:\n"
@@ -65,7 +68,14 @@ static const char help_text[] =
 static const char site_text[] =
     "Several clocks from one file:\n"
     "      --probe             plan also asks each clock a SET that changes nothing: does it take any?\n"
+    "                          First of all, apply asks each a SET of the value that it has.\n"
+    "      --status-if-changes plan ends with status 8 if there are changes\n"
     "      --expect PLAN       apply sends nothing if its plan is another one than this, of eight digits\n"
+    "      --skip-unreached    apply leaves out what is not reached, and names it\n"
+    "      --limit CLOCK,..    apply changes only these clocks\n"
+    "      --keep N            apply, resume and rollback leave the N latest journals that have an end\n"
+    "      --check PROGRAM     apply runs it before it goes on at another clock; a status other than 0\n"
+    "                          ends the apply\n"
     "      --give-up           resume ends the apply, whose last step may have been carried out\n"
     "\n"
     "A whole site:\n"
@@ -86,14 +96,17 @@ static const char site_text[] =
     "      --nagios            status as a line for Nagios or Icinga, with the status of a plugin\n"
     "      --output FILE       what status prints goes into FILE, which is replaced whole\n"
     "      --once              status does not look a second time at findings that may pass\n"
+    "      --for SECONDS       status looks each 2 seconds for this long, and then prints once\n"
     "      --watch SECONDS     status looks again and again, and prints what came and what went\n"
+    "      --forget SECONDS    in a watch a clock that answers no more is a finding for this long (86400)\n"
     "\n";
 
 static const char asking_text[] =
     "Who asks, and how often:\n"
-    "  -m, --manager ID-PORT   the manager's own identity and port, below 61440. Otherwise that of the\n"
-    "                          interface, or clock 0 at a Unix socket, at port 1. A survey, and what no\n"
-    "                          file keeps, have a port of this process\n"
+    "  -m, --manager ID-PORT   the manager's own identity and port, below 61440. Otherwise the MAC of\n"
+    "                          the interface with its local bit turned, which is no clock's. At a Unix\n"
+    "                          socket it is clock 0. The port is 1. A survey, and what no file keeps, have\n"
+    "                          a port of this process\n"
     "  -k, --numbers FILE      keeps the session of this manager with this clock from run to run.\n"
     "                          Without it, a file in $XDG_STATE_HOME/ptpm, /var/lib/ptpm or\n"
     "                          ~/.local/state/ptpm does so for a set or a command over UDP or\n"
@@ -113,8 +126,11 @@ static const char asking_text[] =
 static const char help_end[] =
     "Exit status: 0 answered, and of status nothing was found. 1 the clock refuses, or there are findings.\n"
     "2 nothing was asked or sent; 3 no answer came; 4 the answer could not be printed. 5 a set is\n"
-    "answered by another value than was asked, or a value has been changed by somebody else. 128 and its\n"
-    "number: a signal ended it.\n";
+    "answered by another value than was asked. 128 and its number: a signal ended it.\n"
+    "\n"
+    "Of plan, apply, resume and rollback: 0 done, or nothing to do; 1 refused by a clock. 2 the command\n"
+    "line or FILE is refused; 3 nothing was sent. 4 a file could not be read or written; 5 changed by\n"
+    "somebody else; 6 the apply is open, for resume. 7 done in part; 8 there are changes.\n";
 
 /* The names of all ids that a call gives, in their order. */
 static void print_ids(uint32_t id_at(size_t place)) {

@@ -1,5 +1,6 @@
 #define _GNU_SOURCE
 #include "task.h"
+#include "apply_report.h"
 #include "clock_names.h"
 #include "domains.h"
 #include "exchange.h"
@@ -18,13 +19,14 @@
 #include <stdlib.h>
 #include <string.h>
 #include <strings.h>
+#include <unistd.h>
 
 /* Options without a letter of their own, and a word that is none: getopt's for a string that begins with a hyphen. */
-enum { WORD = 1, UDP = 256, TEXT, VERSION, GIVE_UP, JSON, ANY_SOURCE, NAMES, EXPECT, PROBE };
+enum { WORD = 1, UDP = 256, TEXT, VERSION, GIVE_UP, JSON, ANY_SOURCE, TTL_SECURITY, NAMES, EXPECT, PROBE, STATUS_IF_CHANGES, SKIP_UNREACHED, LIMIT, CHECK, KEEP };
 
 /* The same, only for `collect` and `status`. */
 enum site_option {
-    LISTEN = 512, SDO, DRAW, HTML, OPENMETRICS, NAGIOS, OUTPUT, MAX_OFFSET, MAX_DELAY, TAI_UTC, SETTLE, PROFILE, IGNORE, ALL, ONCE, WATCH
+    LISTEN = 512, SDO, DRAW, HTML, OPENMETRICS, NAGIOS, OUTPUT, MAX_OFFSET, MAX_DELAY, TAI_UTC, SETTLE, PROFILE, IGNORE, ALL, ONCE, WATCH, FOR, FORGET
 };
 
 enum { MOST_WORDS = 2 + MOST_FIELD_WORDS, MOST_FIELD = 1418, NOT_NAMED = -1 };
@@ -32,11 +34,12 @@ enum { MOST_WORDS = 2 + MOST_FIELD_WORDS, MOST_FIELD = 1418, NOT_NAMED = -1 };
 /* What holds if no option says otherwise. A request to only one clock is repeated for two seconds. */
 enum { HOPS = 1, ATTEMPTS = 30, SITE_ATTEMPTS = 10, LISTENED = 4000, PLAN_DIGITS = 8 };
 
-enum { SECOND = 1000, MOST_SECONDS = 86400 };
+enum { SECOND = 1000, DAY = 86400, YEAR = 366 * DAY };
 
 static const struct option options[] = {
     { "interface", required_argument, NULL, 'i' }, { "udp", required_argument, NULL, UDP }, { "ipv6", no_argument, NULL, '6' },
     { "ethernet", no_argument, NULL, '2' }, { "any-source", no_argument, NULL, ANY_SOURCE },
+    { "ttl-security", no_argument, NULL, TTL_SECURITY },
     { "unix", required_argument, NULL, 'u' }, { "target", required_argument, NULL, 'T' },
     { "port", required_argument, NULL, 'p' }, { "domain", required_argument, NULL, 'd' }, { "sdo", required_argument, NULL, SDO },
     { "hops", required_argument, NULL, 'b' },
@@ -45,6 +48,9 @@ static const struct option options[] = {
     { "timeout", required_argument, NULL, 't' }, { "times", required_argument, NULL, 'n' },
     { "give-up", no_argument, NULL, GIVE_UP }, { "listen", required_argument, NULL, LISTEN }, { "json", no_argument, NULL, JSON },
     { "names", required_argument, NULL, NAMES }, { "expect", required_argument, NULL, EXPECT }, { "probe", no_argument, NULL, PROBE },
+    { "status-if-changes", no_argument, NULL, STATUS_IF_CHANGES }, { "skip-unreached", no_argument, NULL, SKIP_UNREACHED },
+    { "limit", required_argument, NULL, LIMIT }, { "check", required_argument, NULL, CHECK },
+    { "keep", required_argument, NULL, KEEP },
     { "draw", no_argument, NULL, DRAW }, { "html", no_argument, NULL, HTML },
     { "openmetrics", no_argument, NULL, OPENMETRICS }, { "nagios", no_argument, NULL, NAGIOS },
     { "output", required_argument, NULL, OUTPUT }, { "max-offset", required_argument, NULL, MAX_OFFSET },
@@ -52,6 +58,7 @@ static const struct option options[] = {
     { "settle", required_argument, NULL, SETTLE }, { "profile", required_argument, NULL, PROFILE },
     { "ignore", required_argument, NULL, IGNORE }, { "all", no_argument, NULL, ALL },
     { "once", no_argument, NULL, ONCE }, { "watch", required_argument, NULL, WATCH },
+    { "for", required_argument, NULL, FOR }, { "forget", required_argument, NULL, FORGET },
     { "hexadecimal", no_argument, NULL, 'x' }, { "text", no_argument, NULL, TEXT }, { "quiet", no_argument, NULL, 'q' },
     { "help", no_argument, NULL, 'h' }, { "version", no_argument, NULL, VERSION },
     { NULL, 0, NULL, 0 },
@@ -71,10 +78,10 @@ static long number(const char *option, const char *text, long least, long most) 
     return found;
 }
 
-static long seconds(const char *option, const char *text, long least) {
-    long found = decimal(text, MOST_SECONDS);
-    if (found < least) refuse("%s %s: it takes a number from %ld to %d", option, text, least, MOST_SECONDS);
-    return found * SECOND;
+static int64_t seconds(const char *option, const char *text, long least, long most) {
+    long found = decimal(text, most);
+    if (found < least) refuse("%s %s: it takes a number from %ld to %ld", option, text, least, most);
+    return (int64_t)found * SECOND;
 }
 
 /* A whole number in the range that `ptpm site` takes, which gets it as it is written. A + may come before it, or a - if the range has
@@ -122,15 +129,17 @@ static void add_ignored(struct site_options *site, const char *names) {
 static bool take_site_option(struct site_options *site, int option, const char *value) {
     static const char *const names[] = {
         "--listen", "--sdo", "--draw", "--html", "--openmetrics", "--nagios", "--output", "--max-offset", "--max-delay", "--tai-utc",
-        "--settle", "--profile", "--ignore", "--all", "--once", "--watch",
+        "--settle", "--profile", "--ignore", "--all", "--once", "--watch", "--for", "--forget",
     };
     static const char or_none[] = "none, or a number of nanoseconds";
-    if (option < LISTEN || option > WATCH) return false;
+    if (option < LISTEN || option > FORGET) return false;
     const char *name = names[option - LISTEN];
     switch ((enum site_option)option) {
-    case LISTEN: site->listen = seconds(name, value, 0); break;
+    case LISTEN: site->listen = (long)seconds(name, value, 0, DAY); break;
     case SDO: read_sdo(site, value); break;
-    case WATCH: site->watch = seconds(name, value, 1); break;
+    case WATCH: site->watch = (long)seconds(name, value, 1, DAY); break;
+    case FOR: site->duration = (long)seconds(name, value, 1, DAY); break;
+    case FORGET: site->forget = seconds(name, value, 1, YEAR); break;
     case MAX_OFFSET: site->max_offset = strcmp(value, "none") == 0 ? value : for_site(name, value, or_none, 0, UINT64_MAX); break;
     case MAX_DELAY: site->max_delay = for_site(name, value, "a number of nanoseconds", 0, UINT64_MAX); break;
     case TAI_UTC: site->tai_utc = for_site(name, value, "a number of seconds", INT16_MIN, INT16_MAX); break;
@@ -168,6 +177,8 @@ static void judge_site_options(const struct site_options *site) {
     if (site->given != NULL && !site->is_shown) refuse("%s: it is of status alone", site->given);
     if (site->is_sdo_named && !site->is_collected) refuse("--sdo: it is of collect and status alone");
     if (site->listen >= 0 && !site->is_collected) refuse("--listen: it is of collect and status alone");
+    if (site->duration > 0 && (site->is_once || site->watch > 0)) refuse("--for excludes --once and --watch");
+    if (site->forget > 0 && site->watch == 0) refuse("--forget: it goes with --watch alone");
     if (site->form != AS_TEXT && site->watch > 0 && site->output == NULL) {
         refuse("--watch excludes --draw, --html, --openmetrics and --nagios, unless there is a file for them: --output FILE");
     }
@@ -240,6 +251,26 @@ static void judge_expected(struct task *task) {
     if (!is_id) refuse("--expect %s: it takes the eight digits of a plan", text);
 }
 
+/* One clock, or several with commas between them. */
+static void read_limits(struct plan_options *plan, const char *text) {
+    for (const char *at = text, *end; at != NULL; at = *end == '\0' ? NULL : end + 1) {
+        end = strchrnul(at, ',');
+        plan->limits = reallocarray(plan->limits, plan->limit_count + 1, sizeof *plan->limits);
+        if (plan->limits == NULL) give_up("the options");
+        if (!ptpm_identity_parse(at, (size_t)(end - at), plan->limits[plan->limit_count++])) {
+            refuse("--limit %s: it takes identities such as aabbccfffeddee01, with commas between them", text);
+        }
+    }
+}
+
+/* A later run, which may be in another folder, has the path too. */
+static void read_check(struct plan_options *plan, const char *path) {
+    take_once(&plan->check, "--check", path);
+    plan->check = realpath(path, NULL);
+    if (plan->check == NULL || access(plan->check, X_OK)) refuse("--check %s: %s", path, strerror(errno));
+    if (strchr(plan->check, '\n') != NULL) refuse("--check: no line feed may be in the path");
+}
+
 static void take_option(struct task *task, struct words *words, int option, const char *value) {
     switch (option) {
     case 'i': take_interface(task, value); break;
@@ -247,6 +278,7 @@ static void take_option(struct task *task, struct words *words, int option, cons
     case '6': task->is_six = true; break;
     case '2': task->is_ethernet = true; break;
     case ANY_SOURCE: task->is_any_source = true; break;
+    case TTL_SECURITY: task->is_near_alone = true; break;
     case 'u': take_once(&task->path, "--unix", value); break;
     case 'T': take_once(&words->target, "--target", value); break;
     case NAMES:
@@ -255,6 +287,11 @@ static void take_option(struct task *task, struct words *words, int option, cons
         break;
     case EXPECT: take_once(&task->plan.expected, "--expect", value); break;
     case PROBE: task->plan.is_probed = true; break;
+    case STATUS_IF_CHANGES: task->plan.tells_changes = true; break;
+    case SKIP_UNREACHED: task->plan.skips_unreached = true; break;
+    case LIMIT: read_limits(&task->plan, value); break;
+    case CHECK: read_check(&task->plan, value); break;
+    case KEEP: task->plan.kept = number("keep", value, 0, 1000000); break;
     case 'p': read_port(words, value); break;
     case 'd': take_domain(words, value); break;
     case 'b': words->hops = number("hops", value, 0, 255); break;
@@ -309,12 +346,18 @@ static const struct { const char *name; uint8_t action; } actions[ACTIONS] = {
 };
 
 /* By their names: `plan` and what follows it. */
-static const char *const plan_verbs[] = { [PLAN] = "plan", [APPLY] = "apply", [RESUME] = "resume", [ROLLBACK] = "rollback" };
+static const char *const plan_verbs[] = { [PLAN] = "plan", [APPLY] = "apply", [RESUME] = "resume", [ROLLBACK] = "rollback", [APPLIES] = "applies" };
+
+static enum plan_verb verb_of_plan(const char *verb) {
+    for (enum plan_verb one = PLAN; one <= APPLIES; one++) {
+        if (strcasecmp(verb, plan_verbs[one]) == 0) return one;
+    }
+    return NO_PLAN;
+}
 
 static void read_verb(struct task *task, const char *verb) {
-    for (enum plan_verb one = PLAN; one <= ROLLBACK; one++) {
-        if (strcasecmp(verb, plan_verbs[one]) != 0) continue;
-        task->plan.verb = one;
+    task->plan.verb = verb_of_plan(verb);
+    if (task->plan.verb != NO_PLAN) {
         task->action = PTPM_SET;
         return;
     }
@@ -326,7 +369,7 @@ static void read_verb(struct task *task, const char *verb) {
         task->action = actions[i].action;
         return;
     }
-    if (!task->is_survey) refuse("%s: it is none of get, set, command, survey, collect, status, plan, apply, resume and rollback", verb);
+    if (!task->is_survey) refuse("%s: it is none of get, set, command, survey, collect, status, plan, apply, resume, rollback and applies", verb);
 }
 
 /* A get of every port is a survey of one clock. It asks as nobody, since a clock numbers the requests that its managers send only
@@ -400,7 +443,8 @@ static void part_own_socket(struct task *task) {
 
 /* Whether what is said about the clock and the way to it is complete, and said once. */
 static void judge(const struct task *task, const struct words *words) {
-    if (task->path == NULL && task->interface_count == 0 && task->address == NULL) {
+    bool is_sent = task->plan.verb != APPLIES && !(task->plan.verb == RESUME && task->is_letting_go);
+    if (is_sent && task->path == NULL && task->interface_count == 0 && task->address == NULL) {
         refuse("the way to the clock is missing: --interface NAME, --udp ADDRESS or --unix PATH");
     }
     if (task->path != NULL && (task->interface_count > 0 || task->address != NULL || task->is_six || task->is_ethernet)) {
@@ -439,10 +483,10 @@ static bool is_by_one_manager(const struct task *task) {
 /* The file of a plan, or the apply that is rolled back. */
 static void read_plan(struct task *task, const struct words *words) {
     const char *verb = words->at[0];
-    int most = task->plan.verb == RESUME ? 1 : 2;
+    int most = task->plan.verb == RESUME ? 1 : 2, least = task->plan.verb == APPLIES ? 1 : most;
     if (words->count > most) refuse("%s: there is a word too many; see ptpm-manage --help", words->at[most]);
-    bool lacks_word = words->count < most || (most == 2 && *words->at[1] == '\0');
-    if (lacks_word) refuse("%s: it takes %s", verb, task->plan.verb == ROLLBACK ? "the name of an apply" : "a file");
+    bool lacks_word = words->count < least || (words->count == 2 && *words->at[1] == '\0');
+    if (lacks_word) refuse("%s: it takes %s", verb, task->plan.verb >= ROLLBACK ? "the name of an apply" : "a file");
     task->plan.word = words->at[1];
     if (words->domain != NULL) refuse("--domain: %s takes the domains of its file", verb);
     if (task->interface_count > 1) refuse("--interface: %s takes one", verb);
@@ -493,17 +537,26 @@ static void read_reach(struct task *task, const struct words *words) {
     if (!is_site) see_to_one_interface(task);
 }
 
+/* What is refused from now on is also for what reads standard output. */
+static void prepare_refusals(int argc, char **argv) {
+    bool is_json = false, is_plan = false;
+    for (int i = 1; i < argc; i++) {
+        if (strcmp(argv[i], "--nagios") == 0) be_plugin();
+        is_json |= strcmp(argv[i], "--json") == 0;
+        is_plan |= verb_of_plan(argv[i]) != NO_PLAN;
+    }
+    if (is_json && is_plan) begin_object(true);
+}
+
 void read_task(struct task *task, int argc, char **argv) {
     struct words words = { .port = NOT_NAMED, .target_port = NOT_NAMED, .hops = NOT_NAMED, .attempts = NOT_NAMED };
     *task = (struct task){
-        .settings = { .port = 1, .target_ports = SESSION_PORTS }, .site = { .listen = NOT_NAMED }, .wait = 3000, .timeout = 200, .times = 1,
+        .settings = { .port = 1, .target_ports = SESSION_PORTS }, .site = { .listen = NOT_NAMED }, .plan = { .kept = NOT_NAMED }, .wait = 3000, .timeout = 200, .times = 1,
     };
-    for (int i = 1; i < argc; i++) {
-        if (strcmp(argv[i], "--nagios") == 0) be_plugin();
-    }
+    prepare_refusals(argc, argv);
     read_words(task, &words, argc, argv);
     if (words.count == 0) {
-        refuse("it takes get, set, command or survey and a managementId, or collect, status, plan, apply, resume or rollback; see "
+        refuse("it takes get, set, command or survey and a managementId, or collect, status, plan, apply, resume, rollback or applies; see "
                "ptpm-manage --help");
     }
     read_verb(task, words.at[0]);
@@ -513,9 +566,15 @@ void read_task(struct task *task, int argc, char **argv) {
     part_own_socket(task);
     judge(task, &words);
     judge_site_options(&task->site);
+    if (task->site.forget == 0) task->site.forget = (int64_t)DAY * SECOND;
     judge_json(task);
     judge_expected(task);
-    if (task->plan.is_probed && task->plan.verb != PLAN) refuse("--probe: it is of plan alone");
+    if (task->plan.is_probed && task->plan.verb != PLAN && task->plan.verb != APPLY) refuse("--probe: it is of plan and apply alone");
+    if (task->plan.tells_changes && task->plan.verb != PLAN) refuse("--status-if-changes: it is of plan alone");
+    bool is_of_apply = task->plan.skips_unreached || task->plan.check != NULL || task->plan.limit_count > 0;
+    bool may_keep = task->plan.verb == APPLY || task->plan.verb == RESUME || task->plan.verb == ROLLBACK;
+    if (task->plan.kept >= 0 && !may_keep) refuse("--keep: it is of apply, resume and rollback alone");
+    if (is_of_apply && task->plan.verb != APPLY) refuse("--skip-unreached, --limit and --check: they are of apply alone");
     if (task->site.listen < 0) task->site.listen = task->site.is_every_domain || task->site.is_every_sdo ? LISTENED : 0;
     long port = words.port >= 0 ? words.port : words.target_port;
     task->port = port < 0 ? 0 : (uint16_t)port;

@@ -20,6 +20,8 @@ struct site_options {
     uint16_t sdo;                               /* the sdoId of these domains */
     bool is_sdo_named, is_every_sdo;            /* it was given; those in which clocks are heard, and 0 */
     long listen, watch;                         /* in milliseconds: for clocks, or -1 by default; between two looks, or 0 */
+    long duration;                              /* of looks that are shown as one, at least */
+    int64_t forget;                             /* how long a clock is gone */
     enum shown_as form;                         /* how it is shown, except by `--json` */
     bool is_once, is_as_far_as_named;           /* it does not look a second time; nor any further than by the hops that were named */
     const char *output;                         /* the file that gets what is printed, or NULL */
@@ -32,12 +34,18 @@ struct site_options {
 };
 
 /* What is changed at several clocks by a file. */
-enum plan_verb { NO_PLAN, PLAN, APPLY, RESUME, ROLLBACK };
+enum plan_verb { NO_PLAN, PLAN, APPLY, RESUME, ROLLBACK, APPLIES };
 struct plan_options {
     enum plan_verb verb;
-    const char *word;                           /* the file, or the apply that is rolled back */
+    const char *word;                           /* the file, or the apply that is rolled back or shown; NULL if each is */
     const char *expected;                       /* the id of the plan that was approved, or NULL */
     bool is_probed;                             /* each clock is asked whether it takes SETs of this manager */
+    bool tells_changes;                         /* by a status of its own: there are some */
+    bool skips_unreached;                       /* what is not reached is left out */
+    const char *check;                          /* the path of a program that is run before it goes on at another clock, or NULL */
+    uint8_t (*limits)[8];                       /* the only clocks that are changed, */
+    size_t limit_count;                         /* and how many these are; 0 if all are changed */
+    long kept;                                  /* how many journals with an end stay, or -1 if all do */
 };
 
 struct task {
@@ -60,6 +68,7 @@ struct task {
     const char *own_socket;                     /* the Unix socket of a clock on this host, asked beside the interfaces of a site, or NULL */
     bool is_six, is_ethernet;                   /* at an interface IPv6, or IEEE 802.3, instead of IPv4 */
     bool is_any_source;                         /* over UDP also what comes from addresses that are not on the link */
+    bool is_near_alone;                         /* and of unicast only what no router has passed on */
     const char *numbers;                        /* the file that keeps the session, or NULL */
     long wait;                                  /* how long a session waits that has no such file yet, in milliseconds */
     long timeout;                               /* how long an answer is waited for, in milliseconds */

@@ -99,12 +99,28 @@ static void wait_for_copies(struct driver *driver) {
     driver->handed.what = PTPM_NOTHING;
 }
 
+/* Whether a datagram came as the first answer did. Who can send by another way, such as from another network, can't answer. */
+static bool is_by_way(struct driver *driver, const uint8_t *copy, size_t size) {
+    if (!driver->has_way || came_by(&driver->way)) return true;
+    if (!driver->is_elsewhere_said && is_response_of_clock(copy, size)) {
+        complain("an answer from %s came in another way than the first one, and is not taken", sender_text());
+        driver->is_elsewhere_said = true;
+    }
+    return false;
+}
+
 static void hear(struct driver *driver, const uint8_t *datagram, size_t size) {
     static uint8_t copy[PTPM_MOST_OCTETS];
     size = copy_datagram(copy, datagram, size);
+    if (!may_answer(copy, size) || !is_by_way(driver, copy, size)) return;
     ptpm_asker_hear(driver->asker, copy, size, &driver->handed);
     if (driver->handed.what == PTPM_NOTHING && is_error_of_clock(copy, size)) ptpm_asker_hear(driver->asker, copy, size, &driver->handed);
-    if (driver->handed.what == PTPM_NOTHING) judge_unheard(driver->task, copy, size);
+    if (driver->handed.what == PTPM_NOTHING) {
+        judge_unheard(driver->task, copy, size);
+    } else if (!driver->has_way) {
+        driver->way = way_of_message();
+        driver->has_way = true;
+    }
 }
 
 /* Hears what comes in before the asker is woken; whether it goes on. */

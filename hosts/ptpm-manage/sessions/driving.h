@@ -17,6 +17,8 @@ struct driver {
     long sent;                      /* messages of the request that went out */
     int64_t now, wake;              /* the time as the asker knows it, and when it is woken */
     int64_t opened;                 /* when a new session was taken: nothing was sent in it since, so its wait began then. 0 if there is none */
+    struct way way;                 /* by which the clock's first answer came, if one has: its others count only there */
+    bool has_way, is_elsewhere_said;
     bool is_unsent;                 /* nothing of the request left */
     bool is_way_said;               /* that there is no way is said */
 };

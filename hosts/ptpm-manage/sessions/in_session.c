@@ -8,6 +8,7 @@
 #include "session_file.h"
 #include "transport.h"
 #include "unanswered.h"
+#include "words.h"
 #include <errno.h>
 #include <stdbool.h>
 #include <stdlib.h>
@@ -49,9 +50,19 @@ static int end_unanswered(struct run *run) {
 
 /* ---- what is noted and saved */
 
+/* Says at the first run how a clock knows this manager, if nobody named it. */
+static void tell_first_run(const struct run *run) {
+    char identity[IDENTITY_TEXT];
+    complain("%s is new: the session begins at number %u", run->session.file->path, run->driver.handed.number);
+    if (run->task->has_manager || run->task->path != NULL) return;
+    write_identity(identity, run->task->settings.clock);
+    complain("it asks as manager %s/%u, by the MAC of the interface: a ptpm-clock takes its changes with -m %s/%u", identity,
+             run->task->settings.port, identity, run->task->settings.port);
+}
+
 /* The request of this run is begun. */
 static int note_begun(struct run *run) {
-    if (!run->session.has_file) complain("%s is new: the session begins at number %u", run->session.file->path, run->driver.handed.number);
+    if (!run->session.has_file) tell_first_run(run);
     run->session.has_file = true;
     begin(run, REQUEST);
     say_noted(&run->driver);

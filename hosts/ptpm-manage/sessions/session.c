@@ -8,6 +8,7 @@
 #include "words.h"
 #include <stdio.h>
 #include <string.h>
+#include <unistd.h>
 
 /* A manager and a clock in a notice. */
 enum { OWNER = 2 * IDENTITY_TEXT + 32 };
@@ -27,8 +28,11 @@ _Noreturn static void refuse_image(const struct session_image *image, const stru
     char owner[OWNER], wanted[OWNER], ports[32] = "";
     write_owner(owner, image->manager, image->manager_port, image->target);
     write_owner(wanted, settings->clock, settings->port, settings->target);
+    const char *advice = "";
+    bool is_of_clock = memcmp(image->target, settings->target, 8) == 0 && image->ports == settings->target_ports;
+    if (is_of_clock) advice = "; --manager names the one that goes on with it";
     if (image->ports != settings->target_ports) snprintf(ports, sizeof ports, " of %u ports", image->ports);
-    refuse("nothing was asked: OTHER_SESSION: %s has the session of %s%s, and not of %s", session_path(), owner, ports, wanted);
+    refuse("nothing was asked: OTHER_SESSION: %s has the session of %s%s, and not of %s%s", session_path(), owner, ports, wanted, advice);
 }
 
 /* The file has no session that this program can continue. */
@@ -41,7 +45,7 @@ _Noreturn static void refuse_octets(uint32_t refusal) {
     case PTPM_OTHER_KIND: why = "it has the state of a clock, and not a session"; break;
     default: break;
     }
-    refuse("nothing was asked: %s: %s: %s", answer_name(refusal), session_path(), why);
+    refuse_storage("nothing was asked: %s: %s: %s", answer_name(refusal), session_path(), why);
 }
 
 /* What the asker of the task's session is set up with; octets are drawn too. */
@@ -112,6 +116,16 @@ static void open_octets(struct kept_session *session, const struct task *task, u
     read_earlier(asker, task, &image, &session->earlier);
 }
 
+/* Says how the session goes on that earlier versions kept under the identity of a clock of this host. */
+static void tell_former_session(const struct task *task) {
+    struct ptpm_session_settings former = task->settings;
+    char identity[IDENTITY_TEXT];
+    if (task->has_manager || task->numbers != NULL || !former_identity(former.clock)) return;
+    const char *path = usual_file(&former);
+    write_identity(identity, former.clock);
+    if (access(path, F_OK) == 0) complain("%s has the session of an earlier version: -m %s/%u goes on with it", path, identity, former.port);
+}
+
 void open_session(struct kept_session *session, const struct task *task) {
     static uint8_t octets[MOST_SESSION_OCTETS];
     size_t size;
@@ -121,6 +135,7 @@ void open_session(struct kept_session *session, const struct task *task) {
     if (is_named) refuse_usual_mark(&task->settings);
     switch (open_session_file(&session->file, is_named ? task->numbers : usual_file(&task->settings), is_named, octets, &size)) {
     case NO_SESSION_FILE:
+        tell_former_session(task);
         start(&session->asker, task);
         session->has_file = false;
         break;

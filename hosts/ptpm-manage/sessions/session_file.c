@@ -30,7 +30,7 @@ void name_session_file(const struct session_file *file) { named = file; }
 
 _Noreturn static void refuse_session_file(const struct session_file *file, const char *why) {
     if (file->is_named) refuse("--numbers %s: %s", file->path, why);
-    refuse("nothing was sent: %s: %s", file->path, why);
+    refuse_storage("nothing was sent: %s: %s", file->path, why);
 }
 
 /* Whether the folder is that of a plan. No option names its file, but a variable its folder. */
@@ -43,8 +43,8 @@ static const char *elsewhere(void) {
 _Noreturn void refuse_place(const struct session_file *file) {
     const char *fault = kept_fault();
     if (file->is_named) refuse("the request was not sent: --numbers %s%s: %s", file->path, fault, strerror(errno));
-    if (has_own_marks()) refuse("nothing was sent: %s%s: %s", file->path, fault, strerror(errno));
-    refuse("the request was not sent: %s%s: %s; %s", file->path, fault, strerror(errno), elsewhere());
+    if (has_own_marks()) refuse_storage("nothing was sent: %s%s: %s", file->path, fault, strerror(errno));
+    refuse_storage("the request was not sent: %s%s: %s; %s", file->path, fault, strerror(errno), elsewhere());
 }
 
 static void open_folder(struct session_file *file) {
@@ -137,7 +137,9 @@ enum found_session open_session_file(struct session_file **opened_file, const ch
     take_turn(file);
     refuse_mark(path);
     switch (read_kept(&file->kept, octets, MOST_SESSION_OCTETS, size, &file->kept.before)) {
-    case KEPT_FILE: return take_seal(octets, size, &file->saves) == PTPM_DAMAGED ? BROKEN_SESSION_FILE : SESSION_FILE;
+    case KEPT_FILE:
+        if (fsync(file->kept.folder)) refuse_place(file);       /* a run that was killed may not have come to it */
+        return take_seal(octets, size, &file->saves) == PTPM_DAMAGED ? BROKEN_SESSION_FILE : SESSION_FILE;
     case KEPT_LINK: refuse_session_file(file, "it is a link");
     case KEPT_OTHER: refuse_session_file(file, "it is no file");
     case KEPT_UNREADABLE: refuse_place(file);
@@ -199,7 +201,7 @@ static void make_parents(void) {
         struct stat found;
         if (failure != 0 && (stat(usual_path, &found) || !S_ISDIR(found.st_mode))) {
             const char *why = strerror(failure == EEXIST ? ENOTDIR : failure);
-            refuse("the request was not sent: %s: %s; %s", usual_path, why, elsewhere());
+            refuse_storage("the request was not sent: %s: %s; %s", usual_path, why, elsewhere());
         }
         *slash = '/';
     }
@@ -210,6 +212,11 @@ const char *state_folder(void) {
     if (write_folder() >= sizeof usual_path) refuse_long_path();
     make_parents();
     return usual_path;
+}
+
+const char *named_state_folder(void) {
+    size_t size = find_folder();
+    return size > 0 && size < sizeof usual_path ? usual_path : NULL;
 }
 
 const char *usual_file(const struct ptpm_session_settings *settings) {

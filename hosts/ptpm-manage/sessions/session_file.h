@@ -23,7 +23,7 @@ struct session_file {
 /* What is at a path: a file whose octets are not those that were saved is broken. */
 enum found_session { NO_SESSION_FILE, SESSION_FILE, BROKEN_SESSION_FILE };
 
-/* Takes the file at this path only for this run, and reads what is before its seal, or all if it has none. If there is no file,
+/* Takes the file at this path only for this run, and reads what is before its seal, or all if it has none. That is on the disk then. If there is no file,
    none is made, but the call makes sure that one can be. The file's folder is made if it is missing. A manager has one request on
    its way at a time. So runs take turns, by a lock on the file PATH.lock, which stays if there is a file at the end. Ends the
    program, status 2, if the file is a link or no file, or if its turn does not come within a minute. So it does if an apply has marked
@@ -46,6 +46,9 @@ void name_session_file(const struct session_file *file);
 /* The folder of the files that no command line names, and it is made with the first of them. Those above it are made if they are
    missing. Ends the program with status 2 if there is no such folder. The text is there until the next call of this or the next. */
 const char *state_folder(void);
+
+/* The same, and nothing is made. NULL if there is no such folder. */
+const char *named_state_folder(void);
 
 /* The file of the session of these settings' manager with their clock, if the command line names none: MANAGER-PORT.CLOCK. It
    is in $XDG_STATE_HOME/ptpm. If that is not set, it is in /var/lib/ptpm for root, and in $HOME/.local/state/ptpm for others.

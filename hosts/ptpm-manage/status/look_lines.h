@@ -10,10 +10,18 @@
 /* Lines in memory of malloc, each with a line feed at its end. */
 struct lines { char *at; size_t size; };
 
-/* Puts before the lines of a look what the next one needs of those that it was judged after. These are the answers of clocks that did not
-   answer this time: so they stay gone until they do. If something is decided over time, it is also since when each port is in its state.
-   All else that they show is over. Without memory only the lines of the look are left. */
-void keep_lines_before(struct lines *look, const struct lines *earlier, bool is_over_time);
+/* The end of a line, after its line feed. */
+const char *end_of_line(const char *at, const char *end);
+
+/* Reads the first octets of a line's message, at most `most`; how many. 0 if it is no answer. */
+size_t read_answer(uint8_t *octets, size_t most, const char *line, const char *end);
+
+/* Adds the lines of an earlier look, but no answer of a clock that did not answer in the latest one. */
+void add_lines_of_seen(struct lines *kept, const struct lines *earlier);
+
+/* Leaves in the lines that a look was judged after what the next one needs. Of each clock these are answers with the offset that it still has.
+   If something is decided over time, it is also since when each port is in its state. */
+void keep_over_time(struct lines *earlier, const struct lines *look, bool is_over_time);
 
 /* Leaves out the GETs to one clock or port. In their own look an answer with the number of one shows that its clock is there, whatever came
    after it. In a later look it does not. */

@@ -1,8 +1,11 @@
 #define _GNU_SOURCE
 #include "output.h"
+#include "gone.h"
+#include "heard.h"
 #include "kept_file.h"
 #include "notices.h"
 #include "program.h"
+#include "seen.h"
 #include "transport.h"
 #include <errno.h>
 #include <fcntl.h>
@@ -14,6 +17,129 @@
 #include <string.h>
 #include <sys/stat.h>
 #include <unistd.h>
+
+/* Findings that need what may be left out. */
+enum { GONE = 1, MUTE = 2, NOT_ASKED_THERE = 4, OFF_BY_UTC = 8, OWN_HOST = 16, TWO_GRANDMASTERS = 32, UNEXPECTED = 64, FINDINGS = 7, ALL = 128 };
+static const char *const findings[FINDINGS] = { "gone", "mute", "not_asked", "off_by_utc", "own_host", "two_grandmasters", "unexpected" };
+
+/* What is left out: in words, as the value of a label, and as a member of JSON; and the findings that need it. */
+static const struct { const char *words, *label, *member; unsigned needed_by; } kinds[LEFT_KINDS] = {
+    [ANSWERS_LEFT] = { "answers", "answers", "answers", ALL },
+    [ANNOUNCES_LEFT] = { "Announce", "announce", "announce", MUTE | NOT_ASKED_THERE | TWO_GRANDMASTERS | UNEXPECTED },
+    [SYNCS_LEFT] = { "Sync", "sync", "sync", MUTE | NOT_ASKED_THERE | OFF_BY_UTC },
+    [FOLLOW_UPS_LEFT] = { "Follow_Up", "follow_up", "followUp", MUTE | NOT_ASKED_THERE | OFF_BY_UTC },
+    [DELAY_REQS_LEFT] = { "Delay_Req", "delay_req", "delayReq", MUTE | NOT_ASKED_THERE },
+    [GONE_LEFT] = { "clocks that are gone", "gone", "gone", GONE },
+    [CLOCKS_LEFT] = { "clocks", "clocks", NULL, ALL },
+    [PORTS_LEFT] = { "ports", "ports", NULL, GONE | MUTE | OWN_HOST },
+};
+
+/* The number after a text in a report, 0 if the text is not there. */
+static unsigned long number_after(const struct report *report, const char *before, const char *after) {
+    for (const char *at = report->text; at != NULL && (at = strstr(at, before)) != NULL;) {
+        char *end;
+        at += strlen(before);
+        unsigned long found = strtoul(at, &end, 10);
+        if (end != at && strncmp(end, after, strlen(after)) == 0) return found;
+    }
+    return 0;
+}
+
+struct left_out count_left_out(const struct report *report) {
+    struct left_out left = { .counts = { [ANSWERS_LEFT] = unseen_answers(), [GONE_LEFT] = gone_left_out() } };
+    for (int type = ANNOUNCES; type < HEARD_TYPES; type++) left.counts[ANNOUNCES_LEFT + type] = unheard((enum heard_type)type);
+    left.counts[CLOCKS_LEFT] = number_after(report, "\nleft out: ", " clocks past") + number_after(report, "\"leftOut\":{\"clocks\":", ",");
+    left.counts[PORTS_LEFT] = number_after(report, "\nleft out: ", " ports past") + number_after(report, ",\"ports\":", "}}");
+    return left;
+}
+
+unsigned kinds_left_out(const struct left_out *left_out) {
+    unsigned found = 0;
+    for (int kind = 0; kind < LEFT_KINDS; kind++) found |= left_out->counts[kind] > 0 ? 1u << kind : 0;
+    return found;
+}
+
+/* Writes the names of the findings that need it, with this between them. */
+static void write_needing(FILE *to, const struct left_out *left_out, const char *between) {
+    unsigned needed_by = 0;
+    const char *before = "";
+    for (int kind = 0; kind < LEFT_KINDS; kind++) needed_by |= left_out->counts[kind] > 0 ? kinds[kind].needed_by : 0;
+    if ((needed_by & ALL) != 0) fputs("all", to);
+    for (int i = 0; i < FINDINGS && (needed_by & ALL) == 0; i++) {
+        if ((needed_by >> i & 1) == 0) continue;
+        fprintf(to, "%s%s", before, findings[i]);
+        before = between;
+    }
+}
+
+void write_left_out(FILE *to, const struct left_out *left_out) {
+    const char *before = "left out: ";
+    for (int kind = 0; kind < LEFT_KINDS; kind++) {
+        if (left_out->counts[kind] == 0) continue;
+        fprintf(to, "%s%lu %s", before, left_out->counts[kind], kinds[kind].words);
+        before = ", ";
+    }
+    fputs("; not looked for there: ", to);
+    write_needing(to, left_out, ", ");
+}
+
+/* The members of JSON for what `ptpm site` does not know of. */
+static void write_members(FILE *to, const struct left_out *left_out) {
+    for (int kind = 0; kind < LEFT_KINDS; kind++) {
+        bool is_there = left_out->counts[kind] > 0 && kinds[kind].member != NULL;
+        if (is_there) fprintf(to, "\"%s\":%lu,", kinds[kind].member, left_out->counts[kind]);
+    }
+    fputs("\"notLookedFor\":[\"", to);
+    write_needing(to, left_out, "\",\"");
+    fputs("\"],", to);
+}
+
+void add_left_out(struct report *report, const struct left_out *left_out) {
+    static const char list[] = "\"leftOut\":{";
+    char *text = NULL, *found = report->text == NULL ? NULL : strstr(report->text, list);
+    size_t size = 0, before = found == NULL ? report->size : (size_t)(found - report->text) + sizeof list - 1;
+    if (report->size == 0 || kinds_left_out(left_out) == 0) return;
+    FILE *to = open_memstream(&text, &size);
+    if (to == NULL) give_up("what is left out");
+    fwrite(report->text, 1, before, to);
+    if (found != NULL) write_members(to, left_out);
+    else write_left_out(to, left_out);
+    if (found == NULL) fputc('\n', to);
+    fwrite(report->text + before, 1, report->size - before, to);
+    if (fclose(to) != 0 || text == NULL) give_up("what is left out");
+    free(report->text);
+    report->text = text;
+    report->size = size;
+}
+
+void write_drawing(FILE *to, const char *drawing, const struct left_out *left_out) {
+    const char *end = strstr(drawing, "</svg>");
+    if (end == NULL || kinds_left_out(left_out) == 0) {
+        fputs(drawing, to);
+        return;
+    }
+    fwrite(drawing, 1, (size_t)(end - drawing), to);
+    fputs("<text x=\"16\" y=\"13\" fill=\"#b42318\">", to);
+    write_left_out(to, left_out);
+    fprintf(to, "</text>\n%s", end);
+}
+
+int write_plugin(FILE *to, const char *line, int status, const struct left_out *left_out) {
+    enum { CRITICAL = 2, UNKNOWN };
+    const char *words = strstr(line, " - "), *end = strchr(line, '\n');
+    unsigned long count = 0;
+    if (kinds_left_out(left_out) == 0 || words == NULL || end == NULL) {
+        fputs(line, to);
+        return status;
+    }
+    for (int kind = 0; kind < LEFT_KINDS; kind++) count += left_out->counts[kind];
+    fputs(status == CRITICAL ? "PTP CRITICAL - " : "PTP UNKNOWN - ", to);
+    write_left_out(to, left_out);
+    fprintf(to, "; %.*s", (int)(end - words) - 3, words + 3);
+    fprintf(to, memchr(line, '|', (size_t)(end - line)) == NULL ? " | left_out=%lu;;;0" : " left_out=%lu;;;0", count);
+    fputs(end, to);
+    return status == CRITICAL ? CRITICAL : UNKNOWN;
+}
 
 static const char title[] = "<title>", body[] = "<body>\n";
 
@@ -69,6 +195,10 @@ static const char head[] =
     "# TYPE ptp_way_answered gauge\n"
     "# HELP ptp_way_answered Whether a clock answered at this interface or socket.\n";
 
+static const char head_of_left_out[] =
+    "# TYPE ptp_left_out gauge\n"
+    "# HELP ptp_left_out How many of these were left out for want of room, so that findings may be missing.\n";
+
 /* The value of a label. The name of an interface and the path of a socket may have any octets, and a label takes only UTF-8. */
 static void write_label(FILE *to, const char *text) {
     for (; *text != '\0'; text++) {
@@ -79,7 +209,7 @@ static void write_label(FILE *to, const char *text) {
     }
 }
 
-void write_numbers(FILE *to, const char *numbers) {
+void write_numbers(FILE *to, const char *numbers, const struct left_out *left_out) {
     bool has_answer;
     const char *way;
     for (size_t i = 0; (way = named_way(i, &has_answer)) != NULL; i++) {
@@ -88,6 +218,8 @@ void write_numbers(FILE *to, const char *numbers) {
         write_label(to, way);
         fprintf(to, "\"} %d\n", has_answer);
     }
+    fputs(head_of_left_out, to);
+    for (int kind = 0; kind < LEFT_KINDS; kind++) fprintf(to, "ptp_left_out{what=\"%s\"} %lu\n", kinds[kind].label, left_out->counts[kind]);
     fputs(numbers, to);
 }
 

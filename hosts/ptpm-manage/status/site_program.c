@@ -47,7 +47,6 @@ int run_site_program(const struct site_options *options, enum shown_as as, const
     int status = run_ptpm_program(arguments, &given, &printed);
     free(arguments);
     *report = (struct report){ .text = printed.text, .size = printed.size };
-    read_report(report);
     return status;
 }
 

@@ -9,7 +9,7 @@ killed() {
     [ $? = 137 ]
 }
 if command -v strace > /dev/null; then
-    start -v -m 020000fffe000010/1 $identity far0
+    start -v -m 000000fffe000010/1 $identity far0
     check "a session begins" "$(asks 'priority2 1' -i near0 set PRIORITY2 1)"
     value=1 earlier='set PRIORITY2 of an earlier run, number [0-9]*,'
     while IFS="|" read -r call times has prints what; do
@@ -27,11 +27,11 @@ recvfrom|2|1||between its request and the answer
 renameat|3|1|priority2 4|between the answer and the next save
 END
     { killed sendmsg 2 9; } 2> /dev/null
-    kept=$XDG_STATE_HOME/ptpm/020000fffe000010-1.$identity
+    kept=$XDG_STATE_HOME/ptpm/000000fffe000010-1.$identity
     first=$(od -An -tx1 -j31 -N2 "$kept")
     check "what a killed run asked is let go" "$(asked 'priority1 9' -i near0 --give-up set PRIORITY1 9 &&
         says "$earlier is let go: a get shows whether it was carried out$" &&
-        asked "priority2 $value" -i near0 -m 020000fffe000010/1 get PRIORITY2 && [ ! -s "$work/said" ] && echo yes)"
+        asked "priority2 $value" -i near0 -m 000000fffe000010/1 get PRIORITY2 && [ ! -s "$work/said" ] && echo yes)"
     check "its session goes on" "$([ "$(od -An -tx1 -j31 -N2 "$kept")" = "$first" ] && echo yes)"
     check "there is nothing more to let go" "$(asked 'priority1 9' -i near0 --give-up set PRIORITY1 9 && [ ! -s "$work/said" ] && echo yes)"
     # the 32,767th request since the latest that was answered, under the number that it had
@@ -58,7 +58,7 @@ END
         [ $? = 137 ] || check "a run is killed: ${*:2}" no
     }
     start_beside() {
-        ip netns exec $far ./clock --user root -d 1 -m 020000fffe000010/1 $identity far0 > "$work/beside" 2>&1 &
+        ip netns exec $far ./clock --user root -d 1 -m 000000fffe000010/1 $identity far0 > "$work/beside" 2>&1 &
         beside=$!
         await 50 grep ' in domain ' "$work/beside"
     }
@@ -66,9 +66,9 @@ END
         kill $beside
         wait $beside
     }
-    by_me="-i near0 -m 020000fffe000010/1" earlier='of an earlier run, number [0-9]*'
+    by_me="-i near0 -m 000000fffe000010/1" earlier='of an earlier run, number [0-9]*'
     rm -r "$XDG_STATE_HOME"
-    start -u "$work/socket" -m 020000fffe000010/1 $identity far0
+    start -u "$work/socket" -m 000000fffe000010/1 $identity far0
     start_beside
     check "a session begins in domain 0" "$(asks 'priority1 10' $by_me set PRIORITY1 10)"
     { left sendmsg $by_me -d 1 set PRIORITY1 50 && stop_beside; } 2> /dev/null

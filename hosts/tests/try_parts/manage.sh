@@ -2,7 +2,7 @@
 # The clock asked by manage over UDP with IPv4: values by name and in octets, surveys, JSON, and files that are refused.
 
 connect
-start -u "$work/socket" -m 020000fffe000010/1 $identity far0
+start -u "$work/socket" -m 000000fffe000010/1 $identity far0
 through="-i near0 -k $work/number"
 session_from 100 > "$work/number"
 check "manage get PRIORITY1" "$(asks 'priority1 128' $through get PRIORITY1)"
@@ -34,11 +34,11 @@ session_from 50 > "$work/old"
 check "manage with an old number" "$(asks '' -i near0 -k "$work/old" -a 2 set PRIORITY1 32)"
 check "it then says what is known" "$(ended 3 && says 'no answer at near0 in domain 0 to 2 messages: the request itself was not sent$' &&
     says 'the clock answers reads, and has by now$' && says 'priority1 100$' &&
-    says 'it dropped number 50 of manager 020000fffe000010/1, since another file or a copy of the manager is ahead, or each' &&
+    says 'it dropped number 50 of manager 000000fffe000010/1, since another file or a copy of the manager is ahead, or each' &&
     says "if it does so each time: once $work/old is removed, the next run begins a new session$" && echo yes)"
 check "manage get PRIORITY1 with an old number" "$(asks '' -i near0 -k "$work/old" -a 2 get PRIORITY1)"
 check "manage with the file of another clock" "$(refuses "nothing was asked: OTHER_SESSION: $work/number has the session of manager \
-020000fffe000010/1 with clock $identity, and not of manager 020000fffe000010/1 with clock $other" $through set PRIORITY1 32 --target $other)"
+000000fffe000010/1 with clock $identity, and not of manager 000000fffe000010/1 with clock $other" $through set PRIORITY1 32 --target $other)"
 check "manage with the file of another manager" "$(refuses 'nothing was asked: OTHER_SESSION' $through -m $other/1 \
     get PRIORITY1 --target $to)"
 cp "$work/number" "$work/damaged"
@@ -70,7 +70,7 @@ check "it then says what is known of ports" "$(ended 3 && says 'no answer at nea
 check "it says nothing of clocks further away if it asks as far as status does" "$(asks '' -i near0 -a 2 -b 7 -p 2 get PORT_DATA_SET > /dev/null &&
     ! says 'a clock past more than ' && echo yes)"
 check "manage at two interfaces" "$(refuses '--interface lo: --interface near0 is there already' -i near0 -i lo get DOMAIN --target $to)"
-check "manage of its own clock" "$(refuses 'nothing was asked: SAME_CLOCK' -i near0 get DOMAIN --target 020000fffe000010)"
+check "manage of its own clock" "$(refuses 'nothing was asked: SAME_CLOCK' -i near0 get DOMAIN --target 000000fffe000010)"
 check "manage survey PRIORITY2" "$(surveys 'priority2 128' priority2)"
 check "manage survey of an id that no clock has" "$(surveys 'refused NO_SUCH_ID' 2ffe)"
 object() { echo "{\"domainNumber\":0,\"clockIdentity\":\"$identity\",\"portNumber\":$1,\"managementId\":\"$2\",\"status\":$3}"; }

@@ -10,7 +10,7 @@ check "manage get where no port is named" "$(asks '' -u "$work/named" -a 2 get P
 stop
 ip -n $far tuntap add dev far1 mode tap
 ip -n $far link set far1 up
-start -v -m 020000fffe000010/1 $identity far0 far1
+start -v -m 000000fffe000010/1 $identity far0 far1
 check "manage get of all ports" "$(asks "$identity/1 versionNumber 2 $identity/2 versionNumber 2" -i near0 -p all get VERSION_NUMBER)"
 check "manage get of all ports of another clock" "$(to=$other asks '' -i near0 -p all get VERSION_NUMBER)"
 check "it then says what is known" "$(ended 3 && says 'no answer at near0 in domain 0 to 5 messages$' &&

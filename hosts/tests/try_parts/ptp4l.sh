@@ -11,7 +11,7 @@ stop
 
 # 200 SETs over Ethernet, as above
 session_from 0 > "$work/second"
-start -2 -m 020000fffe000010/1 $identity far0
+start -2 -m 000000fffe000010/1 $identity far0
 ip netns exec $near ./manage -2 -i near0 -k "$work/second" -t 10 -n 200 set PRIORITY1 100 --target $identity > "$work/asked"
 stop
 check "200 SETs over Ethernet are answered" "$([ "$(grep -c '^priority1 100$' "$work/asked")" = 200 ] && echo yes)"

@@ -26,7 +26,7 @@ $to_utc -32769 leap61 0 leap59 0 currentUtcOffsetValid 1|currentUtcOffset -32769
 -i near0 --target $to -k $work/no/folder/number set PRIORITY1 1|the request was not sent: --numbers $work/no/folder/number: No such file or directory
 -i near0 --target $to set PRIORITY1 --text 7|PRIORITY1 has no text
 -i near0 --target $to get PRIORITY|PRIORITY: it is neither a managementId
--i near0 --target $to fetch PRIORITY1|fetch: it is none of get, set, command, survey, collect, status, plan, apply, resume and rollback
+-i near0 --target $to fetch PRIORITY1|fetch: it is none of get, set, command, survey, collect, status, plan, apply, resume, rollback and applies
 -i near0 --target aabbcc.fffe.ddee1 get PRIORITY1|--target aabbcc.fffe.ddee1: it takes
 -i near0 --target $to-x get PRIORITY1|-x is no port
 -i near0 --names $work/names --target $identity get PORT_DATA_SET|nothing was asked: NEEDS_PORT
@@ -69,9 +69,10 @@ $to_utc -32769 leap61 0 leap59 0 currentUtcOffsetValid 1|currentUtcOffset -32769
 -i near0 --target $to -m $other/1 -p all get PRIORITY1|--port all asks by no manager
 -i near0 --target ffffffffffffffff -p all get PRIORITY1|nothing was asked: TARGET_IS_EVERY
 END
-for words in "resume|XDG_STATE_HOME names another folder" "set PRIORITY1 1 --target $to|--numbers FILE keeps the session elsewhere"; do
-    check "what keeps the state of manage ${words%|*} elsewhere" \
-        "$(XDG_STATE_HOME=$work/names refuses "$work/names: Not a directory; ${words#*|}" -i near0 ${words%|*})"
+for words in "4 resume|XDG_STATE_HOME names another folder" "2 set PRIORITY1 1 --target $to|--numbers FILE keeps the session elsewhere"; do
+    asked=${words#* }
+    check "what keeps the state of manage ${asked%|*} elsewhere" \
+        "$(XDG_STATE_HOME=$work/names refused=${words%% *} refuses "$work/names: Not a directory; ${asked#*|}" -i near0 ${asked%|*})"
 done
 for most in 4 5 6 7; do
     for way in '' -2; do

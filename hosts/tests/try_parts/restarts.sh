@@ -5,7 +5,7 @@ connect
 copy_of() { # a SET of PRIORITY1 by the manager, as it was sent before: its number and its value
     ip netns exec $near python3 -c 'import socket, sys
 number, value = int(sys.argv[1]), int(sys.argv[2])
-octets = (bytes.fromhex("0d120038") + bytes(16) + bytes.fromhex("020000fffe0000100001") + number.to_bytes(2, "big")
+octets = (bytes.fromhex("0d120038") + bytes(16) + bytes.fromhex("000000fffe0000100001") + number.to_bytes(2, "big")
           + bytes.fromhex("047faabbccfffeddee01ffff01010100" "000100042005") + bytes([value, 0]))
 out = socket.socket(socket.AF_INET, socket.SOCK_DGRAM)
 out.setsockopt(socket.SOL_SOCKET, socket.SO_BINDTODEVICE, b"near0")
@@ -13,7 +13,7 @@ out.bind(("10.9.9.1", 0))
 out.sendto(octets, ("224.0.1.129", 320))' "$1" "$2"
     sleep 0.3
 }
-saving="-v -s $work/clock -u $work/socket -m 020000fffe000010/1 $identity far0"
+saving="-v -s $work/clock -u $work/socket -m 000000fffe000010/1 $identity far0"
 session_from 100 > "$work/saved"
 kept="-i near0 -k $work/saved"      # two numbers each run: 101 is the first SET
 start $saving
@@ -31,7 +31,7 @@ check "a copy of the second is answered as before, and saves nothing" "$(grep -q
 check "the manager goes on" "$(asks 'priority1 60' $kept set PRIORITY1 60)"
 stop
 check "it counts its saves" "$(holds grep -q '^saved: 3$' "$work/ran")"
-start -u "$work/socket" -m 020000fffe000010/1 $identity far0
+start -u "$work/socket" -m 000000fffe000010/1 $identity far0
 copy_of 101 100
 check "without a file a copy is new" "$(asks 'priority1 100' -u "$work/socket" get PRIORITY1)"
 stop

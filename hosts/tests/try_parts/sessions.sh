@@ -9,17 +9,17 @@ is_true() {
         asked 'priority2 60' "$@" get PRIORITY2 && asked 'priority2 50' "$@" set PRIORITY2 50 &&
         asked 'priority2 50' "$@" get PRIORITY2 && echo yes
 }
-managers="-m 020000fffe000010/1 -m $other/1"
+managers="-m 000000fffe000010/1 -m $other/1"
 rm -rf "$XDG_STATE_HOME"
 start $managers $identity far0
 check "a SET is made again after another manager's" "$(is_true -i near0)"
-kept=$XDG_STATE_HOME/ptpm/020000fffe000010-1.$identity
+kept=$XDG_STATE_HOME/ptpm/000000fffe000010-1.$identity
 check "its session is kept" "$([ "$(stat -c %s "$kept")" = 69 ] && echo yes)"
 check "a new session says where it begins" "$(rm -r "$XDG_STATE_HOME" && asked 'priority2 50' -i near0 set PRIORITY2 50 &&
     says "$kept is new: the session begins at number " && echo yes)"
 check "a SET is made again where the numbers were lost" "$(rm -r "$XDG_STATE_HOME" && is_true -i near0)"
-check "a GET of a manager is none that was kept" "$(asked 'priority2 50' -i near0 -m 020000fffe000010/1 get PRIORITY2 &&
-    asked 'priority2 60' $by_other set PRIORITY2 60 && asks 'priority2 60' -i near0 -m 020000fffe000010/1 get PRIORITY2)"
+check "a GET of a manager is none that was kept" "$(asked 'priority2 50' -i near0 -m 000000fffe000010/1 get PRIORITY2 &&
+    asked 'priority2 60' $by_other set PRIORITY2 60 && asks 'priority2 60' -i near0 -m 000000fffe000010/1 get PRIORITY2)"
 stop
 start -2 $managers $identity far0
 check "a SET over Ethernet is made again after another manager's" "$(is_true -2 -i near0)"

@@ -9,7 +9,7 @@ observations() {
 }
 [ -p "$work/pipe" ] || mkfifo "$work/pipe"
 connect -l 30 -r 30 -o 10 -s 1588
-start -v -u "$work/socket" -o "$work/pipe" -m 020000fffe000010/1 $identity far0
+start -v -u "$work/socket" -o "$work/pipe" -m 000000fffe000010/1 $identity far0
 began=$SECONDS
 observations > "$work/pipe" &
 observing=$!

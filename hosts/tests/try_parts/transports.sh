@@ -2,7 +2,7 @@
 # The same over IPv6 and over Ethernet; and a port that is stopped and started again.
 
 connect
-start -6 -m 020000fffe000010/1 $identity far0
+start -6 -m 000000fffe000010/1 $identity far0
 check "manage get PRIORITY1 with IPv6" "$(asks 'priority1 128' -i near0 --ipv6 get PRIORITY1)"
 check "manage get PRIORITY1 at an address of a link" "$(asks 'priority1 128' --udp fe80::ff:fe00:20%near0 get PRIORITY1)"
 stop
@@ -24,7 +24,7 @@ stop
 check "two SETs and a COMMAND are carried out once each" "$([ "$(grep -c ': 5 ANSWERED_NEW' "$work/ran")" = 6 ] && echo yes)"
 
 # a port that is stopped and started again, as the clock reports what was changed
-start -v -m 020000fffe000010/1 $identity far0
+start -v -m 000000fffe000010/1 $identity far0
 through="-i near0 -k $work/stopped"
 session_from 100 > "$work/stopped"
 check "manage command DISABLE_PORT of a clock that reports" "$(asks done $through -p 1 command DISABLE_PORT)"
