@@ -25,9 +25,9 @@ enum { STEP = 50, DOMAIN_STEP = 4, BURST = 128, MOST_SILENT = 128, DOMAINS_AT_ON
 enum { SLOW = 2000 };
 
 /* Every clock is asked again whether it is there. That ends if QUIET_ROUNDS brought nothing new, and a clock is missed less than once in
-   MOST_MISSED collections. A round lasts 300 ms at least, so that a clock is found that was silent for half a second. If answers are lost a
-   round has several censuses. */
-enum { QUIET_ROUNDS = 2, MOST_MISSED = 1000, ROUND = 300, MOST_ROUNDS = 10, CENSUSES_OF_LOSSY = 3 };
+   MOST_MISSED collections. A round lasts 300 ms at least, so that a clock is found that was silent for half a second. One of a plan lasts 500 ms.
+   If answers are lost a round has several censuses. */
+enum { QUIET_ROUNDS = 2, MOST_MISSED = 1000, ROUND = 300, ROUND_OF_PLAN = 500, MOST_ROUNDS = 10, CENSUSES_OF_LOSSY = 3 };
 
 /* A socket without room is tried again this often, this many milliseconds apart. A silence that never comes is waited for this
    many time-outs at most. */
@@ -78,6 +78,8 @@ static size_t expected_count;
 
 /* What is asked for a plan is read by nobody who wants to know what else was heard. */
 static bool is_site(void) { return collected == &of_site; }
+
+static int64_t least_round(void) { return is_site() ? ROUND : ROUND_OF_PLAN; }
 
 static bool is_of_port(unsigned id) {
     for (size_t i = 0; i < sizeof of_ports / sizeof *of_ports; i++) {
@@ -450,7 +452,7 @@ static bool ask_again(const struct task *task, struct rounds *rounds) {
     if (lacks > 0 && !is_found) hear_until(milliseconds() + STEP);
     unsigned censuses = is_found ? 0 : take_census(task, rounds);
     hear_until_quiet(task);
-    if (censuses > 0) hear_until(rounds->begun + ROUND);
+    if (censuses > 0) hear_until(rounds->begun + least_round());
     end_round(censuses);
     stop_requests(base);
     let_go += let_go_of_silent(MOST_SILENT);
@@ -484,7 +486,7 @@ static bool ask_in(const struct task *task, const struct domain *domains, size_t
     is_absent_let_go = false;
     ask_every(0, (unsigned)collected->count, false);
     hear_until_quiet(task);
-    hear_until(rounds.begun + ROUND);
+    hear_until(rounds.begun + least_round());
     do rounds.round++;
     while (!stopped && !has_no_transport && ask_again(task, &rounds));
     wait_for_slow(task);
