@@ -657,17 +657,14 @@ static bool is_of_other_network(const uint8_t *message, const struct sockaddr *s
     return is_of_other_vlan && (message[TYPE_AT] & LOWER_HALF) != MANAGEMENT_TYPE;
 }
 
-/* The message in what an arrival is, of `found` octets; NULL if it is none for this program. */
-static const uint8_t *message_of(const struct arrival *arrival, const uint8_t *octets, size_t found, struct place *from,
-                                 size_t *size) {
-    struct sockaddr *sender = (struct sockaddr *)&from->sender;
-    const struct end *end = arrival->end != NULL ? arrival->end : end_at(from->index);
+static void (*take_stranger)(const uint8_t *message, size_t size);
+
+void hand_strangers(void (*take)(const uint8_t *message, size_t size)) { take_stranger = take; }
+
+/* The message in what came in at an end, of `found` octets; NULL if it is none for this program. */
+static const uint8_t *message_at(const struct end *end, const struct arrival *arrival, const uint8_t *octets, size_t found,
+                                 struct sockaddr *sender, size_t *size) {
     *size = found;
-    if (end == NULL || !(is_sent_by_itself(arrival, octets, found) || is_from_here(end, sender))) return NULL;
-    if (!is_ethernet && !is_near(arrival, end, from, octets, found)) return NULL;
-    latest_place = *from;
-    latest_end = end;
-    latest_socket = arrival->socket;
     if (arrival->end == NULL) {
         size_t place = message_in_copy(octets, size, sender);
         return place == 0 ? NULL : octets + place;
@@ -691,6 +688,22 @@ static bool is_of_namesake(const struct arrival *arrival, const uint8_t *message
     write_identity(identity, asker);
     if (!is_told) complain("a clock has this manager's identity %s: what it sends is not taken, and -m names another manager", identity);
     return is_told = true;
+}
+
+/* The message in what an arrival is. */
+static const uint8_t *message_of(const struct arrival *arrival, const uint8_t *octets, size_t found, struct place *from, size_t *size) {
+    struct sockaddr *sender = (struct sockaddr *)&from->sender;
+    const struct end *end = arrival->end != NULL ? arrival->end : end_at(from->index);
+    if (end == NULL) return NULL;
+    bool is_here = is_sent_by_itself(arrival, octets, found) || is_from_here(end, sender);
+    if (is_here && !is_ethernet && !is_near(arrival, end, from, octets, found)) return NULL;
+    latest_place = *from;
+    latest_end = end;
+    latest_socket = arrival->socket;
+    const uint8_t *message = message_at(end, arrival, octets, found, sender, size);
+    if (is_here) return message;
+    if (message != NULL && take_stranger != NULL) take_stranger(message, *size);
+    return NULL;
 }
 
 const uint8_t *receive_message(size_t *size, int64_t end) {

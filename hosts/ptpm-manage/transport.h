@@ -61,6 +61,9 @@ enum { MOST_DATAGRAM = 65536 };
    signal asks the program to end. */
 const uint8_t *receive_message(size_t *size, int64_t end);
 
+/* From now on each message that comes from off the link, and so is not taken, is handed to this; NULL is nobody. */
+void hand_strangers(void (*take)(const uint8_t *message, size_t size));
+
 /* The sender of the message that came in last, as a text: an address of IPv4 or IPv6, a MAC, or a path. "" if it is
    not known. And the interface that it came in at; NULL on a Unix socket. */
 const char *sender_text(void);

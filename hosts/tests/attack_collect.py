@@ -76,7 +76,7 @@ class Site:
 
     def answers(self):
         """The answers among the lines of a collection, each without the words before it."""
-        datagrams = [line.split()[-1] for line in self.lines() if not line.startswith("#")]
+        datagrams = [line.split()[-1] for line in self.lines() if not line.startswith("#") and " taken=" not in line]
         return [datagram for datagram in datagrams if datagram[1] == "d" and datagram[93] == "2"]
 
     def said(self):
@@ -200,6 +200,8 @@ def junk():
         yield good + b"what follows is passed over"
 
     site = Site(reply, "-t", "1000", "collect")
+    untaken = [(line.split()[-1][40:56], word) for line in site.lines() for word in line.split() if word.startswith("taken=")]
+    check("what could have been an answer is written as that", sorted(untaken) == [(OTHER, "taken=late"), (OTHER, "taken=unreadable")])
     check("junk is no answer", site.status == 0 and len(site.answers()) == 6 and {line[40:56] for line in site.answers()} == {ME})
     check("what follows a message is not printed", all(len(line) == 2 * int(line[4:8], 16) for line in site.answers()))
 

@@ -1,5 +1,6 @@
 """The network of hosts/tests/try_site: its namespaces, the programs that run there, and what is in the lines that manage.c prints."""
 import os
+import re
 import shutil
 import subprocess
 import sys
@@ -62,8 +63,14 @@ def write(path, text):
 
 def answers_in(text):
     """The answers among the lines of a collection, each without the words before it."""
-    datagrams = [line.split()[-1] for line in text.splitlines() if not line.startswith("#")]
+    datagrams = [line.split()[-1] for line in text.splitlines() if not line.startswith("#") and " taken=" not in line]
     return [datagram for datagram in datagrams if datagram[1] == "d" and datagram[93] == "2"]
+
+
+def untaken_in(text):
+    """The clock of each answer that was not taken, and why."""
+    found = (re.search(r" taken=(\w+) (\w+)$", line) for line in text.splitlines())
+    return [(line[2][40:56], line[1]) for line in found if line]
 
 
 def clocks_of(done):

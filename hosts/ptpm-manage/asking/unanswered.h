@@ -1,8 +1,9 @@
-/* What can be said if no answer came, or if one is not taken: the library can't read it, or it is too late. */
+/* What can be said if no answer came, or if one is not taken since the library can't read it. */
 #ifndef UNANSWERED_H
 #define UNANSWERED_H
 
 #include "task.h"
+#include <stdbool.h>
 #include <stddef.h>
 #include <stdint.h>
 
@@ -22,16 +23,7 @@ void advise_on_every(const struct task *task);
    has, and why it may drop these. The path is that of the session's file. */
 void say_silence(const struct task *task, enum unanswered what, uint16_t number, const char *path);
 
-/* Says once that an answer to this sourcePortIdentity can't be read, if that is why the library does not take the datagram. */
-void tell_unreadable(uint32_t refusal, const uint8_t source[10], const uint8_t *datagram, size_t size);
-
-/* From now on this sourcePortIdentity asks. */
-void ask_as(const uint8_t source[10]);
-
-/* Notes a datagram that came under no number that is asked now, if it is an answer to that one. */
-void note_late(const uint8_t *datagram, size_t size);
-
-/* Says once that a clock answers late, if it is not seen. */
-void tell_late(const struct task *task);
+/* Whether an answer to this sourcePortIdentity can't be read, and the library does not take the datagram for that. It is said once. */
+bool tell_unreadable(uint32_t refusal, const uint8_t source[10], const uint8_t *datagram, size_t size);
 
 #endif

@@ -10,6 +10,7 @@
 #include "stopping.h"
 #include "transport.h"
 #include "unanswered.h"
+#include "untaken.h"
 #include <errno.h>
 #include <stdbool.h>
 #include <stdlib.h>
@@ -204,7 +205,8 @@ static void hear(struct request *request, const uint8_t *datagram, size_t size) 
     case PTPM_AGAIN:                                    /* which may be of another port, or of another clock with that identity */
     case PTPM_FULL:
     case PTPM_NO_MEMORY: (request->is_census ? take_present : take_answer)(request, datagram); break;
-    default: tell_unreadable(became, request->message + SOURCE_AT, datagram, size);
+    default:
+        if (tell_unreadable(became, request->message + SOURCE_AT, datagram, size)) note_untaken(UNREADABLE, datagram, size);
     }
 }
 
@@ -217,7 +219,7 @@ static void hear_until(int64_t end) {
             continue;
         }
         keep_heard(datagram, size);
-        note_late(datagram, size);
+        note_untaken(size < LEAST_MESSAGE ? UNREADABLE : LATE, datagram, size);
     }
 }
 
@@ -584,6 +586,8 @@ static bool ask_and_hear(const struct task *task, const struct domains *domains)
     return is_asked;
 }
 
+static void note_stranger(const uint8_t *message, size_t size) { note_untaken(OFF_LINK, message, size); }
+
 /* From now on these ids are asked for, and this is where lines go; NULL if nowhere. */
 static void begin(const struct collected *what, FILE *to) {
     see_none();
@@ -595,6 +599,7 @@ static void begin(const struct collected *what, FILE *to) {
     has_no_transport = false;
     farthest = farthest_switch = 0;
     forget_ways();
+    hand_strangers(is_site() ? note_stranger : NULL);
 }
 
 /* Asks once in each domain of an sdoId. */
@@ -618,8 +623,11 @@ void add_answering_domains(struct domains *domains, const struct task *task) {
 int collect_answers(const struct task *task, const struct collected *what, const struct domains *domains, FILE *to) {
     begin(what, to);
     bool is_asked = is_site() ? ask_and_hear(task, domains) : ask_in_all(task, domains);
-    if (is_asked) write_sureness_note(to, sureness_of_collection());
-    return is_asked ? end_of_collection(task, domains) : NOT_ASKED;
+    if (!is_asked) return NOT_ASKED;
+    int status = end_of_collection(task, domains);
+    if (is_site()) write_untaken(to);
+    write_sureness_note(to, sureness_of_collection());
+    return status;
 }
 
 int collect(const struct task *task) {

@@ -5,7 +5,7 @@
 #include "monotonic.h"
 #include "notices.h"
 #include "transport.h"
-#include "unanswered.h"
+#include "untaken.h"
 #include <stdio.h>
 #include <string.h>
 
@@ -69,7 +69,7 @@ void listen_for_domains(struct domains *domains, const struct task *task, int64_
     receive_every_type(true);
     for (const uint8_t *datagram; (datagram = receive_message(&size, end)) != NULL;) {
         if (keep_heard(datagram, size)) take_heard(domains, &task->site, domain_of(datagram));
-        else note_late(datagram, size);
+        else note_untaken(LATE, datagram, size);
     }
     receive_every_type(false);
 }

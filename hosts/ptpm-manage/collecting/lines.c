@@ -75,6 +75,7 @@ void write_line(FILE *to, const struct message_line *line) {
     write_time(to, beginning + line->at);
     if (*line->from != '\0') write_word(to, "from=", line->from);
     if (line->on != NULL) write_word(to, "on=", line->on);
+    if (line->taken != NULL) write_word(to, "taken=", line->taken);
     for (size_t i = 0; i < line->size; i++) fprintf(to, "%02x", line->message[i]);
     fputc('\n', to);
 }

@@ -8,10 +8,11 @@
 #include <stdint.h>
 #include <stdio.h>
 
-/* A message that came in, or one that was sent: then nobody sent it to this host, and `from` is "". `on` is NULL on a Unix socket. */
+/* A message that came in, or one that was sent: then nobody sent it to this host, and `from` is "". `on` is NULL on a Unix socket. An answer
+   that was not taken has a word that says why. */
 struct message_line {
     int64_t at;                 /* by `nanoseconds` */
-    const char *from, *on;
+    const char *from, *on, *taken;
     const uint8_t *message;
     size_t size;
 };
