@@ -19,8 +19,8 @@ pub fn crc_law()
         → crc_of (front ++ octet ∷ rest) ≢ crc_of (front ++ other ∷ rest) }
 {}
 
-/// An image with its seal is refused if one octet of both is another one. The four octets of its size are left out: a lesser size is
-/// refused unless another seal that is whole stands in the image, after as many octets.
+/// An image with its seal is refused if one octet of both is another one. The four octets of its size are left out. A lesser size is
+/// refused unless the image has another seal that is whole, after as many octets.
 pub fn changed_octet_law()
     ensures { (image front rest : List ℕ) (count octet other : ℕ) → is_headed image ≡ true → image_size image ≡ length image
         → image ++ seal_of image count ≡ front ++ octet ∷ rest → AreOctets (front ++ octet ∷ rest) → other < 2 ^ 8 → octet ≢ other
