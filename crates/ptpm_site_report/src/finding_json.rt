@@ -1,6 +1,6 @@
 //! A finding as a JSON object.
 
-use crate::finding_values::{FindingValue, values_of};
+use crate::finding_values::{FindingValue, FindingValues, TakeValues, hand_values};
 use crate::look::Look;
 use crate::members::{Members, identity_value, text_value};
 use crate::phrases::{clock_of, clock_of_cause};
@@ -24,12 +24,21 @@ pub(crate) fn finding_value(
     put_place(&mut members, look, remark)?;
     members.put_text("finding", remark.named.kind.name())?;
     members.put_text("severity", remark.severity.word())?;
-    for (name, value) in &values_of(&remark.finding.what) {
-        if !name.is_empty() {
-            members.put_value(name, value_of(alloc, value)?)?;
-        }
-    }
+    hand_values(&remark.finding.what, &mut members)?;
     Ok(members.object())
+}
+
+impl TakeValues for Members {
+    type Error = AllocError;
+
+    fn take(&mut self, values: &FindingValues<'_>) -> Result<(), AllocError> {
+        for (name, value) in values {
+            if !name.is_empty() {
+                self.put_value(name, value_of(self.alloc, value)?)?;
+            }
+        }
+        Ok(())
+    }
 }
 
 /// Puts the domain, the clock, and its description if it answered one.

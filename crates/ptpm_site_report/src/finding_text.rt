@@ -1,6 +1,6 @@
 //! A finding as a line of text.
 
-use crate::finding_values::{FindingValue, values_of};
+use crate::finding_values::{FindingValue, FindingValues, TakeValues, hand_values};
 use crate::intervals::{Exact, Seconds, Whole};
 use crate::phrases::{Phrase, Shown, clock_of};
 use crate::printable::Printable;
@@ -34,17 +34,24 @@ pub(crate) struct FindingText<'a>(pub(crate) &'a Remark<'a>);
 impl fmt::Display for FindingText<'_> {
     fn fmt<W: fmt::Write>(&self, f: &mut fmt::Formatter<W>) -> fmt::Result {
         f.write_str(self.0.named.kind.name())?;
-        let values = values_of(&self.0.finding.what);
-        let words = match &values[0].1 {
-            FindingValue::Template(words) => *words,
+        hand_values(&self.0.finding.what, f)
+    }
+}
+
+impl<W: fmt::Write> TakeValues for fmt::Formatter<W> {
+    type Error = fmt::Error;
+
+    fn take(&mut self, values: &FindingValues<'_>) -> fmt::Result {
+        let words = match values.first() {
+            Some((_, FindingValue::Template(words))) => *words,
             _ => return Ok(()),
         };
         for (place, piece) in words.split("{}").enumerate() {
             match values.get(place) {
-                Some((_, value)) if 0 < place => write!(f, "{value}")?,
+                Some((_, value)) if 0 < place => write!(self, "{value}")?,
                 _ => {}
             }
-            f.write_str(piece)?;
+            self.write_str(piece)?;
         }
         Ok(())
     }

@@ -81,7 +81,7 @@ fn template(words: &'static str) -> NamedValue<'static> {
     ("", FindingValue::Template(words))
 }
 
-fn none<'a>(words: &'static str) -> FindingValues<'a> {
+fn none(words: &'static str) -> FindingValues<'static> {
     [template(words), NONE, NONE, NONE, NONE, NONE, NONE, NONE]
 }
 
@@ -105,54 +105,61 @@ fn five<'a>(words: &'static str, [a, b, c, d, e]: [NamedValue<'a>; 5]) -> Findin
     [template(words), a, b, c, d, e, NONE, NONE]
 }
 
-/// What a finding says.
-pub(crate) fn values_of<'a>(what: &'a What<'a>) -> FindingValues<'a> {
+/// What takes the values of a finding.
+pub(crate) trait TakeValues {
+    type Error;
+
+    fn take(&mut self, values: &FindingValues<'_>) -> Result<(), Self::Error>;
+}
+
+/// Hands over what a finding says.
+pub(crate) fn hand_values<T: TakeValues>(what: &What<'_>, to: &mut T) -> Result<(), T::Error> {
     match what {
-        What::Unexpected | What::TwoGrandmasters | What::Absent(None) => none(""),
-        What::Absent(Some(description)) => one(" {}", ("", Of(Text(description.as_bytes())))),
-        What::NotAsExpected(unmet) => of_unmet(unmet),
-        What::OtherLeaders(other) => of_other_leaders(other),
-        What::Profile(outside) => of_outside(outside),
-        What::Gone => none(" answers no more"),
-        What::NotTaken(not_taken) => of_not_taken(not_taken),
-        What::Unseen(unseen) => of_unseen(*unseen),
-        What::NotAsked(clocks) => of_not_asked(*clocks),
-        What::NoMaster(why) => of_masterless(why),
-        What::GrandmasterNotSeen(clock) => one(" {}", ("grandmasterIdentity", Of(Clock(*clock)))),
-        What::ParentNotSeen(parent) => one(" {}", ("parentPortIdentity", Of(Port(*parent)))),
-        What::ParentNotMaster(parent, why) => of_not_master(*parent, why),
-        What::Steps(steps) => of_steps(steps),
-        What::GrandmasterDiffers(differs) | What::Utc(differs) => of_differs(differs),
-        What::Loop(clocks) => one(" {}", ("clocks", FindingValue::Clocks(clocks.as_slice()))),
-        What::PortState(port, stay) => of_state(*port, stay),
-        What::NotLocked(port, unlocked) => of_unlocked(*port, unlocked),
-        What::OffsetFrozen(frozen) => of_frozen(frozen),
-        What::GrandmasterTime(error) => of_time_error(error),
-        What::OffByUtc(how) => of_off_by_utc(how),
-        What::Offset(offset) => of_offset(offset),
-        What::Delay(delay) => one(" meanDelay {} ns", ("meanDelay", Exact(*delay))),
-        What::LinkDelay(port, delay) => two(
+        What::Unexpected | What::TwoGrandmasters | What::Absent(None) => to.take(&none("")),
+        What::Absent(Some(description)) => to.take(&one(" {}", ("", Of(Text(description.as_bytes()))))),
+        What::NotAsExpected(unmet) => to.take(&of_unmet(unmet)),
+        What::OtherLeaders(other) => to.take(&of_other_leaders(other)),
+        What::Profile(outside) => to.take(&of_outside(outside)),
+        What::Gone => to.take(&none(" answers no more")),
+        What::NotTaken(not_taken) => to.take(&of_not_taken(not_taken)),
+        What::Unseen(unseen) => to.take(&of_unseen(*unseen)),
+        What::NotAsked(clocks) => to.take(&of_not_asked(*clocks)),
+        What::NoMaster(why) => to.take(&of_masterless(why)),
+        What::GrandmasterNotSeen(clock) => to.take(&one(" {}", ("grandmasterIdentity", Of(Clock(*clock))))),
+        What::ParentNotSeen(parent) => to.take(&one(" {}", ("parentPortIdentity", Of(Port(*parent))))),
+        What::ParentNotMaster(parent, why) => to.take(&of_not_master(*parent, why)),
+        What::Steps(steps) => to.take(&of_steps(steps)),
+        What::GrandmasterDiffers(differs) | What::Utc(differs) => to.take(&of_differs(differs)),
+        What::Loop(clocks) => to.take(&one(" {}", ("clocks", FindingValue::Clocks(clocks.as_slice())))),
+        What::PortState(port, stay) => to.take(&of_state(*port, stay)),
+        What::NotLocked(port, unlocked) => to.take(&of_unlocked(*port, unlocked)),
+        What::OffsetFrozen(frozen) => to.take(&of_frozen(frozen)),
+        What::GrandmasterTime(error) => to.take(&of_time_error(error)),
+        What::OffByUtc(how) => to.take(&of_off_by_utc(how)),
+        What::Offset(offset) => to.take(&of_offset(offset)),
+        What::Delay(delay) => to.take(&one(" meanDelay {} ns", ("meanDelay", Exact(*delay)))),
+        What::LinkDelay(port, delay) => to.take(&two(
             " port {} meanLinkDelay {} ns",
             [
                 ("portNumber", number(*port)),
                 ("meanLinkDelay", Exact(*delay)),
             ],
-        ),
-        What::Intervals(port, seldom) => of_seldom(*port, seldom),
-        What::DelayMechanism(port, other) => of_mechanism(*port, other),
-        What::GrandmasterDoubtful(doubtful) => of_doubtful(doubtful),
-        What::Degraded(degraded) => one(" {}", ("clockQuality", Of(Quality(degraded.quality)))),
-        What::NotTraceable(untraceable) => of_untraceable(untraceable),
-        What::UtcInvalid(offset) => of_utc_invalid(*offset),
-        What::UtcOffset(offset) => of_utc_offset(offset),
-        What::LeapFalse(leap) => of_false_leap(leap),
-        What::Leap(leap) => of_leap(leap),
-        What::BetterClock(better) => of_better(better),
-        What::Incomplete(missing) => of_missing(missing),
-        What::OutOfReach(hops) => of_reach(*hops),
-        What::GrandmasterChanged(change) => of_grandmaster_change(change),
-        What::Changed(port, change) => of_change(*port, change, "{} {} {}, then {}"),
-        What::IdentityTwice(twice) => of_twice(twice),
+        )),
+        What::Intervals(port, seldom) => to.take(&of_seldom(*port, seldom)),
+        What::DelayMechanism(port, other) => to.take(&of_mechanism(*port, other)),
+        What::GrandmasterDoubtful(doubtful) => to.take(&of_doubtful(doubtful)),
+        What::Degraded(degraded) => to.take(&one(" {}", ("clockQuality", Of(Quality(degraded.quality))))),
+        What::NotTraceable(untraceable) => to.take(&of_untraceable(untraceable)),
+        What::UtcInvalid(offset) => to.take(&of_utc_invalid(*offset)),
+        What::UtcOffset(offset) => to.take(&of_utc_offset(offset)),
+        What::LeapFalse(leap) => to.take(&of_false_leap(leap)),
+        What::Leap(leap) => to.take(&of_leap(leap)),
+        What::BetterClock(better) => to.take(&of_better(better)),
+        What::Incomplete(missing) => to.take(&of_missing(missing)),
+        What::OutOfReach(hops) => to.take(&of_reach(*hops)),
+        What::GrandmasterChanged(change) => to.take(&of_grandmaster_change(change)),
+        What::Changed(port, change) => to.take(&of_change(*port, change, "{} {} {}, then {}")),
+        What::IdentityTwice(twice) => to.take(&of_twice(twice)),
     }
 }
 
@@ -186,7 +193,7 @@ fn of_other_leaders<'a>(other: &'a OtherLeaders<'a>) -> FindingValues<'a> {
     three(" {} {}, not {}", values)
 }
 
-fn of_outside<'a>(outside: &Outside) -> FindingValues<'a> {
+fn of_outside(outside: &Outside) -> FindingValues<'static> {
     let values = [
         ("portNumber", AtPort(outside.port)),
         ("member", Name(outside.member.name())),
@@ -228,7 +235,7 @@ fn of_not_taken<'a>(not_taken: &NotTaken<'a>) -> FindingValues<'a> {
     }
 }
 
-fn of_unseen<'a>(unseen: Absence) -> FindingValues<'a> {
+fn of_unseen(unseen: Absence) -> FindingValues<'static> {
     match unseen {
         Absence::OwnHost => none(
             " is the host that asks: at an interface it does not hear itself; ask its Unix socket too",
@@ -240,7 +247,7 @@ fn of_unseen<'a>(unseen: Absence) -> FindingValues<'a> {
     }
 }
 
-fn of_not_asked<'a>(clocks: usize) -> FindingValues<'a> {
+fn of_not_asked(clocks: usize) -> FindingValues<'static> {
     let words = if clocks == 1 {
         " {} clock sends here"
     } else {
@@ -249,7 +256,7 @@ fn of_not_asked<'a>(clocks: usize) -> FindingValues<'a> {
     one(words, ("clocks", Of(Unsigned(clocks as u64))))
 }
 
-fn of_masterless<'a>(why: &Masterless) -> FindingValues<'a> {
+fn of_masterless(why: &Masterless) -> FindingValues<'static> {
     match why {
         Masterless::SlaveOnly => one(
             " {}, and its own grandmaster",
@@ -269,7 +276,7 @@ fn of_masterless<'a>(why: &Masterless) -> FindingValues<'a> {
     }
 }
 
-fn of_not_master<'a>(parent: PortIdentity, why: &NoMaster) -> FindingValues<'a> {
+fn of_not_master(parent: PortIdentity, why: &NoMaster) -> FindingValues<'static> {
     let parent = ("parentPortIdentity", Of(Port(parent)));
     match why {
         NoMaster::NoPort => two(
@@ -283,7 +290,7 @@ fn of_not_master<'a>(parent: PortIdentity, why: &NoMaster) -> FindingValues<'a> 
     }
 }
 
-fn of_steps<'a>(steps: &Steps) -> FindingValues<'a> {
+fn of_steps(steps: &Steps) -> FindingValues<'static> {
     let own = ("stepsRemoved", number(steps.steps));
     match steps.parent {
         Some(parent) => two(
@@ -302,7 +309,7 @@ fn number(number: u16) -> FindingValue<'static> {
 }
 
 /// The member, its value, and what the other clock has.
-fn of_differs<'a>(differs: &Differs) -> FindingValues<'a> {
+fn of_differs(differs: &Differs) -> FindingValues<'static> {
     let values = [
         ("member", Name(differs.member.name())),
         ("value", Of(differs.own)),
@@ -323,7 +330,7 @@ fn of_change<'a>(port: Option<u16>, change: &Change<'a>, words: &'static str) ->
 }
 
 /// The state of a port, and for how many whole seconds it is known to be in it or in another on its way.
-fn of_state<'a>(port: u16, stay: &Stay) -> FindingValues<'a> {
+fn of_state(port: u16, stay: &Stay) -> FindingValues<'static> {
     let state = ("portState", Name(state_name(stay.state)));
     let words = if stay.time.is_some() {
         " port {} {} for {} s"
@@ -347,7 +354,7 @@ fn seconds(time: Option<u64>) -> FindingValue<'static> {
     }
 }
 
-fn of_unlocked<'a>(port: u16, unlocked: &Unlocked) -> FindingValues<'a> {
+fn of_unlocked(port: u16, unlocked: &Unlocked) -> FindingValues<'static> {
     let words = match (unlocked.time, unlocked.offset) {
         (Some(_), Some(_)) => " port {} {} for {} s, offset {} ns",
         (Some(_), None) => " port {} {} for {} s",
@@ -367,7 +374,7 @@ fn of_unlocked<'a>(port: u16, unlocked: &Unlocked) -> FindingValues<'a> {
     four(words, values)
 }
 
-fn of_frozen<'a>(frozen: &FrozenOffset) -> FindingValues<'a> {
+fn of_frozen(frozen: &FrozenOffset) -> FindingValues<'static> {
     let values = [
         ("offsetFromMaster", Exact(frozen.offset)),
         ("answers", Of(Unsigned(frozen.answers as u64))),
@@ -413,7 +420,7 @@ fn amount_of(error: &TimeError) -> (FindingValue<'static>, &'static str) {
 }
 
 /// The clock's own offset, or those of all clocks that follow it.
-fn of_offset<'a>(offset: &TooFarOff) -> FindingValues<'a> {
+fn of_offset(offset: &TooFarOff) -> FindingValues<'static> {
     match offset {
         TooFarOff::Own(offset) => two(
             " offsetFromMaster {} ns",
@@ -467,7 +474,7 @@ fn of_origin(origin: &Origin) -> FindingValues<'_> {
 }
 
 /// What the port says of its intervals, and the interval of the port that it follows.
-fn of_seldom<'a>(port: u16, seldom: &Seldom) -> FindingValues<'a> {
+fn of_seldom(port: u16, seldom: &Seldom) -> FindingValues<'static> {
     let values = [
         ("portNumber", number(port)),
         (
@@ -487,7 +494,7 @@ fn of_seldom<'a>(port: u16, seldom: &Seldom) -> FindingValues<'a> {
 }
 
 /// How a port measures the delay, and how the port that it follows does.
-fn of_mechanism<'a>(port: u16, other: &OtherMechanism) -> FindingValues<'a> {
+fn of_mechanism(port: u16, other: &OtherMechanism) -> FindingValues<'static> {
     let values = [
         ("portNumber", number(port)),
         ("delayMechanism", Of(other.own)),
@@ -497,7 +504,7 @@ fn of_mechanism<'a>(port: u16, other: &OtherMechanism) -> FindingValues<'a> {
     four(" port {} {}, and {} has {}", values)
 }
 
-fn of_doubtful<'a>(doubtful: &Doubtful) -> FindingValues<'a> {
+fn of_doubtful(doubtful: &Doubtful) -> FindingValues<'static> {
     let quality = doubtful.quality;
     let source = MemberValue::Named(Enumeration::TimeSource, doubtful.time_source);
     let values = [
@@ -509,7 +516,7 @@ fn of_doubtful<'a>(doubtful: &Doubtful) -> FindingValues<'a> {
     four(" class {}, accuracy {}, {}", values)
 }
 
-fn of_untraceable<'a>(untraceable: &Untraceable) -> FindingValues<'a> {
+fn of_untraceable(untraceable: &Untraceable) -> FindingValues<'static> {
     let values = [
         ("clockClass", number(untraceable.class as u16)),
         ("timeTraceable", Of(Flag(untraceable.time))),
@@ -518,13 +525,13 @@ fn of_untraceable<'a>(untraceable: &Untraceable) -> FindingValues<'a> {
     three(" class {}, timeTraceable {}, frequencyTraceable {}", values)
 }
 
-fn of_utc_invalid<'a>(offset: i16) -> FindingValues<'a> {
+fn of_utc_invalid(offset: i16) -> FindingValues<'static> {
     let offset = ("currentUtcOffset", Of(Signed(offset as i64)));
     let valid = ("currentUtcOffsetValid", Of(Flag(false)));
     two(" currentUtcOffset {} is not valid", [offset, valid])
 }
 
-fn of_utc_offset<'a>(offset: &WrongOffset) -> FindingValues<'a> {
+fn of_utc_offset(offset: &WrongOffset) -> FindingValues<'static> {
     let said = ("currentUtcOffset", Of(Signed(offset.said as i64)));
     let is = ("expected", Of(Signed(offset.is as i64)));
     two(
@@ -533,7 +540,7 @@ fn of_utc_offset<'a>(offset: &WrongOffset) -> FindingValues<'a> {
     )
 }
 
-fn of_leap<'a>(leap: &Leap) -> FindingValues<'a> {
+fn of_leap(leap: &Leap) -> FindingValues<'static> {
     let words = if leap.is_unusual {
         " {} at the end of this day in UTC, and so far none came but in June and December"
     } else {
@@ -549,7 +556,7 @@ fn of_leap<'a>(leap: &Leap) -> FindingValues<'a> {
 }
 
 /// The leap second that is announced, and the day, unless both are.
-fn of_false_leap<'a>(leap: &FalseLeap) -> FindingValues<'a> {
+fn of_false_leap(leap: &FalseLeap) -> FindingValues<'static> {
     let (words, date) = match leap.date {
         Some(date) => (
             " {}, and {} is not the last day of a month",
@@ -571,7 +578,7 @@ fn of_false_leap<'a>(leap: &FalseLeap) -> FindingValues<'a> {
 }
 
 /// The clock of a better class, with what it says of itself.
-fn of_better<'a>(better: &Better) -> FindingValues<'a> {
+fn of_better(better: &Better) -> FindingValues<'static> {
     let values = [
         ("", number(better.class as u16)),
         ("better", Of(Clock(better.clock))),
@@ -590,12 +597,12 @@ fn of_missing(missing: &Missing) -> FindingValues<'_> {
     two("{}{}", [("managementIds", ids), ("portNumbers", ports)])
 }
 
-fn of_reach<'a>(hops: u8) -> FindingValues<'a> {
+fn of_reach(hops: u8) -> FindingValues<'static> {
     let words = " the last of {} boundary hops: clocks behind it are not asked";
     one(words, ("boundaryHops", number(hops as u16)))
 }
 
-fn of_grandmaster_change<'a>(change: &GrandmasterChange) -> FindingValues<'a> {
+fn of_grandmaster_change(change: &GrandmasterChange) -> FindingValues<'static> {
     let words = if change.clocks == 1 {
         " {}, then {}; {} clock"
     } else {
