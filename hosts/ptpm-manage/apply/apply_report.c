@@ -43,10 +43,11 @@ void write_value(FILE *to, uint16_t id, const uint8_t *octets, size_t size) {
     }
 }
 
-/* Each member that it changes, `37 -> 38`, with its name if there are more. A text is as the plan has it, in ASCII. */
+/* Each member that it changes, `37 -> 38`, with its name if there are more. A text is in quotation marks, in ASCII. */
 static void write_change(FILE *to, const struct step *step) {
     static struct field_lines before, after;
     struct member was, is;
+    const char *mark = step->id == PTPM_ID_USER_DESCRIPTION ? "\"" : "";
     bool is_one = has_one_member(step->id, &step->after), is_first = true;
     start_lines(&before, step->id, step->before.octets, step->before.size);
     start_lines(&after, step->id, step->after.octets, step->after.size);
@@ -54,7 +55,7 @@ static void write_change(FILE *to, const struct step *step) {
         if (!is_one && strcmp(was.value, is.value) == 0) continue;
         fputs(is_first ? " " : ", ", to);
         if (!is_one) fprintf(to, "%s ", is.name);
-        fprintf(to, "%s -> %s", was.value, is.value);
+        fprintf(to, "%s%s%s -> %s%s%s", mark, was.value, mark, mark, is.value, mark);
         is_first = false;
     }
 }
