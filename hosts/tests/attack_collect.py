@@ -316,5 +316,4 @@ int main(int count, char **words) {
 
 
 ATTACKS = [strangers_without_end, plan_of_too_many, strangers_that_are_one, strangers_that_never_end, strangers_in_a_watch, junk,
-           one_identity, ids_that_lack]
-           signals_to_collect, programs_that_show, refusals_of_memory]
+           one_identity, ids_that_lack, signals_to_collect, programs_that_show, refusals_of_memory]
