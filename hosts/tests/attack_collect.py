@@ -143,23 +143,27 @@ class Strangers:
     REAL, NEW, ENDS, LAST = identity(0xFFFFFFFFFF), 2100, 6, 10
 
     def __init__(self, *words):
-        self.number, self.looks, self.seen, self.most = None, 0, [], 0
+        self.latest, self.looks, self.seen, self.most = None, 0, [], 0
         self.written = os.path.join(work, "written")
         environment = dict(os.environ, PATH=os.path.dirname(HOME) + ":" + os.environ["PATH"])
         Site(self.answers, *words, "--output", self.written, "-t", "500", "-a", "1", "--once", "--watch", "1", "status", most_seconds=300, env=environment)
 
     def answers(self, request):
         to_all = request[34:42] == bytes([255]) * 8
-        if to_all and request[52:54] == b"\x20\x00" and request[30:32] != self.number:
-            self.next_look(request[30:32])
+        if to_all and (self.looks == 0 or self.written_last() != self.latest):
+            self.next_look()
         clocks = [self.REAL] if self.looks < self.ENDS else []
         if to_all and self.looks <= self.LAST:
             clocks += [identity(self.looks << 16 | place) for place in range(self.NEW)]
         of_real = answer(request, self.REAL)
         return (of_real.replace(self.REAL, clock) for clock in clocks if to_all or request[34:42] == clock)
 
-    def next_look(self, number):
-        self.number, self.looks = number, self.looks + 1
+    def written_last(self):
+        """Which file was written: each look writes another, and asks everybody several times before."""
+        return os.stat(self.written).st_ino if os.path.exists(self.written) else None
+
+    def next_look(self):
+        self.latest, self.looks = self.written_last(), self.looks + 1
         self.seen.append(read(self.written) if os.path.exists(self.written) else "")
         process = started[-1]
         with open(f"/proc/{process.pid}/status") as status:

@@ -340,7 +340,8 @@ class Asking(Folder):
         image = ptpm.Requests(ptpm.SessionSettings(MANAGER, CLOCK, 7)).image()
         other = ptpm.Requests(ptpm.SessionSettings(MANAGER, "0102030405060708", 7)).image()
         for octets, why in (
-            (other, "OTHER_SESSION"),
+            (ptpm.sealed(other, 1), "OTHER_SESSION"),
+            (image, "DAMAGED"),
             (image[:-1], "DAMAGED"),
             (image + b"\0", "DAMAGED"),
             (b"7\n", "NOT_AN_IMAGE"),
@@ -373,7 +374,7 @@ class Asking(Folder):
 
     def test_a_file_has_a_seal(self) -> None:
         path, settings = f"{self.folder}/session", ptpm.SessionSettings(MANAGER, CLOCK, 7)
-        self.assertIsNone(self.refusal(path, ptpm.Requests(settings).image()))  # as a former version left it
+        self.assertIsNone(self.refusal(path, ptpm.sealed(ptpm.Requests(settings).image(), 0)))
         with ptpm.SessionFile(MANAGER, CLOCK, path) as file, ptpm.Session(settings, file) as session:
             session.ask(self.way, ptpm.Action.GET, "PRIORITY1", timeout=1)
         self.assertEqual(self.saved(path), 3)
@@ -389,8 +390,7 @@ class Asking(Folder):
                 changed = whole[:place] + bytes([octet ^ 1 << bit]) + whole[place + 1 :]
                 self.assertEqual(self.refusal(path, changed), "NOT_AN_IMAGE" if place < 4 else why)
         for size in range(len(whole)):
-            if size != len(whole) - 16:
-                self.assertEqual(self.refusal(path, whole[:size]), "NOT_AN_IMAGE" if size < 12 else why)
+            self.assertEqual(self.refusal(path, whole[:size]), "NOT_AN_IMAGE" if size < 12 else why)
         for octets in (whole + b"\0", whole + whole, whole + whole[-16:]):
             self.assertEqual(self.refusal(path, octets), why)
 
@@ -403,7 +403,7 @@ class Asking(Folder):
 
     def test_a_file_has_one_turn_at_a_time(self) -> None:
         path = f"{self.folder}/session"
-        Path(path).write_bytes(ptpm.Requests(ptpm.SessionSettings(MANAGER, CLOCK, 7)).image())
+        Path(path).write_bytes(ptpm.sealed(ptpm.Requests(ptpm.SessionSettings(MANAGER, CLOCK, 7)).image(), 0))
         os.chmod(path, 0o640)
         with ptpm.SessionFile(MANAGER, CLOCK, path) as file:
             os.symlink(self.folder, f"{self.folder}/link")
