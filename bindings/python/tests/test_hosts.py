@@ -116,7 +116,7 @@ class Hosts(Folder):
         """The messages, the status, what is printed, and the file at the end."""
         file = f"{path}.session"
         if run.words.startswith("number "):
-            Path(file).write_bytes(ptpm.Requests(ptpm.SessionSettings(MANAGER, CLOCK, int(run.words.split()[1]))).image())
+            Path(file).write_bytes(ptpm.sealed(ptpm.Requests(ptpm.SessionSettings(MANAGER, CLOCK, int(run.words.split()[1]))).image(), 0))
             return [], 0, "", b""
         link = None if run.fates is None else Link(path, file, clocks, run.fates)
         timeout = "1000" if set(run.fates or "") & set("LN") else "10000"  # what is answered is waited for on a busy machine, too
