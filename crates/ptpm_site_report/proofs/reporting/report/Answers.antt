@@ -4,7 +4,7 @@ use Rattle.ptpm_site_report.proofs.reporting.report.Goals as goal
 
 pub returns : goal.returns
 returns g c = (
-  c.in_ok-field-0.shown.site,
+  c.in_ok-shown.shown.site,
   c.in_ok-picture.picture,
   c.in_ok-came.ensures.0,
   search rules,
