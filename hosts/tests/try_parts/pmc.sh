@@ -26,7 +26,7 @@ done
 
 # pmc's identity over UDP and Ethernet is that of its interface, at port 1
 for way in -4 -6 -2; do
-    start $(transport) -v -m 000000fffe000010/1 $identity far0
+    start $(transport) -v -m 020000fffe000010/1 $identity far0
     check "$way SET PRIORITY1" "$(answers "SET PRIORITY1 100" "PRIORITY1 priority1 100")"
     stop
     check "$way SET PRIORITY1 is carried out once" "$(holds grep -q 'answer 5: 1$' "$work/ran")"
