@@ -1,10 +1,10 @@
 -- The names of findings.
-use Rattle.ptpm_site.specs.declared.finding.What.{What}
-use Rattle.ptpm_site.specs.declared.finding.What.TheVariants as what
-use Rattle.ptpm_site.specs.declared.leading.Degradation.{Degradation}
-use Rattle.ptpm_site.specs.declared.leading.Degradation.TheVariants as degradation
-use Rattle.ptpm_site.specs.declared.unseen.Absence.{Absence}
-use Rattle.ptpm_site.specs.declared.unseen.Absence.TheVariants as absence
+use Rattle.ptpm_site.specs.declared.judging.finding.What.{What}
+use Rattle.ptpm_site.specs.declared.judging.finding.What.TheVariants as what
+use Rattle.ptpm_site.specs.declared.judging.leading.Degradation.{Degradation}
+use Rattle.ptpm_site.specs.declared.judging.leading.Degradation.TheVariants as degradation
+use Rattle.ptpm_site.specs.declared.judging.unseen.Absence.{Absence}
+use Rattle.ptpm_site.specs.declared.judging.unseen.Absence.TheVariants as absence
 use Rattle.ptpm_causes.specs.declared.kind.Kind.{Kind}
 use Rattle.ptpm_causes.specs.declared.kind.Kind.TheVariants as kinds
 

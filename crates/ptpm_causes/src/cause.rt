@@ -4,12 +4,12 @@ ghost use Rattle.std.specs.Prelude.{◌≡◌};
 ghost use Rattle.ptpm_causes.specs.Kinds.{kind_of};
 
 use crate::kind::{Kind, kind_of};
-use ptpm_site::amounts::TooFarOff;
-use ptpm_site::finding::{Finding, What};
-use ptpm_site::site::Site;
-use ptpm_site::source::Source;
-use ptpm_site::stay::is_faulty;
-use ptpm_site::tai_and_utc::OffByUtc;
+use ptpm_site::judging::amounts::TooFarOff;
+use ptpm_site::judging::finding::{Finding, What};
+use ptpm_site::judging::tai_and_utc::OffByUtc;
+use ptpm_site::looks::stay::is_faulty;
+use ptpm_site::reading::site::Site;
+use ptpm_site::reading::source::Source;
 
 /// The name of a finding, and the clock at which it is printed.
 #[derive(Clone, Copy, PartialEq, Eq)]

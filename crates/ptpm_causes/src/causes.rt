@@ -7,7 +7,7 @@ ghost use Rattle.ptpm_causes.specs.Roots.{IsRoot};
 use crate::cause::{Cause, named};
 use crate::chains::Chains;
 use crate::found::Found;
-use ptpm_site::finding::Finding;
+use ptpm_site::judging::finding::Finding;
 use ptpm_site::picture::Picture;
 use std::alloc::{AllocError, Global};
 

@@ -8,8 +8,8 @@ ghost use Rattle.ptpm_causes.specs.Roots.{IsRoot};
 use crate::cause::{Cause, Key, cause_in};
 use crate::found::Found;
 use crate::kind::Kind;
-use ptpm_site::finding::Finding;
-use ptpm_site::site::Site;
+use ptpm_site::judging::finding::Finding;
+use ptpm_site::reading::site::Site;
 use std::alloc::{AllocError, Global};
 use std::collections::BTreeMap;
 

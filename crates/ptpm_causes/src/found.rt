@@ -3,10 +3,10 @@
 use crate::cause::{Cause, Key, cause_in};
 use ptpm_data::Member as DataSetMember;
 use ptpm_members::Member;
-use ptpm_site::domain::Domain;
-use ptpm_site::finding::{Finding, What};
-use ptpm_site::site::Site;
-use ptpm_site::source::Source;
+use ptpm_site::judging::finding::{Finding, What};
+use ptpm_site::reading::domain::Domain;
+use ptpm_site::reading::site::Site;
+use ptpm_site::reading::source::Source;
 use std::alloc::{AllocError, Global};
 use std::collections::BTreeSet;
 

@@ -3,10 +3,10 @@
 ghost use Rattle.std.specs.Prelude.{◌≡◌};
 ghost use Rattle.ptpm_causes.specs.Kinds.{absence_kind, degradation_kind, kind_of};
 
-use ptpm_site::finding::What;
-use ptpm_site::lacks::Lack;
-use ptpm_site::leading::Degradation;
-use ptpm_site::unseen::Absence;
+use ptpm_site::judging::finding::What;
+use ptpm_site::judging::lacks::Lack;
+use ptpm_site::judging::leading::Degradation;
+use ptpm_site::judging::unseen::Absence;
 
 /// A name that findings have. Each comes after those that it may follow from.
 #[derive(Clone, Copy, PartialEq, Eq)]

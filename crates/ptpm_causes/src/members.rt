@@ -2,7 +2,7 @@
 
 use ptpm_data::Member as DataSetMember;
 use ptpm_members::Member;
-use ptpm_site::member::is_of_grandmaster;
+use ptpm_site::reading::member::is_of_grandmaster;
 
 /// Whether a member is of TIME_PROPERTIES_DATA_SET.
 fn is_of_time(member: Member) -> bool {

@@ -5,7 +5,7 @@ ghost use Rattle.std.specs.Prelude.{◌≡◌, Bool, List, OnErr, OnOk};
 ghost use Rattle.std.specs.List.{items_where_true};
 
 use crate::cause::{Key, named};
-use ptpm_site::finding::Finding;
+use ptpm_site::judging::finding::Finding;
 use std::alloc::{AllocError, Global};
 use std::collections::BTreeSet;
 

@@ -6,15 +6,15 @@ use crate::kind::Kind;
 use crate::members::{is_by_handover, is_parent_identity, is_passed_on, is_quality};
 use ptpm_codec::ClockIdentity;
 use ptpm_members::Member;
-use ptpm_site::amounts::TooFarOff;
-use ptpm_site::expected::Unmet;
-use ptpm_site::finding::{Finding, What};
-use ptpm_site::grandmaster_changes::GrandmasterChange;
-use ptpm_site::grandmasters::Masterless;
-use ptpm_site::origin::TimeError;
-use ptpm_site::site::Site;
-use ptpm_site::source::Source;
-use ptpm_site::tai_and_utc::OffByUtc;
+use ptpm_site::judging::amounts::TooFarOff;
+use ptpm_site::judging::expected::Unmet;
+use ptpm_site::judging::finding::{Finding, What};
+use ptpm_site::judging::grandmasters::Masterless;
+use ptpm_site::judging::tai_and_utc::OffByUtc;
+use ptpm_site::looks::grandmaster_changes::GrandmasterChange;
+use ptpm_site::reading::origin::TimeError;
+use ptpm_site::reading::site::Site;
+use ptpm_site::reading::source::Source;
 
 /// How many steps a way to a grandmaster has at most: an Announce of 255 steps is not qualified (9.3.2.5).
 const LONGEST_WAY: u8 = 255;

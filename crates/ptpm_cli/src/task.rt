@@ -12,7 +12,7 @@ use ptpm_draw::Chosen;
 use ptpm_expected::profile::Profile;
 use ptpm_plan::{PlanForm, PlanOptions};
 use ptpm_schedule::Chances;
-use ptpm_site::limits::Limits;
+use ptpm_site::judging::limits::Limits;
 use ptpm_site_report::ignored::Ignored;
 use ptpm_site_report::names::Names;
 use ptpm_site_report::{Form, Options};

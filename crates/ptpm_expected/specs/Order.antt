@@ -1,8 +1,8 @@
 -- The place of a finding among those of its clock.
 use Rattle.std.specs.Prelude.{ℕ}
-use Rattle.ptpm_site.specs.declared.finding.Finding.{Finding}
-use Rattle.ptpm_site.specs.declared.finding.What.{What}
-use Rattle.ptpm_site.specs.declared.finding.What.TheVariants as what
+use Rattle.ptpm_site.specs.declared.judging.finding.Finding.{Finding}
+use Rattle.ptpm_site.specs.declared.judging.finding.What.{What}
+use Rattle.ptpm_site.specs.declared.judging.finding.What.TheVariants as what
 use Rattle.ptpm_expected.specs.declared.order.FindingKey.{FindingKey}
 
 abbrev pub place_of : What → ℕ

@@ -5,11 +5,11 @@ use crate::meeting::is_as_wanted;
 use crate::named::Named;
 use crate::senders::giving;
 use ptpm_members::Member;
-use ptpm_site::domain::Domain;
-use ptpm_site::finding::{Finding, What};
-use ptpm_site::site::Site;
-use ptpm_site::source::Source;
-use ptpm_site::unseen::Absence;
+use ptpm_site::judging::finding::{Finding, What};
+use ptpm_site::judging::unseen::Absence;
+use ptpm_site::reading::domain::Domain;
+use ptpm_site::reading::site::Site;
+use ptpm_site::reading::source::Source;
 use std::alloc::{AllocError, Global};
 use std::collections::BTreeSet;
 

@@ -3,8 +3,8 @@
 use crate::inventory::{Entry, MemberRule, Rule};
 use ptpm_data::Member::UserDescription;
 use ptpm_members::Member::DataSet;
-use ptpm_site::expected::Wanted;
-use ptpm_site::source::Source;
+use ptpm_site::judging::expected::Wanted;
+use ptpm_site::reading::source::Source;
 use std::alloc::{AllocError, Global};
 use std::collections::BTreeMap;
 

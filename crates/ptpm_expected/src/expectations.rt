@@ -2,16 +2,16 @@
 
 ghost use Rattle.std.specs.Prelude.{IfOk, ⊤};
 ghost use Rattle.ptpm_site.specs.declared.picture.Picture.{Picture};
-ghost use Rattle.ptpm_site.specs.declared.site.Site.{Site};
+ghost use Rattle.ptpm_site.specs.declared.reading.site.Site.{Site};
 
 use crate::held_to_inventory::{hold_to_inventory, keep_open};
 use crate::held_to_profile::hold_to_profile;
 use crate::inventory::Inventory;
 use crate::profile::Profile;
-use ptpm_site::left_out::LeftOut;
-use ptpm_site::limits::Limits;
+use ptpm_site::judging::limits::Limits;
 use ptpm_site::picture::Picture;
-use ptpm_site::site::Site;
+use ptpm_site::reading::left_out::LeftOut;
+use ptpm_site::reading::site::Site;
 use std::alloc::{AllocError, Global};
 
 /// What a site is held to.
@@ -34,7 +34,7 @@ impl Expectations<'_> {
 /// What judges a site. Code over any judge can show no other picture than its judge's.
 pub trait Judge {
     /// That the picture is this judge's, of the site.
-    ghost IsJudged : { Site → Picture → Type 0 };
+    ghost IsJudged: { Site → Picture → Type 0 };
 
     /// The site, judged.
     fn picture_of<'s>(

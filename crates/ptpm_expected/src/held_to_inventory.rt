@@ -5,10 +5,10 @@ use crate::inventory::Inventory;
 use crate::judging_inventory::judge_entries;
 use crate::judging_named::{judge_absent, judge_unexpected};
 use crate::order::put_in_order;
-use ptpm_site::finding::Finding;
-use ptpm_site::leaders::leaders_of;
-use ptpm_site::site::Site;
-use ptpm_site::source::Source;
+use ptpm_site::judging::finding::Finding;
+use ptpm_site::judging::leaders::leaders_of;
+use ptpm_site::reading::site::Site;
+use ptpm_site::reading::source::Source;
 use std::alloc::{AllocError, Global};
 
 /// Adds what is not as an inventory wants it to the findings of a site, and takes away what it allows. `sources` has all clocks.

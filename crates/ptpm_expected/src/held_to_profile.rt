@@ -3,12 +3,12 @@
 use crate::judging_profile::judge_profile;
 use crate::order::put_in_order;
 use crate::profile::Profile;
-use ptpm_site::evidence::Evidence;
-use ptpm_site::finding::{Finding, What};
-use ptpm_site::leaders::leaders_of;
-use ptpm_site::leading::Degradation;
-use ptpm_site::site::Site;
-use ptpm_site::source::Source;
+use ptpm_site::judging::evidence::Evidence;
+use ptpm_site::judging::finding::{Finding, What};
+use ptpm_site::judging::leaders::leaders_of;
+use ptpm_site::judging::leading::Degradation;
+use ptpm_site::reading::site::Site;
+use ptpm_site::reading::source::Source;
 use std::alloc::{AllocError, Global};
 
 /// Whether a profile leaves a finding as it is. Under AES67 a clock without a source of time may lead.

@@ -2,8 +2,8 @@
 
 use ptpm_codec::ClockIdentity;
 use ptpm_members::Member;
-use ptpm_site::domain::Domain;
-use ptpm_site::expected::Wanted;
+use ptpm_site::judging::expected::Wanted;
+use ptpm_site::reading::domain::Domain;
 
 /// What an operator says of a site, in the order of the lines of a file.
 #[derive(Drop)]

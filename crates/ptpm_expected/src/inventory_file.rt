@@ -7,7 +7,7 @@ use crate::wanted_values::wanted_values;
 use crate::words::{first_choice, first_word, without_note};
 use ptpm_codec::ClockIdentity;
 use ptpm_members::{Member, clock_identity_of};
-use ptpm_site::domain::Domain;
+use ptpm_site::reading::domain::Domain;
 use std::alloc::Global;
 use std::str;
 use std::str::FromStr;

@@ -3,12 +3,12 @@
 use crate::inventory::{Entry, MemberRule, Rule};
 use crate::meeting::unmet;
 use ptpm_codec::ClockIdentity;
-use ptpm_site::domain::Domain;
-use ptpm_site::expected::OtherLeaders;
-use ptpm_site::finding::{Added, Finding, What, add_finding};
-use ptpm_site::leaders::Leader;
-use ptpm_site::site::Site;
-use ptpm_site::source::Source;
+use ptpm_site::judging::expected::OtherLeaders;
+use ptpm_site::judging::finding::{Added, Finding, What, add_finding};
+use ptpm_site::judging::leaders::Leader;
+use ptpm_site::reading::domain::Domain;
+use ptpm_site::reading::site::Site;
+use ptpm_site::reading::source::Source;
 use std::alloc::{AllocError, Global};
 
 /// Adds what is not as the entries of an inventory want it, one entry after another. `sources` has all clocks, and `leaders` all

@@ -4,9 +4,9 @@ use crate::descriptions::Descriptions;
 use crate::inventory::Entry;
 use crate::named::Named;
 use crate::senders::unseen_clocks;
-use ptpm_site::finding::{Added, Finding, What, add_finding};
-use ptpm_site::site::Site;
-use ptpm_site::source::Source;
+use ptpm_site::judging::finding::{Added, Finding, What, add_finding};
+use ptpm_site::reading::site::Site;
+use ptpm_site::reading::source::Source;
 use std::alloc::Global;
 
 /// Adds a finding for each clock that is to be seen and is not. `named` is of these entries.

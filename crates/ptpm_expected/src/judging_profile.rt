@@ -2,12 +2,12 @@
 
 use crate::outside::{clock_outside, is_idle, parent_outside, port_outside, timescale_outside};
 use crate::profile::Profile;
-use ptpm_site::evidence::Evidence;
-use ptpm_site::expected::Outside;
-use ptpm_site::finding::{Added, Finding, What, add_finding};
-use ptpm_site::leaders::Leader;
-use ptpm_site::site::Site;
-use ptpm_site::source::Source;
+use ptpm_site::judging::evidence::Evidence;
+use ptpm_site::judging::expected::Outside;
+use ptpm_site::judging::finding::{Added, Finding, What, add_finding};
+use ptpm_site::judging::leaders::Leader;
+use ptpm_site::reading::site::Site;
+use ptpm_site::reading::source::Source;
 use std::alloc::Global;
 
 /// Adds what a profile does not allow at these clocks, after all earlier findings. For each clock its own members come first:

@@ -3,12 +3,12 @@
 use crate::inventory::MemberRule;
 use crate::numbers::is_between;
 use ptpm_members::{Member, MemberValue};
-use ptpm_site::asked::{Asked, OF_CLOCK};
-use ptpm_site::clock::Received;
-use ptpm_site::expected::{Unmet, Wanted};
-use ptpm_site::member::value_of;
-use ptpm_site::site::Site;
-use ptpm_site::source::Source;
+use ptpm_site::judging::expected::{Unmet, Wanted};
+use ptpm_site::reading::asked::{Asked, OF_CLOCK};
+use ptpm_site::reading::clock::Received;
+use ptpm_site::reading::member::value_of;
+use ptpm_site::reading::site::Site;
+use ptpm_site::reading::source::Source;
 
 /// Whether a value is one that is wanted.
 pub fn meets(wanted: &Wanted, value: &MemberValue<'_>) -> bool {

@@ -1,8 +1,8 @@
 //! The members that an inventory may name.
 
 use ptpm_members::Member;
-use ptpm_site::asked::{Asked, OF_CLOCK};
-use ptpm_site::member::members_of;
+use ptpm_site::reading::asked::{Asked, OF_CLOCK};
+use ptpm_site::reading::member::members_of;
 
 /// The member of an id with this name.
 fn named(asked: Asked, name: &str) -> Option<Member> {

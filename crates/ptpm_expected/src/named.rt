@@ -1,9 +1,9 @@
 //! The clocks that an inventory names, for quick answers.
 
 use crate::inventory::{Entry, Presence, Rule};
-use ptpm_site::domain::Domain;
-use ptpm_site::finding::Added;
-use ptpm_site::source::Source;
+use ptpm_site::judging::finding::Added;
+use ptpm_site::reading::domain::Domain;
+use ptpm_site::reading::source::Source;
 use std::alloc::{AllocError, Global};
 use std::collections::BTreeSet;
 

@@ -4,8 +4,8 @@ ghost use Rattle.std.specs.Prelude.{◌≡◌, OnOk, length};
 ghost use Rattle.std.specs.List.Sorted.{IsPermutation, IsSortedByKey, IsStableByKey};
 ghost use Rattle.ptpm_expected.specs.Order.{finding_key, place_of};
 
-use ptpm_site::finding::{Finding, What};
-use ptpm_site::source::Source;
+use ptpm_site::judging::finding::{Finding, What};
+use ptpm_site::reading::source::Source;
 use std::alloc::AllocError;
 
 /// The place of a finding among those of its clock. What comes from the answers alone is in order already, and has a place before

@@ -11,14 +11,14 @@ use ptpm_data::PortSetting::{DelayMechanism, LogAnnounceInterval};
 use ptpm_data::{Member as DataSetMember, PortState};
 use ptpm_members::Member::DataSet;
 use ptpm_members::{Enumeration, Member, MemberValue};
-use ptpm_site::announcing::port_above;
-use ptpm_site::data_sets::{DefaultDataSet, PortDataSet};
-use ptpm_site::domain::Domain;
-use ptpm_site::evidence::Evidence;
-use ptpm_site::expected::{Allowed, Outside};
-use ptpm_site::leaders::Leader;
-use ptpm_site::site::Site;
-use ptpm_site::source::Source;
+use ptpm_site::judging::announcing::port_above;
+use ptpm_site::judging::evidence::Evidence;
+use ptpm_site::judging::expected::{Allowed, Outside};
+use ptpm_site::judging::leaders::Leader;
+use ptpm_site::reading::data_sets::{DefaultDataSet, PortDataSet};
+use ptpm_site::reading::domain::Domain;
+use ptpm_site::reading::site::Site;
+use ptpm_site::reading::source::Source;
 
 /// A member that is a number, if it is beyond its range.
 fn member_outside(

@@ -9,9 +9,9 @@ use ptpm_data::PortSetting::{
 };
 use ptpm_members::Member::DataSet;
 use ptpm_members::{Member as AnyMember, MemberValue};
-use ptpm_site::data_sets::{COMMON_PEER_TO_PEER, END_TO_END, PEER_TO_PEER, PortDataSet};
-use ptpm_site::expected::Allowed;
-use ptpm_site::port_groups::PortGroup;
+use ptpm_site::judging::expected::Allowed;
+use ptpm_site::judging::port_groups::PortGroup;
+use ptpm_site::reading::data_sets::{COMMON_PEER_TO_PEER, END_TO_END, PEER_TO_PEER, PortDataSet};
 
 /// delayMechanism SPECIAL (8.2.15.4.4, table 21).
 const SPECIAL: u8 = 4;

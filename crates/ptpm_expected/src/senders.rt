@@ -1,8 +1,8 @@
 //! The clocks that send by themselves, or answer and are not seen.
 
-use ptpm_site::heard::{ANNOUNCE, DELAY_REQ, Heard};
-use ptpm_site::site::Site;
-use ptpm_site::source::Source;
+use ptpm_site::reading::heard::{ANNOUNCE, DELAY_REQ, Heard};
+use ptpm_site::reading::site::Site;
+use ptpm_site::reading::source::Source;
 use std::alloc::{AllocError, Global};
 use std::collections::BTreeSet;
 

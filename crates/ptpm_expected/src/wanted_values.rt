@@ -7,7 +7,7 @@ use ptpm_members::{
     ClockQuality, Enumeration, Form, Member, MemberValue, clock_identity_of, fields, flag_of,
     octet_of, port_identity_of,
 };
-use ptpm_site::expected::Wanted;
+use ptpm_site::judging::expected::Wanted;
 use std::alloc::{AllocError, Global};
 use std::str::FromStr;
 

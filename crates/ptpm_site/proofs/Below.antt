@@ -6,7 +6,7 @@ use Rattle.std.proofs.lemmas.List.Elements.{All-append, All-nil, All-push}
 use Rattle.std.proofs.Math.Seq.{take-append_seam}
 use Rattle.std.specs.List.{All}
 use Rattle.std.specs.List.Sorted.{IsNonDecreasingBy}
-use Rattle.ptpm_site.specs.declared.forest.Forest.{Forest}
+use Rattle.ptpm_site.specs.declared.tree.forest.Forest.{Forest}
 use Rattle.ptpm_site.specs.declared.tree.TreeRow.{TreeRow}
 use Rattle.ptpm_site.specs.declared.tree.TreeRow.TheVariants as row
 use Rattle.ptpm_site.specs.Growing.{AreWaiting, IsFollowedIn, MayStand, StaysAbove, WaitBelow}

@@ -9,7 +9,7 @@ use Rattle.ptpm_codec.specs.declared.identity.PortIdentity.{PortIdentity}
 use Rattle.ptpm_site.specs.declared.tree.TreeRow.{TreeRow}
 use Rattle.ptpm_site.specs.declared.tree.TreeRow.TheVariants as row
 use Rattle.ptpm_site.specs.Tree.{IsGrown, place_of, places_of, rows_at}
-use Rattle.ptpm_site.specs.declared.domain.Domain.{Domain}
+use Rattle.ptpm_site.specs.declared.reading.domain.Domain.{Domain}
 
 -- no mark past the last is as good as one that says no
 pub get_or-more_false : (xs : List Bool) (p : ℕ) → get_or (xs ++ false ∷ []) p false ≡ get_or xs p false

@@ -7,8 +7,8 @@ use Rattle.std.specs.declared.cmp.Ordering.TheVariants.{Less, Equal, Greater}
 use Rattle.std.specs.List.Sorted.{IsNonDecreasingBy, IsSorted}
 use Rattle.std.specs.Ordering.{is_lt, nat_cmp, ordering_then}
 use Rattle.ptpm_codec.specs.Identity.{identity_cmp}
-use Rattle.ptpm_site.specs.declared.forest.Follower.{Follower}
-use Rattle.ptpm_site.specs.declared.forest.Lost.{Lost}
+use Rattle.ptpm_site.specs.declared.tree.forest.Follower.{Follower}
+use Rattle.ptpm_site.specs.declared.tree.forest.Lost.{Lost}
 use Rattle.ptpm_site.specs.Forest.{AreByDomain}
 
 first_not_less : (a b : ℕ) (rest : Ordering) → is_lt (ordering_then (nat_cmp a b) rest) ≡ false → b ≤ a

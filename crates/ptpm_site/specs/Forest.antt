@@ -2,8 +2,8 @@
 use Rattle.std.specs.Prelude.{◌≡◌, ℕ, List, Option, Some, None, slice_index_or}
 use Rattle.std.specs.List.{All, Contains}
 use Rattle.std.specs.List.Sorted.{IsNonDecreasingBy}
-use Rattle.ptpm_site.specs.declared.forest.Follower.{Follower}
-use Rattle.ptpm_site.specs.declared.forest.Lost.{Lost}
+use Rattle.ptpm_site.specs.declared.tree.forest.Follower.{Follower}
+use Rattle.ptpm_site.specs.declared.tree.forest.Lost.{Lost}
 use Rattle.ptpm_site.specs.declared.tree.TreeRow.{TreeRow}
 use Rattle.ptpm_site.specs.declared.tree.TreeRow.TheVariants as row
 

@@ -1,31 +1,65 @@
 //! What is wrong with the clocks of a site. Findings are in order of the domain, the clock, the table of
 //! findings, and the port.
 
-use crate::evidence::Evidence;
-use crate::finding::{Added, Finding, What, add_finding};
-use crate::forest::place_among;
-use crate::frozen::frozen_offset;
-use crate::grandmaster_changes::{GrandmasterChange, grandmaster_changes};
-use crate::judging_amounts::{judge_amounts, judge_lead_off, judge_utc};
-use crate::judging_answers::{judge_answers, judge_changes};
-use crate::judging_grandmasters::{judge_grandmaster, judge_parent};
-use crate::judging_leading::judge_leader;
-use crate::judging_loops::judge_loop;
-use crate::judging_ports::{judge_intervals, judge_locks, judge_mechanisms, judge_ports};
-use crate::leaders::{
+pub(crate) mod amount_findings;
+pub mod amounts;
+pub mod announcing;
+pub(crate) mod answer_findings;
+pub mod calendar;
+pub(crate) mod comparing;
+pub mod completeness;
+pub mod differences;
+pub mod evidence;
+pub mod expected;
+pub mod finding;
+pub(crate) mod following;
+pub mod frozen;
+pub(crate) mod grandmaster_findings;
+pub mod grandmasters;
+pub mod lacks;
+pub(crate) mod leader_findings;
+pub mod leaders;
+pub mod leading;
+pub mod limits;
+pub(crate) mod loop_findings;
+pub mod open_findings;
+pub mod parents;
+pub(crate) mod port_findings;
+pub mod port_groups;
+pub mod reach;
+pub(crate) mod subjects;
+pub mod tai_and_utc;
+pub mod twice;
+pub mod two_addresses;
+pub mod two_offsets;
+pub(crate) mod unasked;
+pub mod unseen;
+
+use crate::judging::amount_findings::{judge_amounts, judge_lead_off, judge_utc};
+use crate::judging::answer_findings::{judge_answers, judge_changes};
+use crate::judging::evidence::Evidence;
+use crate::judging::finding::{Added, Finding, What, add_finding};
+use crate::judging::frozen::frozen_offset;
+use crate::judging::grandmaster_findings::{judge_grandmaster, judge_parent};
+use crate::judging::leader_findings::judge_leader;
+use crate::judging::leaders::{
     Leader, Witness, all_witnesses, count_in, is_present, leader_of, present_leaders,
 };
-use crate::leading::{all_standing_by, today};
-use crate::limits::Limits;
-use crate::marks::is_marked;
-use crate::reach::Reach;
-use crate::site::Site;
-use crate::source::Source;
-use crate::subjects::subjects_of;
-use crate::tai_and_utc::{Slave, all_slaves};
-use crate::two_addresses::{Twins, all_twins};
-use crate::unseen::unseen;
-use crate::untaken::not_taken;
+use crate::judging::leading::{all_standing_by, today};
+use crate::judging::limits::Limits;
+use crate::judging::loop_findings::judge_loop;
+use crate::judging::port_findings::{judge_intervals, judge_locks, judge_mechanisms, judge_ports};
+use crate::judging::reach::Reach;
+use crate::judging::subjects::subjects_of;
+use crate::judging::tai_and_utc::{Slave, all_slaves};
+use crate::judging::two_addresses::{Twins, all_twins};
+use crate::judging::unseen::unseen;
+use crate::looks::grandmaster_changes::{GrandmasterChange, grandmaster_changes};
+use crate::reading::site::Site;
+use crate::reading::source::Source;
+use crate::reading::untaken::not_taken;
+use crate::tree::forest::place_among;
+use crate::tree::marks::is_marked;
 use std::alloc::{AllocError, Global};
 
 /// All findings. Each loop is reported at its least clock, which is marked in `least`.

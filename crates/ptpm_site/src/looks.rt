@@ -1,9 +1,17 @@
 //! Requests to all clocks.
 
-use crate::answer::Request;
-use crate::asked::Asked;
-use crate::domain::Domain;
-use crate::heard::{Heard, Query};
+pub mod changes;
+pub mod counted;
+pub mod gone;
+pub mod grandmaster_changes;
+pub mod stay;
+pub mod stay_limits;
+pub mod staying;
+
+use crate::reading::answer::Request;
+use crate::reading::asked::Asked;
+use crate::reading::domain::Domain;
+use crate::reading::heard::{Heard, Query};
 use ptpm_codec::PortIdentity;
 use std::alloc::{AllocError, Global};
 use std::collections::{BTreeMap, BTreeSet};

@@ -4,17 +4,17 @@ ghost use Rattle.std.specs.Prelude.{IfOk, vec_len};
 ghost use Rattle.ptpm_site.specs.Growing.{AreTrue};
 ghost use Rattle.ptpm_site.specs.Tree.{StandsOnce};
 
-use crate::finding::Finding;
-use crate::forest::Forest;
+use crate::judging::finding::Finding;
 use crate::judging::findings_of;
-use crate::judging_open::open_of;
-use crate::lacks::{Lack, lacks_of};
-use crate::leaders::{Leader, leaders_of};
-use crate::left_out::LeftOut;
-use crate::limits::Limits;
-use crate::loops::least_of_loops;
-use crate::origin::{JudgedTime, judged_times};
-use crate::site::Site;
+use crate::judging::lacks::{Lack, lacks_of};
+use crate::judging::leaders::{Leader, leaders_of};
+use crate::judging::limits::Limits;
+use crate::judging::open_findings::open_of;
+use crate::reading::left_out::LeftOut;
+use crate::reading::origin::{JudgedTime, judged_times};
+use crate::reading::site::Site;
+use crate::tree::forest::Forest;
+use crate::tree::loops::least_of_loops;
 use crate::tree::{TreeRow, rows};
 use std::alloc::{AllocError, Global};
 

@@ -1,14 +1,20 @@
 //! The tree of a site: each clock below the one that it follows.
 
+pub mod builder;
+pub mod forest;
+pub mod loops;
+pub(crate) mod marks;
+pub(crate) mod walks;
+
 ghost use Rattle.std.specs.Prelude.{IfOk, OnOk, vec_len};
 ghost use Rattle.ptpm_site.specs.Growing.{AreTrue};
 ghost use Rattle.ptpm_site.specs.Tree.{StandsOnce};
 
-use crate::domain::Domain;
-use crate::forest::Forest;
-use crate::marks::is_marked;
-use crate::site::Site;
-use crate::tree_builder::TreeBuilder;
+use crate::reading::domain::Domain;
+use crate::reading::site::Site;
+use crate::tree::builder::TreeBuilder;
+use crate::tree::forest::Forest;
+use crate::tree::marks::is_marked;
 use ptpm_codec::PortIdentity;
 use std::alloc::{AllocError, Global};
 

@@ -2,11 +2,11 @@
 use Rattle.std.proofs.Common.{◌≡◌, ◌<◌, ◌∙◌, ℕ, zero, suc, true, false, ◌||◌, ◌&&◌, if◌then◌else◌, List, [], ◌∷◌, Option, Some, None, length, map, refl, sym, ap, subst, arith}
 use Rattle.std.proofs.lemmas.List.{length-map}
 use Rattle.std.specs.List.{list_any}
-use Rattle.ptpm_site.specs.declared.finding.Finding.{Finding}
-use Rattle.ptpm_site.specs.declared.source.Source.{Source}
+use Rattle.ptpm_site.specs.declared.judging.finding.Finding.{Finding}
+use Rattle.ptpm_site.specs.declared.reading.source.Source.{Source}
 use Rattle.ptpm_causes.specs.declared.cause.Cause.{Cause}
 use Rattle.ptpm_causes.specs.declared.kind.Severity.TheVariants as severities
-use Rattle.ptpm_site_report.specs.declared.remarks.Remark.{Remark}
+use Rattle.ptpm_site_report.specs.declared.finding.remarks.Remark.{Remark}
 use Rattle.ptpm_site_report.specs.declared.reporting.Conclusion.TheVariants as outcomes
 use Rattle.ptpm_site_report.specs.Reporting.{concluded, counts, is_critical, outcome, standing, standing_by}
 use Rattle.ptpm_causes.specs.Roots.{IsRoot}

@@ -9,12 +9,12 @@ use Rattle.ptpm_causes.specs.declared.kind.Kind.TheVariants as kinds
 use Rattle.ptpm_causes.specs.declared.kind.Severity.{Severity}
 use Rattle.ptpm_causes.specs.declared.kind.Severity.TheVariants as severities
 use Rattle.ptpm_causes.specs.Kinds.{kind_of}
-use Rattle.ptpm_site.specs.declared.finding.Finding.{Finding}
-use Rattle.ptpm_site.specs.declared.source.Source.{Source}
+use Rattle.ptpm_site.specs.declared.judging.finding.Finding.{Finding}
+use Rattle.ptpm_site.specs.declared.reading.source.Source.{Source}
 use Rattle.ptpm_site_report.specs.declared.ignored.Ignored.{Ignored}
-use Rattle.ptpm_site_report.specs.declared.nagios.Standing.{Standing}
-use Rattle.ptpm_site_report.specs.declared.nagios.Standing.TheVariants as standings
-use Rattle.ptpm_site_report.specs.declared.remarks.Remark.{Remark}
+use Rattle.ptpm_site_report.specs.declared.monitoring.nagios.Standing.{Standing}
+use Rattle.ptpm_site_report.specs.declared.monitoring.nagios.Standing.TheVariants as standings
+use Rattle.ptpm_site_report.specs.declared.finding.remarks.Remark.{Remark}
 use Rattle.ptpm_site_report.specs.declared.reporting.Came.{Came}
 use Rattle.ptpm_site_report.specs.declared.reporting.Conclusion.{Conclusion}
 use Rattle.ptpm_site_report.specs.declared.reporting.Conclusion.TheVariants as outcomes

@@ -4,7 +4,7 @@ ghost use Rattle.std.specs.Prelude.{◌≡◌};
 ghost use Rattle.ptpm_site_report.specs.Reporting.{is_ignored, wanted};
 
 use ptpm_causes::{Kind, named};
-use ptpm_site::finding::Finding;
+use ptpm_site::judging::finding::Finding;
 use std::alloc::{AllocError, Global};
 
 /// The names of findings that are left out.

@@ -1,13 +1,16 @@
 //! A site as one JSON object, by the standard's names.
 
-use crate::asked_domains::AskedDomain;
-use crate::finding_json::finding_value;
-use crate::grandmaster_line::judged_time;
+pub(crate) mod finding;
+pub(crate) mod members;
+
+use crate::finding::remarks::Remark;
+use crate::json::finding::finding_value;
+use crate::json::members::Members;
 use crate::look::Look;
-use crate::members::Members;
 use crate::names::Names;
-use crate::remarks::Remark;
-use crate::span::Span;
+use crate::reading::asked_domains::AskedDomain;
+use crate::reading::span::Span;
+use crate::text::grandmaster_line::judged_time;
 use crate::trees::leaders_in;
 use crate::utc_text::UtcText;
 use ptpm_causes::not_judged;
@@ -19,15 +22,15 @@ use ptpm_data::Member::{
 };
 use ptpm_members::Member::DataSet;
 use ptpm_members::{Enumeration, MemberValue};
-use ptpm_site::asked::{Asked, OF_CLOCK};
-use ptpm_site::clock::{Clock, Received};
-use ptpm_site::data_sets::TimePropertiesDataSet;
-use ptpm_site::domain::Domain;
-use ptpm_site::lacks::Lack;
-use ptpm_site::leaders::{HeardBy, Leader};
-use ptpm_site::member::{members_of, value_of};
-use ptpm_site::origin::{JudgedTime, TimeVerdict};
-use ptpm_site::source::Source;
+use ptpm_site::judging::lacks::Lack;
+use ptpm_site::judging::leaders::{HeardBy, Leader};
+use ptpm_site::reading::asked::{Asked, OF_CLOCK};
+use ptpm_site::reading::clock::{Clock, Received};
+use ptpm_site::reading::data_sets::TimePropertiesDataSet;
+use ptpm_site::reading::domain::Domain;
+use ptpm_site::reading::member::{members_of, value_of};
+use ptpm_site::reading::origin::{JudgedTime, TimeVerdict};
+use ptpm_site::reading::source::Source;
 use serde_json::Value;
 use std::alloc::{AllocError, Global};
 use std::io::Write;

@@ -2,48 +2,24 @@
 //! forms are text, JSON, a picture, a page, numbers for monitoring systems, and the line of a plugin.
 #![tactic(auto)]
 
-mod asked_domains;
-mod before;
-mod columns;
-mod drawing;
-mod finding_json;
-mod finding_lines;
-mod finding_report;
-mod finding_table;
-mod finding_text;
-mod finding_values;
-mod followers;
-mod grandmaster_line;
+mod finding;
 pub mod ignored;
 mod intervals;
-mod inventory_text;
 mod json;
-mod label;
-mod line_words;
-mod lines;
 mod look;
-mod members;
-mod metric_families;
-mod nagios;
+mod monitoring;
 pub mod names;
 mod not_judged;
-mod openmetrics;
 mod page;
-mod page_style;
-mod phrases;
-mod ports_text;
 mod printable;
-mod remarks;
+mod reading;
 mod reporting;
-mod seconds;
-mod site_lines;
-mod span;
 mod text;
 mod trees;
 mod utc_text;
 
-pub use before::Before;
-pub use finding_table::findings;
-pub use inventory_text::write_inventory;
-pub use nagios::Standing;
+pub use finding::table::findings;
+pub use monitoring::nagios::Standing;
+pub use reading::before::Before;
 pub use reporting::{Came, Conclusion, Form, Options, Viewing, report};
+pub use text::inventory::write_inventory;

@@ -4,15 +4,15 @@ ghost use Rattle.std.specs.Prelude.{◌≡◌, ℕ, ◌<◌, IfOk, length, map};
 ghost use Rattle.ptpm_causes.specs.Roots.{IsRoot};
 ghost use Rattle.ptpm_site_report.specs.Reporting.{worst};
 
-use crate::asked_domains::AskedText;
+use crate::finding::phrases::clock_of;
+use crate::finding::remarks::{Remark, any_counts, any_critical, open_of, remarks_of};
 use crate::names::{Names, Quoted};
-use crate::phrases::clock_of;
-use crate::remarks::{Remark, any_counts, any_critical, open_of, remarks_of};
-use crate::site_lines::LinesSaid;
+use crate::reading::asked_domains::AskedText;
+use crate::reading::site_lines::LinesSaid;
 use ptpm_causes::{Severity, causes_of};
-use ptpm_site::finding::Finding;
+use ptpm_site::judging::finding::Finding;
 use ptpm_site::picture::Picture;
-use ptpm_site::source::Source;
+use ptpm_site::reading::source::Source;
 use std::alloc::{AllocError, Global};
 
 /// A picture, what is said of it, and what is said beside it.

@@ -1,7 +1,7 @@
 //! What can't be judged, since the lines of a site lack something.
 
 use ptpm_causes::{Kind, not_judged};
-use ptpm_site::lacks::Lack;
+use ptpm_site::judging::lacks::Lack;
 use ptpm_site::picture::Picture;
 use std::fmt;
 

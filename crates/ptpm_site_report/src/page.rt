@@ -1,17 +1,21 @@
 //! A site as a page in HTML that needs nothing else: its tree as a table, and below each clock what is wrong with it.
 
-use crate::finding_text::FindingText;
-use crate::grandmaster_line::GrandmasterLine;
+pub(crate) mod drawing;
+pub(crate) mod lines;
+pub(crate) mod style;
+
+use crate::finding::phrases::clock_of;
+use crate::finding::remarks::{Remark, Weight, remarks_at};
+use crate::finding::text::FindingText;
 use crate::look::Look;
 use crate::not_judged::{NotJudged, limit_of};
-use crate::page_style::STYLE;
-use crate::phrases::clock_of;
-use crate::ports_text::PortsText;
+use crate::page::style::STYLE;
 use crate::printable::Printable;
-use crate::remarks::{Remark, Weight, remarks_at};
+use crate::text::grandmaster_line::GrandmasterLine;
+use crate::text::ports::PortsText;
 use crate::trees::{ClockRow, Clocks, Row, Tree, notes_of, trees_of};
 use ptpm_commands::Fault;
-use ptpm_site::source::Source;
+use ptpm_site::reading::source::Source;
 use ptpm_text::Escaped;
 use std::alloc::{AllocError, Global};
 use std::io::Write;

@@ -2,26 +2,26 @@
 
 ghost use Rattle.std.specs.Prelude.{◌≡◌, ℕ, ◌<◌, IfOk, List, OnOk, length, map};
 ghost use Rattle.ptpm_causes.specs.Roots.{IsRoot};
-ghost use Rattle.ptpm_site.specs.declared.finding.Finding.{Finding};
+ghost use Rattle.ptpm_site.specs.declared.judging.finding.Finding.{Finding};
 ghost use Rattle.ptpm_site.specs.declared.picture.Picture.{Picture};
-ghost use Rattle.ptpm_site.specs.declared.site.Site.{Site};
+ghost use Rattle.ptpm_site.specs.declared.reading.site.Site.{Site};
 ghost use Rattle.ptpm_site_report.specs.Reporting.{AreConcluded, IsShown, outcome, status};
 
-use crate::before::Before;
-use crate::drawing::draw;
 use crate::ignored::Ignored;
 use crate::json::print_object;
 use crate::look::{Beside, Look};
-use crate::nagios::{Standing, print_plugin};
+use crate::monitoring::nagios::{Standing, print_plugin};
+use crate::monitoring::openmetrics::print_metrics;
 use crate::names::Names;
-use crate::openmetrics::print_metrics;
+use crate::page::drawing::draw;
 use crate::page::print_page;
-use crate::site_lines::{LinesSaid, SiteLines, read_shown};
+use crate::reading::before::Before;
+use crate::reading::site_lines::{LinesSaid, SiteLines, read_shown};
 use crate::text::print_text;
 use ptpm_commands::Fault;
 use ptpm_expected::expectations::Judge;
-use ptpm_site::finding::Finding;
-use ptpm_site::limits::Limits;
+use ptpm_site::judging::finding::Finding;
+use ptpm_site::judging::limits::Limits;
 use ptpm_site::picture::Picture;
 use std::alloc::{AllocError, Global};
 use std::io::{Read, Write};

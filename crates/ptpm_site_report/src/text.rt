@@ -1,11 +1,16 @@
 //! A site as text: for each domain its tree, a line a clock, and then the findings, one a line.
 
-use crate::columns::Widths;
-use crate::finding_report::FindingReport;
-use crate::grandmaster_line::GrandmasterLine;
+pub(crate) mod columns;
+pub(crate) mod grandmaster_line;
+pub(crate) mod inventory;
+pub(crate) mod ports;
+
+use crate::finding::report::FindingReport;
 use crate::look::Look;
 use crate::not_judged::NotJudged;
-use crate::ports_text::PortsText;
+use crate::text::columns::Widths;
+use crate::text::grandmaster_line::GrandmasterLine;
+use crate::text::ports::PortsText;
 use crate::trees::{ClockRow, Row, Tree, notes_of, trees_of};
 use ptpm_commands::Fault;
 use std::alloc::Global;

@@ -2,15 +2,15 @@
 
 ghost use Rattle.std.specs.Prelude.{◌≤◌, length};
 
-use crate::columns::Columns;
 use crate::look::Look;
+use crate::text::columns::Columns;
 use ptpm_codec::PortIdentity;
-use ptpm_site::clock::Clock;
-use ptpm_site::domain::Domain;
-use ptpm_site::leaders::Leader;
-use ptpm_site::left_out::{CLOCKS, PORTS};
+use ptpm_site::judging::leaders::Leader;
 use ptpm_site::picture::Picture;
-use ptpm_site::source::Source;
+use ptpm_site::reading::clock::Clock;
+use ptpm_site::reading::domain::Domain;
+use ptpm_site::reading::left_out::{CLOCKS, PORTS};
+use ptpm_site::reading::source::Source;
 use ptpm_site::tree::TreeRow;
 use std::alloc::{AllocError, Global};
 use std::fmt;

@@ -1,6 +1,6 @@
 //! Times in UTC, as ISO 8601 writes them.
 
-use ptpm_site::calendar::Date;
+use ptpm_site::judging::calendar::Date;
 use std::fmt;
 
 /// Nanoseconds in a second, and in a millisecond.

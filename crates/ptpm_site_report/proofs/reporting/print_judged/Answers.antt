@@ -1,7 +1,7 @@
 -- What is left out leaves the clocks.
 use Rattle.std.proofs.Common.{subst}
 use Rattle.ptpm_site_report.specs.Reporting.{AreConcluded}
-use Rattle.ptpm_site.specs.declared.forest.Forest.{Forest}
+use Rattle.ptpm_site.specs.declared.tree.forest.Forest.{Forest}
 use Rattle.ptpm_site_report.proofs.reporting.print_judged.Goals as goal
 
 pub returns : goal.returns
