@@ -18636,12 +18636,12 @@
 	mov	x29, sp
 	stp	x22, x21, [sp, #32]
 	stp	x20, x19, [sp, #48]
-	b.lo	.LBB80_5
+	b.lo	.LBB80_10
 	ldr	w8, [x1]
 	mov	w9, #29808
 	movk	w9, #28016, lsl #16
 	cmp	w8, w9
-	b.ne	.LBB80_5
+	b.ne	.LBB80_10
 	adrp	x8, .Lstatic.332
 	add	x8, x8, :lo12:.Lstatic.332
 	mov	x21, x0
@@ -18653,41 +18653,20 @@
 	bl	"core::cmp::slices::groups_equal::<i8,31'core::cmp::numbers::U8PartialEq{}>"
 	mov	w8, w0
 	mov	x0, x21
-	tbz	w8, #0, .LBB80_5
+	tbz	w8, #0, .LBB80_10
 	ldr	w8, [x22, #8]
-	mov	x10, x19
 	mov	x9, x22
 	rev	w23, w8
-	add	x19, x23, #12
-	cmp	x10, x19
-	b.ne	.LBB80_7
-	strh	wzr, [x0]
-	stp	x10, xzr, [x0, #8]
-	ldp	x20, x19, [sp, #48]
-	ldr	x23, [sp, #16]
-	ldp	x22, x21, [sp, #32]
-	ldp	x29, x30, [sp], #64
-	ret
-.LBB80_5:
-	mov	w8, #1
-.LBB80_6:
-	strh	w8, [x0]
-	stp	xzr, xzr, [x0, #8]
-	ldp	x20, x19, [sp, #48]
-	ldr	x23, [sp, #16]
-	ldp	x22, x21, [sp, #32]
-	ldp	x29, x30, [sp], #64
-	ret
-.LBB80_7:
 	add	x8, x23, #28
-	cmp	x8, x10
-	b.hi	.LBB80_13
-	add	x20, x9, x19
+	cmp	x8, x19
+	b.hi	.LBB80_9
+	add	x19, x23, #12
 	mov	w10, #29808
-	ldr	w8, [x20]
+	add	x20, x9, x19
 	movk	w10, #29552, lsl #16
+	ldr	w8, [x20]
 	cmp	w8, w10
-	b.ne	.LBB80_13
+	b.ne	.LBB80_9
 	adrp	x2, .Lstatic.331
 	add	x2, x2, :lo12:.Lstatic.331
 	add	x0, x9, x19
@@ -18695,14 +18674,14 @@
 	bl	"core::cmp::slices::groups_equal::<i8,31'core::cmp::numbers::U8PartialEq{}>"
 	mov	w8, w0
 	mov	x0, x21
-	cbz	w8, .LBB80_13
+	cbz	w8, .LBB80_9
 	add	x8, x23, #24
 	mov	w11, #33568
 	mov	x9, x22
 	ldr	w10, [x22, x8]
 	movk	w11, #60856, lsl #16
 	mov	w12, #-1
-.LBB80_11:
+.LBB80_7:
 	ldrb	w13, [x9], #1
 	eor	w12, w12, w13
 	lsr	w13, w12, #1
@@ -18738,15 +18717,25 @@
 	eor	w14, w13, w11
 	csel	w12, w13, w14, eq
 	subs	x8, x8, #1
-	b.ne	.LBB80_11
+	b.ne	.LBB80_7
 	rev	w8, w10
 	eor	w8, w12, w8
 	cmn	w8, #1
-	b.eq	.LBB80_14
-.LBB80_13:
+	b.eq	.LBB80_12
+.LBB80_9:
 	mov	w8, #257
-	b	.LBB80_6
-.LBB80_14:
+	b	.LBB80_11
+.LBB80_10:
+	mov	w8, #1
+.LBB80_11:
+	strh	w8, [x0]
+	stp	xzr, xzr, [x0, #8]
+	ldp	x20, x19, [sp, #48]
+	ldr	x23, [sp, #16]
+	ldp	x22, x21, [sp, #32]
+	ldp	x29, x30, [sp], #64
+	ret
+.LBB80_12:
 	ldur	x8, [x20, #4]
 	strh	wzr, [x0]
 	rev	x8, x8

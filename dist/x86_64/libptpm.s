@@ -20257,34 +20257,14 @@
 	movq	%r13, %rdi
 	testb	%al, %al
 	je	.LBB78_3
-	movq	%r14, %rcx
 	movl	8(%rbx), %r12d
 	bswapl	%r12d
-	leaq	12(%r12), %r15
-	cmpq	%r15, %r14
-	jne	.LBB78_7
-	movw	$0, (%rdi)
-	movq	%rcx, 8(%rdi)
-	movq	$0, 16(%rdi)
-	jmp	.LBB78_15
-.LBB78_3:
-	movw	$1, (%rdi)
-.LBB78_4:
-	xorps	%xmm0, %xmm0
-	movups	%xmm0, 8(%rdi)
-.LBB78_15:
-	popq	%rbx
-	popq	%r12
-	popq	%r13
-	popq	%r14
-	popq	%r15
-	retq
-.LBB78_7:
 	leaq	28(%r12), %rax
-	cmpq	%rcx, %rax
-	ja	.LBB78_13
+	cmpq	%r14, %rax
+	ja	.LBB78_12
+	leaq	12(%r12), %r15
 	cmpl	$1936749680, (%rbx,%r15)
-	jne	.LBB78_13
+	jne	.LBB78_12
 	leaq	(%rbx,%r15), %r14
 	leaq	.Lstatic.331(%rip), %rdx
 	movl	$4, %esi
@@ -20292,13 +20272,13 @@
 	callq	"core::cmp::slices::groups_equal::<i8,31'core::cmp::numbers::U8PartialEq{}>"
 	movq	%r13, %rdi
 	testb	%al, %al
-	je	.LBB78_13
+	je	.LBB78_12
 	movl	24(%rbx,%r12), %eax
 	addq	$24, %r12
 	movl	$-1, %edx
 	xorl	%ecx, %ecx
 	.p2align	4
-.LBB78_11:
+.LBB78_10:
 	movzbl	(%rbx,%rcx), %esi
 	xorl	%edx, %esi
 	movl	%esi, %edx
@@ -20351,21 +20331,33 @@
 	cmovel	%r8d, %edx
 	incq	%rcx
 	cmpq	%rcx, %r12
-	jne	.LBB78_11
+	jne	.LBB78_10
 	bswapl	%eax
 	xorl	%eax, %edx
 	cmpl	$-1, %edx
-	je	.LBB78_14
-.LBB78_13:
+	je	.LBB78_13
+.LBB78_12:
 	movw	$257, (%rdi)
 	jmp	.LBB78_4
-.LBB78_14:
+.LBB78_3:
+	movw	$1, (%rdi)
+.LBB78_4:
+	xorps	%xmm0, %xmm0
+	movups	%xmm0, 8(%rdi)
+.LBB78_5:
+	popq	%rbx
+	popq	%r12
+	popq	%r13
+	popq	%r14
+	popq	%r15
+	retq
+.LBB78_13:
 	movq	4(%r14), %rax
 	bswapq	%rax
 	movw	$0, (%rdi)
 	movq	%r15, 8(%rdi)
 	movq	%rax, 16(%rdi)
-	jmp	.LBB78_15
+	jmp	.LBB78_5
 .Lfunc_end78:
 	.size	"ptpm_seal::sealing::unseal", .Lfunc_end78-"ptpm_seal::sealing::unseal"
 
