@@ -202,6 +202,22 @@ SMALL int wide_is(struct wide x, struct wide y) { return x.high == y.high && x.l
 
 SMALL int wide_is_less(struct wide x, struct wide y) { return x.high != y.high ? x.high < y.high : x.low < y.low; }
 
+/* Bit by bit, the highest first. */
+SMALL struct wide wide_divide(struct wide x, struct wide y) {
+    struct wide one = wide_of(0, 1), quotient = wide_of(0, 0), rest = wide_of(0, 0);
+    u64 bit;
+    for (bit = 128; bit > 0; bit--) {
+        rest = wide_or(wide_left(rest, one), wide_and(wide_right(x, wide_of(0, bit - 1)), one));
+        quotient = wide_left(quotient, one);
+        if (wide_is_less(rest, y)) continue;
+        rest = wide_subtract(rest, y);
+        quotient.low |= 1;
+    }
+    return quotient;
+}
+
+SMALL struct wide wide_rest(struct wide x, struct wide y) { return wide_subtract(x, wide_multiply(wide_divide(x, y), y)); }
+
 /* Of numbers in two's complement: their order is that of the numbers with the other highest bit. */
 SMALL int wide_is_below(struct wide x, struct wide y) {
     u64 top = (u64)1 << 63;

@@ -5,8 +5,8 @@ from .instructions import cut, signed
 from .llvm import not_known, number_of, parts_of, take_type, without_flags
 
 KIND = 'i128'
-FUNCTIONS = {'add': 'wide_add', 'sub': 'wide_subtract', 'mul': 'wide_multiply', 'and': 'wide_and', 'or': 'wide_or', 'xor': 'wide_xor',
-             'shl': 'wide_left', 'lshr': 'wide_right'}
+FUNCTIONS = {'add': 'wide_add', 'sub': 'wide_subtract', 'mul': 'wide_multiply', 'udiv': 'wide_divide', 'urem': 'wide_rest', 'and': 'wide_and',
+             'or': 'wide_or', 'xor': 'wide_xor', 'shl': 'wide_left', 'lshr': 'wide_right'}
 COMPARISONS = {'eq': 'wide_is({0}, {1})', 'ne': '!wide_is({0}, {1})', 'ult': 'wide_is_less({0}, {1})', 'ugt': 'wide_is_less({1}, {0})',
                'ule': '!wide_is_less({1}, {0})', 'uge': '!wide_is_less({0}, {1})',
                'slt': 'wide_is_below({0}, {1})', 'sgt': 'wide_is_below({1}, {0})',
@@ -56,6 +56,8 @@ def call(it, operation, more):
         return it.result(f'wide_is_less({x}, {y}) ? {x if operation == "umin" else y} : {y if operation == "umin" else x}')
     if operation == 'usub' and more[0] == 'sat':
         return it.result(f'wide_is_less({y}, {x}) ? wide_subtract({x}, {y}) : wide_of(0, 0)')
+    if operation == 'abs':
+        return it.result(f'wide_is_below({x}, wide_of(0, 0)) ? wide_subtract(wide_of(0, 0), {x}) : {x}')
     return not_known('a call of 128 bits', operation)
 
 
