@@ -5,7 +5,7 @@ connect
 printf 'LOG_SYNC_INTERVAL -4..1\nPRIORITY1 0..127\n' > "$work/limits"
 printf '#!/bin/sh\n[ "$5" != PRIORITY2 ] || exit 6\n' > "$work/program"
 chmod +x "$work/program"
-device="--limits $work/limits --ask $work/program -m 000000fffe000010/1 $identity far0"
+device="--limits $work/limits --ask $work/program -m 000000fffe000010/1 -m 020000fffe000010/1 $identity far0"
 # Whether pmc is answered so to a SET. It waits for a moment, in which a program may not start on a busy machine, and its next run does
 # not send the same again. So each has a clock of its own.
 is_answered() {
