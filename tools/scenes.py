@@ -41,6 +41,7 @@ SITE = [("receiver", ["eth0"], "020000.fffe.000010", "time server", 100),
         ("left", ["eth0"], "020000.fffe.000031", "camera 7", 128), ("right", ["eth0"], "020000.fffe.000032", "camera 8", 128)]
 NEIGHBOUR = [("neighbour", ["eth0"], "020000.fffe.000020", "", 128)]
 
+LAB = "docs/tutorial.md"    # whose network is that of examples/lab
 AT_REST = 69            # octets of a session's file without a request, its seal among them
 # The clocks that a page does not begin itself: at the device, with the manager.
 AGENT = "ptpm-clock -m 020000fffe000010/1"
@@ -137,10 +138,13 @@ class Scene:
 
     def show(self, page, is_site):
         """The network for a command of a page: the site of four clocks, or the neighbour and the page's agents."""
-        if self.clocks == (page, is_site):
+        if self.clocks == (page, is_site) or (self.clocks and page == LAB):
             return
         self.end()
         self.clocks, self.place = (page, is_site), "visitor" if is_site else "manager"
+        if page == LAB:
+            self.place = "lab-manager"
+            return
         for host, interfaces, identity, name, priority in SITE if is_site else NEIGHBOUR:
             socket = f"/run/ptp4l.{host}" if is_site else "/run/ptp4l"
             with open(f"/run/{host}.conf", "w", encoding="utf-8") as file:
@@ -161,7 +165,8 @@ class Scene:
             printed = self.run("ptpm-manage -i eth0 status --once").stdout
 
     def run(self, text):
-        return shell(text, host=self.place, cwd=self.home, env=self.environment, stdin=subprocess.DEVNULL, timeout=300)
+        """What a command prints. The lab makes namespaces, which it can't inside another one."""
+        return shell(text, host=None if "examples/lab" in text else self.place, cwd=self.home, env=self.environment, stdin=subprocess.DEVNULL, timeout=300)
 
     def latest_apply(self):
         """Its name."""
