@@ -138,9 +138,9 @@ def strangers_that_never_end():
 
 
 class Strangers:
-    """One host that answers as 2,100 new clocks in each look of a watch, beside a clock that is there. That one ends before the sixth look, and
+    """One host that answers as 2,100 new clocks in each look of a watch, before a clock that is there. That one ends before the sixth look, and
     the attack after the tenth. `seen` has what was written before each look, and `most` the memory that the watch took, in KiB."""
-    REAL, NEW, ENDS, LAST = identity(0xFFFFFFFFFF), 2100, 6, 10
+    REAL, NEW, FIRST, ENDS, LAST = identity(0xFFFFFFFFFF), 2100, 1, 6, 10
 
     def __init__(self, *words):
         self.latest, self.looks, self.seen, self.most = None, 0, [], 0
@@ -152,9 +152,9 @@ class Strangers:
         to_all = request[34:42] == bytes([255]) * 8
         if to_all and (self.looks == 0 or self.written_last() != self.latest):
             self.next_look()
-        clocks = [self.REAL] if self.looks < self.ENDS else []
-        if to_all and self.looks <= self.LAST:
-            clocks += [identity(self.looks << 16 | place) for place in range(self.NEW)]
+        is_attack = to_all and self.FIRST <= self.looks <= self.LAST
+        clocks = [identity(self.looks << 16 | place) for place in range(self.NEW)] if is_attack else []
+        clocks += [self.REAL] if self.looks < self.ENDS else []
         of_real = answer(request, self.REAL)
         return (of_real.replace(self.REAL, clock) for clock in clocks if to_all or request[34:42] == clock)
 
@@ -183,6 +183,19 @@ def strangers_in_a_watch():
     check("it takes less than 40 MB", shown.most < 40000 or is_sanitized(MANAGE))
     words = [text.partition(" - ")[0] for text in Strangers("--nagios", "--ignore", "two_grandmasters,gm_free_running").seen[1:]]
     check(f"a plugin is never OK again: {words}", "PTP OK" not in words[6:])
+
+
+class Crowd(Strangers):
+    """5,000 a look, where 4,096 have room, from the third to the fifth. The clock that is there stays."""
+    NEW, FIRST, ENDS, LAST = 5000, 3, 99, 5
+
+
+def crowds_before_a_known_clock():
+    """A clock that answered in two looks has a place in the next one, though a crowd answers before it."""
+    crowd = Crowd("--json")
+    named = [f'"clockIdentity":"{Crowd.REAL.hex()}"}}' in text for text in crowd.seen]
+    check(f"each look has the clock that is there: {named}", len(named) > 6 and all(named[1:]))
+    check("what had no place is counted", all('"answers":' in text for text in crowd.seen[3:6]))
 
 
 def junk():
@@ -319,5 +332,5 @@ int main(int count, char **words) {
     check(f"without memory a site is whole or fails, except {wrong}", wrong == [] and 0 < refused < len(numbers))
 
 
-ATTACKS = [strangers_without_end, plan_of_too_many, strangers_that_are_one, strangers_that_never_end, strangers_in_a_watch, junk,
-           one_identity, ids_that_lack, signals_to_collect, programs_that_show, refusals_of_memory]
+ATTACKS = [strangers_without_end, plan_of_too_many, strangers_that_are_one, strangers_that_never_end, strangers_in_a_watch,
+           crowds_before_a_known_clock, junk, one_identity, ids_that_lack, signals_to_collect, programs_that_show, refusals_of_memory]

@@ -590,8 +590,8 @@ static void note_stranger(const uint8_t *message, size_t size) { note_untaken(OF
 
 /* From now on these ids are asked for, and this is where lines go; NULL if nowhere. */
 static void begin(const struct collected *what, FILE *to) {
-    see_none();
     collected = what;
+    see_none(expected, is_site() ? expected_count : 0);
     output = to;
     sent = 0;
     let_go = 0;

@@ -4,7 +4,10 @@
 #include <string.h>
 
 /* Half of the places stay free. */
-enum { CLOCK_PLACES = 2 * MOST_CLOCKS, ANSWER_PLACES = 2 * MOST_KEPT };
+enum { CLOCK_PLACES = 2 * (MOST_CLOCKS + MOST_EXPECTED), ANSWER_PLACES = 2 * MOST_KEPT };
+
+/* A clock that answered in this many collections has room in the next one, and so have this many answers of it. */
+enum { KNOWN_AFTER = 2, ANSWERS_OF_KNOWN = MOST_KEPT / MOST_CLOCKS };
 
 /* A clock that is in none of this many censuses heeds only requests to one clock. */
 enum { LEAST_CENSUSES = 3 };
@@ -19,9 +22,11 @@ struct first_answer {
 };
 
 static struct seen_clock clocks[MOST_CLOCKS];
-static uint32_t clock_places[CLOCK_PLACES];         /* of a clock, plus one */
+static struct expected_clock { uint8_t identity[8]; struct domain domain; uint32_t collections; } expected[MOST_EXPECTED];
+static uint32_t clock_places[CLOCK_PLACES];         /* of a clock, plus one; past MOST_CLOCKS of an expected one that has not answered */
 static struct first_answer answers[ANSWER_PLACES];
 static size_t clock_count, answer_count;
+static size_t known_count, known_to_come, answers_of_known;     /* expected clocks that have room; those that have not answered */
 static size_t first_of_rounds;                      /* the place of the first clock of these rounds */
 static bool is_later_round;
 static unsigned long not_kept;
@@ -34,12 +39,12 @@ static uint64_t mix(uint64_t word) {
     return word ^ (word >> 31);
 }
 
-void see_none(void) {
-    if (seed == 0) draw_octets((uint8_t *)&seed, sizeof seed);
-    memset(clock_places, 0, sizeof clock_places);
-    memset(answers, 0, sizeof answers);
-    clock_count = answer_count = 0;
-    not_kept = 0;
+/* Whether a place with this number has the clock. */
+static bool is_of(uint32_t number, struct domain domain, const uint8_t identity[8]) {
+    const struct seen_clock *seen = &clocks[number - 1];
+    if (number <= MOST_CLOCKS) return is_same_domain(seen->domain, domain) && memcmp(seen->identity, identity, 8) == 0;
+    const struct expected_clock *one = &expected[number - MOST_CLOCKS - 1];
+    return is_same_domain(one->domain, domain) && memcmp(one->identity, identity, 8) == 0;
 }
 
 /* The place that a clock has, or may take. */
@@ -47,22 +52,36 @@ static size_t place_of_clock(struct domain domain, const uint8_t clock[8]) {
     uint64_t identity;
     memcpy(&identity, clock, sizeof identity);
     size_t place = mix(mix(identity) + ((uint64_t)domain.sdo << 8 | domain.number)) % CLOCK_PLACES;
-    for (; clock_places[place] != 0; place = (place + 1) % CLOCK_PLACES) {
-        const struct seen_clock *one = &clocks[clock_places[place] - 1];
-        if (is_same_domain(one->domain, domain) && memcmp(one->identity, clock, 8) == 0) break;
-    }
+    while (clock_places[place] != 0 && !is_of(clock_places[place], domain, clock)) place = (place + 1) % CLOCK_PLACES;
     return place;
+}
+
+void see_none(const struct seen_clock *before, size_t count) {
+    if (seed == 0) draw_octets((uint8_t *)&seed, sizeof seed);
+    memset(clock_places, 0, sizeof clock_places);
+    memset(answers, 0, sizeof answers);
+    clock_count = answer_count = known_count = answers_of_known = 0;
+    not_kept = 0;
+    for (size_t i = 0; i < count; i++) {
+        expected[i] = (struct expected_clock){ .domain = before[i].domain, .collections = before[i].collections };
+        memcpy(expected[i].identity, before[i].identity, 8);
+        clock_places[place_of_clock(before[i].domain, before[i].identity)] = (uint32_t)(MOST_CLOCKS + 1 + i);
+        known_count += known_count < MOST_CLOCKS && before[i].collections >= KNOWN_AFTER;
+    }
+    known_to_come = known_count;
 }
 
 /* The number of a clock, which is a new one if it wasn't seen yet: from 1 on; 0 if there is no room. */
 static uint32_t number_of_clock(struct domain domain, const uint8_t identity[8]) {
-    size_t place = place_of_clock(domain, identity);
-    if (clock_places[place] != 0 || clock_count == MOST_CLOCKS) return clock_places[place];
+    uint32_t *number = &clock_places[place_of_clock(domain, identity)];
+    if (*number != 0 && *number <= MOST_CLOCKS) return *number;
+    uint32_t collections = *number == 0 ? 0 : expected[*number - MOST_CLOCKS - 1].collections;
+    if (known_to_come > 0 && collections >= KNOWN_AFTER) known_to_come--;
+    else if (clock_count + known_to_come == MOST_CLOCKS) return 0;
     struct seen_clock *clock = &clocks[clock_count++];
-    *clock = (struct seen_clock){ .domain = domain };
+    *clock = (struct seen_clock){ .domain = domain, .collections = collections + 1 };
     memcpy(clock->identity, identity, 8);
-    clock_places[place] = (uint32_t)clock_count;
-    return clock_places[place];
+    return *number = (uint32_t)clock_count;
 }
 
 static struct first_answer *place_of_answer(uint32_t clock, const struct seen_answer *answer) {
@@ -84,15 +103,22 @@ static void note(struct seen_clock *clock, const struct seen_answer *answer) {
     if (answer->port_count != 0) clock->port_count = answer->port_count;
 }
 
+/* Whether there is room for one more answer. */
+static bool has_room(bool is_of_known) {
+    return answer_count < MOST_KEPT && (is_of_known || answer_count - answers_of_known + ANSWERS_OF_KNOWN * known_count < MOST_KEPT);
+}
+
 enum seen see_answer(const struct seen_answer *answer) {
     uint32_t clock = number_of_clock(answer->domain, answer->clock);
     struct first_answer *kept = clock == 0 ? NULL : place_of_answer(clock, answer);
-    if (kept == NULL || (kept->clock == 0 && answer_count == MOST_KEPT)) {
+    bool is_of_known = clock != 0 && clocks[clock - 1].collections > KNOWN_AFTER;
+    if (kept == NULL || (kept->clock == 0 && !has_room(is_of_known))) {
         not_kept++;
         return NO_PLACE;
     }
     if (kept->clock == 0) {
         answer_count++;
+        answers_of_known += is_of_known;
         *kept = (struct first_answer){ .sum = answer->sum, .clock = clock, .port = answer->port, .id = (uint8_t)answer->id };
         note(&clocks[clock - 1], answer);
         return FIRST_SEEN;
@@ -102,7 +128,10 @@ enum seen see_answer(const struct seen_answer *answer) {
     return DIFFERENT;
 }
 
-bool is_seen(struct domain domain, const uint8_t clock[8]) { return clock_places[place_of_clock(domain, clock)] != 0; }
+bool is_seen(struct domain domain, const uint8_t clock[8]) {
+    uint32_t number = clock_places[place_of_clock(domain, clock)];
+    return number != 0 && number <= MOST_CLOCKS;
+}
 
 size_t seen_count(void) { return clock_count; }
 

@@ -1,5 +1,6 @@
 /* Which clocks answered in a collection, and what each of them still lacks. Strangers may answer without end. So there is room
-   for a number of clocks and answers, and what comes after that is counted. */
+   for a number of clocks and answers, and what comes after that is counted. A clock that answered in two collections has room in the
+   next one, whoever comes before it. */
 #ifndef SEEN_H
 #define SEEN_H
 
@@ -9,12 +10,13 @@
 #include <stdint.h>
 
 /* How many ids are collected at most. An id is named here by its place among them. */
-enum { MOST_COLLECTED = 16, MOST_CLOCKS = 4096, MOST_KEPT = 65536 };
+enum { MOST_COLLECTED = 16, MOST_CLOCKS = 4096, MOST_EXPECTED = 2 * MOST_CLOCKS, MOST_KEPT = 65536 };
 
 /* A clock that answered. */
 struct seen_clock {
     uint8_t identity[8];
     struct domain domain;
+    uint32_t collections;               /* in how many it answered, one after the other */
     uint16_t answered, refused;         /* a bit for each id: an answer or a refusal came; a refusal came */
     uint16_t port_count;                /* numberPorts, 0 until it is known */
     uint16_t ports[MOST_COLLECTED];     /* of an id of a port, how many ports answered */
@@ -43,8 +45,8 @@ struct seen_answer {
    that differs. Or there is no room for it. */
 enum seen { FIRST_SEEN, DIFFERENT, SEEN_BEFORE, NO_PLACE };
 
-/* From now on no clock was seen. */
-void see_none(void);
+/* From now on no clock was seen. These are the clocks of the collection before, MOST_EXPECTED at most. */
+void see_none(const struct seen_clock *before, size_t count);
 
 /* Notes an answer. */
 enum seen see_answer(const struct seen_answer *answer);

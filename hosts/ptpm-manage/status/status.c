@@ -54,7 +54,7 @@ struct look {
 };
 
 /* The clocks of the look before, and after them those that the first of two looks has beside them. */
-static struct seen_clock clocks_before[2 * MOST_CLOCKS];
+static struct seen_clock clocks_before[MOST_EXPECTED];
 static size_t count_before;
 
 static void free_lines(struct lines *lines) {
