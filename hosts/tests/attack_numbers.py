@@ -192,14 +192,14 @@ def clocks_that_are_not_there():
 
 def losses_of_power():
     """A session is on the disk before it is in place of the old one, and the folder after that: before a request goes out, and
-    after its answer is reported."""
+    after its answer is reported. A run that was killed may not have come to the folder, so each run begins with that."""
     if not HAS_STRACE:
         return
     clock = Clock("-m", MANAGER + "/1", "-u", path, ME)
     kept = ["fsync", "rename", "fsync"]
     words = words_of(os.path.join(work, "number"), "-w", "0", "get", "PRIORITY1")
     for what, wanted in [("a new session", ["fsync", "sendmsg", *kept, *kept, "sendmsg", "write", *kept]),
-                         ("a session", [*kept, "sendmsg", *kept, "sendmsg", "write", *kept])]:
+                         ("a session", ["fsync", *kept, "sendmsg", *kept, "sendmsg", "write", *kept])]:
         traced = run("strace", "-e", "trace=fsync,renameat,renameat2,sendmsg,write", *words)
         calls = [line.split("(")[0] for line in traced.stdout.splitlines() if "(" in line and not re.match(r"write\([^1]", line)]
         calls = ["rename" if call.startswith("rename") else call for call in calls]
