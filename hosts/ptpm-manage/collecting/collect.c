@@ -630,9 +630,16 @@ int collect_answers(const struct task *task, const struct collected *what, const
     return status;
 }
 
+static bool is_left_out(void) {
+    bool is_left = unseen_answers() > 0;
+    for (int type = 0; type < HEARD_TYPES; type++) is_left |= unheard((enum heard_type)type) > 0;
+    return is_left;
+}
+
 int collect(const struct task *task) {
     struct domains domains;
     widen_transport();
     find_domains(&domains, task);
-    return collect_answers(task, &of_site, &domains, stdout);
+    int status = collect_answers(task, &of_site, &domains, stdout);
+    return status == ANSWERED && is_left_out() ? NOT_ANSWERED : status;
 }

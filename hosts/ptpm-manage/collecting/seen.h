@@ -1,6 +1,6 @@
 /* Which clocks answered in a collection, and what each of them still lacks. Strangers may answer without end. So there is room
    for a number of clocks and answers, and what comes after that is counted. A clock that answered in two collections has room in the
-   next one, whoever comes before it. */
+   next one, even if others come before it. */
 #ifndef SEEN_H
 #define SEEN_H
 
