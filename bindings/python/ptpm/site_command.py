@@ -6,8 +6,7 @@ import argparse
 import sys
 from typing import List, Optional, TextIO
 
-from .site import SiteError, site
-from .site_tree import Site
+from .site import Site, SiteError, site
 from .streams import complain, flush, parsed, say
 
 NOTHING_FOUND, FOUND, NOT_ASKED, NO_CLOCK = range(4)

@@ -119,16 +119,16 @@ class Network(Folder):
                 break
             time.sleep(0.5)
         [domain] = site.domains
-        self.assertEqual([(depth, clock.description) for depth, clock in domain.rows()], [(0, "grandmaster"), (1, "camera")])
         self.assertEqual(([str(clock.identity) for clock in domain.grandmasters], site.findings), ([PTP4L], ()))
-        camera = domain.roots[0].followers[0]
-        self.assertEqual((str(camera.follows), camera.current and camera.current.steps_removed), (f"{PTP4L}/1", 1))
+        [camera] = [clock for clock in domain.clocks if clock.description == "camera"]
+        assert camera.parent and camera.current
+        self.assertEqual((str(camera.parent.parent_port_identity), camera.current.steps_removed), (f"{PTP4L}/1", 1))
         self.assertEqual(ptpm.site(lines=site.lines).domains, site.domains)
 
     def test_a_site_over_udp(self) -> None:
         self.start_ptp4l()
         said = self.asked("site", "-i", "near0", "-d", "0-1", "-t", "50")
-        self.assertRegex(said, rf'^domain 0: 1 clocks\n  {PTP4L} ".*" 1 [A-Z]+\n\nfindings: ')
+        self.assertRegex(said, rf"\ndomain 0: 1 clock, (.*\n)+  {PTP4L} (.*\n)+findings: ")
 
 
 if __name__ == "__main__":

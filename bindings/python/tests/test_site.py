@@ -70,37 +70,38 @@ def told_finding(name: str, sdo_id: int = 0, clock: str = "0200a1fffe000101", va
     )
 
 
-def rows_of_text(name: str) -> List[Tuple[int, str]]:
-    """The clocks of the tree that ptpm prints, each with the number of rows above it up to its root. Other lines begin with a word."""
-    words = [str(TOP / "ptpm"), "site"]
-    printed = subprocess.run(words, input="\n".join(lines(name)) + "\n", capture_output=True, text=True, check=False).stdout
-    tree = printed[: printed.index("findings:")].splitlines()
-    clocks = [line for line in tree if re.match(r" +[0-9a-f]{16}\b", line)]
-    return [((len(line) - len(line.lstrip())) // 2 - 1, line.split()[0]) for line in clocks]
+def text_of(given: Iterable[str], *words: str) -> str:
+    """What `ptpm site` prints of lines."""
+    ran = subprocess.run([str(TOP / "ptpm"), "site", *words], input="\n".join(given) + "\n", capture_output=True, text=True, check=False)
+    return ran.stdout.rstrip("\n")
 
 
 class Recorded(unittest.TestCase):
-    def test_findings_and_trees(self) -> None:
+    def test_findings(self) -> None:
         for name, limits, wanted, undecided in recorded():
             with self.subTest(name):
                 site = ptpm.site(lines=lines(name), **limits)
                 self.assertEqual((rows_of(site.findings), rows_of(site.open)), (wanted, undecided))
-                tree = [(depth, str(clock.identity)) for domain in site.domains for depth, clock in domain.rows()]
-                self.assertEqual(tree, rows_of_text(name))
+
+    def test_it_is_printed_as_the_program_prints_it(self) -> None:
+        heard = subprocess.run([TOP / "tests/bin/site", "02; 03; 01 announces=07"], capture_output=True, text=True, check=True).stdout
+        site = ptpm.site(lines=heard.splitlines(), max_delay=9)
+        self.assertEqual(str(site), text_of(heard.splitlines(), "--max-delay", "9"))
+        self.assertIn("grandmaster 020000fffe000001", str(site))
+        self.assertEqual(str(ptpm.site(lines=lines("g_loop"))), text_of(lines("g_loop")))
 
     def test_members(self) -> None:
         [domain] = ptpm.site(lines=lines("a_changing")).domains
         leads = [(str(one.identity), one.heard, one.clock in domain.clocks) for one in domain.grandmasters]
         self.assertEqual(leads, [("0200a1fffe000101", "followers", False), ("0200a1fffe000201", "answer", True)])
-        clock = domain.roots[0].followers[0]
+        [clock] = [clock for clock in domain.clocks if clock.description == "bc2;rack 161"]
         assert clock.current is not None and clock.parent is not None and clock.default is not None
-        self.assertEqual((clock.description, clock.default.number_ports), ("bc2;rack 161", 2))
+        self.assertEqual(clock.default.number_ports, 2)
         # 278069248 of 2^-16 ns
         self.assertEqual((clock.current.steps_removed, clock.current.offset_from_master), (2, Decimal("4243")))
         self.assertEqual(clock.parent.parent_port_identity, ptpm.PortIdentity.of("0200a1fffe000201/2"))
         self.assertEqual(clock.parent.grandmaster_clock_quality, ptpm.ClockQuality(6, 0xFE, 0xFFFF))
         self.assertEqual([port.port_state for port in clock.ports], [ptpm.PortState.SLAVE, ptpm.PortState.MASTER])
-        self.assertEqual(list(map(str, domain.lost)), ["0200a1fffe000101/1"])
 
     def test_values_of_findings(self) -> None:
         found = {(found.name, str(found.clock)): found for found in ptpm.site(lines=lines("g_loop")).findings}
@@ -108,7 +109,6 @@ class Recorded(unittest.TestCase):
         self.assertEqual((differs["value"], differs["expected"]), (ptpm.ClockQuality(6, 254, 65535), ptpm.ClockQuality(248, 254, 65535)))
         loop = found["loop", "020091fffe000d01"]
         self.assertEqual(loop.values, {"clocks": (ptpm.Identity.of("020091fffe000d01"), ptpm.Identity.of("020091fffe000e01"))})
-        self.assertEqual(str(loop), "0 020091fffe000d01 loop clocks=020091fffe000d01,020091fffe000e01")
         absent = found["parent_not_master", "020091fffe000801"].values
         self.assertEqual(absent, {"parentPortIdentity": ptpm.PortIdentity.of("020091fffe000101/7"), "portState": None})
         free = found["gm_free_running", "020091fffe000101"]
@@ -146,8 +146,6 @@ class Recorded(unittest.TestCase):
         ]))
         values = [(found.values["before"], found.values["after"]) for found in site.findings]
         self.assertEqual(values, [(0x11, ptpm.TimeSource.GNSS), (ptpm.PortState.SLAVE, 10)])
-        found = [str(found).partition("changed ")[2] for found in site.findings]
-        self.assertEqual(found, ["after=GNSS before=0x11 member=timeSource", "after=0x0a before=SLAVE member=portState"])
         for wrong in ("GPS", "", "0x100"):
             self.assertRaises(ValueError, ptpm.read_site, told([told_finding("changed", values=changed(wrong, wrong, "timeSource"))]))
 
@@ -161,9 +159,6 @@ class Recorded(unittest.TestCase):
         self.assertNotEqual(*site.findings)
         self.assertEqual(site.asked, ((zero, 7), (other, 7)))
         self.assertEqual({finding.domain for finding in site.findings} | {domain.number for domain in site.domains}, {4})
-        heads = [line for line in str(site).splitlines() if not line.startswith(" ")]
-        found = ["findings: 2", "4@0x100 0200a1fffe000101 own_host", "4 0200a1fffe000101 own_host"]
-        self.assertEqual(heads, ["domain 4: 1 clocks", "domain 4@0x100: 1 clocks", "", *found])
 
     def test_a_grandmaster_that_is_only_heard(self) -> None:
         """Two clocks follow one that sends Announce messages, and answers nothing."""
@@ -179,8 +174,6 @@ class Recorded(unittest.TestCase):
         port, domain = site.open
         self.assertEqual((port.values["portState"], port.values["seconds"]), (ptpm.PortState.UNCALIBRATED, 3))
         self.assertEqual((domain.clock, domain.domain_identity, domain.values), (None, (4, 0x100), {"clocks": 2}))
-        self.assertEqual(str(site).splitlines()[1:3], ["findings: none", "open: 2"])
-        self.assertEqual(str(site).splitlines()[-1], "4@0x100 - not_asked clocks=2")
 
     def test_values_of_findings(self) -> None:
         members = '[{"after":"b","before":"a","member":"userDescription","portNumber":null},{"after":"MASTER","before":"SLAVE","member":"portState","portNumber":2}]'
@@ -190,14 +183,12 @@ class Recorded(unittest.TestCase):
         ]))
         twice, offset = site.findings
         self.assertEqual(twice.values["members"][1]["after"], ptpm.PortState.MASTER)
-        self.assertIn(" members=userDescription,port 2 portState", str(twice))
         self.assertEqual((offset.values["least"], offset.values["most"]), (-2, -1))
 
     def test_what_is_not_judged(self) -> None:
         lacking = told().replace('"findings":[', '"notJudged":[{"findings":["identity_twice"],"lack":"sources"}],"findings":[', 1)
         site = ptpm.read_site(lacking)
         self.assertEqual(site.not_judged, (ptpm.Lack("sources", ("identity_twice",)),))
-        self.assertEqual(str(site).splitlines()[-2:], ["findings: none that these lines can show", "not judged: identity_twice"])
 
     def test_how_many_looks_is_as_the_page_says(self) -> None:
         page = (TOP / "docs/ptpm-site.md").read_text(encoding="utf-8")
@@ -215,13 +206,9 @@ class Recorded(unittest.TestCase):
             return (head + number.to_bytes(2, "big") + b"\4\x7f" + bytes(8) + b"\0\1\1\1\2\0" + tlv).hex()
 
         site = ptpm.site(lines=[answer(7, "rack 1"), answer(8, "\x1b[2J\n\x9b")])
-        self.assertIn("changed after=\"\\u001b[2J\\n\\u009b\" before=\"rack 1\" member=userDescription", str(site))
+        [found] = [found for found in site.findings if found.name == "changed"]
+        self.assertEqual((found.values["before"], found.values["after"]), ("rack 1", "\x1b[2J\n\x9b"))
         self.assertTrue(str(site).replace("\n", "").isprintable())
-
-    def test_a_text_of_an_inventory_is_in_quotes_once(self) -> None:
-        told = {"member": "userDescription", "expected": '"rack 1"', "value": None}
-        finding = ptpm.Finding(0, None, "not_as_expected", told, "warning")
-        self.assertEqual(str(finding), '0 - not_as_expected member=userDescription expected="rack 1" value=-')
 
     def test_the_command_line(self) -> None:
         for name, status in (("a_chain", 0), ("b_two", 1)):
@@ -300,9 +287,9 @@ class Programs(Folder):
     def test_what_is_left_out(self) -> None:
         self.collects("a_chain")
         gap = "there is room for 4096 Delay_Req: 7 more are left out"
-        self.write("ptpm-manage", f"cat {self.folder}/0; echo 'ptpm-manage: {gap}' >&2")
+        self.write("ptpm-manage", f"cat {self.folder}/0; echo 'ptpm-manage: {gap}' >&2; exit 3")
         found = ptpm.site("eth0", once=True)
-        self.assertEqual((found.findings, found.gaps, str(found).splitlines()[-1]), ((), (gap,), gap))
+        self.assertEqual((found.findings, found.gaps), ((), (gap,)))
         self.assertEqual(dataclasses.replace(found, notes=(), left_out=(0, 3)).gaps, ("left out: 3 ports",))
         words = [sys.executable, "-m", "ptpm", "site", "-i", "eth0", "--once"]
         self.assertEqual(subprocess.run(words, capture_output=True, check=False).returncode, 3)
@@ -351,11 +338,11 @@ class Programs(Folder):
         command = [sys.executable, "-m", "ptpm", "site", "--lines", str(SITES / "sites/a_chain.lines"), *words]
         # its ptpTimescale is false, which this profile does not allow of a grandmaster with a source
         self.assertEqual(subprocess.run(command, capture_output=True, check=False).returncode, 1)
-        self.assertEqual(Path(self.folder, "told").read_text(encoding="ascii").splitlines(), [
-            "site --json --max-offset none --max-delay 1000000 --tai-utc 37",
-            f"site --json --settle 5 --profile default --expect {wanted} --ignore leap,mute",
-            f"site --json --settle 5 --profile default --expect {wanted} --ignore leap,gone,mute",
-        ])
+        self.assertEqual(Path(self.folder, "told").read_text(encoding="ascii").splitlines(), [f"site {words}{form}" for words in (
+            "--max-offset none --max-delay 1000000 --tai-utc 37",
+            f"--settle 5 --profile default --expect {wanted} --ignore leap,mute",
+            f"--settle 5 --profile default --expect {wanted} --ignore leap,gone,mute",
+        ) for form in (" --json", "")])
         self.refused("none of default, st2059-2, aes67 and gptp", 2, lines=lines("a_chain"), profile="other")
         self.refused("hall2: No such file", 2, lines=lines("a_chain"), expect=f"{self.folder}/hall2")
 
