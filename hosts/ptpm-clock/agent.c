@@ -126,6 +126,9 @@ struct turn {
     struct ptpm_changed changed;        /* found only if the device or the owner has a say, or with -v */
 };
 
+/* The port at which a datagram is handed in. A GET of a port's value is handed in at that port, whose answer it then has. */
+static inline uint16_t handed_in_at(const struct heard *heard) { return has_values ? port_asked(heard) : ingress_of(heard); }
+
 /* A message to a program that asked on the Unix socket goes back there, at once if nothing is to be saved. Any other goes out
    with the round. How many messages were not taken. */
 static unsigned long send_out(const struct ptpm_sent *message, const struct heard *heard) {
@@ -144,6 +147,8 @@ static unsigned long send_saved(void) { return end_round(save_changes(&clock_hel
 static inline unsigned long hand_on(const struct turn *turn, enum ptpm_handled answer, size_t *left) {
     const struct ptpm_sent *kept[PTPM_MOST_SENT];
     unsigned long lost = 0;
+    bool is_of_port = handed_in_at(turn->heard) != ingress_of(turn->heard);
+    for (size_t i = 0; is_of_port && i < turn->count; i++) turn->places[i].port = ingress_of(turn->heard);
     count_answer(answer);
     if (answer == PTPM_ANSWERED_NEW) note_change();
     *left = keep_back(turn->heard, answer, turn->places, turn->count, kept);
@@ -154,8 +159,10 @@ static inline unsigned long hand_on(const struct turn *turn, enum ptpm_handled a
 
 static enum ptpm_handled handle_said(struct ptpm_clock *clock, struct turn *turn, const struct ptpm_say *say) {
     const struct heard *heard = turn->heard;
-    return ptpm_clock_handle_said(clock, ingress_of(heard), heard->octets, heard->size, say, turn->places, PTPM_MOST_SENT, &turn->count,
-                                  &turn->changed);
+    enum ptpm_handled answer = ptpm_clock_handle_said(clock, handed_in_at(heard), heard->octets, heard->size, say, turn->places, PTPM_MOST_SENT,
+                                                      &turn->count, &turn->changed);
+    if (say->kind == PTPM_GIVES) turn->count = answer_from_ports(clock, heard, turn->places, turn->count);
+    return answer;
 }
 
 /* A turn with what the device says. A change that its program agreed to is not overtaken, since no other is taken meanwhile. */
@@ -199,7 +206,7 @@ static enum ptpm_handled hand_in(struct ptpm_clock *clock, struct turn *turn) {
     const struct heard *heard = turn->heard;
     if (heard->is_of_owner) return hand_in_of_owner(turn);
     if (turn->say != NULL) return hand_in_said(clock, turn);
-    return ptpm_clock_handle_changed(clock, ingress_of(heard), heard->octets, heard->size, turn->places, PTPM_MOST_SENT, &turn->count,
+    return ptpm_clock_handle_changed(clock, handed_in_at(heard), heard->octets, heard->size, turn->places, PTPM_MOST_SENT, &turn->count,
                                      &turn->changed);
 }
 
@@ -229,7 +236,7 @@ static unsigned long take_turn(struct heard *heard, const struct ptpm_say *say) 
     if (has_values && say == NULL) turn.say = value_to_give(clock, heard);
     if (options->is_verbose) return take_verbose_turn(&turn);
     bool is_simple = turn.say == NULL && !heard->is_of_owner;
-    enum ptpm_handled answer = is_simple ? ptpm_clock_handle(clock, ingress_of(heard), heard->octets, heard->size, turn.places,
+    enum ptpm_handled answer = is_simple ? ptpm_clock_handle(clock, handed_in_at(heard), heard->octets, heard->size, turn.places,
                                                              PTPM_MOST_SENT, &turn.count)
                                          : hand_in(clock, &turn);
     if (is_saving && answer == PTPM_ANSWERED_NEW) return turn.count;        /* nobody is shown what is not saved */

@@ -105,8 +105,9 @@ static bool admit_answer(const struct heard *heard, uint32_t answer, uint64_t no
 
 bool admit_answer_ahead(struct heard *heard, const uint8_t own[8]) {
     if (heard->port == NULL || is_of_manager(heard, own)) return true;
-    heard->share = take_share(&answers[ingress_of(heard) - 1], heard, time_now()) ? HAS_SHARE : OVER_RATE;
-    return heard->share == HAS_SHARE;
+    bool is_admitted = take_share(&answers[ingress_of(heard) - 1], heard, time_now());
+    if (heard->share != HAS_SHARE) heard->share = is_admitted ? HAS_SHARE : OVER_RATE;
+    return is_admitted;
 }
 
 size_t keep_back(const struct heard *heard, uint32_t answer, const struct ptpm_sent *sent, size_t count,

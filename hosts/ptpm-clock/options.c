@@ -75,7 +75,7 @@ static const char help[] =
     "                      status 0. Its words are MANAGER NUMBER set|command ID NAME PORT|all OCTETS [MEMBER VALUE]..\n"
     "  --ask-time SECONDS  how long it may take (10); then the change counts as lost\n"
     "  --give ID FILE      the octets of FILE are the answer to a GET of ID, which the clock itself lacks: for example of\n"
-    "                      CLOCK_DESCRIPTION, or of 2017. FILE is read at each GET\n"
+    "                      CLOCK_DESCRIPTION, or of 2014/2, which is that of port 2. FILE is read at each GET\n"
     "  -n SECONDS          it ends by itself then\n"
     "  -v                  a line for each datagram that it hears, and one for what it changed\n"
     "  --user NAME         the user that it becomes once its sockets are open. Root becomes ptpm if there is such a user,\n"
@@ -176,17 +176,30 @@ static const char *program_path(void) {
     return optarg;
 }
 
-/* An id and the file of its value, which are two words. */
-static void take_value(struct options *options, char *const *rest) {
-    long id = read_id_named(optarg);
+/* The id of a value, of the clock or of a port. */
+static struct value value_named(void) {
+    char name[PTPM_MOST_NAME + 2];
+    const char *slash = strchr(optarg, '/');
+    snprintf(name, sizeof name, "%.*s", (int)(slash == NULL ? strlen(optarg) : (size_t)(slash - optarg)), optarg);
+    long id = read_id_named(name), port = slash == NULL ? 0 : decimal(slash + 1, PORTS);
     if (id < 0) refuse_command_line("--give %s: it takes a managementId, such as CLOCK_DESCRIPTION", optarg);
     if (id_name((uint16_t)id) != NULL) refuse_command_line("--give %s: the clock has a value of its own", optarg);
+    if (slash != NULL && port < 1) refuse_command_line("--give %s: a port has a number from 1 to 8", optarg);
+    return (struct value){ .id = (uint16_t)id, .port = (uint16_t)port };
+}
+
+/* An id and the file of its value, which are two words. */
+static void take_value(struct options *options, char *const *rest) {
+    struct value value = value_named();
     if (rest[optind] == NULL) refuse_command_line("--give %s: the file of its value is missing", optarg);
-    if (options->value_count == VALUES) refuse_command_line("--give: 64 ids at most");
+    if (options->value_count == VALUES) refuse_command_line("--give: 64 values at most");
     for (size_t i = 0; i < options->value_count; i++) {
-        if (options->values[i].id == id) refuse_command_line("--give %s: the id is given twice", optarg);
+        const struct value *other = &options->values[i];
+        bool is_twice = other->id == value.id && (other->port == value.port || other->port == 0 || value.port == 0);
+        if (is_twice) refuse_command_line("--give %s: the id is given twice", optarg);
     }
-    options->values[options->value_count++] = (struct value){ (uint16_t)id, rest[optind++] };
+    value.path = rest[optind++];
+    options->values[options->value_count++] = value;
 }
 
 /* Options of what the host is to do. */
@@ -278,6 +291,13 @@ static void refuse_alone(const struct options *options) {
     }
 }
 
+static void refuse_port(const struct options *options) {
+    for (size_t i = 0; i < options->value_count; i++) {
+        unsigned port = options->values[i].port;
+        if (port > ports_of(options)) refuse_command_line("--give: there is no port %u, but %zu", port, ports_of(options));
+    }
+}
+
 static void judge(const struct options *options) {
     if (options->interface_count > PORTS) refuse_command_line("it takes eight interfaces at most");
     if (options->interface_count == 0 && options->meeting.path == NULL) {
@@ -289,6 +309,7 @@ static void judge(const struct options *options) {
     refuse_long(options->interfaces, options->interface_count);
     refuse_twice(options->interfaces, options->interface_count);
     refuse_itself(options);
+    refuse_port(options);
 }
 
 void read_options(struct options *options, int argc, char **argv) {

@@ -12,8 +12,8 @@
 
 enum { MANAGERS = 16, VALUES = 64 };
 
-/* An id that the clock lacks, and the file that has its value. */
-struct value { uint16_t id; const char *path; };
+/* An id that the clock lacks, and the file that has its value at a port; port 0 is the clock. */
+struct value { uint16_t id, port; const char *path; };
 
 struct options {
     struct ptpm_clock_settings settings;

@@ -9,24 +9,32 @@
 #include <sys/stat.h>
 #include <unistd.h>
 
+enum { EVERY_PORT = 0xFFFF, TARGET_PORT_AT = TARGET_AT + 8 };
+
 bool has_values;
 
 static const struct options *options;
 static bool is_told[VALUES];            /* that the file of this value has none */
+
+/* What the device says of the latest GET: of the clock (port 0), or of each port that answers. */
+static struct { uint16_t port; struct ptpm_say say; } said[PORTS];
+static size_t said_count;
 
 void start_values(const struct options *given) {
     options = given;
     has_values = given->value_count > 0;
 }
 
-/* Which of the values a GET names; value_count if it is none of them, or the datagram is no GET. */
-static size_t value_named(const struct heard *heard) {
-    const uint8_t *octets = heard->octets;
-    if (heard->size < LEAST_MESSAGE || (octets[ACTION_AT] & LOWER_HALF) != PTPM_GET) return options->value_count;
-    uint16_t id = (uint16_t)(octets[ID_AT] << 8 | octets[ID_AT + 1]);
-    size_t place = 0;
-    while (place < options->value_count && options->values[place].id != id) place++;
-    return place;
+static uint16_t number_at(const struct heard *heard, size_t place) {
+    return (uint16_t)(heard->octets[place] << 8 | heard->octets[place + 1]);
+}
+
+/* Whether a datagram is a GET of this value. */
+static bool is_asked(const struct heard *heard, const struct value *value) {
+    bool is_get = heard->size >= LEAST_MESSAGE && (heard->octets[ACTION_AT] & LOWER_HALF) == PTPM_GET;
+    if (!is_get || number_at(heard, ID_AT) != value->id) return false;
+    uint16_t port = number_at(heard, TARGET_PORT_AT);
+    return value->port == 0 || port == EVERY_PORT || port == value->port;
 }
 
 /* Reads what a file has, as far as there is room. Why it can't, or NULL. */
@@ -61,15 +69,53 @@ static const char *read_value(const char *path, struct ptpm_say *say) {
     return NULL;
 }
 
-const struct ptpm_say *value_to_give(const struct ptpm_clock *clock, struct heard *heard) {
-    static struct ptpm_say say_value;
-    struct ptpm_question asked;
-    size_t place = value_named(heard);
-    if (place == options->value_count) return NULL;
-    if (ptpm_clock_ask(clock, ingress_of(heard), heard->octets, heard->size, &asked) != PTPM_ASKED_VALUE) return NULL;
-    if (!admit_answer_ahead(heard, options->settings.identity)) return NULL;
-    const char *path = options->values[place].path, *fault = read_value(path, &say_value);
-    if (fault != NULL && !is_told[place]) say_at_times("%s: %s, and a GET of %04x is answered with NO_SUCH_ID", path, fault, asked.id);
+/* Whether the answer is kept, for a manager or since the owner asks like one. Then there is one, also to a GET of every port. */
+static bool is_kept(const struct heard *heard) { return heard->is_of_owner || is_of_manager(heard, options->settings.identity); }
+
+/* Reads the value at this place; whether the device gives it. */
+static bool give(size_t place) {
+    const struct value *value = &options->values[place];
+    const char *fault = read_value(value->path, &said[said_count].say);
+    if (fault != NULL && !is_told[place]) say_at_times("%s: %s, and a GET of %04x is answered with NO_SUCH_ID", value->path, fault, value->id);
     is_told[place] = fault != NULL;
-    return fault == NULL ? &say_value : NULL;
+    said[said_count].port = value->port;
+    return fault == NULL;
+}
+
+const struct ptpm_say *value_to_give(const struct ptpm_clock *clock, struct heard *heard) {
+    struct ptpm_question asked;
+    said_count = 0;
+    for (size_t place = 0; place < options->value_count && said_count < PORTS; place++) {
+        const struct value *value = &options->values[place];
+        if (!is_asked(heard, value)) continue;
+        if (ptpm_clock_ask(clock, ingress_of(heard), heard->octets, heard->size, &asked) != PTPM_ASKED_VALUE) return NULL;
+        if (value->port != 0 && asked.port == EVERY_PORT && is_kept(heard) && value->port != ingress_of(heard)) continue;
+        if (!admit_answer_ahead(heard, options->settings.identity)) break;
+        said_count += give(place);
+    }
+    return said_count > 0 ? &said[0].say : NULL;
+}
+
+uint16_t port_asked(const struct heard *heard) {
+    for (size_t place = 0; place < options->value_count; place++) {
+        const struct value *value = &options->values[place];
+        bool is_here = is_asked(heard, value) && value->port == number_at(heard, TARGET_PORT_AT);
+        if (is_here && memcmp(heard->octets + TARGET_AT, options->settings.identity, 8) == 0) return value->port;
+    }
+    return ingress_of(heard);
+}
+
+size_t answer_from_ports(struct ptpm_clock *clock, const struct heard *heard, struct ptpm_sent *places, size_t count) {
+    static struct ptpm_sent made[PTPM_MOST_SENT];
+    struct ptpm_changed changed;
+    size_t made_count;
+    if (count == 0 || said[0].port == 0 || is_kept(heard) || port_asked(heard) != ingress_of(heard)) return count;
+    count--;
+    for (size_t i = 0; i < said_count; i++) {
+        ptpm_clock_handle_said(clock, said[i].port, heard->octets, heard->size, &said[i].say, made, PTPM_MOST_SENT, &made_count, &changed);
+        if (made_count == 0) continue;
+        places[count] = made[made_count - 1];           /* the copies that are passed on come before it */
+        places[count++].port = ingress_of(heard);
+    }
+    return count;
 }

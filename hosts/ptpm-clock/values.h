@@ -14,7 +14,15 @@ extern bool has_values;
 void start_values(const struct options *given);
 
 /* What the device says of a datagram that came in at this clock. That is the value that it is asked for, as its file has
-   it now. NULL if it says nothing. A file without a value is said once. What is returned stays until the next call. */
+   it now, or the first of these. NULL if it says nothing. A file without a value is said once. What is returned stays until the
+   next call. */
 const struct ptpm_say *value_to_give(const struct ptpm_clock *clock, struct heard *heard);
+
+/* The port at which a datagram is handed in, whose identity the answer then has. It is the one whose value a GET of this clock asks for, and
+   otherwise the one at which it came in. */
+uint16_t port_asked(const struct heard *heard);
+
+/* After a turn with `value_to_give`: how many messages there are once each port whose value is given answers by itself. */
+size_t answer_from_ports(struct ptpm_clock *clock, const struct heard *heard, struct ptpm_sent *places, size_t count);
 
 #endif

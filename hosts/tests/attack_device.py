@@ -306,6 +306,52 @@ def values_over_the_rate():
     wire.remove()
 
 
+def value_get(number, port, source=STRANGER, target=ME):
+    """A GET of 2014 at a port."""
+    octets = bytearray(field_set(number, "2014", b"", source, 0, port))
+    octets[34:42] = bytes.fromhex(target)
+    return bytes(octets)
+
+
+def values_of_ports():
+    """Each port answers with its own value: to a stranger each that is asked, and to a manager one, also if it asks again."""
+    wires = [Wire(f"clk{number}", 10 + number) for number in range(3)]
+    words = [word for port in (1, 2, 3) for word in ("--give", f"2014/{port}", write(f"value{port}", f"v{port}"))]
+    clock = Clock("-m", MANAGER + "/1", "-u", path, *words, ME, *(wire.name for wire in wires))
+    every, stranger = "ff" * 8, [(port, b"v%d" % port) for port in (1, 2, 3)]
+
+    def answered(octets, at=0):
+        """The port of each answer that goes out there, and its octets, or None in place of a refusal."""
+        wires[at].come_in(octets)
+        return [(int.from_bytes(one[28:30], "big"), None if one[48:50] == b"\0\2" else one[54:]) for one in wires[at].sent() if one[46] & 15 == 2]
+    check("a GET of a port is answered by that port", answered(value_get(1, 2)) == [(2, b"v2")])
+    check("also at another one", answered(value_get(2, 1), 2) == [(1, b"v1")])
+    check("a GET of every port by each", answered(value_get(3, 0xFFFF)) == stranger)
+    check("so is that to every clock", answered(value_get(4, 0xFFFF, target=every), 1) == stranger)
+    check("which is passed on once", [len(wires[at].sent()) for at in (0, 2)] == [1, 1])
+    check("a GET of a port to every clock", answered(value_get(5, 3, target=every)) == [(3, b"v3")])
+    check("a manager's", answered(value_get(6, 2, MANAGER)) == [(2, b"v2")])
+    write("value2", "w2")
+    check("and its copy, as it was kept", answered(value_get(6, 2, MANAGER)) == [(2, b"v2")])
+    check("a manager's GET of every port has one answer", answered(value_get(7, 0xFFFF, MANAGER), 1) == [(2, b"w2")])
+    os.unlink(os.path.join(work, "value2"))
+    check("a port without a value refuses", answered(value_get(8, 2)) == [(2, None)])
+    check("and the others answer", answered(value_get(9, 0xFFFF)) == [stranger[0], stranger[2]])
+    peer = Peer("peer")
+    peer.ask(value_get(10, 3))
+    check("at the Unix socket too", peer.socket.recv(2048)[28:30] == b"\0\3")
+    peer.close()
+    check("it ends in order", clock.end()[0] == 0)
+    for wire in wires:
+        wire.remove()
+    for given, said in [("2014/9", "a port has a number from 1 to 8"), ("2014/", "a port has a number"), ("2014/2", "there is no port 2, but 1")]:
+        clock = Clock("-u", path, "--give", given, "value", ME)
+        check(f"{given} is refused", clock.end(None)[0] == 2 and said in clock.text())
+    for one, other in [("2014", "2014/1"), ("2014/1", "2014")]:
+        clock = Clock("-u", path, "--give", one, "value", "--give", other, "value", ME)
+        check(f"{one} and {other} are refused", clock.end(None)[0] == 2 and "the id is given twice" in clock.text())
+
+
 def changes_that_are_not_saved():
     """A change to which the program agreed is lost if the clock is killed before it is saved, or can't save it. It comes again, the
     program is run again, and it is made once."""
@@ -351,6 +397,7 @@ def is_child(process, parent):
 
 
 ATTACKS = [limits_of_hardware, limits_that_are_wrong, what_a_program_says, what_a_program_inherits, programs_that_say_nothing,
-           changes_that_wait, floods_while_a_program_runs, kills_while_a_program_runs, values_over_the_rate]
+           changes_that_wait, floods_while_a_program_runs, kills_while_a_program_runs, values_over_the_rate,
+           values_of_ports]
 if HAS_STRACE:
     ATTACKS += [changes_that_are_not_saved, questions_that_are_not_taken]
