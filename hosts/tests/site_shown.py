@@ -175,10 +175,10 @@ def open_ones():
 
 
 def looks_for_a_time():
-    """As many looks as fit into a time, and one site."""
+    """As many looks as fit into a time, and one site. A look takes over a second: who is there is asked in three rounds."""
     shown = Shown([(1, text_of(STEPS)), (0, text_of())], "status", "--for", "7")
-    check(f"it looks each two seconds for as long as is wanted: {len(shown.calls)} looks, {shown.took:.1f} s", shown.done.stdout == text_of()
-          and shown.done.returncode == 0 and 7 < shown.took < 14 and len(shown.calls) in (4, 5))
+    check(f"it looks again after two seconds, for as long as is wanted: {len(shown.calls)} looks, {shown.took:.1f} s", shown.done.stdout == text_of()
+          and shown.done.returncode == 0 and 7 < shown.took < 14 and len(shown.calls) in (3, 4))
 
 
 def passing_ones():
