@@ -23,7 +23,7 @@ if command -v strace > /dev/null; then
         check "and the one after it finds nothing" "$(asked 'priority1 8' -i near0 set PRIORITY1 8 && [ ! -s "$work/said" ] && echo yes)"
     done << 'END'
 sendmsg|2|0||between the save and its request
-recvfrom|2|1||between its request and the answer
+ppoll|2|1||between its request and the answer
 renameat|3|1|priority2 4|between the answer and the next save
 END
     { killed sendmsg 2 9; } 2> /dev/null
@@ -37,12 +37,12 @@ END
     # the 32,767th request since the latest that was answered, under the number that it had
     { killed sendmsg 2 9; } 2> /dev/null
     python3 - "$kept" << 'END'
-import sys
-octets = bytearray(open(sys.argv[1], "rb").read()[:-16])     # without its seal, as a former version left it
+import sys, zlib
+octets = bytearray(open(sys.argv[1], "rb").read()[:-4])      # without the checksum at its end
 first, begun = int.from_bytes(octets[31:33], "big"), int.from_bytes(octets[36:44], "big")
 octets[31:33] = ((first + begun - 32767) % 65536).to_bytes(2, "big")
 octets[36:52] = (32767).to_bytes(8, "big") + bytes(8)
-open(sys.argv[1], "wb").write(octets)
+open(sys.argv[1], "wb").write(octets + zlib.crc32(octets).to_bytes(4, "big"))
 END
     check "the last in reach is not let go" "$(refuses 'nothing was sent: OUT_OF_REACH: set PRIORITY2 of an earlier run, number ' \
         -i near0 --give-up set PRIORITY1 9 --target $to)"
@@ -85,7 +85,7 @@ END
     check "it is let go, and the run goes on in domain 0" "$(asked 'priority1 11' $by_me --give-up set PRIORITY1 11 &&
         says "set PRIORITY1 $earlier in domain 1, is let go: a get there shows whether it was carried out$" &&
         asks 'priority1 50' -i near0 -d 1 get PRIORITY1)"
-    { left recvfrom $by_me -d 1 set DOMAIN 4; } 2> /dev/null
+    { left ppoll $by_me -d 1 set DOMAIN 4; } 2> /dev/null
     check "a SET of DOMAIN is finished where it leads" "$(asked 'priority1 50' $by_me -d 4 get PRIORITY1 &&
         says "set DOMAIN $earlier, had no answer yet, and was sent again:$" && says 'domainNumber 4$' && echo yes)"
     { left sendmsg $by_me -d 4 get PRIORITY1; } 2> /dev/null
