@@ -44,7 +44,7 @@ NEIGHBOUR = [("neighbour", ["eth0"], "020000.fffe.000020", "", 128)]
 LAB = "docs/tutorial.md"    # whose network is that of examples/lab
 AT_REST = 69            # octets of a session's file without a request, its seal among them
 # The clocks that a page does not begin itself: at the device, with the manager.
-AGENT = "ptpm-clock -m 020000fffe000010/1"
+AGENT = "ptpm-clock -m 000000fffe000010/1"
 # A ptp4l of another sdoId, over Ethernet.
 OTHER_SDO = ("printf '[global]\\ntransportSpecific 0x1\\nclockIdentity 020000.fffe.000033\\n' > /run/other.conf; "
              f"exec {WITHOUT_CLOCK} ptp4l -2 -S -m -i eth0 -f /run/other.conf --uds_address /run/ptp4l.other")
