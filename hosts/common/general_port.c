@@ -98,6 +98,18 @@ int open_copies(bool is_six) {
     return is_filtered && is_checked && tell_places(opened, is_six) ? opened : closed(opened);
 }
 
+int open_diverted(bool is_six, uint16_t port) {
+    const struct sockaddr_in6 six = { .sin6_family = AF_INET6, .sin6_port = htons(port) };
+    const struct sockaddr_in four = { .sin_family = AF_INET, .sin_port = htons(port) };
+    int opened = socket(is_six ? AF_INET6 : AF_INET, SOCK_DGRAM | SOCK_CLOEXEC, 0);
+    if (opened < 0) return -1;
+    bool is_ready = filter_udp(opened, true) && tell_places(opened, is_six) && (!is_six || set_number(opened, IPPROTO_IPV6, IPV6_V6ONLY, 1));
+    const struct sockaddr *place = is_six ? (const struct sockaddr *)&six : (const struct sockaddr *)&four;
+    return is_ready && bind(opened, place, is_six ? sizeof six : sizeof four) == 0 ? opened : closed(opened);
+}
+
+bool hear_none(int socket) { return set_filter(socket, wanted_of_none, 1); }
+
 int open_packets(bool is_six) {
     const int one = 1;
     const char *what;

@@ -18,6 +18,13 @@ int open_general_port(bool is_six, bool is_heard);
    It needs the capability CAP_NET_RAW. -1 and errno if it can't be made. */
 int open_copies(bool is_six);
 
+/* A socket at another UDP port, to which a rule of the firewall diverts management messages for port 320. They come by unicast, and to
+   groups that other sockets have joined. -1 and errno as above. */
+int open_diverted(bool is_six, uint16_t port);
+
+/* Has a socket hear nothing from now on; whether it does. */
+bool hear_none(int socket);
+
 /* A socket that hears the packets with such datagrams as they come in from a link, with the hardware address of who sent them. -1
    and errno as above. */
 int open_packets(bool is_six);

@@ -9,6 +9,9 @@
 #include "observation.h"
 #include "output.h"
 #include "peers.h"
+#include "ptp4l.h"
+#include "ptp4l_change.h"
+#include "ptp4l_values.h"
 #include "saving.h"
 #include "unicast.h"
 #include "values.h"
@@ -46,12 +49,32 @@ void start_clock(const struct options *given) {
     exit(1);
 }
 
-void save_clock(void) { save_at_start(&clock_held); }
-
 static uint8_t domain(void) {
     uint8_t octets[PTPM_MOST_READ];
     size_t size;
     return ptpm_clock_read(&clock_held, PTPM_ID_DOMAIN, 0, octets, sizeof octets, &size) == PTPM_READ ? *octets : 0;
+}
+
+/* What became of a change that an earlier run asked the ptp4l for is decided now. The answer is kept, and a copy gets it. */
+static void settle_earlier(void) {
+    static uint8_t octets[MOST_HEARD];
+    static struct ptpm_sent sent[PTPM_MOST_SENT];
+    struct heard earlier = { .octets = octets };
+    struct ptpm_question asked;
+    struct ptpm_changed changed;
+    uint16_t port;
+    size_t count;
+    if (!earlier_change(&port, octets, &earlier.size)) return;
+    if (ptpm_clock_ask(&clock_held, port, octets, earlier.size, &asked) != PTPM_ASKED_CHANGE) return;
+    lower_hops(&earlier);
+    ptpm_clock_handle_said(&clock_held, port, octets, earlier.size, settle_change(&asked), sent, PTPM_MOST_SENT, &count, &changed);
+}
+
+void save_clock(void) {
+    start_ptp4l(options, domain());
+    if (has_ptp4l) settle_earlier();
+    save_at_start(&clock_held);
+    if (has_ptp4l) end_change(true);
 }
 
 /* Another clock with this identity and domain may have been started before this one, and still run. From then on one that is started
@@ -71,11 +94,12 @@ void report_twin(void) {
     close(claim);
 }
 
-/* The portState that a GET of PORT_DATA_SET shows, by its name. */
+/* The portState that a GET of PORT_DATA_SET shows, by its name. That of a ptp4l is the ptp4l's. */
 static const char *state_of(size_t port) {
     static struct field_lines lines;
     uint8_t octets[PTPM_MOST_READ];
     size_t size;
+    if (has_ptp4l) return "of the ptp4l";
     if (ptpm_clock_read(&clock_held, PTPM_ID_PORT_DATA_SET, (uint16_t)port, octets, sizeof octets, &size) != PTPM_READ) return "?";
     start_lines(&lines, PTPM_ID_PORT_DATA_SET, octets, size);
     const char *name = value_of(&lines, "portState");
@@ -151,7 +175,8 @@ static inline unsigned long hand_on(const struct turn *turn, enum ptpm_handled a
     for (size_t i = 0; is_of_port && i < turn->count; i++) turn->places[i].port = ingress_of(turn->heard);
     count_answer(answer);
     if (answer == PTPM_ANSWERED_NEW) note_change();
-    *left = keep_back(turn->heard, answer, turn->places, turn->count, kept);
+    size_t count = has_ptp4l ? show_value(turn->heard, turn->places, turn->count) : turn->count;
+    *left = keep_back(turn->heard, answer, turn->places, count, kept);
     for (size_t i = 0; i < *left; i++) lost += send_out(kept[i], turn->heard);
     use_places(turn->count);
     return lost;
@@ -227,6 +252,7 @@ static unsigned long take_verbose_turn(struct turn *turn) {
    clock before the save, which only managers could change, and their requests wait. */
 static unsigned long take_turn(struct heard *heard, const struct ptpm_say *say) {
     lower_hops(heard);
+    if (has_ptp4l && !learn_value(heard)) return 1;
     struct turn turn = { .heard = heard, .say = say, .places = places_to_send() };
     if (turn.places == NULL) {
         count_dropped(send_saved());
@@ -234,6 +260,7 @@ static unsigned long take_turn(struct heard *heard, const struct ptpm_say *say) 
     }
     struct ptpm_clock *clock = is_saving ? &clock_before : &clock_held;
     if (has_values && say == NULL) turn.say = value_to_give(clock, heard);
+    if (has_ptp4l && turn.say == NULL) turn.say = value_learned(clock, heard);
     if (options->is_verbose) return take_verbose_turn(&turn);
     bool is_simple = turn.say == NULL && !heard->is_of_owner;
     enum ptpm_handled answer = is_simple ? ptpm_clock_handle(clock, handed_in_at(heard), heard->octets, heard->size, turn.places,
@@ -286,14 +313,18 @@ void take_owner_round(int socket) {
 
 void take_unicast_round(void) { take_all(hear_unicast(heard_now)); }
 
-static void send_taken(unsigned long lost) {
-    count_dropped(lost);
-    let_go_of_held(taken);
-    let_go_of_change();
-}
-
 static bool is_asked(const struct heard *held, struct ptpm_question *asked) {
     return ptpm_clock_ask(&clock_held, ingress_of(held), held->octets, held->size, asked) == PTPM_ASKED_CHANGE;
+}
+
+/* After a save that failed a change is one to be asked for again. */
+static void send_taken(unsigned long lost) {
+    const struct heard *change = has_ptp4l ? taken_change() : NULL;
+    struct ptpm_question asked;
+    count_dropped(lost);
+    let_go_of_held(taken);
+    if (change != NULL) end_change(!is_unsaved && !is_asked(change, &asked));
+    let_go_of_change();
 }
 
 /* A manager's request. The device is asked about a change, which waits if its program is to be asked. Nothing else of its manager

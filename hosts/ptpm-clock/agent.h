@@ -9,7 +9,7 @@
    why, if the library does not start it. */
 void start_clock(const struct options *given);
 
-/* It is saved, if it has a file of its state. */
+/* It is saved, if it has a file of its state. Beside a ptp4l what an earlier run asked for is decided first. */
 void save_clock(void);
 
 /* A line on standard error if another clock of this machine has its identity. */

@@ -20,6 +20,8 @@
 #include "ports.h"
 #include "privileges.h"
 #include "program.h"
+#include "ptp4l.h"
+#include "ptp4l_socket.h"
 #include "saving.h"
 #include "service.h"
 #include "source.h"
@@ -44,7 +46,7 @@ static void observe_all(void) {
 }
 
 /* What is polled. The ports come first. */
-enum { UNIX_SOCKET = PORTS, OWNER_SOCKET, UNICAST, SOURCE, LIMITS, SIGNALS, LINKS, TIMER, SAVED, RUNS, WAITS };
+enum { UNIX_SOCKET = PORTS, OWNER_SOCKET, UNICAST, SOURCE, LIMITS, SIGNALS, LINKS, TIMER, SAVED, RUNS, PTP4L, WAITS };
 
 static int polled = -1;
 static unsigned long polled_openings[PORTS];    /* which socket of each port is polled */
@@ -109,6 +111,7 @@ static bool take_event(uint32_t what) {
     case TIMER: read_timer(); break;
     case SAVED: take_saved(); break;
     case RUNS: hear_program(); break;
+    case PTP4L: take_answers(); break;
     default:
         if (ports[what].socket >= 0) take_round(&ports[what], ports[what].socket);
     }
@@ -145,7 +148,9 @@ static void run(int64_t end) {
         renew_ports(now);
         wait_at_ports();
         look_around(now);
-        int64_t most = end != 0 && end - now < SECOND ? end - now : SECOND, waiting = take_waiting();
+        int64_t most = end != 0 && end - now < SECOND ? end - now : SECOND, of_ptp4l = watch_ptp4l(now), waiting = take_waiting();
+        wait_at(ptp4l_socket(), PTP4L);
+        if (of_ptp4l < most) most = of_ptp4l;
         if (waiting >= 0 && waiting < most) most = waiting;
         wait_at_peers(has_room_for_peers());
         wake_at(now + until_alive(now, most));
@@ -157,6 +162,7 @@ static void run(int64_t end) {
 static void open_all(void) {
     signals = open_signals();
     transport = options.transport;
+    diverted_port = options.ptp4l != NULL ? options.diverted_port : 0;
     links = open_netlink();
     timer = open_timer();
     for (size_t i = 0; i < options.interface_count; i++) open_port(options.interfaces[i]);

@@ -5,6 +5,7 @@
 #include "message_places.h"
 #include "names.h"
 #include "output.h"
+#include "ptp4l_change.h"
 #include "source.h"
 #include <stdlib.h>
 #include <string.h>
@@ -41,7 +42,7 @@ static enum file_says take_limits(void) {
 
 void start_device(const struct options *given) {
     options = given;
-    has_device = options->limits_file != NULL || options->device_program != NULL;
+    has_device = options->limits_file != NULL || has_program();
     if (options->limits_file == NULL) return;
     open_file_source(&source, options->limits_file);
     if (take_limits() != SAYS_LIMITS) exit(2);
@@ -77,7 +78,7 @@ const struct ptpm_say *objection_of_limits(const struct ptpm_question *asked) {
     return &objection;
 }
 
-bool has_program(void) { return options->device_program != NULL; }
+bool has_program(void) { return options->device_program != NULL || options->ptp4l != NULL; }
 
 bool is_passed_over(const struct heard *heard) {
     for (size_t i = state == IS_TAKEN ? 1 : 0; i < count; i++) {
@@ -120,14 +121,32 @@ static void let_go_of_first(void) {
 
 /* It said nothing, so the change counts as lost, and its manager sends it again. */
 static void drop_change(const char *why) {
-    say_at_times("%s %s, and the change counts as lost", options->device_program, why);
+    say_at_times("%s %s, and the change counts as lost", options->ptp4l != NULL ? options->ptp4l : options->device_program, why);
     counts.silent++;
     let_go_of_first();
 }
 
+static void ask_ptp4l_for(const struct ptpm_question *asked) {
+    const struct ptpm_say *say;
+    switch (undertake(&waiting[first].heard, asked, &say)) {
+    case IS_UNDERTAKEN: state = IS_ASKED; break;
+    case IS_SAID: take_word(say); break;
+    case IS_TOO_EARLY: break;
+    case IS_LOST: drop_change("could not be asked");
+    }
+}
+
 void ask_program(const struct ptpm_question *asked) {
-    if (start_run(asked)) state = IS_ASKED;
+    if (options->ptp4l != NULL) ask_ptp4l_for(asked);
+    else if (start_run(asked)) state = IS_ASKED;
     else drop_change("could not be asked");
+}
+
+void take_word(const struct ptpm_say *say) {
+    if (say->kind == PTPM_AGREES) counts.agreed++;
+    else counts.objected++;
+    decide_change(say);
+    if (options->is_verbose) print_line("the ptp4l %s", say->kind == PTPM_AGREES ? "has done it" : error_name(say->error));
 }
 
 /* It was asked, and could not answer. Nothing was done. */
@@ -166,6 +185,8 @@ struct heard *take_change(const struct ptpm_say **say) {
     state = IS_TAKEN;
     return change;
 }
+
+const struct heard *taken_change(void) { return first_in(IS_TAKEN); }
 
 void let_go_of_change(void) {
     if (count > 0 && state == IS_TAKEN) let_go_of_first();

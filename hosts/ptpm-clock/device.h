@@ -26,7 +26,7 @@ void follow_limits(void);
 /* What the limits object to a change; NULL if they don't. It stays until the next call. */
 const struct ptpm_say *objection_of_limits(const struct ptpm_question *asked);
 
-/* Whether the device has a program, which is asked after the limits. */
+/* Whether the device has a program, or is a ptp4l. Either is asked after the limits. */
 bool has_program(void);
 
 /* Whether a change of the manager that sent this waits for the program. Then nothing else of it is taken, which is counted. */
@@ -38,8 +38,11 @@ void wait_for_program(const struct heard *change);
 /* The change that the program is to be asked about; NULL if there is none, or one is being asked or decided. */
 const struct heard *change_to_ask(void);
 
-/* Asks the program about it, or drops it if that can't be done. */
+/* Asks the program about it, or drops it if that can't be done. A ptp4l is asked to carry it out, and may have to be asked later. */
 void ask_program(const struct ptpm_question *asked);
+
+/* What the ptp4l says of it. */
+void take_word(const struct ptpm_say *say);
 
 /* Or it is decided without the program, by what the device says; NULL if the device is not asked. */
 void decide_change(const struct ptpm_say *say);
@@ -53,6 +56,9 @@ const struct heard *decided_change(void);
 /* Takes it, with what the device says; that is NULL if it was not asked. The change stays until it is let go of. NULL if there is
    none. */
 struct heard *take_change(const struct ptpm_say **say);
+
+/* The change that was taken; NULL if none was. */
+const struct heard *taken_change(void);
 
 /* A change that was taken waits no more. Does nothing if none was. */
 void let_go_of_change(void);

@@ -3,6 +3,7 @@
 #include "monotonic.h"
 #include "names.h"
 #include "output.h"
+#include "ptp4l_rules.h"
 #include "words.h"
 #include <getopt.h>
 #include <grp.h>
@@ -17,12 +18,12 @@
 #include <unistd.h>
 
 enum { SECOND = 1000, HOPS_AT_FIRST = 8, RATE_AT_FIRST = 1000, MANAGER_RATE_AT_FIRST = 100, MOST_RATE = 1000000, MODE_AT_FIRST = 0660,
-       ASK_TIME_AT_FIRST = 10, MOST_ASK_TIME = 3600 };
+       ASK_TIME_AT_FIRST = 10, MOST_ASK_TIME = 3600, DIVERTED_AT_FIRST = 10320, LEAST_DIVERTED = 1024 };
 
 /* Options without a letter of their own. */
 enum {
     VERSION = 256, HOPS, RATE, MANAGER_RATE, NO_FORWARD, ANY_SOURCE, TTL_SECURITY, USER, UNIX_GROUP, UNIX_MODE, OWNER, NO_FILTER, LIMITS,
-    ASK, ASK_TIME, GIVE
+    ASK, ASK_TIME, GIVE, PTP4L, DIVERTED, PTP4L_RULES
 };
 
 static const struct option names[] = {
@@ -35,6 +36,8 @@ static const struct option names[] = {
     { "owner", required_argument, NULL, OWNER },
     { "limits", required_argument, NULL, LIMITS }, { "ask", required_argument, NULL, ASK },
     { "ask-time", required_argument, NULL, ASK_TIME }, { "give", required_argument, NULL, GIVE },
+    { "ptp4l", required_argument, NULL, PTP4L }, { "diverted", required_argument, NULL, DIVERTED },
+    { "ptp4l-rules", no_argument, NULL, PTP4L_RULES },
     { "no-filter", no_argument, NULL, NO_FILTER }, { "state", required_argument, NULL, 's' }, { "help", no_argument, NULL, 'h' },
     { "version", no_argument, NULL, VERSION }, { NULL, 0, NULL, 0 },
 };
@@ -42,6 +45,7 @@ static const struct option names[] = {
 static const char help[] =
     "ptpm-clock [OPTION].. IDENTITY INTERFACE..\n"
     "ptpm-clock [OPTION].. -u PATH IDENTITY [INTERFACE..]\n"
+    "ptpm-clock [--diverted PORT] --ptp4l-rules\n"
     "\n"
     "Answers PTP management messages as a clock does, over UDP or Ethernet at its interfaces and at a Unix socket.\n"
     "\n"
@@ -76,6 +80,9 @@ static const char help[] =
     "  --ask-time SECONDS  how long it may take (10); then the change counts as lost\n"
     "  --give ID FILE      the octets of FILE are the answer to a GET of ID, which the clock itself lacks. ID is for example\n"
     "                      CLOCK_DESCRIPTION, or 2014/2, which is that of port 2. FILE is read at each GET\n"
+    "  --ptp4l PATH        it answers for the ptp4l whose Unix socket is PATH, and asks it for each change once at most\n"
+    "  --diverted PORT     the UDP port to which a firewall diverts management messages from the ptp4l (10320)\n"
+    "  --ptp4l-rules       prints the rules of nftables that do that\n"
     "  -n SECONDS          it ends by itself then\n"
     "  -v                  a line for each datagram that it hears, and one for what it changed\n"
     "  --user NAME         the user that it becomes once its sockets are open. Root becomes ptpm if there is such a user,\n"
@@ -144,7 +151,7 @@ static void leave_root(struct options *options) {
     gid_t group = getegid();
     privileges->is_by_default = find_user(privileges, "ptpm") || find_user(privileges, "nobody");
     if (!privileges->is_by_default) say("it stays root: there is no user ptpm, and no nobody");
-    bool has_socket = options->meeting.path != NULL || options->owner != NULL;
+    bool has_socket = options->meeting.path != NULL || options->owner != NULL || options->ptp4l != NULL;
     if (has_socket && options->meeting.group == (gid_t)-1) options->meeting.group = group;
 }
 
@@ -218,6 +225,9 @@ static void take_limit(struct options *options, int option) {
     case NO_FILTER: options->privileges.is_unfiltered = true; break;
     case LIMITS: options->limits_file = optarg; break;
     case ASK: options->device_program = program_path(); break;
+    case PTP4L: options->ptp4l = socket_path("--ptp4l"); break;
+    case DIVERTED: options->diverted_port = (uint16_t)number("--diverted", LEAST_DIVERTED, UINT16_MAX); break;
+    case PTP4L_RULES: options->is_asked_for_rules = true; break;
     case ASK_TIME: options->device_seconds = number("--ask-time", 1, MOST_ASK_TIME); break;
     default: usage();
     }
@@ -284,7 +294,7 @@ static void refuse_itself(const struct options *options) {
 static void refuse_alone(const struct options *options) {
     bool has_socket = options->meeting.path != NULL;
     const char *of_socket = options->limits.is_passed_on_from_host ? "-f" : options->meeting.mode != MODE_AT_FIRST ? "--unix-mode" : NULL;
-    if (!has_socket && options->owner == NULL && options->meeting.group != (gid_t)-1) of_socket = "--unix-group";
+    if (!has_socket && options->owner == NULL && options->ptp4l == NULL && options->meeting.group != (gid_t)-1) of_socket = "--unix-group";
     if (!has_socket && of_socket != NULL) refuse_command_line("%s: its Unix socket is missing: -u PATH", of_socket);
     if (options->device_program == NULL && options->device_seconds != ASK_TIME_AT_FIRST) {
         refuse_command_line("--ask-time: its program is missing: --ask PROGRAM");
@@ -298,7 +308,18 @@ static void refuse_port(const struct options *options) {
     }
 }
 
+/* The ptp4l observes for itself, and is the device. */
+static void judge_ptp4l(const struct options *options) {
+    const char *other = options->source != NULL ? "-o" : options->device_program != NULL ? "--ask" : options->owner != NULL ? "--owner" : NULL;
+    if (options->ptp4l == NULL && options->diverted_port != DIVERTED_AT_FIRST) refuse_command_line("--diverted: --ptp4l PATH is missing");
+    if (options->ptp4l == NULL) return;
+    if (other != NULL) refuse_command_line("--ptp4l and %s exclude each other", other);
+    if (options->transport == ETHERNET) refuse_command_line("--ptp4l and -2 exclude each other: no rule diverts frames");
+    if (options->interface_count == 0) refuse_command_line("--ptp4l: the interfaces of the ptp4l are missing");
+}
+
 static void judge(const struct options *options) {
+    judge_ptp4l(options);
     if (options->interface_count > PORTS) refuse_command_line("it takes eight interfaces at most");
     if (options->interface_count == 0 && options->meeting.path == NULL) {
         refuse_command_line("an interface is missing, or a Unix socket: -u PATH");
@@ -316,8 +337,10 @@ void read_options(struct options *options, int argc, char **argv) {
     ptpm_clock_defaults(&options->settings);
     options->limits = (struct limits){ .hops = HOPS_AT_FIRST, .rate = RATE_AT_FIRST, .manager_rate = MANAGER_RATE_AT_FIRST, .is_passed_on = true };
     options->device_seconds = ASK_TIME_AT_FIRST;
+    options->diverted_port = DIVERTED_AT_FIRST;
     options->meeting = (struct meeting){ .mode = MODE_AT_FIRST, .group = (gid_t)-1 };
     for (int option; (option = getopt_long(argc, argv, "26fu:m:d:s:o:n:vh", names, NULL)) != -1;) take_option(options, option, argv);
+    if (options->is_asked_for_rules) exit(!print_rules(options->diverted_port));
     if (optind == argc) refuse_command_line("the clock's identity is missing");
     if (!ptpm_identity_parse(argv[optind], strlen(argv[optind]), options->settings.identity)) {
         refuse_command_line("%s: it takes a clockIdentity, such as aabbccfffeddee01 or aabbcc.fffe.ddee01", argv[optind]);

@@ -31,8 +31,11 @@ struct options {
     const char *limits_file;            /* the values that the hardware has, or NULL */
     const char *device_program;         /* the program that is asked for each change, or NULL, and how many seconds it may take */
     long device_seconds;
+    const char *ptp4l;                  /* the Unix socket of the ptp4l that the clock answers for, or NULL */
+    uint16_t diverted_port;             /* the UDP port to which management messages are diverted then */
     struct value values[VALUES];
     size_t value_count;
+    bool is_asked_for_rules;            /* it prints rules of the firewall, and ends */
     const char *source;                 /* what the clock observes: a file, a pipe, or NULL */
     bool is_verbose;                    /* a line for each datagram */
     int64_t end;                        /* when it ends by itself, in milliseconds; 0 if it doesn't */

@@ -1,5 +1,6 @@
 #define _GNU_SOURCE
 #include "ports.h"
+#include "general_port.h"
 #include "netlink.h"
 #include "output.h"
 #include "socket_option.h"
@@ -16,12 +17,15 @@ enum { SECOND = 1000 };
 struct port ports[PORTS];
 size_t port_count;
 enum transport transport;
+uint16_t diverted_port;
 
 static bool is_hurried;         /* the kernel reported a change */
 
 static int open_socket(struct port *port, const char **what) {
     if (transport == ETHERNET) return open_ethernet(port->name, port->station, what);
-    return open_udp(port->name, transport == UDP_IPV6, what);
+    int opened = open_udp(port->name, transport == UDP_IPV6, what);
+    if (opened >= 0 && diverted_port != 0) hear_none(opened);
+    return opened;
 }
 
 /* The MTU of the interface as its port is opened: a leave and a join that nobody needs may cost messages if a switch listens. */

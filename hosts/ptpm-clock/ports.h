@@ -27,6 +27,10 @@ extern struct port ports[PORTS];
 extern size_t port_count;
 extern enum transport transport;
 
+/* The UDP port to which a rule of the firewall diverts what comes in for port 320, or 0. Then the ports join the group and send, and
+   nothing is heard there. */
+extern uint16_t diverted_port;
+
 /* Opens the next port. If it can't be opened the program ends with status 2. */
 void open_port(const char *interface);
 

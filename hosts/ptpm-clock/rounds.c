@@ -91,6 +91,14 @@ static bool take_copy(struct heard *heard) {
     return true;
 }
 
+/* What came in by no unicast may have gone to another group. */
+static bool is_to_group(const struct heard *heard) {
+    union sender place;
+    group(&place.room, transport == UDP_IPV6);
+    return transport == UDP_IPV6 ? IN6_ARE_ADDR_EQUAL(&heard->own_six.ipi6_addr, &place.six.sin6_addr)
+                                 : heard->own_four.ipi_addr.s_addr == place.four.sin_addr.s_addr;
+}
+
 static bool take_of_host(struct heard *heard, const struct port *none, struct mmsghdr *message) {
     take_head(heard, none, message);
     heard->own_four = (struct in_pktinfo){ 0 };
@@ -100,7 +108,7 @@ static bool take_of_host(struct heard *heard, const struct port *none, struct mm
     take_inner_address(heard);
     if (heard->sender.any.sa_family != (transport == UDP_IPV6 ? AF_INET6 : AF_INET)) return false;
     heard->port = port_at(transport == UDP_IPV6 ? heard->own_six.ipi6_ifindex : (unsigned)heard->own_four.ipi_ifindex);
-    return heard->port != NULL;
+    return heard->port != NULL && (diverted_port == 0 || heard->is_unicast || is_to_group(heard));
 }
 
 static bool take_copied(struct heard *heard, const struct port *none, struct mmsghdr *message) {

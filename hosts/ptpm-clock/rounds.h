@@ -46,8 +46,8 @@ static inline uint16_t ingress_of(const struct heard *heard) { return heard->por
    round. */
 size_t hear_round(const struct port *port, int socket, struct heard heard[ROUND]);
 
-/* The same at a socket of what is sent to this host by unicast. It may hear copies of it, whose packets are heard at another one
-   (general_port.h). What comes in at no interface of a port is left out. */
+/* The same at a socket of what is sent to this host by unicast, or of all that is diverted. It may hear copies of the first, whose packets
+   are heard at another one (general_port.h). What comes in at no interface of a port is left out. */
 size_t hear_host(int socket, bool is_copied, int packets, struct heard heard[ROUND]);
 
 /* The places of a turn's messages, PTPM_MOST_SENT of them. NULL if there are fewer: then what is to go out has to be sent first. */

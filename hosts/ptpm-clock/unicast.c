@@ -2,7 +2,9 @@
 #include "unicast.h"
 #include "general_port.h"
 #include "output.h"
+#include "program.h"
 #include <stdbool.h>
+#include <stdio.h>
 #include <unistd.h>
 
 /* The port itself, from which nothing is read while copies are heard: anyone who asks gets no ICMP message that nobody is there. */
@@ -32,12 +34,23 @@ static void tell_owner(size_t place) {
 }
 
 void renew_unicast(void) {
-    if (port_count == 0 || transport == ETHERNET) return;
+    if (port_count == 0 || transport == ETHERNET || diverted_port != 0) return;
     if (general < 0 && is_free_somewhere()) general = open_general_port(is_six(), copies < 0);
     for (size_t i = 0; i < port_count && copies < 0; i++) tell_owner(i);
 }
 
+static void open_diverted_port(void) {
+    char what[40];
+    general = open_diverted(is_six(), diverted_port);
+    snprintf(what, sizeof what, "UDP port %u", diverted_port);
+    if (general < 0) give_up(what);
+}
+
 void open_unicast(void) {
+    if (diverted_port != 0) {
+        open_diverted_port();
+        return;
+    }
     if (port_count > 0 && transport != ETHERNET) copies = open_copies(is_six());
     if (copies >= 0) packets = open_packets(is_six());
     renew_unicast();

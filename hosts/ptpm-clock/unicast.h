@@ -1,4 +1,5 @@
-/* What is sent by unicast to UDP port 320 of ptpm-clock's host, at the interfaces of its ports. */
+/* What is sent by unicast to UDP port 320 of ptpm-clock's host, at the interfaces of its ports. Or all that is sent there, if it is diverted
+   to another port. */
 #ifndef UNICAST_H
 #define UNICAST_H
 

@@ -1,0 +1,135 @@
+#define _GNU_SOURCE
+#include "ptp4l_mute.h"
+#include "message_places.h"
+#include "monotonic.h"
+#include "output.h"
+#include "ptp4l_check.h"
+#include "ptp4l_socket.h"
+#include "udp.h"
+#include <string.h>
+#include <unistd.h>
+
+/* When a probe is judged, and after how many milliseconds the next one begins. */
+enum { SETTLING = 100, WHILE_MUTE = 60000, WHILE_HEARD = 2000 };
+
+/* The dataField of PORT_STATS_NP is a portIdentity and 64-bit counts of what was received, of each messageType, the least octet first. */
+enum { PORT_STATS_NP = 0xc005, COUNT_AT = PORT_IDENTITY + 8 * MANAGEMENT_TYPE, COUNT = 8 };
+
+static const struct options *options;
+static uint8_t domain;
+static unsigned probed_life;
+static uint64_t counts[PORTS];          /* as they were last */
+static int64_t due;
+static bool is_sent, is_mute, is_told;
+
+void start_mute(const struct options *given, uint8_t of_clock) {
+    options = given;
+    domain = of_clock;
+}
+
+static uint64_t count_in(const struct ptp4l_answer *answer) {
+    uint64_t count = 0;
+    for (int i = COUNT - 1; i >= 0; i--) count = count << 8 | answer->field[COUNT_AT + i];
+    return count;
+}
+
+/* How many management messages each port of the ptp4l has heard; whether it says that. */
+static bool read_counts(uint64_t heard[PORTS]) {
+    struct ptp4l_answer answer;
+    int64_t end = milliseconds() + PTP4L_PATIENCE;
+    uint16_t number;
+    if (!get_from_ptp4l(PORT_STATS_NP, EVERY_PORT, &number)) return false;
+    for (size_t i = 0; i < ports_of(options); i++) {
+        if (!hear_ptp4l(number, end, &answer)) return false;
+        if (answer.size < COUNT_AT + COUNT || answer.port == 0 || answer.port > ports_of(options)) return false;
+        heard[answer.port - 1] = count_in(&answer);
+    }
+    return true;
+}
+
+/* Which port has heard something since its count was read; how many ports there are if none has. */
+static size_t port_that_heard(const uint64_t now[PORTS]) {
+    size_t port = 0;
+    while (port < ports_of(options) && now[port] == counts[port]) port++;
+    return port;
+}
+
+/* Compares what each port has heard by now with what it had heard before. */
+enum compared { NOT_KNOWN, ARE_SAME, HAVE_RISEN };
+static enum compared compare_counts(void) {
+    uint64_t now[PORTS];
+    if (!read_counts(now) || ptp4l_life() != probed_life) return NOT_KNOWN;
+    size_t port = port_that_heard(now);
+    memcpy(counts, now, sizeof counts);
+    if (port == ports_of(options)) return ARE_SAME;
+    if (!is_told) {
+        say("the ptp4l still hears management messages at %s, and no change is taken: nft list table inet ptpm shows whether they are diverted",
+            options->interfaces[port]);
+    }
+    is_told = true;
+    return HAVE_RISEN;
+}
+
+/* A GET of no clock, by nobody, with no hops. Its TTL is 0, so only this host hears it. */
+static void send_probe_at(const struct port *port) {
+    static const uint8_t nobody[PORT_IDENTITY] = { 0xff, 0xfe, 0xff, 0xfe, 0xff, 0xfe, 0xff, 0xfe, 0xff, 0xfe };
+    uint8_t octets[LEAST_MESSAGE] = { [TYPE_AT] = MANAGEMENT_TYPE, [VERSION_AT] = 2, [LENGTH_AT + 1] = LEAST_MESSAGE, [DOMAIN_AT] = domain,
+                                      [32] = 4, [INTERVAL_AT] = 0x7f, [TLV_AT + 1] = 1, [TLV_AT + 3] = 2 };
+    bool is_six = transport == UDP_IPV6;
+    struct sockaddr_storage to;
+    const int index = (int)port->index, none = 0;
+    const struct ip_mreqn way = { .imr_ifindex = index };
+    memcpy(octets + SOURCE_AT, nobody, sizeof nobody);
+    memcpy(octets + TARGET_AT, nobody, sizeof nobody);
+    int from = socket(is_six ? AF_INET6 : AF_INET, SOCK_DGRAM | SOCK_CLOEXEC, 0);
+    if (from < 0) return;
+    bool is_set = is_six ? setsockopt(from, IPPROTO_IPV6, IPV6_MULTICAST_IF, &index, sizeof index) == 0
+                               && setsockopt(from, IPPROTO_IPV6, IPV6_MULTICAST_HOPS, &none, sizeof none) == 0
+                         : setsockopt(from, IPPROTO_IP, IP_MULTICAST_IF, &way, sizeof way) == 0
+                               && setsockopt(from, IPPROTO_IP, IP_MULTICAST_TTL, &none, sizeof none) == 0;
+    if (is_set) sendto(from, octets, sizeof octets, MSG_DONTWAIT, (struct sockaddr *)&to, group(&to, is_six));
+    close(from);
+}
+
+static void begin_probe(int64_t now) {
+    is_sent = read_counts(counts);
+    due = now + (is_sent ? SETTLING : WHILE_HEARD);
+    for (size_t i = 0; i < port_count && is_sent; i++) send_probe_at(&ports[i]);
+}
+
+static void end_probe(int64_t now) {
+    is_mute = compare_counts() == ARE_SAME;
+    is_sent = false;
+    due = now + (is_mute ? WHILE_MUTE : WHILE_HEARD);
+    if (is_mute && is_told) say("the ptp4l hears no management messages any more, and changes are taken");
+    if (is_mute) is_told = false;
+}
+
+void watch_mute(int64_t now) {
+    if (find_ptp4l() != IS_OURS) {
+        due = now + WHILE_HEARD;
+        return;
+    }
+    if (ptp4l_life() != probed_life) {
+        probed_life = ptp4l_life();
+        is_sent = is_mute = false;
+        due = now;
+    }
+    if (now < due) return;
+    if (is_sent) end_probe(now);
+    else begin_probe(now);
+}
+
+int64_t mute_due(void) { return due; }
+
+bool is_probing(void) { return is_sent; }
+
+bool is_ptp4l_mute(void) {
+    if (!is_mute || ptp4l_life() != probed_life) return false;
+    enum compared compared = compare_counts();
+    if (compared == HAVE_RISEN) {
+        is_mute = false;
+        due = milliseconds() + WHILE_HEARD;
+    }
+    return compared == ARE_SAME;
+}

@@ -1,0 +1,26 @@
+/* Whether the ptp4l is mute: it hears no management messages from the network, so that only this agent answers them. A rule of the
+   firewall diverts them (ptp4l_rules.h). Whether it does is found by what the ptp4l counts (PORT_STATS_NP). */
+#ifndef PTP4L_MUTE_H
+#define PTP4L_MUTE_H
+
+#include "options.h"
+#include <stdbool.h>
+#include <stdint.h>
+
+void start_mute(const struct options *given, uint8_t domain);
+
+/* Probes it: at each of its starts, each minute, and every two seconds while it is not mute. A probe is a message to the group that does
+   not leave this host. */
+void watch_mute(int64_t now);
+
+/* When it is to be called again, in milliseconds of the monotonic clock. */
+int64_t mute_due(void);
+
+/* Whether a probe has begun and not ended. */
+bool is_probing(void);
+
+/* Whether the ptp4l has heard nothing until now. What waits at its ports it takes before what waits on its Unix socket. So if it has heard
+   the request that is handled, it has counted that. */
+bool is_ptp4l_mute(void);
+
+#endif

@@ -1,0 +1,153 @@
+#define _GNU_SOURCE
+#include "ptp4l_values.h"
+#include "message_places.h"
+#include "monotonic.h"
+#include "names.h"
+#include "network_limits.h"
+#include "ptp4l_check.h"
+#include "ptp4l_socket.h"
+#include <string.h>
+
+/* Questions a second for others than managers, who have a rate of their own. */
+enum { QUESTIONS = 200 };
+
+enum {
+    CLOCK_DESCRIPTION = 0x0001, TRACEABILITY_PROPERTIES = 0x2012, TIMESCALE_PROPERTIES = 0x2013, TIME_STATUS_NP = 0xc000,
+    GRANDMASTER_SETTINGS_NP = 0xc001, PORT_DATA_SET_NP = 0xc002, SYNCHRONIZATION_UNCERTAIN_NP = 0xc006
+};
+
+/* Ids that the ptp4l is asked for. An unknown one may be long, or do something. Those that are not of a port are of the clock. */
+static const struct { uint16_t id; bool is_of_port; } ids[] = {
+    { CLOCK_DESCRIPTION, true }, { PTPM_ID_USER_DESCRIPTION, false }, { PTPM_ID_DEFAULT_DATA_SET, false },
+    { PTPM_ID_CURRENT_DATA_SET, false }, { PTPM_ID_PARENT_DATA_SET, false }, { PTPM_ID_TIME_PROPERTIES_DATA_SET, false },
+    { PTPM_ID_PORT_DATA_SET, true }, { PTPM_ID_PRIORITY1, false }, { PTPM_ID_PRIORITY2, false }, { PTPM_ID_DOMAIN, false },
+    { PTPM_ID_SLAVE_ONLY, false }, { PTPM_ID_LOG_ANNOUNCE_INTERVAL, true }, { PTPM_ID_ANNOUNCE_RECEIPT_TIMEOUT, true },
+    { PTPM_ID_LOG_SYNC_INTERVAL, true }, { PTPM_ID_VERSION_NUMBER, true }, { PTPM_ID_CLOCK_ACCURACY, false },
+    { PTPM_ID_UTC_PROPERTIES, false }, { TRACEABILITY_PROPERTIES, false }, { TIMESCALE_PROPERTIES, false }, { PTPM_ID_DELAY_MECHANISM, true },
+    { PTPM_ID_LOG_MIN_PDELAY_REQ_INTERVAL, true }, { TIME_STATUS_NP, false }, { GRANDMASTER_SETTINGS_NP, false },
+    { PORT_DATA_SET_NP, true }, { SYNCHRONIZATION_UNCERTAIN_NP, false },
+};
+enum { IDS = sizeof ids / sizeof *ids };
+
+static const struct options *options;
+static uint8_t domain;
+
+/* What was learned of an id: by ports if it is of them, and otherwise in the first place. */
+static struct { size_t place, size; uint8_t octets[PTPM_MOST_READ]; } learned[1 + PORTS];
+static size_t named = IDS;              /* which id that is; IDS if none */
+static bool is_known;                   /* and whether the ptp4l has answered */
+
+void start_ptp4l_values(const struct options *given, uint8_t of_clock) {
+    options = given;
+    domain = of_clock;
+}
+
+static uint16_t get16(const uint8_t *at) { return (uint16_t)(at[0] << 8 | at[1]); }
+
+static bool is_own(const uint8_t *identity) { return memcmp(identity, options->settings.identity, CLOCK_IDENTITY) == 0; }
+
+/* Which of the ids a GET of this clock, or of every clock, names; IDS if it is none of them. A file of --give comes first. */
+static size_t id_asked(const struct heard *heard) {
+    static const uint8_t every[CLOCK_IDENTITY] = { 0xff, 0xff, 0xff, 0xff, 0xff, 0xff, 0xff, 0xff };
+    const uint8_t *octets = heard->octets;
+    if (heard->size < LEAST_MESSAGE || (octets[ACTION_AT] & LOWER_HALF) != PTPM_GET || octets[DOMAIN_AT] != domain) return IDS;
+    if (!is_own(octets + TARGET_AT) && memcmp(octets + TARGET_AT, every, CLOCK_IDENTITY) != 0) return IDS;
+    uint16_t id = get16(octets + ID_AT);
+    for (size_t i = 0; i < options->value_count; i++) {
+        if (options->values[i].id == id) return IDS;
+    }
+    size_t place = 0;
+    while (place < IDS && ids[place].id != id) place++;
+    return place;
+}
+
+/* How many answers there are of a port: one, or that of each. */
+static size_t answers_of(size_t place, uint16_t port) { return ids[place].is_of_port && port == EVERY_PORT ? ports_of(options) : 1; }
+
+/* currentUtcOffset, and the flags that are UTC's of those of TIME_PROPERTIES_DATA_SET. A ptp4l lacks UTC_PROPERTIES. */
+static void make_utc_properties(uint8_t octets[4]) {
+    enum { FLAGS_AT = 2, UTC_FLAGS = 7 };
+    octets[FLAGS_AT] &= UTC_FLAGS;
+    octets[FLAGS_AT + 1] = 0;
+}
+
+static bool take_value(size_t place, const struct ptp4l_answer *answer) {
+    size_t at = ids[place].is_of_port ? answer->port : 0;
+    if (answer->error != 0 || answer->size > PTPM_MOST_READ || at > PORTS) return false;
+    memcpy(learned[at].octets, answer->field, learned[at].size = answer->size);
+    if (ids[place].id == PTPM_ID_UTC_PROPERTIES && answer->size == 4) make_utc_properties(learned[at].octets);
+    return true;
+}
+
+/* Whether the ptp4l has answered. It may have refused: then it has no value. */
+static bool ask_value(size_t place, uint16_t port) {
+    uint16_t id = ids[place].id, number;
+    int64_t end = milliseconds() + PTP4L_PATIENCE;
+    struct ptp4l_answer answer;
+    if (!get_from_ptp4l(id == PTPM_ID_UTC_PROPERTIES ? PTPM_ID_TIME_PROPERTIES_DATA_SET : id, port, &number)) return false;
+    for (size_t left = answers_of(place, port); left > 0; left--) {
+        if (!hear_ptp4l(number, end, &answer)) return false;
+        if (!take_value(place, &answer)) return id_name(id) == NULL;
+    }
+    return true;
+}
+
+static bool admit_question(struct heard *heard) {
+    static struct ptpm_rate rate;
+    if (!admit_answer_ahead(heard, options->settings.identity)) return false;
+    if (is_of_manager(heard, options->settings.identity)) return true;
+    if (rate.rate == 0) ptpm_rate_start(&rate, QUESTIONS, (uint64_t)milliseconds());
+    return ptpm_rate_take(&rate, (uint64_t)milliseconds());
+}
+
+bool learn_value(struct heard *heard) {
+    named = id_asked(heard);
+    if (named == IDS) return true;
+    for (size_t i = 0; i <= PORTS; i++) learned[i].size = 0;
+    is_known = admit_question(heard) && ask_value(named, get16(heard->octets + TARGET_AT + CLOCK_IDENTITY));
+    return is_known || !is_own(heard->octets + TARGET_AT);
+}
+
+/* What was learned for an answer of this port. */
+static size_t place_of(uint16_t port) { return named < IDS && ids[named].is_of_port && port <= PORTS ? port : 0; }
+
+const struct ptpm_say *value_learned(const struct ptpm_clock *clock, const struct heard *heard) {
+    static struct ptpm_say say;
+    struct ptpm_question asked;
+    if (named == IDS || !is_known || id_name(ids[named].id) != NULL) return NULL;
+    if (ptpm_clock_ask(clock, ingress_of(heard), heard->octets, heard->size, &asked) != PTPM_ASKED_VALUE) return NULL;
+    size_t place = place_of(asked.port == EVERY_PORT ? ingress_of(heard) : asked.port);
+    if (learned[place].size == 0) return NULL;
+    say = (struct ptpm_say){ .kind = PTPM_GIVES, .size = (uint16_t)learned[place].size };
+    memcpy(say.octets, learned[place].octets, learned[place].size);
+    return &say;
+}
+
+static void put16(uint8_t *at, size_t value) {
+    at[0] = (uint8_t)(value >> 8);
+    at[1] = (uint8_t)value;
+}
+
+/* Puts what was learned into an answer; whether it may be sent. An error stays as it is. */
+static bool fill_answer(struct ptpm_sent *answer) {
+    if (get16(answer->octets + TLV_AT) == ERROR_TLV) return true;
+    size_t place = place_of(get16(answer->octets + SOURCE_PORT_AT)), size = learned[place].size;
+    if (size == 0) return false;
+    memcpy(answer->octets + FIELD_AT, learned[place].octets, size);
+    put16(answer->octets + TLV_AT + 2, size + 2);
+    put16(answer->octets + LENGTH_AT, LEAST_MESSAGE + size);
+    answer->size = (uint16_t)(LEAST_MESSAGE + size);
+    return true;
+}
+
+size_t show_value(const struct heard *heard, struct ptpm_sent *sent, size_t count) {
+    size_t left = 0;
+    if (named == IDS) return count;
+    for (size_t i = 0; i < count; i++) {
+        bool is_answer = sent[i].port == ingress_of(heard) && is_own(sent[i].octets + SOURCE_AT);
+        if (is_answer && !(is_known && fill_answer(&sent[i]))) continue;
+        if (left != i) sent[left] = sent[i];
+        left++;
+    }
+    return left;
+}

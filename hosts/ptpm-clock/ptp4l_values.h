@@ -1,0 +1,24 @@
+/* What GETs are answered with beside a ptp4l: the dataField that the ptp4l has, octet for octet. It is asked after a GET came in, and the
+   answer that the clock makes gets these octets. So nothing that the clock holds itself is shown. */
+#ifndef PTP4L_VALUES_H
+#define PTP4L_VALUES_H
+
+#include "options.h"
+#include "ptpm.h"
+#include "rounds.h"
+#include <stdbool.h>
+
+/* The values are those of the clock in this domain. */
+void start_ptp4l_values(const struct options *given, uint8_t domain);
+
+/* Asks the ptp4l for what a datagram is to be answered with, if it is a GET of this clock. Whether that may be taken: if the ptp4l says
+   nothing, nothing is answered. What is asked of every clock is passed on nevertheless. */
+bool learn_value(struct heard *heard);
+
+/* What the ptp4l says of a GET of an id that the clock itself lacks; NULL if it says nothing. It stays until the next call. */
+const struct ptpm_say *value_learned(const struct ptpm_clock *clock, const struct heard *heard);
+
+/* Puts what was learned into the answers to that datagram, and leaves out those for which nothing was. How many messages are left. */
+size_t show_value(const struct heard *heard, struct ptpm_sent *sent, size_t count);
+
+#endif
