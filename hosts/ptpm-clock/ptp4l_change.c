@@ -25,7 +25,7 @@ static const char form[8] = "ptpmU1";
 static const struct options *options;
 static struct kept_file file = { .folder = -1, .mode = 0600 };
 static bool is_noted;
-static struct { bool is_there; uint16_t number; int64_t look; struct ptpm_question asked; } under_way;
+static struct { bool is_there; uint16_t number; unsigned life; int64_t look; struct ptpm_question asked; } under_way;
 
 void start_changes(const struct options *given) {
     static char path[PATH_MAX];
@@ -87,6 +87,7 @@ enum undertaken undertake(const struct heard *change, const struct ptpm_question
     }
     under_way.is_there = true;
     under_way.number = number;
+    under_way.life = ptp4l_life();
     under_way.look = milliseconds() + LOOK_AGAIN;
     under_way.asked = *asked;
     return IS_UNDERTAKEN;
@@ -116,7 +117,7 @@ void take_answer_to_change(const struct ptp4l_answer *answer) {
 void watch_change(int64_t now) {
     if (!under_way.is_there || now < under_way.look) return;
     under_way.look = now + LOOK_AGAIN;
-    if (!is_ptp4l_gone()) return;
+    if (ptp4l_life() == under_way.life && !is_ptp4l_gone()) return;
     take_answers();
     if (!under_way.is_there) return;
     say_at_times("%s: the ptp4l has ended, and a change that it was asked for is answered with GENERAL_ERROR", options->ptp4l);

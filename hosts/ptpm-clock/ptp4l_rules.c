@@ -1,7 +1,7 @@
 #include "ptp4l_rules.h"
 #include <stdio.h>
 
-/* A table in place of the one before. At a hook after prerouting the kernel has chosen the ptp4l's socket already. What is routed to other
+/* A table that replaces the one before. At a hook after prerouting the kernel has chosen the ptp4l's socket already. What is routed to other
    hosts stays as it is. A datagram without a checksum gets none. Fragments come whole only after the hook, and nobody hears them. */
 static const char *const rules[] = {
     "table inet ptpm\n",

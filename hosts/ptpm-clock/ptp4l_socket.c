@@ -136,8 +136,14 @@ void take_answers(void) {
 /* What has come in stays to be taken: it may be the answer to a change. */
 static void disconnect(void) {
     take_answers();
-    close(connected);
+    if (connected >= 0) close(connected);
     connected = -1;
+}
+
+/* It may have answered by now, or ended without an answer. */
+static void hear_silent(void) {
+    take_answers();
+    if (is_silent && is_ptp4l_gone()) disconnect();
 }
 
 /* Its hops are 0, since a ptp4l forwards what comes in on its Unix socket. Its source is not the clock, which drops its own messages. */
@@ -164,7 +170,7 @@ static size_t write_question(uint8_t octets[LEAST_MESSAGE + PTPM_MOST_READ], con
 
 bool ask_ptp4l(const uint8_t clock[8], uint8_t action, uint16_t id, uint16_t port, const uint8_t *field, size_t size, uint16_t *number) {
     uint8_t octets[LEAST_MESSAGE + PTPM_MOST_READ];
-    if (action == PTPM_GET && is_silent) take_answers();
+    if (action == PTPM_GET && is_silent) hear_silent();
     if (connected < 0 || (action == PTPM_GET && is_silent)) return false;
     size_t whole = write_question(octets, clock, action, id, port, field, size);
     *number = latest;
