@@ -1,8 +1,8 @@
-/* takes.so, for hosts/tests/ptp4l: LD_PRELOAD of a ptp4l and of ptpm-clock. Of a ptp4l it writes a line to the file TAKEN at each start,
-   and one for each SET or COMMAND that comes in on its Unix socket, as it takes it. So neither the agent nor a manager writes what was
-   carried out. It kills ptpm-clock at a SET of a ptp4l: right before it is sent if DIES is `noted`, right after that if DIES is
-   `asked`, and once its answer is there if DIES is `answered`. DIES_AFTER is how many SETs come before that one. With STOPS=PROCESS that process
-   is stopped right before a SET is sent. */
+/* takes.so, for hosts/tests/ptp4l: LD_PRELOAD of a ptp4l and of ptpm-clock. Of a ptp4l it writes a line to the file TAKEN at each start.
+   It writes one for each SET or COMMAND on the Unix socket too, as the ptp4l takes that. So neither the agent nor a manager writes what
+   was carried out. It kills ptpm-clock at a SET to a ptp4l. With DIES=noted that is right before the SET is sent, with DIES=asked right
+   after that, and with DIES=answered once its answer is there. DIES_AFTER is how many SETs come before that one. With STOPS=PROCESS that
+   process is stopped right before a SET is sent. */
 #include <fcntl.h>
 #include <signal.h>
 #include <stdbool.h>
