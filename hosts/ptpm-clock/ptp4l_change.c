@@ -18,8 +18,9 @@
 
 enum { LOOK_AGAIN = 500 };      /* milliseconds after which it is seen whether the ptp4l is still there */
 
-/* A note: its form, the port that the request came in at, and the request. */
-struct note { char form[8]; uint16_t port, size; uint8_t octets[MOST_HEARD]; };
+/* A note: its form, the port that the request came in at, and the request. A seal is after it, as after an image. */
+struct note { char form[8]; uint16_t port, size; uint8_t octets[MOST_HEARD + PTPM_SEAL_OCTETS]; };
+enum { NOTE_HEAD = offsetof(struct note, octets) };
 static const char form[8] = "ptpmU1";
 
 static const struct options *options;
@@ -45,6 +46,9 @@ static void drop_note(void) {
     is_noted = false;
 }
 
+/* Its count of saves is no note's. */
+static size_t seal_note(uint8_t *octets, size_t size) { return write_seal(octets, size, 0); }
+
 /* Whether the note is on the disk. */
 static bool write_note(const struct heard *change) {
     static struct note note;
@@ -54,8 +58,8 @@ static bool write_note(const struct heard *change) {
     note.size = (uint16_t)change->size;
     memcpy(note.octets, change->octets, change->size);
     is_noted = true;
-    enum replaced answer = replace_kept(&file, (const uint8_t *)&note, offsetof(struct note, octets) + change->size);
-    if (answer == REPLACED) return true;
+    size_t size = seal_note((uint8_t *)&note, NOTE_HEAD + change->size);
+    if (replace_kept(&file, (const uint8_t *)&note, size) == REPLACED) return true;
     say_at_times("%s.asked: %s", options->state, strerror(errno));
     drop_note();
     return false;
@@ -132,18 +136,30 @@ void end_change(bool is_saved) {
     exit(2);
 }
 
+/* Whether these octets are a note as it was written. */
+static bool is_whole(const uint8_t *octets, size_t size) {
+    static struct note copy;
+    if (size < NOTE_HEAD + PTPM_SEAL_OCTETS || size > sizeof copy) return false;
+    memcpy(&copy, octets, size - PTPM_SEAL_OCTETS);
+    seal_note((uint8_t *)&copy, size - PTPM_SEAL_OCTETS);
+    return memcmp(&copy, octets, size) == 0 && memcmp(copy.form, form, sizeof form) == 0 && copy.size == size - PTPM_SEAL_OCTETS - NOTE_HEAD;
+}
+
 bool earlier_change(uint16_t *port, uint8_t octets[MOST_HEARD], size_t *size) {
-    static uint8_t room[sizeof(struct note)];
-    struct note *found = (void *)room;
+    static struct note found;
     struct stat about;
     size_t all;
-    if (options->state == NULL || read_kept(&file, room, sizeof room, &all, &about) != KEPT_FILE) return false;
+    if (options->state == NULL) return false;
+    enum kept_found there = read_kept(&file, (uint8_t *)&found, sizeof found, &all, &about);
+    if (there == KEPT_NONE) return false;
+    if (there != KEPT_FILE || !is_whole((const uint8_t *)&found, all)) {
+        say("%s.asked: it can't be read, or octets were lost or changed: ptpm-clock(8), \"Beside a ptp4l\", says how to go on", options->state);
+        exit(2);
+    }
     is_noted = true;
-    if (all < offsetof(struct note, octets) || memcmp(found->form, form, sizeof form) != 0) return false;
-    if (found->size > MOST_HEARD || all != offsetof(struct note, octets) + found->size) return false;
-    *port = found->port;
-    *size = found->size;
-    memcpy(octets, found->octets, found->size);
+    *port = found.port;
+    *size = found.size;
+    memcpy(octets, found.octets, found.size);
     return true;
 }
 

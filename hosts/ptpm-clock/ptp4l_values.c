@@ -46,12 +46,16 @@ static uint16_t get16(const uint8_t *at) { return (uint16_t)(at[0] << 8 | at[1])
 
 static bool is_own(const uint8_t *identity) { return memcmp(identity, options->settings.identity, CLOCK_IDENTITY) == 0; }
 
+static uint16_t port_asked(const struct heard *heard) { return get16(heard->octets + TARGET_AT + CLOCK_IDENTITY); }
+
 /* Which of the ids a GET of this clock, or of every clock, names; IDS if it is none of them. A file of --give comes first. */
 static size_t id_asked(const struct heard *heard) {
     static const uint8_t every[CLOCK_IDENTITY] = { 0xff, 0xff, 0xff, 0xff, 0xff, 0xff, 0xff, 0xff };
     const uint8_t *octets = heard->octets;
     if (heard->size < LEAST_MESSAGE || (octets[ACTION_AT] & LOWER_HALF) != PTPM_GET || octets[DOMAIN_AT] != domain) return IDS;
     if (!is_own(octets + TARGET_AT) && memcmp(octets + TARGET_AT, every, CLOCK_IDENTITY) != 0) return IDS;
+    uint16_t port = port_asked(heard);
+    if (port != EVERY_PORT && (port == 0 || port > ports_of(options))) return IDS;
     uint16_t id = get16(octets + ID_AT);
     for (size_t i = 0; i < options->value_count; i++) {
         if (options->values[i].id == id) return IDS;
@@ -104,7 +108,7 @@ bool learn_value(struct heard *heard) {
     named = id_asked(heard);
     if (named == IDS) return true;
     for (size_t i = 0; i <= PORTS; i++) learned[i].size = 0;
-    is_known = admit_question(heard) && ask_value(named, get16(heard->octets + TARGET_AT + CLOCK_IDENTITY));
+    is_known = admit_question(heard) && ask_value(named, port_asked(heard));
     return is_known || !is_own(heard->octets + TARGET_AT);
 }
 
