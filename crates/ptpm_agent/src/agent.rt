@@ -33,6 +33,7 @@ use ptpm_data::{
     Request, Rights, data_sets_law,
 };
 use ptpm_table::{Heard, Look, Outbox, Outgoing, ReplyTable, Sender, SlotTable, SureTable, render};
+use std::mem;
 
 /// A clock's data sets and its reply table, and what becomes of the datagrams that come in at its ports.
 #[derive(Drop)]
@@ -147,6 +148,15 @@ impl<T: ReplyTable + Drop> Agent<T> {
         ensures table { self.new.table ≡ self.old.table }
     {
         self.sets.decide(request, Rights::ALL)
+    }
+
+    /// Exchanges the data sets for these. What is kept of each manager stays. Takes no memory.
+    pub fn swap_sets(&mut self, sets: &mut DataSets)
+        ensures here { self.new.sets ≡ sets.old }
+        ensures there { sets.new ≡ self.old.sets }
+        ensures table { self.new.table ≡ self.old.table }
+    {
+        mem::swap(&mut self.sets, sets);
     }
 
     /// The verdict on a message, and the rights of its source if it is a new request.
