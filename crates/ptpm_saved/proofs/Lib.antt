@@ -11,3 +11,5 @@ pub mod SavingSessionLaws
 pub mod WrittenLemmas
 pub mod WithholdingLaws
 pub mod NextSessionLaws
+pub mod BatchingLaws
+pub mod BatchingClockLaws

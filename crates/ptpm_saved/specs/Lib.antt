@@ -8,3 +8,5 @@ pub mod SavingSession
 pub mod Withholding
 pub mod Written
 pub mod NextSession
+pub mod Batching
+pub mod BatchingClock

@@ -1,11 +1,11 @@
 //! Laws of images, each the contract of a function that changes nothing.
 
-ghost use Rattle.std.specs.Prelude.{◌≡◌, ◌+◌, ◌<◌, ℕ, List, map, true};
+ghost use Rattle.std.specs.Prelude.{◌≡◌, ◌+◌, ◌<◌, ℕ, List, map, true, false};
 ghost use Rattle.std.specs.FinMap as fin;
 ghost use Rattle.std.specs.List.{All};
 ghost use Rattle.ptpm_agent.specs.Agent.{state_of};
-ghost use Rattle.ptpm_table.specs.Entries.{is_known};
-ghost use Rattle.ptpm_agent.specs.Turn.{State};
+ghost use Rattle.ptpm_table.specs.Entries.{Entries, is_known};
+ghost use Rattle.ptpm_agent.specs.Turn.{State, outbox_of, turn};
 ghost use Rattle.ptpm_data.specs.Members.{IsConsistent};
 ghost use Rattle.ptpm_data.specs.ObservationBack.{Observation};
 ghost use Rattle.ptpm_data.specs.Request.{RequestValue};
@@ -13,6 +13,8 @@ ghost use Rattle.ptpm_table.specs.Managers.{Clock};
 ghost use Rattle.ptpm_saved.specs.NextSession.{CanBeginEach, IsOver, counted_after, message_with_hops, next_session, with_hops};
 ghost use Rattle.ptpm_saved.specs.Saving.{Device, Event, Happening, IsAsIfPowered, ReportsAsIfPowered, all_messages, all_reports, happen_all, started};
 ghost use Rattle.ptpm_saved.specs.Withholding.{Withholds, called_each, events_of};
+ghost use Rattle.ptpm_saved.specs.Batching.{Call, IsDevice, all_events, as_device, begun, calls_each};
+ghost use Rattle.ptpm_saved.specs.BatchingClock.{is_of_manager};
 ghost use Rattle.ptpm_manager.specs.Session.{SessionValue};
 ghost use Rattle.ptpm_manager.specs.Setup.{request_message};
 ghost use Rattle.ptpm_saved.specs.SavingSession.{SessionInput, SessionNote, held_by_session, session_process, session_reports};
@@ -92,6 +94,21 @@ pub fn withholding_clock_law()
         (called_each (clock_process c) held_by_clock (started s) calls) }
     ensures withholds { (c : Clock) (d : Device State (ℕ × List ℕ)) (x : Datagram)
         → Withholds (clock_process c) held_by_clock d x }
+{}
+
+/// A clock may go on while it is being saved. Then it is a clock that saves before it answers, to which the requests that wait come in
+/// late, at their save. So `saving_clock_law` holds for it, whatever its host calls, in whatever order, and whenever power fails. Any
+/// other datagram changes nothing, and its answer does not depend on what is kept for managers. The premise is that the host confirms
+/// no image that a restart would not find.
+pub fn batching_clock_law()
+    ensures device { (c : Clock) (s : State) (calls : List (Call Datagram Observation)) → IsConsistent s.sets
+        → IsDevice (clock_process c) (is_of_manager c) s calls }
+    ensures powered { (c : Clock) (s : State) (calls : List (Call Datagram Observation)) → IsConsistent s.sets
+        → IsAsIfPowered (clock_process c) s
+        (all_events (clock_process c) (is_of_manager c) (begun s) calls)
+        (as_device (clock_process c) (calls_each (clock_process c) (is_of_manager c) (begun s) calls)) }
+    ensures alone { (c : Clock) (s : State) (e : Entries) (x : Datagram) → is_of_manager c x ≡ false
+        → outbox_of (turn c s x.0 x.1) ≡ outbox_of (turn c (record { sets = s.sets; entries = e }) x.0 x.1) }
 {}
 
 /// The same for a session that sends nothing while something is unsaved. It still hears and begins meanwhile.
