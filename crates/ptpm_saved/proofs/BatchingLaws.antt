@@ -1,11 +1,11 @@
 -- Calls of a process that is saved in batches are events of a device that saves before it sends.
-use Rattle.std.proofs.Common.{◌≡◌, ◌∙◌, Bool, true, false, ◌&&◌, ◌||◌, ℕ, List, [], ◌∷◌, ◌++◌, take, drop, ap, refl, sym, subst, append_assoc, append-nil}
+use Rattle.std.proofs.Common.{◌≡◌, ◌∙◌, Bool, true, false, ◌&&◌, ◌||◌, ℕ, List, [], ◌∷◌, ◌++◌, take, drop, ap, refl, sym, append_assoc, append-nil}
 use Rattle.std.specs.Prelude.{if◌then◌else◌}
 use Rattle.std.proofs.lemmas.Bool.{false≢true}
-use Rattle.ptpm_saved.specs.Saving.{Came, Comes, Device, Event, Fails, Happening, IsSound, Noted, Notes, Process, Saves, Sends, after_all, all_messages, happen_all, happens, messages_of, noted_each, sent_first, started, took}
-use Rattle.ptpm_saved.specs.Batching.{Batch, Call, Confirms, GivesOut, Handles, HoldsChanges, IsDevice, LosesPower, LosesPowerAfter, Observes, all_events, answers, as_device, begun, calls, calls_each, changes_in, comes_after, comes_late, confirms, events, events_of, gives_out, goes_on, holds, is_held, notes, observes, restarts_at, shown, shown_from, waits}
+use Rattle.ptpm_saved.specs.Saving.{Came, Comes, Device, Event, Fails, Happening, IsSound, Noted, Process, Saves, after_all, all_messages, happen_all, happens, noted_each, sent_first, took}
+use Rattle.ptpm_saved.specs.Batching.{Batch, Call, Confirms, GivesOut, Handles, HoldsChanges, IsDevice, LosesPower, LosesPowerAfter, Observes, all_events, answers, as_device, begun, calls, calls_each, changes_in, comes_after, comes_late, events, events_of, gives_out, goes_on, holds, is_held, notes, observes, shown, shown_from, waits}
 
-abbrev notes_of : {A N : Type 0} → List (Happening A N) → List N
+abbrev pub notes_of : {A N : Type 0} → List (Happening A N) → List N
 notes_of [] = []
 notes_of (Came x ∷ hs) = notes_of hs
 notes_of (Noted n ∷ hs) = n ∷ notes_of hs
@@ -14,17 +14,22 @@ first_saved : (unsaved changes : Bool) → (unsaved || changes) ≡ false → un
 first_saved true changes is = absurd (false≢true (sym is))
 first_saved false changes is = refl
 
+-- what it is saved as, and what it goes on from, can be
+pub record Can {S A N M : Type 0} (can_be : S → Type 0) (b : Batch S A N M) : Type 0 where
+  pub base : can_be b.base
+  pub saved : can_be b.saved
+
 module _ {S A N M : Type 0} (p : Process S A N M) where
   happen-append : (d : Device S M) (es fs : List (Event A N)) → happen_all p d (es ++ fs) ≡ happen_all p (happen_all p d es) fs
   happen-append d [] fs = refl
   happen-append d (e ∷ es) fs = happen-append (happens p d e) es fs
 
-  shown_noted : (s : S) (hs : List (Happening A N)) → shown_from p s hs ≡ noted_each p (notes_of hs) s
+  pub shown_noted : (s : S) (hs : List (Happening A N)) → shown_from p s hs ≡ noted_each p (notes_of hs) s
   shown_noted s [] = refl
   shown_noted s (Came x ∷ hs) = shown_noted s hs
   shown_noted s (Noted n ∷ hs) = shown_noted (p.noted s n) hs
 
-  shown-append : (s : S) (hs gs : List (Happening A N)) → shown_from p s (hs ++ gs) ≡ shown_from p (shown_from p s hs) gs
+  pub shown-append : (s : S) (hs gs : List (Happening A N)) → shown_from p s (hs ++ gs) ≡ shown_from p (shown_from p s hs) gs
   shown-append s [] gs = refl
   shown-append s (Came x ∷ hs) gs = shown-append s hs gs
   shown-append s (Noted n ∷ hs) gs = shown-append (p.noted s n) hs gs
@@ -140,7 +145,7 @@ module _ {S A N M : Type 0} (p : Process S A N M) where
 
     -- ---- each kind of call
 
-    unheld : (hold wait changes : Bool) → (hold ≡ false → changes ≡ false) → (hold && (if wait then true else changes)) ≡ false → changes ≡ false
+    pub unheld : (hold wait changes : Bool) → (hold ≡ false → changes ≡ false) → (hold && (if wait then true else changes)) ≡ false → changes ≡ false
     unheld false wait changes others is = others refl
     unheld true true changes others is = absurd (false≢true (sym is))
     unheld true false changes others is = is
@@ -159,7 +164,7 @@ module _ {S A N M : Type 0} (p : Process S A N M) where
       sent = b.sent;
     }
 
-    handled : (h : Bool) (b : Batch S A N M) (x : A)
+    pub handled : (h : Bool) (b : Batch S A N M) (x : A)
         → (h ≡ false → p.changes (shown p b) x ≡ false)
         → happen_all p (as_device p b) (if h then [] else Comes x ∷ []) ≡ as_device p (if h then holds b x else answers p b x)
     handled true b x others = ap (λ t. at_base t b) (sym (shown-append b.base b.since (Came x ∷ [])))
@@ -174,7 +179,7 @@ module _ {S A N M : Type 0} (p : Process S A N M) where
     given_out b [] = refl
     given_out b (m ∷ ms) = refl
 
-    one_call : (b : Batch S A N M) (c : Call A N)
+    pub one_call : (b : Batch S A N M) (c : Call A N)
         → can_be b.base
         → happen_all p (as_device p b) (events_of p held b c) ≡ as_device p (calls p held b c)
     one_call b (Handles x) can = handled (is_held p held b x) b x
@@ -190,27 +195,23 @@ module _ {S A N M : Type 0} (p : Process S A N M) where
 
     -- ---- any calls
 
-    record Can (b : Batch S A N M) : Type 0 where
-      base : can_be b.base
-      saved : can_be b.saved
-
-    can_handle : (h : Bool) (b : Batch S A N M) (x : A) → Can b → Can (if h then holds b x else answers p b x)
+    can_handle : (h : Bool) (b : Batch S A N M) (x : A) → Can can_be b → Can can_be (if h then holds b x else answers p b x)
     can_handle true b x can = record { base = can.base; saved = can.saved }
     can_handle false b x can = record { base = can.base; saved = can.saved }
 
-    can_observe : (w : Bool) (b : Batch S A N M) (n : N) → Can b → Can (observes p w b n)
+    can_observe : (w : Bool) (b : Batch S A N M) (n : N) → Can can_be b → Can can_be (observes p w b n)
     can_observe true b n can = record { base = can.base; saved = can.saved }
     can_observe false b n can = record { base = sound.noted_can_be (shown p b) n (shown_can_be b.base b.since can.base); saved = can.saved }
 
-    can_go_on : (w : Bool) (now : S) (rest : List (Happening A N)) (b : Batch S A N M) → can_be now → Can (goes_on p w now rest b)
+    can_go_on : (w : Bool) (now : S) (rest : List (Happening A N)) (b : Batch S A N M) → can_be now → Can can_be (goes_on p w now rest b)
     can_go_on true now rest b can = record { base = can; saved = can }
     can_go_on false now rest b can = record { base = after_can_be now rest can; saved = can }
 
-    can_give_out : (b : Batch S A N M) (ms : List M) → Can b → Can (gives_out b ms)
+    can_give_out : (b : Batch S A N M) (ms : List M) → Can can_be b → Can can_be (gives_out b ms)
     can_give_out b [] can = can
     can_give_out b (m ∷ ms) can = record { base = can.base; saved = can.saved }
 
-    can_call : (b : Batch S A N M) (c : Call A N) → Can b → Can (calls p held b c)
+    pub can_call : (b : Batch S A N M) (c : Call A N) → Can can_be b → Can can_be (calls p held b c)
     can_call b (Handles x) can = can_handle (is_held p held b x) b x can
     can_call b (Observes n) can = can_observe (waits b.since) b n can
     can_call b (Confirms k) can = can_go_on (changes_in p (after_all p b.base (take k b.since)) (drop k b.since)) (after_all p b.base (take k b.since)) (drop k b.since)
@@ -222,7 +223,7 @@ module _ {S A N M : Type 0} (p : Process S A N M) where
         record { base = found; saved = found }
 
     each_call : (b : Batch S A N M) (cs : List (Call A N))
-        → Can b
+        → Can can_be b
         → happen_all p (as_device p b) (all_events p held b cs) ≡ as_device p (calls_each p held b cs)
     each_call b [] can = refl
     each_call b (c ∷ cs) can =
