@@ -81,7 +81,7 @@ stands-fewer N is k a =
 
 -- ---- one incident after another
 
-after-append : (N : Network) (k : RestartingNetwork) (is js : List Incident)
+pub after-append : (N : Network) (k : RestartingNetwork) (is js : List Incident)
     → after_incidents N k (is ++ js) ≡ after_incidents N (after_incidents N k is) js
 after-append N k [] js = refl
 after-append N k (i ∷ is) js = after-append N (incident N k i) is js

@@ -77,7 +77,7 @@ module _ (N : Network) (k : RestartingNetwork) (calm : k.waiting ≡ []) where
 
 -- ---- a turn, and the save after it
 
-at-own : (c : ℕ) (made : List Held) → waiting_at c (map (λ m. (c, m)) made) ≡ made
+pub at-own : (c : ℕ) (made : List Held) → waiting_at c (map (λ m. (c, m)) made) ≡ made
 at-own c [] = refl
 at-own c (m ∷ made) = rw (eq-eqb c c refl) (ap (λ (fs : List Held). m ∷ fs) (at-own c made))
 

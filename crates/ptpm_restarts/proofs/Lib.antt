@@ -15,3 +15,4 @@ pub mod Acting
 pub mod ActRuns
 pub mod HostsLowering
 pub mod LoweringBeside
+pub mod Batching

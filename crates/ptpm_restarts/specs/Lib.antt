@@ -5,3 +5,4 @@ pub mod AsIfNever
 pub mod GoingOn
 pub mod ActsAsIfNever
 pub mod HostsLowering
+pub mod Batching

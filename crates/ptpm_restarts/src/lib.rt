@@ -7,6 +7,9 @@ mod going_on;
 mod lowering;
 mod restarts;
 
-pub use going_on::{answered_after_restarts, saved_at_once, started_again, undone_before_the_save};
+pub use going_on::{
+    answered_after_restarts, saved_at_once, started_again,
+    undone_before_the_save,
+};
 pub use lowering::lowered_hops_lose_messages_alone;
-pub use restarts::{restarts_among_acts, restarts_lose_messages_alone};
+pub use restarts::{batches_among_acts, restarts_among_acts, restarts_lose_messages_alone};

@@ -9,6 +9,7 @@ ghost use Rattle.ptpm_network.specs.Machine.{state_after};
 ghost use Rattle.ptpm_network.specs.Network.{Network};
 ghost use Rattle.ptpm_restarts.specs.ActsAsIfNever.{ActsAsIfNever, IsPromisedActing};
 ghost use Rattle.ptpm_restarts.specs.AsIfNever.{IsAsIfNever, IsPromisedRestarting, never_crashed};
+ghost use Rattle.ptpm_restarts.specs.Batching.{BatchIncident, HasRoom, StartConsistent, after_batch_incidents, all_incidents, initial_batching, shown_network};
 ghost use Rattle.ptpm_restarts.specs.Incidents.{Incident, after_incidents};
 ghost use Rattle.ptpm_restarts.specs.Restarting.{RestartingNetwork, initial_restarting, running};
 
@@ -57,4 +58,23 @@ pub fn restarts_among_acts()
     ensures told_again { (N : Network) (is : List Incident) (k : RestartingNetwork) (s : ℕ) (x y : Report) →
         ActsAsIfNever N is k → s < N.sessions →
         Contains (k.told s) x → Contains (k.told s) y → x.index ≡ y.index → x ≡ y }
+{}
+
+/// So it is where clocks go on while they are being saved. What a manager asks of a clock waits there for a save, and comes in late. All
+/// else is answered at once, as if nothing waited. An image may be saved at any moment, and a clock may crash at any moment. The
+/// network is then one whose clocks save before they answer, after other incidents: what waited comes in at its save. So
+/// `restarts_among_acts` holds for it, if no frame is late when it comes in there.
+///
+/// The other premises are that each clock starts with data sets such as a clock has, and that there is room for frames. A host may not
+/// confirm an image that a restart would not find.
+pub fn batches_among_acts()
+    ensures incidents { (N : Network) (is : List BatchIncident) →
+        StartConsistent N → HasRoom N (initial_batching N) is →
+        shown_network N (after_batch_incidents N (initial_batching N) is)
+        ≡ after_incidents N (initial_restarting N) (all_incidents N (initial_batching N) is) }
+    ensures as_if_never { (N : Network) (is : List BatchIncident) →
+        StartConsistent N → HasRoom N (initial_batching N) is →
+        IsPromisedActing N (all_incidents N (initial_batching N) is) →
+        ActsAsIfNever N (all_incidents N (initial_batching N) is)
+        (shown_network N (after_batch_incidents N (initial_batching N) is)) }
 {}
