@@ -1,10 +1,16 @@
 //! How a network goes on that was restarted. Each law is the contract of a function that does nothing, and speaks only of the definitions.
 
-ghost use Rattle.std.specs.Prelude.{◌≡◌, ◌+◌, ◌<◌, ◌≤◌, [], ◌∷◌, ℕ, length, List, map, Ok, Some, true};
+ghost use Rattle.std.specs.Prelude.{◌≡◌, ◌≢◌, ◌+◌, ◌%◌, ◌<◌, ◌≤◌, [], ◌∷◌, ℕ, length, List, map, Ok, Some, true};
+ghost use Rattle.std.specs.FinMap.{get};
 ghost use Rattle.std.specs.Result.{result_err};
+ghost use Rattle.ptpm_codec.specs.declared.message.Message.{Message};
+ghost use Rattle.ptpm_codec.specs.Reading.{message_of};
 ghost use Rattle.ptpm_data.specs.Members.{DataSetsValue, IsConsistent};
 ghost use Rattle.ptpm_data.specs.ObservationBack.{Observation, clock_observation, observed_each, port_observation};
-ghost use Rattle.ptpm_agent.specs.Turn.{turn};
+ghost use Rattle.ptpm_table.specs.declared.reply_table.Look.TheVariants as looks;
+ghost use Rattle.ptpm_table.specs.Entries.{Entry, HasEntry};
+ghost use Rattle.ptpm_agent.specs.Addressing.{is_numbered};
+ghost use Rattle.ptpm_agent.specs.Turn.{Clock, State, look, turn};
 ghost use Rattle.ptpm_agent.specs.declared.verdict.Verdict.TheVariants as verdicts;
 ghost use Rattle.ptpm_manager.specs.declared.ask.Ask.{Ask};
 ghost use Rattle.ptpm_manager.specs.Session.{is_waiting, resumed, retuned};
@@ -80,4 +86,19 @@ pub fn undone_before_the_save()
     ensures given_up { (N : Network) (k : RestartingNetwork) (s : ℕ) →
         k.session s ≡ saved_as (k.session s).live →
         after_incidents N k (GivesUp s ∷ CrashSession s ∷ []) ≡ k }
+{}
+
+/// A manager that does not know its numbers may ask with any, and go on from one that is answered. A clock that answers a request that a
+/// manager addresses to it alone has its sequenceId as the latest of that manager. The sequenceIds after that are new there, up to 32,767
+/// ahead. The premise is that sequenceIds have 16 bits, that which the clock keeps too.
+pub fn answer_shows_latest()
+    ensures latest { (c : Clock) (s : State) (ingress : ℕ) (datagram : List ℕ) (v : Message) →
+        message_of datagram ≡ Some v → is_numbered c v ≡ true → v.number < 65536 →
+        ((e : Entry) → get s.entries v.source ≡ Some e → e.number < 65536) →
+        (turn c s ingress datagram).replies ≢ [] →
+        HasEntry (turn c s ingress datagram).next.entries v.source v.number }
+    ensures next { (c : Clock) (s : State) (w : Message) (n k : ℕ) →
+        is_numbered c w ≡ true → HasEntry s.entries w.source (n % 65536) →
+        w.number ≡ (n + k) % 65536 → 0 < k → k ≤ 32767 →
+        look c s w ≡ looks.New }
 {}

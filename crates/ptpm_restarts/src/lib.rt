@@ -8,7 +8,7 @@ mod lowering;
 mod restarts;
 
 pub use going_on::{
-    answered_after_restarts, saved_at_once, started_again,
+    answer_shows_latest, answered_after_restarts, saved_at_once, started_again,
     undone_before_the_save,
 };
 pub use lowering::lowered_hops_lose_messages_alone;
