@@ -14,7 +14,7 @@ use Rattle.ptpm_table.specs.Numbering.{look_of}
 use Rattle.ptpm_agent.specs.declared.verdict.Verdict.{Verdict}
 use Rattle.ptpm_agent.specs.declared.verdict.Verdict.TheVariants as verdicts
 use Rattle.ptpm_agent.specs.Addressing.{heard_of, is_addressed, is_numbered, is_own, is_request, request_of}
-use Rattle.ptpm_agent.specs.Turn.{State, is_in_domain, is_repeat, judged, look, next_by, outbox_of, reply_by, reply_messages, turn, turn_by, verdict_at}
+use Rattle.ptpm_agent.specs.Turn.{State, is_repeat, judged, look, outbox_of, reply_by, reply_messages, turn, turn_by, verdict_at}
 use Rattle.ptpm_agent.specs.Forwarding.{forwarded}
 use Rattle.ptpm_saved.specs.SavingClock.{Datagram, clock_process, is_new}
 use Rattle.ptpm_saved.specs.Batching.{HoldsChanges}

@@ -1,5 +1,5 @@
 -- No two clocks have the same image.
-use Rattle.std.proofs.Common.{arith, ◌≡◌, ◌∙◌, ap, refl, sym, subst, ℕ, ◌<◌, ◌^◌, ◌==◌, Bool, true, false, cond, List, [], ◌∷◌, ◌++◌, length, append_assoc, Option, Some, None, All}
+use Rattle.std.proofs.Common.{arith, ◌≡◌, ◌∙◌, ap, refl, sym, subst, ℕ, ◌<◌, ◌^◌, ◌==◌, Bool, cond, List, [], ◌∷◌, ◌++◌, length, append_assoc, Option, Some, None, All}
 use Rattle.std.specs.List.{flat_map}
 use Rattle.std.specs.Prelude.{is_some}
 use Rattle.std.specs.FinMap.{entries, find, get-entries, same_map}
@@ -21,7 +21,7 @@ use Rattle.ptpm_data.specs.Reply.{Answer, Outcome, ReplyValue}
 use Rattle.ptpm_data.specs.Request.{RequestValue}
 use Rattle.ptpm_data.proofs.OneImage.{one_image}
 use Rattle.ptpm_data.proofs.PlainMap.{same_front}
-use Rattle.ptpm_table.specs.Entries.{Entries, Entry, FitsAnswer}
+use Rattle.ptpm_table.specs.Entries.{Entries, FitsAnswer}
 use Rattle.ptpm_table.specs.Lending.{AnswerFits}
 use Rattle.ptpm_table.proofs.Identities.{exact_identities, identities_total}
 use Rattle.ptpm_agent.specs.Turn.{State}

@@ -1,5 +1,5 @@
 -- The calls of a host are events, and give nothing out that is not saved.
-use Rattle.std.proofs.Common.{◌≡◌, ◌∙◌, Bool, true, false, ◌&&◌, ◌||◌, List, [], ◌∷◌, ◌++◌, ap, refl, sym, subst}
+use Rattle.std.proofs.Common.{◌≡◌, ◌∙◌, Bool, true, false, ◌&&◌, ◌||◌, List, [], ◌∷◌, ◌++◌, ap, refl, subst}
 use Rattle.std.specs.Prelude.{if◌then◌else◌}
 use Rattle.ptpm_saved.specs.Saving.{Comes, Device, Event, Fails, IsAsIfPowered, Notes, Process, Saves, Sends, happen_all, happens, started, took}
 use Rattle.ptpm_saved.specs.Withholding.{Withholds, called, called_each, event_of, events_of}

@@ -1,5 +1,5 @@
 -- A clock that goes on while it is being saved. A datagram is held if it is a request that a manager of the clock addresses to it alone.
-use Rattle.std.specs.Prelude.{ℕ, Bool, false, List, Result, Ok, Err}
+use Rattle.std.specs.Prelude.{Bool, false, Result, Ok, Err}
 use Rattle.ptpm_codec.specs.declared.error.DecodeError.{DecodeError}
 use Rattle.ptpm_codec.specs.declared.message.Message.{Message}
 use Rattle.ptpm_codec.specs.Reading.{reading}

@@ -1,12 +1,12 @@
 -- The session that goes on for one that is over (this project's profile). A manager starts it once the other has begun as many requests
 -- as it can, or if its messages are to have other hops.
-use Rattle.std.specs.Prelude.{◌≡◌, ℕ, ◌+◌, ◌<◌, List, [], ◌∷◌, None}
+use Rattle.std.specs.Prelude.{◌≡◌, ℕ, ◌+◌, ◌<◌, ◌≤◌, List, [], ◌∷◌, None}
 use Rattle.ptpm_codec.specs.SequenceNumber.{number_of}
 use Rattle.ptpm_codec.specs.declared.message.Message.{Message}
 use Rattle.ptpm_manager.specs.declared.report.Report.{Report}
-use Rattle.ptpm_manager.specs.Session.{SessionValue, count_limit, fresh}
+use Rattle.ptpm_manager.specs.Session.{SessionValue, count_limit, fresh, reach_limit}
 use Rattle.ptpm_saved.specs.Saving.{Came, Happening, after_one}
-use Rattle.ptpm_saved.specs.SavingSession.{Begins, SessionInput, SessionNote, session_process}
+use Rattle.ptpm_saved.specs.SavingSession.{Begins, GivesUp, SessionInput, SessionNote, session_process}
 
 -- its requests have these hops
 abbrev pub with_hops : ℕ → SessionValue → SessionValue
@@ -20,6 +20,11 @@ next_session s hops = fresh (record s.setup { first = number_of s.setup.first (s
 pub record IsOver (s : SessionValue) : Type 0 where
   pub nothing : s.unanswered ≡ None
   pub reported : s.reported ≡ s.issued
+
+-- its last request was reported or let go
+pub record IsIdle (s : SessionValue) : Type 0 where
+  pub nothing : s.unanswered ≡ None
+  pub reported : s.reported ≤ s.issued
 
 abbrev pub message_with_hops : ℕ → Message → Message
 message_with_hops hops v = record v { starting_hops = hops; hops = hops }
@@ -38,3 +43,14 @@ CanBegin s _ = Unit {0}
 abbrev pub CanBeginEach : SessionValue → List (Happening SessionInput SessionNote) → Type 0
 CanBeginEach s [] = Unit {0}
 CanBeginEach s (h ∷ hs) = CanBegin s h × CanBeginEach (after_one session_process s h) hs
+
+-- ---- as long as the first may give up what it is asked to
+
+-- requests that it let go count there, and not for the other
+abbrev pub CanGiveUp : SessionValue → Happening SessionInput SessionNote → Type 0
+CanGiveUp s (Came GivesUp) = s.issued < s.reported + reach_limit
+CanGiveUp s _ = Unit {0}
+
+abbrev pub CanGiveUpEach : SessionValue → List (Happening SessionInput SessionNote) → Type 0
+CanGiveUpEach s [] = Unit {0}
+CanGiveUpEach s (h ∷ hs) = CanGiveUp s h × CanGiveUpEach (after_one session_process s h) hs

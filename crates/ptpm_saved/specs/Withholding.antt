@@ -1,6 +1,6 @@
 -- A process whose host says when it was saved. While something is unsaved, nothing is given out: an input that is held is refused,
 -- and counts as lost (this project's profile).
-use Rattle.std.specs.Prelude.{◌≡◌, Bool, true, false, ◌&&◌, ◌||◌, if◌then◌else◌, List, [], ◌∷◌, ◌++◌}
+use Rattle.std.specs.Prelude.{◌≡◌, Bool, true, ◌&&◌, ◌||◌, if◌then◌else◌, List, [], ◌∷◌, ◌++◌}
 use Rattle.ptpm_saved.specs.Saving.{Comes, Device, Event, Fails, Notes, Process, Saves, Sends, happens, took}
 
 -- ---- the calls of a host

@@ -10,7 +10,7 @@ ghost use Rattle.ptpm_data.specs.Members.{IsConsistent};
 ghost use Rattle.ptpm_data.specs.ObservationBack.{Observation};
 ghost use Rattle.ptpm_data.specs.Request.{RequestValue};
 ghost use Rattle.ptpm_table.specs.Managers.{Clock};
-ghost use Rattle.ptpm_saved.specs.NextSession.{CanBeginEach, IsOver, counted_after, message_with_hops, next_session, with_hops};
+ghost use Rattle.ptpm_saved.specs.NextSession.{CanBeginEach, CanGiveUpEach, IsIdle, IsOver, counted_after, message_with_hops, next_session, with_hops};
 ghost use Rattle.ptpm_saved.specs.Saving.{Device, Event, Happening, IsAsIfPowered, ReportsAsIfPowered, all_messages, all_reports, happen_all, started};
 ghost use Rattle.ptpm_saved.specs.Withholding.{Withholds, called_each, events_of};
 ghost use Rattle.ptpm_saved.specs.Batching.{Call, IsDevice, all_events, as_device, begun, calls_each};
@@ -68,6 +68,8 @@ pub fn saving_session_law()
 /// - whatever happens then, the other sends what the first would send, if that had these hops. That is so until the first is asked for
 ///   more requests than it can begin;
 /// - and it reports what the first would report, each as a request before which that many fewer were begun.
+///
+/// If its last request was let go, all of that holds as long as the first may give up what it is asked to.
 pub fn next_session_law()
     ensures requests { (s : SessionValue) (hops domain k : ℕ) (q : RequestValue) → 0 < k
         → request_message (next_session s hops).setup domain k q
@@ -78,6 +80,14 @@ pub fn next_session_law()
         ≡ all_messages session_process (with_hops hops s) hs }
     ensures reports { (s : SessionValue) (hops : ℕ) (hs : List (Happening SessionInput SessionNote)) → IsOver s
         → CanBeginEach (with_hops hops s) hs
+        → all_reports session_reports session_process (with_hops hops s) hs
+        ≡ map (counted_after s.issued) (all_reports session_reports session_process (next_session s hops) hs) }
+    ensures messages_after_let_go { (s : SessionValue) (hops : ℕ) (hs : List (Happening SessionInput SessionNote)) → IsIdle s
+        → CanBeginEach (with_hops hops s) hs → CanGiveUpEach (with_hops hops s) hs
+        → all_messages session_process (next_session s hops) hs
+        ≡ all_messages session_process (with_hops hops s) hs }
+    ensures reports_after_let_go { (s : SessionValue) (hops : ℕ) (hs : List (Happening SessionInput SessionNote)) → IsIdle s
+        → CanBeginEach (with_hops hops s) hs → CanGiveUpEach (with_hops hops s) hs
         → all_reports session_reports session_process (with_hops hops s) hs
         ≡ map (counted_after s.issued) (all_reports session_reports session_process (next_session s hops) hs) }
 {}

@@ -1,5 +1,5 @@
 use Rattle.std.proofs.Common.{subst}
-use Rattle.ptpm_saved.specs.Saving.{Device, IsAsIfPowered}
+use Rattle.ptpm_saved.specs.Saving.{IsAsIfPowered}
 use Rattle.ptpm_saved.specs.SavingClock.{CanBe, clock_process}
 use Rattle.ptpm_saved.specs.Batching.{all_events, begun}
 use Rattle.ptpm_saved.specs.BatchingClock.{is_of_manager}
