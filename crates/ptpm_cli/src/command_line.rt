@@ -247,7 +247,7 @@ static PLAN: [Argument; 5] = [
     Argument(
         "status-if-changes",
         Nothing,
-        "Ends with status 5, and not 0, if there are changes",
+        "Ends with status 8, and not 0, if there are changes",
     ),
 ];
 

@@ -66,7 +66,7 @@ misses_some rows unnamed found left_out =
 abbrev pub status_of : List Row → List Unnamed → List FoundClocks → ℕ → ℕ
 status_of rows unnamed found left_out = status_of_rows (misses_some rows unnamed found left_out) (list_any is_refused rows)
 
--- 5 in place of 0 if there are changes
+-- 8 in place of 0 if there are changes
 abbrev pub or_changes : List Change → ℕ → ℕ
 or_changes [] status = status
-or_changes (c ∷ cs) status = if status == 0 then 5 else status
+or_changes (c ∷ cs) status = if status == 0 then 8 else status

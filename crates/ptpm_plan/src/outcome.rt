@@ -24,13 +24,13 @@ pub(crate) fn status_of(plan: &Plan) -> u8
     status_of_rows(misses_some(plan), has_refused(plan.rows.as_slice()))
 }
 
-/// The exit status, and 5 in place of 0 if there are changes.
+/// The exit status, and 8 in place of 0 if there are changes.
 pub(crate) fn status_telling_changes(plan: &Plan) -> u8
     ensures { result ≡ or_changes plan.now.changes.items
         (status_of plan.now.rows.items plan.now.unnamed.items plan.now.found.items plan.now.left_out) }
 {
     match (status_of(plan), plan.changes.as_slice()) {
-        (0, [_, ..]) => 5,
+        (0, [_, ..]) => 8,
         (status, _) => status,
     }
 }
