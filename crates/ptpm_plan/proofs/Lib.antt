@@ -1,6 +1,7 @@
 pub mod AskingLemmas
 pub mod Courses
 pub mod Doublings
+pub mod Gathering
 pub mod Groups
 pub mod Least
 pub mod Once
@@ -8,3 +9,4 @@ pub mod OneBest
 pub mod PlannedIds
 pub mod Ranks
 pub mod Steps
+pub mod Surveys

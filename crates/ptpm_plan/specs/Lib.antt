@@ -10,6 +10,7 @@ pub mod After
 pub mod Verdicts
 pub mod Rows
 pub mod Naming
+pub mod FileText
 pub mod Asking
 pub mod Plans
 pub mod Digest

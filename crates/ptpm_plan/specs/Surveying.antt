@@ -1,8 +1,8 @@
 -- What the answers of a survey say of its clocks and ports. The last answer counts.
-use Rattle.std.specs.Prelude.{◌≡◌, ℕ, ◌+◌, ◌==◌, bit_and, Bool, false, not, ◌&&◌, ◌||◌, bytes_eq, List, map, Option, Some, None, reverse}
+use Rattle.std.specs.Prelude.{◌≡◌, ℕ, ◌+◌, ◌==◌, bit_and, Bool, true, false, not, ◌&&◌, ◌||◌, if◌then◌else◌, bytes_eq, List, [], ◌∷◌, ◌++◌, count_by, is_some, map, Option, Some, None, reverse}
 use Rattle.std.specs.List.{All, find, list_any}
 use Rattle.std.specs.Option.{option_map, option_map_or}
-use Rattle.ptpm_codec.specs.Identity.{same_identity}
+use Rattle.ptpm_codec.specs.Identity.{same_clock, same_identity}
 use Rattle.ptpm_codec.specs.declared.identity.ClockIdentity.{ClockIdentity}
 use Rattle.ptpm_data.specs.PortSetting.{place, port_settings}
 use Rattle.ptpm_data.specs.PortState.{state_of}
@@ -10,6 +10,7 @@ use Rattle.ptpm_data.specs.SetField.{octet}
 use Rattle.ptpm_plan.specs.Answers.{is_answer_of, last_answer}
 use Rattle.ptpm_plan.specs.BestClock.{precedence_in}
 use Rattle.ptpm_plan.specs.Octets.{pair_at}
+use Rattle.ptpm_plan.specs.Surveyed.{clock_in, is_clock, is_port, port_in}
 use Rattle.ptpm_plan.specs.declared.answer.Answer.{Answer}
 use Rattle.ptpm_plan.specs.declared.answer.Said.{Said}
 use Rattle.ptpm_plan.specs.declared.answer.Said.TheVariants as says
@@ -106,7 +107,36 @@ IsPortOf answers p = Some p ≡ port_from answers p.domain p.clock p.number
 
 -- ---- all of them
 
--- each clock and each port is as its answers say
+-- one more clock, unless it is there
+abbrev pub with_clock : List Answer → List SurveyedClock → ℕ → ClockIdentity → List SurveyedClock
+with_clock answers clocks domain clock =
+    if is_some (clock_in domain clock clocks) then clocks else clocks ++ clock_from answers domain clock ∷ []
+
+-- the port that an answer is of, if it is one to PORT_DATA_SET, unless it is there
+abbrev pub port_of : List Answer → List SurveyedPort → Answer → Option SurveyedPort
+port_of answers ports a =
+    if (a.id == 0x2004) && not (is_some (port_in a.domain a.source.clock a.source.port ports))
+    then port_from answers a.domain a.source.clock a.source.port else None
+
+-- it is an answer of this port to PORT_DATA_SET
+abbrev pub is_port_answer : ℕ → ClockIdentity → ℕ → Answer → Bool
+is_port_answer domain clock number a =
+    (a.id == 0x2004) && ((a.domain == domain) && (same_clock a.source.clock clock && (a.source.port == number)))
+
+abbrev pub has_port_answer : List Answer → ℕ → ClockIdentity → ℕ → Bool
+has_port_answer answers domain clock number =
+    is_some (port_from answers domain clock number) && list_any (is_port_answer domain clock number) answers
+
+abbrev pub once_if : Bool → ℕ
+once_if true = 1
+once_if false = 0
+
+-- Each clock and each port is as its answers say. A clock that answered is there once, and no other. So is a port that answered
+-- PORT_DATA_SET, unless the last answer refuses it.
 pub record IsSurvey (answers : List Answer) (s : Surveyed) : Type 0 where
   pub clocks : All (IsClockOf answers) s.clocks.items
   pub ports : All (IsPortOf answers) s.ports.items
+  pub each_clock : (domain : ℕ) (clock : ClockIdentity)
+      → count_by (is_clock domain clock) s.clocks.items ≡ once_if (list_any (is_answer_of domain clock) answers)
+  pub each_port : (domain : ℕ) (clock : ClockIdentity) (number : ℕ)
+      → count_by (is_port domain clock number) s.ports.items ≡ once_if (has_port_answer answers domain clock number)

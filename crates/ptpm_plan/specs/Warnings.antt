@@ -1,5 +1,7 @@
 -- Of what a plan warns (this project's profile).
-use Rattle.std.specs.Prelude.{ℕ, ◌^◌, ◌==◌, nat_lt, ℤ, pos, negsuc, Bool, true, List, Option, None, Some, if◌then◌else◌}
+use Rattle.std.specs.Prelude.{◌≡◌, ℕ, ◌+◌, ◌^◌, ◌==◌, nat_lt, ℤ, pos, negsuc, Bool, true, false, length, List, [], ◌∷◌, ◌++◌, flat_map, Option, None, Some, if◌then◌else◌}
+use Rattle.std.specs.List.{filter_map, list_all}
+use Rattle.std.specs.Option.{option_to_list}
 use Rattle.ptpm_codec.specs.Layout.{octet}
 use Rattle.ptpm_data.specs.ManagementId.{set_of}
 use Rattle.ptpm_data.specs.PortSetting.{said_of}
@@ -9,13 +11,15 @@ use Rattle.ptpm_data.specs.declared.management_id.Layout.TheVariants as layouts
 use Rattle.ptpm_data.specs.declared.port_setting.PortSetting.{PortSetting}
 use Rattle.ptpm_plan.specs.BestClock.{is_worse_time}
 use Rattle.ptpm_plan.specs.PlannedId.{setting_of}
+use Rattle.ptpm_plan.specs.Reach.{is_out_of_reach}
 use Rattle.ptpm_plan.specs.declared.best_clock.BestClocks.{BestClocks}
 use Rattle.ptpm_plan.specs.declared.change.Change.{Change}
 use Rattle.ptpm_plan.specs.declared.change.PlannedId.{PlannedId}
 use Rattle.ptpm_plan.specs.declared.change.PlannedId.TheVariants as ids
+use Rattle.ptpm_plan.specs.declared.surveyed.Surveyed.{Surveyed}
 use Rattle.ptpm_plan.specs.declared.surveyed.SurveyedClock.{SurveyedClock}
 use Rattle.ptpm_plan.specs.declared.warning.Warning.{Warning}
-use Rattle.ptpm_plan.specs.declared.warning.Warning.TheVariants.{Refused, Twice, WorseTime}
+use Rattle.ptpm_plan.specs.declared.warning.Warning.TheVariants.{BestClock, Impatient, Mechanism, OutOfReach, Refused, Twice, WorseTime}
 
 -- whether a clock with this agent takes a dataField of an id of the clock. It takes each octet of the others, and a text is in
 -- its range once it is read
@@ -46,3 +50,52 @@ worse_time b = if is_worse_time b.before b.after then Some (WorseTime b.domain b
 abbrev pub below_doublings : ℤ → ℕ → Bool
 below_doublings (pos doublings) octet = nat_lt octet (2 ^ doublings)
 below_doublings (negsuc n) octet = octet == 0
+
+-- ---- all of them
+
+-- the warning of a best clock that changes more than once
+abbrev pub often : BestClocks → Option Warning
+often b = if nat_lt 1 (length b.alterations.items) then Some (BestClock b.domain (length b.alterations.items)) else None
+
+abbrev pub of_best : BestClocks → List Warning
+of_best b = option_to_list (often b) ++ option_to_list (worse_time b)
+
+abbrev pub mechanism_of : PlannedId → ℕ → Option Warning
+mechanism_of ids.DelayMechanism number = Some (Mechanism number)
+mechanism_of id number = None
+
+-- the warning of a change of how a port measures delay
+abbrev pub mechanism : ℕ → Change → Option Warning
+mechanism number c = mechanism_of c.id number
+
+-- the warning of a change that moves its clock to where no request reaches it
+abbrev pub unreached : List Change → Surveyed → ℕ → Change → Option Warning
+unreached changes s number c =
+    if is_out_of_reach changes s c then Some (OutOfReach number c.clock (octet 0 c.after.items)) else None
+
+abbrev pub of_change : List Change → Surveyed → ℕ → Change → List Warning
+of_change changes s number c = option_to_list (mechanism number c) ++ option_to_list (unreached changes s number c)
+
+-- what there is of each change, by its number
+abbrev pub of_changes : (ℕ → Change → List Warning) → ℕ → List Change → List Warning
+of_changes of number [] = []
+of_changes of number (c ∷ cs) = of number c ++ of_changes of (number + 1) cs
+
+abbrev pub is_impatient : Warning → Bool
+is_impatient (Impatient number port) = true
+is_impatient _ = false
+
+-- warnings of ports that may lose their masters are added
+pub record AddsImpatient (old new : List Warning) : Type 0 where
+  pub more : List Warning
+  pub is : new ≡ old ++ more
+  pub are : list_all is_impatient more ≡ true
+
+-- First come those of values that a clock of this project refuses, of two clocks of one identity, and of best clocks. Then come those
+-- of ports that may lose their masters, and of single changes.
+pub record AreWarnings (changes : List Change) (best : List BestClocks) (s : Surveyed) (all : List Warning) : Type 0 where
+  pub impatient : List Warning
+  pub are : list_all is_impatient impatient ≡ true
+  pub is : all
+      ≡ (((filter_map refusal changes ++ filter_map twice s.clocks.items) ++ flat_map of_best best) ++ impatient)
+      ++ of_changes (of_change changes s) 1 changes

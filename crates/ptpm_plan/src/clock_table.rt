@@ -1,11 +1,16 @@
 //! The table of a clock in a plan file.
 
-ghost use Rattle.std.specs.Prelude.{◌≡◌};
+ghost use Rattle.std.specs.Prelude.{◌≡◌, IfOk, Some, codes, length, map, option_and_then};
+ghost use Rattle.std.specs.List.{find};
+ghost use Rattle.std.specs.Option.{option_copied};
+ghost use Rattle.toml.specs.Data.{get_member};
+ghost use Rattle.toml.specs.View.{table_view, view};
+ghost use Rattle.ptpm_members.specs.Identities.{clock_identity_of};
+ghost use Rattle.ptpm_plan.specs.FileText.{clock_in, clock_value, has_alias, if_of_one, number_in, port_in, port_value, ports_in, target_in, text_at};
 ghost use Rattle.ptpm_plan.specs.Naming.{is_of_one_clock};
 
-use crate::file::tables_at;
 use crate::file_fault::{FileFault, Place, TableFault};
-use crate::table_values::{domain_at, shaped, text_at};
+use crate::table_values::{domain_at, number_in, shaped, tables_at, text_at, value_at};
 use crate::text::Text;
 use crate::wish::{ClockWishes, PortWishes, Target};
 use crate::wishes_table::{Owner, read_wishes};
@@ -21,11 +26,14 @@ const CLOCK_KEYS: [&str; 5] = ["identity", "description", "alias", "domain", "po
 const NO_IDENTITY: ClockIdentity = ClockIdentity([0; 8]);
 
 /// Reads the table of the clock that comes after these.
+#[tactic(auto, unfolding(crate::specs::FileText::clock_in))]
 pub(crate) fn read_clock(
     alloc: Global,
     value: &Value,
     earlier: &[ClockWishes],
-) -> Result<ClockWishes, FileFault> {
+) -> Result<ClockWishes, FileFault>
+    ensures { IfOk result (λ c. clock_in (length earlier.now) (view value.now) ≡ Some (clock_value c)) }
+{
     let number = earlier.len();
     let place = Place::Clock(number);
     let table = shaped(value, "clock", place)?;
@@ -44,19 +52,34 @@ pub(crate) fn read_clock(
     })
 }
 
-fn read_target(alloc: Global, table: &Table, place: Place) -> Result<Target, FileFault> {
+#[tactic(auto, unfolding(crate::specs::FileText::target_in))]
+fn read_target(alloc: Global, table: &Table, place: Place) -> Result<Target, FileFault>
+    ensures { IfOk result (λ t. target_in (table_view table.now) ≡ Some t) }
+{
     let identity = text_at(table, "identity", place)?;
     let description = text_at(table, "description", place)?;
     match (identity, description) {
-        (Some(text), None) => match clock_identity_of(text) {
-            Some(identity) if is_of_one_clock(identity) => Ok(Target::Identity(identity)),
-            _ => {
+        (Some(text), None) => match identified(text) {
+            Some(target) => Ok(target),
+            None => {
                 let takes = "a clockIdentity, such as aabbccfffeddee01 or aabbcc.fffe.ddee01";
                 Err(FileFault::takes(place, "identity", takes))
             }
         },
         (None, Some(text)) => Ok(Target::Description(Text::copy_of(alloc, text)?)),
         _ => Err(FileFault::At(place, TableFault::NotOneName)),
+    }
+}
+
+/// The one clock of the identity that a text is.
+fn identified(text: &str) -> Option<Target>
+    ensures { result ≡ if_of_one (clock_identity_of text.now) }
+{
+    let identity = clock_identity_of(text)?;
+    if is_of_one_clock(identity) {
+        Some(Target::Identity(identity))
+    } else {
+        None
     }
 }
 
@@ -72,7 +95,9 @@ fn read_alias(
     table: &Table,
     place: Place,
     earlier: &[ClockWishes],
-) -> Result<Option<Text>, FileFault> {
+) -> Result<Option<Text>, FileFault>
+    ensures { IfOk result (λ alias. text_at (codes "alias") (table_view table.now) ≡ Some alias) }
+{
     let Some(alias) = text_at(table, "alias", place)? else {
         return Ok(None);
     };
@@ -87,33 +112,58 @@ fn read_alias(
 }
 
 /// The clock that has an alias.
-pub(crate) fn clock_of_alias<'a>(
-    clocks: &'a [ClockWishes],
-    alias: &str,
-) -> Option<&'a ClockWishes> {
-    clocks.iter().find(|clock| match &clock.alias {
-        Some(text) => text.as_str() == alias,
-        None => false,
-    })
+pub(crate) fn clock_of_alias<'a>(clocks: &'a [ClockWishes], alias: &str) -> Option<&'a ClockWishes>
+    ensures { option_copied result ≡ find (λ c. has_alias alias.now c.alias) clocks.now }
+{
+    clocks.iter().find(|clock| has_alias(&clock.alias, alias))
 }
 
-fn read_ports(alloc: Global, table: &Table, clock: usize) -> Result<Vec<PortWishes>, FileFault> {
+fn has_alias(alias: &Option<Text>, text: &str) -> bool
+    ensures { result ≡ has_alias text.now alias.now }
+{
+    match alias {
+        Some(alias) => alias.as_str() == text,
+        None => false,
+    }
+}
+
+fn read_ports(alloc: Global, table: &Table, clock: usize) -> Result<Vec<PortWishes>, FileFault>
+    ensures { IfOk result (λ v. ports_in (table_view table.now) ≡ Some (map port_value v.items)) }
+{
     let mut ports = Vec::new(alloc);
-    for value in tables_at(table, "port", Place::Clock(clock))? {
-        let place = Place::Port(clock, ports.len());
-        let table = shaped(value, "port", place)?;
-        let number = number_of(table, place)?;
-        let place = Place::NumberedPort(clock, number);
-        let wishes = read_wishes(alloc, table, Owner::Port, &["number"], place)?;
-        ports.push(PortWishes { number, wishes })?;
+    let values = tables_at(table, "port", Place::Clock(clock))?;
+    for value in values {
+        let port = read_port(alloc, value, clock, ports.len())?;
+        ports.push(port)?;
     }
     Ok(ports)
 }
 
+/// Reads the table of a port of a clock, by both their places.
+#[tactic(auto, unfolding(crate::specs::FileText::port_in))]
+fn read_port(
+    alloc: Global,
+    value: &Value,
+    clock: usize,
+    port: usize,
+) -> Result<PortWishes, FileFault>
+    ensures { IfOk result (λ p. port_in (view value.now) ≡ Some (port_value p)) }
+{
+    let place = Place::Port(clock, port);
+    let table = shaped(value, "port", place)?;
+    let number = number_of(table, place)?;
+    let place = Place::NumberedPort(clock, number);
+    let wishes = read_wishes(alloc, table, Owner::Port, &["number"], place)?;
+    Ok(PortWishes { number, wishes })
+}
+
 /// The portNumber of a port's table. 0 and 0xFFFF are of no port (7.5.2.3).
-fn number_of(table: &Table, place: Place) -> Result<u16, FileFault> {
-    match table.get("number").and_then(|value| value.as_integer()) {
-        Some(number) if 1 <= number && number <= 0xfffe => Ok(number as u16),
-        _ => Err(FileFault::takes(place, "number", "a number from 1 to 65534")),
+fn number_of(table: &Table, place: Place) -> Result<u16, FileFault>
+    ensures { IfOk result
+        (λ n. option_and_then (number_in 1 65534) (get_member (codes "number") (table_view table.now)) ≡ Some n) }
+{
+    match value_at(table, "number").and_then(|value| number_in(value, 1, 0xfffe)) {
+        Some(number) => Ok(number),
+        None => Err(FileFault::takes(place, "number", "a number from 1 to 65534")),
     }
 }

@@ -1,8 +1,12 @@
 //! What a plan file asks of every clock of a domain.
 
+ghost use Rattle.std.specs.Prelude.{◌≡◌, ◌<◌, ◌^◌, IfOk, Some, map};
+ghost use Rattle.toml.specs.View.{table_view, view};
+ghost use Rattle.ptpm_plan.specs.FileText.{clock_value, every_in, every_value, except_in, excepted, excepted_of, named_in, port_wishes_in};
+
 use crate::clock_table::clock_of_alias;
 use crate::file_fault::{FileFault, Place, TableFault};
-use crate::table_values::{clocks_at, domain_at, shaped};
+use crate::table_values::{clocks_at, domain_at, shaped, value_at};
 use crate::text::Text;
 use crate::wish::{ClockWishes, EveryWishes, Target, Wish};
 use crate::wishes_table::{Owner, read_wishes};
@@ -14,12 +18,16 @@ use toml::{Table, Value};
 const EVERY_KEYS: [&str; 4] = ["domain", "clocks", "except", "port"];
 
 /// Reads a table of every clock, which comes after these tables of clocks. `except` may name their aliases.
+#[tactic(auto, unfolding(crate::specs::FileText::every_in))]
 pub(crate) fn read_every(
     alloc: Global,
     value: &Value,
     number: usize,
     clocks: &[ClockWishes],
-) -> Result<EveryWishes, FileFault> {
+) -> Result<EveryWishes, FileFault>
+    requires { number < 2 ^ 63 }
+    ensures { IfOk result (λ e. every_in (map clock_value clocks.now) number (view value.now) ≡ Some (every_value e)) }
+{
     let place = Place::Every(number);
     let table = shaped(value, "every", place)?;
     let domain = domain_at(table, place)?;
@@ -37,32 +45,48 @@ pub(crate) fn read_every(
     })
 }
 
-fn read_port_wishes(alloc: Global, table: &Table, number: usize) -> Result<Vec<Wish>, FileFault> {
-    let Some(value) = table.get("port") else {
+#[tactic(auto, unfolding(crate::specs::FileText::port_wishes_in))]
+fn read_port_wishes(alloc: Global, table: &Table, number: usize) -> Result<Vec<Wish>, FileFault>
+    ensures { IfOk result (λ v. port_wishes_in (table_view table.now) ≡ Some v.items) }
+{
+    let Some(value) = value_at(table, "port") else {
         return Ok(Vec::new(alloc));
     };
     let table = shaped(value, "port", Place::Every(number))?;
     read_wishes(alloc, table, Owner::Port, &[], Place::EveryPort(number))
 }
 
+#[tactic(auto, unfolding(crate::specs::FileText::except_in))]
 fn read_except(
     alloc: Global,
     table: &Table,
     place: Place,
     clocks: &[ClockWishes],
-) -> Result<Vec<Target>, FileFault> {
-    let mut except = Vec::new(alloc);
-    let Some(value) = table.get("except") else {
-        return Ok(except);
-    };
-    let Some(names) = value.as_array() else {
+) -> Result<Vec<Target>, FileFault>
+    ensures { IfOk result (λ v. except_in (map clock_value clocks.now) (table_view table.now) ≡ Some v.items) }
+{
+    match value_at(table, "except") {
+        Some(value) => excepted_of(alloc, value, place, clocks),
+        None => Ok(Vec::new(alloc)),
+    }
+}
+
+/// The clocks that a list names.
+fn excepted_of(
+    alloc: Global,
+    value: &Value,
+    place: Place,
+    clocks: &[ClockWishes],
+) -> Result<Vec<Target>, FileFault>
+    ensures { IfOk result (λ v. excepted_of (map clock_value clocks.now) (view value.now) ≡ Some v.items) }
+{
+    let Some(array) = value.as_array() else {
         return Err(takes_names(place));
     };
-    for name in names.as_slice() {
-        let Some(text) = name.as_str() else {
-            return Err(takes_names(place));
-        };
-        except.push(excepted(alloc, text, place, clocks)?)?;
+    let mut except = Vec::new(alloc);
+    let names = array.as_slice();
+    for name in names {
+        except.push(excepted(alloc, name, place, clocks)?)?;
     }
     Ok(except)
 }
@@ -75,13 +99,30 @@ fn takes_names(place: Place) -> FileFault {
     )
 }
 
-/// The clock that is left out: of this alias, or of this identity.
 fn excepted(
+    alloc: Global,
+    name: &Value,
+    place: Place,
+    clocks: &[ClockWishes],
+) -> Result<Target, FileFault>
+    ensures { IfOk result (λ t. excepted (map clock_value clocks.now) (view name.now) ≡ Some t) }
+{
+    match name.as_str() {
+        Some(text) => named(alloc, text, place, clocks),
+        None => Err(takes_names(place)),
+    }
+}
+
+/// The clock of this alias, or else of this identity.
+#[tactic(auto, unfolding(crate::specs::FileText::named_in), using(crate::proofs::Gathering::found_value))]
+fn named(
     alloc: Global,
     text: &str,
     place: Place,
     clocks: &[ClockWishes],
-) -> Result<Target, FileFault> {
+) -> Result<Target, FileFault>
+    ensures { IfOk result (λ t. named_in (map clock_value clocks.now) text.now ≡ Some t) }
+{
     match (clock_of_alias(clocks, text), clock_identity_of(text)) {
         (Some(clock), _) => Ok(copy_of(alloc, &clock.target)?),
         (None, Some(identity)) => Ok(Target::Identity(identity)),
@@ -92,7 +133,9 @@ fn excepted(
     }
 }
 
-fn copy_of(alloc: Global, target: &Target) -> Result<Target, AllocError> {
+fn copy_of(alloc: Global, target: &Target) -> Result<Target, AllocError>
+    ensures { IfOk result (λ t. t ≡ target.now) }
+{
     match target {
         Target::Identity(identity) => Ok(Target::Identity(*identity)),
         Target::Description(text) => Ok(Target::Description(Text::copy_of(alloc, text.as_str())?)),

@@ -1,23 +1,29 @@
 //! A plan file as a whole: its version, its clocks, and what it asks of every clock.
 
-ghost use Rattle.std.specs.Prelude.{◌≡◌, ◌≤◌, length, take};
+ghost use Rattle.std.specs.Prelude.{◌≡◌, ◌≤◌, IfOk, Some, length, map, take};
+ghost use Rattle.toml.specs.View.{table_view};
+ghost use Rattle.ptpm_plan.specs.FileText.{all_every_in, clock_value, clocks_in, every_value, file_in, file_of, file_value};
 ghost use Rattle.ptpm_plan.specs.Octets.{line_after};
 
 use crate::clock_table::read_clock;
 use crate::every_table::read_every;
 use crate::file_fault::{FileFault, Place, TableFault};
 use crate::octets::line_after;
+use crate::table_values::{tables_at, value_at};
 use crate::text::Text;
-use crate::wish::PlanFile;
+use crate::wish::{ClockWishes, EveryWishes, PlanFile};
 use std::alloc::Global;
-use toml::{Table, Value};
+use toml::Table;
 
 /// A plan file has at most this many octets.
 const TEXT_OCTETS: usize = 262_144;
 
 impl PlanFile {
     /// Reads a TOML document. Of several faults the first one in the order of the file's tables is named.
-    pub fn read(alloc: Global, text: &[u8]) -> Result<PlanFile, FileFault> {
+    #[tactic(auto, unfolding(crate::specs::FileText::file_of))]
+    pub fn read(alloc: Global, text: &[u8]) -> Result<PlanFile, FileFault>
+        ensures { IfOk result (λ file. file_of text.now ≡ Some (file_value file)) }
+    {
         if text.len() > TEXT_OCTETS {
             return Err(FileFault::TooLong);
         }
@@ -40,24 +46,47 @@ fn line_at(text: &[u8], place: usize) -> usize
     line_after(text.get(..place).unwrap_or(text))
 }
 
-fn read_tables(alloc: Global, table: &Table) -> Result<PlanFile, FileFault> {
+fn read_tables(alloc: Global, table: &Table) -> Result<PlanFile, FileFault>
+    ensures { IfOk result (λ file. file_in (table_view table.now) ≡ Some (file_value file)) }
+{
     check_keys(alloc, table)?;
+    let clocks = read_clocks(alloc, table)?;
+    let every = read_all_every(alloc, table, clocks.as_slice())?;
+    Ok(PlanFile { clocks, every })
+}
+
+fn read_clocks(alloc: Global, table: &Table) -> Result<Vec<ClockWishes>, FileFault>
+    ensures { IfOk result (λ v. clocks_in (table_view table.now) ≡ Some (map clock_value v.items)) }
+{
     let mut clocks = Vec::new(alloc);
-    for value in tables_at(table, "clock", Place::File)? {
+    let values = tables_at(table, "clock", Place::File)?;
+    for value in values {
         let clock = read_clock(alloc, value, clocks.as_slice())?;
         clocks.push(clock)?;
     }
+    Ok(clocks)
+}
+
+fn read_all_every(
+    alloc: Global,
+    table: &Table,
+    clocks: &[ClockWishes],
+) -> Result<Vec<EveryWishes>, FileFault>
+    ensures { IfOk result
+        (λ v. all_every_in (map clock_value clocks.now) (table_view table.now) ≡ Some (map every_value v.items)) }
+{
     let mut every = Vec::new(alloc);
-    for value in tables_at(table, "every", Place::File)? {
-        let wishes = read_every(alloc, value, every.len(), clocks.as_slice())?;
+    let values = tables_at(table, "every", Place::File)?;
+    for value in values {
+        let wishes = read_every(alloc, value, every.len(), clocks)?;
         every.push(wishes)?;
     }
-    Ok(PlanFile { clocks, every })
+    Ok(every)
 }
 
 /// Whether the document has the version of a plan, and just its keys.
 fn check_keys(alloc: Global, table: &Table) -> Result<(), FileFault> {
-    let version = table.get("version").and_then(|value| value.as_integer());
+    let version = value_at(table, "version").and_then(|value| value.as_integer());
     if version != Some(1) {
         return Err(FileFault::At(Place::File, TableFault::Version));
     }
@@ -71,22 +100,4 @@ fn check_keys(alloc: Global, table: &Table) -> Result<(), FileFault> {
         }
     }
     Ok(())
-}
-
-/// The elements of the array at a key, none if the key is absent.
-pub(crate) fn tables_at<'a>(
-    table: &'a Table,
-    key: &'static str,
-    place: Place,
-) -> Result<&'a [Value], FileFault> {
-    let Some(value) = table.get(key) else {
-        return Ok(&[]);
-    };
-    match value.as_array() {
-        Some(array) => Ok(array.as_slice()),
-        None => {
-            let takes = "tables, each after its name in double brackets";
-            Err(FileFault::takes(place, key, takes))
-        }
-    }
 }

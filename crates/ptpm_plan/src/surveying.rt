@@ -1,10 +1,10 @@
 //! What the answers of a survey say of its clocks and ports.
 
-ghost use Rattle.std.specs.Prelude.{◌≡◌, IfOk, OnOk, reverse};
-ghost use Rattle.std.specs.List.{All, find, list_any};
-ghost use Rattle.std.specs.Option.{option_copied, option_map};
+ghost use Rattle.std.specs.Prelude.{◌≡◌, ◌++◌, IfOk, OnOk, reverse};
+ghost use Rattle.std.specs.List.{find, list_any};
+ghost use Rattle.std.specs.Option.{option_copied, option_map, option_to_list};
 ghost use Rattle.ptpm_plan.specs.Answers.{is_answer_of};
-ghost use Rattle.ptpm_plan.specs.Surveying.{IsClockOf, IsPortOf, IsSurvey, clock_from, contradicts, field_by, hops_by, is_contradicted, is_slave_only, is_twice, port_from, same_request, same_said};
+ghost use Rattle.ptpm_plan.specs.Surveying.{IsSurvey, clock_from, contradicts, field_by, hops_by, is_contradicted, is_slave_only, is_twice, port_from, port_of, same_request, same_said, with_clock};
 
 use crate::answer::{Answer, Said};
 use crate::answers::{Answers, is_answer_of};
@@ -58,8 +58,8 @@ impl Answers {
 
     /// Adds the clock of an answer, unless it is there.
     fn add_clock(&self, answer: &Answer, clocks: &mut Vec<SurveyedClock>) -> Result<(), AllocError>
-        requires { All (IsClockOf self.now.list.items) clocks.old.items }
-        ensures { OnOk result (All (IsClockOf self.now.list.items) clocks.new.items) }
+        ensures { OnOk result (clocks.new.items
+            ≡ with_clock self.now.list.items clocks.old.items answer.now.domain answer.now.source.clock) }
     {
         let (domain, clock) = (answer.domain, answer.source.clock);
         if clock_in(clocks.as_slice(), domain, clock).is_none() {
@@ -68,19 +68,27 @@ impl Answers {
         Ok(())
     }
 
-    /// Adds the port that an answer is of, if it is one to PORT_DATA_SET, unless it is there.
+    /// Adds the port that an answer is of, unless it is there.
     fn add_port(&self, answer: &Answer, ports: &mut Vec<SurveyedPort>) -> Result<(), AllocError>
-        requires { All (IsPortOf self.now.list.items) ports.old.items }
-        ensures { OnOk result (All (IsPortOf self.now.list.items) ports.new.items) }
+        ensures { OnOk result (ports.new.items
+            ≡ ports.old.items ++ option_to_list (port_of self.now.list.items ports.old.items answer.now)) }
     {
-        let (domain, clock, number) = (answer.domain, answer.source.clock, answer.source.port);
-        let there = port_in(ports.as_slice(), domain, clock, number);
-        if answer.id == PORT_DATA_SET && there.is_none() {
-            if let Some(port) = self.port_from(domain, clock, number) {
-                ports.push(port)?;
-            }
+        if let Some(port) = self.port_of(answer, ports.as_slice()) {
+            ports.push(port)?;
         }
         Ok(())
+    }
+
+    /// The port that an answer is of, if it is one to PORT_DATA_SET, unless it is among these.
+    fn port_of(&self, answer: &Answer, ports: &[SurveyedPort]) -> Option<SurveyedPort>
+        ensures { result ≡ port_of self.now.list.items ports.now answer.now }
+    {
+        let (domain, clock, number) = (answer.domain, answer.source.clock, answer.source.port);
+        if answer.id == PORT_DATA_SET && port_in(ports, domain, clock, number).is_none() {
+            self.port_from(domain, clock, number)
+        } else {
+            None
+        }
     }
 
     /// What its answers say of a clock.

@@ -1,14 +1,28 @@
 //! Values at the keys of a plan file's tables.
 
+ghost use Rattle.std.specs.Prelude.{◌≡◌, ◌≤◌, IfOk, IfSome, Some, codes, map, option_map};
+ghost use Rattle.toml.specs.Data.{as_table, get_member};
+ghost use Rattle.toml.specs.View.{table_view, view};
+ghost use Rattle.ptpm_plan.specs.FileText.{domain_in, expected_in, items_at, number_in, text_at};
+
 use crate::file_fault::{FileFault, Place};
 use toml::{Table, Value};
+
+/// The value at a key.
+pub(crate) fn value_at<'a>(table: &'a Table, key: &str) -> Option<&'a Value>
+    ensures { option_map (λ v. view v.now) result ≡ get_member key.now (table_view table.now) }
+{
+    table.get(key)
+}
 
 /// The table that a value is.
 pub(crate) fn shaped<'a>(
     value: &'a Value,
     key: &'static str,
     place: Place,
-) -> Result<&'a Table, FileFault> {
+) -> Result<&'a Table, FileFault>
+    ensures { IfOk result (λ t. as_table (view value.now) ≡ Some (table_view t.now)) }
+{
     match value.as_table() {
         Some(table) => Ok(table),
         None => Err(FileFault::takes(place, key, "a table")),
@@ -20,8 +34,10 @@ pub(crate) fn text_at<'a>(
     table: &'a Table,
     key: &'static str,
     place: Place,
-) -> Result<Option<&'a str>, FileFault> {
-    match table.get(key) {
+) -> Result<Option<&'a str>, FileFault>
+    ensures { IfOk result (λ t. text_at key.now (table_view table.now) ≡ Some (option_map (λ s. s.now) t)) }
+{
+    match value_at(table, key) {
         None => Ok(None),
         Some(value) => match value.as_str() {
             Some(text) => Ok(Some(text)),
@@ -30,24 +46,62 @@ pub(crate) fn text_at<'a>(
     }
 }
 
+/// The elements of the array at a key, none if the key is absent.
+#[tactic(auto, using(crate::proofs::Gathering::list_items))]
+pub(crate) fn tables_at<'a>(
+    table: &'a Table,
+    key: &'static str,
+    place: Place,
+) -> Result<&'a [Value], FileFault>
+    ensures { IfOk result (λ s. items_at key.now (table_view table.now) ≡ Some (map view s.now)) }
+{
+    let Some(value) = value_at(table, key) else {
+        return Ok(&[]);
+    };
+    match value.as_array() {
+        Some(array) => Ok(array.as_slice()),
+        None => {
+            let takes = "tables, each after its name in double brackets";
+            Err(FileFault::takes(place, key, takes))
+        }
+    }
+}
+
 /// The domainNumber at `domain`, 0 if it is absent.
-pub(crate) fn domain_at(table: &Table, place: Place) -> Result<u8, FileFault> {
-    let Some(value) = table.get("domain") else {
+pub(crate) fn domain_at(table: &Table, place: Place) -> Result<u8, FileFault>
+    ensures { IfOk result (λ domain. domain_in (table_view table.now) ≡ Some domain) }
+{
+    let Some(value) = value_at(table, "domain") else {
         return Ok(0);
     };
-    match value.as_integer() {
-        Some(number) if 0 <= number && number <= 0xff => Ok(number as u8),
-        _ => Err(FileFault::takes(place, "domain", "a number from 0 to 255")),
+    match number_in(value, 0, 0xff) {
+        Some(number) => Ok(number as u8),
+        None => Err(FileFault::takes(place, "domain", "a number from 0 to 255")),
     }
 }
 
 /// How many clocks are to answer, at `clocks`, if the key is there.
-pub(crate) fn clocks_at(table: &Table, place: Place) -> Result<Option<u16>, FileFault> {
-    let Some(value) = table.get("clocks") else {
+pub(crate) fn clocks_at(table: &Table, place: Place) -> Result<Option<u16>, FileFault>
+    ensures { IfOk result (λ expected. expected_in (table_view table.now) ≡ Some expected) }
+{
+    let Some(value) = value_at(table, "clocks") else {
         return Ok(None);
     };
-    match value.as_integer() {
-        Some(number) if 1 <= number && number <= 0xffff => Ok(Some(number as u16)),
-        _ => Err(FileFault::takes(place, "clocks", "a number from 1 to 65535")),
+    match number_in(value, 1, 0xffff) {
+        Some(number) => Ok(Some(number)),
+        None => Err(FileFault::takes(place, "clocks", "a number from 1 to 65535")),
+    }
+}
+
+/// The number that a value is, if it is one from the least to the most.
+pub(crate) fn number_in(value: &Value, least: u16, most: u16) -> Option<u16>
+    ensures number { result ≡ number_in least most (view value.now) }
+    ensures bound { IfSome result (λ number. number ≤ most) }
+{
+    let number = u16::try_from(value.as_integer()?).ok()?;
+    if least <= number && number <= most {
+        Some(number)
+    } else {
+        None
     }
 }

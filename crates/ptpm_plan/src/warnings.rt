@@ -1,13 +1,14 @@
 //! Of what a plan warns.
 
-ghost use Rattle.std.specs.Prelude.{◌≡◌, ◌^◌, nat_lt, IfOk};
+ghost use Rattle.std.specs.Prelude.{◌≡◌, ◌++◌, ◌^◌, nat_lt, IfOk, OnOk, flat_map};
 ghost use Rattle.std.specs.List.{filter_map};
+ghost use Rattle.std.specs.Option.{option_to_list};
 ghost use Rattle.ptpm_plan.specs.BestClock.{is_worse_time};
 ghost use Rattle.ptpm_data.specs.declared.management_id.Layout.TheVariants as layouts;
 ghost use Rattle.ptpm_data.specs.ManagementId.{set_of};
 ghost use Rattle.ptpm_data.specs.Refusals.{is_set_value};
 ghost use Rattle.ptpm_plan.specs.PlannedId.{setting_of};
-ghost use Rattle.ptpm_plan.specs.Warnings.{below_doublings, is_taken, is_taken_of_clock, refusal, twice, worse_time};
+ghost use Rattle.ptpm_plan.specs.Warnings.{AddsImpatient, AreWarnings, below_doublings, is_taken, is_taken_of_clock, mechanism, of_best, of_change, of_changes, often, refusal, twice, unreached, worse_time};
 
 use crate::best_clock::{BestClocks, Rank, first_octet};
 use crate::change::{Change, PlannedId};
@@ -24,27 +25,87 @@ pub fn warnings_of(
     changes: &[Change],
     best: &[BestClocks],
     surveyed: &Surveyed,
-) -> Result<Vec<Warning>, AllocError> {
+) -> Result<Vec<Warning>, AllocError>
+    ensures { IfOk result (λ v. AreWarnings changes.now best.now surveyed.now v.items) }
+{
     let mut found = refusals(alloc, changes)?;
-    for clock in surveyed.clocks.as_slice() {
-        if let Some(warning) = twice(clock) {
-            found.push(warning)?;
-        }
-    }
-    for of_domain in best {
-        add_of_best(of_domain, &mut found)?;
-    }
+    add_twice(surveyed.clocks.as_slice(), &mut found)?;
+    add_of_all(best, &mut found)?;
     add_impatient(alloc, changes, surveyed, &mut found)?;
-    for (place, change) in changes.iter().enumerate() {
-        if change.id == PlannedId::DelayMechanism {
-            found.push(Warning::Mechanism(place + 1))?;
-        }
-        if is_out_of_reach(change, changes, surveyed) {
-            let domain = first_octet(&change.after);
-            found.push(Warning::OutOfReach(place + 1, change.clock, domain))?;
-        }
-    }
+    add_of_changes(changes, surveyed, &mut found)?;
     Ok(found)
+}
+
+fn add(warning: Option<Warning>, found: &mut Vec<Warning>) -> Result<(), AllocError>
+    ensures { OnOk result (found.new.items ≡ found.old.items ++ option_to_list warning) }
+{
+    if let Some(warning) = warning {
+        found.push(warning)?;
+    }
+    Ok(())
+}
+
+/// Adds the warnings of two clocks of one identity.
+fn add_twice(clocks: &[SurveyedClock], found: &mut Vec<Warning>) -> Result<(), AllocError>
+    ensures { OnOk result (found.new.items ≡ found.old.items ++ filter_map twice clocks.now) }
+{
+    for clock in clocks {
+        add(twice(clock), found)?;
+    }
+    Ok(())
+}
+
+/// Adds what there is to warn of in the best clocks of each domain.
+fn add_of_all(best: &[BestClocks], found: &mut Vec<Warning>) -> Result<(), AllocError>
+    ensures { OnOk result (found.new.items ≡ found.old.items ++ flat_map of_best best.now) }
+{
+    for of_domain in best {
+        add_of_best(of_domain, found)?;
+    }
+    Ok(())
+}
+
+/// Adds what there is to warn of in each change.
+fn add_of_changes(
+    changes: &[Change],
+    surveyed: &Surveyed,
+    found: &mut Vec<Warning>,
+) -> Result<(), AllocError>
+    ensures { OnOk result (found.new.items ≡ found.old.items ++ of_changes (of_change changes.now surveyed.now) 1 changes.now) }
+{
+    for place in 0..changes.len() {
+        let change = &changes[place];
+        add(mechanism(place + 1, change), found)?;
+        add(unreached(place + 1, change, changes, surveyed), found)?;
+    }
+    Ok(())
+}
+
+/// A change of how a port measures delay.
+fn mechanism(number: usize, change: &Change) -> Option<Warning>
+    ensures { result ≡ mechanism number change.now }
+{
+    match change.id {
+        PlannedId::DelayMechanism => Some(Warning::Mechanism(number)),
+        _ => None,
+    }
+}
+
+/// A change moves its clock to where no request reaches it.
+fn unreached(
+    number: usize,
+    change: &Change,
+    changes: &[Change],
+    surveyed: &Surveyed,
+) -> Option<Warning>
+    ensures { result ≡ unreached changes.now surveyed.now number change.now }
+{
+    if is_out_of_reach(change, changes, surveyed) {
+        let domain = first_octet(&change.after);
+        Some(Warning::OutOfReach(number, change.clock, domain))
+    } else {
+        None
+    }
 }
 
 /// Two clocks have one identity.
@@ -59,15 +120,23 @@ fn twice(clock: &SurveyedClock) -> Option<Warning>
 }
 
 /// Adds what there is to warn of in the best clocks of a domain.
-fn add_of_best(best: &BestClocks, found: &mut Vec<Warning>) -> Result<(), AllocError> {
+fn add_of_best(best: &BestClocks, found: &mut Vec<Warning>) -> Result<(), AllocError>
+    ensures { OnOk result (found.new.items ≡ found.old.items ++ of_best best.now) }
+{
+    add(often(best), found)?;
+    add(worse_time(best), found)
+}
+
+/// The best clock changes more than once.
+fn often(best: &BestClocks) -> Option<Warning>
+    ensures { result ≡ often best.now }
+{
     let times = best.alterations.len();
     if times > 1 {
-        found.push(Warning::BestClock(best.domain, times))?;
+        Some(Warning::BestClock(best.domain, times))
+    } else {
+        None
     }
-    if let Some(warning) = worse_time(best) {
-        found.push(warning)?;
-    }
-    Ok(())
 }
 
 /// The best clock gets a worse clockClass, or the same and a worse clockAccuracy.
@@ -234,7 +303,9 @@ fn add_newly_impatient(
     domain: u8,
     ports: &mut [Announcing],
     found: &mut Vec<Warning>,
-) -> Result<(), AllocError> {
+) -> Result<(), AllocError>
+    ensures { OnOk result (AddsImpatient found.old.items found.new.items) }
+{
     let Some(slowest) = slowest_sender(domain, ports) else {
         return Ok(());
     };
@@ -253,7 +324,9 @@ fn add_impatient(
     changes: &[Change],
     surveyed: &Surveyed,
     found: &mut Vec<Warning>,
-) -> Result<(), AllocError> {
+) -> Result<(), AllocError>
+    ensures { OnOk result (AddsImpatient found.old.items found.new.items) }
+{
     let of = |port: &SurveyedPort| Announcing {
         port: *port,
         is_known: false,

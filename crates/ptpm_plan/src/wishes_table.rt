@@ -1,7 +1,12 @@
 //! The members that a table of a plan file names.
 
+ghost use Rattle.std.specs.Prelude.{◌≡◌, IfOk, OnOk, Some};
+ghost use Rattle.toml.specs.View.{table_view, view};
+ghost use Rattle.ptpm_plan.specs.FileText.{Gathers, typed, typed_at, utc_in, wish_in, wished_of, wishes_in};
+
 use crate::change::PlannedId;
 use crate::file_fault::{FileFault, Place, TableFault};
+use crate::table_values::value_at;
 use crate::text::Text;
 use crate::wish::{UtcWish, Wish, Wished};
 use std::alloc::{AllocError, Global};
@@ -23,7 +28,9 @@ pub(crate) fn read_wishes(
     owner: Owner,
     keys: &[&str],
     place: Place,
-) -> Result<Vec<Wish>, FileFault> {
+) -> Result<Vec<Wish>, FileFault>
+    ensures { IfOk result (λ v. wishes_in (table_view table.now) ≡ Some v.items) }
+{
     for key in table.keys() {
         if let Some(fault) = fault_of(alloc, key.as_str(), owner, keys)? {
             return Err(FileFault::At(place, fault));
@@ -31,12 +38,27 @@ pub(crate) fn read_wishes(
     }
     let mut wishes = Vec::new(alloc);
     for id in &PlannedId::ALL {
-        if let Some(value) = table.get(id.name()) {
-            let wished = read_wished(alloc, *id, value, place)?;
-            wishes.push(Wish { id: *id, wished })?;
-        }
+        add_wish(alloc, table, *id, place, &mut wishes)?;
     }
     Ok(wishes)
+}
+
+/// Adds what a table asks of an id, if it names it.
+#[tactic(auto, unfolding(crate::specs::FileText::wish_in))]
+fn add_wish(
+    alloc: Global,
+    table: &Table,
+    id: PlannedId,
+    place: Place,
+    wishes: &mut Vec<Wish>,
+) -> Result<(), FileFault>
+    ensures { OnOk result (Gathers (wish_in (table_view table.now) id) wishes.old.items wishes.new.items) }
+{
+    if let Some(value) = value_at(table, id.name()) {
+        let wished = read_wished(alloc, id, value, place)?;
+        wishes.push(Wish { id, wished })?;
+    }
+    Ok(())
 }
 
 /// What is wrong with a key that is to be one of these, or an id that such a table may have.
@@ -74,18 +96,23 @@ fn read_wished(
     id: PlannedId,
     value: &Value,
     place: Place,
-) -> Result<Wished, FileFault> {
-    if id != PlannedId::UtcProperties {
-        return Ok(Wished::Alone(typed(alloc, id, value, place)?));
-    }
-    match value.as_table() {
-        Some(table) => Ok(Wished::UtcProperties(read_utc(alloc, table, place)?)),
-        None => Err(FileFault::At(place, TableFault::IdTakes(id, "a table of its members"))),
+) -> Result<Wished, FileFault>
+    ensures { IfOk result (λ w. wished_of id (view value.now) ≡ Some w) }
+{
+    match id {
+        PlannedId::UtcProperties => match value.as_table() {
+            Some(table) => Ok(Wished::UtcProperties(read_utc(alloc, table, place)?)),
+            None => Err(FileFault::At(place, TableFault::IdTakes(id, "a table of its members"))),
+        },
+        _ => Ok(Wished::Alone(typed(alloc, id, value, place)?)),
     }
 }
 
 /// What the members of UTC_PROPERTIES are to be.
-fn read_utc(alloc: Global, table: &Table, place: Place) -> Result<UtcWish, FileFault> {
+#[tactic(auto, unfolding(crate::specs::FileText::utc_in))]
+fn read_utc(alloc: Global, table: &Table, place: Place) -> Result<UtcWish, FileFault>
+    ensures { IfOk result (λ w. utc_in (table_view table.now) ≡ Some w) }
+{
     for key in table.keys() {
         match key.as_str() {
             "currentUtcOffset" | "leap61" | "leap59" | "currentUtcOffsetValid" => {}
@@ -110,15 +137,20 @@ fn member_at(
     table: &Table,
     name: &str,
     place: Place,
-) -> Result<Option<Text>, FileFault> {
-    match table.get(name) {
+) -> Result<Option<Text>, FileFault>
+    ensures { IfOk result (λ t. typed_at name.now (table_view table.now) ≡ Some t) }
+{
+    match value_at(table, name) {
         Some(value) => Ok(Some(typed(alloc, PlannedId::UtcProperties, value, place)?)),
         None => Ok(None),
     }
 }
 
 /// A value as a person types it: a number in decimal, `true` or `false`, or the text.
-fn typed(alloc: Global, id: PlannedId, value: &Value, place: Place) -> Result<Text, FileFault> {
+#[tactic(auto, unfolding(crate::specs::FileText::typed))]
+fn typed(alloc: Global, id: PlannedId, value: &Value, place: Place) -> Result<Text, FileFault>
+    ensures { IfOk result (λ t. typed (view value.now) ≡ Some t) }
+{
     let word = match value.as_bool() {
         Some(true) => Some("true"),
         Some(false) => Some("false"),
