@@ -7,6 +7,8 @@ pub mod Least
 pub mod Once
 pub mod OneBest
 pub mod PlannedIds
+pub mod Printing
 pub mod Ranks
+pub mod Reading
 pub mod Steps
 pub mod Surveys

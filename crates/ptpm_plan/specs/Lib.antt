@@ -16,4 +16,5 @@ pub mod Plans
 pub mod Digest
 pub mod Outcome
 pub mod Planned
+pub mod Printed
 pub mod Warnings

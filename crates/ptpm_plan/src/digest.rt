@@ -69,7 +69,7 @@ fn clock_text(alloc: Global, change: &Change) -> Result<String, AllocError>
     let mut text = String::from_str(alloc, "{\"clock\": \"")?;
     push_clock(alloc, change.clock, &mut text)?;
     text.push_str("\", \"domain\": ")?;
-    push_number(alloc, u16::from(change.domain), &mut text)?;
+    push_number(alloc, usize::from(change.domain), &mut text)?;
     Ok(text)
 }
 
@@ -78,9 +78,9 @@ fn member_text(alloc: Global, change: &Change) -> Result<String, AllocError>
     ensures { IfOk result (λ t. string_bytes t ≡ member_text change.now) }
 {
     let mut text = String::from_str(alloc, ", \"port\": ")?;
-    push_number(alloc, change.port, &mut text)?;
+    push_number(alloc, usize::from(change.port), &mut text)?;
     text.push_str(", \"id\": ")?;
-    push_number(alloc, change.id.number(), &mut text)?;
+    push_number(alloc, usize::from(change.id.number()), &mut text)?;
     Ok(text)
 }
 
@@ -96,14 +96,18 @@ fn fields_text(alloc: Global, change: &Change) -> Result<String, AllocError>
     Ok(text)
 }
 
-fn push_clock(alloc: Global, clock: ClockIdentity, text: &mut String) -> Result<(), AllocError>
+pub(crate) fn push_clock(
+    alloc: Global,
+    clock: ClockIdentity,
+    text: &mut String,
+) -> Result<(), AllocError>
     ensures { OnOk result (string_bytes text.new ≡ string_bytes text.old ++ clock_identity_text clock.0) }
 {
     let clock = format!(in alloc; "{clock}")?;
     text.push_str(clock.as_str())
 }
 
-fn push_number(alloc: Global, number: u16, text: &mut String) -> Result<(), AllocError>
+pub(crate) fn push_number(alloc: Global, number: usize, text: &mut String) -> Result<(), AllocError>
     ensures { OnOk result (string_bytes text.new ≡ string_bytes text.old ++ decimal number) }
 {
     let number = format!(in alloc; "{number}")?;
@@ -111,7 +115,7 @@ fn push_number(alloc: Global, number: u16, text: &mut String) -> Result<(), Allo
 }
 
 /// Adds octets in hexadecimal.
-fn push_octets(alloc: Global, octets: &[u8], text: &mut String) -> Result<(), AllocError>
+pub(crate) fn push_octets(alloc: Global, octets: &[u8], text: &mut String) -> Result<(), AllocError>
     ensures { OnOk result (string_bytes text.new ≡ string_bytes text.old ++ encode_lower octets.now) }
 {
     let digits = hex::encode(alloc, octets)?;

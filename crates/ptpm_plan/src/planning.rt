@@ -1,11 +1,15 @@
 //! `ptpm plan`: a plan file, and answers among lines of datagrams, as the plan that they make.
 
+ghost use Rattle.std.specs.Prelude.{◌≡◌, IfOk, OnOk};
+ghost use Rattle.ptpm_commands.specs.Lines.{datagram_in, latest_line};
+ghost use Rattle.ptpm_plan.specs.Printed.{AreAnswersOf, TakesLine, status_by};
+
 use crate::answers::Answers;
 use crate::asks::print_asks;
 use crate::file_fault::FileFault;
 use crate::outcome::{status_of, status_telling_changes};
 use crate::plan::Plan;
-use crate::report::Report;
+use crate::report::{Report, print_steps};
 use crate::wish::PlanFile;
 use ptpm_commands::Fault;
 use ptpm_commands::lines::Lines;
@@ -71,18 +75,36 @@ pub fn print_plan<R: Read + Drop, O: Write>(
         file: &file,
         answers: &answers,
     };
-    match options.form {
-        PlanForm::Text => report.print(alloc, out)?,
-        PlanForm::Json => report.print_json(alloc, out)?,
+    print_report(alloc, options.form, report, out)?;
+    Ok(status_by(options.tells_changes, &plan))
+}
+
+fn print_report<O: Write>(
+    alloc: Global,
+    form: PlanForm,
+    report: Report<'_>,
+    out: &mut O,
+) -> Result<(), Fault> {
+    match form {
+        PlanForm::Text => report.print(alloc, out),
+        PlanForm::Json => report.print_json(alloc, out),
         PlanForm::Steps => {
             report.print(alloc, out)?;
-            report.print_steps(alloc, out)?;
+            writeln!(out)?;
+            print_steps(alloc, report.plan.changes.as_slice(), out)
         }
     }
-    if options.tells_changes {
-        return Ok(status_telling_changes(&plan));
+}
+
+/// The exit status. Changes may have one of their own.
+fn status_by(tells_changes: bool, plan: &Plan) -> u8
+    ensures { result ≡ status_by tells_changes plan.now }
+{
+    if tells_changes {
+        status_telling_changes(plan)
+    } else {
+        status_of(plan)
     }
-    Ok(status_of(&plan))
 }
 
 /// Prints what is asked before the plan of a file can be made.
@@ -95,20 +117,43 @@ pub fn print_questions<O: Write>(alloc: Global, text: &[u8], out: &mut O) -> Res
 
 /// The answers among a reader's lines. A datagram that is no answer is passed over; a line that is no datagram in hexadecimal is a
 /// fault. A note `#ptpm` may have the word `left_out=` and how many answers were left out; the last one counts.
-fn read_answers<R: Read + Drop>(alloc: Global, reader: R) -> Result<Answers, Fault> {
+fn read_answers<R: Read + Drop>(alloc: Global, reader: R) -> Result<Answers, Fault>
+    ensures { IfOk result (λ answers. AreAnswersOf (R.remaining reader) answers.list.items) }
+{
     let mut lines = Lines::new(alloc, reader)?;
     let mut answers = Answers::new(alloc);
     for number in 1..u64::MAX {
         if !lines.read(number)? {
-            break;
+            return Ok(answers);
         }
-        if let Some(datagram) = lines.datagram(alloc, number)? {
-            answers.take(datagram.as_slice())?;
-        } else if let Some(count) = left_out(lines.text(number)?) {
-            answers.left_out = count;
-        }
+        take_line(alloc, &lines, number, &mut answers)?;
     }
     Ok(answers)
+}
+
+/// Takes the answer in the line that was read last, which has this number, or what it notes.
+fn take_line<R: Read + Drop>(
+    alloc: Global,
+    lines: &Lines<R>,
+    number: u64,
+    answers: &mut Answers,
+) -> Result<(), Fault>
+    ensures { OnOk result (TakesLine (datagram_in number (latest_line lines.now)) answers.old.list.items answers.new.list.items) }
+{
+    match lines.datagram(alloc, number)? {
+        Some(datagram) => answers.take(datagram.as_slice())?,
+        None => note(lines.text(number)?, answers),
+    }
+    Ok(())
+}
+
+/// Takes how many answers were left out from a line, if it is a note that says it.
+fn note(line: &str, answers: &mut Answers)
+    ensures { answers.new.list.items ≡ answers.old.list.items }
+{
+    if let Some(count) = left_out(line) {
+        answers.left_out = count;
+    }
 }
 
 /// How many answers were left out, if a line is a note that says it.

@@ -1,8 +1,11 @@
 //! A plan as a text.
 
+ghost use Rattle.std.specs.Prelude.{◌≡◌, IfNone, IfOk, IfSome, OnOk, false, string_bytes};
+ghost use Rattle.ptpm_plan.specs.Printed.{AreSteps, IsStep, Writes, has_feed, step_clock, step_fields, step_head, step_member};
+
 use crate::answers::Answers;
 use crate::change::Change;
-use crate::digest::digest_of;
+use crate::digest::{digest_of, push_clock, push_number, push_octets};
 use crate::outcome::{Counted, Why, is_refused, not_reached};
 use crate::places::{Arrow, Values, Who, shown_of};
 use crate::plan::Plan;
@@ -51,8 +54,8 @@ impl Report<'_> {
             let name = self.quoted(alloc, change.domain, change.clock)?;
             let who = Who(change.clock, change.port);
             let domain = InDomain(change.domain);
-            write!(out, "  {} {who}{name}{domain} ", place + 1)?;
-            print_change(alloc, change, out)?;
+            let words = change_words(alloc, change)?;
+            writeln!(out, "  {} {who}{name}{domain} {words}", place + 1)?;
         }
         Ok(())
     }
@@ -123,31 +126,110 @@ impl Report<'_> {
         }
         Ok(())
     }
+}
 
-    /// Prints an empty line, and a line for each change with its dataFields.
-    pub(crate) fn print_steps<O: Write>(&self, alloc: Global, out: &mut O) -> Result<(), Fault> {
-        writeln!(out)?;
-        for (place, change) in self.plan.changes.as_slice().iter().enumerate() {
-            let (domain, clock, port) = (change.domain, change.clock, change.port);
-            let (number, id) = (place + 1, change.id.number());
-            let before = hex::encode(alloc, change.before.as_slice())?;
-            let after = hex::encode(alloc, change.after.as_slice())?;
-            write!(out, "step {number} {domain} {clock} {port} {id:04x} ")?;
-            write!(out, "{before} {after} {} ", Who(clock, port))?;
-            print_change(alloc, change, out)?;
-        }
-        Ok(())
+/// Prints a line for each change with its dataFields.
+pub(crate) fn print_steps<O: Write>(
+    alloc: Global,
+    changes: &[Change],
+    out: &mut O,
+) -> Result<(), Fault>
+    ensures { OnOk result (Writes (AreSteps 1 changes.now) (O.contents out.old) (O.contents out.new)) }
+{
+    for place in 0..changes.len() {
+        print_step(alloc, place + 1, &changes[place], out)?;
+    }
+    Ok(())
+}
+
+fn print_step<O: Write>(
+    alloc: Global,
+    number: usize,
+    change: &Change,
+    out: &mut O,
+) -> Result<(), Fault>
+    ensures { OnOk result (Writes (IsStep number change.now) (O.contents out.old) (O.contents out.new)) }
+{
+    let head = step_head(alloc, number, change)?;
+    let words = change_words(alloc, change)?;
+    let who = Who(change.clock, change.port);
+    let words = format!(in alloc; "{who} {words}")?;
+    writeln!(out, "{}{}", head.as_str(), first_line(words.as_str()))?;
+    Ok(())
+}
+
+/// What a step is, up to its words.
+fn step_head(alloc: Global, number: usize, change: &Change) -> Result<String, AllocError>
+    ensures { IfOk result (λ t. string_bytes t ≡ step_head number change.now) }
+{
+    let mut text = step_clock(alloc, number, change)?;
+    text.push_str(step_member(alloc, change)?.as_str())?;
+    text.push_str(step_fields(alloc, change)?.as_str())?;
+    Ok(text)
+}
+
+#[tactic(auto, unfolding(crate::specs::Printed::step_clock))]
+fn step_clock(alloc: Global, number: usize, change: &Change) -> Result<String, AllocError>
+    ensures { IfOk result (λ t. string_bytes t ≡ step_clock number change.now) }
+{
+    let mut text = String::from_str(alloc, "step ")?;
+    push_number(alloc, number, &mut text)?;
+    text.push_str(" ")?;
+    push_number(alloc, usize::from(change.domain), &mut text)?;
+    text.push_str(" ")?;
+    push_clock(alloc, change.clock, &mut text)?;
+    Ok(text)
+}
+
+#[tactic(auto, unfolding(crate::specs::Printed::step_member))]
+fn step_member(alloc: Global, change: &Change) -> Result<String, AllocError>
+    ensures { IfOk result (λ t. string_bytes t ≡ step_member change.now) }
+{
+    let mut text = String::from_str(alloc, " ")?;
+    push_number(alloc, usize::from(change.port), &mut text)?;
+    text.push_str(" ")?;
+    let id = change.id.number().to_be_bytes();
+    push_octets(alloc, id.as_slice(), &mut text)?;
+    Ok(text)
+}
+
+#[tactic(auto, unfolding(crate::specs::Printed::step_fields))]
+fn step_fields(alloc: Global, change: &Change) -> Result<String, AllocError>
+    ensures { IfOk result (λ t. string_bytes t ≡ step_fields change.now) }
+{
+    let mut text = String::from_str(alloc, " ")?;
+    push_octets(alloc, change.before.as_slice(), &mut text)?;
+    text.push_str(" ")?;
+    push_octets(alloc, change.after.as_slice(), &mut text)?;
+    text.push_str(" ")?;
+    Ok(text)
+}
+
+/// A text up to its first line feed.
+fn first_line(text: &str) -> &str
+    ensures { has_feed result.now ≡ false }
+{
+    match cut(text) {
+        Some((line, _)) => line,
+        None => text,
     }
 }
 
-/// Prints what a change does: its id, and its values before and after.
-fn print_change<O: Write>(alloc: Global, change: &Change, out: &mut O) -> Result<(), Fault> {
+/// What is before the first line feed, and what comes after it.
+fn cut(text: &str) -> Option<(&str, &str)>
+    ensures none { IfNone result (has_feed text.now ≡ false) }
+    ensures some { IfSome result (λ parts. has_feed parts.0.now ≡ false) }
+{
+    text.split_once('\n')
+}
+
+/// What a change does: its id, and its values before and after.
+fn change_words(alloc: Global, change: &Change) -> Result<String, AllocError> {
     let id = change.id;
     let before = shown_of(alloc, id, change.before.as_slice())?;
     let after = shown_of(alloc, id, change.after.as_slice())?;
     let arrow = Arrow(id, before.as_str(), after.as_str());
-    writeln!(out, "{id} {arrow}")?;
-    Ok(())
+    format!(in alloc; "{id} {arrow}")
 }
 
 /// The id of a plan.

@@ -1,0 +1,83 @@
+-- What `ptpm plan` prints and how it ends, by what it reads (this project's profile).
+use Rattle.std.specs.Prelude.{◌≡◌, ℕ, ◌+◌, ◌==◌, Bool, true, false, codes, decimal, List, [], ◌∷◌, ◌++◌, Option, Some, None, IfSome, Result, Ok, Err}
+use Rattle.std.specs.List.{filter_map, list_any}
+use Rattle.std.specs.Int.{to_be_bytes, w16}
+use Rattle.std.specs.Option.{option_to_list}
+use Rattle.std.specs.Io.KnownBytes.{Appends}
+use Rattle.hex.specs.Hex.{encode_lower}
+use Rattle.ptpm_codec.specs.Identity.{clock_identity_text}
+use Rattle.ptpm_commands.specs.declared.faults.Fault.{Fault}
+use Rattle.ptpm_commands.specs.Taken.{HasNumbers, line_datagram, taken}
+use Rattle.ptpm_text.specs.Lines.{whole_lines}
+use Rattle.ptpm_plan.specs.Answers.{answer_in}
+use Rattle.ptpm_plan.specs.Outcome.{or_changes, status_of}
+use Rattle.ptpm_plan.specs.PlannedId.{number_of}
+use Rattle.ptpm_plan.specs.declared.answer.Answer.{Answer}
+use Rattle.ptpm_plan.specs.declared.change.Change.{Change}
+use Rattle.ptpm_plan.specs.declared.plan.Plan.{Plan}
+
+-- ---- the lines of steps, which `apply` reads
+
+-- What a step is: its number, the domain, the clock and the port, the id in hexadecimal, and the dataFields before and after.
+unfoldable pub step_clock : ℕ → Change → List ℕ
+step_clock number c = codes "step " ++ decimal number ++ codes " " ++ decimal c.domain ++ codes " " ++ clock_identity_text c.clock.0
+
+unfoldable pub step_member : Change → List ℕ
+step_member c = codes " " ++ decimal c.port ++ codes " " ++ encode_lower (to_be_bytes w16 (number_of c.id))
+
+unfoldable pub step_fields : Change → List ℕ
+step_fields c = codes " " ++ encode_lower c.before.items ++ codes " " ++ encode_lower c.after.items ++ codes " "
+
+abbrev pub step_head : ℕ → Change → List ℕ
+step_head number c = (step_clock number c ++ step_member c) ++ step_fields c
+
+abbrev pub has_feed : List ℕ → Bool
+has_feed text = list_any (λ octet. octet == 10) text
+
+-- a line that says what a step is, and then has words for a person
+pub record IsStep (number : ℕ) (c : Change) (line : List ℕ) : Type 0 where
+  pub words : List ℕ
+  pub is : line ≡ step_head number c ++ words ++ 10 ∷ []
+  pub one : has_feed words ≡ false
+
+-- one, and then the others
+pub record Begins (First Others : List ℕ → Type 0) (text : List ℕ) : Type 0 where
+  pub first : List ℕ
+  pub others : List ℕ
+  pub is : text ≡ first ++ others
+  pub is_first : First first
+  pub are_others : Others others
+
+-- a line for each change, in their order, numbered from this on
+abbrev pub AreSteps : ℕ → List Change → List ℕ → Type 0
+AreSteps number [] text = text ≡ []
+AreSteps number (c ∷ cs) text = Begins (IsStep number c) (AreSteps (number + 1) cs) text
+
+-- what was written is of this kind
+pub record Writes (Is : List ℕ → Type 0) (old new : Option (List ℕ)) : Type 0 where
+  pub text : List ℕ
+  pub is : Is text
+  pub written : Appends old new text
+
+-- ---- the answers among lines
+
+-- the answers that the datagrams of lines have
+unfoldable pub answers_in : List ℕ → List Answer
+answers_in octets = filter_map answer_in (taken line_datagram 1 (whole_lines octets)).values
+
+-- what is taken from a line, by its datagram
+abbrev pub TakesLine : Result (Option (List ℕ)) Fault → List Answer → List Answer → Type 0
+TakesLine (Ok None) old new = new ≡ old
+TakesLine (Ok (Some datagram)) old new = new ≡ old ++ option_to_list (answer_in datagram)
+TakesLine (Err fault) old new = ⊥
+
+-- these are the answers of a reader, if its octets are known
+abbrev pub AreAnswersOf : Option (List ℕ) → List Answer → Type 0
+AreAnswersOf known answers = IfSome known (λ octets. HasNumbers octets → answers ≡ answers_in octets)
+
+-- ---- the end
+
+-- the status of a plan; changes may have one of their own
+abbrev pub status_by : Bool → Plan → ℕ
+status_by false p = status_of p.rows.items p.unnamed.items p.found.items p.left_out
+status_by true p = or_changes p.changes.items (status_of p.rows.items p.unnamed.items p.found.items p.left_out)
