@@ -86,7 +86,7 @@ pub after-append : (N : Network) (k : RestartingNetwork) (is js : List Incident)
 after-append N k [] js = refl
 after-append N k (i ∷ is) js = after-append N (incident N k i) is js
 
-timely-append : (N : Network) (k : RestartingNetwork) (is js : List Incident)
+pub timely-append : (N : Network) (k : RestartingNetwork) (is js : List Incident)
     → AreTimely N k is → AreTimely N (after_incidents N k is) js
     → AreTimely N k (is ++ js)
 timely-append N k [] js front rest = rest

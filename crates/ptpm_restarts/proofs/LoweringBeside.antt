@@ -1,5 +1,5 @@
 -- A network in which nobody lowers hops goes on beside one in which hosts do.
-use Rattle.ptpm_network.proofs.Common.{arith, ◌≡◌, ℕ, ◌==◌, Bool, true, false, not, List, [], ◌∷◌, ◌++◌, map, Option, Some, None, option_map, Result, Ok, result_err, refl, sym, ◌∙◌, ap, subst, length-append, option_or, option_or-none, nat_lt, if◌then◌else◌, State, turn, with_place, AtPort, AtSession, End, Network, Held, seen, held, strange_frame, turn_frames, SessionValue, received_of, begin_refusal, send_refusal, Happened, BeginRefused, SendRefused, Refusal, Event, Begin, Send, Resume, Retune, Deliver, Replay, Stranger, frame_at, forged, no_end, no_port, no_room, no_session, nothing_to_resume, unless_refused, replays, network_event, Frame, reaches, sends_in, begun, resumed, retuned, with_session_value}
+use Rattle.ptpm_network.proofs.Common.{arith, ◌≡◌, ℕ, ◌==◌, Bool, true, false, not, List, [], ◌∷◌, ◌++◌, map, Option, Some, None, option_map, Result, Ok, result_err, refl, sym, ◌∙◌, ap, subst, length-append, option_or, option_or-none, nat_lt, if◌then◌else◌, State, turn, with_place, AtPort, AtSession, End, Network, Held, seen, held, strange_frame, turn_frames, SessionValue, received_of, begin_refusal, send_refusal, Happened, BeginRefused, SendRefused, Refusal, Event, Begin, Send, Resume, Retune, Deliver, Replay, Stranger, frame_at, forged, no_end, no_port, no_room, no_session, nothing_to_resume, unless_refused, replays, network_event, Frame, reaches, sends_in, begun, resumed, retuned, with_session_value, length, all_append, AllByRecursion}
 use Rattle.ptpm_manager.specs.declared.receiving.Received.{Received}
 use Rattle.ptpm_manager.specs.declared.receiving.Received.TheVariants as received
 use Rattle.ptpm_agent.specs.Observing.{moved_state}
@@ -11,10 +11,11 @@ use Rattle.ptpm_network.specs.RunningNetwork as running_network
 use Rattle.ptpm_network.specs.RunningNetwork.{Done}
 use Rattle.ptpm_restarts.specs.ActsAsIfNever.{ActsAsIfNever, IsPossibleAct}
 use Rattle.ptpm_restarts.specs.AsIfNever.{IsTimely, is_late_event, is_late_held, is_late_in}
-use Rattle.ptpm_restarts.specs.HostsLowering.{AsEver, Ended, GoesBeside, HostIncident, IsLoweredHeld, IsLoweredNetwork, IsLoweredWaiting, IsOfHost, IsPossibleOfHost, IsTimelyOfHost, Lowers, StandFor, Stands, host_incident, with_octets}
-use Rattle.ptpm_restarts.specs.Incidents.{CrashClock, CrashSession, GivesUp, Happens, Incident, Observes, SaveClock, SaveSession, comes_in, delivered, happens, incident, lets_go, no_room_for, refused, replayed, unless}
+use Rattle.ptpm_restarts.specs.HostsLowering.{AreOfHost, AreTimelyOfHost, HasRoomAfter, after_host_incidents, AsEver, Ended, GoesBeside, HostIncident, IsLoweredHeld, IsLoweredNetwork, IsLoweredWaiting, IsOfHost, IsPossibleOfHost, IsTimelyOfHost, Lowers, StandFor, Stands, host_incident, with_octets}
+use Rattle.ptpm_restarts.specs.Incidents.{CrashClock, CrashSession, GivesUp, Happens, Incident, Observes, SaveClock, SaveSession, after_incidents, comes_in, delivered, happens, incident, lets_go, no_room_for, refused, replayed, unless}
 use Rattle.ptpm_restarts.specs.Restarting.{RestartingNetwork, after_verdict, held_frames, hears, initial_restarting, running, sent_or_waiting, sends, takes_turn, turned, waiting_at, waiting_elsewhere}
 use Rattle.ptpm_restarts.specs.Storage.{Stored, noted}
+use Rattle.ptpm_restarts.proofs.Again.{after-append, timely-append}
 use Rattle.ptpm_restarts.proofs.HostsLowering.{TurnsAlike, held-lowered, held-self, received-alike, stand-append, stand-at, stand-filter, stand-map, stand-self, turns-alike}
 use Rattle.ptpm_restarts.proofs.Steps.{clear, fewer, passes}
 use Rattle.ptpm_restarts.proofs.Worth.{delivers-to}
@@ -80,17 +81,17 @@ module _ (N : Network) (k : RestartingNetwork) (fs : List Held) (ws : List (ℕ 
 
   -- ---- what the other does
 
-  pub stays : (now : RestartingNetwork) (possible timely : Type 0) → IsLoweredNetwork now k → GoesBeside N k now possible timely
-  stays now possible timely h = record { incidents = []; at_most_one = omega arith; beside = h; are_possible = λ p. tt; are_timely = λ t. tt }
+  pub stays : (now : RestartingNetwork) (possible timely : Type 0) → IsLoweredNetwork now k → GoesBeside N k 1 now possible timely
+  stays now possible timely h = record { incidents = []; at_most = omega arith; beside = h; are_possible = λ p. tt; are_timely = λ t. tt }
 
   pub goes : (now : RestartingNetwork) (possible timely : Type 0) (i : Incident) → IsLoweredNetwork now (incident N k i) → (possible → IsPossibleAct i) → (timely → IsTimely N k i)
-      → GoesBeside N k now possible timely
-  goes now possible timely i h p t = record { incidents = i ∷ []; at_most_one = omega arith; beside = h; are_possible = λ x. (p x, tt); are_timely = λ x. (t x, tt) }
+      → GoesBeside N k 1 now possible timely
+  goes now possible timely i h p t = record { incidents = i ∷ []; at_most = omega arith; beside = h; are_possible = λ x. (p x, tt); are_timely = λ x. (t x, tt) }
 
   -- an event happens there that is not refused
   pub event-goes : (now : RestartingNetwork) (possible timely : Type 0) (e : Event) → refused N k e ≡ None → IsLoweredNetwork now (happens N k e)
       → (possible → IsPossibleAct (Happens e)) → (timely → is_late_event k e ≡ false)
-      → GoesBeside N k now possible timely
+      → GoesBeside N k 1 now possible timely
   event-goes now possible timely e none h p t = goes now possible timely (Happens e)
       (subst (λ (o : Option Refusal). IsLoweredNetwork now (unless o k (happens N k e))) (sym none) h) p (λ x none'. t x)
 
@@ -110,7 +111,7 @@ module _ (N : Network) (k : RestartingNetwork) (fs : List Held) (ws : List (ℕ 
   -- a frame comes in here, and the one that it stands for there
   pub came : (l h : Held) (m : ℕ) (possible timely : Type 0) → IsLoweredHeld l h → frame_at k.frames m ≡ Some h → no_room (held_frames k) ≡ None
       → (timely → is_late_in k l.origin ≡ false)
-      → GoesBeside N k (comes_in N low l l.end) possible timely
+      → GoesBeside N k 1 (comes_in N low l l.end) possible timely
   came l h m possible timely r at room late = event-goes (comes_in N low l l.end) possible timely (Deliver m) (delivers-there m h at room)
       (subst (λ (o : Option Held). IsLoweredNetwork (comes_in N low l l.end) (delivered N k o)) (sym at)
       (subst (λ (e : End). IsLoweredNetwork (comes_in N low l e) (comes_in N k h h.end)) (sym r.end) (comes-beside l h h.end r)))
@@ -119,14 +120,14 @@ module _ (N : Network) (k : RestartingNetwork) (fs : List Held) (ws : List (ℕ 
 
   pub came-if : (n : ℕ) (q : Option Held) (possible timely : Type 0) → frame_at fs n ≡ q → no_room (held_frames k) ≡ None
       → (timely → is_late_held low q ≡ false)
-      → GoesBeside N k (delivered N low q) possible timely
+      → GoesBeside N k 1 (delivered N low q) possible timely
   came-if n None possible timely e room late = stays low possible timely beside-now
   came-if n (Some l) possible timely e room late = let at = stand-at fs k.frames n l hf e in came l at.1 at.0 possible timely at.3 at.2 room late
 
   pub lowered-if : (n : ℕ) (octets : List ℕ) (q : Option Held) (possible timely : Type 0) → frame_at fs n ≡ q → no_room (held_frames k) ≡ None
       → ((h : Held) → q ≡ Some h → (most : ℕ) × IsLowered most h.octets octets)
       → (timely → is_late_held low q ≡ false)
-      → GoesBeside N k (delivered N low (with_octets octets q)) possible timely
+      → GoesBeside N k 1 (delivered N low (with_octets octets q)) possible timely
   lowered-if n octets None possible timely e room of late = stays low possible timely beside-now
   lowered-if n octets (Some l) possible timely e room of late =
       let at = stand-at fs k.frames n l hf e in
@@ -136,7 +137,7 @@ module _ (N : Network) (k : RestartingNetwork) (fs : List Held) (ws : List (ℕ 
 
   replays-if : (n : ℕ) (end : End) (q : Option Held) (possible timely : Type 0) → frame_at fs n ≡ q → no_room (held_frames k) ≡ None
       → result_err (replays N (running low) q end) ≡ None
-      → GoesBeside N k (replayed low q end) possible timely
+      → GoesBeside N k 1 (replayed low q end) possible timely
   unfolding network_event
   replays-if n end None possible timely e room none = stays low possible timely beside-now
   replays-if n end (Some l) possible timely e room none =
@@ -164,7 +165,7 @@ module _ (N : Network) (k : RestartingNetwork) (fs : List Held) (ws : List (ℕ 
 
   event-beside : (e : Event) (possible timely : Type 0) → no_room (held_frames k) ≡ None → refused N low e ≡ None
       → (possible → IsPossibleAct (Happens e)) → (timely → is_late_event low e ≡ false)
-      → GoesBeside N k (happens N low e) possible timely
+      → GoesBeside N k 1 (happens N low e) possible timely
   unfolding network_event
   event-beside (Begin s a) possible timely room none p late =
       event-goes _ possible timely (Begin s a) (ap (λ (o : Option Refusal). option_or o None) (refused-alike (no_session N s) (option_map BeginRefused (begin_refusal (k.session s).live.session a)) (other-session k s (begun (k.session s).live.session (ask.request_of a))) (other-session low s (begun (k.session s).live.session (ask.request_of a)))) ∙ none)
@@ -218,11 +219,11 @@ module _ (N : Network) (k : RestartingNetwork) (fs : List Held) (ws : List (ℕ 
   observes false clock = beside-now
 
   happens-beside : (e : Event) (o : Option Refusal) → no_room (held_frames k) ≡ None → refused N low e ≡ o
-      → GoesBeside N k (unless o low (happens N low e)) (IsPossibleAct (Happens e)) (IsTimely N low (Happens e))
+      → GoesBeside N k 1 (unless o low (happens N low e)) (IsPossibleAct (Happens e)) (IsTimely N low (Happens e))
   happens-beside e None room none = event-beside e (IsPossibleAct (Happens e)) (IsTimely N low (Happens e)) room none (λ p. p) (λ t. t none)
   happens-beside e (Some reason) room is = stays low _ _ beside-now
 
-  incident-beside : (i : Incident) → no_room (held_frames k) ≡ None → GoesBeside N k (incident N low i) (IsPossibleAct i) (IsTimely N low i)
+  incident-beside : (i : Incident) → no_room (held_frames k) ≡ None → GoesBeside N k 1 (incident N low i) (IsPossibleAct i) (IsTimely N low i)
   incident-beside (Happens e) room = happens-beside e (refused N low e) room refl
   incident-beside (SaveClock c) room = goes _ _ _ (SaveClock c)
       (record { same = refl; frames = stand-append IsLoweredHeld fs k.frames _ _ hf (at-clock c); waiting = elsewhere c }) (λ p. tt) (λ t. tt)
@@ -235,12 +236,12 @@ module _ (N : Network) (k : RestartingNetwork) (fs : List Held) (ws : List (ℕ 
 
   lowers-beside : (n : ℕ) (octets : List ℕ) (o : Option Refusal) → no_room (held_frames k) ≡ None → refused N low (Deliver n) ≡ o
       → IsOfHost low (Lowers n octets)
-      → GoesBeside N k (unless o low (delivered N low (with_octets octets (frame_at fs n)))) (IsPossibleOfHost (Lowers n octets)) (IsTimelyOfHost N low (Lowers n octets))
+      → GoesBeside N k 1 (unless o low (delivered N low (with_octets octets (frame_at fs n)))) (IsPossibleOfHost (Lowers n octets)) (IsTimelyOfHost N low (Lowers n octets))
   lowers-beside n octets None room none of = lowered-if n octets (frame_at fs n) _ _ refl room of (λ t. t none)
   lowers-beside n octets (Some reason) room is of = stays low _ _ beside-now
 
   pub host-beside : (i : HostIncident) → no_room (held_frames k) ≡ None → IsOfHost low i
-      → GoesBeside N k (host_incident N low i) (IsPossibleOfHost i) (IsTimelyOfHost N low i)
+      → GoesBeside N k 1 (host_incident N low i) (IsPossibleOfHost i) (IsTimelyOfHost N low i)
   host-beside (AsEver i) room of = incident-beside i room
   host-beside (Lowers n octets) room of = lowers-beside n octets (refused N low (Deliver n)) room refl of
 
@@ -250,10 +251,28 @@ pub first-beside : (N : Network) → IsLoweredNetwork (initial_restarting N) (in
 first-beside N = record { same = refl; frames = Ended; waiting = Ended }
 
 pub goes-beside : (N : Network) (low k : RestartingNetwork) (i : HostIncident) → IsLoweredNetwork low k → IsOfHost low i → no_room (held_frames k) ≡ None
-    → GoesBeside N k (host_incident N low i) (IsPossibleOfHost i) (IsTimelyOfHost N low i)
+    → GoesBeside N k 1 (host_incident N low i) (IsPossibleOfHost i) (IsTimelyOfHost N low i)
 goes-beside N l k i h of room =
-    subst (λ (x : RestartingNetwork). IsOfHost x i → GoesBeside N k (host_incident N x i) (IsPossibleOfHost i) (IsTimelyOfHost N x i)) (sym h.same)
+    subst (λ (x : RestartingNetwork). IsOfHost x i → GoesBeside N k 1 (host_incident N x i) (IsPossibleOfHost i) (IsTimelyOfHost N x i)) (sym h.same)
     (host-beside N k l.frames l.waiting h.frames h.waiting i room) of
+
+pub all-beside : (N : Network) (low k : RestartingNetwork) (is : List HostIncident) → IsLoweredNetwork low k → AreOfHost N low is → HasRoomAfter N k (length is)
+    → GoesBeside N k (length is) (after_host_incidents N low is) (AllByRecursion IsPossibleOfHost is) (AreTimelyOfHost N low is)
+all-beside N l k [] h of room = record { incidents = []; at_most = omega arith; beside = h; are_possible = λ p. tt; are_timely = λ t. tt }
+all-beside N l k (i ∷ is) h of room =
+    let one = goes-beside N l k i h of.0 (room [] (omega arith)) in
+    let next : RestartingNetwork = after_incidents N k one.incidents in
+    let later : HasRoomAfter N next (length is) =
+    (λ js fewer'. subst (λ (x : RestartingNetwork). no_room (held_frames x) ≡ None) (after-append N k one.incidents js)
+    (room (one.incidents ++ js) (omega (arith, length-append one.incidents js, one.at_most, fewer')))) in
+    let rest = all-beside N (host_incident N l i) next is one.beside of.1 later in
+    record {
+      incidents = one.incidents ++ rest.incidents;
+      at_most = omega (arith, length-append one.incidents rest.incidents, one.at_most, rest.at_most);
+      beside = subst (IsLoweredNetwork (after_host_incidents N (host_incident N l i) is)) (sym (after-append N k one.incidents rest.incidents)) rest.beside;
+      are_possible = λ p. all_append IsPossibleAct one.incidents rest.incidents (one.are_possible p.0) (rest.are_possible p.1);
+      are_timely = λ t. timely-append N k one.incidents rest.incidents (one.are_timely t.0) (rest.are_timely t.1);
+    }
 
 pub lowered-among-acts : (N : Network) (is : List Incident) (low k : RestartingNetwork) (a : ActsAsIfNever N is k) → IsLoweredNetwork low k
     → (record (running low) { frames = a.network.frames } ≡ a.network) × (low.told ≡ k.told)

@@ -3,14 +3,14 @@
 -- more.
 use Rattle.std.specs.Prelude.{◌≡◌, ℕ, ◌≤◌, List, [], ◌∷◌, length, Option, Some, None, ◌⊎◌}
 use Rattle.std.specs.List.{AllByRecursion}
-use Rattle.ptpm_network.specs.Events.{Deliver, frame_at}
+use Rattle.ptpm_network.specs.Events.{Deliver, frame_at, no_room}
 use Rattle.ptpm_network.specs.Lowered.{IsLowered}
 use Rattle.ptpm_network.specs.Network.{Network}
 use Rattle.ptpm_network.specs.RunningNetwork.{Held}
 use Rattle.ptpm_restarts.specs.ActsAsIfNever.{IsPossibleAct}
 use Rattle.ptpm_restarts.specs.AsIfNever.{AreTimely, IsTimely}
 use Rattle.ptpm_restarts.specs.Incidents.{Happens, Incident, after_incidents, delivered, incident, refused, unless}
-use Rattle.ptpm_restarts.specs.Restarting.{RestartingNetwork}
+use Rattle.ptpm_restarts.specs.Restarting.{RestartingNetwork, held_frames}
 
 -- ---- what may happen
 
@@ -42,6 +42,24 @@ abbrev pub IsPossibleOfHost : HostIncident → Type 0
 IsPossibleOfHost (AsEver i) = IsPossibleAct i
 IsPossibleOfHost (Lowers n octets) = Unit {0}
 
+-- ---- one after another
+
+abbrev pub after_host_incidents : Network → RestartingNetwork → List HostIncident → RestartingNetwork
+after_host_incidents N k [] = k
+after_host_incidents N k (i ∷ is) = after_host_incidents N (host_incident N k i) is
+
+abbrev pub AreOfHost : Network → RestartingNetwork → List HostIncident → Type 0
+AreOfHost N k [] = Unit {0}
+AreOfHost N k (i ∷ is) = IsOfHost k i × AreOfHost N (host_incident N k i) is
+
+abbrev pub AreTimelyOfHost : Network → RestartingNetwork → List HostIncident → Type 0
+AreTimelyOfHost N k [] = Unit {0}
+AreTimelyOfHost N k (i ∷ is) = IsTimelyOfHost N k i × AreTimelyOfHost N (host_incident N k i) is
+
+-- whichever incidents happen, this many at most, there is room for frames after them
+abbrev pub HasRoomAfter : Network → RestartingNetwork → ℕ → Type 0
+HasRoomAfter N k most = (is : List Incident) → length is ≤ most → no_room (held_frames (after_incidents N k is)) ≡ None
+
 -- ---- the two networks
 
 -- a frame here, and one there: on its way to the same end, of the same request or reply, and the same except for hops
@@ -67,11 +85,11 @@ pub record IsLoweredNetwork (low k : RestartingNetwork) : Type 0 where
 
 -- ---- the law
 
--- Now it is this network. The other went through these incidents, one at most, and is beside it. They are possible and in time there,
--- if this may happen and is in time here.
-pub record GoesBeside (N : Network) (k : RestartingNetwork) (now : RestartingNetwork) (possible timely : Type 0) : Type 0 where
+-- Now it is this network. The other went through these incidents, at most `most`, and is beside it. They are possible and in time there, if
+-- this may happen and is in time here.
+pub record GoesBeside (N : Network) (k : RestartingNetwork) (most : ℕ) (now : RestartingNetwork) (possible timely : Type 0) : Type 0 where
   pub incidents : List Incident
-  pub at_most_one : length incidents ≤ 1
+  pub at_most : length incidents ≤ most
   pub beside : IsLoweredNetwork now (after_incidents N k incidents)
   pub are_possible : possible → AllByRecursion IsPossibleAct incidents
   pub are_timely : timely → AreTimely N k incidents

@@ -88,9 +88,9 @@ pub fn undone_before_the_save()
         after_incidents N k (GivesUp s ∷ CrashSession s ∷ []) ≡ k }
 {}
 
-/// A manager that does not know its numbers may ask with any, and go on from one that is answered. A clock that answers a request that a
-/// manager addresses to it alone has its sequenceId as the latest of that manager. The sequenceIds after that are new there, up to 32,767
-/// ahead. The premise is that sequenceIds have 16 bits, that which the clock keeps too.
+/// A manager that does not know its numbers may ask with any, and go on from one that is answered. Let a clock reply to a manager's
+/// request whose target is this clock. Then the request's sequenceId is the latest that the clock accepted of that manager. The next
+/// 32,767 sequenceIds are new there. The premise is that sequenceIds have 16 bits, those that the clock keeps too.
 pub fn answer_shows_latest()
     ensures latest { (c : Clock) (s : State) (ingress : ℕ) (datagram : List ℕ) (v : Message) →
         message_of datagram ≡ Some v → is_numbered c v ≡ true → v.number < 65536 →
