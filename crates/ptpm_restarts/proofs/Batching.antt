@@ -1,6 +1,11 @@
 -- A network whose clocks go on while they are being saved is as one that saves before it answers, after the incidents that are said.
-use Rattle.ptpm_network.proofs.Common.{by_test, arith, all_append, all_weaker, AllByRecursion, le_trans, zero, suc, nat_lt, ltb-true, if◌then◌else◌, ◌≡◌, ℕ, ◌+◌, ◌≤◌, ◌==◌, ◌||◌, Bool, true, false, true≢false, List, [], ◌∷◌, ◌++◌, take, drop, map, map-append, length, length-append, length-map, append-nil, append_assoc, Option, Some, None, same_Some, refl, sym, ◌∙◌, ap, subst, cond-true, cond-false, option_or, option_or-none, Ok, Result, result_err, Happened, State, turn, Verdict, received_of, Event, Begin, Send, Resume, Retune, Deliver, Replay, Stranger, Refusal, forged, frame_at, no_port, no_room, network_event, strange_frame, with_place, with_place-same, with_place-other, at_place, at_places, AtPort, AtSession, End, Network, Held, held, seen, turn_frames}
+use Rattle.ptpm_network.proofs.Common.{by_test, arith, all_append, all_weaker, AllByRecursion, le_trans, zero, suc, nat_lt, ltb-true, if◌then◌else◌, ◌≡◌, ℕ, ◌+◌, ◌≤◌, ◌==◌, ◌||◌, Bool, true, false, true≢false, List, [], ◌∷◌, ◌++◌, take, drop, map, map-append, length, length-append, length-map, append-nil, append_assoc, Option, Some, None, same_Some, refl, sym, ◌∙◌, ap, subst, cond-true, cond-false, option_or, option_or-none, Ok, Result, result_err, Happened, State, turn, Verdict, received_of, Event, Begin, Send, Resume, Retune, Deliver, Replay, Stranger, Refusal, forged, frame_at, no_port, no_room, network_event, strange_frame, with_place, with_place-same, with_place-other, at_place, at_places, AtPort, AtSession, End, Network, Held, held, seen, turn_frames, changed_by-sized, Clock, DataSetsValue, IsInRange, IsNetwork, judged, Message, request_of}
 use Rattle.ptpm_data.specs.ObservationBack.{Observation}
+use Rattle.ptpm_data.specs.ObservationLaws.{IsSizedObservation}
+use Rattle.ptpm_data.specs.RequestLaws.{IsSized}
+use Rattle.ptpm_data.proofs.Observed.{observed-sized}
+use Rattle.ptpm_agent.specs.Turn.{next_by}
+use Rattle.ptpm_agent.proofs.Turns as turns
 use Rattle.ptpm_manager.specs.declared.error.GiveUpRefusal.{GiveUpRefusal}
 use Rattle.ptpm_manager.specs.declared.receiving.Received.{Received}
 use Rattle.ptpm_manager.specs.declared.receiving.Received.TheVariants as received
@@ -16,8 +21,8 @@ use Rattle.ptpm_saved.proofs.SavingClockLaws.{clock_sound}
 use Rattle.ptpm_saved.proofs.BatchingLaws.{Can, can_call, handled, notes_of, one_call, shown-append, shown_noted, unheld}
 use Rattle.ptpm_saved.proofs.BatchingClockLaws.{holds_changes}
 use Rattle.ptpm_network.specs.RunningNetwork as running_network
-use Rattle.ptpm_restarts.specs.ActsAsIfNever.{ActsAsIfNever, IsPromisedActing}
-use Rattle.ptpm_restarts.specs.Batching.{AsEver, BatchIncident, BatchingNetwork, ClockInput, HasRoom, StartConsistent, after_batch_incidents, all_incidents, batch_incident, calls_at, calls_within, clock_input, happens_at, incidents_at, incidents_of, incidents_of_call, incidents_of_event, initial_batching, input_at, input_of, is_held_at, network_clock, sends_ready, shown_network, unless_refused, with_sessions_of, within}
+use Rattle.ptpm_restarts.specs.ActsAsIfNever.{ActsAsIfNever, IsPossibleAct}
+use Rattle.ptpm_restarts.specs.Batching.{AsEver, BatchIncident, BatchingNetwork, ClockInput, HasRoom, StartConsistent, after_batch_incidents, all_incidents, batch_incident, calls_at, calls_within, clock_input, happens_at, incidents_at, incidents_of, incidents_of_call, incidents_of_event, initial_batching, input_at, input_of, is_held_at, network_clock, sends_ready, shown_network, unless_refused, with_sessions_of, within, IsPossibleBatched, IsPromisedBatching}
 use Rattle.ptpm_restarts.specs.Batching as batches
 use Rattle.ptpm_restarts.specs.Incidents.{CrashClock, CrashSession, GivesUp, Happens, Incident, Observes, SaveClock, SaveSession, after_incidents, comes_in, crashes_clock, delivered, happens, incident, lets_go, refused, replayed, unless}
 use Rattle.ptpm_restarts.specs.Restarting as restarting
@@ -716,13 +721,214 @@ incidents-lead N b (i ∷ is) well room =
     ∙ ap (λ (k : RestartingNetwork). after_incidents N k (all_incidents N (batch_incident N b i) is)) (incident-leads N b well i room.0)
     ∙ sym (after-append N (shown_network N b) (incidents_of N b i) (all_incidents N (batch_incident N b i) is))
 
+-- ---- the incidents are possible
+
+abbrev FitsHappening : Happening ClockInput Observation → Type 0
+FitsHappening (Came x) = IsInRange x.event
+FitsHappening (Noted o) = IsSizedObservation o.clock
+
+abbrev FitsEvent : saving.Event ClockInput Observation → Type 0
+FitsEvent (Comes x) = IsInRange x.event
+FitsEvent (Notes o) = IsSizedObservation o.clock
+FitsEvent _ = Unit {0}
+
+abbrev FitsCall : Call ClockInput Observation → Type 0
+FitsCall (Handles x) = IsInRange x.event
+FitsCall (batching.Observes o) = IsSizedObservation o.clock
+FitsCall batching.GivesOut = ⊥
+FitsCall (batching.LosesPowerAfter count) = ⊥
+FitsCall _ = Unit {0}
+
+events-possible : (c : ℕ) (es : List (saving.Event ClockInput Observation)) → AllByRecursion FitsEvent es → AllByRecursion IsPossibleAct (incidents_at c es)
+events-possible c [] fit = tt
+events-possible c (Comes x ∷ es) fit = (fit.0, events-possible c es fit.1)
+events-possible c (Notes o ∷ es) fit = (fit.0, events-possible c es fit.1)
+events-possible c (Saves ∷ es) fit = (tt, events-possible c es fit.1)
+events-possible c (Sends ∷ es) fit = events-possible c es fit.1
+events-possible c (Fails ∷ es) fit = (tt, events-possible c es fit.1)
+
+events-fit : (hs : List (Happening ClockInput Observation)) → AllByRecursion FitsHappening hs → AllByRecursion FitsEvent (events hs)
+events-fit [] fit = tt
+events-fit (Came x ∷ hs) fit = (fit.0, events-fit hs fit.1)
+events-fit (Noted o ∷ hs) fit = (fit.0, events-fit hs fit.1)
+
+notes-fit : (hs : List (Happening ClockInput Observation)) → AllByRecursion FitsHappening hs → AllByRecursion FitsEvent (notes hs)
+notes-fit [] fit = tt
+notes-fit (Came x ∷ hs) fit = notes-fit hs fit.1
+notes-fit (Noted o ∷ hs) fit = (fit.0, notes-fit hs fit.1)
+
+sized-by : (w : Verdict) (c : Clock) (s : State) (v : Message) → IsSized s.sets → IsSized (next_by w c s v).sets
+sized-by verdicts.AnsweredNew c s v is = changed_by-sized (request_of v) (c.rights v.source) s.sets is
+sized-by _ c s v is = is
+
+module _ (N : Network) (c : ℕ) where
+  sized-next : (s : State) (x : ClockInput) → IsSized s.sets → IsSized ((network_clock N c).after s x).sets
+  sized-next s x is = turns.turn-next (λ (t : State). IsSized t.sets) (N.clock c) s x.port x.frame.octets is
+      (λ v read. sized-by (judged (N.clock c) s v) (N.clock c) s v is)
+
+  sized-noted : (s : State) (o : Observation) → IsSizedObservation o.clock → IsSized s.sets → IsSized ((network_clock N c).noted s o).sets
+  sized-noted s o fits is = observed-sized o.clock o.ports s.sets fits is
+
+  sized-after : (s : State) (hs : List (Happening ClockInput Observation)) → AllByRecursion FitsHappening hs → IsSized s.sets
+      → IsSized (after_all (network_clock N c) s hs).sets
+  sized-after s [] fit is = is
+  sized-after s (Came x ∷ hs) fit is = sized-after ((network_clock N c).after s x) hs fit.1 (sized-next s x is)
+  sized-after s (Noted o ∷ hs) fit is = sized-after ((network_clock N c).noted s o) hs fit.1 (sized-noted s o fit.0 is)
+
+  sized-shown : (s : State) (hs : List (Happening ClockInput Observation)) → AllByRecursion FitsHappening hs → IsSized s.sets
+      → IsSized (shown_from (network_clock N c) s hs).sets
+  sized-shown s [] fit is = is
+  sized-shown s (Came x ∷ hs) fit is = sized-shown s hs fit.1 is
+  sized-shown s (Noted o ∷ hs) fit is = sized-shown ((network_clock N c).noted s o) hs fit.1 (sized-noted s o fit.0 is)
+
+observed-fits : (d : DataSetsValue) → IsSized d → IsSizedObservation (as_observed d).clock
+observed-fits d is = (is.grandmaster, is.parent)
+
+record IsFit (N : Network) (c : ℕ) (x : ClockBatch) : Type 0 where
+  inputs : AllByRecursion FitsHappening x.since
+  base : nat_lt c N.clocks ≡ true → IsSized x.base.sets
+  saved : nat_lt c N.clocks ≡ true → IsSized x.saved.sets
+
+module _ (N : Network) (c : ℕ) (x : ClockBatch) (fit : IsFit N c x) where
+  abbrev process_of : Process State ClockInput Observation Held
+  process_of = network_clock N c
+
+  handles-fit : (h : Bool) (i : ClockInput) → IsInRange i.event → AllByRecursion FitsEvent (if h then [] else Comes i ∷ [])
+  handles-fit true i range = tt
+  handles-fit false i range = (range, tt)
+
+  rest-fit : (w : Bool) (rest : List (Happening ClockInput Observation)) → AllByRecursion FitsHappening rest
+      → AllByRecursion FitsEvent (if w then notes rest else events rest)
+  rest-fit true rest fits = notes-fit rest fits
+  rest-fit false rest fits = events-fit rest fits
+
+  call-possible : (call : Call ClockInput Observation) → nat_lt c N.clocks ≡ true → FitsCall call
+      → AllByRecursion FitsEvent (events_of process_of (is_held_at N c) x call)
+  call-possible (Handles i) place fits = handles-fit (is_held process_of (is_held_at N c) x i) i fits
+  call-possible (batching.Observes o) place fits = (fits, tt)
+  call-possible (Confirms count) place fits =
+      let first = take count x.since in
+      let rest = drop count x.since in (
+        observed-fits x.base.sets (fit.base place),
+        all_append FitsEvent (events first) (Saves ∷ comes_after process_of (after_all process_of x.base first) rest)
+            (events-fit first (all-take FitsHappening count x.since fit.inputs))
+            (tt, rest-fit (changes_in process_of (after_all process_of x.base first) rest) rest (all-drop FitsHappening count x.since fit.inputs)),
+      )
+  call-possible LosesPower place fits = (tt, tt)
+  call-possible batching.GivesOut place fits = absurd fits
+  call-possible (batching.LosesPowerAfter count) place fits = absurd fits
+
+  fit-handled : (h : Bool) (i : ClockInput) → IsInRange i.event → IsFit N c (if h then holds x i else answers process_of x i)
+  fit-handled true i range = record { inputs = all_append FitsHappening x.since (Came i ∷ []) fit.inputs (range, tt); base = fit.base; saved = fit.saved }
+  fit-handled false i range = record { inputs = fit.inputs; base = fit.base; saved = fit.saved }
+
+  fit-observed : (w : Bool) (o : Observation) → IsSizedObservation o.clock → IsFit N c (observes process_of w x o)
+  fit-observed true o fits = record { inputs = all_append FitsHappening x.since (Noted o ∷ []) fit.inputs (fits, tt); base = fit.base; saved = fit.saved }
+  fit-observed false o fits = record {
+    inputs = tt;
+    base = λ place. sized-noted N c (shown process_of x) o fits (sized-shown N c x.base x.since fit.inputs (fit.base place));
+    saved = fit.saved;
+  }
+
+  fit-saved : (w : Bool) (s : State) (rest : List (Happening ClockInput Observation)) (y : ClockBatch) → (nat_lt c N.clocks ≡ true → IsSized s.sets)
+      → AllByRecursion FitsHappening rest
+      → IsFit N c (goes_on process_of w s rest y)
+  fit-saved true s rest y is fits = record { inputs = fits; base = is; saved = is }
+  fit-saved false s rest y is fits = record { inputs = tt; base = λ place. sized-after N c s rest fits (is place); saved = is }
+
+  fit-called : (call : Call ClockInput Observation) → FitsCall call → IsFit N c (calls process_of (is_held_at N c) x call)
+  fit-called (Handles i) fits = fit-handled (is_held process_of (is_held_at N c) x i) i fits
+  fit-called (batching.Observes o) fits = fit-observed (waits x.since) o fits
+  fit-called (Confirms count) fits =
+      fit-saved (changes_in process_of (after_all process_of x.base (take count x.since)) (drop count x.since)) _ _ _
+      (λ place. sized-after N c x.base (take count x.since) (all-take FitsHappening count x.since fit.inputs) (fit.base place))
+      (all-drop FitsHappening count x.since fit.inputs)
+  fit-called LosesPower fits = record { inputs = tt; base = fit.saved; saved = fit.saved }
+  fit-called batching.GivesOut fits = absurd fits
+  fit-called (batching.LosesPowerAfter count) fits = absurd fits
+
+  fit-sent : (call : Call ClockInput Observation) → FitsCall call → IsFit N c (record (calls process_of (is_held_at N c) x call) { ready = [] })
+  fit-sent call fits = let new = fit-called call fits in record { inputs = new.inputs; base = new.base; saved = new.saved }
+
+abbrev AreFit : Network → BatchingNetwork → Type 0
+AreFit N b = (c : ℕ) → IsFit N c (b.clock c)
+
+module _ (N : Network) (b : BatchingNetwork) (fit : AreFit N b) where
+  guarded-possible : (t : Bool) (is : List Incident) → (t ≡ true → AllByRecursion IsPossibleAct is) → AllByRecursion IsPossibleAct (if t then is else [])
+  guarded-possible true is fits = fits refl
+  guarded-possible false is fits = tt
+
+  calls-possible : (c : ℕ) (call : Call ClockInput Observation) → FitsCall call
+      → AllByRecursion IsPossibleAct (within N c (incidents_of_call N b c call))
+  calls-possible c call fits = guarded-possible (nat_lt c N.clocks) (incidents_of_call N b c call)
+      (λ place. events-possible c (events_of (network_clock N c) (is_held_at N c) (b.clock c) call) (call-possible N c (b.clock c) (fit c) call place fits))
+
+  event-possible : (e : Event) (q : Option (ℕ × ClockInput)) → clock_input b.frames e ≡ q → IsInRange e → AllByRecursion IsPossibleAct (incidents_of_event N b e q)
+  event-possible e None at' range = (range, tt)
+  event-possible e (Some x) at' range =
+      events-possible x.0 _ (handles-fit N x.0 (b.clock x.0) (fit x.0) (is_held (network_clock N x.0) (is_held_at N x.0) (b.clock x.0) x.1) x.1
+      (subst IsInRange (sym (event-of N b.frames e x at')) range))
+
+  incident-possible : (i : BatchIncident) → IsPossibleBatched i → AllByRecursion IsPossibleAct (incidents_of N b i)
+  incident-possible (AsEver (Happens e)) range = event-possible e (clock_input b.frames e) refl range
+  incident-possible (AsEver (SaveClock c)) range = calls-possible c (Confirms (length (b.clock c).since)) tt
+  incident-possible (AsEver (CrashClock c)) range = guarded-possible (nat_lt c N.clocks) _
+      (λ place. (tt, (observed-fits (b.clock c).saved.sets ((fit c).saved place), tt)))
+  incident-possible (AsEver (Observes c o)) range = calls-possible c (batching.Observes o) range
+  incident-possible (AsEver (SaveSession s)) range = (tt, tt)
+  incident-possible (AsEver (CrashSession s)) range = (tt, tt)
+  incident-possible (AsEver (GivesUp s)) range = (tt, tt)
+  incident-possible (batches.Confirms c count) range = calls-possible c (Confirms count) tt
+
+  fit-at : (c : ℕ) (call : Call ClockInput Observation) → FitsCall call → AreFit N (calls_at N b c call)
+  fit-at c call fits d = at_place (λ e z. IsFit N e z) b.clock c (record (calls (network_clock N c) (is_held_at N c) (b.clock c) call) { ready = [] }) d
+      (fit-sent N c (b.clock c) (fit c) call fits) (fit d)
+
+  fit-within : (t : Bool) (c : ℕ) (call : Call ClockInput Observation) → FitsCall call → AreFit N (if t then calls_at N b c call else b)
+  fit-within true c call fits = fit-at c call fits
+  fit-within false c call fits = fit
+
+  event-fit : (e : Event) (q : Option (ℕ × ClockInput)) (r : Option Refusal) → clock_input b.frames e ≡ q → IsInRange e
+      → AreFit N (unless_refused r b (happens_at N b e q))
+  event-fit e q (Some reason) at' range = fit
+  event-fit e None None at' range = fit
+  event-fit e (Some x) None at' range = fit-at x.0 (Handles x.1) (subst IsInRange (sym (event-of N b.frames e x at')) range)
+
+  incident-fit : (i : BatchIncident) → IsPossibleBatched i → AreFit N (batch_incident N b i)
+  incident-fit (AsEver (Happens e)) range = event-fit e (clock_input b.frames e) (refused N (shown_network N b) e) refl range
+  incident-fit (AsEver (SaveClock c)) range = fit-within (nat_lt c N.clocks) c (Confirms (length (b.clock c).since)) tt
+  incident-fit (AsEver (CrashClock c)) range = fit-within (nat_lt c N.clocks) c LosesPower tt
+  incident-fit (AsEver (Observes c o)) range = fit-within (nat_lt c N.clocks) c (batching.Observes o) range
+  incident-fit (AsEver (SaveSession s)) range = fit
+  incident-fit (AsEver (CrashSession s)) range = fit
+  incident-fit (AsEver (GivesUp s)) range = fit
+  incident-fit (batches.Confirms c count) range = fit-within (nat_lt c N.clocks) c (Confirms count) tt
+
+initial-fit : (N : Network) → IsNetwork N → AreFit N (initial_batching N)
+initial-fit N network c =
+    let sized : nat_lt c N.clocks ≡ true → IsSized (N.start c) =
+    (λ place. let start = (network.are_clocks c (ltb-true c N.clocks place)).start in search (arith, start)) in
+    record { inputs = tt; base = sized; saved = sized }
+
+incidents-possible : (N : Network) (b : BatchingNetwork) (is : List BatchIncident) → AreFit N b → AllByRecursion IsPossibleBatched is
+    → AllByRecursion IsPossibleAct (all_incidents N b is)
+incidents-possible N b [] fit possible = tt
+incidents-possible N b (i ∷ is) fit possible =
+    all_append IsPossibleAct (incidents_of N b i) (all_incidents N (batch_incident N b i) is) (incident-possible N b fit i possible.0)
+    (incidents-possible N (batch_incident N b i) is (incident-fit N b fit i possible.0) possible.1)
+
+-- ---- the law
+
 pub batches-lead : (N : Network) (is : List BatchIncident) → StartConsistent N → HasRoom N (initial_batching N) is
     → shown_network N (after_batch_incidents N (initial_batching N) is) ≡ after_incidents N (initial_restarting N) (all_incidents N (initial_batching N) is)
 batches-lead N is start room = incidents-lead N (initial_batching N) is (initial-well N start) room
 
-pub batches-among-acts : (N : Network) (is : List BatchIncident) → StartConsistent N → HasRoom N (initial_batching N) is
-    → IsPromisedActing N (all_incidents N (initial_batching N) is)
+pub batches-among-acts : (N : Network) (is : List BatchIncident) → IsPromisedBatching N is
     → ActsAsIfNever N (all_incidents N (initial_batching N) is) (shown_network N (after_batch_incidents N (initial_batching N) is))
-batches-among-acts N is start room promised =
-    subst (ActsAsIfNever N (all_incidents N (initial_batching N) is)) (sym (batches-lead N is start room))
-    (acts_as_if_never N (all_incidents N (initial_batching N) is) promised)
+batches-among-acts N is promised =
+    subst (ActsAsIfNever N (all_incidents N (initial_batching N) is)) (sym (batches-lead N is promised.start promised.room))
+    (acts_as_if_never N (all_incidents N (initial_batching N) is) (record {
+      network = promised.network;
+      possible = incidents-possible N (initial_batching N) is (initial-fit N promised.network) promised.possible;
+      timely = promised.timely;
+    }))

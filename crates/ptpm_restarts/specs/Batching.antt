@@ -1,13 +1,14 @@
 -- A network whose clocks go on while they are being saved. What a manager asks of a clock waits there for a save, and comes in late. All
 -- else is answered at once.
 use Rattle.std.specs.Prelude.{◌≡◌, ℕ, ◌<◌, nat_lt, Bool, if◌then◌else◌, List, [], ◌∷◌, ◌++◌, length, map, Option, Some, None}
+use Rattle.std.specs.List.{AllByRecursion}
 use Rattle.ptpm_data.specs.Members.{IsConsistent}
 use Rattle.ptpm_data.specs.ObservationBack.{Observation}
 use Rattle.ptpm_agent.specs.Turn.{State}
 use Rattle.ptpm_manager.specs.declared.report.Report.{Report}
 use Rattle.ptpm_network.specs.Events.{Event, Deliver, Stranger, Refusal, frame_at, no_room}
 use Rattle.ptpm_network.specs.Machine.{strange_frame, with_place}
-use Rattle.ptpm_network.specs.Network.{AtPort, AtSession, End, Network}
+use Rattle.ptpm_network.specs.Network.{AtPort, AtSession, End, IsNetwork, Network}
 use Rattle.ptpm_network.specs.RunningNetwork.{Held, held, initial_network, seen, turn_frames}
 use Rattle.ptpm_network.specs.State.{Frame}
 use Rattle.ptpm_saved.specs.Saving as saving
@@ -16,6 +17,8 @@ use Rattle.ptpm_saved.specs.SavingClock.{as_observed, clock_process}
 use Rattle.ptpm_saved.specs.Batching as batching
 use Rattle.ptpm_saved.specs.Batching.{Batch, Call, begun, calls, events_of, shown}
 use Rattle.ptpm_saved.specs.BatchingClock.{is_of_manager}
+use Rattle.ptpm_restarts.specs.ActsAsIfNever.{IsPossibleAct}
+use Rattle.ptpm_restarts.specs.AsIfNever.{AreTimely}
 use Rattle.ptpm_restarts.specs.Incidents.{CrashClock, Happens, Incident, Observes, SaveClock, happens, incident, refused}
 use Rattle.ptpm_restarts.specs.Restarting.{RestartingNetwork, SessionLog, initial_restarting}
 use Rattle.ptpm_restarts.specs.Storage.{Stored, saved_as}
@@ -175,3 +178,16 @@ StartConsistent N = (c : ℕ) → c < N.clocks → IsConsistent (N.start c)
 abbrev pub HasRoom : Network → BatchingNetwork → List BatchIncident → Type 0
 HasRoom N b [] = Unit {0}
 HasRoom N b (i ∷ is) = (no_room (batch_incident N b i).frames ≡ None) × HasRoom N (batch_incident N b i) is
+
+abbrev pub IsPossibleBatched : BatchIncident → Type 0
+IsPossibleBatched (AsEver i) = IsPossibleAct i
+IsPossibleBatched (Confirms c count) = Unit {0}
+
+-- Such a network as the headline's, what a program can hand in, and no frame that is late when it comes in. When anyone saves, crashes,
+-- gives up or observes is free.
+pub record IsPromisedBatching (N : Network) (is : List BatchIncident) : Type 0 where
+  pub network : IsNetwork N
+  pub start : StartConsistent N
+  pub possible : AllByRecursion IsPossibleBatched is
+  pub room : HasRoom N (initial_batching N) is
+  pub timely : AreTimely N (initial_restarting N) (all_incidents N (initial_batching N) is)

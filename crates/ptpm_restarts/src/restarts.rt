@@ -9,7 +9,7 @@ ghost use Rattle.ptpm_network.specs.Machine.{state_after};
 ghost use Rattle.ptpm_network.specs.Network.{Network};
 ghost use Rattle.ptpm_restarts.specs.ActsAsIfNever.{ActsAsIfNever, IsPromisedActing};
 ghost use Rattle.ptpm_restarts.specs.AsIfNever.{IsAsIfNever, IsPromisedRestarting, never_crashed};
-ghost use Rattle.ptpm_restarts.specs.Batching.{BatchIncident, HasRoom, StartConsistent, after_batch_incidents, all_incidents, initial_batching, shown_network};
+ghost use Rattle.ptpm_restarts.specs.Batching.{BatchIncident, HasRoom, IsPromisedBatching, StartConsistent, after_batch_incidents, all_incidents, initial_batching, shown_network};
 ghost use Rattle.ptpm_restarts.specs.Incidents.{Incident, after_incidents};
 ghost use Rattle.ptpm_restarts.specs.Restarting.{RestartingNetwork, initial_restarting, running};
 
@@ -65,16 +65,15 @@ pub fn restarts_among_acts()
 /// network is then one whose clocks save before they answer, after other incidents: what waited comes in at its save. So
 /// `restarts_among_acts` holds for it, if no frame is late when it comes in there.
 ///
-/// The other premises are that each clock starts with data sets such as a clock has, and that there is room for frames. A host may not
-/// confirm an image that a restart would not find.
+/// The other premises are those of `restarts_among_acts`, room for frames, and that each clock starts with data sets such as a clock has.
+/// A host may not confirm an image that a restart would not find.
 pub fn batches_among_acts()
     ensures incidents { (N : Network) (is : List BatchIncident) →
         StartConsistent N → HasRoom N (initial_batching N) is →
         shown_network N (after_batch_incidents N (initial_batching N) is)
         ≡ after_incidents N (initial_restarting N) (all_incidents N (initial_batching N) is) }
     ensures as_if_never { (N : Network) (is : List BatchIncident) →
-        StartConsistent N → HasRoom N (initial_batching N) is →
-        IsPromisedActing N (all_incidents N (initial_batching N) is) →
+        IsPromisedBatching N is →
         ActsAsIfNever N (all_incidents N (initial_batching N) is)
         (shown_network N (after_batch_incidents N (initial_batching N) is)) }
 {}
