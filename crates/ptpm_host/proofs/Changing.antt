@@ -9,7 +9,7 @@ use Rattle.ptpm_saved.proofs.SavingClockLaws.{clock_sound}
 use Rattle.ptpm_host.specs.declared.clock.HostedClock.{HostedClock}
 use Rattle.ptpm_host.specs.Clock.{clock_in, state_in}
 
-not_new : (verdict : Verdict) → verdict ≢ verdicts.AnsweredNew → is_new verdict ≡ false
+pub not_new : (verdict : Verdict) → verdict ≢ verdicts.AnsweredNew → is_new verdict ≡ false
 not_new verdicts.AnsweredNew other = absurd (other refl)
 not_new _ other = refl
 

@@ -1,11 +1,12 @@
 -- No datagram has a clock send more messages than its ports allow, or one of its kept replies.
-use Rattle.std.proofs.Common.{arith, ◌≡◌, ◌≤◌, ◌+◌, ◌-◌, ◌*◌, ℕ, ◌<◌, true, false, List, [], ◌∷◌, ◌++◌, Option, Some, None, Ok, ap, get_or, length, max, refl, slice_get, take, subst, ◌∙◌, if◌then◌else◌}
-use Rattle.std.proofs.lemmas.List.{take_more}
+use Rattle.std.proofs.Common.{arith, ◌≡◌, ◌≤◌, ◌+◌, ◌-◌, ◌*◌, ℕ, ◌<◌, true, false, List, [], ◌∷◌, ◌++◌, Option, Some, None, Ok, ap, get_or, length, max, refl, slice_get, take, subst, sym, ◌∙◌, if◌then◌else◌}
+use Rattle.std.proofs.lemmas.List.{nil_from_length, take_more}
 use Rattle.std.proofs.lemmas.Option.{slice_get-get_or, slice_get_within}
 use Rattle.std.proofs.lemmas.List.Recursion.{max_bounds, max_least, max_push}
-use Rattle.std.specs.FinMap.{entries}
+use Rattle.std.specs.FinMap.{empty, entries, len-empty, len-entries}
 use Rattle.ptpm_codec.specs.declared.identity.PortIdentity.{PortIdentity}
 use Rattle.ptpm_codec.specs.declared.message.Message.{Message}
+use Rattle.ptpm_codec.specs.Identity.{identity_cmp}
 use Rattle.ptpm_codec.specs.Reading.{message_of, reading}
 use Rattle.ptpm_data.specs.Members.{HasPort}
 use Rattle.ptpm_data.specs.Replies.{reply_of}
@@ -24,9 +25,9 @@ use Rattle.ptpm_agent.proofs.Turns.{reading-message_of}
 use Rattle.ptpm_device.specs.Asking.{is_lacked, is_permitted}
 use Rattle.ptpm_device.specs.Saying as says
 use Rattle.ptpm_device.specs.Saying.{Say, new_said, reply_given, reply_said, reply_told, said_at, said_by, turn_said, unnumbered_said}
-use Rattle.ptpm_host.specs.declared.standing.Standing.TheVariants as standings
-use Rattle.ptpm_host.specs.Clock.{clock_in, state_in}
-use Rattle.ptpm_host.specs.MostSent.{SendsNoMore, SendsNoMoreAlone, WaitsNoMore, most_answers, most_sent}
+use Rattle.ptpm_host.specs.Changing.{owner_clock}
+use Rattle.ptpm_host.specs.MostSent.{SendsNoMore, SendsNoMoreAlone, SendsNoMoreHere, most_answers, most_sent}
+use Rattle.ptpm_host.proofs.ComingLaws.{owner_turn-each}
 
 -- ---- the most answers of kept replies
 
@@ -142,9 +143,21 @@ pub sends_no_more_alone : SendsNoMoreAlone
 sends_no_more_alone c s ingress datagram sized port =
     turn_few c s ingress datagram (most_sent s) sized port (omega arith) (most_kept (entries s.entries) (most_sent s) (omega arith))
 
-pub waits_no_more : WaitsNoMore
-waits_no_more c standings.Saved = omega arith
-waits_no_more c standings.Unsaved = omega arith
-waits_no_more c (standings.Withholding w) =
-    kept_few (clock_in c) (state_in c) w.ingress w.heard w.heard.source (most_sent (state_in c))
-    (most_kept (entries (state_in c).entries) (most_sent (state_in c)) (omega arith))
+nothing_kept : entries {X = Entry} {R = identity_cmp} empty ≡ []
+nothing_kept = nil_from_length _ (sym (len-entries (empty {X = Entry} {R = identity_cmp})) ∙ len-empty identity_cmp Entry)
+
+pub sends_no_more_owned : (k : Clock) (s : State) (port : ℕ) (datagram : List ℕ)
+    → IsSized s.sets
+    → HasPort port s.sets
+    → length (outbox_of (turn k (record { sets = s.sets; entries = empty }) port datagram)) ≤ most_sent s
+sends_no_more_owned k s port datagram sized has =
+    omega (
+      arith,
+      sends_no_more_alone k (record { sets = s.sets; entries = empty }) port datagram sized has,
+      ap most_answers nothing_kept,
+    )
+
+pub sends_no_more_here : SendsNoMoreHere
+sends_no_more_here c s port datagram sized has =
+    owner_turn-each (λ t. length (outbox_of t) ≤ most_sent s) c s port datagram (sends_no_more_alone c s port datagram sized has)
+    (λ v read. sends_no_more_owned (owner_clock s.sets v.source) s port datagram sized has)

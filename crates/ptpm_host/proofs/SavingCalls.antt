@@ -1,179 +1,287 @@
--- A saving clock is after each call as the device of the definitions is.
-use Rattle.std.proofs.Common.{◌≡◌, ◌∙◌, ◌≤◌, ◌&&◌, ◌||◌, ◌++◌, ℕ, Bool, true, false, List, [], Option, Some, Result, Ok, Err, ap, refl, sym, subst, arith, append-nil, length, take}
-use Rattle.std.specs.Prelude.{if◌then◌else◌, nat_le}
-use Rattle.std.specs.FinMap.{get}
+-- What each call of a clock does that is saved while it goes on, against the batch that it is.
+use Rattle.std.proofs.Common.{◌≡◌, ◌≢◌, ◌∙◌, ◌++◌, ◌&&◌, ◌||◌, Bool, true, false, ap, refl, sym, subst, List, [], ℕ, if◌then◌else◌}
 use Rattle.std.proofs.lemmas.Bool.{false≢true}
-use Rattle.std.proofs.lemmas.List.{length-map, length-take-le}
-use Rattle.std.proofs.lemmas.Bool.Decides.{nat_tests}
-use Rattle.ptpm_codec.specs.declared.error.DecodeError.{DecodeError}
-use Rattle.ptpm_codec.specs.declared.message.Message.{Message}
-use Rattle.ptpm_codec.specs.Message.{IsValid}
-use Rattle.ptpm_codec.specs.Reading.{reading}
-use Rattle.ptpm_data.specs.RequestLaws.{IsSized}
-use Rattle.ptpm_table.specs.Entries.{Entry, FitsCount}
-use Rattle.ptpm_table.specs.Rendering.{rendered}
+use Rattle.ptpm_table.specs.Tables.{entries_of_block, owner_of_block}
 use Rattle.ptpm_agent.specs.declared.verdict.Verdict.{Verdict}
 use Rattle.ptpm_agent.specs.declared.verdict.Verdict.TheVariants as verdicts
-use Rattle.ptpm_agent.specs.Addressing.{heard_of, request_of}
 use Rattle.ptpm_agent.specs.Agent.{IsTurned}
-use Rattle.ptpm_agent.specs.Turn.{Clock, State, carried_out, entry_of, judged, kept_reply_of, new_reply, numbered_from, outbox_of, reply_messages, turn, turn_by}
-use Rattle.ptpm_agent.proofs.Entries.{get-insert_same}
-use Rattle.ptpm_agent.proofs.Fitting.{fits_numbered}
-use Rattle.ptpm_agent.proofs.Turns.{new_parts, turned_new}
-use Rattle.ptpm_saved.specs.Saving.{Comes, Device, Process, took}
-use Rattle.ptpm_saved.specs.SavingClock.{clock_process, held_by_clock, is_new}
-use Rattle.ptpm_saved.specs.Withholding.{called}
+use Rattle.ptpm_agent.specs.Turn.{Clock, State, outbox_of}
+use Rattle.ptpm_data.specs.Members.{DataSetsValue}
+use Rattle.ptpm_data.specs.ObservationBack.{Observation}
+use Rattle.ptpm_device.specs.Saying.{Say, turn_said}
+use Rattle.ptpm_saved.specs.Batching.{Call, Confirms, Handles, calls, is_held, live, shown, waits}
+use Rattle.ptpm_saved.specs.BatchingClock.{is_of_manager}
+use Rattle.ptpm_saved.specs.Saving.{Process}
+use Rattle.ptpm_saved.specs.SavingClock.{is_new}
 use Rattle.ptpm_host.specs.declared.clock.HostedClock.{HostedClock}
-use Rattle.ptpm_host.specs.declared.sent.Sent.{Sent}
-use Rattle.ptpm_host.specs.declared.standing.Standing.{Standing}
-use Rattle.ptpm_host.specs.declared.standing.Standing.TheVariants as standings
-use Rattle.ptpm_host.specs.declared.standing.Withheld.{Withheld}
-use Rattle.ptpm_host.specs.Clock.{clock_in, message_in, messages_in, state_in}
-use Rattle.ptpm_host.specs.Withheld.{has_reply, is_unsaved, messages_due}
+use Rattle.ptpm_host.specs.declared.saving_clock.SavingClock.{SavingClock}
+use Rattle.ptpm_host.specs.Clock.{clock_in, state_in}
+use Rattle.ptpm_host.specs.Coming.{ClockBatch, Coming, Heard, coming_process, datagram_in, is_held_by, messages_for, turn_of}
+use Rattle.ptpm_host.specs.KeptBatch.{IsKept, KeptBatch, LeadsTo, kept_confirmed, kept_held}
+use Rattle.ptpm_host.specs.Queue.{queued}
+use Rattle.ptpm_host.specs.SavingClock.{IsAsBatch, called_at, kept_of, shown_state}
+use Rattle.ptpm_host.proofs.Batches.{answered, confirmed, quiet_shown, waiting}
+use Rattle.ptpm_host.proofs.ComingLaws.{after_datagram, change_of_datagram, coming_holds, coming_sound, held_datagram, messages_of_datagram, said_alone, said_old, turn_of-unchanged}
+use Rattle.ptpm_host.proofs.Changing.{not_new}
 
-abbrev ClockDevice : Type 0
-ClockDevice = Device State (ℕ × List ℕ)
+-- the data sets of a state
+abbrev pub sets_of : State → DataSetsValue
+sets_of s = s.sets
 
--- ---- a call that is taken
+-- a clock that keeps this is led there, if one that keeps as much is
+led : (c d : Clock) (k l : KeptBatch State DataSetsValue (ℕ × List ℕ)) (given : List (ℕ × List ℕ)) (b : ClockBatch) (count : ℕ)
+    → d ≡ c
+    → l ≡ k
+    → LeadsTo (coming_process c) sets_of given k b count
+    → LeadsTo (coming_process d) sets_of given l b count
+led c d k l given b count same kept leads =
+    subst (λ e. LeadsTo (coming_process e) sets_of given l b count) (sym same)
+    (subst (λ m. LeadsTo (coming_process c) sets_of given m b count) (sym kept) leads)
 
-module _ {S A N M : Type 0} (p : Process S A N M) (held : A → Bool) where
-  taken_at : (unsaved holds changes : Bool) (d : Device S M) (x : A)
-      → unsaved ≡ false
-      → (if unsaved && holds then d else took p (unsaved || changes) d x) ≡ took p changes d x
-  taken_at true holds changes d x clean = absurd (false≢true (sym clean))
-  taken_at false holds changes d x clean = refl
+-- anybody else is answered by what is shown
+pub shown_call : (old : SavingClock) (d : Clock) (l : KeptBatch State DataSetsValue (ℕ × List ℕ)) (port : ℕ) (datagram : List ℕ) (say : Say)
+    (given : List (ℕ × List ℕ))
+    → d ≡ clock_in old.clock.value
+    → l ≡ kept_of old
+    → old.ready ≡ 0
+    → is_of_manager (clock_in old.clock.value) (port, datagram) ≡ false
+    → given ≡ outbox_of (turn_said (clock_in old.clock.value) (shown_state old) say port datagram)
+    → (b : ClockBatch) (count : ℕ)
+    → IsAsBatch old b count
+    → LeadsTo (coming_process d) sets_of given l (called_at old b (Handles (Heard port datagram say))) count
+shown_call old d l port datagram say given same kept none other is b count as_batch =
+    let c = clock_in old.clock.value in
+    let p = coming_process c in
+    let e = (state_in old.clock.value).entries in
+    led c d (kept_of old) l given _ count same kept
+    (answered p sets_of (is_held_by c) (kept_of old) b count (Heard port datagram say) given as_batch none
+    (ap (λ h. h && (if waits b.since then true else p.changes (shown p b) (Heard port datagram say))) other)
+    (said_alone c (shown p b) e port datagram say other
+    ∙ ap (λ (d : DataSetsValue). outbox_of (turn_said c (record { sets = d; entries = e }) say port datagram)) as_batch.shown
+    ∙ sym is))
 
-  taken : (changes : Bool) (d : Device S M) (x : A)
-      → d.is_unsaved ≡ false
-      → p.changes d.live x ≡ changes
-      → called p held d (Comes x) ≡ took p changes d x
-  taken changes d x clean is =
-      taken_at d.is_unsaved (held x) (p.changes d.live x) d x clean ∙ ap (λ (b : Bool). took p b d x) is
+-- while nothing waits, what changes nothing is answered
+pub first_call : (old : SavingClock) (d : Clock) (l : KeptBatch State DataSetsValue (ℕ × List ℕ)) (port : ℕ) (datagram : List ℕ) (say : Say) (of_owner : Bool) (given : List (ℕ × List ℕ))
+    → d ≡ clock_in old.clock.value
+    → l ≡ kept_of old
+    → old.ready ≡ 0
+    → old.waits ≡ false
+    → is_new (turn_of (clock_in old.clock.value) (state_in old.clock.value) port datagram say of_owner).verdict ≡ false
+    → given ≡ outbox_of (turn_of (clock_in old.clock.value) (state_in old.clock.value) port datagram say of_owner)
+    → (b : ClockBatch) (count : ℕ)
+    → IsAsBatch old b count
+    → LeadsTo (coming_process d) sets_of given l (called_at old b (Handles (datagram_in port datagram say of_owner))) count
+first_call old d l port datagram say of_owner given same kept none quiet old_verdict is b count as_batch =
+    let c = clock_in old.clock.value in
+    let p = coming_process c in
+    let x = datagram_in port datagram say of_owner in
+    let still : waits b.since ≡ false = as_batch.waits ∙ quiet in
+    let here : shown p b ≡ state_in old.clock.value = sym (quiet_shown p b.base b.since still) ∙ as_batch.live in
+    let unchanged : p.changes (shown p b) x ≡ false =
+    ap (λ s. p.changes s x) here ∙ change_of_datagram c (state_in old.clock.value) port datagram say of_owner ∙ old_verdict in
+    led c d (kept_of old) l given _ count same kept
+    (answered p sets_of (is_held_by c) (kept_of old) b count x given as_batch none
+    ((λ i. is_held_by c x && (if still i then true else unchanged i)) ∙ and_false (is_held_by c x))
+    (ap (λ s. p.messages s x) here ∙ messages_of_datagram c (state_in old.clock.value) port datagram say of_owner ∙ sym is))
+  where
+    and_false : (h : Bool) → (h && false) ≡ false
+    and_false true = refl
+    and_false false = refl
 
--- ---- a turn, by what is known of it
+-- what waits: it changes the clock, or is held while something waits
+module _ (old : SavingClock) (d : Clock) (l : KeptBatch State DataSetsValue (ℕ × List ℕ)) (port : ℕ) (datagram : List ℕ) (say : Say) (of_owner : Bool)
+    (same : d ≡ clock_in old.clock.value)
+    (kept : l ≡ kept_held (turn_of (clock_in old.clock.value) (state_in old.clock.value) port datagram say of_owner).next
+    (outbox_of (turn_of (clock_in old.clock.value) (state_in old.clock.value) port datagram say of_owner))
+    (is_new (turn_of (clock_in old.clock.value) (state_in old.clock.value) port datagram say of_owner).verdict) (kept_of old))
+    (none : old.ready ≡ 0) where
+  held_call : (b : ClockBatch) (count : ℕ)
+      → IsAsBatch old b count
+      → is_held (coming_process (clock_in old.clock.value)) (is_held_by (clock_in old.clock.value)) b (datagram_in port datagram say of_owner) ≡ true
+      → LeadsTo (coming_process d) sets_of [] l
+      (called_at old b (Handles (datagram_in port datagram say of_owner))) count
+  held_call b count as_batch held =
+      let c = clock_in old.clock.value in
+      let p = coming_process c in
+      let s = state_in old.clock.value in
+      let x = datagram_in port datagram say of_owner in
+      let t = turn_of c s port datagram say of_owner in
+      let now : p.after s x ≡ t.next = after_datagram c s port datagram say of_owner in
+      let changes : p.changes s x ≡ is_new t.verdict = change_of_datagram c s port datagram say of_owner in
+      led c d (kept_held t.next (outbox_of t) (is_new t.verdict) (kept_of old)) l [] _ count same kept
+      (subst (λ k. LeadsTo p sets_of [] k (called_at old b (Handles x)) count)
+      (λ i. kept_held (now i) (outbox_of t) (changes i) (kept_of old))
+      (waiting p sets_of (is_held_by c) (kept_of old) b count x (outbox_of t) as_batch none held
+      (messages_of_datagram c s port datagram say of_owner)))
 
-state_is : (s t : State) → s.sets ≡ t.sets → s.entries ≡ t.entries → s ≡ t
-state_is s t sets entries = λ i. record { sets = sets i; entries = entries i }
+  pub more_call : old.waits ≡ true
+      → (of_owner || is_of_manager (clock_in old.clock.value) (port, datagram)) ≡ true
+      → (b : ClockBatch) (count : ℕ)
+      → IsAsBatch old b count
+      → LeadsTo (coming_process d) sets_of [] l (called_at old b (Handles (datagram_in port datagram say of_owner))) count
+  more_call unsaved held b count as_batch =
+      let c = clock_in old.clock.value in
+      let p = coming_process c in
+      let x = datagram_in port datagram say of_owner in
+      held_call b count as_batch
+      (λ i. (held_datagram c port datagram say of_owner ∙ held) i
+      && (if (as_batch.waits ∙ unsaved) i then true else p.changes (shown p b) x))
 
-nothing_due : (c : HostedClock) (st : Standing) → is_unsaved st ≡ false → messages_due c st ≡ []
-nothing_due c standings.Saved clean = refl
-nothing_due c standings.Unsaved clean = refl
-nothing_due c (standings.Withholding w) clean = absurd (false≢true (sym clean))
+  pub new_call : old.waits ≡ false
+      → is_new (turn_of (clock_in old.clock.value) (state_in old.clock.value) port datagram say of_owner).verdict ≡ true
+      → (b : ClockBatch) (count : ℕ)
+      → IsAsBatch old b count
+      → LeadsTo (coming_process d) sets_of [] l (called_at old b (Handles (datagram_in port datagram say of_owner))) count
+  new_call quiet is b count as_batch =
+      let c = clock_in old.clock.value in
+      let p = coming_process c in
+      let s = state_in old.clock.value in
+      let x = datagram_in port datagram say of_owner in
+      let still : waits b.since ≡ false = as_batch.waits ∙ quiet in
+      let here : shown p b ≡ s = sym (quiet_shown p b.base b.since still) ∙ as_batch.live in
+      let changes : p.changes s x ≡ true = change_of_datagram c s port datagram say of_owner ∙ is in
+      held_call b count as_batch
+      (λ i. held_if_new c s x (is_held_by c x) refl changes i
+      && (if still i then true else (ap (λ t. p.changes t x) here ∙ changes) i))
+    where
+      held_if_new : (c : Clock) (s : State) (x : Coming) (h : Bool) → is_held_by c x ≡ h → (coming_process c).changes s x ≡ true → is_held_by c x ≡ true
+      held_if_new c s x true is changes = is
+      held_if_new c s x false is changes = absurd (false≢true (sym (coming_holds c s x is) ∙ changes))
 
--- ---- a new request
+-- a save
+pub saved_call : (old : SavingClock) (l : KeptBatch State DataSetsValue (ℕ × List ℕ)) (b : ClockBatch) (count later : ℕ)
+    → l ≡ kept_confirmed (kept_of old)
+    → old.is_imaged ≡ true
+    → IsAsBatch old b count
+    → IsKept (coming_process (clock_in old.clock.value)) sets_of l (called_at old b (Confirms count)) later
+saved_call old l b count later kept imaged as_batch =
+    let c = clock_in old.clock.value in
+    subst (λ k. IsKept (coming_process c) sets_of k (called_at old b (Confirms count)) later) (sym kept)
+    (confirmed (coming_process c) sets_of (is_held_by c) (coming_sound c).unchanged (kept_of old) b count later as_batch imaged)
 
-judged_read : (c : Clock) (s : State) (port : ℕ) (datagram : List ℕ) (v : Message)
-    → reading datagram ≡ Ok v
-    → (turn c s port datagram).verdict ≡ judged c s v
-unfolding turn
-judged_read c s port datagram v read = ap (λ (r : Result Message DecodeError). (turn_by c s port datagram r).verdict) read
+-- ---- turns, as code takes them
 
--- its reply is kept, and made for its copy it is what the turn sends
-pub record IsKeptNew (c : Clock) (s next : State) (port : ℕ) (datagram : List ℕ) (v : Message) : Type 0 where
-  pub entry : get next.entries v.source ≡ Some (entry_of c s (numbered_from v))
-  pub due : outbox_of (turn c s port datagram) ≡ reply_messages c port (heard_of v) (kept_reply_of (get next.entries v.source))
+-- the clock with the shown data sets takes a turn of anybody else, and has its own back
+module _ (old : SavingClock) (with_shown turned last : HostedClock) (now : DataSetsValue) (port : ℕ) (datagram : List ℕ) (say : Say) (verdict : Verdict)
+    (out : List (ℕ × List ℕ))
+    (own : with_shown.agent.table ≡ old.clock.value.agent.table)
+    (sets : with_shown.agent.sets ≡ old.shown)
+    (turns : IsTurned (turn_of (clock_in with_shown) (state_in with_shown) port datagram say false) verdict out (state_in turned))
+    (clock : clock_in turned ≡ clock_in with_shown)
+    (back : last.agent.sets ≡ old.clock.value.agent.sets)
+    (table : last.agent.table ≡ turned.agent.table)
+    (now_is : now ≡ turned.agent.sets)
+    (other : is_of_manager (clock_in old.clock.value) (port, datagram) ≡ false) where
+  own_clock : clock_in with_shown ≡ clock_in old.clock.value
+  own_clock = ap owner_of_block own
 
-pub kept_new : (c : Clock) (s next : State) (port : ℕ) (datagram : List ℕ) (v : Message) (verdict : Verdict) (out : List (ℕ × List ℕ))
-    → reading datagram ≡ Ok v
-    → IsTurned (turn c s port datagram) verdict out next
-    → verdict ≡ verdicts.AnsweredNew
-    → IsKeptNew c s next port datagram v
-kept_new c s next port datagram v verdict out read turned new =
-    let new_here : judged c s v ≡ verdicts.AnsweredNew = sym (judged_read c s port datagram v read) ∙ sym turned.verdict_is ∙ new in
-    let made = turned_new c s port datagram v verdicts.AnsweredNew (rendered c.identity (heard_of v) (new_reply c s v) port) (carried_out c s v)
-    read (sym new_here) refl refl refl in
-    let entry : get next.entries v.source ≡ Some (entry_of c s (numbered_from v)) =
-    ap (λ es. get es v.source) (turned.entries_are ∙ sym made.entries_are) ∙ get-insert_same s.entries v.source (entry_of c s (numbered_from v)) in
-    record {
-      entry = entry;
-      due = sym made.outbox_is ∙ sym (ap (λ (e : Option Entry). reply_messages c port (heard_of v) (kept_reply_of e)) entry);
+  own_state : state_in with_shown ≡ shown_state old
+  own_state = λ i. record { sets = sets i; entries = entries_of_block (own i) }
+
+  own_turn : IsTurned (turn_said (clock_in old.clock.value) (shown_state old) say port datagram) verdict out (state_in turned)
+  own_turn = subst (λ (s : State). IsTurned (turn_said (clock_in old.clock.value) s say port datagram) verdict out (state_in turned)) own_state
+      (subst (λ (c : Clock). IsTurned (turn_said c (state_in with_shown) say port datagram) verdict out (state_in turned)) own_clock turns)
+
+  same_next : (turn_said (clock_in old.clock.value) (shown_state old) say port datagram).next ≡ shown_state old
+  same_next = turn_of-unchanged (clock_in old.clock.value) (shown_state old) port datagram say false
+      (said_old (clock_in old.clock.value) (shown_state old) port datagram say other)
+
+  pub shown_not_new : is_new verdict ≡ false
+  shown_not_new = ap is_new own_turn.verdict_is ∙ said_old (clock_in old.clock.value) (shown_state old) port datagram say other
+
+  pub shown_clock : clock_in last ≡ clock_in old.clock.value
+  shown_clock = ap owner_of_block table ∙ clock ∙ own_clock
+
+  pub shown_kept : ◌≡◌ {A = KeptBatch State DataSetsValue (ℕ × List ℕ)} (record (kept_of old) { live = state_in last; shown = now }) (kept_of old)
+  shown_kept = λ i. record (kept_of old) {
+    live = record {
+      sets = back i;
+      entries = (ap entries_of_block table ∙ own_turn.entries_are ∙ ap (λ (s : State). s.entries) same_next) i;
+    };
+    shown = (now_is ∙ own_turn.sets_are ∙ ap (λ (s : State). s.sets) same_next) i;
+  }
+
+  pub shown_turn : (b : ClockBatch) (count : ℕ)
+      → IsAsBatch old b count
+      → old.ready ≡ 0
+      → LeadsTo (coming_process (clock_in last)) sets_of out (record (kept_of old) { live = state_in last; shown = now })
+      (called_at old b (Handles (Heard port datagram say))) count
+  shown_turn b count as_batch none =
+      shown_call old (clock_in last) (record (kept_of old) { live = state_in last; shown = now }) port datagram say out shown_clock shown_kept none other
+      own_turn.outbox_is b count as_batch
+
+-- a turn of the clock as it is
+module _ (old : SavingClock) (here turned : HostedClock) (port : ℕ) (datagram : List ℕ) (say : Say) (of_owner : Bool) (verdict : Verdict)
+    (out : List (ℕ × List ℕ))
+    (same : here ≡ old.clock.value)
+    (turns : IsTurned (turn_of (clock_in here) (state_in here) port datagram say of_owner) verdict out (state_in turned))
+    (clock : clock_in turned ≡ clock_in here) where
+  live_turn : IsTurned (turn_of (clock_in old.clock.value) (state_in old.clock.value) port datagram say of_owner) verdict out (state_in turned)
+  live_turn = subst (λ (h : HostedClock). IsTurned (turn_of (clock_in h) (state_in h) port datagram say of_owner) verdict out (state_in turned)) same turns
+
+  next_state : state_in turned ≡ (turn_of (clock_in old.clock.value) (state_in old.clock.value) port datagram say of_owner).next
+  next_state = λ i. record { sets = live_turn.sets_are i; entries = live_turn.entries_are i }
+
+  -- it changed nothing
+  pub first_turn : (b : ClockBatch) (count : ℕ)
+      → IsAsBatch old b count
+      → old.ready ≡ 0
+      → old.waits ≡ false
+      → verdict ≢ verdicts.AnsweredNew
+      → LeadsTo (coming_process (clock_in turned)) sets_of out (record (kept_of old) { live = state_in turned })
+      (called_at old b (Handles (datagram_in port datagram say of_owner))) count
+  first_turn b count as_batch none quiet unchanged =
+      let none_new = ap is_new (sym live_turn.verdict_is) ∙ not_new verdict unchanged in
+      let still = next_state ∙ turn_of-unchanged (clock_in old.clock.value) (state_in old.clock.value) port datagram say of_owner none_new in
+      first_call old (clock_in turned) (record (kept_of old) { live = state_in turned }) port datagram say of_owner out (clock ∙ ap clock_in same)
+      (λ i. record (kept_of old) { live = still i }) none quiet none_new live_turn.outbox_is b count as_batch
+
+  module _ (messages : List (ℕ × List ℕ)) (waits changed : Bool)
+      (all : messages ≡ queued old.queue ++ out)
+      (is_waiting : waits ≡ true)
+      (is_changed : changed ≡ (old.is_changed || is_new verdict)) where
+    kept_now : ◌≡◌ {A = KeptBatch State DataSetsValue (ℕ × List ℕ)}
+        (record (kept_of old) { live = state_in turned; messages = messages; waits = waits; is_changed = changed })
+        (kept_held (turn_of (clock_in old.clock.value) (state_in old.clock.value) port datagram say of_owner).next
+        (outbox_of (turn_of (clock_in old.clock.value) (state_in old.clock.value) port datagram say of_owner))
+        (is_new (turn_of (clock_in old.clock.value) (state_in old.clock.value) port datagram say of_owner).verdict) (kept_of old))
+    kept_now = λ i. record (kept_of old) {
+      live = next_state i;
+      messages = (all ∙ ap (λ l. queued old.queue ++ l) live_turn.outbox_is) i;
+      waits = is_waiting i;
+      is_changed = (is_changed ∙ ap (λ w. old.is_changed || is_new w) live_turn.verdict_is) i;
     }
 
-few_answers : (b : Bool) (n : ℕ) → FitsCount b n → nat_le n 15 ≡ true
-few_answers false n one = grind (arith, nat_tests)
-few_answers true n some = grind (arith, nat_tests)
+    pub new_turn : (b : ClockBatch) (count : ℕ)
+        → IsAsBatch old b count
+        → old.ready ≡ 0
+        → old.waits ≡ false
+        → verdict ≡ verdicts.AnsweredNew
+        → LeadsTo (coming_process (clock_in turned)) sets_of []
+        (record (kept_of old) { live = state_in turned; messages = messages; waits = waits; is_changed = changed })
+        (called_at old b (Handles (datagram_in port datagram say of_owner))) count
+    new_turn b count as_batch none quiet is =
+        new_call old (clock_in turned) (record (kept_of old) { live = state_in turned; messages = messages; waits = waits; is_changed = changed })
+        port datagram say of_owner (clock ∙ ap clock_in same) kept_now none quiet (ap is_new (sym live_turn.verdict_is ∙ is)) b count as_batch
 
-has_own : (e : Entry) (n : ℕ) → e.number ≡ n → nat_le (length e.reply.answers) 15 ≡ true → has_reply (Some e) n ≡ true
-has_own e n number few = grind (arith, nat_tests)
+    pub more_turn : (b : ClockBatch) (count : ℕ)
+        → IsAsBatch old b count
+        → old.ready ≡ 0
+        → old.waits ≡ true
+        → (of_owner || is_of_manager (clock_in old.clock.value) (port, datagram)) ≡ true
+        → LeadsTo (coming_process (clock_in turned)) sets_of []
+        (record (kept_of old) { live = state_in turned; messages = messages; waits = waits; is_changed = changed })
+        (called_at old b (Handles (datagram_in port datagram say of_owner))) count
+    more_turn b count as_batch none unsaved held =
+        more_call old (clock_in turned) (record (kept_of old) { live = state_in turned; messages = messages; waits = waits; is_changed = changed })
+        port datagram say of_owner (clock ∙ ap clock_in same) kept_now none unsaved held b count as_batch
 
-pub new_has_reply : (c : Clock) (s next : State) (port : ℕ) (datagram : List ℕ) (v : Message) (verdict : Verdict) (out : List (ℕ × List ℕ))
-    → reading datagram ≡ Ok v
-    → IsTurned (turn c s port datagram) verdict out next
-    → verdict ≡ verdicts.AnsweredNew
-    → IsSized s.sets
-    → IsValid v
-    → has_reply (get next.entries v.source) v.number ≡ true
-new_has_reply c s next port datagram v verdict out read turned new sized valid =
-    let new_here : judged c s v ≡ verdicts.AnsweredNew = sym (judged_read c s port datagram v read) ∙ sym turned.verdict_is ∙ new in
-    let parts = new_parts c s v new_here in
-    let fits = fits_numbered (request_of v) (c.rights v.source) s.sets v (new_reply c s v) refl sized parts.request parts.port valid refl in
-    let kept = kept_new c s next port datagram v verdict out read turned new in
-    ap (λ (e : Option Entry). has_reply e v.number) kept.entry
-    ∙ has_own (entry_of c s (numbered_from v)) v.number refl (few_answers _ _ fits.count)
+-- while nothing waits, the clock as it is is shown
+pub shown_live : (old : SavingClock) (b : ClockBatch) (count : ℕ) → IsAsBatch old b count → old.waits ≡ false → old.shown ≡ old.clock.value.agent.sets
+shown_live old b count as_batch quiet =
+    sym as_batch.shown
+    ∙ ap sets_of (sym (quiet_shown (coming_process (clock_in old.clock.value)) b.base b.since (as_batch.waits ∙ quiet)) ∙ as_batch.live)
 
--- the clock with this standing is as the device e is, which gave these messages out
-pub record IsLed (c : HostedClock) (st : Standing) (given : List (ℕ × List ℕ)) (d e : ClockDevice) : Type 0 where
-  pub live : e.live ≡ state_in c
-  pub is_unsaved : e.is_unsaved ≡ is_unsaved st
-  pub waiting : e.waiting ≡ messages_due c st
-  pub given_out : e.ready ≡ d.ready ++ given
-
-pub new_led : (before after : HostedClock) (st waits : Standing) (port : ℕ) (datagram : List ℕ) (v : Message) (verdict : Verdict)
-    (out : List (ℕ × List ℕ))
-    → is_unsaved st ≡ false
-    → waits ≡ standings.Withholding (record { heard = heard_of v; ingress = port })
-    → clock_in after ≡ clock_in before
-    → reading datagram ≡ Ok v
-    → IsTurned (turn (clock_in before) (state_in before) port datagram) verdict out (state_in after)
-    → verdict ≡ verdicts.AnsweredNew
-    → (d : ClockDevice)
-    → d.live ≡ state_in before
-    → d.is_unsaved ≡ is_unsaved st
-    → d.waiting ≡ messages_due before st
-    → IsLed after waits [] d (called (clock_process (clock_in before)) held_by_clock d (Comes (port, datagram)))
-new_led before after st waits port datagram v verdict out clean is_waiting clock read turned new d live unsaved waiting =
-    let c = clock_in before in
-    let p = clock_process c in
-    let at : State → Bool = λ s. is_new (turn c s port datagram).verdict in
-    let changes : at d.live ≡ true = ap at live ∙ sym (ap is_new turned.verdict_is) ∙ ap is_new new in
-    let here : called p held_by_clock d (Comes (port, datagram)) ≡ took p true d (port, datagram) =
-    taken p held_by_clock true d (port, datagram) (unsaved ∙ clean) changes in
-    let kept = kept_new c (state_in before) (state_in after) port datagram v verdict out read turned new in
-    let led : IsLed after waits [] d (took p true d (port, datagram)) = record {
-      live = ap (λ (s : State). (turn c s port datagram).next) live ∙ state_is _ _ (sym turned.sets_are) (sym turned.entries_are);
-      is_unsaved = sym (ap is_unsaved is_waiting);
-      waiting =
-          (λ i. (waiting ∙ nothing_due before st clean) i ++ outbox_of (turn c (live i) port datagram))
-          ∙ kept.due
-          ∙ ap (λ (k : Clock). reply_messages k port (heard_of v) (kept_reply_of (get (state_in after).entries v.source))) (sym clock)
-          ∙ sym (ap (messages_due after) is_waiting);
-      given_out = sym (append-nil d.ready);
-    } in
-    subst (IsLed after waits [] d) (sym here) led
-
--- a datagram that is no message makes no new request
-pub none_new : (c : Clock) (s next : State) (port : ℕ) (datagram : List ℕ) (cause : DecodeError) (verdict : Verdict) (out : List (ℕ × List ℕ))
-    → reading datagram ≡ Err cause
-    → IsTurned (turn c s port datagram) verdict out next
-    → verdict ≡ verdicts.AnsweredNew
-    → ⊥
-unfolding turn
-none_new c s next port datagram cause verdict out read turned new =
-    let malformed : verdict ≡ verdicts.Malformed cause =
-    turned.verdict_is ∙ ap (λ (r : Result Message DecodeError). (turn_by c s port datagram r).verdict) read in
-    cc
-
--- as many messages were made as there are in the first places
-pub as_many : (count : ℕ) (room : List Sent) (out : List (ℕ × List ℕ))
-    → count ≤ length room
-    → messages_in (take count room) ≡ out
-    → length out ≡ count
-as_many count room out inside are =
-    sym (ap length are) ∙ length-map (take count room) message_in ∙ length-take-le count room inside
-
--- ---- a save
-
-pub nothing_waits : (c : HostedClock) (st : Standing) → ((w : Withheld) → st ≡ standings.Withholding w → ⊥) → messages_due c st ≡ []
-nothing_waits c standings.Saved other = refl
-nothing_waits c standings.Unsaved other = refl
-nothing_waits c (standings.Withholding w) other = absurd (other w refl)
+pub or_new : (b : Bool) (verdict : Verdict) → verdict ≡ verdicts.AnsweredNew → true ≡ (b || is_new verdict)
+or_new true verdict is = refl
+or_new false verdict is = sym (ap is_new is)

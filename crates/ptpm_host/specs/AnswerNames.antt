@@ -40,7 +40,7 @@ refusal_names =
     ∷ (108, codes "OTHER_CLOCK") ∷ (109, codes "OTHER_PORTS") ∷ (110, codes "OTHER_SESSION") ∷ (112, codes "OUT_OF_REACH")
     ∷ (113, codes "NOT_WORDS") ∷ (114, codes "UNKNOWN_ID") ∷ (115, codes "WORD_COUNT") ∷ (116, codes "OTHER_NAME")
     ∷ (117, codes "NO_VALUE") ∷ (118, codes "UNSAVED") ∷ (119, codes "OTHER_IMAGE") ∷ (120, codes "NO_ASKER")
-    ∷ (121, codes "BAD_SAY") ∷ (122, codes "CANT_OBJECT") ∷ []
+    ∷ (121, codes "BAD_SAY") ∷ []
 
 -- which member of a clock is out of its range
 abbrev pub clock_member_names : List (ℕ × List ℕ)

@@ -1,20 +1,26 @@
 -- A change at the device itself, as a host asks for it.
-use Rattle.std.specs.Prelude.{◌≡◌, ◌==◌, ◌||◌, ◌+◌, ◌%◌, ◌^◌, ℕ, Bool, not, List, [], ◌∷◌, Option}
+use Rattle.std.specs.Prelude.{◌≡◌, ◌==◌, ◌||◌, ℕ, Bool, not, List, [], ◌∷◌, Option, Some, None, if◌then◌else◌}
+use Rattle.std.specs.FinMap.{empty}
 use Rattle.std.specs.Option.{option_map, option_or}
-use Rattle.ptpm_codec.specs.Message.{is_data_field}
+use Rattle.ptpm_codec.specs.declared.identity.PortIdentity.{PortIdentity}
+use Rattle.ptpm_codec.specs.declared.message.Message.{Message}
+use Rattle.ptpm_codec.specs.Message.{action_of, is_data_field}
 use Rattle.ptpm_codec.specs.Ordered.{first_of}
+use Rattle.ptpm_codec.specs.Reading.{message_of}
 use Rattle.ptpm_data.specs.Members.{DataSetsValue, has_port}
 use Rattle.ptpm_data.specs.Refusals.{refusal_of}
 use Rattle.ptpm_data.specs.Request.{RequestValue}
 use Rattle.ptpm_data.specs.Rights.{all_rights}
+use Rattle.ptpm_table.specs.Entries.{Entries}
+use Rattle.ptpm_table.specs.Managers.{clock_with}
+use Rattle.ptpm_agent.specs.declared.verdict.Verdict.{Verdict}
+use Rattle.ptpm_agent.specs.declared.verdict.Verdict.TheVariants as verdicts
+use Rattle.ptpm_agent.specs.Turn.{Clock, State, Turned, turn}
 use Rattle.ptpm_device.specs.Asking.{is_change}
 use Rattle.ptpm_device.specs.Changing.{changed_state}
 use Rattle.ptpm_host.specs.declared.clock.HostedClock.{HostedClock}
 use Rattle.ptpm_host.specs.declared.refusal.ChangeRefusal.{ChangeRefusal}
 use Rattle.ptpm_host.specs.declared.refusal.ChangeRefusal.TheVariants as refusals
-use Rattle.ptpm_host.specs.declared.saving_clock.SavingClock.{SavingClock}
-use Rattle.ptpm_host.specs.declared.standing.Standing.{Standing}
-use Rattle.ptpm_host.specs.declared.standing.Standing.TheVariants as standings
 use Rattle.ptpm_host.specs.Clock.{clock_in, state_in}
 use Rattle.ptpm_host.specs.Session.{asked_action}
 
@@ -43,16 +49,31 @@ pub record IsChangedHere (q : RequestValue) (before after : HostedClock) : Type 
   pub state_is : state_in after ≡ changed_state q (state_in before)
   pub clock_is : clock_in after ≡ clock_in before
 
--- ---- a clock whose host says when it was saved
+-- ---- a datagram of the owner
 
--- something is unsaved then, and what waits goes on waiting
-abbrev pub unsaved_after : Standing → Standing
-unsaved_after standings.Saved = standings.Unsaved
-unsaved_after standings.Unsaved = standings.Unsaved
-unsaved_after (standings.Withholding copy) = standings.Withholding copy
+-- the clock of these data sets whose one manager is its owner, with every right
+abbrev pub owner_clock : DataSetsValue → PortIdentity → Clock
+owner_clock d owner = clock_with d.default.identity ((owner, all_rights) ∷ [])
 
--- an image of the clock before it is of another state
-pub record IsUnsavedHere (q : RequestValue) (before after : SavingClock) : Type 0 where
-  pub changed : IsChangedHere q before.clock.value after.clock.value
-  pub standing_is : after.standing ≡ unsaved_after before.standing
-  pub changes_are : after.changes ≡ (before.changes + 1) % 2 ^ 64
+-- what changes nothing is as a request without a number
+abbrev pub owner_verdict : Message → Verdict → Verdict
+owner_verdict v verdicts.AnsweredNew =
+    if is_change (action_of v.body) then verdicts.AnsweredNew else verdicts.AnsweredUnnumbered
+owner_verdict v w = w
+
+-- that clock's turn; nothing of it is kept
+abbrev pub owner_turned : Message → Entries → Turned → Turned
+owner_turned v kept t = record {
+  verdict = owner_verdict v t.verdict;
+  forwards = t.forwards;
+  replies = t.replies;
+  next = record { sets = t.next.sets; entries = kept };
+}
+
+abbrev pub owner_by : Clock → State → ℕ → List ℕ → Option Message → Turned
+owner_by c s port datagram None = turn c s port datagram
+owner_by c s port datagram (Some v) =
+    owner_turned v s.entries (turn (owner_clock s.sets v.source) (record { sets = s.sets; entries = empty }) port datagram)
+
+unfoldable pub owner_turn : Clock → State → ℕ → List ℕ → Turned
+owner_turn c s port datagram = owner_by c s port datagram (message_of datagram)

@@ -26,7 +26,9 @@ pub mod Restoring
 pub mod Words
 pub mod Parsing
 pub mod Blanks
-pub mod Withheld
+pub mod Queue
+pub mod Coming
+pub mod KeptBatch
 pub mod SavingClock
 pub mod MostSent
 pub mod SessionStanding

@@ -7,10 +7,7 @@ use Rattle.ptpm_data.specs.RequestLaws.{IsSized}
 use Rattle.ptpm_table.specs.Entries.{Entry}
 use Rattle.ptpm_agent.specs.Turn.{Clock, State, outbox_of, turn}
 use Rattle.ptpm_device.specs.Saying.{Say, turn_said}
-use Rattle.ptpm_host.specs.declared.clock.HostedClock.{HostedClock}
-use Rattle.ptpm_host.specs.declared.standing.Standing.{Standing}
-use Rattle.ptpm_host.specs.Clock.{state_in}
-use Rattle.ptpm_host.specs.Withheld.{messages_due}
+use Rattle.ptpm_host.specs.Changing.{owner_turn}
 
 -- the most answers that one of these kept replies has
 abbrev pub most_answers : List (PortIdentity × Entry) → ℕ
@@ -41,7 +38,9 @@ SendsNoMoreAlone = (c : Clock) (s : State) (port : ℕ) (datagram : List ℕ)
     → HasPort port s.sets
     → length (outbox_of (turn c s port datagram)) ≤ most_sent s
 
--- and of what waits for a save
-abbrev pub WaitsNoMore : Type 0
-WaitsNoMore = (c : HostedClock) (standing : Standing)
-    → length (messages_due c standing) ≤ most_sent (state_in c)
+-- and for a datagram of the owner
+abbrev pub SendsNoMoreHere : Type 0
+SendsNoMoreHere = (c : Clock) (s : State) (port : ℕ) (datagram : List ℕ)
+    → IsSized s.sets
+    → HasPort port s.sets
+    → length (outbox_of (owner_turn c s port datagram)) ≤ most_sent s

@@ -49,8 +49,8 @@ use Rattle.ptpm_host.specs.declared.refusal.SavedRefusal.{SavedRefusal}
 use Rattle.ptpm_host.specs.declared.refusal.SavedRefusal.TheVariants as saves
 use Rattle.ptpm_host.specs.declared.refusal.SaidRefusal.{SaidRefusal}
 use Rattle.ptpm_host.specs.declared.refusal.SaidRefusal.TheVariants as said
-use Rattle.ptpm_host.specs.declared.refusal.SavingRefusal.{SavingRefusal}
-use Rattle.ptpm_host.specs.declared.refusal.SavingRefusal.TheVariants as saving
+use Rattle.ptpm_host.specs.declared.refusal.TakeRefusal.{TakeRefusal}
+use Rattle.ptpm_host.specs.declared.refusal.TakeRefusal.TheVariants as takes
 use Rattle.ptpm_host.specs.declared.refusal.SendRefusal.{SendRefusal}
 use Rattle.ptpm_host.specs.declared.refusal.SendRefusal.TheVariants as sends
 use Rattle.ptpm_host.specs.declared.refusal.SessionRefusal.{SessionRefusal}
@@ -153,10 +153,6 @@ asked_change = 29
 abbrev pub asked_value : ℕ
 asked_value = 30
 
--- a clock that is saved before it gives anything out takes no objection
-abbrev pub cant_object : ℕ
-cant_object = 122
-
 -- a change is not saved yet
 abbrev pub unsaved : ℕ
 unsaved = 118
@@ -165,15 +161,15 @@ abbrev pub handle_number : HandleRefusal → ℕ
 handle_number handles.NoPort = 33
 handle_number handles.NoRoom = no_room
 
--- why a clock that is to be saved handles no datagram
-abbrev pub saving_number : SavingRefusal → ℕ
-saving_number (saving.Handle refusal) = handle_number refusal
-saving_number saving.Unsaved = unsaved
-
 -- why a datagram is not handled with what the device says
 abbrev pub said_number : SaidRefusal → ℕ
 said_number (said.Handle refusal) = handle_number refusal
 said_number said.BadSay = 121
+
+-- why a clock that is saved while it goes on takes nothing
+abbrev pub take_number : TakeRefusal → ℕ
+take_number (takes.Said refusal) = said_number refusal
+take_number takes.Unsaved = unsaved
 
 -- why a change at the device itself is not carried out
 abbrev pub change_number : ChangeRefusal → ℕ
@@ -184,7 +180,6 @@ change_number (changes.Refused error) = 26
 
 -- why a clock or a session does not count as saved
 abbrev pub saved_number : SavedRefusal → ℕ
-saved_number saves.NoRoom = no_room
 saved_number saves.OtherImage = 119
 
 abbrev pub read_number : ReadRefusal → ℕ

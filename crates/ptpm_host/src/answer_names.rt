@@ -53,7 +53,7 @@ fn datagram_name(number: u32) -> Option<&'static str>
     }
 }
 
-/// Why a call changed nothing, 32 to 57 and 104 to 122.
+/// Why a call changed nothing, 32 to 57 and 104 to 121.
 #[tactic(auto, unfolding(crate::specs::AnswerNames::name_in))]
 fn refusal_name(number: u32) -> Option<&'static str>
     ensures { option_map (λ name. name.now) result ≡ name_in refusal_names number }
@@ -102,7 +102,6 @@ fn refusal_name(number: u32) -> Option<&'static str>
         119 => Some("OTHER_IMAGE"),
         120 => Some("NO_ASKER"),
         121 => Some("BAD_SAY"),
-        122 => Some("CANT_OBJECT"),
         _ => None,
     }
 }

@@ -1,6 +1,6 @@
 //! A clock whose device has a say, as a host keeps it.
 
-ghost use Rattle.std.specs.Prelude.{◌≡◌, ◌≢◌, ◌≤◌, All, IfErr, IfOk, IfSome, IsTrue, MatchResult, None, Ok, OnErr, Some, drop, is_ok, is_some, length, take};
+ghost use Rattle.std.specs.Prelude.{◌≡◌, ◌≢◌, ◌≤◌, All, IfErr, IfOk, IfSome, IsTrue, MatchResult, None, Ok, OnErr, OnOk, Some, drop, is_ok, is_some, length, take};
 ghost use Rattle.std.specs.List.{AllZip};
 ghost use Rattle.ptpm_codec.specs.Message.{IsDataField};
 ghost use Rattle.ptpm_data.specs.Members.{HasPort, has_port};
@@ -10,7 +10,8 @@ ghost use Rattle.ptpm_device.specs.Asking.{asked, wanted, wanted_once};
 ghost use Rattle.ptpm_device.specs.Saying as says;
 ghost use Rattle.ptpm_device.specs.Saying.{turn_said};
 ghost use Rattle.ptpm_host.specs.Clock.{IsWhole, KeepsBehind, clock_in, messages_in, state_in};
-ghost use Rattle.ptpm_host.specs.Device.{Answers, said_refusal, say_in};
+ghost use Rattle.ptpm_host.specs.Coming.{turn_of};
+ghost use Rattle.ptpm_host.specs.Device.{Answers, IsGiven, said_refusal, said_value, say_in};
 ghost use Rattle.ptpm_host.specs.MostSent.{most_sent};
 
 use crate::clock::{Handled, HostedClock};
@@ -48,22 +49,24 @@ impl HostedClock {
 
     /// Does what `handle` does, with what the clock's device says. What it says counts where `ask` says that the device is asked.
     /// If it objects, the request is kept and answered with its error, and the data sets stay. If it gives a value, this is the
-    /// answer. It is kept for a manager's new GET. If it is too big for that, RESPONSE_TOO_BIG is. If the call is refused,
-    /// nothing changes. Takes no memory.
+    /// answer. It is kept for a manager's new GET. If it is too big for that, RESPONSE_TOO_BIG is. `of_owner` says that the device's
+    /// owner sent the datagram. Then it is judged as that of a manager with every right, no device is asked, and nothing of it is
+    /// kept. If the call is refused, nothing changes. Takes no memory.
     #[tactic(auto, using(crate::specs::OutboxLaws::kept_by_none))]
-    pub fn handle_said(
+    pub fn take(
         &mut self,
         port: u16,
         datagram: &[u8],
         say: &Say,
+        of_owner: bool,
         room: &mut [Sent],
     ) -> Result<Handled, SaidRefusal>
         ensures turned { IfOk result
             (λ h.
             (o : says.Say)
             → say_in say.now ≡ Ok o
-            → IsTurned (turn_said (clock_in self.old) (state_in self.old) o port datagram.now) h.verdict
-            (messages_in (take h.count room.new)) (state_in self.new)) }
+            → IsTurned (turn_of (clock_in self.old) (state_in self.old) port datagram.now o of_owner)
+            h.verdict (messages_in (take h.count room.new)) (state_in self.new)) }
         ensures count { IfOk result (λ h. h.count ≤ length room.new) }
         ensures whole { IfOk result (λ h. All IsWhole (take h.count room.new)) }
         ensures places { IfOk result (λ h. drop h.count room.new ≡ drop h.count room.old) }
@@ -77,22 +80,99 @@ impl HostedClock {
         ensures untouched { OnErr result (room.new ≡ room.old) }
         ensures clock { clock_in self.new ≡ clock_in self.old }
     {
+        let said = self.said(port, say, room.len())?;
+        Ok(self.carry_out(port, datagram, said, of_owner, room))
+    }
+
+    /// One turn, with what the device says or as the owner's, at a port that the clock has, with places enough for whatever it
+    /// sends.
+    pub(crate) fn carry_out(
+        &mut self,
+        port: u16,
+        datagram: &[u8],
+        said: Said<'_>,
+        of_owner: bool,
+        room: &mut [Sent],
+    ) -> Handled
+        requires port { HasPort port self.old.agent.sets }
+        requires room { most_sent (state_in self.old) ≤ length room.old }
+        requires given { IsGiven said }
+        ensures turned { IsTurned
+            (turn_of (clock_in self.old) (state_in self.old) port datagram.now (said_value said.entry) of_owner)
+            result.verdict (messages_in (take result.count room.new)) (state_in self.new) }
+        ensures count { result.count ≤ length room.new }
+        ensures most { result.count ≤ most_sent (state_in self.old) }
+        ensures whole { All IsWhole (take result.count room.new) }
+        ensures places { drop result.count room.new ≡ drop result.count room.old }
+        ensures behind { AllZip KeepsBehind room.old room.new }
+        ensures new_alone { result.verdict ≢ Verdict.AnsweredNew →
+            self.new.agent.sets ≡ self.old.agent.sets }
+        ensures ports { length self.new.agent.sets.ports ≡ length self.old.agent.sets.ports }
+        ensures clock { clock_in self.new ≡ clock_in self.old }
+    {
+        self.sent_law();
+        if of_owner {
+            self.take_owner_turn(port, datagram, room)
+        } else {
+            self.take_said(port, datagram, said, room)
+        }
+    }
+
+    /// What a device says of a datagram that comes in at this port, if it is handled with `room` places.
+    pub(crate) fn said<'a>(
+        &self,
+        port: u16,
+        say: &'a Say,
+        room: usize,
+    ) -> Result<Said<'a>, SaidRefusal>
+        ensures said { IfOk result (λ s. say_in say.now ≡ Ok (said_value s)) }
+        ensures given { IfOk result IsGiven }
+        ensures port { OnOk result (HasPort port self.now.agent.sets) }
+        ensures room { OnOk result (most_sent (state_in self.now) ≤ room) }
+        ensures refusal { MatchResult result
+            (λ _. said_refusal (has_port port self.now.agent.sets) (most_sent (state_in self.now)) room say.now ≡ None)
+            (λ e. said_refusal (has_port port self.now.agent.sets) (most_sent (state_in self.now)) room say.now ≡ Some e) }
+    {
         if !self.agent.sets().has_port(port) {
             return Err(SaidRefusal::Handle(HandleRefusal::NoPort));
         }
-        if !self.has_room(room.len()) {
+        if !self.has_room(room) {
             return Err(SaidRefusal::Handle(HandleRefusal::NoRoom));
         }
+        match say.said() {
+            Ok(said) => Ok(said),
+            Err(_) => Err(SaidRefusal::BadSay),
+        }
+    }
+
+    /// One turn with what the device says, at a port that the clock has, with places enough for whatever it sends.
+    fn take_said(
+        &mut self,
+        port: u16,
+        datagram: &[u8],
+        said: Said<'_>,
+        room: &mut [Sent],
+    ) -> Handled
+        requires port { HasPort port self.old.agent.sets }
+        requires room { most_sent (state_in self.old) ≤ length room.old }
+        requires given { IsGiven said }
+        ensures turned { IsTurned
+            (turn_said (clock_in self.old) (state_in self.old) (said_value said.entry) port datagram.now)
+            result.verdict (messages_in (take result.count room.new)) (state_in self.new) }
+        ensures count { result.count ≤ length room.new }
+        ensures whole { All IsWhole (take result.count room.new) }
+        ensures places { drop result.count room.new ≡ drop result.count room.old }
+        ensures behind { AllZip KeepsBehind room.old room.new }
+        ensures new_alone { result.verdict ≢ Verdict.AnsweredNew →
+            self.new.agent.sets ≡ self.old.agent.sets }
+        ensures clock { clock_in self.new ≡ clock_in self.old }
+    {
         self.sent_law();
-        let said = match say.said() {
-            Ok(said) => said,
-            Err(_) => return Err(SaidRefusal::BadSay),
-        };
-        Ok(match said {
+        match said {
             Said::Agrees => self.take_turn(port, datagram, room),
             Said::Objects(error) => self.take_objection(port, datagram, error, room),
             Said::Gives(octets) => self.take_value(port, datagram, octets, room),
-        })
+        }
     }
 
     /// One turn with an objection of the device.

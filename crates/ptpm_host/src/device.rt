@@ -124,6 +124,7 @@ pub struct Say {
 const _: () = prove!(size_of::<Say>() == 1_424);
 
 /// What a device says, once it was judged.
+#[derive(Clone, Copy)]
 pub(crate) enum Said<'a> {
     Agrees,
     Objects(ErrorId),

@@ -1,6 +1,6 @@
-//! What holds for names, for what a clock sends, for what is passed on, and for rates. Each law is the contract of a function that does nothing.
+//! What holds for names, rates, what a clock sends, what is passed on, and a clock that is saved while it goes on. Each law is the contract of a function that does nothing.
 
-ghost use Rattle.std.specs.Prelude.{◌≡◌, ◌≢◌, ◌≤◌, ◌++◌, ℕ, List, Some, codes, length};
+ghost use Rattle.std.specs.Prelude.{◌≡◌, ◌≢◌, ◌≤◌, ◌++◌, ℕ, List, Some, codes, false, length};
 ghost use Rattle.ptpm_codec.specs.declared.error.ErrorId.{ErrorId};
 ghost use Rattle.ptpm_codec.specs.Message.{error_number};
 ghost use Rattle.ptpm_codec.specs.Message as codec;
@@ -21,7 +21,15 @@ ghost use Rattle.ptpm_host.specs.AnswerNames.{answer_name, reason_word, verdict_
 ghost use Rattle.ptpm_host.specs.ErrorNames.{error_name};
 ghost use Rattle.ptpm_members.specs.IdNames.{capitals, id_name};
 ghost use Rattle.ptpm_host.specs.Numbers.{begin_number, give_up_number, image_number, reason_number, restore_number, resume_number, values_number, verdict_number};
-ghost use Rattle.ptpm_host.specs.MostSent.{SendsNoMore, SendsNoMoreAlone, WaitsNoMore};
+ghost use Rattle.ptpm_host.specs.MostSent.{SendsNoMore, SendsNoMoreAlone, SendsNoMoreHere};
+ghost use Rattle.ptpm_data.specs.Members.{IsConsistent};
+ghost use Rattle.ptpm_data.specs.ObservationBack.{Observation};
+ghost use Rattle.ptpm_table.specs.Entries.{Entries};
+ghost use Rattle.ptpm_agent.specs.Turn.{Clock, State};
+ghost use Rattle.ptpm_saved.specs.Batching.{Call, IsDevice, all_events, as_device, begun, calls_each};
+ghost use Rattle.ptpm_saved.specs.Saving.{IsAsIfPowered};
+ghost use Rattle.ptpm_host.specs.Coming.{ClockBatch, Coming, coming_process, is_held_by, messages_for};
+ghost use Rattle.ptpm_host.specs.KeptBatch.{IsGivenOut};
 ghost use Rattle.ptpm_host.specs.PassedOnLaw.{NotTwice};
 ghost use Rattle.ptpm_host.specs.RateLaw.{WithinRate};
 
@@ -57,11 +65,11 @@ pub fn names_law()
         → length name ≤ 27 }
 {}
 
-/// No datagram has a clock send more messages than `most_sent` answers, nor has a save.
+/// No datagram has a clock send more messages than `most_sent` answers, nor has one of its owner.
 pub fn most_sent_law()
     ensures said { SendsNoMore }
     ensures turned { SendsNoMoreAlone }
-    ensures saved { WaitsNoMore }
+    ensures here { SendsNoMoreHere }
 {}
 
 /// A message that a table let through is not let through again within its time.
@@ -72,4 +80,23 @@ pub fn passed_on_law()
 /// A bucket gives no more tokens than a second's, and those that the time has brought.
 pub fn rate_law()
     ensures { WithinRate }
+{}
+
+/// A clock may take datagrams while it is saved, with what its device says and what its owner asks. It is one that saves before it
+/// answers, at other events: what waits comes in late, at its save. So that clock's law holds for it, whatever is called, in
+/// whatever order, and whenever power fails. Anybody else's datagram is judged and answered by the data sets alone.
+pub fn coming_clock_law()
+    ensures device { (c : Clock) (s : State) (calls : List (Call Coming Observation))
+        → IsConsistent s.sets
+        → IsDevice (coming_process c) (is_held_by c) s calls }
+    ensures powered { (c : Clock) (s : State) (calls : List (Call Coming Observation))
+        → IsConsistent s.sets
+        → IsAsIfPowered (coming_process c) s
+        (all_events (coming_process c) (is_held_by c) (begun s) calls)
+        (as_device (coming_process c) (calls_each (coming_process c) (is_held_by c) (begun s) calls)) }
+    ensures alone { (c : Clock) (s : State) (e : Entries) (x : Coming)
+        → is_held_by c x ≡ false
+        → messages_for c s x ≡ messages_for c (record { sets = s.sets; entries = e }) x }
+    ensures given { (c : Clock) (b : ClockBatch)
+        → IsGivenOut (coming_process c) (is_held_by c) b }
 {}

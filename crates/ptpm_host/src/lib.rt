@@ -25,6 +25,7 @@ mod outbox;
 mod owner_change;
 mod parsing;
 mod passed_on;
+mod queue;
 mod rate;
 mod refusal;
 mod reported_outcome;
@@ -35,7 +36,6 @@ mod session;
 mod session_settings;
 mod session_standing;
 mod settings;
-mod standing;
 mod steps;
 mod survey;
 mod survey_settings;
@@ -47,6 +47,7 @@ pub use answer_names::answer_name;
 pub use asker::HostedAsker;
 pub use asker_settings::AskerSettings;
 pub use clock::{Handled, HostedClock, MOST_SENT};
+pub use data_set_reading::read;
 pub use device::{Asking, Question, Say};
 pub use error_names::error_name;
 pub use handed::{Handed, earlier_number};
@@ -55,12 +56,11 @@ pub use limits::{Limit, limits_say};
 pub use member_kinds::member_kind;
 pub use names::{NO_ID, NO_NUMBER, hand_out_name, number_named, text_of};
 pub use numbers::{
-    ASKED_CHANGE, ASKED_VALUE, CANT_OBJECT, NO_ASKER, NO_CLOCK, NO_MEMORY, NO_ROOM, NO_SESSION,
-    NO_SURVEY, OTHER_SIZES, asker_number, begin_number, change_number, clock_restore_number,
-    give_up_number, handle_number, heard_number, observe_number, outcome_number, parse_number,
-    read_number, report_number, restore_number, resume_number, said_number, saved_number,
-    saving_number, send_number, session_number, start_number, surveyed_number, unseal_number,
-    verdict_number,
+    ASKED_CHANGE, ASKED_VALUE, NO_ASKER, NO_CLOCK, NO_MEMORY, NO_ROOM, NO_SESSION, NO_SURVEY,
+    OTHER_SIZES, asker_number, begin_number, change_number, clock_restore_number, give_up_number,
+    handle_number, heard_number, observe_number, outcome_number, parse_number, read_number,
+    report_number, restore_number, resume_number, said_number, saved_number, send_number,
+    session_number, start_number, surveyed_number, take_number, unseal_number, verdict_number,
 };
 pub use observing::{ObservedClock, ObservedPort, left_number};
 pub use parsing::parse_field;
@@ -69,10 +69,10 @@ pub use rate::Rate;
 pub use refusal::{
     AskerRefusal, ChangeRefusal, ClockRestoreRefusal, HandleRefusal, ParseRefusal, ReadRefusal,
     ReportRefusal, SaidRefusal, SavedRefusal, SavingRefusal, SendRefusal, SessionRefusal,
-    StartRefusal,
+    StartRefusal, TakeRefusal,
 };
 pub use reported_outcome::ReportedOutcome;
-pub use saving_clock::SavingClock;
+pub use saving_clock::{SavingClock, Taken};
 pub use sent::Sent;
 pub use session::{Heard, HostedSession};
 pub use session_settings::SessionSettings;

@@ -7,12 +7,12 @@
 //! refusals of a restore, and those from 112 on are further refusals of a call.
 
 ghost use Rattle.std.specs.Prelude.{◌≡◌, ◌≤◌};
-ghost use Rattle.ptpm_host.specs.Numbers.{asker_number, begin_number, cause_number, change_number, clock_restore_number, give_up_number, handle_number, heard_number, image_number, managers_number, member_number, observe_number, parse_number, read_number, reason_number, report_number, restore_number, resume_number, said_number, saved_number, saving_number, send_number, session_number, start_number, surveyed_number, outcome_number, unseal_number, values_number, verdict_number};
+ghost use Rattle.ptpm_host.specs.Numbers.{asker_number, begin_number, cause_number, change_number, clock_restore_number, give_up_number, handle_number, heard_number, image_number, managers_number, member_number, observe_number, parse_number, read_number, reason_number, report_number, restore_number, resume_number, said_number, saved_number, send_number, session_number, start_number, surveyed_number, take_number, outcome_number, unseal_number, values_number, verdict_number};
 
 use crate::refusal::{
     AskerRefusal, ChangeRefusal, ClockRestoreRefusal, HandleRefusal, ParseRefusal, ReadRefusal,
-    ReportRefusal, SaidRefusal, SavedRefusal, SavingRefusal, SendRefusal, SessionRefusal,
-    StartRefusal,
+    ReportRefusal, SaidRefusal, SavedRefusal, SendRefusal, SessionRefusal, StartRefusal,
+    TakeRefusal,
 };
 use crate::reported_outcome::ReportedOutcome;
 use crate::session::Heard;
@@ -46,9 +46,6 @@ pub const ASKED_CHANGE: u32 = 29;
 
 /// A device is asked for the value of an id that the clock lacks.
 pub const ASKED_VALUE: u32 = 30;
-
-/// A clock that is saved before it gives anything out takes no objection.
-pub const CANT_OBJECT: u32 = 122;
 
 /// A change is not saved yet.
 const UNSAVED: u32 = 118;
@@ -154,17 +151,6 @@ pub fn handle_number(refusal: HandleRefusal) -> u32
     }
 }
 
-/// Why a clock that is to be saved handles no datagram, 33, 34 or 118.
-pub fn saving_number(refusal: SavingRefusal) -> u32
-    ensures number { result ≡ saving_number refusal }
-    ensures some { 1 ≤ result }
-{
-    match refusal {
-        SavingRefusal::Handle(refusal) => handle_number(refusal),
-        SavingRefusal::Unsaved => UNSAVED,
-    }
-}
-
 /// Why a datagram is not handled with what the device says, 33, 34 or 121.
 pub fn said_number(refusal: SaidRefusal) -> u32
     ensures number { result ≡ said_number refusal }
@@ -173,6 +159,17 @@ pub fn said_number(refusal: SaidRefusal) -> u32
     match refusal {
         SaidRefusal::Handle(refusal) => handle_number(refusal),
         SaidRefusal::BadSay => 121,
+    }
+}
+
+/// Why a clock that is saved while it goes on takes nothing, 33, 34, 118 or 121.
+pub fn take_number(refusal: TakeRefusal) -> u32
+    ensures number { result ≡ take_number refusal }
+    ensures some { 1 ≤ result }
+{
+    match refusal {
+        TakeRefusal::Said(refusal) => said_number(refusal),
+        TakeRefusal::Unsaved => UNSAVED,
     }
 }
 
@@ -189,13 +186,12 @@ pub fn change_number(refusal: ChangeRefusal) -> u32
     }
 }
 
-/// Why a clock or a session does not count as saved, 34 or 119.
+/// Why a clock or a session does not count as saved, 119.
 pub fn saved_number(refusal: SavedRefusal) -> u32
     ensures number { result ≡ saved_number refusal }
     ensures some { 1 ≤ result }
 {
     match refusal {
-        SavedRefusal::NoRoom => NO_ROOM,
         SavedRefusal::OtherImage => 119,
     }
 }

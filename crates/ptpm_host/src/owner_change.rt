@@ -1,15 +1,27 @@
-//! A change at the device itself, at a clock as a host keeps it.
+//! A change at the device itself, and what its owner sends, at a clock as a host keeps it.
 
-ghost use Rattle.std.specs.Prelude.{◌≡◌, IfOk, MatchResult, None, OnErr, OnOk, Some};
+ghost use Rattle.std.specs.Prelude.{◌≡◌, ◌≤◌, All, IfOk, MatchResult, None, OnErr, OnOk, Some, drop, length, take};
+ghost use Rattle.std.specs.List.{AllZip};
+ghost use Rattle.ptpm_codec.specs.declared.message.Message.{Message};
+ghost use Rattle.ptpm_codec.specs.Message.{action_of};
 ghost use Rattle.ptpm_data.specs.Changed.{changed};
-ghost use Rattle.ptpm_host.specs.Changing.{IsChangedHere, change_refusal, is_target, request_here};
+ghost use Rattle.ptpm_data.specs.Members.{HasPort};
+ghost use Rattle.ptpm_agent.specs.Agent.{IsTurned, clock_of, state_of};
+ghost use Rattle.ptpm_agent.specs.Turn.{outbox_of, turn};
+ghost use Rattle.ptpm_host.specs.Changing.{IsChangedHere, change_refusal, is_target, owner_turn, owner_verdict, request_here};
+ghost use Rattle.ptpm_host.specs.Clock.{IsWhole, KeepsBehind, clock_in, messages_in, state_in};
+ghost use Rattle.ptpm_host.specs.MostSent.{most_sent};
 
-use crate::clock::HostedClock;
+use crate::clock::{Handled, HostedClock};
+use crate::outbox::Outbox;
 use crate::refusal::ChangeRefusal;
+use crate::sent::Sent;
 use crate::session::asked_action;
-use ptpm_codec::{PortIdentity, is_data_field};
-use ptpm_data::{ChangedMembers, DataSets, Request};
+use ptpm_agent::{Agent, Verdict};
+use ptpm_codec::{Action, PortIdentity, is_data_field, view};
+use ptpm_data::{ChangedMembers, DataSets, Request, Rights};
 use ptpm_device::{change_here, is_change};
+use ptpm_table::{Outgoing, ReplyTable, SlotTable};
 
 impl HostedClock {
     /// Carries out a SET or a COMMAND of the device's owner, as one of a manager with every right. Answers which members have
@@ -55,6 +67,84 @@ impl HostedClock {
             Err(error) => Err(ChangeRefusal::Refused(error)),
         }
     }
+}
+
+impl HostedClock {
+    /// One turn for a datagram of the device's owner, at a port that the clock has, with places enough for whatever it sends. It is
+    /// judged as that of a manager with every right, and nothing of it is kept.
+    pub(crate) fn take_owner_turn(
+        &mut self,
+        port: u16,
+        datagram: &[u8],
+        room: &mut [Sent],
+    ) -> Handled
+        requires port { HasPort port self.old.agent.sets }
+        requires room { most_sent (state_in self.old) ≤ length room.old }
+        ensures turned { IsTurned (owner_turn (clock_in self.old) (state_in self.old) port datagram.now)
+            result.verdict (messages_in (take result.count room.new)) (state_in self.new) }
+        ensures count { result.count ≤ length room.new }
+        ensures whole { All IsWhole (take result.count room.new) }
+        ensures places { drop result.count room.new ≡ drop result.count room.old }
+        ensures behind { AllZip KeepsBehind room.old room.new }
+        ensures clock { clock_in self.new ≡ clock_in self.old }
+    {
+        self.sent_law();
+        let Ok(message) = view(datagram) else {
+            return self.take_turn(port, datagram, room);
+        };
+        let mut owned = Agent::<SlotTable<1>>::without_managers(self.agent.sets().copy());
+        owned.admit(&[(message.source(), Rights::ALL)]);
+        let handled = take_owned(&mut owned, port, datagram, room);
+        let mut sets = self.agent.sets().copy();
+        owned.swap_sets(&mut sets);
+        self.agent.swap_sets(&mut sets);
+        Handled {
+            verdict: owner_verdict(handled.verdict, message.action()),
+            count: handled.count,
+        }
+    }
+}
+
+/// One turn of a clock whose one manager is its owner. Never inlined: so the stack has no second outbox.
+#[inline(never)]
+#[tactic(auto, using(crate::specs::OutboxLaws::kept_by_none))]
+fn take_owned(
+    owned: &mut Agent<SlotTable<1>>,
+    port: u16,
+    datagram: &[u8],
+    room: &mut [Sent],
+) -> Handled
+    requires port { HasPort port owned.old.sets }
+    requires room { length (outbox_of (turn
+        (clock_of ⟦<SlotTable<1> as ReplyTable>⟧.owner owned.old)
+        (state_of ⟦<SlotTable<1> as ReplyTable>⟧.entries owned.old) port datagram.now))
+        ≤ length room.old }
+    ensures turned { IsTurned (turn
+        (clock_of ⟦<SlotTable<1> as ReplyTable>⟧.owner owned.old)
+        (state_of ⟦<SlotTable<1> as ReplyTable>⟧.entries owned.old) port datagram.now)
+        result.verdict (messages_in (take result.count room.new))
+        (state_of ⟦<SlotTable<1> as ReplyTable>⟧.entries owned.new) }
+    ensures count { result.count ≤ length room.new }
+    ensures whole { All IsWhole (take result.count room.new) }
+    ensures places { drop result.count room.new ≡ drop result.count room.old }
+    ensures behind { AllZip KeepsBehind room.old room.new }
+{
+    let mut outbox = Outbox::new(room);
+    let verdict = owned.handle_into(port, datagram, &mut outbox);
+    Handled {
+        verdict,
+        count: outbox.count(),
+    }
+}
+
+/// The verdict on a message of the owner: what changes nothing is as a request without a number.
+fn owner_verdict(verdict: Verdict, action: Action) -> Verdict
+    ensures { (v : Message) → action_of v.body ≡ action → result ≡ owner_verdict v verdict }
+{
+    if verdict == Verdict::AnsweredNew && !is_change(action) {
+        return Verdict::AnsweredUnnumbered;
+    }
+    verdict
 }
 
 /// Whether a target's portNumber means every port, or one of these data sets.

@@ -1,5 +1,6 @@
 //! Why a call changes nothing.
 
+use crate::clock::HostedClock;
 use ptpm_codec::ErrorId;
 use ptpm_data::StartError;
 use ptpm_manager::SendError;
@@ -60,19 +61,26 @@ pub enum ChangeRefusal {
     Refused(ErrorId),
 }
 
-/// Why a clock that is to be saved handles no datagram, in the order in which the reasons are judged.
+/// Why a clock that is saved while it goes on takes nothing, in the order in which the reasons are judged.
 #[derive(Clone, Copy, Debug, PartialEq, Eq)]
-pub enum SavingRefusal {
-    Handle(HandleRefusal),
-    /// Something is not saved.
+pub enum TakeRefusal {
+    Said(SaidRefusal),
+    /// It was never saved, or messages that were released were not taken out, or there are too few free places for those
+    /// that may wait.
     Unsaved,
 }
 
-/// Why a clock or a session does not count as saved, in the order in which the reasons are judged.
+/// Why a clock does not go on while it is saved. It is given back as it was.
+#[derive(Drop)]
+pub enum SavingRefusal {
+    /// There are fewer places than messages that it may send.
+    NoRoom(Box<HostedClock>),
+    OutOfMemory(Box<HostedClock>),
+}
+
+/// Why a clock or a session does not count as saved.
 #[derive(Clone, Copy, Debug, PartialEq, Eq)]
 pub enum SavedRefusal {
-    /// There is room for fewer than fifteen messages; only of a clock.
-    NoRoom,
     /// The image is of another state.
     OtherImage,
 }

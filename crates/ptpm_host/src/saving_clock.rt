@@ -1,209 +1,440 @@
-//! A clock whose host says when it was saved, and which gives nothing out before.
+//! A clock that goes on while its host saves it. Nothing is given out that is not saved yet.
 
-ghost use Rattle.std.specs.Prelude.{◌≡◌, true};
-ghost use Rattle.ptpm_host.specs.Withheld.{is_kept};
+ghost use Rattle.std.specs.Prelude.{◌≡◌, ◌+◌, ◌≤◌, length};
+ghost use Rattle.ptpm_host.specs.Queue.{queued};
 
-use crate::blanks::blank;
-use crate::clock::{Handled, HostedClock, MOST_SENT};
-use crate::observing::{ObservedClock, ObservedPort};
-use crate::outbox::Outbox;
-use crate::refusal::{ChangeRefusal, HandleRefusal, SavedRefusal, SavingRefusal};
+use crate::clock::{Handled, HostedClock};
+use crate::device::{Asking, Said, Say};
+use crate::observing::{ObservedClock, ObservedPort, port_observations};
+use crate::queue::Queue;
+use crate::refusal::{ChangeRefusal, HandleRefusal, SavedRefusal, SavingRefusal, TakeRefusal};
 use crate::sent::Sent;
-use crate::standing::{Standing, Withheld};
 use ptpm_agent::Verdict;
 use ptpm_codec::view;
-use ptpm_data::{ChangedMembers, ObservationError, PortsLeftDisabled};
-use ptpm_table::{Outgoing, SureTable};
+use ptpm_data::{ChangedMembers, DataSets, ObservationError, PortsLeftDisabled};
+use ptpm_table::ReplyTable;
+use std::alloc::Global;
 
-/// A clock that sends no message of a new request before its host says that it is saved, and takes no datagram meanwhile. Each
-/// datagram that comes then counts as lost. The clock is the one that `HostedClock` is.
+/// A clock that takes datagrams while it is saved. What a manager asks of it alone, and what the device's owner asks, is carried
+/// out at once. If that changes it, or if something waits already, the messages for it wait until a save has it. Anybody else is
+/// answered at once, by what was saved last and observed since.
 #[derive(Drop)]
 pub struct SavingClock {
+    /// The clock as it is. Images are made of it.
     clock: Box<HostedClock>,
-    /// How many new requests, and changes at the device itself, there were since it began to be saved, modulo 2^64.
-    changes: u64,
-    standing: Standing,
-    ghost kept: { is_kept clock.value standing ≡ true },
+    /// The data sets that others are shown: those of the clock while nothing waits.
+    shown: DataSets,
+    /// Those of the latest image, with what was observed since. They are shown once it is saved.
+    copied: DataSets,
+    queue: Queue,
+    /// How many messages were released, and not taken out yet. They come first.
+    ready: usize,
+    /// How many wait for the latest image. They come next. The rest waits for a later one.
+    first: usize,
+    /// The token of the latest image, modulo 2^64.
+    images: u64,
+    /// Whether that image may still be said to be saved.
+    is_imaged: bool,
+    /// Whether anything waits to be saved.
+    waits: bool,
+    /// Whether the clock was changed since that image.
+    is_changed: bool,
+    /// Whether a restart would find the clock: it was restored, or it was saved once.
+    is_begun: bool,
+    ghost shown_ports: { length shown.ports ≡ length clock.value.agent.sets.ports },
+    ghost copied_ports: { length copied.ports ≡ length clock.value.agent.sets.ports },
+    ghost inside: { ready + first ≤ length (queued queue) },
 }
 
-const _: () = prove!(size_of::<SavingClock>() == 40);
+/// What became of a datagram.
+#[derive(Clone, Copy, Debug)]
+pub struct Taken {
+    pub verdict: Verdict,
+    /// How many messages are sent for it at once.
+    pub count: usize,
+    /// How many wait for a save.
+    pub waiting: usize,
+    /// The members of the clock that it has changed.
+    pub changed: ChangedMembers,
+}
 
 impl SavingClock {
-    ghost use Rattle.std.specs.Prelude.{◌≢◌, ◌≤◌, ◌==◌, ◌++◌, ◌↔◌, All, IfNone, IfOk, IfSome, IsSome, MatchResult, None, OnErr, OnOk, Some, [], drop, if◌then◌else◌, length, take};
+    ghost use Rattle.std.specs.Prelude.{◌≢◌, ◌==◌, ◌++◌, ◌∷◌, ◌↔◌, ◌||◌, ◌&&◌, if◌then◌else◌, ℕ, All, IfErr, IfNone, IfOk, IfSome, IsSome, IsTrue, MatchResult, None, Ok, OnErr, OnOk, Some, [], drop, false, is_ok, not, take, true};
     ghost use Rattle.std.specs.List.{AllZip};
-    ghost use Rattle.ptpm_data.specs.Changed.{changed};
-    ghost use Rattle.ptpm_data.specs.Members.{has_port};
-    ghost use Rattle.ptpm_data.specs.ObservationBack.{Observation};
+    ghost use Rattle.ptpm_data.specs.Changed.{changed, no_members};
+    ghost use Rattle.ptpm_data.specs.Members.{HasPort, has_port};
+    ghost use Rattle.ptpm_device.specs.Asking.{asked, wanted};
     ghost use Rattle.ptpm_data.specs.Start.{unless};
-    ghost use Rattle.ptpm_agent.specs.Turn.{outbox_of, turn};
+    ghost use Rattle.ptpm_device.specs.Saying as says;
+    ghost use Rattle.ptpm_device.specs.Saying.{turn_said};
+    ghost use Rattle.ptpm_saved.specs.Batching.{Confirms, GivesOut, Handles, Observes, begun};
+    ghost use Rattle.ptpm_saved.specs.BatchingClock.{is_of_manager};
     ghost use Rattle.ptpm_saved.specs.Image.{clock_image};
-    ghost use Rattle.ptpm_saved.specs.Saving.{Comes, Notes, Saves};
-    ghost use Rattle.ptpm_host.specs.Changing.{IsUnsavedHere, change_refusal, request_here};
-    ghost use Rattle.ptpm_host.specs.Clock.{IsWhole, KeepsBehind, clock_in, messages_in, state_in};
-    ghost use Rattle.ptpm_host.specs.Observing.{IsObserved, clock_observation, observe_refusal, port_observations, ports_left};
+    ghost use Rattle.ptpm_saved.specs.SavingClock.{is_new};
     ghost use Rattle.ptpm_host.specs.Blanks.{AreBlanked};
+    ghost use Rattle.ptpm_host.specs.Changing.{IsChangedHere, change_refusal, request_here};
+    ghost use Rattle.ptpm_host.specs.Clock.{IsWhole, KeepsBehind, clock_in, message_in, messages_in, state_in};
+    ghost use Rattle.ptpm_host.specs.Coming.{Changed, ClockBatch, Heard, datagram_in, turn_of};
+    ghost use Rattle.ptpm_host.specs.Device.{Answers, IsGiven, said_value, say_in};
     ghost use Rattle.ptpm_host.specs.MostSent.{most_sent};
-    ghost use Rattle.ptpm_host.specs.SavingClock.{IsCalled, changes_after, saved_refusal, saving_refusal};
-    ghost use Rattle.ptpm_host.specs.Withheld.{is_unsaved};
-    ghost use Rattle.ptpm_host.specs.declared.standing.Standing.TheVariants as standings;
+    ghost use Rattle.ptpm_host.specs.Observing.{IsObserved, clock_observation, observe_refusal, port_observations, ports_left};
+    ghost use Rattle.ptpm_host.specs.SavingClock.{IsAsBatch, IsCalled, IsCalledAt, IsNotSaving, called_at, free_places, is_for_live, is_full, is_unsaved, shown_state, state_asked, take_refusal};
 
-    /// This clock. `saved` says whether a restart would find it as it is. So it is right after it was restored. Otherwise it
-    /// takes no datagram before it is saved for the first time. Takes no memory.
-    pub fn new(clock: Box<HostedClock>, saved: bool) -> SavingClock
-        ensures clock { result.clock.value ≡ clock.value }
-        ensures changes { result.changes ≡ 0 }
-        ensures standing { result.standing
-            ≡ (if saved then standings.Saved else standings.Unsaved) }
+    /// This clock, and how many messages may wait. `saved` says whether a restart would find it as it is. So it is
+    /// right after it was restored. Otherwise it takes nothing before it is saved for the first time. The places are asked for
+    /// here alone.
+    pub fn new(
+        alloc: Global,
+        clock: Box<HostedClock>,
+        saved: bool,
+        places: usize,
+    ) -> Result<SavingClock, SavingRefusal>
+        ensures as_batch { IfOk result
+            (λ c. (count : ℕ) → IsAsBatch c (begun (state_in clock.value)) count) }
+        ensures clock { IfOk result (λ c. c.clock ≡ clock) }
+        ensures begun { IfOk result (λ c. c.is_begun ≡ saved) }
+        ensures free { IfOk result (λ c. free_places c ≡ places) }
+        ensures permitted { OnOk result (most_sent (state_in clock.value) ≤ places) }
+        ensures refused { IfErr result (IsNotSaving clock.value places) }
     {
-        SavingClock {
-            clock,
-            changes: 0,
-            standing: if saved {
-                Standing::Saved
-            } else {
-                Standing::Unsaved
-            },
+        if !clock.has_room(places) {
+            return Err(SavingRefusal::NoRoom(clock));
         }
+        let Ok(queue) = Queue::new(alloc, places) else {
+            return Err(SavingRefusal::OutOfMemory(clock));
+        };
+        let shown = clock.sets().copy();
+        let copied = clock.sets().copy();
+        Ok(SavingClock {
+            clock,
+            shown,
+            copied,
+            queue,
+            ready: 0,
+            first: 0,
+            images: 0,
+            is_imaged: false,
+            waits: false,
+            is_changed: false,
+            is_begun: saved,
+        })
     }
 
-    /// The clock, which from now on sends its messages at once.
+    /// The clock, which from now on sends its messages at once. Messages that wait are lost.
     pub fn into_clock(self) -> Box<HostedClock>
         ensures { result.value ≡ self.clock.value }
     {
         self.clock
     }
 
-    /// The clock as it is.
+    /// The clock as it is, with all that is not saved.
     pub fn clock(&self) -> &HostedClock
         ensures { result.now ≡ self.now.clock.value }
     {
         self.clock.as_ref()
     }
 
-    /// Whether something is unsaved.
-    pub fn is_unsaved(&self) -> bool
-        ensures { result ≡ is_unsaved self.now.standing }
+    /// The data sets that others are shown.
+    pub fn shown(&self) -> &DataSets
+        ensures { result.now ≡ self.now.shown }
     {
-        self.standing.is_unsaved()
+        &self.shown
     }
 
-    /// What becomes of a datagram that comes in at a port: what `HostedClock::handle` does, unless something is unsaved. After
-    /// `AnsweredNew` it is: then no message is in the places, those that were used are blank, and the messages are those of
-    /// `saved`. `least` places are asked for, which are enough for whatever the clock sends (`HostedClock::places_asked`). Takes no
-    /// memory.
-    pub fn handle(
+    /// Whether something has to be saved.
+    pub fn is_unsaved(&self) -> bool
+        ensures { result ≡ is_unsaved self.now }
+    {
+        self.waits || !self.is_begun
+    }
+
+    /// How many messages more may wait.
+    pub fn free(&self) -> usize
+        ensures { result ≡ free_places self.now }
+    {
+        self.queue.free()
+    }
+
+    /// Whether a datagram is judged by the clock as it is. So it is if nothing waits, for one of the owner, and for one of a manager for
+    /// this clock alone. Any other is judged by what is shown.
+    pub fn is_for_live(&self, port: u16, datagram: &[u8], of_owner: bool) -> bool
+        ensures { result ≡ is_for_live self.now port datagram.now of_owner }
+    {
+        !self.waits || of_owner || self.is_of_manager(port, datagram)
+    }
+
+    /// Whether it is a message of a manager for this clock alone.
+    fn is_of_manager(&self, port: u16, datagram: &[u8]) -> bool
+        ensures { result ≡ is_of_manager (clock_in self.now.clock.value) (port, datagram.now) }
+    {
+        let Ok(message) = view(datagram) else {
+            return false;
+        };
+        let table = self.clock.agent.table();
+        message.target().clock == table.clock() && table.knows(&message.source())
+    }
+
+    /// What `HostedClock::ask` does, by the clock as it is or as it is shown (`is_for_live`). Nothing changes.
+    pub fn ask(&mut self, port: u16, datagram: &[u8]) -> Result<Asking, HandleRefusal>
+        ensures asked { IfOk result (Answers
+            (asked (clock_in self.old.clock.value)
+            (state_asked self.old port datagram.now false) datagram.now)
+            (wanted (clock_in self.old.clock.value)
+            (state_asked self.old port datagram.now false) datagram.now)) }
+        ensures here { is_ok result ≡ has_port port self.old.clock.value.agent.sets }
+        ensures refused { IfErr result (λ e. e ≡ HandleRefusal.NoPort) }
+        ensures unchanged { self.new ≡ self.old }
+    {
+        if self.is_for_live(port, datagram, false) {
+            return self.clock.ask(port, datagram);
+        }
+        self.clock.agent.swap_sets(&mut self.shown);
+        let asking = self.clock.ask(port, datagram);
+        self.clock.agent.swap_sets(&mut self.shown);
+        asking
+    }
+
+    /// What becomes of a datagram that comes in at a port, with what the device says of it. `of_owner` says that the device's
+    /// owner sent it. Then no device is asked, and nothing of it is kept. What is sent at once is written into the first places of
+    /// `room`, and the places after them stay. What waits is kept here. The places of `room` that were used for it are blank. If
+    /// it is refused, nothing changes. Takes no memory.
+    pub fn take(
         &mut self,
         port: u16,
         datagram: &[u8],
+        say: &Say,
+        of_owner: bool,
         room: &mut [Sent],
-        least: usize,
-    ) -> Result<Handled, SavingRefusal>
-        requires enough { most_sent (state_in self.old.clock.value) ≤ least }
-        ensures called { IfOk result
-            (λ h.
-            IsCalled self.old (Comes (port, datagram.now)) (messages_in (take h.count room.new))
-            self.new) }
-        ensures verdict { IfOk result
-            (λ h.
-            h.verdict
-            ≡ (turn (clock_in self.old.clock.value) (state_in self.old.clock.value) port
-            datagram.now).verdict) }
-        ensures changes { IfOk result
-            (λ h. self.new.changes ≡ changes_after h.verdict self.old.changes) }
-        ensures count { IfOk result (λ h. h.count ≤ length room.new) }
-        ensures whole { IfOk result (λ h. All IsWhole (take h.count room.new)) }
-        ensures withheld { IfOk result
-            (λ h.
-            h.verdict ≡ Verdict.AnsweredNew
-            → (h.count ≡ 0)
-            × AreBlanked
-            (length
-            (outbox_of (turn (clock_in self.old.clock.value) (state_in self.old.clock.value) port
-            datagram.now)))
-            room.old room.new) }
-        ensures places { IfOk result
-            (λ h.
-            h.verdict ≢ Verdict.AnsweredNew → drop h.count room.new ≡ drop h.count room.old) }
-        ensures behind { IfOk result
-            (λ h. h.verdict ≢ Verdict.AnsweredNew → AllZip KeepsBehind room.old room.new) }
+    ) -> Result<Taken, TakeRefusal>
+        ensures called { IfOk result (λ t. (o : says.Say) → say_in say.now ≡ Ok o →
+            IsCalled self.old (Handles (datagram_in port datagram.now o of_owner))
+            (messages_in (take t.count room.new)) self.new) }
+        ensures verdict { IfOk result (λ t. (o : says.Say) → say_in say.now ≡ Ok o → t.verdict
+            ≡ (turn_of (clock_in self.old.clock.value)
+            (state_asked self.old port datagram.now of_owner) port datagram.now o of_owner).verdict) }
+        ensures members { IfOk result (λ t. (b : ClockBatch) (count : ℕ) → IsAsBatch self.old b count → t.changed
+            ≡ changed self.old.clock.value.agent.sets self.new.clock.value.agent.sets) }
+        ensures new_alone { IfOk result (λ t. t.verdict ≢ Verdict.AnsweredNew
+            → t.changed ≡ no_members) }
+        ensures waits { IfOk result (λ t. self.new.waits ≡ (self.old.waits || is_new t.verdict)) }
+        ensures free { IfOk result (λ t. free_places self.new + t.waiting ≡ free_places self.old) }
+        ensures count { IfOk result (λ t. t.count ≤ length room.new) }
+        ensures whole { IfOk result (λ t. All IsWhole (take t.count room.new)) }
+        ensures places { IfOk result (λ t. drop (t.count + t.waiting) room.new
+            ≡ drop (t.count + t.waiting) room.old) }
+        ensures behind { IfOk result (λ t. t.waiting ≡ 0 → AllZip KeepsBehind room.old room.new) }
+        ensures blanked { IfOk result
+            (λ t. t.waiting ≢ 0 → (t.count ≡ 0) × AreBlanked t.waiting room.old room.new) }
         ensures refusal { MatchResult result
-            (λ _.
-            saving_refusal (has_port port self.old.clock.value.agent.sets) least (length room.old)
-            (is_unsaved self.old.standing)
-            ≡ None)
-            (λ e.
-            saving_refusal (has_port port self.old.clock.value.agent.sets) least (length room.old)
-            (is_unsaved self.old.standing)
-            ≡ Some e) }
+            (λ _. take_refusal self.old port datagram.now say.now of_owner (length room.old) ≡ None)
+            (λ e. take_refusal self.old port datagram.now say.now of_owner (length room.old) ≡ Some e) }
         ensures unchanged { OnErr result (self.new ≡ self.old) }
         ensures untouched { OnErr result (room.new ≡ room.old) }
         ensures clock { clock_in self.new.clock.value ≡ clock_in self.old.clock.value }
+        ensures begun { self.new.is_begun ≡ self.old.is_begun }
     {
-        if let Some(refusal) = self.refusal(port, least, room.len()) {
-            return Err(refusal);
-        }
-        self.clock.sent_law();
-        let handled = self.clock.take_turn(port, datagram, room);
-        if handled.verdict != Verdict::AnsweredNew {
-            return Ok(handled);
-        }
-        let Ok(message) = view(datagram) else {
-            unreachable!()
+        let said = match self.clock.said(port, say, room.len()) {
+            Ok(said) => said,
+            Err(refusal) => return Err(TakeRefusal::Said(refusal)),
         };
-        self.standing = Standing::Withholding(Withheld::of(&message, port));
-        self.changes = self.changes.wrapping_add(1);
-        blank(room, handled.count);
-        Ok(Handled {
+        let is_for_live = self.is_for_live(port, datagram, of_owner);
+        if self.is_full(is_for_live) {
+            return Err(TakeRefusal::Unsaved);
+        }
+        if !is_for_live {
+            return Ok(self.take_shown(port, datagram, said, room));
+        }
+        if self.waits {
+            Ok(self.take_more(port, datagram, said, of_owner, room))
+        } else {
+            Ok(self.take_first(port, datagram, said, of_owner, room))
+        }
+    }
+
+    /// Whether the clock takes nothing now: it was never saved, released messages were not taken out, or what may wait has no
+    /// room.
+    fn is_full(&self, is_for_live: bool) -> bool
+        ensures { result ≡ is_full self.now is_for_live }
+    {
+        !self.is_begun || self.ready > 0 || (is_for_live && !self.clock.has_room(self.free()))
+    }
+
+    /// Answers a datagram by what is shown, while something waits. It changes nothing.
+    fn take_shown(&mut self, port: u16, datagram: &[u8], said: Said<'_>, room: &mut [Sent]) -> Taken
+        requires port { HasPort port self.old.clock.value.agent.sets }
+        requires room { most_sent (state_in self.old.clock.value) ≤ length room.old }
+        requires given { IsGiven said }
+        requires waits { self.old.waits ≡ true }
+        requires ready { self.old.ready ≡ 0 }
+        requires other { is_of_manager (clock_in self.old.clock.value) (port, datagram.now) ≡ false }
+        ensures called { IsCalled self.old (Handles (Heard port datagram.now (said_value said.entry)))
+            (messages_in (take result.count room.new)) self.new }
+        ensures verdict { result.verdict ≡ (turn_said (clock_in self.old.clock.value)
+            (shown_state self.old) (said_value said.entry) port datagram.now).verdict }
+        ensures new { is_new result.verdict ≡ false }
+        ensures waiting { result.waiting ≡ 0 }
+        ensures changed { result.changed ≡ no_members }
+        ensures sets { self.new.clock.value.agent.sets ≡ self.old.clock.value.agent.sets }
+        ensures queue { self.new.queue ≡ self.old.queue }
+        ensures still { self.new.waits ≡ true }
+        ensures begun { self.new.is_begun ≡ self.old.is_begun }
+        ensures count { result.count ≤ length room.new }
+        ensures whole { All IsWhole (take result.count room.new) }
+        ensures places { drop result.count room.new ≡ drop result.count room.old }
+        ensures behind { AllZip KeepsBehind room.old room.new }
+        ensures clock { clock_in self.new.clock.value ≡ clock_in self.old.clock.value }
+    {
+        self.clock.agent.swap_sets(&mut self.shown);
+        let handled = self.clock.carry_out(port, datagram, said, false, room);
+        self.clock.agent.swap_sets(&mut self.shown);
+        Taken::at_once(&handled)
+    }
+
+    /// Carries a datagram out while nothing waits. If that changes the clock, its messages wait.
+    fn take_first(
+        &mut self,
+        port: u16,
+        datagram: &[u8],
+        said: Said<'_>,
+        of_owner: bool,
+        room: &mut [Sent],
+    ) -> Taken
+        requires port { HasPort port self.old.clock.value.agent.sets }
+        requires room { most_sent (state_in self.old.clock.value) ≤ length room.old }
+        requires free { most_sent (state_in self.old.clock.value) ≤ free_places self.old }
+        requires given { IsGiven said }
+        requires waits { self.old.waits ≡ false }
+        requires ready { self.old.ready ≡ 0 }
+        ensures called { IsCalled self.old
+            (Handles (datagram_in port datagram.now (said_value said.entry) of_owner))
+            (messages_in (take result.count room.new)) self.new }
+        ensures verdict { result.verdict ≡ (turn_of (clock_in self.old.clock.value)
+            (state_in self.old.clock.value) port datagram.now (said_value said.entry) of_owner).verdict }
+        ensures members { (b : ClockBatch) (count : ℕ) → IsAsBatch self.old b count → result.changed
+            ≡ changed self.old.clock.value.agent.sets self.new.clock.value.agent.sets }
+        ensures new_alone { result.verdict ≢ Verdict.AnsweredNew → result.changed ≡ no_members }
+        ensures still { self.new.waits ≡ is_new result.verdict }
+        ensures free { free_places self.new + result.waiting ≡ free_places self.old }
+        ensures begun { self.new.is_begun ≡ self.old.is_begun }
+        ensures count { result.count ≤ length room.new }
+        ensures whole { All IsWhole (take result.count room.new) }
+        ensures places { drop (result.count + result.waiting) room.new
+            ≡ drop (result.count + result.waiting) room.old }
+        ensures behind { result.waiting ≡ 0 → AllZip KeepsBehind room.old room.new }
+        ensures blanked { result.waiting ≢ 0
+            → (result.count ≡ 0) × AreBlanked result.waiting room.old room.new }
+        ensures clock { clock_in self.new.clock.value ≡ clock_in self.old.clock.value }
+    {
+        let handled = self.clock.carry_out(port, datagram, said, of_owner, room);
+        if handled.verdict != Verdict::AnsweredNew {
+            return Taken::at_once(&handled);
+        }
+        self.queue.take_over(room, handled.count);
+        self.waits = true;
+        self.is_changed = true;
+        Taken {
             verdict: handled.verdict,
             count: 0,
-        })
+            waiting: handled.count,
+            changed: self.clock.sets().changed_since(&self.shown),
+        }
     }
 
-    /// Why no datagram is handled at this port. `least` places are asked for, and there are `room`.
-    fn refusal(&self, port: u16, least: usize, room: usize) -> Option<SavingRefusal>
-        ensures { result
-            ≡ saving_refusal (has_port port self.now.clock.value.agent.sets) least room
-            (is_unsaved self.now.standing) }
+    /// Carries a datagram out while something waits. Its messages wait too.
+    fn take_more(
+        &mut self,
+        port: u16,
+        datagram: &[u8],
+        said: Said<'_>,
+        of_owner: bool,
+        room: &mut [Sent],
+    ) -> Taken
+        requires port { HasPort port self.old.clock.value.agent.sets }
+        requires room { most_sent (state_in self.old.clock.value) ≤ length room.old }
+        requires free { most_sent (state_in self.old.clock.value) ≤ free_places self.old }
+        requires given { IsGiven said }
+        requires waits { self.old.waits ≡ true }
+        requires ready { self.old.ready ≡ 0 }
+        requires held { (of_owner || is_of_manager (clock_in self.old.clock.value) (port, datagram.now)) ≡ true }
+        ensures called { IsCalled self.old
+            (Handles (datagram_in port datagram.now (said_value said.entry) of_owner)) [] self.new }
+        ensures verdict { result.verdict ≡ (turn_of (clock_in self.old.clock.value)
+            (state_in self.old.clock.value) port datagram.now (said_value said.entry) of_owner).verdict }
+        ensures members { result.changed
+            ≡ changed self.old.clock.value.agent.sets self.new.clock.value.agent.sets }
+        ensures new_alone { result.verdict ≢ Verdict.AnsweredNew → result.changed ≡ no_members }
+        ensures still { self.new.waits ≡ true }
+        ensures free { free_places self.new + result.waiting ≡ free_places self.old }
+        ensures begun { self.new.is_begun ≡ self.old.is_begun }
+        ensures count { result.count ≡ 0 }
+        ensures blanked { AreBlanked result.waiting room.old room.new }
+        ensures same { result.waiting ≡ 0 → room.new ≡ room.old }
+        ensures clock { clock_in self.new.clock.value ≡ clock_in self.old.clock.value }
     {
-        if !self.clock.sets().has_port(port) {
-            return Some(SavingRefusal::Handle(HandleRefusal::NoPort));
+        let before = self.clock.sets().copy();
+        let handled = self.clock.carry_out(port, datagram, said, of_owner, room);
+        self.queue.take_over(room, handled.count);
+        self.is_changed = self.is_changed_by(handled.verdict);
+        Taken {
+            verdict: handled.verdict,
+            count: 0,
+            waiting: handled.count,
+            changed: self.clock.sets().changed_since(&before),
         }
-        if room < least {
-            return Some(SavingRefusal::Handle(HandleRefusal::NoRoom));
-        }
-        if self.standing.is_unsaved() {
-            return Some(SavingRefusal::Unsaved);
-        }
-        None
     }
 
-    /// What `HostedClock::observe` does, whether something is unsaved or not. Nothing is saved for it. Takes no memory.
+    /// Whether the clock was changed since the latest image, after this verdict too.
+    fn is_changed_by(&self, verdict: Verdict) -> bool
+        ensures { result ≡ (self.now.is_changed || is_new verdict) }
+    {
+        self.is_changed || verdict == Verdict::AnsweredNew
+    }
+
+    /// What `HostedClock::observe` does, to the clock as it is. What it shows moves by the same observation, and so does the
+    /// latest image of it, each if its own data sets permit that. Nothing is saved for it. If nothing waits, an image that was
+    /// made before is of another state then. Takes no memory.
+    #[tactic(auto, using(crate::proofs::ObservedPlaces::no_port, crate::proofs::ObservedPlaces::same_clock))]
     pub fn observe(
         &mut self,
         clock: &ObservedClock,
         ports: &[ObservedPort],
     ) -> Result<PortsLeftDisabled, ObservationError>
-        ensures called { IsCalled self.old
-            (Notes
-            (record {
+        ensures called { OnOk result (IsCalledAt self.old
+            (Observes (record {
               clock = clock_observation clock.now;
               ports = port_observations ports.now;
             }))
-            [] self.new }
+            self.new) }
         ensures answer { result
             ≡ unless (observe_refusal clock.now ports.now self.old.clock.value)
             (ports_left ports.now self.old.clock.value) }
         ensures observed { IsObserved clock.now ports.now self.old.clock.value
             self.new.clock.value }
-        ensures changes { self.new.changes ≡ self.old.changes }
-        ensures standing { self.new.standing ≡ self.old.standing }
+        ensures waits { self.new.waits ≡ self.old.waits }
+        ensures free { free_places self.new ≡ free_places self.old }
+        ensures begun { self.new.is_begun ≡ self.old.is_begun }
         ensures unchanged { OnErr result (self.new ≡ self.old) }
     {
-        self.clock.observe(clock, ports)
+        if ports.len() > self.clock.sets().port_count() as usize {
+            return Err(ObservationError::NoPort);
+        }
+        let observation = clock.observation();
+        let ports = port_observations(ports);
+        let left = self.clock.agent.observe(&observation, ports.as_slice())?;
+        let _ = self.shown.observe(&observation, ports.as_slice());
+        let _ = self.copied.observe(&observation, ports.as_slice());
+        self.is_imaged = self.keeps_image();
+        Ok(left)
     }
 
-    /// What `HostedClock::change_here` does, whether something is unsaved or not. Then something is, and what waits goes on
-    /// waiting. Takes no memory.
+    /// Whether the latest image still counts after an observation: only if something waits.
+    fn keeps_image(&self) -> bool
+        ensures { result ≡ (self.now.is_imaged && self.now.waits) }
+    {
+        self.is_imaged && self.waits
+    }
+
+    /// What `HostedClock::change_here` does. Then something waits to be saved. Takes no memory.
     pub fn change_here(
         &mut self,
         action: u8,
@@ -211,12 +442,18 @@ impl SavingClock {
         port: u16,
         octets: &[u8],
     ) -> Result<ChangedMembers, ChangeRefusal>
+        ensures called { OnOk result
+            (IsCalledAt self.old (Handles (Changed (request_here action id port octets.now))) self.new) }
         ensures changed { OnOk result
-            (IsUnsavedHere (request_here action id port octets.now) self.old self.new) }
+            (IsChangedHere (request_here action id port octets.now) self.old.clock.value
+            self.new.clock.value) }
         ensures members { IfOk result
             (λ members.
             members
             ≡ changed self.old.clock.value.agent.sets self.new.clock.value.agent.sets) }
+        ensures waits { OnOk result (self.new.waits ≡ true) }
+        ensures free { free_places self.new ≡ free_places self.old }
+        ensures begun { self.new.is_begun ≡ self.old.is_begun }
         ensures refusal { MatchResult result
             (λ _.
             change_refusal (request_here action id port octets.now)
@@ -229,64 +466,125 @@ impl SavingClock {
         ensures unchanged { OnErr result (self.new ≡ self.old) }
     {
         let members = self.clock.change_here(action, id, port, octets)?;
-        if let Standing::Saved = self.standing {
-            self.standing = Standing::Unsaved;
-        }
-        self.changes = self.changes.wrapping_add(1);
+        self.waits = true;
+        self.is_changed = true;
         Ok(members)
     }
 
     /// Leaves the clock's image at the head of `octets`, as `HostedClock::image` does. Answers how many octets it has, and its
-    /// token, by which `saved` knows which state it is of. Takes no memory.
-    pub fn image(&self, octets: &mut [u8]) -> Option<(usize, u64)>
+    /// token, by which `saved` knows it. No earlier image counts from then on. Takes no memory.
+    pub fn image(&mut self, octets: &mut [u8]) -> Option<(usize, u64)>
+        ensures called { IfSome result (λ _. (b : ClockBatch) (count : ℕ)
+            → IsAsBatch self.old b count → IsAsBatch self.new b (length b.since)) }
         ensures room { IsSome result
-            ↔ (length (clock_image (state_in self.now.clock.value)) ≤ length octets.old) }
+            ↔ (length (clock_image (state_in self.old.clock.value)) ≤ length octets.old) }
         ensures size { IfSome result
-            (λ r. r.0 ≡ length (clock_image (state_in self.now.clock.value))) }
-        ensures token { IfSome result (λ r. r.1 ≡ self.now.changes) }
+            (λ r. r.0 ≡ length (clock_image (state_in self.old.clock.value))) }
+        ensures token { IfSome result
+            (λ r. (r.1 ≡ self.new.images) × (self.new.is_imaged ≡ true)) }
         ensures octets { IfSome result
             (λ r.
-            octets.new ≡ clock_image (state_in self.now.clock.value) ++ drop r.0 octets.old) }
-        ensures unchanged { IfNone result (octets.new ≡ octets.old) }
+            octets.new ≡ clock_image (state_in self.old.clock.value) ++ drop r.0 octets.old) }
+        ensures clock { self.new.clock ≡ self.old.clock }
+        ensures waits { self.new.waits ≡ self.old.waits }
+        ensures free { free_places self.new ≡ free_places self.old }
+        ensures begun { self.new.is_begun ≡ self.old.is_begun }
+        ensures unchanged { IfNone result (self.new ≡ self.old) }
+        ensures untouched { IfNone result (octets.new ≡ octets.old) }
     {
         let size = self.clock.image(octets)?;
-        Some((size, self.changes))
+        self.copied = self.clock.sets().copy();
+        self.first = self.queue.count() - self.ready;
+        self.images = self.images.wrapping_add(1);
+        self.is_imaged = true;
+        self.is_changed = false;
+        Some((size, self.images))
     }
 
-    /// Takes its host's word that a restart would find the image of this token. What was withheld is written into the first places
-    /// of `room`, and the clock takes datagrams again. Answers how many messages there are. The places after them stay, and so
-    /// does what follows each message. If it is refused, nothing changes. Takes no memory.
-    #[tactic(auto, using(crate::specs::OutboxLaws::kept_by_none, crate::proofs::SavingCalls::nothing_waits))]
-    pub fn saved(&mut self, token: u64, room: &mut [Sent]) -> Result<usize, SavedRefusal>
-        ensures called { IfOk result
-            (λ n. IsCalled self.old Saves (messages_in (take n room.new)) self.new) }
-        ensures saved { IfOk result (λ _. self.new.standing ≡ standings.Saved) }
-        ensures same { IfOk result (λ _. self.new.clock ≡ self.old.clock) }
-        ensures changes { self.new.changes ≡ self.old.changes }
-        ensures count { IfOk result (λ n. n ≤ length room.new) }
-        ensures whole { IfOk result (λ n. All IsWhole (take n room.new)) }
-        ensures places { IfOk result (λ n. drop n room.new ≡ drop n room.old) }
-        ensures behind { AllZip KeepsBehind room.old room.new }
+    /// Takes its host's word that a restart would find the image of this token. It must be the latest, and counts once. What
+    /// waited when it was made is released. What came since goes on waiting; if nothing has changed since, it is released too.
+    /// If it is refused, nothing changes. Takes no memory.
+    pub fn saved(&mut self, token: u64) -> Result<(), SavedRefusal>
+        ensures called { OnOk result ((b : ClockBatch) (count later : ℕ)
+            → IsAsBatch self.old b count
+            → IsAsBatch self.new (called_at self.old b (Confirms count)) later) }
+        ensures waits { OnOk result (self.new.waits ≡ self.old.is_changed) }
+        ensures begun { OnOk result (self.new.is_begun ≡ true) }
+        ensures once { OnOk result (self.new.is_imaged ≡ false) }
+        ensures clock { self.new.clock ≡ self.old.clock }
+        ensures free { free_places self.new ≡ free_places self.old }
         ensures refusal { MatchResult result
-            (λ _. saved_refusal (most_sent (state_in self.old.clock.value)) (length room.old) (token == self.old.changes) ≡ None)
-            (λ e. saved_refusal (most_sent (state_in self.old.clock.value)) (length room.old) (token == self.old.changes) ≡ Some e) }
+            (λ _. (self.old.is_imaged && token == self.old.images) ≡ true)
+            (λ e. (e ≡ SavedRefusal.OtherImage)
+            × ((self.old.is_imaged && token == self.old.images) ≡ false)) }
         ensures unchanged { OnErr result (self.new ≡ self.old) }
-        ensures untouched { OnErr result (room.new ≡ room.old) }
     {
-        if !self.clock.has_room(room.len()) {
-            return Err(SavedRefusal::NoRoom);
-        }
-        if token != self.changes {
+        if !self.is_imaged || token != self.images {
             return Err(SavedRefusal::OtherImage);
         }
-        let Standing::Withholding(copy) = self.standing else {
-            self.standing = Standing::Saved;
-            return Ok(0);
-        };
-        let mut places = Outbox::new(room);
-        let table = self.clock.agent.table();
-        table.send_again(&copy.heard, copy.ingress, &mut places);
-        self.standing = Standing::Saved;
-        Ok(places.count())
+        self.shown = self.copied.copy();
+        self.ready = self.ready_once_saved();
+        self.first = 0;
+        self.waits = self.is_changed;
+        self.is_imaged = false;
+        self.is_begun = true;
+        Ok(())
+    }
+
+    /// How many messages are released once the latest image is saved, those that are already among them: all of them if nothing
+    /// has changed since.
+    fn ready_once_saved(&self) -> usize
+        ensures ready { result ≡ (if self.now.is_changed then self.now.ready + self.now.first
+            else length (queued self.now.queue)) }
+        ensures most { result ≤ length (queued self.now.queue) }
+    {
+        let all = self.queue.count();
+        if self.is_changed {
+            self.ready + self.first
+        } else {
+            all
+        }
+    }
+
+    /// Takes the first message that was released, into `sent`, and answers whether there was one. What follows it there stays.
+    /// Takes no memory.
+    pub fn next(&mut self, sent: &mut Sent) -> bool
+        ensures called { IsTrue result → IsCalledAt self.old GivesOut self.new }
+        ensures given { IsTrue result → (b : ClockBatch) (count : ℕ) → IsAsBatch self.old b count
+            → (called_at self.old b GivesOut).sent ≡ b.sent ++ message_in sent.new ∷ [] }
+        ensures released { result ≡ not (self.old.ready == 0) }
+        ensures whole { IsTrue result → IsWhole sent.new }
+        ensures behind { KeepsBehind sent.old sent.new }
+        ensures clock { self.new.clock ≡ self.old.clock }
+        ensures waits { self.new.waits ≡ self.old.waits }
+        ensures begun { self.new.is_begun ≡ self.old.is_begun }
+        ensures unchanged { result ≡ false → self.new ≡ self.old }
+        ensures untouched { result ≡ false → sent.new ≡ sent.old }
+    {
+        if self.ready == 0 {
+            return false;
+        }
+        self.queue.take_first(sent);
+        self.ready -= 1;
+        true
+    }
+}
+
+impl Taken {
+    ghost use Rattle.ptpm_data.specs.Changed.{no_members};
+
+    /// Nothing was changed, and nothing waits.
+    fn at_once(handled: &Handled) -> Taken
+        ensures verdict { result.verdict ≡ handled.now.verdict }
+        ensures count { result.count ≡ handled.now.count }
+        ensures waiting { result.waiting ≡ 0 }
+        ensures changed { result.changed ≡ no_members }
+    {
+        Taken {
+            verdict: handled.verdict,
+            count: handled.count,
+            waiting: 0,
+            changed: ChangedMembers::NONE,
+        }
     }
 }

@@ -52,6 +52,19 @@ impl Sent {
         &self.octets[..self.size as usize]
     }
 
+    /// Writes another message, with its port, in place of the one that is here.
+    pub(crate) fn put(&mut self, other: &Sent)
+        requires { IsWhole other.now }
+        ensures message { message_in self.new ≡ message_in other.now }
+        ensures whole { IsWhole self.new }
+        ensures behind { KeepsBehind self.old self.new }
+    {
+        let message = other.message();
+        self.port = other.port;
+        self.size = other.size;
+        copy_message(&mut self.octets[..message.len()], message);
+    }
+
     /// Writes the message of an envelope that answers this dataField from the source port in place of the one that is here.
     #[inline(always)]
     pub(crate) fn put_answer(&mut self, port: u16, envelope: &Envelope, source: u16, octets: &[u8])

@@ -1,0 +1,41 @@
+use Rattle.std.proofs.Common.{◌≡◌, ◌≢◌, ◌∙◌, ap, arith, refl, rules, sym, take, true}
+use Rattle.std.proofs.lemmas.Grind.{common_steps}
+use Rattle.ptpm_data.specs.Changed.{changed}
+use Rattle.ptpm_data.proofs.Differing.{nothing_changed}
+use Rattle.ptpm_agent.specs.declared.verdict.Verdict.TheVariants as verdicts
+use Rattle.ptpm_host.specs.declared.clock.HostedClock.{HostedClock}
+use Rattle.ptpm_host.specs.Clock.{messages_in}
+use Rattle.ptpm_host.specs.Device.{said_value}
+use Rattle.ptpm_host.specs.Queue.{queued}
+use Rattle.ptpm_host.proofs.SavingCalls.{first_turn, new_turn, or_new, shown_live}
+use Rattle.ptpm_host.proofs.saving_clock.SavingClock.take_first.Goals as goal
+
+pub returns-then-ne-clause-called : goal.returns-then-ne-clause-called
+returns-then-ne-clause-called c = λ b count as_batch.
+    let own : c.deref_mut.result.now ≡ c.args.self.now.clock.value = first_of (search rules, cc) in
+    let other : c.carry_out-handled.result.verdict ≢ verdicts.AnsweredNew = first_of (search rules, grind (arith, common_steps)) in
+    first_turn c.args.self.now c.deref_mut.result.now c.carry_out-handled.new.self c.args.port c.args.datagram.now (said_value c.args.said) c.args.of_owner
+    c.carry_out-handled.result.verdict (messages_in (take c.at_once.result.count c.carry_out-handled.new.room)) own
+    (rw c.at_once.ensures.count c.carry_out-handled.ensures.turned) c.carry_out-handled.ensures.clock b count as_batch c.requires.ready c.requires.waits other
+
+pub returns-then-ne-clause-members : goal.returns-then-ne-clause-members
+returns-then-ne-clause-members c = λ b count as_batch.
+    let own : c.deref_mut.result.now ≡ c.args.self.now.clock.value = first_of (search rules, cc) in
+    let other : c.carry_out-handled.result.verdict ≢ verdicts.AnsweredNew = first_of (search rules, grind (arith, common_steps)) in
+    c.at_once.ensures.changed ∙ nothing_changed c.args.self.now.clock.value.agent.sets
+    ∙ ap (λ d. changed c.args.self.now.clock.value.agent.sets d)
+    (sym (c.carry_out-handled.ensures.new_alone other ∙ ap (λ (h : HostedClock). h.agent.sets) own))
+
+pub returns-clause-called : goal.returns-clause-called
+returns-clause-called c = λ b count as_batch.
+    let own : c.deref_mut.result.now ≡ c.args.self.now.clock.value = first_of (search rules, cc) in
+    let new : c.carry_out-handled.result.verdict ≡ verdicts.AnsweredNew = first_of (search rules, grind (arith, common_steps)) in
+    new_turn c.args.self.now c.deref_mut.result.now c.carry_out-handled.new.self c.args.port c.args.datagram.now (said_value c.args.said) c.args.of_owner
+    c.carry_out-handled.result.verdict (messages_in (take c.carry_out-handled.result.count c.carry_out-handled.new.room)) own
+    c.carry_out-handled.ensures.turned c.carry_out-handled.ensures.clock (queued c.take_over.new.self) true true c.take_over.ensures.queued refl
+    (or_new c.args.self.now.is_changed c.carry_out-handled.result.verdict new) b count as_batch c.requires.ready c.requires.waits new
+
+pub returns-clause-members : goal.returns-clause-members
+returns-clause-members c = λ b count as_batch.
+    let now : c.sets.result.now ≡ c.carry_out-handled.new.self.agent.sets = first_of (search rules, cc) in
+    c.changed_since.ensures ∙ (λ i. changed (shown_live c.args.self.now b count as_batch c.requires.waits i) (now i))

@@ -1,0 +1,34 @@
+use Rattle.std.proofs.Common.{◌≡◌, ◌∙◌, rules, sym, take}
+use Rattle.std.proofs.lemmas.Grind.{common_steps}
+use Rattle.ptpm_data.specs.Changed.{changed}
+use Rattle.ptpm_data.proofs.Differing.{nothing_changed}
+use Rattle.ptpm_agent.specs.declared.verdict.Verdict.TheVariants as verdicts
+use Rattle.ptpm_host.specs.declared.clock.HostedClock.{HostedClock}
+use Rattle.ptpm_host.specs.Clock.{messages_in}
+use Rattle.ptpm_host.specs.Device.{said_value}
+use Rattle.ptpm_host.specs.Queue.{queued}
+use Rattle.ptpm_host.proofs.SavingCalls.{more_turn}
+use Rattle.ptpm_host.proofs.saving_clock.SavingClock.take_more.Goals as goal
+
+pub returns-clause-called : goal.returns-clause-called
+returns-clause-called c = λ b count as_batch.
+    let own : c.deref_mut.result.now ≡ c.args.self.now.clock.value = first_of (search rules, cc) in
+    more_turn c.args.self.now c.deref_mut.result.now c.carry_out-handled.new.self c.args.port c.args.datagram.now (said_value c.args.said) c.args.of_owner
+    c.carry_out-handled.result.verdict (messages_in (take c.carry_out-handled.result.count c.carry_out-handled.new.room)) own
+    c.carry_out-handled.ensures.turned c.carry_out-handled.ensures.clock (queued c.take_over.new.self) c.args.self.now.waits c.is_changed_by-self.result
+    c.take_over.ensures.queued c.requires.waits c.is_changed_by-self.ensures b count as_batch c.requires.ready c.requires.waits c.requires.held
+
+pub returns-clause-members : goal.returns-clause-members
+returns-clause-members c =
+    let before : c.copy-before.result ≡ c.args.self.now.clock.value.agent.sets = first_of (search rules, cc) in
+    let now : c.sets-2.result.now ≡ c.carry_out-handled.new.self.agent.sets = first_of (search rules, cc) in
+    c.changed_since.ensures ∙ (λ i. changed (before i) (now i))
+
+pub returns-clause-new_alone : goal.returns-clause-new_alone
+returns-clause-new_alone c = λ other.
+    let own : c.deref_mut.result.now ≡ c.args.self.now.clock.value = first_of (search rules, cc) in
+    let before : c.copy-before.result ≡ c.args.self.now.clock.value.agent.sets = first_of (search rules, cc) in
+    let now : c.sets-2.result.now ≡ c.carry_out-handled.new.self.agent.sets = first_of (search rules, cc) in
+    let same : c.carry_out-handled.new.self.agent.sets ≡ c.args.self.now.clock.value.agent.sets =
+    c.carry_out-handled.ensures.new_alone other ∙ (λ i. (own i).agent.sets) in
+    c.changed_since.ensures ∙ (λ i. changed (before i) ((now ∙ same) i)) ∙ sym (nothing_changed c.args.self.now.clock.value.agent.sets)
