@@ -45,19 +45,17 @@ static size_t error_name(uint32_t number, char *text, size_t room) { return ptpm
 
 /* A request that comes in: its number, and the value that it sets. */
 static void come_in(uint8_t number, int8_t value) {
-    struct ptpm_changed changed;
-    size_t count;
+    struct ptpm_taken taken;
     datagram[NUMBER_AT] = number;
     datagram[VALUE_AT] = (uint8_t)value;
     struct ptpm_say say = say_of_device();
-    enum ptpm_handled answer = ptpm_clock_handle_said(&device, 1, datagram, sizeof datagram, &say, sent, PTPM_MOST_SENT, &count,
-                                                      &changed);
+    enum ptpm_handled answer = ptpm_clock_take(&device, 1, datagram, sizeof datagram, &say, 0, sent, PTPM_MOST_SENT, &taken);
     printf("%u, logSyncInterval %d:", (unsigned)number, value);
     print_name(ptpm_answer_name, answer);
-    if (count > 0 && sent[0].octets[TLV_TYPE_AT] == ERROR_STATUS) {
+    if (taken.count > 0 && sent[0].octets[TLV_TYPE_AT] == ERROR_STATUS) {
         print_name(error_name, (uint32_t)sent[0].octets[ERROR_AT] << 8 | sent[0].octets[ERROR_AT + 1]);
     }
-    printf("%s\n", changed.ports[0] & PTPM_CHANGED_LOG_SYNC ? ", changed" : "");
+    printf("%s\n", taken.changed.ports[0] & PTPM_CHANGED_LOG_SYNC ? ", changed" : "");
 }
 
 static bool start(void) {

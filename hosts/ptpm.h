@@ -18,9 +18,8 @@
      its size. No call is made from a signal handler, or in a forked child of a process with threads.
    - A call has the stack that it needs. As the library is built for x86-64 and aarch64, most calls take 500 octets. A start of a
      clock takes 5,300, its restore 3,700, and that of an asker 4,600. The message of a survey takes 1,700.
-     The call ptpm_clock_handle_said takes 5,800, ptpm_clock_ask 3,800, and ptpm_clock_set 3,300. The call
-     ptpm_clock_handle_changed takes 3,000, and ptpm_field_parse 2,200. The calls ptpm_clock_handle and ptpm_clock_observe
-     take 1,200 each. The images, the restore of a session, ptpm_asker_ask and ptpm_asker_wake take 1,000 each.
+     The call ptpm_clock_take takes 5,800, ptpm_clock_ask 3,800, and ptpm_clock_set 3,300. The call ptpm_field_parse takes
+     2,200. The calls ptpm_clock_handle and ptpm_clock_observe take 1,200 each. The images, the restore of a session, ptpm_asker_ask and ptpm_asker_wake take 1,000 each.
      As C it takes more (docs/embedding.md, "On any other processor"). Beyond that a call takes the stack of the host's malloc,
      realloc, free, memcpy, memmove and memset. No call calls itself.
 
@@ -248,6 +247,13 @@ enum {
     PTPM_CHANGED_LOG_MIN_PDELAY = PTPM_CHANGED_PORT_LOG_MIN_PDELAY
 };
 
+/* What came of a datagram (ptpm_clock_take). */
+struct ptpm_taken {
+    PTPM_AT_EIGHT uint64_t count;       /* how many messages were written */
+    uint64_t waiting;                   /* how many more wait until the clock is saved (ptpm_clock_next) */
+    struct ptpm_changed changed;        /* the members that have another value than before */
+};
+
 /* What a device is asked (ptpm_clock_ask): to carry out a SET or a COMMAND, or for the value of a GET. All zeros if it is nothing. */
 struct ptpm_question {
     uint8_t manager[8];                 /* sourcePortIdentity of the request: the clock, and the port */
@@ -268,7 +274,7 @@ enum {
     PTPM_ERROR_WRONG_VALUE = 4, PTPM_ERROR_NOT_SETABLE = 5, PTPM_ERROR_NOT_SUPPORTED = 6, PTPM_ERROR_GENERAL_ERROR = 0xFFFE
 };
 
-/* What a device says of a datagram (ptpm_clock_handle_said). All zeros: it agrees, or has nothing to say. */
+/* What a device says of a datagram (ptpm_clock_take). All zeros: it agrees, or has nothing to say. */
 struct ptpm_say {
     uint16_t error;                     /* with PTPM_OBJECTS: one of the four */
     uint16_t size;                      /* with PTPM_GIVES: of the dataField, even, and 1,418 at most */
@@ -404,6 +410,7 @@ PTPM_HAS_SIZE(ptpm_observed_port, 16);
 PTPM_HAS_SIZE(ptpm_manager_settings, 12);
 PTPM_HAS_SIZE(ptpm_sent, 1476);
 PTPM_HAS_SIZE(ptpm_changed, 12);
+PTPM_HAS_SIZE(ptpm_taken, 32);
 PTPM_HAS_SIZE(ptpm_question, 150);
 PTPM_HAS_SIZE(ptpm_say, 1424);
 PTPM_HAS_SIZE(ptpm_limit, 36);
@@ -444,7 +451,7 @@ enum { PTPM_MOST_ANSWERS = 512, PTPM_SURVEY_PORT = 65534 };
    it again with the kind in front, such as PTPM_HANDLE_NO_CLOCK for PTPM_NO_CLOCK, so that -Wswitch and debuggers know it. A
    uint32_t holds any answer. */
 
-/* From now on a clock, or a session, gives nothing out before it is saved (ptpm_clock_saving, ptpm_session_saving). */
+/* From now on a clock shows no change before it is saved, and a session sends nothing (ptpm_clock_saving, ptpm_session_saving). */
 #define PTPM_SAVING 0
 
 /* A datagram is of another domain. */
@@ -481,7 +488,7 @@ enum { PTPM_MOST_ANSWERS = 512, PTPM_SURVEY_PORT = 65534 };
 #define PTPM_TOO_MANY_MANAGERS 51       /* over sixteen */
 #define PTPM_MANAGER_TWICE 52
 #define PTPM_IDENTITY_IS_ZERO 56        /* the clock's identity is all zeros */
-#define PTPM_UNSAVED 118                /* a clock or a session was changed and not saved, and nothing is given out before it is */
+#define PTPM_UNSAVED 118                /* a clock or a session was changed and not saved, and this comes only after a save */
 #define PTPM_BAD_CLOCK_ACCURACY 70
 #define PTPM_BAD_LEAP59 88              /* both leaps */
 #define PTPM_BAD_STATE 94
@@ -537,7 +544,7 @@ enum {
     PTPM_BAD_PEER_DELAY
 };
 
-/* ptpm_clock_handle, ptpm_clock_handle_changed, ptpm_clock_handle_said and ptpm_clock_saving. The last returns only PTPM_SAVING, PTPM_NO_CLOCK and
+/* ptpm_clock_handle, ptpm_clock_take and ptpm_clock_saving. The last returns only PTPM_SAVING, PTPM_NO_CLOCK, PTPM_NO_ROOM and
    PTPM_NO_MEMORY, and the others never PTPM_SAVING or PTPM_NO_MEMORY. */
 __extension__ enum PTPM_FOUR_OCTETS(ptpm_handled) {
     PTPM_HANDLE_OTHER_DOMAIN = PTPM_OTHER_DOMAIN,
@@ -559,12 +566,11 @@ __extension__ enum PTPM_FOUR_OCTETS(ptpm_handled) {
     PTPM_HANDLE_BAD_TEXT = PTPM_BAD_TEXT,
     PTPM_HANDLE_NO_CLOCK = PTPM_NO_CLOCK,
     PTPM_HANDLE_NO_PORT = PTPM_NO_PORT,
-    PTPM_HANDLE_NO_ROOM = PTPM_NO_ROOM, /* for fewer than PTPM_MOST_SENT messages; with what the device says, for fewer than
-                                           ptpm_clock_most_sent */
+    PTPM_HANDLE_NO_ROOM = PTPM_NO_ROOM, /* for fewer than PTPM_MOST_SENT messages at ptpm_clock_handle, and than
+                                           ptpm_clock_most_sent at the others */
     PTPM_HANDLE_NO_MEMORY = PTPM_NO_MEMORY,
     PTPM_HANDLE_UNSAVED = PTPM_UNSAVED,
-    PTPM_BAD_SAY = 121,                 /* it is of another kind, has an error that no device gives, or gives what is no dataField */
-    PTPM_CANT_OBJECT = 122              /* a clock that saves (ptpm_clock_saving) takes no objection, and no value */
+    PTPM_BAD_SAY = 121                  /* it is of another kind, has an error that no device gives, or gives what is no dataField */
 };
 
 /* ptpm_clock_ask. */
@@ -712,10 +718,9 @@ __extension__ enum PTPM_FOUR_OCTETS(ptpm_reported) {
 __extension__ enum PTPM_FOUR_OCTETS(ptpm_saved) {
     PTPM_SAVED = 0,
     PTPM_SAVE_NO_CLOCK = PTPM_NO_CLOCK,
-    PTPM_SAVE_NO_ROOM = PTPM_NO_ROOM,   /* for fewer octets than the image has, or than both have with its seal; or for fewer
-                                           messages than ptpm_clock_most_sent */
+    PTPM_SAVE_NO_ROOM = PTPM_NO_ROOM,   /* for fewer octets than the image has, or than both have with its seal */
     PTPM_SAVE_NO_SESSION = PTPM_NO_SESSION,
-    PTPM_OTHER_IMAGE = 119              /* it was changed since that image */
+    PTPM_OTHER_IMAGE = 119              /* not the latest image, or it counted; or the session was changed since */
 };
 
 /* ptpm_session_restore, ptpm_clock_restore and ptpm_image_unseal. */
@@ -826,7 +831,7 @@ static inline enum ptpm_started ptpm_header_agrees(void) {
         sizeof(struct ptpm_sent), sizeof(struct ptpm_changed), sizeof(struct ptpm_session), sizeof(struct ptpm_session_settings),
         sizeof(struct ptpm_survey), sizeof(struct ptpm_survey_settings), sizeof(struct ptpm_source), sizeof(struct ptpm_passed_on),
         sizeof(struct ptpm_rate), sizeof(struct ptpm_asker), sizeof(struct ptpm_asker_settings), sizeof(struct ptpm_handed),
-        sizeof(struct ptpm_question), sizeof(struct ptpm_say), sizeof(struct ptpm_limit)
+        sizeof(struct ptpm_question), sizeof(struct ptpm_say), sizeof(struct ptpm_limit), sizeof(struct ptpm_taken)
     };
     return ptpm_sizes_agree(sizes, sizeof sizes / sizeof *sizes);
 }
@@ -862,51 +867,47 @@ static inline enum ptpm_started ptpm_clock_start_sized(struct ptpm_clock *handle
 
 /* Judges a datagram that came in at a port, carries its request out, and makes what is to be sent.
    Takes:   the port, counted from 1; size octets; and room places, PTPM_MOST_SENT or more.
-   Returns: what became of the datagram; or why it was not judged, and then *count is 0.
-            PTPM_UNSAVED comes after PTPM_NO_PORT and PTPM_NO_ROOM, and only at a clock that saves (ptpm_clock_saving). Such a
-            datagram counts as lost.
-   Writes:  *count, and the first *count places of sent: of each its port, its size, and as many octets. A clock that saves has
-            *count 0 with PTPM_ANSWERED_NEW, and then places have zeros, as many as messages wait for ptpm_clock_saved.
+   Returns: what became of the datagram; or why it was not judged, and then *count is 0. That is PTPM_NO_CLOCK also for a clock
+            that saves (ptpm_clock_saving).
+   Writes:  *count, and the first *count places of sent: of each its port, its size, and as many octets.
    Caller:  sends these messages in their order, each at its port. If the answer is PTPM_ANSWERED_NEW and the clock is to outlast its
             power, the caller first saves its image. While that is not done it sends nothing, also of later calls. */
 enum ptpm_handled ptpm_clock_handle(struct ptpm_clock *clock, uint16_t port, const uint8_t *datagram, size_t size,
                                     struct ptpm_sent *sent, size_t room, size_t *count);
 
-/* Like ptpm_clock_handle. It also reports exactly the members that the turn changed; none unless the answer is PTPM_ANSWERED_NEW.
-   Takes:   what ptpm_clock_handle takes.
-   Returns: what ptpm_clock_handle returns.
-   Writes:  what ptpm_clock_handle writes, and *changed: the members that have another value after the call than before it. It
-            is all zeros after every answer except PTPM_ANSWERED_NEW, and after a GET or a request that was refused.
-   Caller:  does what ptpm_clock_handle asks of it, and then acts on each change: if the clock saves, after ptpm_clock_saved.
-            ptpm_clock_read reads the new values. */
-enum ptpm_handled ptpm_clock_handle_changed(struct ptpm_clock *clock, uint16_t port, const uint8_t *datagram, size_t size,
-                                            struct ptpm_sent *sent, size_t room, size_t *count, struct ptpm_changed *changed);
-
 /* Says what a datagram would have the device do, if it came in now at this port. Nothing changes. Between this call and
-   ptpm_clock_handle_said anything may happen: that call judges the datagram again.
+   ptpm_clock_take anything may happen: that call judges the datagram again.
    Takes:   the port, counted from 1; size octets.
-   Returns: PTPM_ASKED_CHANGE or PTPM_ASKED_VALUE; PTPM_ASKED_NOTHING for any other datagram; or PTPM_NO_CLOCK or PTPM_NO_PORT. A
-            clock that saves (ptpm_clock_saving) asks nothing while something is unsaved.
+   Returns: PTPM_ASKED_CHANGE or PTPM_ASKED_VALUE; PTPM_ASKED_NOTHING for any other datagram; or PTPM_NO_CLOCK or PTPM_NO_PORT.
    Writes:  *asked; all zeros unless one of the first two is returned.
    Caller:  writes a change to its hardware, if that can do it. It does so in a way that may be done twice. If power fails before
             the clock is saved, the request comes again, and is new. It looks a value up in a list of its own. */
 enum ptpm_asking ptpm_clock_ask(const struct ptpm_clock *clock, uint16_t port, const uint8_t *datagram, size_t size,
                                 struct ptpm_question *asked);
 
-/* Like ptpm_clock_handle_changed, with what the device says. If it objects where ptpm_clock_ask would return PTPM_ASKED_CHANGE, the
-   request is answered and kept with that error, and no member changes. If it gives a value where ptpm_clock_ask would return
-   PTPM_ASKED_VALUE, this is the answer of the clock. To the GET of a manager it has 130 octets at most, since it is kept. A longer
-   one is answered with RESPONSE_TOO_BIG (1), and that is kept. To any other GET it has 1,418 at most, and nothing is kept. Each later
-   copy of what is kept gets that answer. If the device is not asked, what it says does not count.
-   Takes:   what ptpm_clock_handle_changed takes, but room places, ptpm_clock_most_sent or more: one for a clock of one port; and *say.
-   Returns: what ptpm_clock_handle returns; or PTPM_BAD_SAY after PTPM_NO_CLOCK, PTPM_NO_PORT and PTPM_NO_ROOM. A clock that saves
-            (ptpm_clock_saving) refuses anything but PTPM_AGREES with PTPM_CANT_OBJECT, before any other reason.
-   Writes:  what ptpm_clock_handle_changed writes.
-   Caller:  does what ptpm_clock_handle_changed asks of it. If it has written to its hardware and the answer is not
-            PTPM_ANSWERED_NEW, it takes that back: another request came in between. */
-enum ptpm_handled ptpm_clock_handle_said(struct ptpm_clock *clock, uint16_t port, const uint8_t *datagram, size_t size,
-                                         const struct ptpm_say *say, struct ptpm_sent *sent, size_t room, size_t *count,
-                                         struct ptpm_changed *changed);
+/* Like ptpm_clock_handle, with what the device says, and of the owner too. It also reports exactly the members that changed. If the
+   device objects where ptpm_clock_ask would return PTPM_ASKED_CHANGE, the request is answered and kept with that error, and no
+   member changes. If it gives a value where ptpm_clock_ask would return PTPM_ASKED_VALUE, this is the answer of the clock. To the
+   GET of a manager it has 130 octets at most, since it is kept. A longer one is answered with RESPONSE_TOO_BIG (1), and that is
+   kept. To any other GET it has 1,418 at most, and nothing is kept. Each later copy of what is kept gets that answer. If the device
+   is not asked, what it says does not count.
+   A request of the device's owner is judged as one of a manager with every right, and what the device says does not count. Nothing of
+   it is kept, so a copy of it is carried out again. A GET of the owner is answered PTPM_ANSWERED_UNNUMBERED.
+   At a clock that saves (ptpm_clock_saving) messages may wait for a save, as is said there.
+   Takes:   what ptpm_clock_handle takes, but room places, ptpm_clock_most_sent or more: one for a clock of one port. And *say; and
+            of_owner: 1 for a datagram of the owner, and 0 for any other.
+   Returns: what became of the datagram; or why it was not judged, the first of these: PTPM_NO_CLOCK, PTPM_NO_PORT, PTPM_NO_ROOM,
+            PTPM_BAD_SAY and PTPM_UNSAVED. A datagram that is not judged counts as lost.
+   Writes:  all of *taken: zeros if the datagram was not judged. And the first taken->count places of sent, as ptpm_clock_handle
+            does. If messages wait, taken->count is 0, and as many places have zeros. No member changed unless the answer is
+            PTPM_ANSWERED_NEW, nor after a GET or a request that was refused.
+   Caller:  sends these messages in their order, each at its port, and then acts on each change. A clock that does not save is first
+            saved, as after ptpm_clock_handle. If taken->waiting is not 0, the caller acts on the change once these messages are given
+            out. If it has written to its hardware and the answer is not PTPM_ANSWERED_NEW, it takes that back: another request came
+            in between. */
+enum ptpm_handled ptpm_clock_take(struct ptpm_clock *clock, uint16_t port, const uint8_t *datagram, size_t size,
+                                  const struct ptpm_say *say, uint8_t of_owner, struct ptpm_sent *sent, size_t room,
+                                  struct ptpm_taken *taken);
 
 /* Writes exactly the values of a range to a limit.
    Takes:   the least and the most, each from -128 to 255. A number under 0 has the octet of an Integer8. Any other range has no value.
@@ -929,7 +930,7 @@ uint16_t ptpm_limits_say(const struct ptpm_limit *limits, size_t limit_count, co
    Writes:  *changed: the members that have another value after the call than before it; all zeros if the call is refused. *error:
             the managementErrorId with PTPM_SET_REFUSED, and otherwise 0.
    Caller:  acts on each change, and saves the clock. A clock that saves (ptpm_clock_saving) is unsaved after it, whether it was
-            before or not, and an earlier image is of another state. It says "done" to the owner once the clock is saved. */
+            before or not. The caller says "done" to the owner once an image that was made later is saved. */
 enum ptpm_set_here ptpm_clock_set(struct ptpm_clock *clock, uint8_t action, uint16_t id, uint16_t port, const uint8_t *octets,
                                   size_t size, struct ptpm_changed *changed, uint16_t *error);
 
@@ -942,7 +943,8 @@ enum ptpm_set_here ptpm_clock_set(struct ptpm_clock *clock, uint8_t action, uint
 enum ptpm_observed ptpm_clock_observe(struct ptpm_clock *clock, const struct ptpm_observed_clock *observed,
                                       const struct ptpm_observed_port *ports, size_t port_count, uint8_t *left);
 
-/* Reads the answer that a GET of a managementId would get.
+/* Reads the answer that a GET of a managementId would get. At a clock that saves (ptpm_clock_saving) that is what a stranger is
+   shown: nothing that is unsaved, except what was observed.
    Takes:   the id; a port of the clock, which matters only for an id of a port; and room octets, PTPM_MOST_READ or more.
    Returns: PTPM_READ, or why not.
    Writes:  *size, and as many octets from octets on: the dataField, whose members are where docs/protocol.md says ("dataFields"). *size
@@ -959,34 +961,56 @@ enum ptpm_read ptpm_clock_read(const struct ptpm_clock *clock, uint16_t id, uint
    Writes:  *size, and that number of octets from octets on: the image. If the call is refused, *size is 0 and no octet is written. */
 enum ptpm_saved ptpm_clock_image(const struct ptpm_clock *clock, uint8_t *octets, size_t room, size_t *size);
 
-/* Has a clock give nothing out before it is saved. Without it a host has to see to that itself, for each message that it sends.
-   With it PTPM_ANSWERED_NEW comes without messages. Until ptpm_clock_saved the clock refuses each datagram with PTPM_UNSAVED,
-   also a repeat, whose answer would show what is not saved. ptpm_clock_saved then gives the messages. Nothing else changes.
-   So there is one save for each new request. A clock that was just restored is saved. Any other clock is not: it takes no datagram
-   before ptpm_clock_saved. Call it right after the start or the restore.
-   Returns: PTPM_SAVING, or PTPM_NO_CLOCK; or PTPM_NO_MEMORY, and then the clock gives messages out as before. If the clock saves
-            already, the answer is PTPM_SAVING, and nothing changes.
-   Memory:  40 octets, until the clock is stopped.
-   Caller:  saves the clock after each PTPM_ANSWERED_NEW, and at once if it was not restored. */
-enum ptpm_handled ptpm_clock_saving(struct ptpm_clock *clock);
+/* Has a clock show no change before it is saved. Without it a host has to see to that itself, for each message that it sends. Such a
+   clock takes datagrams by ptpm_clock_take, also during a save. What a manager or the owner asks of it, and not of every clock, is carried
+   out at once. If that changed the clock, or something was unsaved before, its messages wait in the clock. That includes a repeat,
+   and all else the same manager sends. Anyone else is answered at once, by what was saved last and observed since.
+   A save is: ptpm_clock_image_of, the image stored, and ptpm_clock_saved. Then ptpm_clock_next gives the messages that waited when
+   the image was made. What came later goes on waiting for the next image, unless it changed nothing. A save that fails is no event:
+   the next image has all of it.
+   A clock that was just restored is saved. Any other clock is not: it takes no datagram before ptpm_clock_saved. Call it right after
+   the start or the restore.
+   ptpm_clock_take returns PTPM_UNSAVED in three cases, and nothing changes. The first is any datagram before the first save of a
+   clock that was not restored. The second is any datagram while ptpm_clock_next has a message to give. The third is one whose
+   messages would wait, if fewer than ptpm_clock_most_sent places are free (ptpm_clock_free).
+   Takes:   how many messages may wait, ptpm_clock_most_sent or more: one for a clock of one port.
+   Returns: PTPM_SAVING; or PTPM_NO_CLOCK, PTPM_NO_ROOM for fewer places, or PTPM_NO_MEMORY, and then nothing changes. If the clock
+            saves already, the answer is PTPM_SAVING, and nothing changes.
+   Memory:  some 900 octets and 1,476 for each place, until the clock is stopped.
+   Caller:  saves the clock whenever it is unsaved (ptpm_clock_unsaved), and at once if it was not restored. */
+enum ptpm_handled ptpm_clock_saving(struct ptpm_clock *clock, size_t places);
 
-/* Like ptpm_clock_image, of a clock that saves. It also says which state the image is of.
+/* Like ptpm_clock_image, of a clock that saves. An earlier image can't be confirmed any more.
    Takes:   what ptpm_clock_image takes.
    Returns: what ptpm_clock_image returns; PTPM_NO_CLOCK also for a clock that does not save.
-   Writes:  what ptpm_clock_image writes, and *token: a number that is another one after each PTPM_ANSWERED_NEW. It is 0 if the call
-            is refused. It says nothing about another clock, or about a clock before it was restored.
+   Writes:  what ptpm_clock_image writes, and *token: how many images were made since ptpm_clock_saving. It is 0 if the call is
+            refused.
    Caller:  stores the image, and calls ptpm_clock_saved with the token once a restart would find it, whatever happens to the
             power. Not before: what is sent earlier may be forgotten. */
-enum ptpm_saved ptpm_clock_image_of(const struct ptpm_clock *clock, uint8_t *octets, size_t room, size_t *size, uint64_t *token);
+enum ptpm_saved ptpm_clock_image_of(struct ptpm_clock *clock, uint8_t *octets, size_t room, size_t *size, uint64_t *token);
 
-/* Takes the caller's word that a restart would find the image of this token. The messages that waited are given out, and the clock
-   takes datagrams again. An observation in between does not matter: the one of the image counts until the next.
-   Takes:   the token of ptpm_clock_image_of; and room places, ptpm_clock_most_sent or more: one for a clock of one port.
-   Returns: PTPM_SAVED; or PTPM_NO_CLOCK, also for a clock that does not save, PTPM_NO_ROOM or PTPM_OTHER_IMAGE, in this order, and then
-            nothing changes. With the token of a clock that is saved already it returns PTPM_SAVED, and no message.
-   Writes:  *count, and the first *count places of sent, as ptpm_clock_handle does. *count is 0 if the call is refused.
-   Caller:  sends these messages in their order, each at its port, and acts on what the turn changed. */
-enum ptpm_saved ptpm_clock_saved(struct ptpm_clock *clock, uint64_t token, struct ptpm_sent *sent, size_t room, size_t *count);
+/* Takes the caller's word that a restart would find the image of this token. Strangers are shown what it has, and the messages that
+   waited when it was made can be had (ptpm_clock_next).
+   Takes:   the token of the latest ptpm_clock_image_of, which counts once. If no change waited when it was made, it does not count
+            after an observation either.
+   Returns: PTPM_SAVED; or PTPM_NO_CLOCK, also for a clock that does not save, or PTPM_OTHER_IMAGE for any other token, and then
+            nothing changes.
+   Caller:  calls ptpm_clock_next until that gives no message. */
+enum ptpm_saved ptpm_clock_saved(struct ptpm_clock *clock, uint64_t token);
+
+/* Gives the first message that no longer waits for a save, in the order in which their datagrams came in.
+   Returns: 1; or 0 if there is none, and for a clock that does not save.
+   Writes:  *message, as ptpm_clock_take writes each message. If the answer is 0, nothing of it.
+   Caller:  sends it at its port, and acts on what changed with it. It calls again until the answer is 0: the clock takes no datagram
+            before that. */
+size_t ptpm_clock_next(struct ptpm_clock *clock, struct ptpm_sent *message);
+
+/* Returns how many more messages may wait for a save, and SIZE_MAX for a clock that does not save. It is 0 if the handle holds no
+   clock. */
+size_t ptpm_clock_free(const struct ptpm_clock *clock);
+
+/* Returns 1 if a clock that saves has a change that is not saved, or was never saved. Otherwise it is 0. */
+uint32_t ptpm_clock_unsaved(const struct ptpm_clock *clock);
 
 /* Puts the clock of an image in the handle, instead of what it holds, which is then freed.
    Takes:   the identity and the number of ports that the clock of the image must have; at most sixteen managers; and size octets.
@@ -1004,8 +1028,7 @@ enum ptpm_restored ptpm_clock_restore(struct ptpm_clock *clock, const uint8_t id
                                       const struct ptpm_manager_settings *managers, size_t manager_count,
                                       const uint8_t *image, size_t size, size_t *gone);
 
-/* Returns the most messages that a call writes for this clock, such as ptpm_clock_handle or ptpm_clock_saved. A queue of the host has to
-   be that long. It is 2 * port_count - 1: a copy for each other port, and an answer of each port. It is more if a kept reply has more
+/* Returns the most messages that one datagram makes at this clock. A queue of the host has to be that long. It is 2 * port_count - 1: a copy for each other port, and an answer of each port. It is more if a kept reply has more
    answers, and then as many. Only an image that another program has made can bring such a reply.
    Returns: the number, at most PTPM_MOST_SENT; 0 if the handle holds no clock. */
 size_t ptpm_clock_most_sent(const struct ptpm_clock *clock);

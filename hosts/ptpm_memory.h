@@ -24,8 +24,8 @@ extern "C" {
 #define PTPM_CLOCK_MEMORY_OF(managers) ((size_t)528 + ((managers) > 0 ? ((size_t)(managers) * 2136 + 31) / 16 * 16 : 0))
 #define PTPM_CLOCK_MEMORY 34720
 
-/* What a clock takes besides once it gives nothing out before it is saved (ptpm_clock_saving). */
-#define PTPM_SAVING_MEMORY 64
+/* What a clock takes besides once it is saved while it takes datagrams (ptpm_clock_saving), with places for this many messages. */
+#define PTPM_SAVING_MEMORY(places) ((size_t)1024 + ((size_t)(places) * 1476 + 31) / 16 * 16)
 
 /* The most that a session takes, whatever its requests and their answers are. A restore in a live handle has both sessions for a
    moment. */

@@ -42,6 +42,21 @@ static void use_clock(struct ptpm_clock *clock, const uint8_t *request) {
     expect(ptpm_clock_read(clock, PTPM_ID_DEFAULT_DATA_SET, 0, field, sizeof field, &size), PTPM_READ, "clock_read");
 }
 
+/* A message waits when the clock is left. */
+static void use_saving(struct ptpm_clock *clock, const uint8_t *request) {
+    static const struct ptpm_say agrees;
+    static uint8_t image[PTPM_CLOCK_IMAGE_OCTETS];
+    struct ptpm_taken taken;
+    size_t size;
+    uint64_t token;
+    expect(ptpm_clock_saving(clock, 1), PTPM_NO_ROOM, "clock_saving that is refused");
+    expect(ptpm_clock_saving(clock, PTPM_MOST_SENT), PTPM_SAVING, "clock_saving");
+    expect(ptpm_clock_image_of(clock, image, sizeof image, &size, &token), PTPM_SAVED, "clock_image_of");
+    expect(ptpm_clock_saved(clock, token), PTPM_SAVED, "clock_saved");
+    expect(ptpm_clock_take(clock, 1, request, GET_SIZE, &agrees, 0, sent, PTPM_MOST_SENT, &taken), PTPM_ANSWERED_NEW, "clock_take");
+    expect((uint32_t)taken.waiting, 1, "clock_take, how many wait,");
+}
+
 static void clocks(struct ptpm_clock *clock, const uint8_t *request) {
     struct ptpm_clock_settings settings;
     struct ptpm_port_settings ports[MANY];
@@ -57,7 +72,11 @@ static void clocks(struct ptpm_clock *clock, const uint8_t *request) {
     use_clock(clock, request);
     expect(ptpm_clock_start(clock, &settings, ports, 1, managers, 2), PTPM_MANAGER_TWICE, "clock_start that is refused");
     expect(ptpm_clock_start(clock, &settings, ports, 2, managers, 1), PTPM_STARTED, "clock_start after it");
+    use_saving(clock, request);
+    expect(ptpm_clock_start(clock, &settings, ports, 2, managers, 1), PTPM_STARTED, "clock_start in place of one that saves");
     use_clock(clock, request);
+    expect(ptpm_clock_start(clock, &settings, ports, 2, managers, 1), PTPM_STARTED, "clock_start before the stop");
+    use_saving(clock, request);
     ptpm_clock_stop(clock);
     ptpm_clock_stop(clock);
 }

@@ -8,8 +8,8 @@ WIDTHS = {'uint16_t': 16, 'int16_t': 16, 'uint32_t': 32, 'int32_t': 32, 'uint64_
 CLOSED = ('ptpm_clock', 'ptpm_session', 'ptpm_survey', 'ptpm_passed_on')
 # The most structs of an array that a call judges, and one more. With as many any further ones change no answer.
 MOST = {'ptpm_port_settings': 9, 'ptpm_observed_port': 9, 'ptpm_manager_settings': 17}
-# The arrays, with the parameter that has their number. What a call writes is counted by another one than what it reads.
-COUNTS = {'ports': 'port_count', 'managers': 'manager_count', 'sent': 'count'}
+# The arrays that a call reads, with the parameter that has their number. What it writes is `sent`, counted by what it writes elsewhere.
+COUNTS = {'ports': 'port_count', 'managers': 'manager_count'}
 # Calls that judge an array of any size, which is their first parameter, with its number. What one answers is the greatest of what it
 # answers for each of the array alone: NOT_SETABLE or NOT_SUPPORTED, else WRONG_VALUE, else 0.
 FOR_EACH = ('ptpm_limits_say',)
@@ -58,8 +58,9 @@ class Header:
         if name in FOR_EACH:
             return self._call_for_each(answer, name, taken)
         before, given, after = [], [], []
+        written = 'taken->count' if any(parameter.endswith('*taken') for parameter in taken) else '*count'
         for parameter in taken:
-            for lines, more in zip((before, given, after), self._parameter(parameter)):
+            for lines, more in zip((before, given, after), self._parameter(parameter, written)):
                 lines += more
         # A size comes before what it counts.
         after.sort(key=lambda line: line.startswith('for'))
@@ -80,7 +81,7 @@ class Header:
         count = re.search(r'\w+$', count)[0]
         before, given = [], []
         for parameter in rest:
-            lines, more, _ = self._parameter(parameter)
+            lines, more, _ = self._parameter(parameter, '')
             before += lines
             given += more
         call = f'portable_{name}({", ".join(["ADDRESS(&one)", "1", *given])})'
@@ -90,8 +91,8 @@ class Header:
                 f'        {answer} answer = ({answer}){call};', '        if (answer > greatest) greatest = answer;', '    }',
                 '    return greatest;', '}']
 
-    def _parameter(self, text):
-        """What is done before a call for a parameter, what is handed on, and what is done after it."""
+    def _parameter(self, text, written):
+        """What is done before a call for a parameter, what is handed on, and what is done after it. `written` counts what it wrote."""
         array = re.search(r'\(\*(\w+)\)', text)
         if array:
             return [], [f'ADDRESS({array[1]})'], []
@@ -110,7 +111,7 @@ class Header:
         if 'uint64_t *' in text:
             return [f'u64 {name}_out = 0;'], [f'ADDRESS(&{name}_out)'], [f'*{name} = load64(ADDRESS(&{name}_out));']
         if struct and struct[2] in self.numbers:
-            return (structs_in if struct[1] else structs_out)(name, struct[2])
+            return structs_in(name, struct[2]) if struct[1] else structs_out(name, struct[2], written)
         return [], [f'ADDRESS({name})'], []
 
 
@@ -133,10 +134,10 @@ def structs_in(name, struct):
     return [*lines, '#endif'], [f'ADDRESS({name})'], []
 
 
-def structs_out(name, struct):
+def structs_out(name, struct, written):
     """What a call writes, all of it or nothing; of an array the first of them."""
-    if name in COUNTS:
-        return [], [f'ADDRESS({name})'], [f'for (size_t i = 0; i < *{COUNTS[name]}; i++) swap_{struct}(&{name}[i]);']
+    if name == 'sent':
+        return [], [f'ADDRESS({name})'], [f'for (size_t i = 0; i < {written}; i++) swap_{struct}(&{name}[i]);']
     return [f'swap_{struct}({name});'], [f'ADDRESS({name})'], [f'swap_{struct}({name});']
 
 

@@ -107,12 +107,13 @@ static size_t draw_message(void) {
 }
 
 static void exchange(uint64_t now) {
-    struct ptpm_changed changed = { 0 };
-    size_t size = draw_message(), count = 0;
-    note(ptpm_clock_handle_changed(&agent, (uint16_t)below(PORTS + 2), message, size, sent, PTPM_MOST_SENT, &count, &changed));
-    note(changed.clock);
-    note_octets(changed.ports, sizeof changed.ports);
-    for (size_t i = 0; i < count; i++) {
+    static const struct ptpm_say nothing;
+    struct ptpm_taken taken;
+    size_t size = draw_message();
+    note(ptpm_clock_take(&agent, (uint16_t)below(PORTS + 2), message, size, &nothing, 0, sent, PTPM_MOST_SENT, &taken));
+    note(taken.changed.clock);
+    note_octets(taken.changed.ports, sizeof taken.changed.ports);
+    for (size_t i = 0; i < taken.count; i++) {
         note(sent[i].port);
         note_octets(sent[i].octets, sent[i].size);
         note(ptpm_session_receive(&session, sent[i].octets, sent[i].size));

@@ -30,7 +30,7 @@ from .observation import ObservedClock, ObservedGrandmaster, ObservedPort
 from .passing import PassedOn, Rate
 from .report import Report
 from .requests import Requests, SessionSettings
-from .saving_clock import SavingClock, Turn
+from .saving_clock import SavingClock
 from .saving_session import SavingSession
 from .seal import newest_image, sealed, unsealed
 from .session import Session
@@ -51,5 +51,5 @@ __all__ = [
     "PortMembers", "PortSettings", "PortState", "PtpmError", "Rate", "read_site", "Report", "Requests", "Rights", "SavingClock",
     "SavingSession", "Say", "sealed", "Session", "SessionAnswer", "SessionFile", "SessionFileError", "SessionSettings", "Site", "site",
     "SiteClock", "SiteError", "Survey", "survey", "SURVEY_PORT", "SurveyAnswer", "SurveySettings", "time_interval", "TimeInterval",
-    "TimePropertiesDataSet", "TimeSource", "Transport", "Turn", "UdpTransport", "UnixTransport", "unsealed", "usual_path",
+    "TimePropertiesDataSet", "TimeSource", "Transport", "UdpTransport", "UnixTransport", "unsealed", "usual_path",
 ]

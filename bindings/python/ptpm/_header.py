@@ -53,7 +53,7 @@ PTPM_ANSWERED_REPEAT = 6; PTPM_DROPPED_OLD = 7; PTPM_DROPPED_CONFLICT = 8; PTPM_
 PTPM_HANDLE_TOO_SHORT = 16; PTPM_HANDLE_NOT_MANAGEMENT = 17; PTPM_HANDLE_BAD_VERSION = 18; PTPM_HANDLE_BAD_LENGTH = 19
 PTPM_HANDLE_BAD_ACTION = 20; PTPM_HANDLE_BAD_TLV_TYPE = 21; PTPM_HANDLE_BAD_TLV_LENGTH = 22; PTPM_HANDLE_BAD_TEXT = 23
 PTPM_HANDLE_NO_CLOCK = 32; PTPM_HANDLE_NO_PORT = 33; PTPM_HANDLE_NO_ROOM = 34; PTPM_HANDLE_NO_MEMORY = 35
-PTPM_HANDLE_UNSAVED = 118; PTPM_BAD_SAY = 121; PTPM_CANT_OBJECT = 122
+PTPM_HANDLE_UNSAVED = 118; PTPM_BAD_SAY = 121
 PTPM_ASKED_NOTHING = 0; PTPM_ASKED_CHANGE = 29; PTPM_ASKED_VALUE = 30; PTPM_ASKING_NO_CLOCK = 32; PTPM_ASKING_NO_PORT = 33
 PTPM_SET_HERE = 0; PTPM_SET_REFUSED = 26; PTPM_SET_NO_CLOCK = 32; PTPM_SET_NO_PORT = 33; PTPM_SET_NOT_PERMITTED = 40
 PTPM_SET_BAD_VALUE = 41
@@ -229,6 +229,10 @@ class ptpm_changed(Structure):
     _fields_ = [("clock", c_uint32), ("ports", c_uint8 * 8)]
 
 
+class ptpm_taken(Structure):
+    _fields_ = [("count", c_uint64), ("waiting", c_uint64), ("changed", ptpm_changed)]
+
+
 class ptpm_question(Structure):
     _fields_ = [("manager", c_uint8 * 8), ("manager_port", c_uint16), ("number", c_uint16), ("id", c_uint16), ("port", c_uint16),
         ("size", c_uint16), ("action", c_uint8), ("octets", c_uint8 * 130)]
@@ -294,11 +298,9 @@ CALLS: Dict[str, Tuple[Any, List[Any]]] = {
         POINTER(ptpm_manager_settings), c_size_t]),
     "ptpm_clock_handle": (c_uint32, [POINTER(ptpm_clock), c_uint16, c_char_p, c_size_t, POINTER(ptpm_sent), c_size_t,
         POINTER(c_size_t)]),
-    "ptpm_clock_handle_changed": (c_uint32, [POINTER(ptpm_clock), c_uint16, c_char_p, c_size_t, POINTER(ptpm_sent), c_size_t,
-        POINTER(c_size_t), POINTER(ptpm_changed)]),
     "ptpm_clock_ask": (c_uint32, [POINTER(ptpm_clock), c_uint16, c_char_p, c_size_t, POINTER(ptpm_question)]),
-    "ptpm_clock_handle_said": (c_uint32, [POINTER(ptpm_clock), c_uint16, c_char_p, c_size_t, POINTER(ptpm_say),
-        POINTER(ptpm_sent), c_size_t, POINTER(c_size_t), POINTER(ptpm_changed)]),
+    "ptpm_clock_take": (c_uint32, [POINTER(ptpm_clock), c_uint16, c_char_p, c_size_t, POINTER(ptpm_say), c_uint8,
+        POINTER(ptpm_sent), c_size_t, POINTER(ptpm_taken)]),
     "ptpm_limit_range": (None, [POINTER(ptpm_limit), c_int32, c_int32]),
     "ptpm_limits_say": (c_uint16, [POINTER(ptpm_limit), c_size_t, POINTER(ptpm_question)]),
     "ptpm_clock_set": (c_uint32, [POINTER(ptpm_clock), c_uint8, c_uint16, c_uint16, c_char_p, c_size_t, POINTER(ptpm_changed),
@@ -307,9 +309,12 @@ CALLS: Dict[str, Tuple[Any, List[Any]]] = {
         POINTER(c_uint8)]),
     "ptpm_clock_read": (c_uint32, [POINTER(ptpm_clock), c_uint16, c_uint16, POINTER(c_uint8), c_size_t, POINTER(c_size_t)]),
     "ptpm_clock_image": (c_uint32, [POINTER(ptpm_clock), POINTER(c_uint8), c_size_t, POINTER(c_size_t)]),
-    "ptpm_clock_saving": (c_uint32, [POINTER(ptpm_clock)]),
+    "ptpm_clock_saving": (c_uint32, [POINTER(ptpm_clock), c_size_t]),
     "ptpm_clock_image_of": (c_uint32, [POINTER(ptpm_clock), POINTER(c_uint8), c_size_t, POINTER(c_size_t), POINTER(c_uint64)]),
-    "ptpm_clock_saved": (c_uint32, [POINTER(ptpm_clock), c_uint64, POINTER(ptpm_sent), c_size_t, POINTER(c_size_t)]),
+    "ptpm_clock_saved": (c_uint32, [POINTER(ptpm_clock), c_uint64]),
+    "ptpm_clock_next": (c_size_t, [POINTER(ptpm_clock), POINTER(ptpm_sent)]),
+    "ptpm_clock_free": (c_size_t, [POINTER(ptpm_clock)]),
+    "ptpm_clock_unsaved": (c_uint32, [POINTER(ptpm_clock)]),
     "ptpm_clock_restore": (c_uint32, [POINTER(ptpm_clock), c_char_p, c_size_t, POINTER(ptpm_manager_settings), c_size_t, c_char_p,
         c_size_t, POINTER(c_size_t)]),
     "ptpm_clock_most_sent": (c_size_t, [POINTER(ptpm_clock)]),
@@ -385,5 +390,5 @@ CALLS: Dict[str, Tuple[Any, List[Any]]] = {
 STRUCTS: List[Type[Structure]] = [
     ptpm_clock, ptpm_clock_settings, ptpm_port_settings, ptpm_observed_clock, ptpm_observed_port, ptpm_manager_settings,
     ptpm_sent, ptpm_changed, ptpm_session, ptpm_session_settings, ptpm_survey, ptpm_survey_settings, ptpm_source, ptpm_passed_on,
-    ptpm_rate, ptpm_asker, ptpm_asker_settings, ptpm_handed, ptpm_question, ptpm_say, ptpm_limit
+    ptpm_rate, ptpm_asker, ptpm_asker_settings, ptpm_handed, ptpm_question, ptpm_say, ptpm_limit, ptpm_taken
 ]

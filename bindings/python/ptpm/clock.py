@@ -22,11 +22,13 @@ from .settings import ClockSettings, Manager, PortSettings
 
 @dataclass(frozen=True)
 class Handled:
-    """What became of a datagram, what is to be sent for it, whatever that is, and which members have another value since."""
+    """What became of a datagram, what is to be sent for it, whatever that is, and which members have another value since. And how many
+    more messages wait until a SavingClock is saved."""
 
     answer: HandleAnswer
     messages: List[Tuple[int, bytes]]
     changed: Changed
+    waiting: int = 0
 
 
 def _array(kind: Any, places: Sequence[Any]) -> Any:
@@ -43,9 +45,9 @@ def _trusted(identity: IdentityLike, managers: Sequence[Manager]) -> Any:
     return _array(header.ptpm_manager_settings, places)
 
 
-def _messages(places: Any, count: int) -> List[Tuple[int, bytes]]:
-    """The messages in the first places."""
-    return [(sent.port, bytes(memoryview(sent.octets)[: sent.size])) for sent in places[:count]]
+def _message(place: Any) -> Tuple[int, bytes]:
+    """The message in a place: its port and its octets."""
+    return place.port, bytes(memoryview(place.octets)[: place.size])
 
 
 def port_number(port: int) -> int:
@@ -111,23 +113,19 @@ class Clock(Handle):
         asked = judged(self._call(library.ptpm_clock_ask, *came_in, ctypes.byref(question)))
         return Asked.of_library(question) if asked in (header.PTPM_ASKED_CHANGE, header.PTPM_ASKED_VALUE) else None
 
-    def handle(self, port: int, octets: bytes, say: Optional[Say] = None) -> Handled:
+    def handle(self, port: int, octets: bytes, say: Optional[Say] = None, of_owner: bool = False) -> Handled:
         """Judges a datagram that came in at a port, counted from 1, and carries its request out. What is to be sent is the port and
         the octets of each message. If the device objects where it is asked (ask), the request is answered and kept with that
         error, and no member changes. If it gives a value where it is asked for one, this is the answer. To the GET of a manager it
-        has 130 octets at most, since it is kept. A longer one is answered with RESPONSE_TOO_BIG, and that is kept."""
-        count = ctypes.c_size_t()
-        changed = header.ptpm_changed()
+        has 130 octets at most, since it is kept. A longer one is answered with RESPONSE_TOO_BIG, and that is kept. A request of the
+        device's owner is judged as one of a manager with every right, and nothing of it is kept."""
+        taken = header.ptpm_taken()
         datagram = octets_of(octets)
-        came_in = (port_number(port), datagram, len(datagram))
+        came_in = (port_number(port), datagram, len(datagram), ctypes.byref(say_of(say)), of_owner)
         with self._room() as sent:
-            room = (sent, len(sent), ctypes.byref(count), ctypes.byref(changed))
-            if say is None:
-                answer = judged(library.ptpm_clock_handle_changed(self._at, *came_in, *room))
-            else:
-                answer = judged(library.ptpm_clock_handle_said(self._at, *came_in, ctypes.byref(say_of(say)), *room))
-            messages = _messages(sent, count.value)
-        return Handled(HandleAnswer(answer), messages, Changed.of_library(changed))
+            answer = judged(library.ptpm_clock_take(self._at, *came_in, sent, len(sent), ctypes.byref(taken)))
+            messages = [_message(place) for place in sent[: taken.count]]
+        return Handled(HandleAnswer(answer), messages, Changed.of_library(taken.changed), taken.waiting)
 
     def set(self, action: Action, named: IdLike, port: int = 0xFFFF, octets: bytes = b"") -> Changed:
         """Carries out a SET or a COMMAND of the device's owner, as one of a manager with every right. It is for a command line of
@@ -142,7 +140,7 @@ class Clock(Handle):
         return Changed.of_library(changed)
 
     def most_sent(self) -> int:
-        """The most messages that the clock sends for a datagram, or after a save. A copy goes out at each other port, and an
+        """The most messages that one datagram makes. A copy goes out at each other port, and an
         answer of each port. It is more only if a kept reply has more answers, which only an image that another program has made can
         bring."""
         return self._call(library.ptpm_clock_most_sent)
@@ -157,12 +155,11 @@ class Clock(Handle):
             finally:
                 self._rooms.append(room)
 
-    def _saved(self, token: int) -> List[Tuple[int, bytes]]:
-        """Says that a restart would find the image of this token. Returns what waited for that."""
-        count = ctypes.c_size_t()
-        with self._room() as sent:
-            done(library.ptpm_clock_saved(self._at, token, sent, len(sent), ctypes.byref(count)))
-            return _messages(sent, count.value)
+    def _released(self) -> Iterator[Tuple[int, bytes]]:
+        """The messages that no longer wait for a save."""
+        message = header.ptpm_sent()
+        while self._call(library.ptpm_clock_next, ctypes.byref(message)):
+            yield _message(message)
 
     def observe(self, observed: ObservedClock, ports: Sequence[ObservedPort] = ()) -> Set[int]:
         """Sets what the host observes about its clock and its first ports. Returns the disabled ports for which a state was

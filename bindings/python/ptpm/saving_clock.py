@@ -1,62 +1,49 @@
-"""The agent of one clock that gives nothing out before it is saved."""
+"""The agent of one clock that is saved while it takes datagrams."""
 
 from __future__ import annotations
 
 import ctypes
-from contextlib import contextmanager
-from typing import Iterator, List, Optional, Sequence, Set, Tuple, Type
+from typing import List, Optional, Sequence, Set, Tuple, Type
 
 from . import _header as header
 from ._library import library
-from .answers import HandleAnswer, done
+from .answers import done
 from .changed import Changed
 from .clock import Clock, Handled
 from .data_sets import AnyDataSet
+from .device import Asked, Say
 from .ids import Action, IdLike
 from .observation import ObservedClock, ObservedPort
 
 
-class Turn:
-    """What became of a datagram, or of a save. If something is to be saved, there is an image, and the messages are there once the
-    turn has ended."""
-
-    def __init__(self, handled: Optional[Handled], image: Optional[bytes]) -> None:
-        self.answer: Optional[HandleAnswer] = handled.answer if handled else None
-        self.changed: Optional[Changed] = handled.changed if handled else None
-        self.image = image
-        self._messages = handled.messages if image is None and handled else None
-
-    @property
-    def messages(self) -> List[Tuple[int, bytes]]:
-        """What is to be sent: the port and the octets of each message."""
-        if self._messages is None:
-            raise RuntimeError("nothing is sent before it is saved: the turn has not ended")
-        return self._messages
-
-
 class SavingClock:
-    """A Clock that outlasts its power. What it makes for a new request is given out once it is saved, and meanwhile it takes no
-    datagram. Saving is the body of a turn; its end says that a restart would find the image. If the body raises, the clock stays
-    unsaved, and each datagram is refused (UNSAVED) until `save` is done.
+    """A Clock that outlasts its power. It shows no change before that is saved. The messages of a change wait for a save, and so do those
+    of all else that managers and the owner ask meanwhile. Anyone else is answered at once, by what was saved. A save is an image, its octets
+    stored, and `saved`. If storing fails, nothing is said: the next image has all of it.
 
     >>> from ptpm import ClockSettings, Manager, PortSettings
     >>> manager = Manager("0011223344556677/1")
     >>> clock = SavingClock(Clock(ClockSettings("aabbccfffeddee01"), [PortSettings()], [manager]))
     >>> stored = []
-    >>> with clock.save() as turn:  # a clock that was started is not saved yet
-    ...     stored.append(turn.image)
+    >>> def save():
+    ...     image, token = clock.image()
+    ...     stored.append(image)
+    ...     return clock.saved(token)
+    >>> save()  # a clock that was started is not saved yet
+    []
     >>> request = bytes.fromhex("0d1200380000" + 14 * "00" + "00112233445566770001" "0007047f" "aabbccfffeddee01ffff"
     ...                         "010101000001000420056400")
-    >>> with clock.turn(1, request) as turn:
-    ...     if turn.image is not None:
-    ...         stored.append(turn.image)
-    >>> turn.answer.name, len(stored), [(port, octets[-2:].hex()) for port, octets in turn.messages]
-    ('ANSWERED_NEW', 2, [(1, '6400')])
+    >>> taken = clock.take(1, request)
+    >>> taken.answer.name, taken.messages, taken.waiting, clock.is_unsaved()
+    ('ANSWERED_NEW', [], 1, True)
+    >>> [(port, octets[-2:].hex()) for port, octets in save()]
+    [(1, '6400')]
     """
 
-    def __init__(self, clock: Clock) -> None:
-        """A clock that was just restored is saved. Any other is not: it takes no datagram before `save`."""
-        done(clock._call(library.ptpm_clock_saving))
+    def __init__(self, clock: Clock, places: int = 128) -> None:
+        """This many messages may wait: Clock.most_sent or more, each with 1,476 octets. A clock that was just restored is saved. Any
+        other is not: it takes no datagram before its first save."""
+        done(clock._call(library.ptpm_clock_saving, places))
         self._clock = clock
 
     def __enter__(self) -> SavingClock:
@@ -69,54 +56,50 @@ class SavingClock:
         """Stops the clock."""
         self._clock.close()
 
-    def _image(self) -> Tuple[bytes, int]:
-        """The image, and its token."""
+    def take(self, port: int, octets: bytes, say: Optional[Say] = None, of_owner: bool = False) -> Handled:
+        """Does what Clock.handle does. Messages that wait are those of a later `saved`. It is refused (UNSAVED) if they would have no
+        place (free), and before the first save."""
+        return self._clock.handle(port, octets, say, of_owner)
+
+    def image(self) -> Tuple[bytes, int]:
+        """The clock's image, and its token. An earlier image can't be confirmed any more."""
         size, token = ctypes.c_size_t(), ctypes.c_uint64()
         room = (ctypes.c_uint8 * header.PTPM_CLOCK_IMAGE_OCTETS)()
         done(self._clock._call(library.ptpm_clock_image_of, room, len(room), ctypes.byref(size), ctypes.byref(token)))
         return bytes(room[: size.value]), token.value
 
-    @contextmanager
-    def turn(self, port: int, octets: bytes) -> Iterator[Turn]:
-        """Judges a datagram that came in at a port, counted from 1, and carries its request out. The body saves the image, if there
-        is one."""
-        handled = self._clock.handle(port, octets)
-        if handled.answer != HandleAnswer.ANSWERED_NEW:
-            yield Turn(handled, None)
-            return
-        with self._saving(handled) as turn:
-            yield turn
+    def saved(self, token: int) -> List[Tuple[int, bytes]]:
+        """Says once that a restart would find the latest image, whatever happens to the power. Returns what is to be sent: the port and the
+        octets of each message that waited when it was made."""
+        with self._clock._turn:
+            done(self._clock._call(library.ptpm_clock_saved, token))
+            return list(self._clock._released())
 
-    @contextmanager
-    def save(self) -> Iterator[Turn]:
-        """What is to be saved, whether that is new or not. The body saves the image."""
-        with self._saving(None) as turn:
-            yield turn
+    def is_unsaved(self) -> bool:
+        """Whether the clock has a change that is not saved, or was never saved."""
+        return bool(self._clock._call(library.ptpm_clock_unsaved))
 
-    @contextmanager
-    def _saving(self, handled: Optional[Handled]) -> Iterator[Turn]:
-        image, token = self._image()
-        turn = Turn(handled, image)
-        yield turn
-        turn._messages = self._clock._saved(token)
+    def free(self) -> int:
+        """How many more messages may wait."""
+        return self._clock._call(library.ptpm_clock_free)
 
-    @contextmanager
-    def set(self, action: Action, named: IdLike, port: int = 0xFFFF, octets: bytes = b"") -> Iterator[Turn]:
-        """Does what Clock.set does. The body saves the image. The caller acts on what changed, and says "done" to the owner, once it
-        is saved."""
-        changed = self._clock.set(action, named, port, octets)
-        with self._saving(None) as turn:
-            turn.changed = changed
-            yield turn
+    def ask(self, port: int, octets: bytes) -> Optional[Asked]:
+        """Does what Clock.ask does."""
+        return self._clock.ask(port, octets)
+
+    def set(self, action: Action, named: IdLike, port: int = 0xFFFF, octets: bytes = b"") -> Changed:
+        """Does what Clock.set does. The caller acts on what changed, and says "done" to the owner, once an image that was made later is
+        saved."""
+        return self._clock.set(action, named, port, octets)
 
     def observe(self, observed: ObservedClock, ports: Sequence[ObservedPort] = ()) -> Set[int]:
         """Does what Clock.observe does. Nothing is saved for it."""
         return self._clock.observe(observed, ports)
 
     def read(self, named: IdLike, port: int = 0) -> bytes:
-        """Does what Clock.read does."""
+        """Does what Clock.read does: what was saved, and observed since."""
         return self._clock.read(named, port)
 
     def data_set(self, kind: Type[AnyDataSet], port: int = 0) -> AnyDataSet:
-        """Does what Clock.data_set does."""
+        """Does what Clock.data_set does, as `read` does."""
         return self._clock.data_set(kind, port)

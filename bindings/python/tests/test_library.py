@@ -239,8 +239,43 @@ class Clocks(unittest.TestCase):
         self.assertIsNone(answered.data_set(ptpm.DefaultDataSet))
         for other in (ptpm.Report(answered.id, b"", error=6), ptpm.Report(answered.id, answered.octets[:-2])):
             self.assertIsNone(other.data_set(ptpm.PortDataSet))
-        with ptpm.SavingClock(clock()) as saved:
-            self.assertEqual(saved.data_set(ptpm.DefaultDataSet).priority1, 128)
+        with ptpm.SavingClock(clock()) as saving:
+            self.assertEqual(saving.data_set(ptpm.DefaultDataSet).priority1, 128)
+
+    def test_a_saving_clock_shows_what_is_saved(self) -> None:
+        set_priority1 = request(7, f"{CLOCK}0001", 0, 1, "20056400")
+        stranger = request(7, f"{CLOCK}0001", 0, 0, "2005").replace(bytes.fromhex("0011223344556677"), bytes(7) + b"\1")
+        self.refused("NO_ROOM", lambda: ptpm.SavingClock(clock(), 2))
+        with ptpm.SavingClock(clock(), 6) as saving:
+            self.refused("UNSAVED", lambda: saving.take(1, stranger))
+            image, token = saving.image()
+            self.assertEqual((saving.saved(token), saving.is_unsaved(), saving.free()), ([], False, 6))
+            asked = saving.ask(1, set_priority1)
+            assert asked is not None
+            self.assertEqual(asked.octets, b"d\0")
+            taken = saving.take(1, set_priority1)
+            self.assertEqual((taken.answer, taken.messages, taken.waiting), (HandleAnswer.ANSWERED_NEW, [], 1))
+            self.assertIn(ptpm.ClockMembers.PRIORITY1, taken.changed.clock)
+            self.assertEqual((saving.is_unsaved(), saving.free(), saving.read("PRIORITY1").hex()), (True, 5, "8000"))
+            [(_, octets)] = saving.take(1, stranger).messages
+            self.assertEqual(octets[-2:].hex(), "8000")
+            _, token = saving.image()
+            _, later = saving.image()
+            saving.set(ptpm.Action.SET, "PRIORITY2", octets=b"e\0")
+            [(port, octets)] = saving.saved(later)
+            self.assertEqual((port, octets[-2:].hex(), saving.read("PRIORITY1").hex()), (1, "6400", "6400"))
+            self.assertEqual((saving.is_unsaved(), saving.read("PRIORITY2").hex()), (True, "8000"))
+            owners = saving.take(2, stranger, of_owner=True)
+            self.assertEqual((owners.answer, owners.messages, owners.waiting), (HandleAnswer.ANSWERED_UNNUMBERED, [], 1))
+            image, token = saving.image()
+            self.refused("OTHER_IMAGE", lambda: saving.saved(later))
+            self.assertEqual(len(saving.saved(token)), 1)
+            objected = saving.take(1, request(8, f"{CLOCK}0001", 0, 1, "200b0000"), say=ptpm.Objection.WRONG_VALUE)
+            self.assertEqual((objected.answer, objected.waiting), (HandleAnswer.ANSWERED_NEW, 1))
+        back, _ = ptpm.Clock.restore(CLOCK, 2, [ptpm.Manager(MANAGER)], image)
+        with ptpm.SavingClock(back) as saving:
+            [(_, octets)] = saving.take(1, set_priority1).messages
+            self.assertEqual(octets[-2:].hex(), "6400")
 
     def test_places_of_a_medium(self) -> None:
         with clock() as asked:

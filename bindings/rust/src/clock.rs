@@ -1,7 +1,6 @@
 //! The agent of one clock.
 
 use crate::answers::Handled;
-use crate::changed::Changed;
 use crate::error::{done, judged, Error};
 use crate::id::ManagementId;
 use crate::identity::Identity;
@@ -171,34 +170,6 @@ impl Clock {
         Ok(Turn { number, messages })
     }
 
-    /// Does what [`Clock::handle`] does, and reports which members of the data sets have another value then. There are some
-    /// only after [`Handled::AnsweredNew`].
-    ///
-    /// # Errors
-    ///
-    /// As those of [`Clock::handle`].
-    #[inline]
-    pub fn handle_changed<'a>(
-        &mut self,
-        port: u16,
-        datagram: &[u8],
-        outbox: &'a mut Outbox,
-    ) -> Result<(Turn<'a>, Changed), Error> {
-        let mut count = MaybeUninit::uninit();
-        let mut changed = MaybeUninit::uninit();
-        let (sent, room) = outbox.room();
-        let (octets, size) = (datagram.as_ptr(), datagram.len());
-        // SAFETY: the datagram may be read, and the places, the count and what changed may be written; the places are borrowed
-        // mutably, so they lie apart from the rest.
-        let number = judged(unsafe {
-            let (count, changed) = (count.as_mut_ptr(), changed.as_mut_ptr());
-            sys::ptpm_clock_handle_changed(&mut self.handle, port, octets, size, sent, room, count, changed)
-        })?;
-        // SAFETY: the call has written the count, as many places, and what changed.
-        let (messages, changed) = unsafe { (outbox.messages(count.assume_init()), changed.assume_init()) };
-        Ok((Turn { number, messages }, changed.into()))
-    }
-
     /// Sets what the host observes about its clock and its first ports, and nothing else. It returns the disabled ports for
     /// which a state was observed: they stay disabled, and the host stops them.
     ///
@@ -233,7 +204,7 @@ impl Clock {
         Ok(&room[..size])
     }
 
-    /// The most messages that the clock sends for a datagram, or after a save. A copy goes out at each other port, and an
+    /// The most messages that one datagram makes. A copy goes out at each other port, and an
     /// answer of each port. It is more only if a kept reply has more answers, which only an image that another program has made
     /// can bring.
     pub fn most_sent(&self) -> usize {

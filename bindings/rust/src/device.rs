@@ -198,6 +198,18 @@ impl Say<'_> {
     }
 }
 
+/// What came of a datagram.
+#[derive(Debug)]
+#[must_use = "the messages of a turn are to be sent, whatever became of the datagram"]
+pub struct Taken<'a> {
+    /// What became of it, and what is to be sent for it at once.
+    pub turn: Turn<'a>,
+    /// How many more messages wait until a [`SavingClock`](crate::SavingClock) is saved; 0 of any other clock.
+    pub waiting: usize,
+    /// Which members have another value then.
+    pub changed: Changed,
+}
+
 impl Clock {
     /// What a datagram would have the device do, if it came in now at this port. It is to carry out a new SET or COMMAND of a manager,
     /// which the clock itself does not refuse. Or it is to give the value of an id that the clock lacks, to a GET that would be
@@ -223,36 +235,58 @@ impl Clock {
         Ok(matches!(number, sys::PTPM_ASKED_CHANGE | sys::PTPM_ASKED_VALUE).then_some(Asked { question }))
     }
 
-    /// Does what [`Clock::handle_changed`] does, with what the device says. If it objects to a change about which [`Clock::ask`] would
-    /// ask it, the request is answered and kept with that error, and no member changes. If it gives a value for which
-    /// [`Clock::ask`] would ask it, this is the answer. To the GET of a manager it has 130 octets at most, since it is kept. A
-    /// longer one is answered with RESPONSE_TOO_BIG, and that is kept. Each later copy of what is kept gets that answer. If the
+    /// Does what [`Clock::handle`] does, with what the device says, and reports which members of the data sets have another value
+    /// then. There are some only after [`Handled::AnsweredNew`](crate::Handled::AnsweredNew). If the device objects where
+    /// [`Clock::ask`] would ask it about a change, the request is answered and kept with that error, and no member changes. If it gives
+    /// a value where it would be asked for one, this is the answer. To the GET of a manager it has 130 octets at most, since it is kept.
+    /// A longer one is answered with RESPONSE_TOO_BIG, and that is kept. Each later copy of what is kept gets that answer. If the
     /// device is not asked, what it says does not count.
     ///
     /// # Errors
     ///
     /// As those of [`Clock::handle`]. [`Error::BadSay`]: it gives an odd number of octets, or more than 1,418.
-    pub fn handle_said<'a>(
+    pub fn take<'a>(&mut self, port: u16, datagram: &[u8], say: Say<'_>, outbox: &'a mut Outbox) -> Result<Taken<'a>, Error> {
+        self.take_of(port, datagram, say, 0, outbox)
+    }
+
+    /// Does what [`Clock::take`] does, with a datagram of the device's owner. It is judged as that of a manager with every right, and
+    /// nothing of it is kept: a copy of it is carried out again.
+    ///
+    /// # Errors
+    ///
+    /// Those of [`Clock::take`].
+    pub fn take_of_owner<'a>(
         &mut self,
         port: u16,
         datagram: &[u8],
         say: Say<'_>,
         outbox: &'a mut Outbox,
-    ) -> Result<(Turn<'a>, Changed), Error> {
-        let mut count = MaybeUninit::uninit();
-        let mut changed = MaybeUninit::uninit();
+    ) -> Result<Taken<'a>, Error> {
+        self.take_of(port, datagram, say, 1, outbox)
+    }
+
+    fn take_of<'a>(
+        &mut self,
+        port: u16,
+        datagram: &[u8],
+        say: Say<'_>,
+        of_owner: u8,
+        outbox: &'a mut Outbox,
+    ) -> Result<Taken<'a>, Error> {
+        let mut taken = MaybeUninit::uninit();
         let (sent, room) = outbox.room();
         let (octets, size, say) = (datagram.as_ptr(), datagram.len(), say.as_in_c());
-        // SAFETY: the datagram and what is said may be read, and the places, the count and what changed may be written; the places
-        // are borrowed mutably, so they lie apart from the rest.
+        // SAFETY: the datagram and what is said may be read, and the places and what is taken may be written; the places are borrowed
+        // mutably, so they lie apart from the rest.
         let number = judged(unsafe {
-            let (count, changed) = (count.as_mut_ptr(), changed.as_mut_ptr());
-            sys::ptpm_clock_handle_said(self.handle_mut(), port, octets, size, &say, sent, room, count, changed)
+            sys::ptpm_clock_take(self.handle_mut(), port, octets, size, &say, of_owner, sent, room, taken.as_mut_ptr())
         })?;
-        // SAFETY: the call has written the count, as many places, and what changed.
-        let (messages, changed) = unsafe { (outbox.messages(count.assume_init()), changed.assume_init()) };
-        Ok((Turn::of(number, messages), changed.into()))
+        // SAFETY: the call has written what is taken, and as many places as that counts.
+        let taken: sys::ptpm_taken = unsafe { taken.assume_init() };
+        let messages = unsafe { outbox.messages(taken.count as usize) };
+        Ok(Taken { turn: Turn::of(number, messages), waiting: taken.waiting as usize, changed: taken.changed.into() })
     }
+
     /// Carries out a SET or a COMMAND of the device's owner, as one of a manager with every right. It is for a command line of the
     /// device, or for another protocol of management. What is kept of each manager stays: a copy of its latest request gets the
     /// answer of its time. The port 0xFFFF is every port. It returns the members that have another value since, or the error with

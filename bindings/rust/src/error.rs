@@ -95,11 +95,10 @@ errors! {
     WordCount = PTPM_WORD_COUNT, "there are more or fewer words than a name and a value for each member";
     OtherName = PTPM_OTHER_NAME, "a word is not the name of the member that comes next";
     NoValue = PTPM_NO_VALUE, "a word is no value of the member, or no SET has the member";
-    Unsaved = PTPM_UNSAVED, "something is not saved, and nothing is given out before it is";
-    OtherImage = PTPM_OTHER_IMAGE, "it was changed since that image was made";
+    Unsaved = PTPM_UNSAVED, "something is not saved, and this comes only after a save";
+    OtherImage = PTPM_OTHER_IMAGE, "not the latest image, or it counted; or the session was changed since";
     NoAsker = PTPM_NO_ASKER, "the handle holds no asker";
     BadSay = PTPM_BAD_SAY, "what a device says is of no kind, has an error that no device gives, or gives what is no dataField";
-    CantObject = PTPM_CANT_OBJECT, "a clock that is saved before it gives anything out takes no objection, and no value";
 }
 
 /// The number of a call that was done is 0, and every other one an error.

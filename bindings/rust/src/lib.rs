@@ -29,7 +29,7 @@
 //!
 //! - No call is made from a signal handler, or in a forked child of a process with threads. Rust lets neither be made without
 //!   `unsafe` of its own.
-//! - The stack has room for what the header says of each call, and for 500 octets more. [`Clock::handle_said`] takes 2,000 more, and
+//! - The stack has room for what the header says of each call, and for 500 octets more. [`Clock::take`] takes 2,000 more, and
 //!   [`Members`] 5,300. Without optimisation a call takes up to three times as much. An [`Outbox`] has 22,140 octets:
 //!   [`Outbox::boxed`] puts them on the heap.
 //! - `malloc`, `realloc` and `free` of the program are those of one allocator.
@@ -92,7 +92,7 @@ pub use clock::{Clock, Ports, Turn, CLOCK_IMAGE_OCTETS, MOST_READ};
 #[cfg(feature = "alloc")]
 pub use data_field::NoField;
 pub use data_sets::{ClockQuality, CurrentDataSet, DataSet, DefaultDataSet, ParentDataSet, PortDataSet, TimePropertiesDataSet};
-pub use device::{Asked, Limit, Objection, Say};
+pub use device::{Asked, Limit, Objection, Say, Taken};
 pub use error::Error;
 pub use id::{ManagementErrorId, ManagementId, UnknownId};
 pub use identity::{Identity, NoIdentity, PortIdentity};
@@ -109,7 +109,7 @@ pub use refusals::{
 #[cfg(feature = "alloc")]
 pub use report::Answer;
 pub use report::{Report, MOST_DATA, MOST_OCTETS};
-pub use saving_clock::{SavingClock, SavingTurn, Unsaved};
+pub use saving_clock::{ImageToken, SavingClock};
 pub use saving_session::{SavingSession, UnsavedSession};
 pub use seal::{newest_image, seal, unseal, Sealed, SEAL_OCTETS};
 pub use session::{Action, Session, SessionSettings, SESSION_IMAGE_OCTETS};

@@ -61,7 +61,7 @@ refusals! {
         BadReceiptTimeout BadLogSync BadDelayMechanism BadLogMinPdelay
     }
     /// Why a datagram is not judged by a clock, or why a clock does not save (`enum ptpm_handled`).
-    HandleError { NoClock NoPort NoRoom NoMemory Unsaved BadSay CantObject }
+    HandleError { NoClock NoPort NoRoom NoMemory Unsaved BadSay }
     /// Why a device is not asked (`enum ptpm_asking`).
     QuestionError { NoClock NoPort }
     /// Why nothing is set at the device itself (`enum ptpm_set_here`).

@@ -1,149 +1,169 @@
-//! The agent of one clock that gives nothing out before it is saved.
+//! The agent of one clock that is saved while it takes datagrams.
 
-use crate::answers::Handled;
 use crate::changed::Changed;
-use crate::clock::{Clock, Ports, Turn, CLOCK_IMAGE_OCTETS, MOST_READ};
+use crate::clock::{Clock, Ports, CLOCK_IMAGE_OCTETS, MOST_READ};
+use crate::device::{Asked, Say, Taken};
 use crate::error::{done, Error};
 use crate::id::{ManagementErrorId, ManagementId};
 use crate::identity::Identity;
 use crate::memory::alone;
 use crate::observation::{ObservedClock, ObservedPort};
-use crate::outbox::{Messages, Outbox};
+use crate::outbox::Outbox;
 use crate::session::Action;
 use crate::sys;
-use core::mem::MaybeUninit;
 
-/// A [`Clock`] that outlasts its power. What it makes for a new request is given out once its host has said that it is saved.
-/// Meanwhile no datagram can be handed in: [`Unsaved`] has the clock borrowed.
+/// A [`Clock`] that outlasts its power. It shows no change before that is saved. The messages of a change wait for a save, and so do those
+/// of all else that managers and the owner ask meanwhile. Anyone else is answered at once, by what was saved. A save is
+/// [`image`](SavingClock::image), its octets stored, and [`saved`](SavingClock::saved). If storing fails, nothing is said: the next
+/// image has all of it.
 ///
 /// ```
-/// use ptpm::{Clock, ClockSettings, Manager, Outbox, PortSettings, Rights, SavingClock, SavingTurn, CLOCK_IMAGE_OCTETS};
+/// use ptpm::{Clock, ClockSettings, Manager, Outbox, PortSettings, Rights, SavingClock, Say, CLOCK_IMAGE_OCTETS};
 /// # fn store(_image: &[u8]) {}
 /// # fn send(_port: u16, _octets: &[u8]) {}
 ///
 /// let settings = ClockSettings::new("aabbccfffeddee01".parse()?);
 /// let manager = Manager::new("0011223344556677/1".parse()?, Rights::ALL);
-/// let mut clock = SavingClock::new(Clock::start(&settings, &[PortSettings::new()], &[manager])?)?;
+/// let mut clock = SavingClock::new(Clock::start(&settings, &[PortSettings::new()], &[manager])?, 4)?;
 /// let (mut outbox, mut room) = (Outbox::boxed(), Box::new([0; CLOCK_IMAGE_OCTETS]));
-/// let unsaved = clock.unsaved(&mut room)?; // a clock that was started is not saved yet
-/// store(unsaved.image());
-/// unsaved.saved(&mut outbox)?;
+/// let (image, token) = clock.image(&mut room)?; // a clock that was started is not saved yet
+/// store(image);
+/// clock.saved(token)?;
 /// # let datagram = b"\x0d\x12\0\x36\0\0\0\0\0\0\0\0\0\0\0\0\0\0\0\0\x00\x11\x22\x33\x44\x55\x66\x77\0\x01\0\x07\x04\x7f\
 /// #     \xaa\xbb\xcc\xff\xfe\xdd\xee\x01\xff\xff\x01\x01\0\0\0\x01\0\x02\x20\x05";
-/// let (turn, _changed) = clock.handle(1, datagram, &mut outbox, &mut room)?;
-/// let messages = match turn {
-///     SavingTurn::Sent(turn) => turn.messages,
-///     SavingTurn::Unsaved(unsaved) => {
-///         store(unsaved.image());
-///         unsaved.saved(&mut outbox)?
-///     }
-/// };
-/// for (port, octets) in messages {
+/// let taken = clock.take(1, datagram, Say::Agrees, &mut outbox)?;
+/// for (port, octets) in taken.turn.messages {
 ///     send(port, octets);
 /// }
+/// # assert_eq!(taken.waiting, 1);
+/// if clock.is_unsaved() {
+///     let (image, token) = clock.image(&mut room)?;
+///     store(image); // datagrams may come in meanwhile
+///     clock.saved(token)?;
+///     while let Some((port, octets)) = clock.next_message(&mut outbox) {
+///         send(port, octets);
+///     }
+/// }
+/// # assert!(!clock.is_unsaved());
 /// # Ok::<(), Box<dyn std::error::Error>>(())
-/// ```
-///
-/// Nothing is handed in while something is unsaved:
-///
-/// ```compile_fail,E0499
-/// # fn twice(clock: &mut ptpm::SavingClock, one: &mut ptpm::Outbox, two: &mut ptpm::Outbox) -> Result<(), ptpm::Error> {
-/// # let (mut room, mut more) = ([0; ptpm::CLOCK_IMAGE_OCTETS], [0; ptpm::CLOCK_IMAGE_OCTETS]);
-/// let (turn, _) = clock.handle(1, &[], one, &mut room)?;
-/// let again = clock.handle(1, &[], two, &mut more)?;
-/// drop(turn);
-/// # drop(again);
-/// # Ok(())
-/// # }
 /// ```
 #[derive(Debug)]
 pub struct SavingClock {
     clock: Clock,
 }
 
-/// What became of a datagram at such a clock.
-#[derive(Debug)]
-#[must_use = "the messages are to be sent, or what is unsaved is to be saved"]
-pub enum SavingTurn<'a, 'o> {
-    /// It made nothing new: what is to be sent for it.
-    Sent(Turn<'o>),
-    /// A new request. What is to be sent for it waits until it is saved.
-    Unsaved(Unsaved<'a>),
-}
-
-/// A clock that is to be saved, and its image. If this is dropped, the clock stays unsaved, and takes no datagram:
-/// [`SavingClock::unsaved`] gives it again.
-#[derive(Debug)]
-#[must_use = "it is to be saved; until then the clock takes no datagram"]
-pub struct Unsaved<'a> {
-    clock: &'a mut SavingClock,
-    image: &'a [u8],
-    token: u64,
-}
+/// Which image of a clock was made last.
+#[derive(Clone, Copy, Debug, PartialEq, Eq)]
+pub struct ImageToken(u64);
 
 impl SavingClock {
-    /// This clock. One that was just restored is saved. Any other is not: its host first saves what [`SavingClock::unsaved`] has.
+    /// This clock, in which this many messages may wait: [`Clock::most_sent`] or more, each with 1,476 octets. One that was just
+    /// restored is saved. Any other is not: it takes no datagram before its first save.
     ///
     /// # Errors
     ///
-    /// [`Error::NoMemory`]; the clock is dropped then.
-    pub fn new(mut clock: Clock) -> Result<Self, Error> {
+    /// [`Error::NoRoom`] for fewer messages, or [`Error::NoMemory`]; the clock is dropped then.
+    pub fn new(mut clock: Clock, places: usize) -> Result<Self, Error> {
         // SAFETY: the handle holds a clock.
-        done(alone(|| unsafe { sys::ptpm_clock_saving(clock.handle_mut()) }))?;
+        done(alone(|| unsafe { sys::ptpm_clock_saving(clock.handle_mut(), places) }))?;
         Ok(Self { clock })
     }
 
-    /// What is to be saved, whether that is new or not, with the image in the room that it is given.
+    /// Does what [`Clock::take`] does. Messages that wait are given by [`SavingClock::next_message`], after a save.
+    ///
+    /// # Errors
+    ///
+    /// Those of [`Clock::take`]. [`Error::Unsaved`]: the clock was never saved, or there is a next message to be taken first, or what
+    /// this makes would have no place ([`SavingClock::free`]). Nothing was judged.
+    pub fn take<'o>(&mut self, port: u16, datagram: &[u8], say: Say<'_>, outbox: &'o mut Outbox) -> Result<Taken<'o>, Error> {
+        self.clock.take(port, datagram, say, outbox)
+    }
+
+    /// Does what [`Clock::take_of_owner`] does, as [`SavingClock::take`].
+    ///
+    /// # Errors
+    ///
+    /// Those of [`SavingClock::take`].
+    pub fn take_of_owner<'o>(
+        &mut self,
+        port: u16,
+        datagram: &[u8],
+        say: Say<'_>,
+        outbox: &'o mut Outbox,
+    ) -> Result<Taken<'o>, Error> {
+        self.clock.take_of_owner(port, datagram, say, outbox)
+    }
+
+    /// Makes the clock's image in the room that it is given. An earlier image can't be confirmed any more.
     ///
     /// # Errors
     ///
     /// None of a clock that is held.
-    pub fn unsaved<'a>(&'a mut self, room: &'a mut [u8; CLOCK_IMAGE_OCTETS]) -> Result<Unsaved<'a>, Error> {
+    pub fn image<'a>(&mut self, room: &'a mut [u8; CLOCK_IMAGE_OCTETS]) -> Result<(&'a [u8], ImageToken), Error> {
         let (mut size, mut token) = (0, 0);
         let (octets, most) = (room.as_mut_ptr(), room.len());
         // SAFETY: the octets, the size and the token may be written; the octets are borrowed mutably, so they lie apart.
         done(unsafe { sys::ptpm_clock_image_of(self.clock.handle_mut(), octets, most, &mut size, &mut token) })?;
-        Ok(Unsaved { clock: self, image: &room[..size], token })
+        Ok((&room[..size], ImageToken(token)))
     }
 
-    /// Does what [`Clock::handle_changed`] does. A new request is to be saved, and its image is in the room that it is given. What
-    /// changed is acted on once it is saved.
+    /// Says once that a restart would find the latest image, whatever happens to the power. What waited when it was made can be had now
+    /// ([`SavingClock::next_message`]).
     ///
     /// # Errors
     ///
-    /// [`Error::NoPort`], or [`Error::Unsaved`] if an [`Unsaved`] was dropped or the clock was never saved. Nothing was judged.
-    pub fn handle<'a, 'o>(
-        &'a mut self,
-        port: u16,
-        datagram: &[u8],
-        outbox: &'o mut Outbox,
-        room: &'a mut [u8; CLOCK_IMAGE_OCTETS],
-    ) -> Result<(SavingTurn<'a, 'o>, Changed), Error> {
-        let (turn, changed) = self.clock.handle_changed(port, datagram, outbox)?;
-        if turn.handled() != Handled::AnsweredNew {
-            return Ok((SavingTurn::Sent(turn), changed));
-        }
-        Ok((SavingTurn::Unsaved(self.unsaved(room)?), changed))
+    /// [`Error::OtherImage`]: it is not the latest image, or was said already. Or nothing was unsaved when it was made, and something
+    /// was observed since. Nothing changes.
+    pub fn saved(&mut self, token: ImageToken) -> Result<(), Error> {
+        // SAFETY: the handle holds a clock.
+        done(unsafe { sys::ptpm_clock_saved(self.clock.handle_mut(), token.0) })
     }
 
-    /// Does what [`Clock::set`] does. What is changed is to be saved, and its image is in the room that it is given. The
-    /// caller acts on it, and says "done" to the owner, once it is saved.
+    /// The first message that no longer waits for a save: the port that it is to be sent at, and its octets. The host takes all of
+    /// them before it hands a datagram in.
+    pub fn next_message<'o>(&mut self, outbox: &'o mut Outbox) -> Option<(u16, &'o [u8])> {
+        let (message, _) = outbox.room();
+        // SAFETY: the place may be written; it is borrowed mutably, so it lies apart from the rest.
+        let count = unsafe { sys::ptpm_clock_next(self.clock.handle_mut(), message) };
+        // SAFETY: the call has written as many places.
+        unsafe { outbox.messages(count) }.next()
+    }
+
+    /// How many more messages may wait.
+    pub fn free(&self) -> usize {
+        // SAFETY: the handle may be read.
+        unsafe { sys::ptpm_clock_free(self.clock.handle_ref()) }
+    }
+
+    /// Whether the clock has a change that is not saved, or was never saved.
+    pub fn is_unsaved(&self) -> bool {
+        // SAFETY: the handle may be read.
+        unsafe { sys::ptpm_clock_unsaved(self.clock.handle_ref()) != 0 }
+    }
+
+    /// Does what [`Clock::ask`] does.
+    ///
+    /// # Errors
+    ///
+    /// Those of [`Clock::ask`].
+    pub fn ask(&self, port: u16, datagram: &[u8]) -> Result<Option<Asked>, Error> {
+        self.clock.ask(port, datagram)
+    }
+
+    /// Does what [`Clock::set`] does. The caller acts on what changed, and says "done" to the owner, once an image that was made later
+    /// is saved.
     ///
     /// # Errors
     ///
     /// Those of [`Clock::set`].
-    pub fn set<'a>(
-        &'a mut self,
+    pub fn set(
+        &mut self,
         action: Action,
         id: ManagementId,
         port: u16,
         octets: &[u8],
-        room: &'a mut [u8; CLOCK_IMAGE_OCTETS],
-    ) -> Result<Result<(Unsaved<'a>, Changed), ManagementErrorId>, Error> {
-        match self.clock.set(action, id, port, octets)? {
-            Ok(changed) => Ok(Ok((self.unsaved(room)?, changed))),
-            Err(error) => Ok(Err(error)),
-        }
+    ) -> Result<Result<Changed, ManagementErrorId>, Error> {
+        self.clock.set(action, id, port, octets)
     }
 
     /// Does what [`Clock::observe`] does. Nothing is saved for it.
@@ -155,7 +175,7 @@ impl SavingClock {
         self.clock.observe(observed, ports)
     }
 
-    /// Does what [`Clock::read`] does.
+    /// Does what [`Clock::read`] does: what was saved, and observed since.
     ///
     /// # Errors
     ///
@@ -172,26 +192,5 @@ impl SavingClock {
     /// The clock's identity, out of its DEFAULT_DATA_SET.
     pub fn identity(&self) -> Result<Identity, Error> {
         self.clock.identity()
-    }
-}
-
-impl Unsaved<'_> {
-    /// The image: what a restart has to find before [`Unsaved::saved`] is called.
-    pub const fn image(&self) -> &[u8] {
-        self.image
-    }
-
-    /// Says that a restart would find the image, whatever happens to the power. Gives the messages that waited for that.
-    ///
-    /// # Errors
-    ///
-    /// None of a clock that is held.
-    pub fn saved(self, outbox: &mut Outbox) -> Result<Messages<'_>, Error> {
-        let mut count = MaybeUninit::uninit();
-        let (sent, room) = outbox.room();
-        // SAFETY: the places and the count may be written; the places are borrowed mutably, so they lie apart from the rest.
-        done(unsafe { sys::ptpm_clock_saved(self.clock.clock.handle_mut(), self.token, sent, room, count.as_mut_ptr()) })?;
-        // SAFETY: the call has written the count, and as many places.
-        Ok(unsafe { outbox.messages(count.assume_init()) })
     }
 }

@@ -119,7 +119,7 @@ pub const PTPM_HANDLE_BAD_LENGTH: u32 = 19; pub const PTPM_HANDLE_BAD_ACTION: u3
 pub const PTPM_HANDLE_BAD_TLV_TYPE: u32 = 21; pub const PTPM_HANDLE_BAD_TLV_LENGTH: u32 = 22;
 pub const PTPM_HANDLE_BAD_TEXT: u32 = 23; pub const PTPM_HANDLE_NO_CLOCK: u32 = 32; pub const PTPM_HANDLE_NO_PORT: u32 = 33;
 pub const PTPM_HANDLE_NO_ROOM: u32 = 34; pub const PTPM_HANDLE_NO_MEMORY: u32 = 35; pub const PTPM_HANDLE_UNSAVED: u32 = 118;
-pub const PTPM_BAD_SAY: u32 = 121; pub const PTPM_CANT_OBJECT: u32 = 122;
+pub const PTPM_BAD_SAY: u32 = 121;
 pub type ptpm_asking = u32; pub const PTPM_ASKED_NOTHING: u32 = 0; pub const PTPM_ASKED_CHANGE: u32 = 29;
 pub const PTPM_ASKED_VALUE: u32 = 30; pub const PTPM_ASKING_NO_CLOCK: u32 = 32; pub const PTPM_ASKING_NO_PORT: u32 = 33;
 pub type ptpm_set_here = u32; pub const PTPM_SET_HERE: u32 = 0; pub const PTPM_SET_REFUSED: u32 = 26;
@@ -231,6 +231,8 @@ pub struct ptpm_sent { pub port: u16, pub size: u16, pub octets: [u8; 1472] }
 #[repr(C)] #[derive(Clone, Copy)]
 pub struct ptpm_changed { pub clock: u32, pub ports: [u8; 8] }
 #[repr(C)] #[derive(Clone, Copy)]
+pub struct ptpm_taken { pub count: u64, pub waiting: u64, pub changed: ptpm_changed }
+#[repr(C)] #[derive(Clone, Copy)]
 pub struct ptpm_question { pub manager: [u8; 8], pub manager_port: u16, pub number: u16, pub id: u16, pub port: u16,
         pub size: u16, pub action: u8, pub octets: [u8; 130] }
 #[repr(C)] #[derive(Clone, Copy)]
@@ -305,12 +307,10 @@ extern "C" {
         port_count: usize, managers: *const ptpm_manager_settings, manager_count: usize) -> ptpm_started;
     pub fn ptpm_clock_handle(clock: *mut ptpm_clock, port: u16, datagram: *const u8, size: usize, sent: *mut ptpm_sent,
         room: usize, count: *mut usize) -> ptpm_handled;
-    pub fn ptpm_clock_handle_changed(clock: *mut ptpm_clock, port: u16, datagram: *const u8, size: usize, sent: *mut ptpm_sent,
-        room: usize, count: *mut usize, changed: *mut ptpm_changed) -> ptpm_handled;
     pub fn ptpm_clock_ask(clock: *const ptpm_clock, port: u16, datagram: *const u8, size: usize,
         asked: *mut ptpm_question) -> ptpm_asking;
-    pub fn ptpm_clock_handle_said(clock: *mut ptpm_clock, port: u16, datagram: *const u8, size: usize, say: *const ptpm_say,
-        sent: *mut ptpm_sent, room: usize, count: *mut usize, changed: *mut ptpm_changed) -> ptpm_handled;
+    pub fn ptpm_clock_take(clock: *mut ptpm_clock, port: u16, datagram: *const u8, size: usize, say: *const ptpm_say,
+        of_owner: u8, sent: *mut ptpm_sent, room: usize, taken: *mut ptpm_taken) -> ptpm_handled;
     pub fn ptpm_limit_range(limit: *mut ptpm_limit, least: i32, most: i32);
     pub fn ptpm_limits_say(limits: *const ptpm_limit, limit_count: usize, asked: *const ptpm_question) -> u16;
     pub fn ptpm_clock_set(clock: *mut ptpm_clock, action: u8, id: u16, port: u16, octets: *const u8, size: usize,
@@ -320,11 +320,13 @@ extern "C" {
     pub fn ptpm_clock_read(clock: *const ptpm_clock, id: u16, port: u16, octets: *mut u8, room: usize,
         size: *mut usize) -> ptpm_read;
     pub fn ptpm_clock_image(clock: *const ptpm_clock, octets: *mut u8, room: usize, size: *mut usize) -> ptpm_saved;
-    pub fn ptpm_clock_saving(clock: *mut ptpm_clock) -> ptpm_handled;
-    pub fn ptpm_clock_image_of(clock: *const ptpm_clock, octets: *mut u8, room: usize, size: *mut usize,
+    pub fn ptpm_clock_saving(clock: *mut ptpm_clock, places: usize) -> ptpm_handled;
+    pub fn ptpm_clock_image_of(clock: *mut ptpm_clock, octets: *mut u8, room: usize, size: *mut usize,
         token: *mut u64) -> ptpm_saved;
-    pub fn ptpm_clock_saved(clock: *mut ptpm_clock, token: u64, sent: *mut ptpm_sent, room: usize,
-        count: *mut usize) -> ptpm_saved;
+    pub fn ptpm_clock_saved(clock: *mut ptpm_clock, token: u64) -> ptpm_saved;
+    pub fn ptpm_clock_next(clock: *mut ptpm_clock, message: *mut ptpm_sent) -> usize;
+    pub fn ptpm_clock_free(clock: *const ptpm_clock) -> usize;
+    pub fn ptpm_clock_unsaved(clock: *const ptpm_clock) -> u32;
     pub fn ptpm_clock_restore(clock: *mut ptpm_clock, identity: *const u8, port_count: usize,
         managers: *const ptpm_manager_settings, manager_count: usize, image: *const u8, size: usize,
         gone: *mut usize) -> ptpm_restored;
@@ -407,11 +409,11 @@ extern "C" {
     pub fn ptpm_field_takes(id: u16, place: usize, text: *mut c_char, room: usize) -> usize;
 }
 
-const SIZES: [usize; 21] = [
+const SIZES: [usize; 22] = [
     size_of::<ptpm_clock>(), size_of::<ptpm_clock_settings>(), size_of::<ptpm_port_settings>(), size_of::<ptpm_observed_clock>(),
     size_of::<ptpm_observed_port>(), size_of::<ptpm_manager_settings>(), size_of::<ptpm_sent>(), size_of::<ptpm_changed>(),
     size_of::<ptpm_session>(), size_of::<ptpm_session_settings>(), size_of::<ptpm_survey>(), size_of::<ptpm_survey_settings>(),
     size_of::<ptpm_source>(), size_of::<ptpm_passed_on>(), size_of::<ptpm_rate>(), size_of::<ptpm_asker>(),
     size_of::<ptpm_asker_settings>(), size_of::<ptpm_handed>(), size_of::<ptpm_question>(), size_of::<ptpm_say>(),
-    size_of::<ptpm_limit>()
+    size_of::<ptpm_limit>(), size_of::<ptpm_taken>()
 ];

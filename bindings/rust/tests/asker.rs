@@ -103,10 +103,10 @@ impl Host {
         if self.sent % 2 == 1 {
             return Ok(Handed::Nothing);
         }
-        let (turn, changed) = self.clock.handle_changed(1, message, &mut outbox)?;
-        self.carried_out += u32::from(!changed.is_empty());
+        let taken = self.clock.take(1, message, Say::Agrees, &mut outbox)?;
+        self.carried_out += u32::from(!taken.changed.is_empty());
         let mut next = Handed::Nothing;
-        for (_, octets) in turn.messages {
+        for (_, octets) in taken.turn.messages {
             next = asker.hear(octets)?;
         }
         Ok(next)
@@ -190,9 +190,9 @@ fn refusals_are_told_by_kind() {
     let restored = Asker::restore(&settings(), &DRAWN, b"no image").map(|_| ()).map_err(AskerRestoreError::from);
     assert_eq!(restored, Err(AskerRestoreError::NotAnImage));
     let (mut clock, mut outbox) = (clock(), Outbox::boxed());
-    let odd = clock.handle_said(1, &[], Say::Gives(b"odd"), &mut outbox).map(|_| ()).map_err(HandleError::from);
+    let odd = clock.take(1, &[], Say::Gives(b"odd"), &mut outbox).map(|_| ()).map_err(HandleError::from);
     assert_eq!(odd, Err(HandleError::BadSay));
-    assert_eq!(HandleError::from(Error::CantObject), HandleError::CantObject);
+    assert_eq!(HandleError::from(Error::Unsaved), HandleError::Unsaved);
     assert_eq!(clock.ask(2, &[]).map(|_| ()).map_err(QuestionError::from), Err(QuestionError::NoPort));
     let get = clock.set(Action::Get, ManagementId::PRIORITY1, 1, &[]).map(|_| ()).map_err(SetError::from);
     assert_eq!(get, Err(SetError::NotPermitted));

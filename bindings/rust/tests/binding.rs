@@ -4,8 +4,8 @@
 use ptpm::{
     Action, Clock, ClockMembers, ClockSettings, DelayMechanism, Error, Handled, Identity, Limit, ManagementErrorId, ManagementId,
     Manager, Objection, ObservedClock, ObservedGrandmaster, ObservedPort, Outbox, PortDataSet, PortIdentity, PortMembers,
-    PortSettings, PortState, Received, Report, Rights, SavingSession, Say, Session, SessionSettings, Survey, SurveySettings,
-    Surveyed, TimeInterval, MOST_DATA, MOST_OCTETS, MOST_READ, SESSION_IMAGE_OCTETS,
+    PortSettings, PortState, Received, Report, Rights, SavingClock, SavingSession, Say, Session, SessionSettings, Survey,
+    SurveySettings, Surveyed, Taken, TimeInterval, CLOCK_IMAGE_OCTETS, MOST_DATA, MOST_OCTETS, MOST_READ, SESSION_IMAGE_OCTETS,
 };
 
 const CLOCK: &str = "aabbccfffeddee01";
@@ -50,10 +50,10 @@ fn reads(clock: &mut Clock, id: ManagementId, port: u16, wanted: &str) {
 fn a_set_is_carried_out_once() {
     let (mut clock, mut outbox) = (clock(), Outbox::boxed());
     let set = request(7, "aabbccfffeddee01ffff", 1, 1, "20056400");
-    let (turn, changed) = clock.handle_changed(1, &set, &mut outbox).expect("it is judged");
-    assert_eq!((turn.handled(), turn.messages.len()), (Handled::AnsweredNew, 1));
+    let Taken { turn, waiting, changed } = clock.take(1, &set, Say::Agrees, &mut outbox).expect("it is judged");
+    assert_eq!((turn.handled(), turn.messages.len(), waiting), (Handled::AnsweredNew, 1, 0));
     assert_eq!(changed.clock, ClockMembers::PRIORITY1 | ClockMembers::GRANDMASTER_PRIORITY1);
-    let (turn, changed) = clock.handle_changed(1, &set, &mut outbox).expect("it is judged");
+    let Taken { turn, changed, .. } = clock.take(1, &set, Say::Agrees, &mut outbox).expect("it is judged");
     assert_eq!((turn.handled(), changed.is_empty()), (Handled::AnsweredRepeat, true));
     let (port, answer) = turn.messages.last().expect("it is answered");
     let (number, hops_and_tlv) = ("0007047f", "0000020000010004" /* RESPONSE, MANAGEMENT */);
@@ -65,12 +65,51 @@ fn a_set_is_carried_out_once() {
 fn a_command_changes_the_ports_that_it_names() {
     let (mut clock, mut outbox) = (clock(), Outbox::boxed());
     let disable = request(1, "aabbccfffeddee010002", 0, 3, "200e");
-    let (_, changed) = clock.handle_changed(1, &disable, &mut outbox).expect("it is judged");
+    let Taken { changed, .. } = clock.take(1, &disable, Say::Agrees, &mut outbox).expect("it is judged");
     assert_eq!(changed.ports_with(PortMembers::STATE).collect::<Vec<_>>(), [2]);
     let observed = [ObservedPort { state: Some(PortState::Slave), peer_delay: Some(TimeInterval::from_nanoseconds(3)) }; 2];
     let left = clock.observe(&ObservedClock::default(), &observed).expect("it is observed");
     assert_eq!(left.iter().collect::<Vec<_>>(), [2]);
     reads(&mut clock, ManagementId::PORT_DATA_SET, 1, "aabbccfffeddee01000109000000000000030000010300010002");
+}
+
+#[test]
+fn a_saving_clock_shows_what_is_saved() {
+    assert_eq!(SavingClock::new(clock(), 2).map(|_| ()), Err(Error::NoRoom));
+    let mut clock = SavingClock::new(clock(), 6).expect("it saves");
+    let (mut outbox, mut room, mut value) = (Outbox::boxed(), Box::new([0; CLOCK_IMAGE_OCTETS]), [0; MOST_READ]);
+    let set = request(7, "aabbccfffeddee010001", 0, 1, "20056400");
+    let mut get = request(7, "aabbccfffeddee010001", 0, 0, "2005");
+    get[20..28].fill(9); // of a stranger
+    assert_eq!(clock.take(1, &get, Say::Agrees, &mut outbox).map(|_| ()), Err(Error::Unsaved));
+    let (_, first) = clock.image(&mut room).expect("it has an image");
+    assert_eq!((clock.saved(first), clock.is_unsaved(), clock.free()), (Ok(()), false, 6));
+    let asked = clock.ask(1, &set).expect("the clock has the port").expect("the device is asked");
+    assert_eq!(asked.octets(), [100, 0]);
+    let Taken { turn, waiting, changed } = clock.take(1, &set, Say::Agrees, &mut outbox).expect("it is judged");
+    assert_eq!((turn.handled(), turn.messages.len(), waiting), (Handled::AnsweredNew, 0, 1));
+    assert!(changed.clock.intersects(ClockMembers::PRIORITY1));
+    let mut strangers = clock.take(1, &get, Say::Agrees, &mut outbox).expect("it is judged").turn.messages;
+    assert_eq!(strangers.next().map(|(port, octets)| (port, &octets[52..])), Some((1, &[0x20, 5, 128, 0][..])));
+    let owners = clock.take_of_owner(1, &get, Say::Agrees, &mut outbox).expect("it is judged");
+    assert_eq!((owners.turn.messages.len(), owners.waiting), (0, 1));
+    let (image, token) = clock.image(&mut room).expect("it has an image");
+    assert_eq!((clock.saved(first), clock.free(), clock.is_unsaved()), (Err(Error::OtherImage), 4, true));
+    assert_eq!(clock.read(ManagementId::PRIORITY1, 0, &mut value), Ok(&[128, 0][..]));
+    let changed = clock.set(Action::Set, ManagementId::PRIORITY2, 0xffff, &[101, 0]).expect("it is judged").expect("it is set");
+    assert!(changed.clock.intersects(ClockMembers::PRIORITY2));
+    assert_eq!(clock.saved(token), Ok(()));
+    for _ in 0..2 {
+        let message = clock.next_message(&mut outbox).map(|(port, octets)| (port, &octets[52..]));
+        assert_eq!(message, Some((1, &[0x20, 5, 100, 0][..])));
+    }
+    assert!(clock.next_message(&mut outbox).is_none() && clock.is_unsaved());
+    assert_eq!(clock.read(ManagementId::PRIORITY1, 0, &mut value), Ok(&[100, 0][..]));
+    assert_eq!(clock.read(ManagementId::PRIORITY2, 0, &mut value), Ok(&[128, 0][..]));
+    let (back, _) = Clock::restore(identity(CLOCK), 2, &[manager()], image).expect("it goes on");
+    let mut back = SavingClock::new(back, 3).expect("it saves");
+    let repeat = back.take(1, &set, Say::Agrees, &mut outbox).expect("a clock that was restored is saved");
+    assert_eq!((repeat.turn.handled(), repeat.turn.messages.len()), (Handled::AnsweredRepeat, 1));
 }
 
 #[test]
@@ -85,7 +124,7 @@ fn a_device_objects_to_a_value_that_it_lacks() {
     assert_eq!(asked.octets(), octets("f800"));
     let objection = Limit::objection(&limits, &asked);
     assert_eq!(objection, Some(Objection::WrongValue));
-    let (turn, changed) = clock.handle_said(1, &set, Say::from(objection), &mut outbox).expect("it is judged");
+    let Taken { turn, changed, .. } = clock.take(1, &set, Say::from(objection), &mut outbox).expect("it is judged");
     assert_eq!((turn.handled(), changed.is_empty()), (Handled::AnsweredNew, true));
     let (_, answer) = turn.messages.last().expect("it is answered");
     assert_eq!(&answer[48..], octets("000200080004200b00000000" /* MANAGEMENT_ERROR_STATUS, WRONG_VALUE */));
@@ -99,9 +138,9 @@ fn a_device_gives_a_value_that_the_clock_lacks() {
     let get = request(8, "aabbccfffeddee010001", 1, 0, "c000");
     let asked = clock.ask(1, &get).expect("the clock has the port").expect("the device is asked");
     assert_eq!((asked.action(), asked.id(), asked.octets().len()), (Action::Get, ManagementId(0xc000), 0));
-    assert_eq!(clock.handle_said(1, &get, Say::Gives(b"odd"), &mut outbox).map(|_| ()), Err(Error::BadSay));
-    assert_eq!(clock.handle_said(1, &get, Say::Gives(&[0; 1420]), &mut outbox).map(|_| ()), Err(Error::BadSay));
-    let (turn, _) = clock.handle_said(1, &get, Say::Gives(b"4711"), &mut outbox).expect("it is judged");
+    assert_eq!(clock.take(1, &get, Say::Gives(b"odd"), &mut outbox).map(|_| ()), Err(Error::BadSay));
+    assert_eq!(clock.take(1, &get, Say::Gives(&[0; 1420]), &mut outbox).map(|_| ()), Err(Error::BadSay));
+    let Taken { turn, .. } = clock.take(1, &get, Say::Gives(b"4711"), &mut outbox).expect("it is judged");
     assert_eq!(turn.handled(), Handled::AnsweredNew);
     let (_, answer) = turn.messages.last().expect("it is answered");
     assert_eq!(&answer[48..], octets("00010006c00034373131" /* MANAGEMENT, RESPONSE of c000 */));

@@ -22,7 +22,7 @@ fn only<D: DataSet>(text: &str) -> D {
 #[test]
 fn a_saving_clock_has_data_sets() {
     let clock = Clock::start(&ClockSettings::new(CLOCK), &[PortSettings::new()], &[]).expect("it starts");
-    let clock = SavingClock::new(clock).expect("it saves");
+    let clock = SavingClock::new(clock, 1).expect("it saves");
     assert_eq!(clock.data_set(0).map(|default: DefaultDataSet| default.clock_identity), Ok(CLOCK));
 }
 

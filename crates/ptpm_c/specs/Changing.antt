@@ -1,5 +1,5 @@
 -- What a change at the device itself does to a clock that a handle holds.
-use Rattle.std.specs.Prelude.{◌≡◌, ℕ, IsSomeAnd, None, Option, Some}
+use Rattle.std.specs.Prelude.{◌≡◌, ℕ, IsSomeAnd, None, Option, Some, true}
 use Rattle.ptpm_codec.specs.Message.{error_number}
 use Rattle.ptpm_data.specs.Changed.{changed, no_members}
 use Rattle.ptpm_data.specs.declared.changed.ChangedMembers.{ChangedMembers}
@@ -8,7 +8,10 @@ use Rattle.ptpm_host.specs.declared.clock.HostedClock.{HostedClock}
 use Rattle.ptpm_host.specs.declared.refusal.ChangeRefusal.{ChangeRefusal}
 use Rattle.ptpm_host.specs.declared.refusal.ChangeRefusal.TheVariants as refusals
 use Rattle.ptpm_host.specs.declared.saving_clock.SavingClock.{SavingClock}
-use Rattle.ptpm_host.specs.Changing.{IsChangedHere, IsUnsavedHere, change_refusal}
+use Rattle.ptpm_saved.specs.Batching.{Handles}
+use Rattle.ptpm_host.specs.Changing.{IsChangedHere, change_refusal}
+use Rattle.ptpm_host.specs.Coming.{Changed}
+use Rattle.ptpm_host.specs.SavingClock.{IsCalledAt}
 use Rattle.ptpm_host.specs.Numbers.{change_number}
 
 -- the error with which a manager would be refused; 0 if it is none of these
@@ -26,14 +29,17 @@ ChangesHere c q number error members left =
     × ((error ≡ 0)
     × IsSomeAnd left (λ d. IsChangedHere q c d × (members ≡ changed c.agent.sets d.agent.sets)))
 
--- the same of a clock whose host says when it was saved
+-- the same of a clock that is saved while it takes datagrams, which is unsaved then
 abbrev pub ChangesUnsaved : SavingClock → RequestValue → ℕ → ℕ → ChangedMembers → Option SavingClock → Type 0
 ChangesUnsaved w q number error members left =
     change_refusal q w.clock.value.agent.sets ≡ None
     → (number ≡ 0)
     × ((error ≡ 0)
     × IsSomeAnd left
-    (λ x. IsUnsavedHere q w x × (members ≡ changed w.clock.value.agent.sets x.clock.value.agent.sets)))
+    (λ x.
+    (IsCalledAt w (Handles (Changed q)) x
+    × (IsChangedHere q w.clock.value x.clock.value × (x.waits ≡ true)))
+    × (members ≡ changed w.clock.value.agent.sets x.clock.value.agent.sets)))
 
 -- the first reason why it is not is named, with the error of a manager's refusal, and nothing changes
 abbrev pub RefusesHere : {A : Type 0} → Option ChangeRefusal → ℕ → ℕ → ChangedMembers → A → Option A → Type 0

@@ -1,5 +1,6 @@
 -- What a handle holds: a clock, a session, a survey, an asker, or nothing.
 use Rattle.std.specs.Prelude.{◌≡◌, ℕ, Option, Some, None}
+use Rattle.ptpm_data.specs.Members.{DataSetsValue}
 use Rattle.ptpm_host.specs.declared.asker.HostedAsker.{HostedAsker}
 use Rattle.ptpm_host.specs.declared.clock.HostedClock.{HostedClock}
 use Rattle.ptpm_host.specs.declared.handed.Handed.{Handed}
@@ -24,7 +25,7 @@ abbrev pub clock_of : Hosted → Option HostedClock
 clock_of (hosts.Clock clock) = Some clock.value
 clock_of _ = None
 
--- of a clock whose host says when it was saved
+-- of a clock that is saved while it takes datagrams
 abbrev pub saving_clock_of : Hosted → Option SavingClock
 saving_clock_of (hosts.SavingClock clock) = Some clock.value
 saving_clock_of _ = None
@@ -34,6 +35,12 @@ abbrev pub any_clock_of : Hosted → Option HostedClock
 any_clock_of (hosts.Clock clock) = Some clock.value
 any_clock_of (hosts.SavingClock clock) = Some clock.value.clock.value
 any_clock_of _ = None
+
+-- what is shown of either: of a clock that sends at once all that it has
+abbrev pub shown_of : Hosted → Option DataSetsValue
+shown_of (hosts.Clock clock) = Some clock.value.agent.sets
+shown_of (hosts.SavingClock clock) = Some clock.value.shown
+shown_of _ = None
 
 abbrev pub session_of : Hosted → Option HostedSession
 session_of (hosts.Session session) = Some session.value
@@ -48,7 +55,7 @@ asker_of (hosts.Asker asker) = Some asker.value
 asker_of _ = None
 
 -- the clock, the session, the survey, or the asker, that a handle holds, if it holds one. A clock sends at once, and a saving clock
--- once it is saved
+-- shows no change before it is saved
 
 abbrev pub clock_held : Keeping → Option HostedClock
 clock_held keeping = clock_of (held keeping)
@@ -58,6 +65,9 @@ saving_clock_held keeping = saving_clock_of (held keeping)
 
 abbrev pub any_clock_held : Keeping → Option HostedClock
 any_clock_held keeping = any_clock_of (held keeping)
+
+abbrev pub shown_held : Keeping → Option DataSetsValue
+shown_held keeping = shown_of (held keeping)
 
 abbrev pub session_held : Keeping → Option HostedSession
 session_held keeping = session_of (held keeping)

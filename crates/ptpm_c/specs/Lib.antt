@@ -9,6 +9,6 @@ pub mod Lending
 pub mod LendingHandle
 pub mod Fields
 pub mod Typed
-pub mod Withholding
 pub mod Said
+pub mod Batching
 pub mod Changing

@@ -9,7 +9,7 @@ use Rattle.ptpm_host.specs.declared.sent.Sent.{Sent}
 use Rattle.ptpm_host.specs.Clock.{IsWhole, KeepsBehind, clock_in, handle_refusal, messages_in, state_in}
 use Rattle.ptpm_host.specs.Numbers.{handle_number, no_clock, verdict_number}
 use Rattle.ptpm_c.specs.declared.keeping.Keeping.{Keeping}
-use Rattle.ptpm_c.specs.Held.{any_clock_held, held}
+use Rattle.ptpm_c.specs.Held.{clock_held, held}
 
 -- the turn of a clock at a datagram
 abbrev pub turn_of : HostedClock → ℕ → List ℕ → Turned
@@ -51,8 +51,8 @@ RefusesTurn c port before number count after left =
     → why_not_handed c port before ≡ Some e
     → (number ≡ handle_number e) × (SendsNothing before count after × IsSomeAnd left (λ d. d ≡ c))
 
--- a handle that holds no clock: that is answered, nothing is sent, and it holds what it held
+-- a handle that holds no clock that sends at once: that is answered, nothing is sent, and it holds what it held
 abbrev pub FindsNoClock : Keeping → List Sent → ℕ → ℕ → List Sent → Keeping → Type 0
 FindsNoClock old before number count after new =
-    any_clock_held old ≡ None
+    clock_held old ≡ None
     → (number ≡ no_clock) × (SendsNothing before count after × (held new ≡ held old))

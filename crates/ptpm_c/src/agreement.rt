@@ -4,6 +4,7 @@ ghost use Rattle.std.specs.Prelude.{◌≡◌, bytes_eq, if◌then◌else◌};
 ghost use Rattle.ptpm_host.specs.Numbers.{other_sizes};
 ghost use Rattle.ptpm_c.specs.Sizes.{header_sizes};
 
+use crate::device::Taken;
 use crate::handle::Handle;
 use ptpm_data::ChangedMembers;
 use ptpm_host::{
@@ -13,7 +14,7 @@ use ptpm_host::{
 };
 
 /// The sizes of the structs of the header, in its order.
-const SIZES: [usize; 21] = [
+const SIZES: [usize; 22] = [
     size_of::<Handle>(),
     size_of::<ClockSettings>(),
     size_of::<PortSettings>(),
@@ -35,6 +36,7 @@ const SIZES: [usize; 21] = [
     size_of::<Question>(),
     size_of::<Say>(),
     size_of::<Limit>(),
+    size_of::<Taken>(),
 ];
 
 /// The version of this library, as a number.

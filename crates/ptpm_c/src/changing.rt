@@ -15,7 +15,7 @@ use ptpm_data::ChangedMembers;
 use ptpm_host::{ChangeRefusal, NO_CLOCK, change_number};
 
 /// Carries out a SET or a COMMAND of the device's owner, as one of a manager with every right: 0. `members` gets those that have
-/// another value then. What is kept of each manager stays. A clock whose host says when it was saved is unsaved after it.
+/// another value then. What is kept of each manager stays. A clock that is saved meanwhile is unsaved after it.
 /// Otherwise it answers the number of the refusal, and nothing changes. `error` gets the error with which that manager would
 /// be refused, if that is the reason. Takes no memory.
 #[unsafe(no_mangle)]

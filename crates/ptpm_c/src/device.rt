@@ -1,31 +1,57 @@
-//! The calls of a clock whose device has a say, for hosts in C.
+//! The calls of a clock whose device, or whose owner, has a say, for hosts in C.
 
-ghost use Rattle.std.specs.Prelude.{◌≡◌, ◌≢◌, false, if◌then◌else◌, IsSomeAnd, IsTrue, None, Some, true};
-ghost use Rattle.ptpm_data.specs.Changed.{changed, no_members};
+ghost use Rattle.std.specs.Prelude.{◌≡◌, ◌≢◌, ◌==◌, false, IsTrue, MatchResult, None, Option, Some, true};
+ghost use Rattle.ptpm_data.specs.Changed.{no_members};
 ghost use Rattle.ptpm_data.specs.Members.{has_port};
 ghost use Rattle.ptpm_agent.specs.declared.verdict.Verdict.{Verdict};
 ghost use Rattle.ptpm_host.specs.declared.clock.HostedClock.{HostedClock};
 ghost use Rattle.ptpm_host.specs.declared.saving_clock.SavingClock.{SavingClock};
-ghost use Rattle.ptpm_host.specs.Device.{AsksNothing};
-ghost use Rattle.ptpm_host.specs.Numbers.{cant_object, no_clock, verdict_number};
-ghost use Rattle.ptpm_host.specs.Withheld.{is_unsaved};
+ghost use Rattle.ptpm_host.specs.Clock.{clock_in, state_in};
+ghost use Rattle.ptpm_agent.specs.Turn.{NumberedRequest};
+ghost use Rattle.ptpm_host.specs.Device.{Answers, AsksNothing};
+ghost use Rattle.ptpm_host.specs.Numbers.{handle_number, no_clock, verdict_number};
+ghost use Rattle.ptpm_host.specs.SavingClock.{state_asked};
+ghost use Rattle.ptpm_c.specs.Batching.{RefusesCall, ReportsCall, TakesCall};
 ghost use Rattle.ptpm_c.specs.Held.{any_clock_held, clock_held, held, saving_clock_held};
-ghost use Rattle.ptpm_c.specs.Said.{AsksIn, RefusesSaid, TakesSaid, asked_of, wanted_of, why_not_said};
-ghost use Rattle.ptpm_c.specs.Turned.{AreWritten, FindsNoClock, SendsNothing};
-ghost use Rattle.ptpm_c.specs.Withholding.{RefusesCall, TakesCall};
+ghost use Rattle.ptpm_c.specs.Said.{ArePlaced, AsksBy, AsksIn, RefusesSaid, ReportsSaid, TakesSaid, nothing_taken};
 
+use crate::batching;
 use crate::handle::Handle;
 use crate::kept::Hosted;
-use crate::withholding;
 use ptpm_data::ChangedMembers;
 use ptpm_host::{
-    ASKED_CHANGE, ASKED_VALUE, Asking, CANT_OBJECT, HostedClock, NO_CLOCK, Question, Say, Sent,
+    ASKED_CHANGE, ASKED_VALUE, Asking, HandleRefusal, HostedClock, NO_CLOCK, Question, Say, Sent,
     handle_number, said_number, verdict_number,
 };
 
+/// What came of a datagram, as C has it.
+#[repr(C)]
+#[derive(Clone, Copy)]
+pub struct Taken {
+    /// How many messages are sent at once, and how many wait for a save.
+    pub count: u64,
+    pub waiting: u64,
+    pub changed: ChangedMembers,
+}
+
+const _: () = prove!(size_of::<Taken>() == 32);
+
+impl Taken {
+    /// Nothing.
+    pub fn nothing() -> Taken
+        ensures { result ≡ nothing_taken }
+    {
+        Taken {
+            count: 0,
+            waiting: 0,
+            changed: ChangedMembers::NONE,
+        }
+    }
+}
+
 /// Says what a datagram would have the device do, if it came in now at this port. Answers the number of a change or of a value, 0 for
-/// nothing, or the number of the refusal. `asked` gets what the device is asked; all zeros if it is nothing. A clock that waits until it is
-/// saved takes no datagram, and so asks nothing. Nothing changes. Takes no memory.
+/// nothing, or the number of the refusal. `asked` gets what the device is asked; all zeros if it is nothing. Nothing changes. Takes no
+/// memory.
 #[unsafe(no_mangle)]
 pub extern "C" fn ptpm_clock_ask(
     handle: &mut Handle,
@@ -38,13 +64,12 @@ pub extern "C" fn ptpm_clock_ask(
     ensures asks { (c : HostedClock)
         → clock_held handle.old.keeping ≡ Some c
         → IsTrue (has_port port c.agent.sets)
-        → AsksIn (asked_of c datagram.now) (wanted_of c datagram.now) result asked.new }
+        → AsksBy (clock_in c) (state_in c) datagram.now result asked.new }
     ensures saving { (w : SavingClock)
         → saving_clock_held handle.old.keeping ≡ Some w
         → IsTrue (has_port port w.clock.value.agent.sets)
-        → AsksIn (if is_unsaved w.standing then None else asked_of w.clock.value datagram.now)
-        (if is_unsaved w.standing then None else wanted_of w.clock.value datagram.now) result
-        asked.new }
+        → AsksBy (clock_in w.clock.value) (state_asked w port datagram.now false) datagram.now
+        result asked.new }
     ensures no_port { (c : HostedClock)
         → any_clock_held handle.old.keeping ≡ Some c
         → has_port port c.agent.sets ≡ false
@@ -56,120 +81,117 @@ pub extern "C" fn ptpm_clock_ask(
     let Some(hosted) = handle.hosted() else {
         return NO_CLOCK;
     };
-    let is_unsaved = match hosted.saving_clock() {
-        Some(clock) => clock.is_unsaved(),
-        None => false,
-    };
-    let Some(clock) = hosted.clock() else {
-        return NO_CLOCK;
-    };
-    match clock.ask(port, datagram) {
-        Ok(Asking::Change(change)) if !is_unsaved => {
+    match hosted {
+        Hosted::Clock(clock) => tell(clock.ask(port, datagram), asked),
+        Hosted::SavingClock(clock) => tell(clock.ask(port, datagram), asked),
+        _ => NO_CLOCK,
+    }
+}
+
+/// The number of what the device is asked, which `asked` gets; or that of the refusal.
+fn tell(asking: Result<Asking, HandleRefusal>, asked: &mut Question) -> u32
+    ensures { (change value : Option NumberedRequest) → MatchResult asking
+        (λ a. Answers change value a → AsksIn change value result asked.new)
+        (λ e. (result ≡ handle_number e) × AsksNothing asked.new) }
+{
+    *asked = Question::nothing();
+    match asking {
+        Ok(Asking::Change(change)) => {
             *asked = change;
             ASKED_CHANGE
         }
-        Ok(Asking::Value(get)) if !is_unsaved => {
+        Ok(Asking::Value(get)) => {
             *asked = get;
             ASKED_VALUE
         }
-        Ok(_) => 0,
+        Ok(Asking::Nothing) => 0,
         Err(refusal) => handle_number(refusal),
     }
 }
 
-/// Does what `ptpm_clock_handle_changed` does, with what the device says. If the device is not asked, that does not count. A clock
-/// that is saved before it gives anything out takes no objection and no value. Takes no memory.
-#[tactic(auto, using(ptpm_host::specs::OutboxLaws::kept_by_none))]
+/// What becomes of a datagram that comes in at a port: the number of the verdict, or of the refusal. The device has its say, and its
+/// owner sent the datagram if `of_owner` is 1. `taken` gets what came of it, and the first places of `sent` what is sent at once. If
+/// messages wait until the clock is saved, as many places get zeros instead. The places after them stay. Takes no memory.
 #[unsafe(no_mangle)]
-pub extern "C" fn ptpm_clock_handle_said(
+pub extern "C" fn ptpm_clock_take(
     handle: &mut Handle,
     port: u16,
     datagram: &[u8],
     say: &Say,
+    of_owner: u8,
     sent: &mut [Sent],
-    count: &mut usize,
-    members: &mut ChangedMembers,
+    taken: &mut Taken,
 ) -> u32
     ensures turned { (c : HostedClock)
         → clock_held handle.old.keeping ≡ Some c
-        → TakesSaid c port datagram.now say.now sent.old result count.new sent.new
+        → TakesSaid c port datagram.now say.now (of_owner == 1) sent.old result taken.new sent.new
         (clock_held handle.new.keeping) }
     ensures changed { (c : HostedClock)
         → clock_held handle.old.keeping ≡ Some c
-        → why_not_said c port sent.old say.now ≡ None
-        → IsSomeAnd (clock_held handle.new.keeping)
-        (λ d. members.new ≡ changed c.agent.sets d.agent.sets) }
-    ensures new_alone { result ≢ verdict_number Verdict.AnsweredNew → members.new ≡ no_members }
+        → ReportsSaid c port say.now sent.old taken.new (clock_held handle.new.keeping) }
     ensures refused { (c : HostedClock)
         → clock_held handle.old.keeping ≡ Some c
-        → RefusesSaid c port say.now sent.old result count.new sent.new
+        → RefusesSaid c port say.now sent.old result taken.new sent.new
         (clock_held handle.new.keeping) }
-    ensures places { saving_clock_held handle.old.keeping ≡ None
-        → AreWritten sent.old count.new sent.new }
-    ensures saving { (w : SavingClock)
+    ensures called { (w : SavingClock)
         → saving_clock_held handle.old.keeping ≡ Some w
-        → say.now.kind ≡ 0
-        → TakesCall true w port datagram.now sent.old result count.new sent.new
+        → TakesCall w port datagram.now say.now (of_owner == 1) sent.old result taken.new sent.new
         (saving_clock_held handle.new.keeping) }
-    ensures withheld { (w : SavingClock)
+    ensures called_changed { (w : SavingClock)
         → saving_clock_held handle.old.keeping ≡ Some w
-        → say.now.kind ≡ 0
-        → RefusesCall true w port sent.old result count.new sent.new
+        → ReportsCall w port datagram.now say.now (of_owner == 1) sent.old taken.new
         (saving_clock_held handle.new.keeping) }
-    ensures saving_agrees { (w : SavingClock)
+    ensures called_refused { (w : SavingClock)
         → saving_clock_held handle.old.keeping ≡ Some w
-        → say.now.kind ≢ 0
-        → (result ≡ cant_object)
-        × (SendsNothing sent.old count.new sent.new
-        × (saving_clock_held handle.new.keeping ≡ Some w)) }
-    ensures empty { FindsNoClock handle.old.keeping sent.old result count.new sent.new
-        handle.new.keeping }
+        → RefusesCall w port datagram.now say.now (of_owner == 1) sent.old result taken.new sent.new
+        (saving_clock_held handle.new.keeping) }
+    ensures new_alone { result ≢ verdict_number Verdict.AnsweredNew → taken.new.changed ≡ no_members }
+    ensures places { ArePlaced taken.new sent.old sent.new }
+    ensures empty { any_clock_held handle.old.keeping ≡ None
+        → (result ≡ no_clock)
+        × ((taken.new ≡ nothing_taken)
+        × ((sent.new ≡ sent.old) × (held handle.new.keeping ≡ held handle.old.keeping))) }
     ensures restored { handle.new.restored ≡ false }
 {
-    *count = 0;
-    *members = ChangedMembers::NONE;
+    *taken = Taken::nothing();
     handle.restored = false;
     let Some(hosted) = handle.hosted() else {
         return NO_CLOCK;
     };
+    let of_owner = of_owner == 1;
     match hosted {
-        Hosted::Clock(clock) => hand_in(clock, port, datagram, say, sent, count, members),
-        Hosted::SavingClock(_) if say.kind != 0 => CANT_OBJECT,
+        Hosted::Clock(clock) => hand_in(clock, port, datagram, say, of_owner, sent, taken),
         Hosted::SavingClock(clock) => {
-            withholding::hand_in_changed(clock, port, datagram, true, sent, count, members)
+            batching::hand_in(clock, port, datagram, say, of_owner, sent, taken)
         }
         _ => NO_CLOCK,
     }
 }
 
-/// What becomes of a datagram with what the device says: the number of the verdict, or of the refusal, and then nothing is sent.
-/// `members` gets those that a new request has changed.
-#[tactic(auto, using(ptpm_host::specs::OutboxLaws::kept_by_none))]
+/// What becomes of a datagram at a clock that sends at once.
 fn hand_in(
     clock: &mut HostedClock,
     port: u16,
     datagram: &[u8],
     say: &Say,
+    of_owner: bool,
     sent: &mut [Sent],
-    count: &mut usize,
-    members: &mut ChangedMembers,
+    taken: &mut Taken,
 ) -> u32
-    ensures taken { TakesSaid clock.old port datagram.now say.now sent.old result count.new sent.new
+    ensures taken { TakesSaid clock.old port datagram.now say.now of_owner sent.old result taken.new
+        sent.new (Some clock.new) }
+    ensures changed { ReportsSaid clock.old port say.now sent.old taken.new (Some clock.new) }
+    ensures new_alone { result ≢ verdict_number Verdict.AnsweredNew → taken.new.changed ≡ no_members }
+    ensures refused { RefusesSaid clock.old port say.now sent.old result taken.new sent.new
         (Some clock.new) }
-    ensures changed { why_not_said clock.old port sent.old say.now ≡ None
-        → members.new ≡ changed clock.old.agent.sets clock.new.agent.sets }
-    ensures new_alone { result ≢ verdict_number Verdict.AnsweredNew → members.new ≡ no_members }
-    ensures refused { RefusesSaid clock.old port say.now sent.old result count.new sent.new
-        (Some clock.new) }
-    ensures written { AreWritten sent.old count.new sent.new }
+    ensures places { ArePlaced taken.new sent.old sent.new }
 {
-    *count = 0;
-    *members = ChangedMembers::NONE;
+    *taken = Taken::nothing();
     let before = clock.sets().copy();
-    match clock.handle_said(port, datagram, say, sent) {
+    match clock.take(port, datagram, say, of_owner, sent) {
         Ok(handled) => {
-            *count = handled.count;
-            *members = clock.sets().changed_since(&before);
+            taken.count = handled.count as u64;
+            taken.changed = clock.sets().changed_since(&before);
             verdict_number(handled.verdict)
         }
         Err(refusal) => said_number(refusal),

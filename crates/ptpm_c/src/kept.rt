@@ -2,6 +2,7 @@
 
 ghost use Rattle.std.specs.Prelude.{◌≡◌};
 
+use ptpm_data::DataSets;
 use ptpm_host::{HostedAsker, HostedClock, HostedSession, HostedSurvey, SavingClock};
 use std::mem::ManuallyDrop;
 
@@ -13,16 +14,16 @@ pub enum Hosted {
     Clock(Box<HostedClock>),
     Session(Box<HostedSession>),
     Survey(Box<HostedSurvey>),
-    /// A clock whose host says when it was saved.
+    /// A clock that is saved while it takes datagrams.
     SavingClock(Box<SavingClock>),
     Asker(Box<HostedAsker>),
 }
 
 impl Hosted {
     ghost use Rattle.std.specs.Option.{option_copied};
-    ghost use Rattle.ptpm_c.specs.Held.{any_clock_of, saving_clock_of};
+    ghost use Rattle.ptpm_c.specs.Held.{any_clock_of, shown_of};
 
-    /// The clock, whether its host says when it was saved or not.
+    /// The clock as it is, of either kind.
     pub fn clock(&self) -> Option<&HostedClock>
         ensures { option_copied result ≡ any_clock_of self.now }
     {
@@ -33,12 +34,13 @@ impl Hosted {
         }
     }
 
-    /// The clock, if its host says when it was saved.
-    pub fn saving_clock(&self) -> Option<&SavingClock>
-        ensures { option_copied result ≡ saving_clock_of self.now }
+    /// The data sets that a clock shows.
+    pub fn shown(&self) -> Option<&DataSets>
+        ensures { option_copied result ≡ shown_of self.now }
     {
         match self {
-            Hosted::SavingClock(clock) => Some(clock.as_ref()),
+            Hosted::Clock(clock) => Some(clock.sets()),
+            Hosted::SavingClock(clock) => Some(clock.shown()),
             _ => None,
         }
     }

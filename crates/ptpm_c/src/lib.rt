@@ -3,8 +3,8 @@
 #![tactic(auto)]
 
 ghost use Rattle.std.specs.Prelude.{◌≡◌, ◌≢◌, ◌≤◌, IfNone, IfSome, IsSomeAnd, MatchResult, None, Ok, Some, drop, length, take, false};
-ghost use Rattle.ptpm_data.specs.Changed.{changed, no_members};
 ghost use Rattle.ptpm_data.specs.DataField.{data_field_of_id};
+ghost use Rattle.ptpm_data.specs.Members.{DataSetsValue};
 ghost use Rattle.ptpm_data.specs.Start.{default_clock, default_port};
 ghost use Rattle.ptpm_data.specs.declared.observation.ObservationError.{ObservationError};
 ghost use Rattle.ptpm_host.specs.declared.clock.HostedClock.{HostedClock};
@@ -14,17 +14,17 @@ ghost use Rattle.ptpm_host.specs.declared.saving_clock.SavingClock.{SavingClock}
 ghost use Rattle.ptpm_host.specs.Clock.{IsFreshClock, start_by, start_refusal, state_in};
 ghost use Rattle.ptpm_host.specs.MostSent.{most_sent};
 ghost use Rattle.ptpm_host.specs.Numbers.{no_clock, no_memory, observe_number, read_number, start_number, verdict_number};
-ghost use Rattle.ptpm_agent.specs.declared.verdict.Verdict.{Verdict};
 ghost use Rattle.ptpm_host.specs.Observing.{IsObserved, left_number, observe_refusal, ports_left};
 ghost use Rattle.ptpm_host.specs.DataSetReading.{read_refusal};
 ghost use Rattle.ptpm_host.specs.Settings.{clock_start, default_identity, port_start};
 ghost use Rattle.ptpm_c.specs.declared.kept.Hosted.TheVariants.{Nothing};
-ghost use Rattle.ptpm_c.specs.Held.{any_clock_held, clock_held, held, saving_clock_held};
-ghost use Rattle.ptpm_c.specs.Turned.{AreWritten, FindsNoClock, RefusesTurn, TakesTurn, why_not_handed};
-ghost use Rattle.ptpm_c.specs.Withholding.{Observes, RefusesCall, TakesCall};
+ghost use Rattle.ptpm_c.specs.Held.{any_clock_held, clock_held, held, saving_clock_held, shown_held};
+ghost use Rattle.ptpm_c.specs.Turned.{AreWritten, FindsNoClock, RefusesTurn, TakesTurn};
+ghost use Rattle.ptpm_c.specs.Batching.{NotesCall, ObservesCall};
 
 mod agreement;
 mod asker;
+mod batching;
 mod changing;
 mod device;
 mod fields;
@@ -40,17 +40,15 @@ mod sealing;
 mod session;
 mod standing;
 mod survey;
-mod withholding;
 mod withholding_session;
 
-use crate::handle::Handle;
+use crate::handle::{Handle, held};
 use crate::kept::Hosted;
-use ptpm_agent::Verdict;
-use ptpm_data::{ChangedMembers, ObservationError, PortsLeftDisabled};
+use ptpm_data::{ObservationError, PortsLeftDisabled};
 use ptpm_host::{
     ClockSettings, HostedClock, ManagerSettings, NO_CLOCK, NO_MEMORY, ObservedClock, ObservedPort,
-    PortSettings, Sent, handle_number, left_number, observe_number, read_number, start_number,
-    verdict_number,
+    PortSettings, Sent, handle_number, left_number, observe_number, read, read_number,
+    start_number, verdict_number,
 };
 use std::alloc::Global;
 
@@ -109,8 +107,7 @@ pub extern "C" fn ptpm_clock_start(
 
 /// What becomes of a datagram that comes in at a port: the number of the verdict, or of the refusal. The first `count` places
 /// of `sent` get what the clock sends. The places after them stay as they are, and so does what follows each message. A clock
-/// whose host says when it was saved sends nothing for a new request, and leaves zeros in the places that it used. It refuses each
-/// datagram while something is unsaved. Takes no memory.
+/// that is saved while it takes datagrams is none here. Takes no memory.
 #[tactic(auto, using(ptpm_host::specs::OutboxLaws::kept_by_none))]
 #[unsafe(no_mangle)]
 pub extern "C" fn ptpm_clock_handle(
@@ -127,91 +124,15 @@ pub extern "C" fn ptpm_clock_handle(
     ensures refused { (c : HostedClock)
         → clock_held handle.old.keeping ≡ Some c
         → RefusesTurn c port sent.old result count.new sent.new (clock_held handle.new.keeping) }
-    ensures places { saving_clock_held handle.old.keeping ≡ None
-        → AreWritten sent.old count.new sent.new }
-    ensures saving { (w : SavingClock)
-        → saving_clock_held handle.old.keeping ≡ Some w
-        → TakesCall false w port datagram.now sent.old result count.new sent.new
-        (saving_clock_held handle.new.keeping) }
-    ensures withheld { (w : SavingClock)
-        → saving_clock_held handle.old.keeping ≡ Some w
-        → RefusesCall false w port sent.old result count.new sent.new
-        (saving_clock_held handle.new.keeping) }
+    ensures places { AreWritten sent.old count.new sent.new }
     ensures empty { FindsNoClock handle.old.keeping sent.old result count.new sent.new
         handle.new.keeping }
     ensures restored { handle.new.restored ≡ false }
 {
     *count = 0;
     handle.restored = false;
-    let Some(hosted) = handle.hosted() else {
-        return NO_CLOCK;
-    };
-    match hosted {
-        Hosted::Clock(clock) => hand_in(clock, port, datagram, sent, count),
-        Hosted::SavingClock(clock) => {
-            withholding::hand_in(clock, port, datagram, false, sent, count)
-        }
-        _ => NO_CLOCK,
-    }
-}
-
-/// What `ptpm_clock_handle` does, and leaves in `members` those that have another value after it than before: none unless
-/// the number is that of AnsweredNew. Takes no memory.
-#[tactic(auto, using(ptpm_host::specs::OutboxLaws::kept_by_none))]
-#[unsafe(no_mangle)]
-pub extern "C" fn ptpm_clock_handle_changed(
-    handle: &mut Handle,
-    port: u16,
-    datagram: &[u8],
-    sent: &mut [Sent],
-    count: &mut usize,
-    members: &mut ChangedMembers,
-) -> u32
-    ensures turned { (c : HostedClock)
-        → clock_held handle.old.keeping ≡ Some c
-        → TakesTurn c port datagram.now sent.old result count.new sent.new
-        (clock_held handle.new.keeping) }
-    ensures changed { (c : HostedClock)
-        → clock_held handle.old.keeping ≡ Some c
-        → why_not_handed c port sent.old ≡ None
-        → IsSomeAnd (clock_held handle.new.keeping)
-        (λ d. members.new ≡ changed c.agent.sets d.agent.sets) }
-    ensures changed_saving { (w : SavingClock)
-        → saving_clock_held handle.old.keeping ≡ Some w
-        → result ≡ verdict_number Verdict.AnsweredNew
-        → IsSomeAnd (saving_clock_held handle.new.keeping)
-        (λ x. members.new ≡ changed w.clock.value.agent.sets x.clock.value.agent.sets) }
-    ensures new_alone { result ≢ verdict_number Verdict.AnsweredNew → members.new ≡ no_members }
-    ensures refused { (c : HostedClock)
-        → clock_held handle.old.keeping ≡ Some c
-        → RefusesTurn c port sent.old result count.new sent.new (clock_held handle.new.keeping) }
-    ensures places { saving_clock_held handle.old.keeping ≡ None
-        → AreWritten sent.old count.new sent.new }
-    ensures saving { (w : SavingClock)
-        → saving_clock_held handle.old.keeping ≡ Some w
-        → TakesCall false w port datagram.now sent.old result count.new sent.new
-        (saving_clock_held handle.new.keeping) }
-    ensures withheld { (w : SavingClock)
-        → saving_clock_held handle.old.keeping ≡ Some w
-        → RefusesCall false w port sent.old result count.new sent.new
-        (saving_clock_held handle.new.keeping) }
-    ensures empty { FindsNoClock handle.old.keeping sent.old result count.new sent.new
-        handle.new.keeping }
-    ensures restored { handle.new.restored ≡ false }
-{
-    *count = 0;
-    *members = ChangedMembers::NONE;
-    handle.restored = false;
-    let Some(hosted) = handle.hosted() else {
-        return NO_CLOCK;
-    };
-    match hosted {
-        Hosted::Clock(clock) => hand_in_changed(clock, port, datagram, sent, count, members),
-        Hosted::SavingClock(clock) => {
-            withholding::hand_in_changed(clock, port, datagram, false, sent, count, members)
-        }
-        _ => NO_CLOCK,
-    }
+    held!(handle, Hosted::Clock(clock), NO_CLOCK);
+    hand_in(clock, port, datagram, sent, count)
 }
 
 /// What becomes of a datagram: the number of the verdict, or of the refusal, and then nothing is sent.
@@ -239,33 +160,6 @@ fn hand_in(
     }
 }
 
-/// What `hand_in` does. `members` gets those that a new request has changed; none after any other answer.
-fn hand_in_changed(
-    clock: &mut HostedClock,
-    port: u16,
-    datagram: &[u8],
-    sent: &mut [Sent],
-    count: &mut usize,
-    members: &mut ChangedMembers,
-) -> u32
-    ensures taken { TakesTurn clock.old port datagram.now sent.old result count.new sent.new
-        (Some clock.new) }
-    ensures changed { why_not_handed clock.old port sent.old ≡ None
-        → members.new ≡ changed clock.old.agent.sets clock.new.agent.sets }
-    ensures new_alone { result ≢ verdict_number Verdict.AnsweredNew → members.new ≡ no_members }
-    ensures refused { RefusesTurn clock.old port sent.old result count.new sent.new
-        (Some clock.new) }
-    ensures written { AreWritten sent.old count.new sent.new }
-{
-    *members = ChangedMembers::NONE;
-    let before = clock.sets().copy();
-    let number = hand_in(clock, port, datagram, sent, count);
-    if number == verdict_number(Verdict::AnsweredNew) {
-        *members = clock.sets().changed_since(&before);
-    }
-    number
-}
-
 /// Sets what the host observes of its clock, and of the clock's ports from 1 on, and nothing else. Answers 0, or the number of
 /// the refusal, and then nothing changes. A state that is observed at a disabled port is not taken. `left` gets these ports:
 /// the sum of 1 for port 1, 2 for port 2, 4 for port 3, and so on. Takes no memory.
@@ -291,8 +185,11 @@ pub extern "C" fn ptpm_clock_observe(
         × ((left.new ≡ 0) × (clock_held handle.new.keeping ≡ Some c)) }
     ensures saving { (w : SavingClock)
         → saving_clock_held handle.old.keeping ≡ Some w
-        → Observes w observed.now ports.now result left.new
+        → ObservesCall w observed.now ports.now result left.new
         (saving_clock_held handle.new.keeping) }
+    ensures noted { (w : SavingClock)
+        → saving_clock_held handle.old.keeping ≡ Some w
+        → NotesCall w observed.now ports.now (saving_clock_held handle.new.keeping) }
     ensures empty { any_clock_held handle.old.keeping ≡ None
         → (result ≡ no_clock)
         × ((left.new ≡ 0) × (held handle.new.keeping ≡ held handle.old.keeping)) }
@@ -340,25 +237,25 @@ pub extern "C" fn ptpm_clock_read(
 ) -> u32
     ensures kept { held handle.new.keeping ≡ held handle.old.keeping }
     ensures restored { handle.new.restored ≡ handle.old.restored }
-    ensures field { (c : HostedClock) → any_clock_held handle.old.keeping ≡ Some c →
-        read_refusal id port (length octets.old) c.agent.sets ≡ None →
-        (result ≡ 0) × (take size.new octets.new ≡ data_field_of_id id port c.agent.sets) }
+    ensures field { (d : DataSetsValue) → shown_held handle.old.keeping ≡ Some d →
+        read_refusal id port (length octets.old) d ≡ None →
+        (result ≡ 0) × (take size.new octets.new ≡ data_field_of_id id port d) }
     ensures within { size.new ≤ length octets.new }
     ensures behind { drop size.new octets.new ≡ drop size.new octets.old }
-    ensures refused { (c : HostedClock) (e : ReadRefusal)
-        → any_clock_held handle.old.keeping ≡ Some c
-        → read_refusal id port (length octets.old) c.agent.sets ≡ Some e
+    ensures refused { (d : DataSetsValue) (e : ReadRefusal)
+        → shown_held handle.old.keeping ≡ Some d
+        → read_refusal id port (length octets.old) d ≡ Some e
         → (result ≡ read_number e) × (size.new ≡ 0) }
-    ensures empty { any_clock_held handle.old.keeping ≡ None → (result ≡ no_clock) × (size.new ≡ 0) }
+    ensures empty { shown_held handle.old.keeping ≡ None → (result ≡ no_clock) × (size.new ≡ 0) }
 {
     *size = 0;
     let Some(hosted) = handle.hosted() else {
         return NO_CLOCK;
     };
-    let Some(clock) = hosted.clock() else {
+    let Some(sets) = hosted.shown() else {
         return NO_CLOCK;
     };
-    match clock.read(id, port, octets) {
+    match read(sets, id, port, octets) {
         Ok(count) => {
             *size = count;
             0
@@ -367,7 +264,7 @@ pub extern "C" fn ptpm_clock_read(
     }
 }
 
-/// The most messages that the clock sends for a datagram, or after a save; 0 if the handle holds no clock. Takes no memory.
+/// The most messages that one datagram makes; 0 if the handle holds no clock. Takes no memory.
 #[unsafe(no_mangle)]
 pub extern "C" fn ptpm_clock_most_sent(handle: &mut Handle) -> usize
     ensures kept { held handle.new.keeping ≡ held handle.old.keeping }

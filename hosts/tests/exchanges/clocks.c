@@ -9,13 +9,13 @@ struct ptpm_clock clock_of_page;
 struct start start_of_page;
 
 /* What came of a datagram. */
-struct turn { uint32_t answer; size_t count; struct ptpm_sent sent[PTPM_MOST_SENT]; };
+struct turn { uint32_t answer; struct ptpm_taken taken; struct ptpm_sent sent[PTPM_MOST_SENT]; };
 
 static struct turn turn;
 static struct ptpm_changed changed;
 
-/* Whether the clock of the page gives nothing out before it is saved. */
-static bool is_saving;
+/* How many messages may wait in the clock of the page, if it saves; otherwise 0. */
+static size_t places_to_wait;
 
 void stop_clock(void) { ptpm_clock_stop(&clock_of_page); }
 
@@ -26,7 +26,7 @@ static uint32_t start(void *given) {
 
 static void run_start(char *words) {
     read_start(&words, &start_of_page);
-    is_saving = false;
+    places_to_wait = 0;
     say_outcome(refusing(start, &start_of_page, NULL), "STARTED");
 }
 
@@ -44,14 +44,17 @@ static bool restores_second(struct ptpm_clock *second) {
     size_t gone, size = state(image);
     return size > 0 && ptpm_clock_restore(second, as->clock.identity, as->port_count, as->managers.of, as->managers.count, image, size,
                                           &gone) == PTPM_RESTORED && gone == 0
-           && (!is_saving || ptpm_clock_saving(second) == PTPM_SAVING);
+           && (places_to_wait == 0 || ptpm_clock_saving(second, places_to_wait) == PTPM_SAVING);
+}
+
+static bool is_same_message(const struct ptpm_sent *one, const struct ptpm_sent *other) {
+    return one->port == other->port && one->size == other->size && memcmp(one->octets, other->octets, one->size) == 0;
 }
 
 static bool is_same_turn(const struct turn *one, const struct turn *other) {
-    if (one->answer != other->answer || one->count != other->count) return false;
-    for (size_t i = 0; i < one->count; i++) {
-        const struct ptpm_sent *sent = &one->sent[i], *again = &other->sent[i];
-        if (sent->port != again->port || sent->size != again->size || memcmp(sent->octets, again->octets, sent->size) != 0) return false;
+    if (one->answer != other->answer || one->taken.count != other->taken.count) return false;
+    for (size_t i = 0; i < one->taken.count; i++) {
+        if (!is_same_message(&one->sent[i], &other->sent[i])) return false;
     }
     return true;
 }
@@ -62,91 +65,102 @@ static bool is_same_clock(const struct ptpm_clock *other) {
     return image_of(other, two) == size && memcmp(one, two, size) == 0;
 }
 
-/* Says if something of a message is left in places that a clock gave no message in. */
-static void check_withheld(void) {
-    const uint8_t *octets = (const uint8_t *)turn.sent;
-    for (size_t i = 0; i < sizeof turn.sent; i++) {
-        if (octets[i] != 0 && octets[i] != 0xee) {
-            say("it leaves something of a message\n");
-            return;
-        }
+/* Says if a call has written to a place that has no message. If `waiting` messages wait, as many places have zeros. */
+static void check_places(size_t written, size_t waiting) {
+    const uint8_t *octets = (const uint8_t *)&turn.sent[written], *blank = (const uint8_t *)&turn.sent[written + waiting],
+                  *end = (const uint8_t *)&turn.sent[PTPM_MOST_SENT];
+    while (octets < end && *octets == (octets < blank ? 0 : 0xee)) octets++;
+    if (octets < end) say("it writes to a place that has no message\n");
+}
+
+/* A datagram, with what the device says of it, and whether it is its owner's. */
+struct coming { uint16_t port; struct octets datagram; struct ptpm_say said; bool is_of_owner; };
+
+static uint32_t take(struct ptpm_clock *clock, const struct coming *in, struct turn *into, size_t places) {
+    return ptpm_clock_take(clock, in->port, in->datagram.at, in->datagram.size, &in->said, in->is_of_owner, into->sent, places, &into->taken);
+}
+
+/* Hands a datagram in at the second clock. One that sends at once gets it by ptpm_clock_handle, if it says no more than that takes. */
+static void take_again(struct ptpm_clock *second, const struct coming *in, struct turn *into, size_t places) {
+    bool is_simple = places_to_wait == 0 && places == PTPM_MOST_SENT && in->said.kind == PTPM_AGREES && !in->is_of_owner;
+    size_t count = 1;
+    if (!is_simple) {
+        into->answer = take(second, in, into, places);
+        return;
     }
+    into->answer = ptpm_clock_handle(second, in->port, in->datagram.at, in->datagram.size, into->sent, places, &count);
+    into->taken = (struct ptpm_taken){ .count = count };
 }
 
-/* Hands a datagram in at a clock, with what its device says; null if it is not asked to say anything. */
-static uint32_t hand_in(struct ptpm_clock *clock, uint16_t port, const struct octets *datagram, const struct ptpm_say *said,
-                        struct turn *into, size_t places, struct ptpm_changed *members) {
-    if (said == NULL)
-        return ptpm_clock_handle_changed(clock, port, datagram->at, datagram->size, into->sent, places, &into->count, members);
-    return ptpm_clock_handle_said(clock, port, datagram->at, datagram->size, said, into->sent, places, &into->count, members);
-}
-
-/* Hands a datagram in at both clocks; only at the first if that refuses it, since the second is saved. */
-static void handle(uint16_t port, const struct octets *datagram, const struct ptpm_say *said, size_t places) {
+/* Hands a datagram in at both clocks; only at the first if that is unsaved, since the second is saved. */
+static void handle(const struct coming *in, size_t places) {
     static struct turn again;
     struct ptpm_clock second = { 0 };
-    struct ptpm_changed members;
-    bool is_twice = restores_second(&second);
-    turn.count = again.count = 1;
-    memset(turn.sent, 0xee, sizeof turn.sent);
-    turn.answer = hand_in(&clock_of_page, port, datagram, said, &turn, places, &changed);
-    if (is_saving && (turn.answer == PTPM_ANSWERED_NEW || turn.answer == PTPM_UNSAVED)) check_withheld();
+    bool is_twice = restores_second(&second) && !ptpm_clock_unsaved(&clock_of_page);
+    memset(&turn, 0xee, sizeof turn);
+    turn.answer = take(&clock_of_page, in, &turn, places);
+    changed = turn.taken.changed;
+    check_places((size_t)turn.taken.count, (size_t)turn.taken.waiting);
     if (is_twice && turn.answer != PTPM_UNSAVED) {
-        again.answer = said == NULL
-            ? ptpm_clock_handle(&second, port, datagram->at, datagram->size, again.sent, places, &again.count)
-            : hand_in(&second, port, datagram, said, &again, places, &members);
+        take_again(&second, in, &again, places);
         if (!is_same_turn(&turn, &again) || !is_same_clock(&second)) say("the clock that was restored does something else\n");
     }
     ptpm_clock_stop(&second);
 }
 
-/* What is sent, a line each. */
-static void say_turn(void) {
-    for (size_t i = 0; i < turn.count; i++) {
-        say("%u: ", turn.sent[i].port);
-        say_message(turn.sent[i].octets, turn.sent[i].size);
-        note_message(turn.sent[i].octets, turn.sent[i].size);
-    }
+static void say_sent(const struct ptpm_sent *sent) {
+    say("%u: ", sent->port);
+    say_message(sent->octets, sent->size);
+    note_message(sent->octets, sent->size);
 }
 
-/* Hands in the datagram of these words, and says what comes of it. */
-static void run_datagram(char *words, uint16_t port, const struct ptpm_say *said, size_t places) {
-    static struct octets datagram;
-    read_octets(&words, &datagram);
-    handle(port, &datagram, said, places);
-    note_message(datagram.at, datagram.size);
+/* Hands in the datagram of these words, and says what comes of it: what is sent, a line each, and how many messages wait. */
+static void run_datagram(char *words, struct coming *in, size_t places) {
+    read_octets(&words, &in->datagram);
+    handle(in, places);
+    note_message(in->datagram.at, in->datagram.size);
     say_outcome(turn.answer, "0");
-    say_turn();
+    for (size_t i = 0; i < turn.taken.count; i++) say_sent(&turn.sent[i]);
+    if (turn.taken.waiting > 0) say("waiting: %llu\n", (unsigned long long)turn.taken.waiting);
 }
 
 static void run_in(char *words) {
+    static struct coming in;
     size_t places = next_room(&words, PTPM_MOST_SENT);
-    uint16_t port = (uint16_t)next_number(&words, 0);
-    run_datagram(words, port, NULL, places);
+    in.port = (uint16_t)next_number(&words, 0);
+    run_datagram(words, &in, places);
+}
+
+/* `in-owner PORT OCTETS`. */
+static void run_in_owner(char *words) {
+    static struct coming in = { .is_of_owner = true };
+    size_t places = next_room(&words, PTPM_MOST_SENT);
+    in.port = (uint16_t)next_number(&words, 0);
+    run_datagram(words, &in, places);
 }
 
 /* `in-said PORT KIND ERROR OCTETS`. */
 static void run_in_said(char *words) {
-    static struct ptpm_say said;
+    static struct coming in;
     size_t places = next_room(&words, PTPM_MOST_SENT);
-    uint16_t port = (uint16_t)next_number(&words, 0);
-    said.kind = (uint8_t)next_number(&words, 0);
-    said.error = (uint16_t)next_number(&words, 0);
-    run_datagram(words, port, &said, places);
+    in.port = (uint16_t)next_number(&words, 0);
+    in.said.kind = (uint8_t)next_number(&words, 0);
+    in.said.error = (uint16_t)next_number(&words, 0);
+    run_datagram(words, &in, places);
 }
 
 /* `in-given PORT VALUE, OCTETS`: the device gives the octets of a value. */
 static void run_in_given(char *words) {
-    static struct ptpm_say said;
+    static struct coming in;
     static struct octets value;
     size_t places = next_room(&words, PTPM_MOST_SENT);
-    uint16_t port = (uint16_t)next_number(&words, 0);
+    in.port = (uint16_t)next_number(&words, 0);
     char *given = strsep(&words, ",");
     read_octets(&given, &value);
     if (words == NULL) say_misspelt("in-given");
-    said = (struct ptpm_say){ .kind = PTPM_GIVES, .size = (uint16_t)value.size };
-    memcpy(said.octets, value.at, value.size < sizeof said.octets ? value.size : sizeof said.octets);
-    if (words != NULL) run_datagram(words, port, &said, places);
+    in.said = (struct ptpm_say){ .kind = PTPM_GIVES, .size = (uint16_t)value.size };
+    memcpy(in.said.octets, value.at, value.size < sizeof in.said.octets ? value.size : sizeof in.said.octets);
+    if (words != NULL) run_datagram(words, &in, places);
 }
 
 /* The members whose bits are set, by the names that the refusals of a start give them after BAD_. */
@@ -210,14 +224,15 @@ static void run_image(char *words) {
 }
 
 static uint32_t begin_saving(void *given) {
-    (void)given;
-    return ptpm_clock_saving(&clock_of_page);
+    const size_t *places = given;
+    return ptpm_clock_saving(&clock_of_page, *places);
 }
 
+/* `saving PLACES`; PTPM_MOST_SENT of them if none are said. */
 static void run_saving(char *words) {
-    (void)words;
-    uint32_t answer = refusing(begin_saving, NULL, state);
-    if (answer == PTPM_SAVING) is_saving = true;
+    size_t places = (size_t)next_number(&words, PTPM_MOST_SENT);
+    uint32_t answer = refusing(begin_saving, &places, state);
+    if (answer == PTPM_SAVING && places_to_wait == 0) places_to_wait = places;
     say_outcome(answer, "SAVING");
 }
 
@@ -235,12 +250,30 @@ static void run_image_of(char *words) {
 
 /* `saved TOKEN`. */
 static void run_saved(char *words) {
-    size_t places = next_room(&words, PTPM_MOST_SENT);
-    uint64_t token = (uint64_t)next_number(&words, 0);
-    turn.count = 1;
-    turn.answer = ptpm_clock_saved(&clock_of_page, token, turn.sent, places, &turn.count);
-    say_outcome(turn.answer, "SAVED");
-    say_turn();
+    say_outcome(ptpm_clock_saved(&clock_of_page, (uint64_t)next_number(&words, 0)), "SAVED");
+}
+
+/* The message that is given, or `nothing`. */
+static void run_next(char *words) {
+    (void)words;
+    memset(&turn, 0xee, sizeof turn);
+    size_t count = ptpm_clock_next(&clock_of_page, turn.sent);
+    check_places(count, 0);
+    if (count == 0) say("nothing\n");
+    else say_sent(turn.sent);
+}
+
+/* How many more messages may wait, or `any`. */
+static void run_free(char *words) {
+    (void)words;
+    size_t count = ptpm_clock_free(&clock_of_page);
+    if (count == SIZE_MAX) say("any\n");
+    else say("%zu\n", count);
+}
+
+static void run_unsaved(char *words) {
+    (void)words;
+    say("%u\n", ptpm_clock_unsaved(&clock_of_page));
 }
 
 struct restore { uint8_t identity[8]; size_t ports; struct managers managers; struct octets image; size_t gone; };
@@ -265,7 +298,7 @@ static void run_restore(char *words) {
     uint32_t answer = refusing(restore, &from, state);
     say_outcome(answer, "RESTORED");
     if (answer != PTPM_RESTORED) return;
-    is_saving = false;
+    places_to_wait = 0;
     if (from.gone != 0) say("gone: %zu\n", from.gone);
     memcpy(start_of_page.clock.identity, from.identity, 8);
     start_of_page.port_count = from.ports;
@@ -279,12 +312,12 @@ static void run_most_sent(char *words) {
 
 static void run_stop(char *words) {
     (void)words;
-    is_saving = false;
+    places_to_wait = 0;
     stop_clock();
 }
 
 const struct command clock_commands[] = {
-    { "clock", run_start }, { "in", run_in }, { "in-said", run_in_said }, { "in-given", run_in_given }, { "changed", run_changed }, { "observe", run_observe },
+    { "clock", run_start }, { "in", run_in }, { "in-owner", run_in_owner }, { "in-said", run_in_said }, { "in-given", run_in_given }, { "changed", run_changed }, { "observe", run_observe },
     { "set-here", run_set_here }, { "read", run_read }, { "image", run_image }, { "restore", run_restore }, { "saving", run_saving }, { "image-of", run_image_of },
-    { "saved", run_saved }, { "most-sent", run_most_sent }, { "stop", run_stop }, { NULL, NULL },
+    { "saved", run_saved }, { "next", run_next }, { "free", run_free }, { "unsaved", run_unsaved }, { "most-sent", run_most_sent }, { "stop", run_stop }, { NULL, NULL },
 };

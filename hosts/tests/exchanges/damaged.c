@@ -58,15 +58,15 @@ static void after_new_one(struct ptpm_clock *clock, size_t place, const struct p
 /* Hands in a datagram that is damaged at a place. */
 static void hand_in(struct ptpm_clock *clock, size_t place) {
     static struct ptpm_sent sent[PTPM_MOST_SENT];
-    struct ptpm_changed changed;
-    size_t count;
+    static const struct ptpm_say nothing;
+    struct ptpm_taken came;
     uint32_t wanted = due_answer(&start_of_page, &taken, &datagram);
-    uint32_t answer = ptpm_clock_handle_changed(clock, 1, datagram.at, datagram.size, sent, PTPM_MOST_SENT, &count, &changed);
+    uint32_t answer = ptpm_clock_take(clock, 1, datagram.at, datagram.size, &nothing, 0, sent, PTPM_MOST_SENT, &came);
     if (answer < MOST_ANSWERS) counts[answer]++;
     if (answer != wanted) complain(answer_name(answer, "0"), place);
-    if (!are_due(&start_of_page, &datagram, answer, sent, count)) complain("other messages are due", place);
-    if (answer == PTPM_ANSWERED_NEW) after_new_one(clock, place, &changed);
-    else if (!is_nothing(&changed)) complain("a member changes", place);
+    if (!are_due(&start_of_page, &datagram, answer, sent, (size_t)came.count)) complain("other messages are due", place);
+    if (answer == PTPM_ANSWERED_NEW) after_new_one(clock, place, &came.changed);
+    else if (!is_nothing(&came.changed)) complain("a member changes", place);
 }
 
 static void cut_short(struct ptpm_clock *clock) {

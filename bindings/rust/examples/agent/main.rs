@@ -7,7 +7,7 @@
 //! servo of this agent is made up: each time it halves its offset. A `pmc` has its interface's MAC with `fffe` in the middle as its
 //! identity, at port 1: with that as MANAGER its SETs are carried out.
 //!
-//! With a FILE the clock outlasts its power, and the next run goes on from it: it gives nothing out before it is saved. A save that
+//! With a FILE the clock outlasts its power, and the next run goes on from it: it shows no change before that is saved. A save that
 //! fails ends the agent, as a loss of power would.
 
 mod forwarding;
@@ -17,7 +17,7 @@ mod store;
 use forwarding::Forwarding;
 use ptpm::{
     Clock, ClockMembers, ClockSettings, Handled, ManagementId, Manager, ObservedClock, ObservedPort, Outbox, PortMembers,
-    PortSettings, PortState, Ports, Rights, SavingClock, SavingTurn, TimeInterval, CLOCK_IMAGE_OCTETS, MOST_READ,
+    PortSettings, PortState, Ports, Rights, SavingClock, Say, Taken, TimeInterval, CLOCK_IMAGE_OCTETS, MOST_READ,
 };
 use std::error::Error;
 use std::net::UdpSocket;
@@ -44,6 +44,9 @@ impl Servo {
         }
     }
 }
+
+/// How many messages may wait for a save: those of one datagram, since each is saved before the next one is taken.
+const MOST_WAITING: usize = 15;
 
 /// A clock that forgets all when it ends, or one that is saved before it answers, with its file.
 enum Kept {
@@ -87,16 +90,16 @@ fn clock_of(
 ) -> Result<Kept, Box<dyn Error>> {
     let Some(mut store) = store else { return Ok(Kept::Forgetting(Clock::start(settings, ports, managers)?)) };
     let Some(image) = store.load()? else {
-        let mut clock = SavingClock::new(Clock::start(settings, ports, managers)?)?;
+        let mut clock = SavingClock::new(Clock::start(settings, ports, managers)?, MOST_WAITING)?;
         let mut room = Box::new([0; CLOCK_IMAGE_OCTETS]);
-        let unsaved = clock.unsaved(&mut room)?;
-        store.save(unsaved.image())?;
-        unsaved.saved(&mut Outbox::boxed())?;
+        let (image, token) = clock.image(&mut room)?;
+        store.save(image)?;
+        clock.saved(token)?;
         return Ok(Kept::Saved(clock, store));
     };
     let (clock, gone) = Clock::restore(settings.identity, ports.len(), managers, &image)?;
     println!("it goes on where it was saved; requests of {gone} managers are let go");
-    Ok(Kept::Saved(SavingClock::new(clock)?, store))
+    Ok(Kept::Saved(SavingClock::new(clock, MOST_WAITING)?, store))
 }
 
 /// Says of a request that it was dropped.
@@ -136,32 +139,30 @@ impl Agent {
         Ok(())
     }
 
-    /// Hands a datagram in, saves what is new, sends what is to be sent, and acts on what changed.
+    /// Hands a datagram in, sends what is to be sent, also after a save if something is new, and acts on what changed.
     fn come_in(&mut self, port: u16, datagram: &[u8]) -> Result<(), Box<dyn Error>> {
-        let (messages, changed) = match &mut self.clock {
-            Kept::Forgetting(clock) => {
-                let (turn, changed) = clock.handle_changed(port, datagram, &mut self.outbox)?;
-                note(port, turn.handled());
-                (turn.messages, changed)
-            }
-            Kept::Saved(clock, store) => {
-                let (turn, changed) = clock.handle(port, datagram, &mut self.outbox, &mut self.room)?;
-                match turn {
-                    SavingTurn::Sent(turn) => {
-                        note(port, turn.handled());
-                        (turn.messages, changed)
-                    }
-                    SavingTurn::Unsaved(unsaved) => {
-                        store.save(unsaved.image())?;
-                        (unsaved.saved(&mut self.outbox)?, changed)
-                    }
-                }
-            }
+        let Taken { turn, changed, .. } = match &mut self.clock {
+            Kept::Forgetting(clock) => clock.take(port, datagram, Say::Agrees, &mut self.outbox)?,
+            Kept::Saved(clock, _) => clock.take(port, datagram, Say::Agrees, &mut self.outbox)?,
         };
+        note(port, turn.handled());
         let mut sending = self.forwarding.of(port, datagram);
-        for (egress, octets) in messages {
+        let mut send = |egress, octets: &[u8]| {
             if sending.admits(egress) {
                 port::send(&self.sockets[usize::from(egress) - 1], octets);
+            }
+        };
+        for (egress, octets) in turn.messages {
+            send(egress, octets);
+        }
+        if let Kept::Saved(clock, store) = &mut self.clock {
+            if clock.is_unsaved() {
+                let (image, token) = clock.image(&mut self.room)?;
+                store.save(image)?;
+                clock.saved(token)?;
+                while let Some((egress, octets)) = clock.next_message(&mut self.outbox) {
+                    send(egress, octets);
+                }
             }
         }
         if changed.clock.intersects(ClockMembers::PRIORITY1) {

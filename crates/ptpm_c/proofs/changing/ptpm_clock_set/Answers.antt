@@ -25,6 +25,10 @@ told (Ok changed) refusal between members number error tells holds are refuses n
     let same : members ≡ between = cc in (tells.0, (tells.1.0, (holds, same)))
 told (Err e) refusal between members number error tells holds are refuses none = absurd cc
 
+all_ok : {A E : Type 0} (P Q R : Type 0) (outcome : Result A E) → OnOk outcome P → OnOk outcome Q → OnOk outcome R → OnOk outcome (P × (Q × R))
+all_ok P Q R (Ok a) p q r = (p, (q, r))
+all_ok P Q R (Err e) p q r = p
+
 pub returns-in-Clock-clause-changed : goal.returns-in-Clock-clause-changed
 returns-in-Clock-clause-changed c = λ d is.
     let lent : c.deref_mut.result.now ≡ d = search rules in
@@ -39,4 +43,5 @@ returns-in-SavingClock-clause-saving c = λ w is.
     let tell = c.tell-in-SavingClock in
     let here = c.change_here-in-SavingClock in
     subst (λ (x : SavingClock). ChangesUnsaved x q tell.result tell.new.error tell.new.members (Some here.new.self)) lent
-    (told here.result _ _ _ _ _ tell.ensures here.ensures.changed here.ensures.members here.ensures.refusal)
+    (told here.result _ _ _ _ _ tell.ensures (all_ok _ _ _ here.result here.ensures.called here.ensures.changed here.ensures.waits)
+    here.ensures.members here.ensures.refusal)

@@ -1,0 +1,40 @@
+-- Places of a host into which a call has written messages, or nothing.
+use Rattle.std.proofs.Common.{rules, ◌≡◌, ◌≤◌, ◌+◌, ℕ, All, List, ap, arith, drop, length, refl, subst, sym, take}
+use Rattle.std.specs.List.{AllZip}
+use Rattle.ptpm_host.specs.declared.sent.Sent.{Sent}
+use Rattle.ptpm_host.specs.Clock.{IsWhole, KeepsBehind}
+use Rattle.ptpm_host.specs.OutboxLaws.{kept_by_none}
+use Rattle.ptpm_c.specs.declared.device.Taken.{Taken}
+use Rattle.ptpm_c.specs.Said.{ArePlaced, nothing_taken}
+
+-- messages, of which none waits
+pub placed : (taken : Taken) (before after : List Sent)
+    → taken.waiting ≡ 0
+    → taken.count ≤ length after
+    → All IsWhole (take taken.count after)
+    → drop taken.count after ≡ drop taken.count before
+    → AllZip KeepsBehind before after
+    → ArePlaced taken before after
+placed taken before after none within whole places behind =
+    let same : taken.count ≡ taken.count + taken.waiting = omega (arith, none) in
+    record {
+      within = within;
+      whole = whole;
+      places = subst (λ (n : ℕ). drop n after ≡ drop n before) same places;
+      behind = λ zero. behind;
+      blanked = λ some. absurd (some none);
+    }
+
+placed_none : (places : List Sent) → ArePlaced nothing_taken places places
+placed_none places = record {
+  within = omega arith;
+  whole = search rules;
+  places = refl;
+  behind = λ zero. kept_by_none places;
+  blanked = λ some. absurd (some refl);
+}
+
+pub unchanged_places : (taken : Taken) (before after : List Sent) → taken ≡ nothing_taken → after ≡ before → ArePlaced taken before after
+unchanged_places taken before after is same =
+    subst (λ (t : Taken). ArePlaced t before after) (sym is)
+    (subst (λ (a : List Sent). ArePlaced nothing_taken before a) (sym same) (placed_none before))
