@@ -1,9 +1,9 @@
 #define _GNU_SOURCE
 #include "agent.h"
+#include "askers.h"
 #include "counts.h"
 #include "device.h"
 #include "field_text.h"
-#include "held.h"
 #include "names.h"
 #include "network_limits.h"
 #include "observation.h"
@@ -32,8 +32,6 @@ enum {
 };
 
 static struct ptpm_clock clock_held;
-static struct ptpm_clock clock_before;  /* what is being saved changed: as others see it until that is saved */
-static size_t taken;                    /* how many requests that wait are being saved */
 static const struct options *options;
 
 void start_clock(const struct options *given) {
@@ -58,16 +56,14 @@ static uint8_t domain(void) {
 /* What became of a change that an earlier run asked the ptp4l for is decided now. The answer is kept, and a copy gets it. */
 static void settle_earlier(void) {
     static uint8_t octets[MOST_HEARD];
-    static struct ptpm_sent sent[PTPM_MOST_SENT];
     struct heard earlier = { .octets = octets };
     struct ptpm_question asked;
-    struct ptpm_changed changed;
+    struct ptpm_taken taken;
     uint16_t port;
-    size_t count;
     if (!earlier_change(&port, octets, &earlier.size)) return;
     if (ptpm_clock_ask(&clock_held, port, octets, earlier.size, &asked) != PTPM_ASKED_CHANGE) return;
     lower_hops(&earlier);
-    ptpm_clock_handle_said(&clock_held, port, octets, earlier.size, settle_change(&asked), sent, PTPM_MOST_SENT, &count, &changed);
+    ptpm_clock_take(&clock_held, port, octets, earlier.size, settle_change(&asked), false, places_to_send(), PTPM_MOST_SENT, &taken);
 }
 
 void save_clock(void) {
@@ -141,190 +137,79 @@ static void print_all_changed(const struct ptpm_changed *changed) {
     }
 }
 
-/* What the clock makes of a datagram. */
-struct turn {
-    const struct heard *heard;
-    const struct ptpm_say *say;         /* what the device says of it, or NULL */
-    struct ptpm_sent *places;           /* the messages that are to go out, */
-    size_t count;                       /* and how many these are */
-    struct ptpm_changed changed;        /* found only if the device or the owner has a say, or with -v */
-};
+/* Places for the messages of a turn. What is to go out goes first, if it leaves too few. */
+static struct ptpm_sent *free_places(void) {
+    if (places_to_send() == NULL) count_dropped(send_round());
+    return places_to_send();
+}
 
 /* The port at which a datagram is handed in. A GET of a port's value is handed in at that port, whose answer it then has. */
 static inline uint16_t handed_in_at(const struct heard *heard) { return has_values ? port_asked(heard) : ingress_of(heard); }
 
-/* A message to a program that asked on the Unix socket goes back there, at once if nothing is to be saved. Any other goes out
-   with the round. How many messages were not taken. */
+/* A message to a program that asked on the Unix socket goes back there. Any other goes out with the round. How many messages were
+   not taken. */
 static unsigned long send_out(const struct ptpm_sent *message, const struct heard *heard) {
     if (message->port != ingress_of(heard)) send_later(message, NULL);
-    else if (heard->port == NULL && !is_unsaved) return !answer_peer(message, heard);
-    else if (heard->port == NULL) answer_later(message, heard);
+    else if (heard->port == NULL) return !answer_peer(message, heard);
     else send_later(message, heard->is_unicast ? heard : NULL);
     return 0;
 }
 
-/* Sends what is to go out once the change that it shows is saved. If that fails it drops it. How many messages were not taken. */
-static unsigned long send_saved(void) { return end_round(save_changes(&clock_held)); }
+static void print_turn(const struct heard *heard, enum ptpm_handled answer, const struct ptpm_taken *taken, size_t sent) {
+    char later[40] = "";
+    if (taken->waiting > 0) snprintf(later, sizeof later, ", %zu once it is saved", (size_t)taken->waiting);
+    print_line("port %u, %zu octets: %u %s, %zu of %zu sent%s", ingress_of(heard), heard->whole, answer, answer_name(answer), sent,
+               (size_t)(taken->count + taken->waiting), later);
+    if (taken->waiting == 0) print_all_changed(&taken->changed);
+}
 
-/* Sends what a turn sends, or has it wait, except what is kept from the network. `left` is how many messages that leaves. How
-   many of these were not taken. */
-static inline unsigned long hand_on(const struct turn *turn, enum ptpm_handled answer, size_t *left) {
+/* Sends what the clock made of a datagram, or has it wait for a save. How many messages were not taken. */
+static unsigned long hand_on(const struct heard *heard, enum ptpm_handled answer, struct ptpm_sent *places,
+                             const struct ptpm_taken *taken) {
     const struct ptpm_sent *kept[PTPM_MOST_SENT];
     unsigned long lost = 0;
-    bool is_of_port = handed_in_at(turn->heard) != ingress_of(turn->heard);
-    for (size_t i = 0; is_of_port && i < turn->count; i++) turn->places[i].port = ingress_of(turn->heard);
+    bool is_of_port = handed_in_at(heard) != ingress_of(heard);
+    for (size_t i = 0; is_of_port && i < taken->count; i++) places[i].port = ingress_of(heard);
     count_answer(answer);
-    if (answer == PTPM_ANSWERED_NEW) note_change();
-    size_t count = has_ptp4l ? show_value(turn->heard, turn->places, turn->count) : turn->count;
-    *left = keep_back(turn->heard, answer, turn->places, count, kept);
-    for (size_t i = 0; i < *left; i++) lost += send_out(kept[i], turn->heard);
-    use_places(turn->count);
+    size_t count = has_ptp4l ? show_value(value_learned(), heard, places, (size_t)taken->count) : (size_t)taken->count;
+    size_t left = keep_back(heard, answer, places, count, kept);
+    for (size_t i = 0; i < left; i++) lost += send_out(kept[i], heard);
+    use_places((size_t)taken->count);
+    if (taken->waiting > 0) add_asker(heard, handed_in_at(heard), taken, has_ptp4l ? value_learned() : NULL);
+    if (options->is_verbose) print_turn(heard, answer, taken, left - lost);
     return lost;
 }
 
-static enum ptpm_handled handle_said(struct ptpm_clock *clock, struct turn *turn, const struct ptpm_say *say) {
-    const struct heard *heard = turn->heard;
-    enum ptpm_handled answer = ptpm_clock_handle_said(clock, handed_in_at(heard), heard->octets, heard->size, say, turn->places, PTPM_MOST_SENT,
-                                                      &turn->count, &turn->changed);
-    if (say->kind == PTPM_GIVES) turn->count = answer_from_ports(clock, heard, turn->places, turn->count);
-    return answer;
+/* The library asks no device about what the owner asks. A GET that the device answers is judged like that of a stranger. */
+static bool is_judged_as_owner(const struct heard *heard, const struct ptpm_say *say) {
+    bool is_given = say != NULL && say->kind == PTPM_GIVES && !is_of_manager(heard, options->settings.identity);
+    return heard->is_of_owner && !is_given;
 }
 
-/* A turn with what the device says. A change that its program agreed to is not overtaken, since no other is taken meanwhile. */
-static enum ptpm_handled hand_in_said(struct ptpm_clock *clock, struct turn *turn) {
-    enum ptpm_handled answer = handle_said(clock, turn, turn->say);
-    if (turn->say->kind != PTPM_GIVES && answer != PTPM_ANSWERED_NEW) {
-        say_at_times("a change that the device has decided is not made: %s", answer_name(answer));
-    }
-    return answer;
-}
-
-/* Copies the clock, with these managers; whether it could. */
-static bool copy_clock(struct ptpm_clock *copy, const struct ptpm_manager_settings *managers, size_t manager_count) {
-    static uint8_t image[PTPM_CLOCK_IMAGE_OCTETS];
-    size_t size, gone;
-    return ptpm_clock_image(&clock_held, image, sizeof image, &size) == PTPM_SAVED
-           && ptpm_clock_restore(copy, options->settings.identity, ports_of(options), managers, manager_count, image, size,
-                                 &gone) == PTPM_RESTORED;
-}
-
-/* What the device's owner asks has no manager. A copy of the clock whose one manager is its sender judges it, and makes the answers.
-   What that one carries out is carried out here. */
-static enum ptpm_handled hand_in_of_owner(struct turn *turn) {
-    static const struct ptpm_say nothing;
-    static struct ptpm_clock copy;
-    const struct heard *heard = turn->heard;
-    struct ptpm_manager_settings owner = sender_of(heard);
-    struct ptpm_question asked;
-    uint16_t error;
-    if (!copy_clock(&copy, &owner, 1)) return PTPM_HANDLE_NO_CLOCK;
-    bool is_change = ptpm_clock_ask(&copy, 1, heard->octets, heard->size, &asked) == PTPM_ASKED_CHANGE;
-    enum ptpm_handled answer = handle_said(&copy, turn, turn->say != NULL ? turn->say : &nothing);
-    ptpm_clock_stop(&copy);
-    if (!is_change) return answer == PTPM_ANSWERED_NEW ? PTPM_ANSWERED_UNNUMBERED : answer;     /* nothing is to be saved */
-    ptpm_clock_set(&clock_held, asked.action, asked.id, asked.port, asked.octets, asked.size, &turn->changed, &error);
-    return answer;
-}
-
-/* Hands in what may change the clock, for the device too if it says something. */
-static enum ptpm_handled hand_in(struct ptpm_clock *clock, struct turn *turn) {
-    const struct heard *heard = turn->heard;
-    if (heard->is_of_owner) return hand_in_of_owner(turn);
-    if (turn->say != NULL) return hand_in_said(clock, turn);
-    return ptpm_clock_handle_changed(clock, handed_in_at(heard), heard->octets, heard->size, turn->places, PTPM_MOST_SENT, &turn->count,
-                                     &turn->changed);
-}
-
-/* A turn with lines of what became of it and what it changed. To find that costs more than the turn does. */
-static unsigned long take_verbose_turn(struct turn *turn) {
-    size_t left;
-    enum ptpm_handled answer = hand_in(&clock_held, turn);
-    unsigned long lost = hand_on(turn, answer, &left);
-    bool is_done = save_changes(&clock_held);
-    lost += end_round(is_done);
-    print_line("port %u, %zu octets: %u %s, %zu of %zu sent", ingress_of(turn->heard), turn->heard->whole, answer, answer_name(answer),
-               left - lost, turn->count);
-    if (is_done) print_all_changed(&turn->changed);
-    return lost;
-}
-
-/* What becomes of a datagram, with what the device says of it, or NULL. How many messages were not taken. During a save it is for the
-   clock before the save, which only managers could change, and their requests wait. */
+/* What becomes of a datagram, with what the device says of it, or NULL. How many messages were not taken. */
 static unsigned long take_turn(struct heard *heard, const struct ptpm_say *say) {
+    static const struct ptpm_say nothing;
+    struct ptpm_taken taken;
     lower_hops(heard);
     if (has_ptp4l && !learn_value(heard)) return 1;
-    struct turn turn = { .heard = heard, .say = say, .places = places_to_send() };
-    if (turn.places == NULL) {
-        count_dropped(send_saved());
-        turn.places = places_to_send();
+    struct ptpm_sent *places = free_places();
+    if (has_values && say == NULL) say = value_to_give(&clock_held, heard);
+    if (has_ptp4l && say == NULL) say = learned_to_give(&clock_held, heard);
+    enum ptpm_handled answer = ptpm_clock_take(&clock_held, handed_in_at(heard), heard->octets, heard->size, say != NULL ? say : &nothing,
+                                               is_judged_as_owner(heard, say), places, PTPM_MOST_SENT, &taken);
+    if (answer == PTPM_HANDLE_UNSAVED) {
+        count_manager_dropped();
+        return 0;
     }
-    struct ptpm_clock *clock = is_saving ? &clock_before : &clock_held;
-    if (has_values && say == NULL) turn.say = value_to_give(clock, heard);
-    if (has_ptp4l && turn.say == NULL) turn.say = value_learned(clock, heard);
-    if (options->is_verbose) return take_verbose_turn(&turn);
-    bool is_simple = turn.say == NULL && !heard->is_of_owner;
-    enum ptpm_handled answer = is_simple ? ptpm_clock_handle(clock, handed_in_at(heard), heard->octets, heard->size, turn.places,
-                                                             PTPM_MOST_SENT, &turn.count)
-                                         : hand_in(clock, &turn);
-    if (is_saving && answer == PTPM_ANSWERED_NEW) return turn.count;        /* nobody is shown what is not saved */
-    size_t left;
-    return hand_on(&turn, answer, &left);
-}
-
-/* Parts those that may change the clock from the others, each in their order; how many others there are. */
-static size_t part_round(struct heard *const *all, size_t count, struct heard **first, struct heard **last) {
-    size_t firsts = 0, lasts = 0;
-    for (size_t i = 0; i < count; i++) {
-        if (all[i]->is_of_owner || is_of_manager(all[i], options->settings.identity)) last[lasts++] = all[i];
-        else first[firsts++] = all[i];
+    if (say != NULL && say->kind == PTPM_GIVES) taken.count = answer_from_ports(&clock_held, heard, places, (size_t)taken.count);
+    else if (say != NULL && answer != PTPM_ANSWERED_NEW) {
+        say_at_times("a change that the device has decided is not made: %s", answer_name(answer));
     }
-    return firsts;
+    return hand_on(heard, answer, places, &taken);
 }
-
-static struct heard heard_now[ROUND];
-
-static void take_all(size_t count) {
-    struct heard *admitted[ROUND], *first[ROUND], *last[ROUND];
-    unsigned long lost = 0;
-    size_t left = 0;
-    if (count == 0) return;
-    for (size_t i = 0; i < count; i++) {
-        if (admit_datagram(&heard_now[i])) admitted[left++] = &heard_now[i];
-    }
-    size_t firsts = part_round(admitted, left, first, last);
-    for (size_t i = 0; i < firsts; i++) lost += take_turn(first[i], NULL);
-    lost += send_saved();
-    for (size_t i = 0; i < left - firsts; i++) {
-        if (admit_manager(last[i]) && !hold(last[i])) count_manager_dropped();
-    }
-    count_dropped(lost);
-}
-
-void take_round(const struct port *port, int socket) {
-    if (port != NULL || has_room_for_peers()) take_all(hear_round(port, socket, heard_now));
-}
-
-void take_owner_round(int socket) {
-    if (!has_room_for_peers()) return;
-    size_t count = hear_round(NULL, socket, heard_now);
-    for (size_t i = 0; i < count; i++) heard_now[i].is_of_owner = true;
-    take_all(count);
-}
-
-void take_unicast_round(void) { take_all(hear_unicast(heard_now)); }
 
 static bool is_asked(const struct heard *held, struct ptpm_question *asked) {
     return ptpm_clock_ask(&clock_held, ingress_of(held), held->octets, held->size, asked) == PTPM_ASKED_CHANGE;
-}
-
-/* After a save that failed a change is one to be asked for again. */
-static void send_taken(unsigned long lost) {
-    const struct heard *change = has_ptp4l ? taken_change() : NULL;
-    struct ptpm_question asked;
-    count_dropped(lost);
-    let_go_of_held(taken);
-    if (change != NULL) end_change(!is_unsaved && !is_asked(change, &asked));
-    let_go_of_change();
 }
 
 /* A manager's request. The device is asked about a change, which waits if its program is to be asked. Nothing else of its manager
@@ -340,16 +225,67 @@ static unsigned long take_request(struct heard *held) {
     return 0;
 }
 
-/* A change that the device has decided. */
-static unsigned long take_decided(void) {
-    const struct ptpm_say *say;
-    struct heard *held = take_change(&say);
-    return held == NULL ? 0 : take_turn(held, say);
+/* A manager's request is not taken without a place to wait for a save. Nor is a copy of one that waits: one answer does for both. */
+static unsigned long take_datagram(struct heard *heard) {
+    if (!admit_datagram(heard)) return 0;
+    if (!heard->is_of_owner && !is_of_manager(heard, options->settings.identity)) return take_turn(heard, NULL);
+    if (!admit_manager(heard)) return 0;
+    bool has_place = heard->port == NULL ? peers_asking() < PEERS_A_SAVE : port_messages() < MOST_OF_PORTS;
+    if (has_place && !is_asking(heard)) return take_request(heard);
+    count_manager_dropped();
+    return 0;
 }
 
-/* Asks the device's program about the change that is next. By now the clock, or a limit, may refuse it. */
+static struct heard heard_now[ROUND];
+
+static void take_all(size_t count) {
+    unsigned long lost = 0;
+    for (size_t i = 0; i < count; i++) lost += take_datagram(&heard_now[i]);
+    count_dropped(lost + send_round());
+}
+
+size_t room_for_peers(void) {
+    if (options->state == NULL || is_failing) return ROUND;
+    size_t most = ptpm_clock_free(&clock_held) / ptpm_clock_most_sent(&clock_held);
+    size_t left = peers_asking() < PEERS_A_SAVE ? PEERS_A_SAVE - peers_asking() : 0;
+    return left < most ? left : most;
+}
+
+void take_round(const struct port *port, int socket) {
+    take_all(hear_round(port, socket, port != NULL ? ROUND : room_for_peers(), heard_now));
+}
+
+void take_owner_round(int socket) {
+    size_t count = hear_round(NULL, socket, room_for_peers(), heard_now);
+    for (size_t i = 0; i < count; i++) heard_now[i].is_of_owner = true;
+    take_all(count);
+}
+
+void take_unicast_round(void) { take_all(hear_unicast(heard_now)); }
+
+/* A change that the device has decided is taken once there are places for its messages; whether one was. */
+static bool take_decided(void) {
+    const struct ptpm_say *say;
+    if (ptpm_clock_free(&clock_held) < ptpm_clock_most_sent(&clock_held)) return false;
+    struct heard *change = take_change(&say);
+    if (change != NULL) count_dropped(take_turn(change, say) + send_round());
+    return change != NULL;
+}
+
+/* Lets go of the change that was taken, once it is saved. One that the clock did not take would be asked for again. */
+static void end_taken(void) {
+    struct ptpm_question asked;
+    const struct heard *taken = taken_change();
+    if (taken == NULL || is_asking(taken)) return;
+    if (has_ptp4l) end_change(!is_asked(taken, &asked));
+    let_go_of_change();
+}
+
+/* Asks the device's program about the change that is next, once the one before is saved. So it has never done more than one that may be
+   lost. By now the clock, or a limit, may refuse it. */
 static void ask_about_next(void) {
     struct ptpm_question asked;
+    end_taken();
     const struct heard *held = change_to_ask();
     if (held == NULL) return;
     bool is_change = is_asked(held, &asked);
@@ -358,40 +294,33 @@ static void ask_about_next(void) {
     else decide_change(objection);
 }
 
-/* Takes as many as one save does for. What they send waits for it, and a thread waits for the disk. */
-static void take_held(void) {
-    bool is_copied = options->state != NULL && !options->is_verbose && !is_unsaved
-                     && copy_clock(&clock_before, options->managers, options->manager_count);
-    unsigned long lost = take_decided(), of_peers = 0;
-    for (taken = 0; taken < held_count() && of_peers < PEERS_A_SAVE && places_to_send() != NULL; taken++) {
-        of_peers += held_at(taken)->port == NULL;
-        lost += take_request(held_at(taken));
+long take_waiting(void) {
+    do ask_about_next();
+    while (take_decided());
+    if (is_saving || !ptpm_clock_unsaved(&clock_held)) return -1;
+    long left = until_save();
+    if (left > 0) return left;
+    if (peers_asking() > 0 || may_save()) begin_save(&clock_held);
+    return is_saving ? -1 : NEXT_SAVE;
+}
+
+/* Sends what the clock gives out. Nothing is passed on of what the owner asks. */
+static void send_released(void) {
+    unsigned long lost = 0;
+    for (struct ptpm_sent *place; ptpm_clock_next(&clock_held, place = free_places()) > 0;) {
+        const struct asker *asker = next_asker();
+        if (place->port == asker->port) place->port = ingress_of(&asker->heard);
+        bool is_answer = place->port == ingress_of(&asker->heard);
+        if (has_ptp4l) is_answer = is_answer && show_value(&asker->value, &asker->heard, place, 1) > 0;
+        if (is_answer) lost += send_out(place, &asker->heard);
+        use_places(1);
+        if (options->is_verbose && asker->count == 0) print_all_changed(&asker->changed);
     }
-    if (!is_unsaved || !is_copied || !begin_save(&clock_held)) {
-        send_taken(lost + send_saved());
-        return;
-    }
-    count_dropped(lost);
-    swap_rounds();
+    count_dropped(lost + send_round());
 }
 
 void take_saved(void) {
-    bool is_done = end_save(&clock_held);
-    swap_rounds();
-    send_taken(end_round(is_done));
-}
-
-static bool is_waiting(void) { return held_count() > 0 || decided_change() != NULL; }
-
-static bool is_peer_waiting(void) {
-    const struct heard *decided = decided_change();
-    return has_held_peer() || (decided != NULL && decided->port == NULL);
-}
-
-long take_waiting(void) {
-    while (!is_saving && is_waiting() && (is_peer_waiting() || may_save())) take_held();
-    if (!is_saving) ask_about_next();
-    return !is_saving && is_waiting() ? NEXT_SAVE : -1;
+    if (end_save(&clock_held)) send_released();
 }
 
 static void tell_left(uint8_t left) {
@@ -411,10 +340,6 @@ void observe(char *text) {
     enum ptpm_observed answer = ptpm_clock_observe(&clock_held, &observation.clock, observation.ports, observation.port_count,
                                                    &left);
     count_observation(answer == PTPM_OBSERVED);
-    if (answer == PTPM_OBSERVED) note_observation(&observation);
-    if (is_saving && answer == PTPM_OBSERVED) {
-        ptpm_clock_observe(&clock_before, &observation.clock, observation.ports, observation.port_count, &(uint8_t){ 0 });
-    }
     if (answer != PTPM_OBSERVED) say_at_times("%s: nothing is observed: %s", options->source, answer_name(answer));
     else if (options->is_verbose) print_line("observed");
     tell_left(left);
@@ -422,6 +347,6 @@ void observe(char *text) {
 
 void stop_clock(void) {
     if (is_saving) take_saved();
-    ptpm_clock_stop(&clock_before);
+    if (ptpm_clock_unsaved(&clock_held) && begin_save(&clock_held)) take_saved();
     ptpm_clock_stop(&clock_held);
 }

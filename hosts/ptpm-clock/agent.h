@@ -19,8 +19,7 @@ void report_twin(void);
 void say_started(void);
 
 /* Takes the datagrams that have come in at a port, or on the Unix socket if there is none. Sends their answers, and what is
-   forwarded, also during a save. Requests of managers wait for the next one. If they leave no room, none is taken from the Unix
-   socket. */
+   forwarded, also during a save. What shows a change waits for that to be saved. */
 void take_round(const struct port *port, int socket);
 
 /* The same for datagrams of the device's owner. What they ask is carried out as that of a manager with every right, and waits
@@ -30,8 +29,12 @@ void take_owner_round(int socket);
 /* The same for datagrams that were sent over UDP to this host by unicast. */
 void take_unicast_round(void);
 
-/* Takes the requests that wait, if it is time for a save. In how many milliseconds it may be time for those that are left; -1 if none
-   is, or a save is under way. */
+/* How many datagrams may be taken from the Unix sockets, so that there are places for all of their answers. While saves fail it is any
+   number, since others than managers are to be answered all the same. */
+size_t room_for_peers(void);
+
+/* Asks the device about changes that wait for it, and begins a save if it is time for one. In how many milliseconds it may be time for
+   one; -1 if there is nothing to save, or a save is under way. */
 long take_waiting(void);
 
 /* The save that is under way is done: sends what waited for it. */

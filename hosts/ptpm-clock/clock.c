@@ -10,7 +10,6 @@
 #include "counts.h"
 #include "device.h"
 #include "device_program.h"
-#include "held.h"
 #include "monotonic.h"
 #include "netlink.h"
 #include "network_limits.h"
@@ -152,7 +151,7 @@ static void run(int64_t end) {
         wait_at(ptp4l_socket(), PTP4L);
         if (of_ptp4l < most) most = of_ptp4l;
         if (waiting >= 0 && waiting < most) most = waiting;
-        wait_at_peers(has_room_for_peers());
+        wait_at_peers(room_for_peers() > 0);
         wake_at(now + until_alive(now, most));
         int found = epoll_wait(polled, events, WAITS, -1);
         for (int i = 0; i < found && is_going_on; i++) is_going_on = take_event(events[i].data.u32);

@@ -2,6 +2,7 @@
 #include "device.h"
 #include "device_limits.h"
 #include "device_program.h"
+#include "ethernet.h"
 #include "message_places.h"
 #include "names.h"
 #include "output.h"
@@ -18,7 +19,7 @@ static struct device_limits limits;
 static struct device_counts counts;
 
 /* Changes that wait. The program is asked about the first, which is then decided and taken. A manager has one of them at most. */
-static struct copy waiting[MANAGERS];
+static struct { struct heard heard; uint8_t octets[MOST_HEARD], station[STATION]; } waiting[MANAGERS];
 static size_t first, count;
 enum state { WAITS, IS_ASKED, IS_DECIDED, IS_TAKEN };
 static enum state state;                /* of the first */
@@ -91,8 +92,15 @@ bool is_passed_over(const struct heard *heard) {
 }
 
 void wait_for_program(const struct heard *change) {
-    if (count == MANAGERS) counts.passed_over++;        /* the first is taken, and its manager has sent another */
-    else copy_heard(&waiting[(first + count++) % MANAGERS], change);
+    if (count == MANAGERS) {            /* the first is taken, and its manager has sent another */
+        counts.passed_over++;
+        return;
+    }
+    size_t place = (first + count++) % MANAGERS;
+    struct heard *copy = &waiting[place].heard;
+    *copy = *change;
+    copy->octets = memcpy(waiting[place].octets, change->octets, change->size);
+    if (change->station != NULL) copy->station = memcpy(waiting[place].station, change->station, STATION);
 }
 
 static struct heard *first_in(enum state wanted) { return count > 0 && state == wanted ? &waiting[first].heard : NULL; }
@@ -113,7 +121,7 @@ static uint16_t error_of(int status) {
     }
 }
 
-static void let_go_of_first(void) {
+void let_go_of_change(void) {
     first = (first + 1) % MANAGERS;
     count--;
     state = WAITS;
@@ -123,7 +131,7 @@ static void let_go_of_first(void) {
 static void drop_change(const char *why) {
     say_at_times("%s %s, and the change counts as lost", options->ptp4l != NULL ? options->ptp4l : options->device_program, why);
     counts.silent++;
-    let_go_of_first();
+    let_go_of_change();
 }
 
 static void ask_ptp4l_for(const struct ptpm_question *asked) {
@@ -176,8 +184,6 @@ void hear_program(void) {
     }
 }
 
-const struct heard *decided_change(void) { return first_in(IS_DECIDED); }
-
 struct heard *take_change(const struct ptpm_say **say) {
     struct heard *change = first_in(IS_DECIDED);
     if (change == NULL) return NULL;
@@ -187,9 +193,5 @@ struct heard *take_change(const struct ptpm_say **say) {
 }
 
 const struct heard *taken_change(void) { return first_in(IS_TAKEN); }
-
-void let_go_of_change(void) {
-    if (count > 0 && state == IS_TAKEN) let_go_of_first();
-}
 
 const struct device_counts *device_counts_so_far(void) { return &counts; }

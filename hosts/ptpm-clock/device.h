@@ -3,9 +3,9 @@
 #ifndef DEVICE_H
 #define DEVICE_H
 
-#include "held.h"
 #include "options.h"
 #include "ptpm.h"
+#include "rounds.h"
 #include <stdbool.h>
 
 /* Whether a device is asked at all. Each turn at a manager's request looks at it, so it is not a call. */
@@ -50,17 +50,12 @@ void decide_change(const struct ptpm_say *say);
 /* A run of the program has ended: the change is decided, or dropped if the program said nothing. */
 void hear_program(void);
 
-/* Whether a change is decided and not taken yet; which one. */
-const struct heard *decided_change(void);
-
-/* Takes it, with what the device says; that is NULL if it was not asked. The change stays until it is let go of. NULL if there is
-   none. */
+/* Takes the change that is decided, with what the device says; that is NULL if it was not asked. The change stays until it is let go of,
+   and nothing is asked meanwhile. NULL if none is decided. */
 struct heard *take_change(const struct ptpm_say **say);
 
-/* The change that was taken; NULL if none was. */
+/* The change that was taken, NULL if none was; it is let go of. */
 const struct heard *taken_change(void);
-
-/* A change that was taken waits no more. Does nothing if none was. */
 void let_go_of_change(void);
 
 /* How often the program agreed; how often it or the limits objected; how often it said nothing; what was dropped meanwhile. */

@@ -59,21 +59,12 @@ void lower_hops(struct heard *heard) {
     heard->octets[STARTING_HOPS_AT] = starting > less ? (uint8_t)(starting - less) : 0;
 }
 
-struct ptpm_manager_settings sender_of(const struct heard *heard) {
-    struct ptpm_manager_settings sender = { .rights = PTPM_CLOCK_SET | PTPM_PORT_SET | PTPM_PORT_COMMAND };
-    const uint8_t *port = heard->octets + SOURCE_PORT_AT;
-    if (heard->size < LEAST_MESSAGE) return sender;
-    memcpy(sender.clock, heard->octets + SOURCE_AT, sizeof sender.clock);
-    sender.port = (uint16_t)(port[0] << 8 | port[1]);
-    return sender;
-}
-
 bool is_of_manager(const struct heard *heard, const uint8_t own[8]) {
     if (heard->size < LEAST_MESSAGE || memcmp(heard->octets + TARGET_AT, own, 8) != 0) return false;
-    const struct ptpm_manager_settings sender = sender_of(heard);
+    const uint8_t *source = heard->octets + SOURCE_AT, *port = heard->octets + SOURCE_PORT_AT;
     for (size_t i = 0; i < limits.manager_count; i++) {
         const struct ptpm_manager_settings *manager = &limits.managers[i];
-        if (memcmp(manager->clock, sender.clock, sizeof sender.clock) == 0 && manager->port == sender.port) return true;
+        if (memcmp(manager->clock, source, sizeof manager->clock) == 0 && manager->port == (port[0] << 8 | port[1])) return true;
     }
     return false;
 }

@@ -36,16 +36,13 @@ bool admit_datagram(const struct heard *heard);
    know who sent it. */
 bool is_of_manager(const struct heard *heard, const uint8_t own[8]);
 
-/* Its sender, as a manager with every right. */
-struct ptpm_manager_settings sender_of(const struct heard *heard);
-
 /* Whether such a datagram is taken: its sender has not sent too many, or is a program of this host. One that is not is counted. */
 bool admit_manager(const struct heard *heard);
 
 /* Whether the answer to a GET is within the rate, before its value is read. Then it is not asked again. */
 bool admit_answer_ahead(struct heard *heard, const uint8_t own[8]);
 
-/* Counts one that finds no room. */
+/* Counts one that finds no room, or is a copy of one that waits. */
 void count_manager_dropped(void);
 
 /* Lowers boundaryHops (octet 45) to the limit, and startingBoundaryHops (octet 44) by the same amount. So an answer has as many

@@ -280,34 +280,6 @@ static bool take_grandmaster(struct observation *observation) {
     return true;
 }
 
-/* Copies the members of this list that are given. */
-static void add_members(const struct observed_member *members, uint8_t *to, const uint8_t *from) {
-    for (int k = 0; members[k].name != NULL; k++) {
-        if (members[k].flag == NO_FLAG || from[members[k].flag] == 0) continue;
-        memcpy(to + members[k].at, from + members[k].at, members[k].size);
-        to[members[k].flag] = 1;
-    }
-}
-
-static void add_grandmaster(struct ptpm_observed_clock *to, const struct ptpm_observed_clock *from) {
-    if (!from->is_grandmaster && !from->has_grandmaster) return;
-    to->is_grandmaster = from->is_grandmaster;
-    to->has_grandmaster = from->has_grandmaster;
-    for (int k = 0; members_of_grandmaster[k].name != NULL; k++) {
-        const struct observed_member *member = &members_of_grandmaster[k];
-        memcpy((uint8_t *)to + member->at, (const uint8_t *)from + member->at, member->size);
-    }
-}
-
-void add_observation(struct observation *all, const struct observation *next) {
-    add_members(members_of_clock, (uint8_t *)&all->clock, (const uint8_t *)&next->clock);
-    add_grandmaster(&all->clock, &next->clock);
-    for (size_t i = 0; i < next->port_count; i++) {
-        add_members(members_of_port, (uint8_t *)&all->ports[i], (const uint8_t *)&next->ports[i]);
-    }
-    if (next->port_count > all->port_count) all->port_count = next->port_count;
-}
-
 bool read_observation(struct observation *observation, const char *name, char *text) {
     int number = 0;
     bool is_right = true;

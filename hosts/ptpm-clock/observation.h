@@ -22,7 +22,4 @@ struct observation {
    there is no observation, and each wrong one is said on standard error, after `name` and its number. */
 bool read_observation(struct observation *observation, const char *name, char *text);
 
-/* Adds the members of a later observation to those of earlier ones, whose members it replaces. */
-void add_observation(struct observation *all, const struct observation *next);
-
 #endif

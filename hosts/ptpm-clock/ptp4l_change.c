@@ -131,7 +131,7 @@ void watch_change(int64_t now) {
 void end_change(bool is_saved) {
     if (is_saved) drop_note();
     if (!is_noted) return;
-    say("%s: what became of a change can't be saved, and is found out at the next start", options->state);
+    say("%s: the clock can't take what became of a change, and it is found out at the next start", options->state);
     end_output();
     exit(2);
 }

@@ -25,8 +25,8 @@ ptp4l_taker take_answer_to_change;
 /* Sees whether the ptp4l has ended since it was asked. */
 void watch_change(int64_t now);
 
-/* What a change that was taken needs no more: its note, once its decision is saved. Otherwise the program ends with status 2, and the
-   next start finds out. */
+/* What a change that was taken needs no more: its note, once its decision is saved. If the clock could not take it, the program ends with
+   status 2, and the next start finds out. */
 void end_change(bool is_saved);
 
 /* The change of the note that an earlier run left; whether there is one. */

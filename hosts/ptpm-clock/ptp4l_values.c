@@ -32,10 +32,7 @@ enum { IDS = sizeof ids / sizeof *ids };
 static const struct options *options;
 static uint8_t domain;
 
-/* What was learned of an id: by ports if it is of them, and otherwise in the first place. */
-static struct { size_t place, size; uint8_t octets[PTPM_MOST_READ]; } learned[1 + PORTS];
-static size_t named = IDS;              /* which id that is; IDS if none */
-static bool is_known;                   /* and whether the ptp4l has answered */
+static struct learned latest = { .place = IDS };
 
 void start_ptp4l_values(const struct options *given, uint8_t of_clock) {
     options = given;
@@ -78,8 +75,8 @@ static void make_utc_properties(uint8_t octets[4]) {
 static bool take_value(size_t place, const struct ptp4l_answer *answer) {
     size_t at = ids[place].is_of_port ? answer->port : 0;
     if (answer->error != 0 || answer->size > PTPM_MOST_READ || at > PORTS) return false;
-    memcpy(learned[at].octets, answer->field, learned[at].size = answer->size);
-    if (ids[place].id == PTPM_ID_UTC_PROPERTIES && answer->size == 4) make_utc_properties(learned[at].octets);
+    memcpy(latest.at[at].octets, answer->field, latest.at[at].size = answer->size);
+    if (ids[place].id == PTPM_ID_UTC_PROPERTIES && answer->size == 4) make_utc_properties(latest.at[at].octets);
     return true;
 }
 
@@ -105,25 +102,27 @@ static bool admit_question(struct heard *heard) {
 }
 
 bool learn_value(struct heard *heard) {
-    named = id_asked(heard);
-    if (named == IDS) return true;
-    for (size_t i = 0; i <= PORTS; i++) learned[i].size = 0;
-    is_known = admit_question(heard) && ask_value(named, port_asked(heard));
-    return is_known || !is_own(heard->octets + TARGET_AT);
+    latest.place = id_asked(heard);
+    if (latest.place == IDS) return true;
+    for (size_t i = 0; i <= PORTS; i++) latest.at[i].size = 0;
+    latest.is_known = admit_question(heard) && ask_value(latest.place, port_asked(heard));
+    return latest.is_known || !is_own(heard->octets + TARGET_AT);
 }
 
-/* What was learned for an answer of this port. */
-static size_t place_of(uint16_t port) { return named < IDS && ids[named].is_of_port && port <= PORTS ? port : 0; }
+const struct learned *value_learned(void) { return &latest; }
 
-const struct ptpm_say *value_learned(const struct ptpm_clock *clock, const struct heard *heard) {
+/* The place of the value for an answer of this port. */
+static size_t place_of(const struct learned *value, uint16_t port) { return ids[value->place].is_of_port && port <= PORTS ? port : 0; }
+
+const struct ptpm_say *learned_to_give(const struct ptpm_clock *clock, const struct heard *heard) {
     static struct ptpm_say say;
     struct ptpm_question asked;
-    if (named == IDS || !is_known || id_name(ids[named].id) != NULL) return NULL;
+    if (latest.place == IDS || !latest.is_known || id_name(ids[latest.place].id) != NULL) return NULL;
     if (ptpm_clock_ask(clock, ingress_of(heard), heard->octets, heard->size, &asked) != PTPM_ASKED_VALUE) return NULL;
-    size_t place = place_of(asked.port == EVERY_PORT ? ingress_of(heard) : asked.port);
-    if (learned[place].size == 0) return NULL;
-    say = (struct ptpm_say){ .kind = PTPM_GIVES, .size = (uint16_t)learned[place].size };
-    memcpy(say.octets, learned[place].octets, learned[place].size);
+    size_t place = place_of(&latest, asked.port == EVERY_PORT ? ingress_of(heard) : asked.port);
+    if (latest.at[place].size == 0) return NULL;
+    say = (struct ptpm_say){ .kind = PTPM_GIVES, .size = (uint16_t)latest.at[place].size };
+    memcpy(say.octets, latest.at[place].octets, latest.at[place].size);
     return &say;
 }
 
@@ -133,23 +132,23 @@ static void put16(uint8_t *at, size_t value) {
 }
 
 /* Puts what was learned into an answer; whether it may be sent. An error stays as it is. */
-static bool fill_answer(struct ptpm_sent *answer) {
+static bool fill_answer(const struct learned *value, struct ptpm_sent *answer) {
     if (get16(answer->octets + TLV_AT) == ERROR_TLV) return true;
-    size_t place = place_of(get16(answer->octets + SOURCE_PORT_AT)), size = learned[place].size;
+    size_t place = place_of(value, get16(answer->octets + SOURCE_PORT_AT)), size = value->at[place].size;
     if (size == 0) return false;
-    memcpy(answer->octets + FIELD_AT, learned[place].octets, size);
+    memcpy(answer->octets + FIELD_AT, value->at[place].octets, size);
     put16(answer->octets + TLV_AT + 2, size + 2);
     put16(answer->octets + LENGTH_AT, LEAST_MESSAGE + size);
     answer->size = (uint16_t)(LEAST_MESSAGE + size);
     return true;
 }
 
-size_t show_value(const struct heard *heard, struct ptpm_sent *sent, size_t count) {
+size_t show_value(const struct learned *value, const struct heard *heard, struct ptpm_sent *sent, size_t count) {
     size_t left = 0;
-    if (named == IDS) return count;
+    if (value->place == IDS) return count;
     for (size_t i = 0; i < count; i++) {
         bool is_answer = sent[i].port == ingress_of(heard) && is_own(sent[i].octets + SOURCE_AT);
-        if (is_answer && !(is_known && fill_answer(&sent[i]))) continue;
+        if (is_answer && !(value->is_known && fill_answer(value, &sent[i]))) continue;
         if (left != i) sent[left] = sent[i];
         left++;
     }

@@ -11,14 +11,25 @@
 /* The values are those of the clock in this domain. */
 void start_ptp4l_values(const struct options *given, uint8_t domain);
 
+/* What was learned for a datagram. */
+struct learned {
+    size_t place;                       /* of the id in the table of those that the ptp4l is asked for */
+    bool is_known;                      /* whether the ptp4l has answered */
+    struct { size_t size; uint8_t octets[PTPM_MOST_READ]; } at[1 + PORTS];      /* by ports, or in the first place if it is of the clock */
+};
+
 /* Asks the ptp4l for what a datagram is to be answered with, if it is a GET of this clock. Whether that may be taken: if the ptp4l says
    nothing, nothing is answered. What is asked of every clock is passed on nevertheless. */
 bool learn_value(struct heard *heard);
 
-/* What the ptp4l says of a GET of an id that the clock itself lacks; NULL if it says nothing. It stays until the next call. */
-const struct ptpm_say *value_learned(const struct ptpm_clock *clock, const struct heard *heard);
+/* What the latest call of that learned. It stays until the next one. */
+const struct learned *value_learned(void);
 
-/* Puts what was learned into the answers to that datagram, and leaves out those for which nothing was. How many messages are left. */
-size_t show_value(const struct heard *heard, struct ptpm_sent *sent, size_t count);
+/* What the ptp4l says of that datagram, if it is a GET of an id that the clock itself lacks; NULL if it says nothing. It stays until the
+   next call. */
+const struct ptpm_say *learned_to_give(const struct ptpm_clock *clock, const struct heard *heard);
+
+/* Puts what was learned for a datagram into the answers to it, and leaves out those for which nothing was. How many messages are left. */
+size_t show_value(const struct learned *value, const struct heard *heard, struct ptpm_sent *sent, size_t count);
 
 #endif

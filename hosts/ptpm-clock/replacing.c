@@ -35,7 +35,7 @@ static void *replace_all(void *nothing) {
 bool begin_replacing(const struct kept_file *file, const uint8_t *octets, size_t size) {
     static pthread_t thread;
     static bool is_started;
-    if (!is_started) is_started = pthread_create(&thread, NULL, replace_all, NULL) == 0;
+    if (!is_started) is_started = (errno = pthread_create(&thread, NULL, replace_all, NULL)) == 0;
     if (!is_started) return false;
     one.file = file;
     one.octets = octets;

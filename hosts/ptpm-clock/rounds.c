@@ -1,7 +1,6 @@
 #define _GNU_SOURCE
 #include "rounds.h"
 #include "general_port.h"
-#include "peers.h"
 #include "udp.h"
 #include <arpa/inet.h>
 #include <errno.h>
@@ -16,14 +15,12 @@ struct control { _Alignas(struct cmsghdr) char octets[CMSG_SPACE(sizeof(struct i
 /* A message that is to go out. */
 struct outgoing { const struct ptpm_sent *message; const struct heard *answered; };
 
-/* Messages in their places, and those of them that are to go out at the ports and to peers. */
-struct outbox {
+/* Messages in their places, and those of them that are to go out at the ports. */
+static struct {
     struct ptpm_sent sent[PLACES];
-    struct outgoing waiting[PLACES], waiting_for_peers[PLACES];
-    size_t used, waiting_count, peer_count;
-};
-
-static struct outbox boxes[2], *box = boxes;
+    struct outgoing waiting[PLACES];
+    size_t used, waiting_count;
+} box;
 
 static void take_control(struct heard *heard, struct msghdr *head) {
     for (struct cmsghdr *one = CMSG_FIRSTHDR(head); one != NULL; one = CMSG_NXTHDR(head, one)) {
@@ -123,7 +120,7 @@ struct round {
     struct iovec parts[ROUND];
 };
 
-static size_t receive_round(struct round *round, int socket, struct heard heard[ROUND]) {
+static size_t receive_round(struct round *round, int socket, size_t most, struct heard heard[ROUND]) {
     static int used_before = ROUND;
     for (int i = 0; i < used_before; i++) {
         round->parts[i] = (struct iovec){ round->octets[i], MOST_HEARD };
@@ -132,7 +129,7 @@ static size_t receive_round(struct round *round, int socket, struct heard heard[
             .msg_control = &round->controls[i], .msg_controllen = sizeof round->controls[i],
         };
     }
-    int found = recvmmsg(socket, round->messages, ROUND, MSG_DONTWAIT | MSG_TRUNC, NULL);
+    int found = recvmmsg(socket, round->messages, (unsigned)most, MSG_DONTWAIT | MSG_TRUNC, NULL);
     used_before = found > 0 ? found : 0;
     for (int i = 0; i < used_before; i++) heard[i].octets = round->octets[i];
     return (size_t)used_before;
@@ -141,9 +138,9 @@ static size_t receive_round(struct round *round, int socket, struct heard heard[
 /* Takes what the kernel reports of a datagram; whether that is one for the clock. */
 typedef bool taker(struct heard *heard, const struct port *port, struct mmsghdr *message);
 
-static size_t hear(taker *take, const struct port *port, int socket, struct heard heard[ROUND]) {
+static size_t hear(taker *take, const struct port *port, int socket, size_t most, struct heard heard[ROUND]) {
     static struct round received;
-    size_t count = 0, found = receive_round(&received, socket, heard);
+    size_t count = 0, found = receive_round(&received, socket, most, heard);
     for (size_t i = 0; i < found; i++) {
         if (!take(&heard[i], port, &received.messages[i])) continue;
         if (count != i) heard[count] = heard[i];
@@ -152,26 +149,22 @@ static size_t hear(taker *take, const struct port *port, int socket, struct hear
     return count;
 }
 
-size_t hear_round(const struct port *port, int socket, struct heard heard[ROUND]) { return hear(take_heard, port, socket, heard); }
+size_t hear_round(const struct port *port, int socket, size_t most, struct heard heard[ROUND]) {
+    return hear(take_heard, port, socket, most, heard);
+}
 
 size_t hear_host(int socket, bool is_copied, int packets_of_host, struct heard heard[ROUND]) {
     packets = packets_of_host;
-    return hear(is_copied ? take_copied : take_of_host, NULL, socket, heard);
+    return hear(is_copied ? take_copied : take_of_host, NULL, socket, ROUND, heard);
 }
 
-struct ptpm_sent *places_to_send(void) { return PLACES - box->used >= PTPM_MOST_SENT ? box->sent + box->used : NULL; }
+struct ptpm_sent *places_to_send(void) { return PLACES - box.used >= PTPM_MOST_SENT ? box.sent + box.used : NULL; }
 
 void send_later(const struct ptpm_sent *message, const struct heard *answered) {
-    box->waiting[box->waiting_count++] = (struct outgoing){ message, answered };
+    box.waiting[box.waiting_count++] = (struct outgoing){ message, answered };
 }
 
-void answer_later(const struct ptpm_sent *message, const struct heard *answered) {
-    box->waiting_for_peers[box->peer_count++] = (struct outgoing){ message, answered };
-}
-
-void use_places(size_t count) { box->used += count; }
-
-void swap_rounds(void) { box = box == boxes ? boxes + 1 : boxes; }
+void use_places(size_t count) { box.used += count; }
 
 static void put_control(struct cmsghdr *at, int level, int type, const void *value, size_t size) {
     at->cmsg_len = CMSG_LEN(size);
@@ -306,30 +299,17 @@ static unsigned long send_at(size_t place) {
     static struct batch batch;
     const struct outgoing *outs[PLACES];
     size_t count = 0;
-    for (size_t i = 0; i < box->waiting_count; i++) {
-        if (box->waiting[i].message->port == place + 1) outs[count++] = &box->waiting[i];
+    for (size_t i = 0; i < box.waiting_count; i++) {
+        if (box.waiting[i].message->port == place + 1) outs[count++] = &box.waiting[i];
     }
     if (ports[place].socket < 0) return count;
     fill_batch(&batch, &ports[place], outs, count);
     return send_batch(ports[place].socket, &batch);
 }
 
-static unsigned long send_to_peers(void) {
+unsigned long send_round(void) {
     unsigned long lost = 0;
-    for (size_t i = 0; i < box->peer_count; i++) {
-        lost += !answer_peer(box->waiting_for_peers[i].message, box->waiting_for_peers[i].answered);
-    }
-    return lost;
-}
-
-static unsigned long send_to_ports(void) {
-    unsigned long lost = 0;
-    for (size_t place = 0; place < port_count && box->waiting_count > 0; place++) lost += send_at(place);
-    return lost;
-}
-
-unsigned long end_round(bool is_saved) {
-    unsigned long lost = is_saved ? send_to_peers() + send_to_ports() : box->peer_count + box->waiting_count;
-    box->used = box->waiting_count = box->peer_count = 0;
+    for (size_t place = 0; place < port_count && box.waiting_count > 0; place++) lost += send_at(place);
+    box.used = box.waiting_count = 0;
     return lost;
 }

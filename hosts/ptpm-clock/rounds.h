@@ -42,9 +42,9 @@ struct heard {
 /* The number of the port that it came in at, which is 1 on the Unix socket. */
 static inline uint16_t ingress_of(const struct heard *heard) { return heard->port == NULL ? 1 : (uint16_t)(heard->port - ports + 1); }
 
-/* Takes what has come in at a port, or, if there is none, on the Unix socket; how many datagrams. They stay until the next
-   round. */
-size_t hear_round(const struct port *port, int socket, struct heard heard[ROUND]);
+/* Takes what has come in at a port, or, if there is none, on the Unix socket, but no more than this; how many datagrams. They stay
+   until the next round. */
+size_t hear_round(const struct port *port, int socket, size_t most, struct heard heard[ROUND]);
 
 /* The same at a socket of what is sent to this host by unicast, or of all that is diverted. It may hear copies of the first, whose packets
    are heard at another one (general_port.h). What comes in at no interface of a port is left out. */
@@ -57,17 +57,10 @@ struct ptpm_sent *places_to_send(void);
    that came by unicast, and otherwise to the group. */
 void send_later(const struct ptpm_sent *message, const struct heard *answered);
 
-/* The same for a message to the peer on the Unix socket that sent what is answered. */
-void answer_later(const struct ptpm_sent *message, const struct heard *answered);
-
 /* The first `count` places are used. */
 void use_places(size_t count);
 
-/* Sends what is to go out, first to peers, if what it shows is saved. Otherwise it is dropped, as is what a socket doesn't accept at
-   once. How many messages were dropped. */
-unsigned long end_round(bool is_saved);
-
-/* Sets aside what is to go out, and takes up what was set aside. One of the two is empty. */
-void swap_rounds(void);
+/* Sends what is to go out. How many messages were dropped, since a socket didn't accept them at once. */
+unsigned long send_round(void);
 
 #endif

@@ -1,5 +1,6 @@
 #define _GNU_SOURCE
 #include "saving.h"
+#include "askers.h"
 #include "kept_file.h"
 #include "monotonic.h"
 #include "names.h"
@@ -17,6 +18,7 @@ enum { NOT_STARTED = 1, NOT_OPENED = 2, IDENTITY = 12 };
 /* Octets of a file, and of one that has more than that. */
 enum { ROOM = PTPM_CLOCK_IMAGE_OCTETS + PTPM_SEAL_OCTETS, MOST_STATE_OCTETS = ROOM + 1, LOCK_TRIES = 100 };
 enum { JOINED = 5 };        /* requests of managers for which there is one save */
+enum { SECOND = 1000, MOST_PAUSE = 5, PAUSE_PART = 20 };        /* milliseconds, and which part of the time of a save */
 
 static struct kept_file file = { .folder = -1, .mode = 0600 };
 static const struct options *options;
@@ -24,10 +26,10 @@ static uint8_t octets[MOST_STATE_OCTETS];
 static uint64_t saves_of_file;      /* by its seal */
 static size_t size_of_file;         /* of what is saved */
 static unsigned long begun;         /* when that was begun, in microseconds */
-bool is_unsaved, is_saving;
+static uint64_t token;              /* of the clock's image in it */
+static int64_t next_save;           /* when one may begin, in milliseconds */
+bool is_saving, is_failing;
 static struct saves saves;
-static struct observation unsaved;  /* what was observed since the image that the file has, */
-static struct observation later;    /* and since the latest image was made */
 
 _Noreturn static void end_with(int status) {
     end_output();
@@ -162,71 +164,52 @@ static void count_save(size_t size, unsigned long time) {
 }
 
 /* Makes what the file is to have of the clock; whether it could. */
-static bool fill_octets(const struct ptpm_clock *clock) {
+static bool fill_octets(struct ptpm_clock *clock) {
     size_t size;
     begun = microseconds();
-    if (ptpm_clock_image(clock, octets, PTPM_CLOCK_IMAGE_OCTETS, &size) != PTPM_SAVED) return false;
+    if (ptpm_clock_image_of(clock, octets, PTPM_CLOCK_IMAGE_OCTETS, &size, &token) != PTPM_SAVED) return false;
     size_of_file = write_seal(octets, size, saves_of_file + 1);
-    later = (struct observation){ 0 };
     return true;
 }
 
-static void count_outcome(enum replaced answer) {
-    if (answer != NOT_REPLACED) {
-        saves_of_file++;
-        unsaved = later;
-    }
-    if (answer == REPLACED) count_save(size_of_file, microseconds() - begun);
-    else saves.failed++;
+/* A save was made: the clock gives out what waited for it. */
+static bool succeed(struct ptpm_clock *clock) {
+    unsigned long took = microseconds() - begun, pause = (took / 1000 + PAUSE_PART / 2) / PAUSE_PART;
+    saves_of_file++;
+    is_failing = false;
+    count_save(size_of_file, took);
+    next_save = milliseconds() + (int64_t)(pause < MOST_PAUSE ? pause : MOST_PAUSE);
+    return ptpm_clock_saved(clock, token) == PTPM_SAVED;
 }
 
-/* Saves the clock; whether it is saved for sure. If not, errno says why. */
-static enum replaced save(const struct ptpm_clock *clock) {
-    if (!fill_octets(clock)) return NOT_REPLACED;
-    enum replaced answer = replace_kept(&file, octets, size_of_file);
-    count_outcome(answer);
-    return answer;
+/* A save was not made, or nobody knows. What waited goes on waiting, for the next one. */
+static bool fail(void) {
+    saves.failed++;
+    is_failing = true;
+    next_save = milliseconds() + SECOND;
+    say_at_times("%s%s: no change is answered: %s", options->state, kept_fault(), strerror(errno));
+    return false;
 }
 
 void save_at_start(struct ptpm_clock *clock) {
-    if (options->state != NULL && save(clock) != REPLACED) refuse_file(NULL);
+    if (options->state == NULL) return;
+    if (ptpm_clock_saving(clock, MOST_WAITING) != PTPM_SAVING) refuse_file(strerror(ENOMEM));
+    if (!fill_octets(clock) || replace_kept(&file, octets, size_of_file) != REPLACED) refuse_file(NULL);
+    succeed(clock);
 }
 
 bool may_save(void) {
     static struct ptpm_rate rate;
-    if (options->state == NULL) return true;
     long a_second = options->limits.manager_rate / JOINED;
     if (rate.rate == 0) ptpm_rate_start(&rate, a_second > 0 ? (uint64_t)a_second : 1, (uint64_t)milliseconds());
     return ptpm_rate_take(&rate, (uint64_t)milliseconds());
 }
 
-void note_change(void) { is_unsaved = options->state != NULL; }
+long until_save(void) { return (long)(next_save - milliseconds()); }
 
-void note_observation(const struct observation *observation) {
-    add_observation(&unsaved, observation);
-    add_observation(&later, observation);
-}
-
-/* What becomes of the clock after a save; whether nothing is unsaved. After an uncertain save the store holds what was to be saved,
-   but may lose it with the power. So no message leaves before it is saved. */
-static bool go_on_after(struct ptpm_clock *clock, enum replaced answer) {
-    size_t size;
-    uint8_t left;
-    is_unsaved = answer == IN_DOUBT;
-    if (answer == REPLACED) return true;
-    say_at_times("%s%s: nothing is answered: %s", options->state, kept_fault(), strerror(errno));
-    if (!read_state(&size)) refuse_file("it is gone");
-    restore(clock, size);
-    ptpm_clock_observe(clock, &unsaved.clock, unsaved.ports, unsaved.port_count, &left);
-    return false;
-}
-
-bool save_changes(struct ptpm_clock *clock) { return !is_unsaved || go_on_after(clock, save(clock)); }
-
-bool begin_save(const struct ptpm_clock *clock) {
+bool begin_save(struct ptpm_clock *clock) {
     is_saving = fill_octets(clock) && begin_replacing(&file, octets, size_of_file);
-    if (is_saving) is_unsaved = false;
-    return is_saving;
+    return is_saving || fail();
 }
 
 int saving_event(void) { return replacing_event(); }
@@ -234,8 +217,9 @@ int saving_event(void) { return replacing_event(); }
 bool end_save(struct ptpm_clock *clock) {
     enum replaced answer = end_replacing();
     is_saving = false;
-    count_outcome(answer);
-    return go_on_after(clock, answer);
+    if (answer == REPLACED) return succeed(clock);
+    if (answer == IN_DOUBT) saves_of_file++;
+    return fail();
 }
 
 const struct saves *saves_so_far(void) { return &saves; }

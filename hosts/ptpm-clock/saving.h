@@ -1,10 +1,9 @@
 /* The state of the clock in a file (-s FILE): its data sets, and what is kept for each manager. So a start continues where the
-   clock was. What a turn changed is saved before any message leaves. Without a file nothing is saved, and everything leaves at
-   once. */
+   clock was. What a turn changed is saved before any message leaves that shows it. Without a file nothing is saved, and everything
+   leaves at once. */
 #ifndef SAVING_H
 #define SAVING_H
 
-#include "observation.h"
 #include "options.h"
 #include "ptpm.h"
 #include <stdbool.h>
@@ -14,38 +13,27 @@
    or no file, is another program's, or can't be read or written. What the file has stays then. */
 bool restore_clock(struct ptpm_clock *clock, const struct options *options);
 
-/* Saves the clock once, with the rights that the program keeps; ends it with status 2 if it can't. */
+/* Has the clock keep its messages until it is saved, and saves it once, with the rights that the program keeps. Ends the program with
+   status 2 if it can't. Does nothing without a file. */
 void save_at_start(struct ptpm_clock *clock);
 
-/* Whether there is something to save: a turn has changed it, or the last save is uncertain. Each turn looks at it, so it is not
-   a call. */
-extern bool is_unsaved;
+/* Begins to save the clock, which a thread does; whether it is begun. */
+bool begin_save(struct ptpm_clock *clock);
 
-/* Notes that a turn has changed what is to be saved. */
-void note_change(void);
-
-/* Notes what the clock has observed. */
-void note_observation(const struct observation *observation);
-
-/* Saves what is not saved; whether there is nothing to save after that. If a save fails, the clock is the one that the file
-   has, with what was observed since, and standard error says why. Then nothing that waits is to be sent. Ends the program if the
-   file can't be read then. */
-bool save_changes(struct ptpm_clock *clock);
-
-/* Begins to save the clock, which a thread does; whether it is begun. Then nothing counts as unsaved, but what shows the changes is
-   sent after `end_save`. */
-bool begin_save(const struct ptpm_clock *clock);
-
-/* Whether a save was begun and not ended, and what can be read once it is done. */
-extern bool is_saving;
+/* Whether a save was begun and not ended, and what can be read once it is done. Whether the latest one failed. */
+extern bool is_saving, is_failing;
 int saving_event(void);
 
-/* Ends the save, after a wait for the disk if it is not done. It answers what `save_changes` answers, and the same becomes of the
-   clock. */
+/* Ends the save, after a wait for the disk if it is not done. Whether the clock is saved, and gives out what waited for that. If not,
+   standard error says why. */
 bool end_save(struct ptpm_clock *clock);
 
+/* In how many milliseconds the next save may begin; 0 or less if it may now. It is tried again a second after one that failed. After
+   another one there is a pause of a twentieth of its time. Those who were answered ask again in it, and share the next save. */
+long until_save(void);
+
 /* Whether a save may be made now for requests at a port. There may be a fifth as many saves a second as requests of managers, and
-   as many at once. So only a part of the time is spent waiting for the disk. Without a file it always may. */
+   as many at once. So only a part of the time is spent waiting for the disk. */
 bool may_save(void);
 
 /* Saves that were made and that failed, and how many microseconds those that were made took. */

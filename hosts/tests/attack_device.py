@@ -353,8 +353,8 @@ def values_of_ports():
 
 
 def changes_that_are_not_saved():
-    """A change to which the program agreed is lost if the clock is killed before it is saved, or can't save it. It comes again, the
-    program is run again, and it is made once."""
+    """A change to which the program agreed is lost if the clock is killed before it is saved: it comes again, the program is run again,
+    and it is made once. One that can't be saved waits until it can."""
     words = ("-s", os.path.join(work, "saved"), "-u", path, "-m", MANAGER + "/1", "--ask", program("exit 0\n"), ME)
     clock, peer = Clock(*words, env=TRACED), Peer("peer")
     disk = Disk(clock, SLOWLY)
@@ -368,8 +368,9 @@ def changes_that_are_not_saved():
     check("it comes again and is made", asked(peer, set_of(7, 100)) == (7, "value", 100) and len(runs()) == 2)
     disk = Disk(clock, FAILING)
     check("one that can't be saved is not answered", asked(peer, set_of(8, 60), 0.7) is None and len(runs()) == 3)
+    check("nor is its copy, and nobody sees it", asked(peer, set_of(8, 60), 0.7) is None and asked(peer, message(2, STRANGER, ME)) == (2, "value", 100))
     disk.mend()
-    check("and is made once it can", asked(peer, set_of(8, 60)) == (8, "value", 60) and len(runs()) == 4)
+    check("it is answered once it can, and was asked about once", answer_at(peer) == (8, "value", 60) and len(runs()) == 3)
     check("it ends in order", clock.end()[0] == 0)
     peer.close()
 

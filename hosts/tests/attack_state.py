@@ -9,8 +9,9 @@ import subprocess
 import time
 
 from attack_numbers import next_number
+from attack_saves import Calls
 from attacking import (CLOCK, HAS_STRACE, MANAGE, MANAGER, ME, OTHER, TRACED, Clock, Peer, check, clear, fill_disk, flips, get, image_in, manage,
-                       octets, path, read, run, saves_in, sealed, started, wait_until, work, write_octets)
+                       octets, path, run, saves_in, sealed, wait_until, work, write_octets)
 
 NOBODY = 65534
 state, session = (os.path.join(work, name) for name in ("state", "session"))
@@ -201,7 +202,7 @@ def second_clocks():
 
 
 def full_disks():
-    """A disk that is full as the clock saves: it does not answer, and has what the file has."""
+    """A disk that is full as the clock saves: it answers by what the file has, and the change waits."""
     folder = os.path.join(work, "folder")
     os.mkdir(folder)
     run("mount", "-t", "tmpfs", "-o", "size=64k", "tmpfs", folder)
@@ -214,11 +215,12 @@ def full_disks():
     check("nothing is answered that is not saved", status == 3)
     check("and the manager is told that this may be why", "or the clock can't save its state" in said)
     time.sleep(0.3)
-    said = f"ptpm-clock: {inner}.new: nothing is answered: No space left on device\n"
-    check("which is said", said in clock.text() and ", 0 of 1 sent" in clock.text())
+    said = f"ptpm-clock: {inner}.new: no change is answered: No space left on device\n"
+    check("which is said", said in clock.text() and ", 0 of 1 sent, 1 once it is saved\n" in clock.text())
     check("the clock and the file are as before", value() == 100 and octets(inner) == whole and not os.path.exists(inner + ".new"))
     os.unlink(filler)
-    check("once there is room it goes on", sets(60))
+    check("once there is room what waited is saved", wait_until(lambda: clock.text().count("saved: ") == 4))
+    check("and it goes on", sets(60))
     clock.process.send_signal(signal.SIGUSR1)
     time.sleep(0.2)
     check("saves that failed are counted", re.search(r"^not saved: [1-9]", clock.text(), re.M) is not None)
@@ -230,34 +232,27 @@ def full_disks():
 
 
 def calls_that_fail():
-    """Each call of a save that fails once, as the third one of this clock: nothing leaves before a later save, and all is well after it."""
+    """Each call of a save that fails once: nothing leaves before a later save, and all is well after it."""
     if not HAS_STRACE:
         return
-    for name, at in [("write", 4), ("fsync", 4), ("renameat", 2), ("fsync", 5)]:
+    new = state + ".new"
+    for name, where, *words in [("write", new, "-P", new), ("fsync", new, "-P", new), ("renameat", state), ("fsync", state, "-P", work)]:
         clear()
-        with open(os.path.join(work, "output"), "w") as output:
-            clock = subprocess.Popen(["strace", "-D", "-qq", "-o", "/dev/null", "-e", f"trace={name}", "-e",
-                                      f"inject={name}:error=EIO:when={at}", CLOCK, "--user", "root", "-v", *WORDS], stdout=output, stderr=subprocess.STDOUT,
-                                     env=TRACED)
-        started.append(clock)
-        wait_until(lambda: "in domain" in read("output"))
-        check(f"{name} {at} fails, and the manager is answered all the same", sets(50))
-        time.sleep(0.3)
-        said = read("output")
-        place = ".new" if at == 4 else ""
-        check("the failure is said", f"ptpm-clock: {state}{place}: nothing is answered: Input/output error\n" in said)
-        lines = [line for line in said.splitlines() if line.startswith(("saved", "port"))]
-        failures = [place for place, line in enumerate(lines) if ", 0 of 1 sent" in line]
-        is_saved = all(before.startswith("saved") for before, line in zip(lines, lines[1:]) if " 5 " in line and ", 1 of 1 sent" in line)
-        check(f"nothing leaves before a save: {lines}", is_saved and len(failures) == 1)
-        if (name, at) == ("fsync", 5):
-            check(f"nothing at all while the save is in doubt: {lines}", lines[failures[0] + 1].startswith("saved"))
-        clock.send_signal(signal.SIGTERM)
-        check("and it ends in order", clock.wait(10) == 0)
-    clock = Clock(*WORDS)
+        clock = Clock("-v", *WORDS, env=TRACED)
+        calls, began = Calls(clock, name, "error=EIO:when=1", *words), time.monotonic()
+        check(f"{name} fails, and the manager is answered all the same, after the next try", sets(50) and time.monotonic() - began > 1)
+        calls.mend()
+        said = f"ptpm-clock: {where}: no change is answered: Input/output error\n"
+        check("the failure is said", wait_until(lambda: said in clock.text()))
+        lines = [line for line in clock.text().splitlines() if " 5 ANSWERED_NEW" in line]
+        check(f"nothing leaves before a save: {lines}", len(lines) > 1 and all(line.endswith(", 0 of 1 sent, 1 once it is saved") for line in lines))
+        check("and it ends in order", clock.end()[0] == 0 and "not saved: 1\n" in clock.text())
+    clock, number = Clock(*WORDS), next_number("session")
     os.unlink(state), os.mkdir(state + ".new")
     peer = Peer("peer")
-    check("a clock without its file does not go on", not peer.is_answered(next_number("session")) and clock.end(None)[0] == 2)
+    check("a clock whose file is gone answers no manager", not peer.is_answered(number))
+    os.rmdir(state + ".new")
+    check("and then it has a file again", wait_until(lambda: os.path.exists(state)) and clock.end()[0] == 0 and image_in(octets(state)) is not None)
     peer.close()
 
 

@@ -1,21 +1,25 @@
-"""A clock and a session over the library as a host has them that saves and loses its power, for hosts/tests/crashes: nothing leaves before
-it is saved, and a restart goes on from the last save. With each live state goes its state in the model, also into the storage. Hosts that
-break one rule each are planted ones."""
+"""A clock and a session over the library as a host has them that saves and loses its power, for hosts/tests/crashes. The clock takes
+datagrams while it is saved, and what shows a change waits for that. With each state goes its state in the model, also into the storage.
+Hosts that break one rule each are planted ones."""
 import dataclasses
 import sys
 from enum import Enum
 from pathlib import Path
+from typing import NamedTuple, Optional
 
 sys.path.insert(0, str(Path(__file__).resolve().parents[2] / "bindings/python"))
 import ptpm  # noqa: E402
 from ptpm import HandleAnswer, SessionAnswer  # noqa: E402
+from ptpm import _header as header  # noqa: E402
 from ptpm.requests import Requests  # noqa: E402
 
-from crash_model import GET, Answer, Asked, ClockState, ManagerState, start  # noqa: E402
+from crash_model import DEFAULT_DATA_SET, GET, Answer, Asked, ClockState, ManagerState, start  # noqa: E402
 
 SAVE_FAILS, SAVE_LIES = 0.2, 0.3
+PLACES = 12                                     # of messages that wait for a save: a clock of three ports sends five at most
 STARTING_HOPS_AT, HOPS_AT = 44, 45
 GIVES_UP = hasattr(Requests, "give_up")         # if the library lets requests go
+LIBRARY_SAVES = hasattr(ptpm.SavingClock, "take")       # and has a clock that takes datagrams while it is saved
 ATTEMPTS = 3
 
 
@@ -29,8 +33,20 @@ class Planted(Enum):
     CLOCK_LEAVES_GETS_OUT = "a clock saves nothing for a GET"
     SESSION_LEAVES_GETS_OUT = "a session saves nothing before a GET"
     CLOCK_SAVES_CHANGES_ALONE = "a clock saves only if a member changed"
-    OTHERS_LEAVE_FIRST = "a clock's other messages leave while a change is unsaved"
     FAILED_SAVE_IS_DONE = "a clock takes a save that failed for one that is done"
+    STRANGERS_SEE_LIVE = "others than managers are shown what is not saved"
+    REPEAT_AT_ONCE = "a repeat is answered while something is unsaved"
+    SAVE_GIVES_ALL = "a save also gives out what came after its image"
+    ANY_TOKEN = "the word that an earlier image is saved counts for a later one"
+    OBSERVED_LIVE_ALONE = "what is observed while something is unsaved is not shown"
+    COPY_IS_NOT_OBSERVED = "what is observed during a save is not shown after it"
+    IMAGE_OF_SHOWN = "an image has what is shown"
+    REST_COUNTS_AS_SAVED = "what came after an image counts as saved with it"
+    SHOWN_IS_LIVE = "a save shows all that came, also after its image"
+    OWNER_AT_ONCE = "the owner is answered before a save"
+    OWNER_IS_NO_CHANGE = "nothing is saved for the owner"
+    OBJECTION_NOT_KEPT = "a request to which the device objected is not kept"
+    SENDS_AFTER_A_RESTART = "what waited for a save leaves after a restart"
     SAVES_BEFORE_IT_REPORTS = "a session saves an answer before it reports it"
     CLOCK_STARTS_FRESH = "a clock starts afresh after a restart"
     SESSION_STARTS_FRESH = "a session starts afresh after a restart"
@@ -67,66 +83,206 @@ def with_fewer_hops(octets, most):
     return octets[:STARTING_HOPS_AT] + bytes([max(octets[STARTING_HOPS_AT] - less, 0), most]) + octets[HOPS_AT + 1:]
 
 
+class Taken(NamedTuple):
+    """What became of a datagram, and how many of its messages wait."""
+
+    answer: object
+    messages: list
+    changed: object
+    waiting: int = 0
+
+
+class Batch:
+    """What ptpm.SavingClock does, over clocks that send at once, and with one rule less if it is a planted one."""
+
+    def __init__(self, clock, restored, managers, is_saved, planted):
+        self.live, self.restored, self.managers, self.planted = clock, restored, managers, planted
+        self.shown, self.copied = self.copy(), None
+        self.changes, self.confirmed, self.token = 0, 0 if is_saved else -1, None
+        self.waiting, self.first = [], 0
+
+    def close(self):
+        for clock in filter(None, (self.live, self.shown, self.copied)):
+            clock.close()
+
+    def copy(self, managers=None):
+        return self.restored(self.live.image(), self.managers if managers is None else managers)
+
+    def show(self, clock):
+        self.shown.close()
+        self.shown = clock
+
+    def is_unsaved(self):
+        return self.changes != self.confirmed
+
+    def is_numbered(self, octets):
+        sources = [one.identity.clock.octets + one.identity.port.to_bytes(2, "big") for one in self.managers]
+        return octets[34:42] == self.live.read(DEFAULT_DATA_SET)[10:18] and octets[20:30] in sources
+
+    def take(self, port, octets, say=None, of_owner=False):
+        is_held = of_owner or self.is_numbered(octets)
+        if self.confirmed < 0 or is_held and len(self.waiting) + self.live.most_sent() > PLACES:
+            raise ptpm.Error(header.PTPM_UNSAVED)
+        if not is_held:
+            handled = (self.live if self.planted is Planted.STRANGERS_SEE_LIVE else self.shown).handle(port, octets)
+            return Taken(handled.answer, handled.messages, handled.changed)
+        before = None if self.is_unsaved() else self.copy()
+        handled = self.take_of_owner(port, octets) if of_owner else self.take_of_manager(port, octets, say)
+        is_new = handled.answer == HandleAnswer.ANSWERED_NEW and not self.is_left_out(handled, octets[46] == GET, of_owner)
+        self.changes += is_new
+        if before is not None:
+            self.show(before if is_new else self.copy())
+        leaves_first = (self.planted is Planted.CLOCK_SENDS_FIRST or self.planted is Planted.OWNER_AT_ONCE and of_owner
+                        or self.planted is Planted.REPEAT_AT_ONCE and not is_new)
+        if not self.is_unsaved() or leaves_first:
+            return Taken(handled.answer, handled.messages, handled.changed)
+        self.waiting += handled.messages
+        return Taken(handled.answer, [], handled.changed, len(handled.messages))
+
+    def is_left_out(self, handled, is_get, of_owner):
+        """Whether a turn has changed nothing that is to be saved."""
+        return (of_owner and is_get or self.planted is Planted.OWNER_IS_NO_CHANGE and of_owner
+                or self.planted is Planted.CLOCK_LEAVES_GETS_OUT and is_get
+                or self.planted is Planted.CLOCK_SAVES_CHANGES_ALONE and not handled.changed)
+
+    def take_of_manager(self, port, octets, say):
+        if say is None or self.planted is not Planted.OBJECTION_NOT_KEPT:
+            return self.live.handle(port, octets, say)
+        with self.copy() as other:
+            return other.handle(port, octets, say)
+
+    def take_of_owner(self, port, octets):
+        """Another clock, whose one manager is the owner, judges it and makes the answer."""
+        owner = ptpm.Manager(ptpm.PortIdentity(ptpm.Identity(octets[20:28]), int.from_bytes(octets[28:30], "big")), ptpm.Rights(7))
+        with self.copy([owner]) as other:
+            asked = other.ask(port, octets)
+            handled = other.handle(port, octets)
+        if asked is not None and asked.action != GET:
+            self.live.set(asked.action, asked.id, asked.port, asked.octets)
+        return handled
+
+    def observe(self, members, ports):
+        kept = {Planted.OBSERVED_LIVE_ALONE: self.shown if self.is_unsaved() else None, Planted.COPY_IS_NOT_OBSERVED: self.copied}
+        for clock in (self.live, self.shown, self.copied):
+            if clock is not None and clock is not kept.get(self.planted):
+                clock.observe(members, ports)
+
+    def read(self, named, port):
+        return self.shown.read(named, port)
+
+    def image(self):
+        if self.copied is not None:
+            self.copied.close()
+        self.copied, self.token, self.first = self.copy(), self.changes, len(self.waiting)
+        return (self.shown if self.planted is Planted.IMAGE_OF_SHOWN else self.live).image(), self.token
+
+    def saved(self, token):
+        if token != self.token and self.planted is not Planted.ANY_TOKEN:
+            raise ptpm.Error(header.PTPM_OTHER_IMAGE)
+        gives_all = self.planted is Planted.SAVE_GIVES_ALL or self.changes == self.token
+        self.confirmed = self.changes if self.planted is Planted.REST_COUNTS_AS_SAVED else self.token
+        count = len(self.waiting) if gives_all else self.first
+        leaving, self.waiting, self.first = self.waiting[:count], self.waiting[count:], 0
+        is_all = not self.is_unsaved() or self.planted is Planted.SHOWN_IS_LIVE
+        if is_all or self.copied is not None:
+            self.show(self.copy() if is_all else self.copied)
+            self.copied = None
+        return leaving
+
+
+class Waiting(NamedTuple):
+    """A request whose messages wait, what it is to be answered, and how many messages these are."""
+
+    asked: Asked
+    answer: Answer
+    count: int
+
+
+class Save(NamedTuple):
+    """An image with its token, what the model has of it, and what storing it came to: nothing yet, or whether it is saved."""
+
+    image: bytes
+    token: int
+    state: ClockState
+    is_saved: Optional[bool] = None
+
+
 class ClockHost:
-    """A clock with its storage, and the messages that wait for a save. No message that comes in keeps more hops than these."""
+    """A clock with its storage, and who waits for a save. No message that comes in keeps more hops than these."""
 
     def __init__(self, identity, ports, managers, hops, planted):
         self.identity, self.ports, self.managers, self.hops, self.planted = identity, ports, managers, hops, planted
         self.begin_fresh()
-        self.storage = Storage((self.clock.image(), self.state))
+        image, token = self.clock.image()
+        self.storage = Storage((image, self.state))
+        self.clock.saved(token)
+        self.owner_asked, self.owner_told = 0, []
+
+    def begin(self, clock, state, is_saved):
+        self.clock = Batch(clock, self.restored, self.managers, is_saved, self.planted) if self.planted or not LIBRARY_SAVES \
+            else ptpm.SavingClock(clock, PLACES)
+        self.state = self.shown = self.copied = state
+        self.asking, self.save = [], None
 
     def begin_fresh(self):
         settings = ptpm.ClockSettings(ptpm.Identity(self.identity))
-        self.clock = ptpm.Clock(settings, [ptpm.PortSettings()] * self.ports, self.managers)
-        self.state = ClockState(start(self.identity, self.ports))
-        self.is_unsaved, self.waiting = False, []
+        self.begin(ptpm.Clock(settings, [ptpm.PortSettings()] * self.ports, self.managers), ClockState(start(self.identity, self.ports)), False)
 
-    def has_to_save(self, handled, is_get):
-        """Whether a turn has changed what is to be saved."""
-        if handled.answer != HandleAnswer.ANSWERED_NEW:
-            return False
-        is_left_out = (self.planted is Planted.CLOCK_LEAVES_GETS_OUT and is_get
-                       or self.planted is Planted.CLOCK_SAVES_CHANGES_ALONE and not handled.changed)
-        return not is_left_out
+    def restored(self, image, managers):
+        return ptpm.Clock.restore(ptpm.Identity(self.identity), self.ports, managers, image)[0]
 
-    def take(self, port, octets, is_get):
-        """One turn: what became of the datagram."""
-        handled = self.clock.handle(port, with_fewer_hops(octets, self.hops))
-        self.is_unsaved |= self.has_to_save(handled, is_get)
-        return handled
+    @property
+    def is_unsaved(self):
+        return self.clock.is_unsaved()
 
-    def let_go(self, made, is_of_other):
-        """What leaves at once of the messages of a turn. The others wait while a change is unsaved."""
-        leaves_first = (self.planted is Planted.CLOCK_SENDS_FIRST or self.planted is Planted.OTHERS_LEAVE_FIRST and is_of_other)
-        if not self.is_unsaved or leaves_first:
-            return made
-        self.waiting += made
-        return []
+    def take(self, port, octets, say=None, of_owner=False):
+        """What became of a datagram; None where its messages would have no place."""
+        try:
+            return self.clock.take(port, with_fewer_hops(octets, self.hops), say, of_owner)
+        except ptpm.Error as refused:
+            assert refused.name == "UNSAVED", refused.name
+            return None
 
-    def save(self, chance):
-        """Saves, and gives what may leave then. After a save that fails nothing leaves that waited, the clock is the one that the storage
-        has, and it is in doubt until a later save."""
+    def go_on_as(self, state, was_unsaved):
+        """The model after a request. What is shown stays while something is unsaved."""
+        if not was_unsaved:
+            self.shown = self.state
+        self.state = state
+        if not self.is_unsaved:
+            self.shown = state
+
+    def observe(self, members, ports, in_model):
+        self.clock.observe(members, ports)
+        self.state, self.shown, self.copied = (state._replace(sets=in_model(state.sets)) for state in (self.state, self.shown, self.copied))
+
+    def make_image(self):
+        """An image is made. The one before it counts no more."""
+        self.save, self.copied = Save(*self.clock.image(), self.state), self.state
+
+    def store(self, chance):
         is_lying = self.planted is Planted.CLOCK_SAVE_LIES
-        is_saved = self.storage.save((self.clock.image(), self.state), chance, is_lying)
-        if is_saved or self.planted is Planted.FAILED_SAVE_IS_DONE:
-            leaving, self.waiting, self.is_unsaved = self.waiting, [], False
-            return leaving
-        self.go_on_from(*self.storage.held)
-        self.is_unsaved = True
-        return []
+        is_saved = self.storage.save((self.save.image, self.save.state), chance, is_lying)
+        self.save = self.save._replace(is_saved=is_saved or self.planted is Planted.FAILED_SAVE_IS_DONE)
 
-    def go_on_from(self, image, state):
-        self.clock.close()
-        self.clock, gone = ptpm.Clock.restore(ptpm.Identity(self.identity), self.ports, self.managers, image)
-        assert gone == 0, "no manager is let go"
-        self.state, self.is_unsaved, self.waiting = state, False, []
+    def confirm(self, save):
+        """What leaves once this image is saved."""
+        leaving = self.clock.saved(save.token)
+        self.shown = self.copied if self.is_unsaved else self.state
+        self.save = None
+        return leaving
 
     def crash(self):
-        held = self.storage.lose_power()
+        """What leaves after a restart: nothing."""
+        image, state = self.storage.lose_power()
+        leaving = self.clock.waiting if self.planted is Planted.SENDS_AFTER_A_RESTART else []
+        asking = self.asking
+        self.clock.close()
         if self.planted is Planted.CLOCK_STARTS_FRESH:
             self.begin_fresh()
+            self.clock.saved(self.clock.image()[1])
         else:
-            self.go_on_from(*held)
+            self.begin(self.restored(image, self.managers), state, True)
+        return leaving, asking
 
 
 class SessionHost:

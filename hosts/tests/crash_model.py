@@ -224,9 +224,11 @@ class ClockState(NamedTuple):
             return OTHER_DOMAIN
         return NEW if asked.index > index else CONFLICT if asked.index == index else OLD
 
-    def after(self, asked, rights):
-        """The clock that has carried out a new request."""
+    def after(self, asked, rights, objection=None):
+        """The clock that has carried out a new request, or the device's objection to a change that it would have made itself."""
         sets, answer = carried_out(self.sets, asked.request, rights)
+        if objection is not None and asked.request.action != GET and answer.error is None:
+            sets, answer = self.sets, Answer(None, objection)
         return ClockState(sets, self.accepted + (Accepted(asked, answer),))
 
 

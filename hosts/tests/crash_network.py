@@ -5,11 +5,13 @@ import struct
 from collections import Counter
 from typing import NamedTuple, Optional
 
-from crash_hosts import ATTEMPTS, ClockHost, SessionHost, ptpm
+from crash_hosts import ATTEMPTS, ClockHost, SessionHost, Waiting, ptpm
 from crash_model import CLOCK_SET, GET, NEW, PORT_COMMAND, PORT_DATA_SET, PORT_SET, REPEAT, WHOLE_CLOCK, Answer, Asked, field_of
 
 READER = "reader"                               # an end of a link
 READER_IDENTITY = bytes([0x0A, 0x0B, 0x0C, 0xFF, 0xFE, 0x0D, 0x0E, 0x0F, 0, 1])
+OWNER, OWNER_IDENTITY = "owner", bytes([0x0A, 0x0B, 0x0C, 0xFF, 0xFE, 0x0D, 0x0E, 0x10, 0, 1])
+EVERY_RIGHT, OBJECTS, MADE_AGAIN = CLOCK_SET | PORT_SET | PORT_COMMAND, 0.1, 0.3
 HOPS = 3
 LEAST_HOPS, MOST_HOPS = 2, 8                    # of a row of three clocks two pass a message on
 
@@ -64,10 +66,11 @@ def answer_in(octets):
     return Answer(None if octets[46] & 15 == 4 else octets[54:])
 
 
-def reader_asks(identity, domain, number, id_, port):
-    """A GET of somebody who is no manager (13.3, 15.4)."""
-    head = b"\x0d\x12" + struct.pack(">HB", 54, domain) + bytes(15) + READER_IDENTITY + struct.pack(">HBB", number, 4, 0x7F)
-    return head + identity + struct.pack(">HBBBBHHH", port, HOPS, HOPS, GET, 0, 1, 2, id_)
+def asks(source, identity, domain, number, request):
+    """A request of a clock (13.3, 15.4)."""
+    field = request.field
+    head = b"\x0d\x12" + struct.pack(">HB", 54 + len(field), domain) + bytes(15) + source + struct.pack(">HBB", number, 4, 0x7F)
+    return head + identity + struct.pack(">HBBBBHHH", request.port or 0xFFFF, HOPS, HOPS, request.action, 0, 1, 2 + len(field), request.id) + field
 
 
 class World:
@@ -168,57 +171,133 @@ class World:
         host, asked = self.clocks[number], frame.origin.asked
         is_request = asked is not None and not frame.origin.is_reply and self.targets[asked.manager] == number
         wanted = host.state.verdict(asked, frame.octets[4]) if is_request else None
-        handled = host.take(port, frame.octets, is_request and asked.request.action == GET)
-        found = handled.answer.name
+        say = ptpm.Objection.NOT_SETABLE if wanted == NEW and self.chance.random() < OBJECTS else None
+        was_unsaved, taken = host.is_unsaved, host.take(port, frame.octets, say)
+        if taken is None:
+            self.counts["requests without a place"] += 1
+            return
+        found = taken.answer.name
         self.counts[f"answers {found}"] += 1
         self.need(found == wanted if wanted else found not in (NEW, REPEAT), "clock", number, "makes", found, "of", asked, "not", wanted)
         if wanted == NEW:
             self.note(asked not in self.replied, "a request is carried out twice", ("clock", number, asked))
-            host.state = host.state.after(asked, self.rights[asked.manager])
-        made = [(at, octets, self.origin_of(octets, number, frame.origin)) for at, octets in handled.messages]
-        if wanted in (NEW, REPEAT):
-            self.judge_reply(host, asked, made)
-        self.leave(number, host.let_go(made, handled.answer.name != NEW))
+            host.go_on_as(host.state.after(asked, self.rights[asked.manager], say and int(say)), was_unsaved)
+        kept = host.state.latest(asked.manager).answer if wanted in (NEW, REPEAT) else None
+        self.give_out(number, taken, frame.origin, asked if kept else None, kept)
         self.judge_sets(number)
+
+    def give_out(self, number, taken, origin, asked, answer):
+        """Sends the messages of a turn, or has them wait."""
+        host = self.clocks[number]
+        if taken.waiting:
+            self.counts["messages that waited"] += taken.waiting
+            host.asking.append(Waiting(asked, answer, taken.waiting))
+        if asked and taken.messages:
+            self.judge_reply(host, asked, answer, taken.messages)
+        for _, octets in taken.messages if asked is None else ():
+            self.judge_shown(host, octets)
+        self.leave(number, [(at, octets, self.origin_of(octets, number, origin)) for at, octets in taken.messages])
+
+    def judge_shown(self, host, octets):
+        """The reader is answered by what is shown."""
+        if octets[20:28] == host.identity and octets[34:44] == READER_IDENTITY:
+            id_, port = int.from_bytes(octets[52:54], "big"), int.from_bytes(octets[28:30], "big")
+            self.need(octets[54:] == field_of(host.shown.sets, id_, port), "the reader is shown what is not saved", octets.hex())
+
+    def hand_of_owner(self, number, request):
+        """The owner's request is answered as that of a manager with every right, and nothing of it is kept."""
+        host = self.clocks[number]
+        asked = Asked(OWNER, host.owner_asked, request)
+        message = asks(OWNER_IDENTITY, host.identity, host.state.sets["domain"], host.owner_asked, request)
+        was_unsaved, taken = host.is_unsaved, host.take(1, message, None, True)
+        if taken is None:
+            return
+        self.counts["requests of owners"] += 1
+        host.owner_asked += 1
+        self.need(taken.answer.name == NEW, "the owner of clock", number, "is answered", taken.answer.name)
+        after = host.state.after(asked, EVERY_RIGHT)
+        if request.action != GET:
+            host.go_on_as(after, was_unsaved)
+        self.give_out(number, taken, Origin(asked, True), asked, after.accepted[-1].answer)
+        self.judge_sets(number)
+
+    def release(self, number, messages):
+        """What leaves once it is saved goes to those who waited for it, in their order."""
+        host, messages = self.clocks[number], list(messages)
+        while messages and host.asking:
+            waiting = host.asking.pop(0)
+            made, messages = messages[:waiting.count], messages[waiting.count:]
+            self.need(len(made) == waiting.count, "a part of the messages leaves to", waiting.asked)
+            self.judge_reply(host, waiting.asked, waiting.answer, made)
+            self.leave(number, [(at, octets, Origin(waiting.asked, True)) for at, octets in made])
+        self.need(not messages, "clock", number, "sends what nobody waits for")
 
     def origin_of(self, octets, number, origin):
         """A message is the clock's own, or passed on."""
         host = self.clocks[number]
         if octets[20:28] != host.identity:
             return origin
-        return Origin(origin.asked, True, *(() if origin.asked else (number, host.state.accepted)))
+        return Origin(origin.asked, True, *(() if origin.asked else (number, host.shown.accepted)))
 
-    def judge_reply(self, host, asked, made):
+    def judge_reply(self, host, asked, kept, made):
         """One reply, and it is the one of the time when the request was carried out."""
-        own = [answer_in(octets) for _, octets, _ in made if octets[20:28] == host.identity]
-        kept = host.state.latest(asked.manager).answer
+        own = [answer_in(octets) for _, octets in made if octets[20:28] == host.identity]
         self.need(own == [kept], asked, "is answered", own, "and not", kept)
+        if asked.manager == OWNER and asked.request.action != GET:
+            host.owner_told.append((asked, kept))
 
     def judge_sets(self, number):
-        """The data sets are those that the accepted requests make, each once and in this order."""
+        """The data sets that are shown are those that the requests make that count as saved, each once and in this order."""
         host = self.clocks[number]
         for id_, port in [(id_, 0) for id_ in WHOLE_CLOCK] + [(PORT_DATA_SET, i + 1) for i in range(host.ports)]:
-            found, wanted = host.clock.read(id_, port), field_of(host.state.sets, id_, port)
+            found, wanted = host.clock.read(id_, port), field_of(host.shown.sets, id_, port)
             if found != wanted:
-                raise Broken(f"clock {number} has {found.hex()} at {id_:04x}, and not {wanted.hex()}: {host.state.accepted}")
+                raise Broken(f"clock {number} has {found.hex()} at {id_:04x}, and not {wanted.hex()}: {host.shown.accepted}")
 
     def leave(self, number, messages):
         for port, octets, origin in messages:
-            self.post((number, port), octets, origin)
+            if octets[34:44] != OWNER_IDENTITY:
+                self.post((number, port), octets, origin)
 
     def save_clock(self, number, chance):
+        """A step of a save: an image is made, or stored, or confirmed. Without chance all of them. One that was made before may be
+        confirmed late."""
         host = self.clocks[number]
-        self.counts["saves of clocks"] += 1
-        before = host.state
-        self.leave(number, host.save(chance))
-        self.counts["saves that failed"] += host.is_unsaved
-        if host.state is not before:
-            self.judge_restart(number)
+        late = host.save
+        if late is None or chance and chance.random() < MADE_AGAIN:
+            host.make_image()
+            if late and late.is_saved and late.token != host.save.token:
+                self.confirm_late(number, late)
+        elif late.is_saved is None:
+            self.counts["saves of clocks"] += 1
+            host.store(chance)
+            self.counts["saves that failed"] += not host.save.is_saved
+        elif late.is_saved:
+            self.confirm(number, late)
+        else:
+            host.save = None
+        if chance is None and host.is_unsaved:
+            self.save_clock(number, None)
+
+    def confirm(self, number, save):
+        self.release(number, self.clocks[number].confirm(save))
+        self.judge_sets(number)
+
+    def confirm_late(self, number, save):
+        """The word that an earlier image is saved does not count."""
+        self.counts["earlier images"] += 1
+        try:
+            self.confirm(number, save)
+        except ptpm.Error as refused:
+            self.need(refused.name == "OTHER_IMAGE", "an earlier image is refused with", refused.name)
 
     def crash_clock(self, number):
         self.counts["crashes of clocks"] += 1
         self.counts["changes that were lost unsaved"] += self.clocks[number].is_unsaved
-        self.clocks[number].crash()
+        messages, asking = self.clocks[number].crash()
+        for waiting in asking if messages else ():
+            made, messages = messages[:waiting.count], messages[waiting.count:]
+            self.leave(number, [(at, octets, Origin(waiting.asked, True)) for at, octets in made])
         self.judge_restart(number)
 
     def judge_restart(self, number):
@@ -230,6 +309,8 @@ class World:
         for session in self.sessions:
             for told in session.told if self.targets[session.number] == number else ():
                 self.note(told in accepted, "what was reported is gone", ("clock", number, told))
+        for told in self.clocks[number].owner_told:
+            self.note(told in accepted, "what the owner was told is gone", ("clock", number, told))
 
     # ---- a session
 

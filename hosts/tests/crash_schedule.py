@@ -4,11 +4,11 @@ import struct
 
 from crash_hosts import GIVES_UP, ptpm
 from crash_model import (COMMAND, DISABLE_PORT, ENABLE_PORT, GET, MASTER, NULL_PTP_MANAGEMENT, OF_NO_PROFILE, OF_PORT, PORT_DATA_SET,
-                         READ_OF_CLOCK, READ_OF_PORT, SET, SMALL, USER_DESCRIPTION, UTC_PROPERTIES, VERSION_NUMBER, WHOLE_CLOCK, ClockState,
-                         Request, observed, text_field)
-from crash_network import HOPS, MOST_HOPS, READER, Origin, reader_asks
+                         READ_OF_CLOCK, READ_OF_PORT, SET, SMALL, USER_DESCRIPTION, UTC_PROPERTIES, VERSION_NUMBER, WHOLE_CLOCK, Request,
+                         observed, text_field)
+from crash_network import HOPS, MOST_HOPS, READER, READER_IDENTITY, Origin, asks
 
-CRASH, CRASH_UNSAVED = 0.04, 0.15
+CRASH, CRASH_UNSAVED = 0.04, 0.08
 GOES_ON = 0.05
 LATEST = 8
 PRIORITY1, DOMAIN = 0x2005, 0x2007
@@ -111,17 +111,19 @@ class Schedule:
         kind, clock = self.chance.random(), self.world.clocks[number]
         if self.is_to_crash(clock):
             self.world.crash_clock(number)
-        elif kind < 0.1:
+        elif kind < 0.15:
             self.observe(number)
-        elif kind < 0.25:
+        elif kind < 0.3:
             self.read(number)
-        elif clock.is_unsaved and kind < 0.75:
+        elif kind < 0.45:
+            self.world.hand_of_owner(number, draw_request(self.chance, clock.ports, self.free_ports(clock), not self.is_row))
+        elif clock.is_unsaved and kind < 0.9:
             self.world.save_clock(number, self.chance)
 
     def read(self, number):
         clock = self.world.clocks[number]
         id_ = self.chance.choice((*WHOLE_CLOCK, PORT_DATA_SET))
-        message = reader_asks(clock.identity, clock.state.sets["domain"], self.chance.randrange(65536), id_, 1)
+        message = asks(READER_IDENTITY, clock.identity, clock.shown.sets["domain"], self.chance.randrange(65536), Request(GET, id_, 1, b""))
         self.world.post(READER, message, Origin(None, False))
 
     def observe(self, number):
@@ -134,8 +136,7 @@ class Schedule:
         ports = {port: (chance.choice(ANY_STATE if port in self.free_ports(clock) else FORWARDING), chance.randint(-9, 9))
                  for port in range(1, chance.randint(0, clock.ports) + 1)}
         places = [ptpm.ObservedPort(state=state, peer_delay=delay) for state, delay in ports.values()]
-        clock.clock.observe(ptpm.ObservedClock(**of_library), places)
-        clock.state = ClockState(observed(clock.state.sets, members, ports), clock.state.accepted)
+        clock.observe(ptpm.ObservedClock(**of_library), places, lambda sets: observed(sets, members, ports))
         self.world.judge_sets(number)
         self.world.counts["observations"] += 1
 

@@ -1,7 +1,6 @@
 """A clock that saves (clock.c -s) and loses its power, under the runs of three managers whose sessions are kept. It is killed as it
 makes a call of the system, most often one of a save, or at any moment, also after a call of a save that failed. What it had not
-synchronized may be lost with it. Then it is started again from its file. With -v it waits for the disk itself, and otherwise a
-thread does. Each run sets USER_DESCRIPTION to a greater number, or reads it; between them copies of earlier requests come in again.
+synchronized may be lost with it. Then it is started again from its file. Each run sets USER_DESCRIPTION to a greater number, or reads it; between them copies of earlier requests come in again.
 What the clock has is compared with what was reported, and every reply with those before it."""
 import ctypes
 import os
@@ -96,8 +95,7 @@ class Clock:
 
     def start(self, *before):
         managers = [word for manager in MANAGERS for word in ("-m", manager)]
-        is_told = self.chance.choice((["-v"], []))
-        return subprocess.Popen([*RUN, FAR, *before, CLOCK, "--user", "root", *is_told, "-s", state, *managers, "-u", socket_path, ME, "far0"],
+        return subprocess.Popen([*RUN, FAR, *before, CLOCK, "--user", "root", "-v", "-s", state, *managers, "-u", socket_path, ME, "far0"],
                                 stdout=self.told, stderr=subprocess.STDOUT)
 
     def live(self):

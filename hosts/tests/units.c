@@ -1,7 +1,7 @@
 /* Tests of what the hosts decide without a socket. They try the library's token buckets, its table of messages that were
    passed on, and its stops. They try where a message is in a frame, which sdoId it has, and what the image of a session says. They try
    the seal of a file, and TimeIntervals and JSON as texts. They try what a watch keeps of earlier looks, how long a change takes
-   through a site, and that a wait takes its time. Prints what does not hold, and `units: N passed, M failed`. */
+   through a site, and that a wait takes its time. They try who is answered once a clock is saved. Prints what does not hold, and `units: N passed, M failed`. */
 #define _GNU_SOURCE
 #include "checking.h"
 #include "domains.h"
@@ -9,6 +9,7 @@
 #include "field_text.h"
 #include "kept_file.h"
 #include "look_lines.h"
+#include "ptpm-clock/askers.h"
 #include "ptpm.h"
 #include "seen.h"
 #include "session_image.h"
@@ -485,7 +486,57 @@ static void offsets(void) {
     check(keeps_offsets(4, 0, ""), "but none of a clock that is not off");
 }
 
+static struct port any_port;
+
+/* A request that came in with this sequenceId, at a port or on a Unix socket. It stays until the next one. */
+static struct heard *request_heard(unsigned number, bool is_at_port) {
+    static uint8_t octets[MESSAGE];
+    static struct heard heard;
+    octets[SEQUENCE_AT] = (uint8_t)(number >> 8);
+    octets[SEQUENCE_AT + 1] = (uint8_t)number;
+    heard = (struct heard){ .octets = octets, .size = MESSAGE, .port = is_at_port ? &any_port : NULL };
+    return &heard;
+}
+
+static void wait_with(unsigned number, bool is_at_port, size_t messages) {
+    add_asker(request_heard(number, is_at_port), 1, &(struct ptpm_taken){ .waiting = messages, .changed.clock = number }, NULL);
+}
+
+static bool is_next(unsigned number, size_t left) {
+    const struct asker *asker = next_asker();
+    return asker->changed.clock == number && asker->count == left;
+}
+
+static void who_waits(void) {
+    bool is_in_order = true;
+    for (unsigned turn = 0; turn < 3; turn++) {
+        for (unsigned i = 0; i < MOST_WAITING; i++) wait_with(turn << 8 | i, i % 2 == 0, 1);
+        check(port_messages() == MOST_WAITING / 2 && peers_asking() == MOST_WAITING / 2, "as many as there are places wait");
+        check(is_asking(request_heard(turn << 8, true)) && is_asking(request_heard(turn << 8 | (MOST_WAITING - 1), true)), "a copy of one waits");
+        for (unsigned i = 0; i < MOST_WAITING; i++) is_in_order &= is_next(turn << 8 | i, 0);
+        wait_with(9, true, 1);      /* the next turn begins at another place */
+        is_in_order &= is_next(9, 0);
+    }
+    check(is_in_order, "they are answered in the order in which they asked");
+    check(port_messages() == 0 && peers_asking() == 0 && !is_asking(request_heard(0, true)), "and then nobody waits");
+    wait_with(1, true, 3);
+    wait_with(2, false, 2);
+    check(port_messages() == 3 && peers_asking() == 1, "messages of a request at a port count, and requests of a program");
+    check(is_next(1, 2) && is_next(1, 1) && is_asking(request_heard(1, true)) && is_next(1, 0), "a request that several ports answer");
+    check(!is_asking(request_heard(1, true)) && is_next(2, 1) && peers_asking() == 1 && is_next(2, 0) && peers_asking() == 0, "and one of a program");
+    struct heard *heard = request_heard(3, true);
+    uint8_t station[STATION] = { 1, 2, 3 };
+    heard->station = station;
+    add_asker(heard, 1, &(struct ptpm_taken){ .waiting = 1 }, NULL);
+    station[0] = 9;
+    const struct asker *asker = next_asker();
+    check(asker->heard.port == &any_port && asker->heard.station[0] == 1, "its sender is kept");
+    heard->size = MESSAGE - 1;
+    check(!is_asking(heard), "what is too short asks nothing");
+}
+
 int main(void) {
+    who_waits();
     buckets();
     passing_on();
     many_messages();
