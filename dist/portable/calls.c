@@ -23,16 +23,17 @@ void portable_ptpm_asker_stop(address a0);
 u32 portable_ptpm_asker_unsent(address a0, address a1);
 u32 portable_ptpm_asker_wake(address a0, u64 a1, address a2);
 void portable_ptpm_clock_defaults(address a0);
+u64 portable_ptpm_clock_free(address a0);
 u32 portable_ptpm_clock_handle(address a0, u16 a1, address a2, u64 a3, address a4, u64 a5, address a6);
-u32 portable_ptpm_clock_handle_changed(address a0, u16 a1, address a2, u64 a3, address a4, u64 a5, address a6, address a7);
-u32 portable_ptpm_clock_handle_said(address a0, u16 a1, address a2, u64 a3, address a4, address a5, u64 a6, address a7, address a8);
 u32 portable_ptpm_clock_image(address a0, address a1, u64 a2, address a3);
 u32 portable_ptpm_clock_image_of(address a0, address a1, u64 a2, address a3, address a4);
 u64 portable_ptpm_clock_most_sent(address a0);
-u32 portable_ptpm_clock_read(address a0, u16 a1, u16 a2, address a3, u64 a4, address a5);
-u32 portable_ptpm_clock_saved(address a0, u64 a1, address a2, u64 a3, address a4);
-u32 portable_ptpm_clock_saving(address a0);
+u64 portable_ptpm_clock_next(address a0, address a1);
+u32 portable_ptpm_clock_saved(address a0, u64 a1);
+u32 portable_ptpm_clock_saving(address a0, u64 a1);
 void portable_ptpm_clock_stop(address a0);
+u32 portable_ptpm_clock_take(address a0, u16 a1, address a2, u64 a3, address a4, u8 a5, address a6, u64 a7, address a8);
+u32 portable_ptpm_clock_unsaved(address a0);
 u64 portable_ptpm_error_name(u16 a0, address a1, u64 a2);
 u32 portable_ptpm_field_parse(u16 a0, address a1, u64 a2, address a3, u64 a4, address a5, address a6);
 u64 portable_ptpm_field_takes(u16 a0, u64 a1, address a2, u64 a3);
@@ -88,9 +89,10 @@ u32 portable_ptpm_session_restore(address a0, address a1, address a2, u64 a3);
 u32 portable_ptpm_session_start(address a0, address a1);
 u32 portable_ptpm_survey_start(address a0, address a1);
 u32 portable_ptpm_survey_start_at(address a0, address a1, address a2);
-u32 portable_ptpm_clock_ask(address a0, u16 a1, address a2, u64 a3, address a4);
 u32 portable_ptpm_clock_observe(address a0, address a1, address a2, u64 a3, address a4);
+u32 portable_ptpm_clock_read(address a0, u16 a1, u16 a2, address a3, u64 a4, address a5);
 u32 portable_ptpm_clock_set(address a0, u8 a1, u16 a2, u16 a3, address a4, u64 a5, address a6, address a7);
+u32 portable_ptpm_clock_ask(address a0, u16 a1, address a2, u64 a3, address a4);
 
 #if IS_LITTLE_ENDIAN
 #define fill() ((void)0)
@@ -118,6 +120,7 @@ static void fill(void) {
 #define swap_ptpm_manager_settings(at) ((void)0)
 #define swap_ptpm_sent(at) ((void)0)
 #define swap_ptpm_changed(at) ((void)0)
+#define swap_ptpm_taken(at) ((void)0)
 #define swap_ptpm_question(at) ((void)0)
 #define swap_ptpm_say(at) ((void)0)
 #define swap_ptpm_limit(at) ((void)0)
@@ -165,6 +168,11 @@ static void swap_ptpm_sent(struct ptpm_sent *at) {
 }
 static void swap_ptpm_changed(struct ptpm_changed *at) {
     at->clock = (uint32_t)swap32((u32)at->clock);
+}
+static void swap_ptpm_taken(struct ptpm_taken *at) {
+    at->count = (uint64_t)swap64((u64)at->count);
+    at->waiting = (uint64_t)swap64((u64)at->waiting);
+    swap_ptpm_changed(&at->changed);
 }
 static void swap_ptpm_question(struct ptpm_question *at) {
     at->manager_port = (uint16_t)swap16((u16)at->manager_port);
@@ -273,17 +281,6 @@ enum ptpm_handled ptpm_clock_handle(struct ptpm_clock *clock, uint16_t port, con
     return answer;
 }
 
-enum ptpm_handled ptpm_clock_handle_changed(struct ptpm_clock *clock, uint16_t port, const uint8_t *datagram, size_t size, struct ptpm_sent *sent, size_t room, size_t *count, struct ptpm_changed *changed) {
-    fill();
-    u64 count_out = 0;
-    swap_ptpm_changed(changed);
-    enum ptpm_handled answer = (enum ptpm_handled)portable_ptpm_clock_handle_changed(ADDRESS(clock), port, ADDRESS(datagram), size, ADDRESS(sent), room, ADDRESS(&count_out), ADDRESS(changed));
-    *count = (size_t)load64(ADDRESS(&count_out));
-    swap_ptpm_changed(changed);
-    for (size_t i = 0; i < *count; i++) swap_ptpm_sent(&sent[i]);
-    return answer;
-}
-
 enum ptpm_asking ptpm_clock_ask(const struct ptpm_clock *clock, uint16_t port, const uint8_t *datagram, size_t size, struct ptpm_question *asked) {
     fill();
     swap_ptpm_question(asked);
@@ -292,19 +289,17 @@ enum ptpm_asking ptpm_clock_ask(const struct ptpm_clock *clock, uint16_t port, c
     return answer;
 }
 
-enum ptpm_handled ptpm_clock_handle_said(struct ptpm_clock *clock, uint16_t port, const uint8_t *datagram, size_t size, const struct ptpm_say *say, struct ptpm_sent *sent, size_t room, size_t *count, struct ptpm_changed *changed) {
+enum ptpm_handled ptpm_clock_take(struct ptpm_clock *clock, uint16_t port, const uint8_t *datagram, size_t size, const struct ptpm_say *say, uint8_t of_owner, struct ptpm_sent *sent, size_t room, struct ptpm_taken *taken) {
     fill();
 #if !IS_LITTLE_ENDIAN
     struct ptpm_say say_in = *say;
     swap_ptpm_say(&say_in);
     say = &say_in;
 #endif
-    u64 count_out = 0;
-    swap_ptpm_changed(changed);
-    enum ptpm_handled answer = (enum ptpm_handled)portable_ptpm_clock_handle_said(ADDRESS(clock), port, ADDRESS(datagram), size, ADDRESS(say), ADDRESS(sent), room, ADDRESS(&count_out), ADDRESS(changed));
-    *count = (size_t)load64(ADDRESS(&count_out));
-    swap_ptpm_changed(changed);
-    for (size_t i = 0; i < *count; i++) swap_ptpm_sent(&sent[i]);
+    swap_ptpm_taken(taken);
+    enum ptpm_handled answer = (enum ptpm_handled)portable_ptpm_clock_take(ADDRESS(clock), port, ADDRESS(datagram), size, ADDRESS(say), of_owner, ADDRESS(sent), room, ADDRESS(taken));
+    swap_ptpm_taken(taken);
+    for (size_t i = 0; i < taken->count; i++) swap_ptpm_sent(&sent[i]);
     return answer;
 }
 
@@ -376,12 +371,12 @@ enum ptpm_saved ptpm_clock_image(const struct ptpm_clock *clock, uint8_t *octets
     return answer;
 }
 
-enum ptpm_handled ptpm_clock_saving(struct ptpm_clock *clock) {
+enum ptpm_handled ptpm_clock_saving(struct ptpm_clock *clock, size_t places) {
     fill();
-    return (enum ptpm_handled)portable_ptpm_clock_saving(ADDRESS(clock));
+    return (enum ptpm_handled)portable_ptpm_clock_saving(ADDRESS(clock), places);
 }
 
-enum ptpm_saved ptpm_clock_image_of(const struct ptpm_clock *clock, uint8_t *octets, size_t room, size_t *size, uint64_t *token) {
+enum ptpm_saved ptpm_clock_image_of(struct ptpm_clock *clock, uint8_t *octets, size_t room, size_t *size, uint64_t *token) {
     fill();
     u64 size_out = 0;
     u64 token_out = 0;
@@ -391,13 +386,27 @@ enum ptpm_saved ptpm_clock_image_of(const struct ptpm_clock *clock, uint8_t *oct
     return answer;
 }
 
-enum ptpm_saved ptpm_clock_saved(struct ptpm_clock *clock, uint64_t token, struct ptpm_sent *sent, size_t room, size_t *count) {
+enum ptpm_saved ptpm_clock_saved(struct ptpm_clock *clock, uint64_t token) {
     fill();
-    u64 count_out = 0;
-    enum ptpm_saved answer = (enum ptpm_saved)portable_ptpm_clock_saved(ADDRESS(clock), token, ADDRESS(sent), room, ADDRESS(&count_out));
-    *count = (size_t)load64(ADDRESS(&count_out));
-    for (size_t i = 0; i < *count; i++) swap_ptpm_sent(&sent[i]);
+    return (enum ptpm_saved)portable_ptpm_clock_saved(ADDRESS(clock), token);
+}
+
+size_t ptpm_clock_next(struct ptpm_clock *clock, struct ptpm_sent *message) {
+    fill();
+    swap_ptpm_sent(message);
+    size_t answer = (size_t)portable_ptpm_clock_next(ADDRESS(clock), ADDRESS(message));
+    swap_ptpm_sent(message);
     return answer;
+}
+
+size_t ptpm_clock_free(const struct ptpm_clock *clock) {
+    fill();
+    return (size_t)portable_ptpm_clock_free(ADDRESS(clock));
+}
+
+uint32_t ptpm_clock_unsaved(const struct ptpm_clock *clock) {
+    fill();
+    return (uint32_t)portable_ptpm_clock_unsaved(ADDRESS(clock));
 }
 
 enum ptpm_restored ptpm_clock_restore(struct ptpm_clock *clock, const uint8_t identity[8], size_t port_count, const struct ptpm_manager_settings *managers, size_t manager_count, const uint8_t *image, size_t size, size_t *gone) {

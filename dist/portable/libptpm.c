@@ -157,737 +157,739 @@ static const union { u8 octets[8]; u64 aligned; } octets_of_c70 = { { 78,79,95,6
 #define c71 (octets_of_c71.octets)
 static const union { u8 octets[7]; u64 aligned; } octets_of_c71 = { { 66,65,68,95,83,65,89 } };
 #define c72 (octets_of_c72.octets)
-static const union { u8 octets[11]; u64 aligned; } octets_of_c72 = { { 67,65,78,84,95,79,66,74,69,67,84 } };
+static const union { u8 octets[12]; u64 aligned; } octets_of_c72 = { { 66,65,68,95,73,68,69,78,84,73,84,89 } };
 #define c73 (octets_of_c73.octets)
-static const union { u8 octets[12]; u64 aligned; } octets_of_c73 = { { 66,65,68,95,73,68,69,78,84,73,84,89 } };
+static const union { u8 octets[10]; u64 aligned; } octets_of_c73 = { { 66,65,68,95,68,79,77,65,73,78 } };
 #define c74 (octets_of_c74.octets)
-static const union { u8 octets[10]; u64 aligned; } octets_of_c74 = { { 66,65,68,95,68,79,77,65,73,78 } };
+static const union { u8 octets[20]; u64 aligned; } octets_of_c74 = { { 66,65,68,95,85,83,69,82,95,68,69,83,67,82,73,80,84,73,79,78 } };
 #define c75 (octets_of_c75.octets)
-static const union { u8 octets[20]; u64 aligned; } octets_of_c75 = { { 66,65,68,95,85,83,69,82,95,68,69,83,67,82,73,80,84,73,79,78 } };
+static const union { u8 octets[12]; u64 aligned; } octets_of_c75 = { { 66,65,68,95,84,87,79,95,83,84,69,80 } };
 #define c76 (octets_of_c76.octets)
-static const union { u8 octets[12]; u64 aligned; } octets_of_c76 = { { 66,65,68,95,84,87,79,95,83,84,69,80 } };
+static const union { u8 octets[13]; u64 aligned; } octets_of_c76 = { { 66,65,68,95,80,82,73,79,82,73,84,89,49 } };
 #define c77 (octets_of_c77.octets)
-static const union { u8 octets[13]; u64 aligned; } octets_of_c77 = { { 66,65,68,95,80,82,73,79,82,73,84,89,49 } };
+static const union { u8 octets[15]; u64 aligned; } octets_of_c77 = { { 66,65,68,95,67,76,79,67,75,95,67,76,65,83,83 } };
 #define c78 (octets_of_c78.octets)
-static const union { u8 octets[15]; u64 aligned; } octets_of_c78 = { { 66,65,68,95,67,76,79,67,75,95,67,76,65,83,83 } };
+static const union { u8 octets[18]; u64 aligned; } octets_of_c78 = { { 66,65,68,95,67,76,79,67,75,95,65,67,67,85,82,65,67,89 } };
 #define c79 (octets_of_c79.octets)
-static const union { u8 octets[18]; u64 aligned; } octets_of_c79 = { { 66,65,68,95,67,76,79,67,75,95,65,67,67,85,82,65,67,89 } };
+static const union { u8 octets[12]; u64 aligned; } octets_of_c79 = { { 66,65,68,95,86,65,82,73,65,78,67,69 } };
 #define c80 (octets_of_c80.octets)
-static const union { u8 octets[12]; u64 aligned; } octets_of_c80 = { { 66,65,68,95,86,65,82,73,65,78,67,69 } };
+static const union { u8 octets[13]; u64 aligned; } octets_of_c80 = { { 66,65,68,95,80,82,73,79,82,73,84,89,50 } };
 #define c81 (octets_of_c81.octets)
-static const union { u8 octets[13]; u64 aligned; } octets_of_c81 = { { 66,65,68,95,80,82,73,79,82,73,84,89,50 } };
+static const union { u8 octets[17]; u64 aligned; } octets_of_c81 = { { 66,65,68,95,83,84,69,80,83,95,82,69,77,79,86,69,68 } };
 #define c82 (octets_of_c82.octets)
-static const union { u8 octets[17]; u64 aligned; } octets_of_c82 = { { 66,65,68,95,83,84,69,80,83,95,82,69,77,79,86,69,68 } };
+static const union { u8 octets[22]; u64 aligned; } octets_of_c82 = { { 66,65,68,95,79,70,70,83,69,84,95,70,82,79,77,95,77,65,83,84,69,82 } };
 #define c83 (octets_of_c83.octets)
-static const union { u8 octets[22]; u64 aligned; } octets_of_c83 = { { 66,65,68,95,79,70,70,83,69,84,95,70,82,79,77,95,77,65,83,84,69,82 } };
+static const union { u8 octets[19]; u64 aligned; } octets_of_c83 = { { 66,65,68,95,77,69,65,78,95,80,65,84,72,95,68,69,76,65,89 } };
 #define c84 (octets_of_c84.octets)
-static const union { u8 octets[19]; u64 aligned; } octets_of_c84 = { { 66,65,68,95,77,69,65,78,95,80,65,84,72,95,68,69,76,65,89 } };
+static const union { u8 octets[15]; u64 aligned; } octets_of_c84 = { { 66,65,68,95,80,65,82,69,78,84,95,80,79,82,84 } };
 #define c85 (octets_of_c85.octets)
-static const union { u8 octets[15]; u64 aligned; } octets_of_c85 = { { 66,65,68,95,80,65,82,69,78,84,95,80,79,82,84 } };
+static const union { u8 octets[16]; u64 aligned; } octets_of_c85 = { { 66,65,68,95,80,65,82,69,78,84,95,83,84,65,84,83 } };
 #define c86 (octets_of_c86.octets)
-static const union { u8 octets[16]; u64 aligned; } octets_of_c86 = { { 66,65,68,95,80,65,82,69,78,84,95,83,84,65,84,83 } };
+static const union { u8 octets[21]; u64 aligned; } octets_of_c86 = { { 66,65,68,95,79,66,83,69,82,86,69,68,95,86,65,82,73,65,78,67,69 } };
 #define c87 (octets_of_c87.octets)
-static const union { u8 octets[21]; u64 aligned; } octets_of_c87 = { { 66,65,68,95,79,66,83,69,82,86,69,68,95,86,65,82,73,65,78,67,69 } };
+static const union { u8 octets[17]; u64 aligned; } octets_of_c87 = { { 66,65,68,95,79,66,83,69,82,86,69,68,95,82,65,84,69 } };
 #define c88 (octets_of_c88.octets)
-static const union { u8 octets[17]; u64 aligned; } octets_of_c88 = { { 66,65,68,95,79,66,83,69,82,86,69,68,95,82,65,84,69 } };
+static const union { u8 octets[25]; u64 aligned; } octets_of_c88 = { { 66,65,68,95,71,82,65,78,68,77,65,83,84,69,82,95,80,82,73,79,82,73,84,89,49 } };
 #define c89 (octets_of_c89.octets)
-static const union { u8 octets[25]; u64 aligned; } octets_of_c89 = { { 66,65,68,95,71,82,65,78,68,77,65,83,84,69,82,95,80,82,73,79,82,73,84,89,49 } };
+static const union { u8 octets[21]; u64 aligned; } octets_of_c89 = { { 66,65,68,95,71,82,65,78,68,77,65,83,84,69,82,95,67,76,65,83,83 } };
 #define c90 (octets_of_c90.octets)
-static const union { u8 octets[21]; u64 aligned; } octets_of_c90 = { { 66,65,68,95,71,82,65,78,68,77,65,83,84,69,82,95,67,76,65,83,83 } };
+static const union { u8 octets[24]; u64 aligned; } octets_of_c90 = { { 66,65,68,95,71,82,65,78,68,77,65,83,84,69,82,95,65,67,67,85,82,65,67,89 } };
 #define c91 (octets_of_c91.octets)
-static const union { u8 octets[24]; u64 aligned; } octets_of_c91 = { { 66,65,68,95,71,82,65,78,68,77,65,83,84,69,82,95,65,67,67,85,82,65,67,89 } };
+static const union { u8 octets[24]; u64 aligned; } octets_of_c91 = { { 66,65,68,95,71,82,65,78,68,77,65,83,84,69,82,95,86,65,82,73,65,78,67,69 } };
 #define c92 (octets_of_c92.octets)
-static const union { u8 octets[24]; u64 aligned; } octets_of_c92 = { { 66,65,68,95,71,82,65,78,68,77,65,83,84,69,82,95,86,65,82,73,65,78,67,69 } };
+static const union { u8 octets[25]; u64 aligned; } octets_of_c92 = { { 66,65,68,95,71,82,65,78,68,77,65,83,84,69,82,95,80,82,73,79,82,73,84,89,50 } };
 #define c93 (octets_of_c93.octets)
-static const union { u8 octets[25]; u64 aligned; } octets_of_c93 = { { 66,65,68,95,71,82,65,78,68,77,65,83,84,69,82,95,80,82,73,79,82,73,84,89,50 } };
+static const union { u8 octets[15]; u64 aligned; } octets_of_c93 = { { 66,65,68,95,71,82,65,78,68,77,65,83,84,69,82 } };
 #define c94 (octets_of_c94.octets)
-static const union { u8 octets[15]; u64 aligned; } octets_of_c94 = { { 66,65,68,95,71,82,65,78,68,77,65,83,84,69,82 } };
+static const union { u8 octets[14]; u64 aligned; } octets_of_c94 = { { 66,65,68,95,85,84,67,95,79,70,70,83,69,84 } };
 #define c95 (octets_of_c95.octets)
-static const union { u8 octets[14]; u64 aligned; } octets_of_c95 = { { 66,65,68,95,85,84,67,95,79,70,70,83,69,84 } };
+static const union { u8 octets[10]; u64 aligned; } octets_of_c95 = { { 66,65,68,95,76,69,65,80,54,49 } };
 #define c96 (octets_of_c96.octets)
-static const union { u8 octets[10]; u64 aligned; } octets_of_c96 = { { 66,65,68,95,76,69,65,80,54,49 } };
+static const union { u8 octets[10]; u64 aligned; } octets_of_c96 = { { 66,65,68,95,76,69,65,80,53,57 } };
 #define c97 (octets_of_c97.octets)
-static const union { u8 octets[10]; u64 aligned; } octets_of_c97 = { { 66,65,68,95,76,69,65,80,53,57 } };
+static const union { u8 octets[13]; u64 aligned; } octets_of_c97 = { { 66,65,68,95,85,84,67,95,86,65,76,73,68 } };
 #define c98 (octets_of_c98.octets)
-static const union { u8 octets[13]; u64 aligned; } octets_of_c98 = { { 66,65,68,95,85,84,67,95,86,65,76,73,68 } };
+static const union { u8 octets[17]; u64 aligned; } octets_of_c98 = { { 66,65,68,95,80,84,80,95,84,73,77,69,83,67,65,76,69 } };
 #define c99 (octets_of_c99.octets)
-static const union { u8 octets[17]; u64 aligned; } octets_of_c99 = { { 66,65,68,95,80,84,80,95,84,73,77,69,83,67,65,76,69 } };
+static const union { u8 octets[18]; u64 aligned; } octets_of_c99 = { { 66,65,68,95,84,73,77,69,95,84,82,65,67,69,65,66,76,69 } };
 #define c100 (octets_of_c100.octets)
-static const union { u8 octets[18]; u64 aligned; } octets_of_c100 = { { 66,65,68,95,84,73,77,69,95,84,82,65,67,69,65,66,76,69 } };
+static const union { u8 octets[23]; u64 aligned; } octets_of_c100 = { { 66,65,68,95,70,82,69,81,85,69,78,67,89,95,84,82,65,67,69,65,66,76,69 } };
 #define c101 (octets_of_c101.octets)
-static const union { u8 octets[23]; u64 aligned; } octets_of_c101 = { { 66,65,68,95,70,82,69,81,85,69,78,67,89,95,84,82,65,67,69,65,66,76,69 } };
+static const union { u8 octets[15]; u64 aligned; } octets_of_c101 = { { 66,65,68,95,84,73,77,69,95,83,79,85,82,67,69 } };
 #define c102 (octets_of_c102.octets)
-static const union { u8 octets[15]; u64 aligned; } octets_of_c102 = { { 66,65,68,95,84,73,77,69,95,83,79,85,82,67,69 } };
+static const union { u8 octets[9]; u64 aligned; } octets_of_c102 = { { 66,65,68,95,83,84,65,84,69 } };
 #define c103 (octets_of_c103.octets)
-static const union { u8 octets[9]; u64 aligned; } octets_of_c103 = { { 66,65,68,95,83,84,65,84,69 } };
+static const union { u8 octets[21]; u64 aligned; } octets_of_c103 = { { 66,65,68,95,76,79,71,95,77,73,78,95,68,69,76,65,89,95,82,69,81 } };
 #define c104 (octets_of_c104.octets)
-static const union { u8 octets[21]; u64 aligned; } octets_of_c104 = { { 66,65,68,95,76,79,71,95,77,73,78,95,68,69,76,65,89,95,82,69,81 } };
+static const union { u8 octets[14]; u64 aligned; } octets_of_c104 = { { 66,65,68,95,80,69,69,82,95,68,69,76,65,89 } };
 #define c105 (octets_of_c105.octets)
-static const union { u8 octets[14]; u64 aligned; } octets_of_c105 = { { 66,65,68,95,80,69,69,82,95,68,69,76,65,89 } };
+static const union { u8 octets[16]; u64 aligned; } octets_of_c105 = { { 66,65,68,95,76,79,71,95,65,78,78,79,85,78,67,69 } };
 #define c106 (octets_of_c106.octets)
-static const union { u8 octets[16]; u64 aligned; } octets_of_c106 = { { 66,65,68,95,76,79,71,95,65,78,78,79,85,78,67,69 } };
+static const union { u8 octets[19]; u64 aligned; } octets_of_c106 = { { 66,65,68,95,82,69,67,69,73,80,84,95,84,73,77,69,79,85,84 } };
 #define c107 (octets_of_c107.octets)
-static const union { u8 octets[19]; u64 aligned; } octets_of_c107 = { { 66,65,68,95,82,69,67,69,73,80,84,95,84,73,77,69,79,85,84 } };
+static const union { u8 octets[12]; u64 aligned; } octets_of_c107 = { { 66,65,68,95,76,79,71,95,83,89,78,67 } };
 #define c108 (octets_of_c108.octets)
-static const union { u8 octets[12]; u64 aligned; } octets_of_c108 = { { 66,65,68,95,76,79,71,95,83,89,78,67 } };
+static const union { u8 octets[19]; u64 aligned; } octets_of_c108 = { { 66,65,68,95,68,69,76,65,89,95,77,69,67,72,65,78,73,83,77 } };
 #define c109 (octets_of_c109.octets)
-static const union { u8 octets[19]; u64 aligned; } octets_of_c109 = { { 66,65,68,95,68,69,76,65,89,95,77,69,67,72,65,78,73,83,77 } };
+static const union { u8 octets[18]; u64 aligned; } octets_of_c109 = { { 66,65,68,95,76,79,71,95,77,73,78,95,80,68,69,76,65,89 } };
 #define c110 (octets_of_c110.octets)
-static const union { u8 octets[18]; u64 aligned; } octets_of_c110 = { { 66,65,68,95,76,79,71,95,77,73,78,95,80,68,69,76,65,89 } };
+static const union { u8 octets[19]; u64 aligned; } octets_of_c110 = { { 78,85,76,76,95,80,84,80,95,77,65,78,65,71,69,77,69,78,84 } };
 #define c111 (octets_of_c111.octets)
-static const union { u8 octets[19]; u64 aligned; } octets_of_c111 = { { 78,85,76,76,95,80,84,80,95,77,65,78,65,71,69,77,69,78,84 } };
+static const union { u8 octets[16]; u64 aligned; } octets_of_c111 = { { 85,83,69,82,95,68,69,83,67,82,73,80,84,73,79,78 } };
 #define c112 (octets_of_c112.octets)
-static const union { u8 octets[16]; u64 aligned; } octets_of_c112 = { { 85,83,69,82,95,68,69,83,67,82,73,80,84,73,79,78 } };
+static const union { u8 octets[16]; u64 aligned; } octets_of_c112 = { { 68,69,70,65,85,76,84,95,68,65,84,65,95,83,69,84 } };
 #define c113 (octets_of_c113.octets)
-static const union { u8 octets[16]; u64 aligned; } octets_of_c113 = { { 68,69,70,65,85,76,84,95,68,65,84,65,95,83,69,84 } };
+static const union { u8 octets[16]; u64 aligned; } octets_of_c113 = { { 67,85,82,82,69,78,84,95,68,65,84,65,95,83,69,84 } };
 #define c114 (octets_of_c114.octets)
-static const union { u8 octets[16]; u64 aligned; } octets_of_c114 = { { 67,85,82,82,69,78,84,95,68,65,84,65,95,83,69,84 } };
+static const union { u8 octets[15]; u64 aligned; } octets_of_c114 = { { 80,65,82,69,78,84,95,68,65,84,65,95,83,69,84 } };
 #define c115 (octets_of_c115.octets)
-static const union { u8 octets[15]; u64 aligned; } octets_of_c115 = { { 80,65,82,69,78,84,95,68,65,84,65,95,83,69,84 } };
+static const union { u8 octets[24]; u64 aligned; } octets_of_c115 = { { 84,73,77,69,95,80,82,79,80,69,82,84,73,69,83,95,68,65,84,65,95,83,69,84 } };
 #define c116 (octets_of_c116.octets)
-static const union { u8 octets[24]; u64 aligned; } octets_of_c116 = { { 84,73,77,69,95,80,82,79,80,69,82,84,73,69,83,95,68,65,84,65,95,83,69,84 } };
+static const union { u8 octets[13]; u64 aligned; } octets_of_c116 = { { 80,79,82,84,95,68,65,84,65,95,83,69,84 } };
 #define c117 (octets_of_c117.octets)
-static const union { u8 octets[13]; u64 aligned; } octets_of_c117 = { { 80,79,82,84,95,68,65,84,65,95,83,69,84 } };
+static const union { u8 octets[9]; u64 aligned; } octets_of_c117 = { { 80,82,73,79,82,73,84,89,49 } };
 #define c118 (octets_of_c118.octets)
-static const union { u8 octets[9]; u64 aligned; } octets_of_c118 = { { 80,82,73,79,82,73,84,89,49 } };
+static const union { u8 octets[9]; u64 aligned; } octets_of_c118 = { { 80,82,73,79,82,73,84,89,50 } };
 #define c119 (octets_of_c119.octets)
-static const union { u8 octets[9]; u64 aligned; } octets_of_c119 = { { 80,82,73,79,82,73,84,89,50 } };
+static const union { u8 octets[6]; u64 aligned; } octets_of_c119 = { { 68,79,77,65,73,78 } };
 #define c120 (octets_of_c120.octets)
-static const union { u8 octets[6]; u64 aligned; } octets_of_c120 = { { 68,79,77,65,73,78 } };
+static const union { u8 octets[10]; u64 aligned; } octets_of_c120 = { { 83,76,65,86,69,95,79,78,76,89 } };
 #define c121 (octets_of_c121.octets)
-static const union { u8 octets[10]; u64 aligned; } octets_of_c121 = { { 83,76,65,86,69,95,79,78,76,89 } };
+static const union { u8 octets[14]; u64 aligned; } octets_of_c121 = { { 86,69,82,83,73,79,78,95,78,85,77,66,69,82 } };
 #define c122 (octets_of_c122.octets)
-static const union { u8 octets[14]; u64 aligned; } octets_of_c122 = { { 86,69,82,83,73,79,78,95,78,85,77,66,69,82 } };
+static const union { u8 octets[11]; u64 aligned; } octets_of_c122 = { { 69,78,65,66,76,69,95,80,79,82,84 } };
 #define c123 (octets_of_c123.octets)
-static const union { u8 octets[11]; u64 aligned; } octets_of_c123 = { { 69,78,65,66,76,69,95,80,79,82,84 } };
+static const union { u8 octets[12]; u64 aligned; } octets_of_c123 = { { 68,73,83,65,66,76,69,95,80,79,82,84 } };
 #define c124 (octets_of_c124.octets)
-static const union { u8 octets[12]; u64 aligned; } octets_of_c124 = { { 68,73,83,65,66,76,69,95,80,79,82,84 } };
+static const union { u8 octets[14]; u64 aligned; } octets_of_c124 = { { 67,76,79,67,75,95,65,67,67,85,82,65,67,89 } };
 #define c125 (octets_of_c125.octets)
-static const union { u8 octets[14]; u64 aligned; } octets_of_c125 = { { 67,76,79,67,75,95,65,67,67,85,82,65,67,89 } };
+static const union { u8 octets[14]; u64 aligned; } octets_of_c125 = { { 85,84,67,95,80,82,79,80,69,82,84,73,69,83 } };
 #define c126 (octets_of_c126.octets)
-static const union { u8 octets[14]; u64 aligned; } octets_of_c126 = { { 85,84,67,95,80,82,79,80,69,82,84,73,69,83 } };
+static const union { u8 octets[21]; u64 aligned; } octets_of_c126 = { { 76,79,71,95,65,78,78,79,85,78,67,69,95,73,78,84,69,82,86,65,76 } };
 #define c127 (octets_of_c127.octets)
-static const union { u8 octets[21]; u64 aligned; } octets_of_c127 = { { 76,79,71,95,65,78,78,79,85,78,67,69,95,73,78,84,69,82,86,65,76 } };
+static const union { u8 octets[19]; u64 aligned; } octets_of_c127 = { { 108,111,103,65,110,110,111,117,110,99,101,73,110,116,101,114,118,97,108 } };
 #define c128 (octets_of_c128.octets)
-static const union { u8 octets[19]; u64 aligned; } octets_of_c128 = { { 108,111,103,65,110,110,111,117,110,99,101,73,110,116,101,114,118,97,108 } };
+static const union { u8 octets[24]; u64 aligned; } octets_of_c128 = { { 65,78,78,79,85,78,67,69,95,82,69,67,69,73,80,84,95,84,73,77,69,79,85,84 } };
 #define c129 (octets_of_c129.octets)
-static const union { u8 octets[24]; u64 aligned; } octets_of_c129 = { { 65,78,78,79,85,78,67,69,95,82,69,67,69,73,80,84,95,84,73,77,69,79,85,84 } };
+static const union { u8 octets[22]; u64 aligned; } octets_of_c129 = { { 97,110,110,111,117,110,99,101,82,101,99,101,105,112,116,84,105,109,101,111,117,116 } };
 #define c130 (octets_of_c130.octets)
-static const union { u8 octets[22]; u64 aligned; } octets_of_c130 = { { 97,110,110,111,117,110,99,101,82,101,99,101,105,112,116,84,105,109,101,111,117,116 } };
+static const union { u8 octets[17]; u64 aligned; } octets_of_c130 = { { 76,79,71,95,83,89,78,67,95,73,78,84,69,82,86,65,76 } };
 #define c131 (octets_of_c131.octets)
-static const union { u8 octets[17]; u64 aligned; } octets_of_c131 = { { 76,79,71,95,83,89,78,67,95,73,78,84,69,82,86,65,76 } };
+static const union { u8 octets[15]; u64 aligned; } octets_of_c131 = { { 108,111,103,83,121,110,99,73,110,116,101,114,118,97,108 } };
 #define c132 (octets_of_c132.octets)
-static const union { u8 octets[15]; u64 aligned; } octets_of_c132 = { { 108,111,103,83,121,110,99,73,110,116,101,114,118,97,108 } };
+static const union { u8 octets[15]; u64 aligned; } octets_of_c132 = { { 68,69,76,65,89,95,77,69,67,72,65,78,73,83,77 } };
 #define c133 (octets_of_c133.octets)
-static const union { u8 octets[15]; u64 aligned; } octets_of_c133 = { { 68,69,76,65,89,95,77,69,67,72,65,78,73,83,77 } };
+static const union { u8 octets[14]; u64 aligned; } octets_of_c133 = { { 100,101,108,97,121,77,101,99,104,97,110,105,115,109 } };
 #define c134 (octets_of_c134.octets)
-static const union { u8 octets[14]; u64 aligned; } octets_of_c134 = { { 100,101,108,97,121,77,101,99,104,97,110,105,115,109 } };
+static const union { u8 octets[27]; u64 aligned; } octets_of_c134 = { { 76,79,71,95,77,73,78,95,80,68,69,76,65,89,95,82,69,81,95,73,78,84,69,82,86,65,76 } };
 #define c135 (octets_of_c135.octets)
-static const union { u8 octets[27]; u64 aligned; } octets_of_c135 = { { 76,79,71,95,77,73,78,95,80,68,69,76,65,89,95,82,69,81,95,73,78,84,69,82,86,65,76 } };
+static const union { u8 octets[23]; u64 aligned; } octets_of_c135 = { { 108,111,103,77,105,110,80,100,101,108,97,121,82,101,113,73,110,116,101,114,118,97,108 } };
+#if IS_LITTLE_ENDIAN
+static const struct form_of_c136 { slot slot0; u8 octets8[1472]; } octets_of_c136;
+#define c136 ((const u8 *)&octets_of_c136)
+#else
+static union form_of_c136 { u8 octets[1480]; u64 aligned; } octets_of_c136;
 #define c136 (octets_of_c136.octets)
-static const union { u8 octets[23]; u64 aligned; } octets_of_c136 = { { 108,111,103,77,105,110,80,100,101,108,97,121,82,101,113,73,110,116,101,114,118,97,108 } };
-#if IS_LITTLE_ENDIAN
-static const struct form_of_c137 { slot slot0; u8 octets8[1472]; } octets_of_c137;
-#define c137 ((const u8 *)&octets_of_c137)
-#else
-static union form_of_c137 { u8 octets[1480]; u64 aligned; } octets_of_c137;
+#endif
 #define c137 (octets_of_c137.octets)
-#endif
+static const union { u8 octets[12]; u64 aligned; } octets_of_c137 = { { 0,2,0,0,0,0,0,0,0,0,0,0 } };
 #define c138 (octets_of_c138.octets)
-static const union { u8 octets[12]; u64 aligned; } octets_of_c138 = { { 0,2,0,0,0,0,0,0,0,0,0,0 } };
+static const union { u8 octets[1]; u64 aligned; } octets_of_c138 = { { 0 } };
 #define c139 (octets_of_c139.octets)
-static const union { u8 octets[1]; u64 aligned; } octets_of_c139 = { { 0 } };
+static const union { u8 octets[8]; u64 aligned; } octets_of_c139 = { { 112,116,112,109,2,1,0,0 } };
 #define c140 (octets_of_c140.octets)
-static const union { u8 octets[8]; u64 aligned; } octets_of_c140 = { { 112,116,112,109,2,1,0,0 } };
+static const union { u8 octets[16]; u64 aligned; } octets_of_c140 = { { 82,69,83,80,79,78,83,69,95,84,79,79,95,66,73,71 } };
 #define c141 (octets_of_c141.octets)
-static const union { u8 octets[16]; u64 aligned; } octets_of_c141 = { { 82,69,83,80,79,78,83,69,95,84,79,79,95,66,73,71 } };
+static const union { u8 octets[10]; u64 aligned; } octets_of_c141 = { { 78,79,95,83,85,67,72,95,73,68 } };
 #define c142 (octets_of_c142.octets)
-static const union { u8 octets[10]; u64 aligned; } octets_of_c142 = { { 78,79,95,83,85,67,72,95,73,68 } };
+static const union { u8 octets[12]; u64 aligned; } octets_of_c142 = { { 87,82,79,78,71,95,76,69,78,71,84,72 } };
 #define c143 (octets_of_c143.octets)
-static const union { u8 octets[12]; u64 aligned; } octets_of_c143 = { { 87,82,79,78,71,95,76,69,78,71,84,72 } };
+static const union { u8 octets[11]; u64 aligned; } octets_of_c143 = { { 87,82,79,78,71,95,86,65,76,85,69 } };
 #define c144 (octets_of_c144.octets)
-static const union { u8 octets[11]; u64 aligned; } octets_of_c144 = { { 87,82,79,78,71,95,86,65,76,85,69 } };
+static const union { u8 octets[11]; u64 aligned; } octets_of_c144 = { { 78,79,84,95,83,69,84,65,66,76,69 } };
 #define c145 (octets_of_c145.octets)
-static const union { u8 octets[11]; u64 aligned; } octets_of_c145 = { { 78,79,84,95,83,69,84,65,66,76,69 } };
+static const union { u8 octets[13]; u64 aligned; } octets_of_c145 = { { 78,79,84,95,83,85,80,80,79,82,84,69,68 } };
 #define c146 (octets_of_c146.octets)
-static const union { u8 octets[13]; u64 aligned; } octets_of_c146 = { { 78,79,84,95,83,85,80,80,79,82,84,69,68 } };
+static const union { u8 octets[13]; u64 aligned; } octets_of_c146 = { { 71,69,78,69,82,65,76,95,69,82,82,79,82 } };
 #define c147 (octets_of_c147.octets)
-static const union { u8 octets[13]; u64 aligned; } octets_of_c147 = { { 71,69,78,69,82,65,76,95,69,82,82,79,82 } };
+static const union { u8 octets[6]; u64 aligned; } octets_of_c147 = { { 0,2,0,0,10,0 } };
 #define c148 (octets_of_c148.octets)
-static const union { u8 octets[6]; u64 aligned; } octets_of_c148 = { { 0,2,0,0,10,0 } };
+static const union { u8 octets[60]; u64 aligned; } octets_of_c148 = { { 0,3,0,0,3,1,2,0,0,0,3,2,1,0,0,2,0,2,0,4,0,4,0,1,0,5,0,5,0,1,0,6,0,6,1,1,0,7,0,7,1,2,0,8,0,9,0,1,0,0,0,10,7,0,0,1,0,18,0,1 } };
 #define c149 (octets_of_c149.octets)
-static const union { u8 octets[60]; u64 aligned; } octets_of_c149 = { { 0,3,0,0,3,1,2,0,0,0,3,2,1,0,0,2,0,2,0,4,0,4,0,1,0,5,0,5,0,1,0,6,0,6,1,1,0,7,0,7,1,2,0,8,0,9,0,1,0,0,0,10,7,0,0,1,0,18,0,1 } };
+static const union { u8 octets[18]; u64 aligned; } octets_of_c149 = { { 0,9,0,0,0,2,0,10,0,2,6,0,0,11,0,10,6,0 } };
 #define c150 (octets_of_c150.octets)
-static const union { u8 octets[18]; u64 aligned; } octets_of_c150 = { { 0,9,0,0,0,2,0,10,0,2,6,0,0,11,0,10,6,0 } };
+static const union { u8 octets[60]; u64 aligned; } octets_of_c150 = { { 0,12,0,0,8,0,0,13,0,10,3,1,0,14,0,12,1,2,0,15,0,14,2,4,0,16,0,18,0,1,0,17,0,19,0,1,0,18,0,20,1,1,0,19,0,21,1,2,0,20,0,23,0,1,0,21,0,24,7,0 } };
 #define c151 (octets_of_c151.octets)
-static const union { u8 octets[60]; u64 aligned; } octets_of_c151 = { { 0,12,0,0,8,0,0,13,0,10,3,1,0,14,0,12,1,2,0,15,0,14,2,4,0,16,0,18,0,1,0,17,0,19,0,1,0,18,0,20,1,1,0,19,0,21,1,2,0,20,0,23,0,1,0,21,0,24,7,0 } };
+static const union { u8 octets[48]; u64 aligned; } octets_of_c151 = { { 0,22,0,0,2,2,0,23,0,2,3,1,0,24,0,2,3,2,0,25,0,2,3,4,0,26,0,2,3,8,0,27,0,2,3,16,0,28,0,2,3,32,0,29,0,3,9,2 } };
 #define c152 (octets_of_c152.octets)
-static const union { u8 octets[48]; u64 aligned; } octets_of_c152 = { { 0,22,0,0,2,2,0,23,0,2,3,1,0,24,0,2,3,2,0,25,0,2,3,4,0,26,0,2,3,8,0,27,0,2,3,16,0,28,0,2,3,32,0,29,0,3,9,2 } };
+static const union { u8 octets[60]; u64 aligned; } octets_of_c152 = { { 3,0,0,0,8,0,0,30,0,10,9,0,0,31,0,11,2,1,0,32,0,12,6,0,0,33,0,20,2,1,0,33,1,21,0,1,0,33,2,22,2,1,0,33,3,23,9,1,0,33,4,24,2,1,4,0,0,25,5,0 } };
 #define c153 (octets_of_c153.octets)
-static const union { u8 octets[60]; u64 aligned; } octets_of_c153 = { { 3,0,0,0,8,0,0,30,0,10,9,0,0,31,0,11,2,1,0,32,0,12,6,0,0,33,0,20,2,1,0,33,1,21,0,1,0,33,2,22,2,1,0,33,3,23,9,1,0,33,4,24,2,1,4,0,0,25,5,0 } };
+static const union { u8 octets[6]; u64 aligned; } octets_of_c153 = { { 0,4,0,0,0,1 } };
 #define c154 (octets_of_c154.octets)
-static const union { u8 octets[6]; u64 aligned; } octets_of_c154 = { { 0,4,0,0,0,1 } };
+static const union { u8 octets[6]; u64 aligned; } octets_of_c154 = { { 0,8,0,0,0,1 } };
 #define c155 (octets_of_c155.octets)
-static const union { u8 octets[6]; u64 aligned; } octets_of_c155 = { { 0,8,0,0,0,1 } };
+static const union { u8 octets[6]; u64 aligned; } octets_of_c155 = { { 0,1,0,0,0,1 } };
 #define c156 (octets_of_c156.octets)
-static const union { u8 octets[6]; u64 aligned; } octets_of_c156 = { { 0,1,0,0,0,1 } };
+static const union { u8 octets[6]; u64 aligned; } octets_of_c156 = { { 2,0,0,0,4,0 } };
 #define c157 (octets_of_c157.octets)
-static const union { u8 octets[6]; u64 aligned; } octets_of_c157 = { { 2,0,0,0,4,0 } };
+static const union { u8 octets[6]; u64 aligned; } octets_of_c157 = { { 0,33,0,0,2,1 } };
 #define c158 (octets_of_c158.octets)
-static const union { u8 octets[6]; u64 aligned; } octets_of_c158 = { { 0,33,0,0,2,1 } };
+static const union { u8 octets[6]; u64 aligned; } octets_of_c158 = { { 0,33,1,0,0,1 } };
 #define c159 (octets_of_c159.octets)
-static const union { u8 octets[6]; u64 aligned; } octets_of_c159 = { { 0,33,1,0,0,1 } };
+static const union { u8 octets[6]; u64 aligned; } octets_of_c159 = { { 0,33,2,0,2,1 } };
 #define c160 (octets_of_c160.octets)
-static const union { u8 octets[6]; u64 aligned; } octets_of_c160 = { { 0,33,2,0,2,1 } };
+static const union { u8 octets[6]; u64 aligned; } octets_of_c160 = { { 0,33,3,0,9,1 } };
 #define c161 (octets_of_c161.octets)
-static const union { u8 octets[6]; u64 aligned; } octets_of_c161 = { { 0,33,3,0,9,1 } };
+static const union { u8 octets[6]; u64 aligned; } octets_of_c161 = { { 0,33,4,0,2,1 } };
 #define c162 (octets_of_c162.octets)
-static const union { u8 octets[6]; u64 aligned; } octets_of_c162 = { { 0,33,4,0,2,1 } };
+static const union { u8 octets[6]; u64 aligned; } octets_of_c162 = { { 4,0,0,0,5,0 } };
 #define c163 (octets_of_c163.octets)
-static const union { u8 octets[6]; u64 aligned; } octets_of_c163 = { { 4,0,0,0,5,0 } };
+static const union { u8 octets[6]; u64 aligned; } octets_of_c163 = { { 5,0,0,0,1,1 } };
 #define c164 (octets_of_c164.octets)
-static const union { u8 octets[6]; u64 aligned; } octets_of_c164 = { { 5,0,0,0,1,1 } };
+static const union { u8 octets[24]; u64 aligned; } octets_of_c164 = { { 0,22,0,0,2,2,0,23,0,2,3,1,0,24,0,2,3,2,0,25,0,2,3,4 } };
 #define c165 (octets_of_c165.octets)
-static const union { u8 octets[24]; u64 aligned; } octets_of_c165 = { { 0,22,0,0,2,2,0,23,0,2,3,1,0,24,0,2,3,2,0,25,0,2,3,4 } };
+static const union { u8 octets[4]; u64 aligned; } octets_of_c165 = { { 116,114,117,101 } };
 #define c166 (octets_of_c166.octets)
-static const union { u8 octets[4]; u64 aligned; } octets_of_c166 = { { 116,114,117,101 } };
+static const union { u8 octets[5]; u64 aligned; } octets_of_c166 = { { 102,97,108,115,101 } };
 #define c167 (octets_of_c167.octets)
-static const union { u8 octets[5]; u64 aligned; } octets_of_c167 = { { 102,97,108,115,101 } };
+static const union { u8 octets[9]; u64 aligned; } octets_of_c167 = { { 1,2,3,4,5,6,7,8,9 } };
 #define c168 (octets_of_c168.octets)
-static const union { u8 octets[9]; u64 aligned; } octets_of_c168 = { { 1,2,3,4,5,6,7,8,9 } };
+static const union { u8 octets[5]; u64 aligned; } octets_of_c168 = { { 1,2,3,4,254 } };
 #define c169 (octets_of_c169.octets)
-static const union { u8 octets[5]; u64 aligned; } octets_of_c169 = { { 1,2,3,4,254 } };
+static const union { u8 octets[9]; u64 aligned; } octets_of_c169 = { { 16,32,48,57,64,80,96,144,160 } };
 #define c170 (octets_of_c170.octets)
-static const union { u8 octets[9]; u64 aligned; } octets_of_c170 = { { 16,32,48,57,64,80,96,144,160 } };
+static const union { u8 octets[12]; u64 aligned; } octets_of_c170 = { { 73,78,73,84,73,65,76,73,90,73,78,71 } };
 #define c171 (octets_of_c171.octets)
-static const union { u8 octets[12]; u64 aligned; } octets_of_c171 = { { 73,78,73,84,73,65,76,73,90,73,78,71 } };
+static const union { u8 octets[6]; u64 aligned; } octets_of_c171 = { { 70,65,85,76,84,89 } };
 #define c172 (octets_of_c172.octets)
-static const union { u8 octets[6]; u64 aligned; } octets_of_c172 = { { 70,65,85,76,84,89 } };
+static const union { u8 octets[8]; u64 aligned; } octets_of_c172 = { { 68,73,83,65,66,76,69,68 } };
 #define c173 (octets_of_c173.octets)
-static const union { u8 octets[8]; u64 aligned; } octets_of_c173 = { { 68,73,83,65,66,76,69,68 } };
+static const union { u8 octets[9]; u64 aligned; } octets_of_c173 = { { 76,73,83,84,69,78,73,78,71 } };
 #define c174 (octets_of_c174.octets)
-static const union { u8 octets[9]; u64 aligned; } octets_of_c174 = { { 76,73,83,84,69,78,73,78,71 } };
+static const union { u8 octets[10]; u64 aligned; } octets_of_c174 = { { 80,82,69,95,77,65,83,84,69,82 } };
 #define c175 (octets_of_c175.octets)
-static const union { u8 octets[10]; u64 aligned; } octets_of_c175 = { { 80,82,69,95,77,65,83,84,69,82 } };
+static const union { u8 octets[6]; u64 aligned; } octets_of_c175 = { { 77,65,83,84,69,82 } };
 #define c176 (octets_of_c176.octets)
-static const union { u8 octets[6]; u64 aligned; } octets_of_c176 = { { 77,65,83,84,69,82 } };
+static const union { u8 octets[7]; u64 aligned; } octets_of_c176 = { { 80,65,83,83,73,86,69 } };
 #define c177 (octets_of_c177.octets)
-static const union { u8 octets[7]; u64 aligned; } octets_of_c177 = { { 80,65,83,83,73,86,69 } };
+static const union { u8 octets[12]; u64 aligned; } octets_of_c177 = { { 85,78,67,65,76,73,66,82,65,84,69,68 } };
 #define c178 (octets_of_c178.octets)
-static const union { u8 octets[12]; u64 aligned; } octets_of_c178 = { { 85,78,67,65,76,73,66,82,65,84,69,68 } };
+static const union { u8 octets[5]; u64 aligned; } octets_of_c178 = { { 83,76,65,86,69 } };
 #define c179 (octets_of_c179.octets)
-static const union { u8 octets[5]; u64 aligned; } octets_of_c179 = { { 83,76,65,86,69 } };
+static const union { u8 octets[10]; u64 aligned; } octets_of_c179 = { { 67,79,77,77,79,78,95,80,50,80 } };
 #define c180 (octets_of_c180.octets)
-static const union { u8 octets[10]; u64 aligned; } octets_of_c180 = { { 67,79,77,77,79,78,95,80,50,80 } };
+static const union { u8 octets[7]; u64 aligned; } octets_of_c180 = { { 83,80,69,67,73,65,76 } };
 #define c181 (octets_of_c181.octets)
-static const union { u8 octets[7]; u64 aligned; } octets_of_c181 = { { 83,80,69,67,73,65,76 } };
+static const union { u8 octets[3]; u64 aligned; } octets_of_c181 = { { 69,50,69 } };
 #define c182 (octets_of_c182.octets)
-static const union { u8 octets[3]; u64 aligned; } octets_of_c182 = { { 69,50,69 } };
+static const union { u8 octets[3]; u64 aligned; } octets_of_c182 = { { 80,50,80 } };
 #define c183 (octets_of_c183.octets)
-static const union { u8 octets[3]; u64 aligned; } octets_of_c183 = { { 80,50,80 } };
+static const union { u8 octets[12]; u64 aligned; } octets_of_c183 = { { 78,79,95,77,69,67,72,65,78,73,83,77 } };
 #define c184 (octets_of_c184.octets)
-static const union { u8 octets[12]; u64 aligned; } octets_of_c184 = { { 78,79,95,77,69,67,72,65,78,73,83,77 } };
+static const union { u8 octets[12]; u64 aligned; } octets_of_c184 = { { 65,84,79,77,73,67,95,67,76,79,67,75 } };
 #define c185 (octets_of_c185.octets)
-static const union { u8 octets[12]; u64 aligned; } octets_of_c185 = { { 65,84,79,77,73,67,95,67,76,79,67,75 } };
+static const union { u8 octets[4]; u64 aligned; } octets_of_c185 = { { 71,78,83,83 } };
 #define c186 (octets_of_c186.octets)
-static const union { u8 octets[4]; u64 aligned; } octets_of_c186 = { { 71,78,83,83 } };
+static const union { u8 octets[17]; u64 aligned; } octets_of_c186 = { { 84,69,82,82,69,83,84,82,73,65,76,95,82,65,68,73,79 } };
 #define c187 (octets_of_c187.octets)
-static const union { u8 octets[17]; u64 aligned; } octets_of_c187 = { { 84,69,82,82,69,83,84,82,73,65,76,95,82,65,68,73,79 } };
+static const union { u8 octets[16]; u64 aligned; } octets_of_c187 = { { 83,69,82,73,65,76,95,84,73,77,69,95,67,79,68,69 } };
 #define c188 (octets_of_c188.octets)
-static const union { u8 octets[16]; u64 aligned; } octets_of_c188 = { { 83,69,82,73,65,76,95,84,73,77,69,95,67,79,68,69 } };
+static const union { u8 octets[3]; u64 aligned; } octets_of_c188 = { { 80,84,80 } };
 #define c189 (octets_of_c189.octets)
-static const union { u8 octets[3]; u64 aligned; } octets_of_c189 = { { 80,84,80 } };
+static const union { u8 octets[3]; u64 aligned; } octets_of_c189 = { { 78,84,80 } };
 #define c190 (octets_of_c190.octets)
-static const union { u8 octets[3]; u64 aligned; } octets_of_c190 = { { 78,84,80 } };
+static const union { u8 octets[8]; u64 aligned; } octets_of_c190 = { { 72,65,78,68,95,83,69,84 } };
 #define c191 (octets_of_c191.octets)
-static const union { u8 octets[8]; u64 aligned; } octets_of_c191 = { { 72,65,78,68,95,83,69,84 } };
+static const union { u8 octets[5]; u64 aligned; } octets_of_c191 = { { 79,84,72,69,82 } };
 #define c192 (octets_of_c192.octets)
-static const union { u8 octets[5]; u64 aligned; } octets_of_c192 = { { 79,84,72,69,82 } };
+static const union { u8 octets[19]; u64 aligned; } octets_of_c192 = { { 73,78,84,69,82,78,65,76,95,79,83,67,73,76,76,65,84,79,82 } };
 #define c193 (octets_of_c193.octets)
-static const union { u8 octets[19]; u64 aligned; } octets_of_c193 = { { 73,78,84,69,82,78,65,76,95,79,83,67,73,76,76,65,84,79,82 } };
+static const union { u8 octets[8]; u64 aligned; } octets_of_c193 = { { 83,79,70,84,87,65,82,69 } };
 #define c194 (octets_of_c194.octets)
-static const union { u8 octets[8]; u64 aligned; } octets_of_c194 = { { 83,79,70,84,87,65,82,69 } };
+static const union { u8 octets[8]; u64 aligned; } octets_of_c194 = { { 72,65,82,68,87,65,82,69 } };
 #define c195 (octets_of_c195.octets)
-static const union { u8 octets[8]; u64 aligned; } octets_of_c195 = { { 72,65,82,68,87,65,82,69 } };
+static const union { u8 octets[9]; u64 aligned; } octets_of_c195 = { { 76,69,71,65,67,89,95,72,87 } };
 #define c196 (octets_of_c196.octets)
-static const union { u8 octets[9]; u64 aligned; } octets_of_c196 = { { 76,69,71,65,67,89,95,72,87 } };
+static const union { u8 octets[7]; u64 aligned; } octets_of_c196 = { { 79,78,69,83,84,69,80 } };
 #define c197 (octets_of_c197.octets)
-static const union { u8 octets[7]; u64 aligned; } octets_of_c197 = { { 79,78,69,83,84,69,80 } };
+static const union { u8 octets[8]; u64 aligned; } octets_of_c197 = { { 80,50,80,49,83,84,69,80 } };
 #define c198 (octets_of_c198.octets)
-static const union { u8 octets[8]; u64 aligned; } octets_of_c198 = { { 80,50,80,49,83,84,69,80 } };
+static const union { u8 octets[11]; u64 aligned; } octets_of_c198 = { { 110,117,109,98,101,114,80,111,114,116,115 } };
 #define c199 (octets_of_c199.octets)
-static const union { u8 octets[11]; u64 aligned; } octets_of_c199 = { { 110,117,109,98,101,114,80,111,114,116,115 } };
+static const union { u8 octets[9]; u64 aligned; } octets_of_c199 = { { 115,108,97,118,101,79,110,108,121 } };
 #define c200 (octets_of_c200.octets)
-static const union { u8 octets[9]; u64 aligned; } octets_of_c200 = { { 115,108,97,118,101,79,110,108,121 } };
+static const union { u8 octets[12]; u64 aligned; } octets_of_c200 = { { 112,111,114,116,73,100,101,110,116,105,116,121 } };
 #define c201 (octets_of_c201.octets)
-static const union { u8 octets[12]; u64 aligned; } octets_of_c201 = { { 112,111,114,116,73,100,101,110,116,105,116,121 } };
+static const union { u8 octets[13]; u64 aligned; } octets_of_c201 = { { 118,101,114,115,105,111,110,78,117,109,98,101,114 } };
 #define c202 (octets_of_c202.octets)
-static const union { u8 octets[13]; u64 aligned; } octets_of_c202 = { { 118,101,114,115,105,111,110,78,117,109,98,101,114 } };
+static const union { u8 octets[13]; u64 aligned; } octets_of_c202 = { { 99,108,111,99,107,65,99,99,117,114,97,99,121 } };
 #define c203 (octets_of_c203.octets)
-static const union { u8 octets[13]; u64 aligned; } octets_of_c203 = { { 99,108,111,99,107,65,99,99,117,114,97,99,121 } };
+static const union { u8 octets[12]; u64 aligned; } octets_of_c203 = { { 99,108,111,99,107,81,117,97,108,105,116,121 } };
 #define c204 (octets_of_c204.octets)
-static const union { u8 octets[12]; u64 aligned; } octets_of_c204 = { { 99,108,111,99,107,81,117,97,108,105,116,121 } };
+static const union { u8 octets[23]; u64 aligned; } octets_of_c204 = { { 103,114,97,110,100,109,97,115,116,101,114,67,108,111,99,107,81,117,97,108,105,116,121 } };
 #define c205 (octets_of_c205.octets)
-static const union { u8 octets[23]; u64 aligned; } octets_of_c205 = { { 103,114,97,110,100,109,97,115,116,101,114,67,108,111,99,107,81,117,97,108,105,116,121 } };
+static const union { u8 octets[5]; u64 aligned; } octets_of_c205 = { { 115,100,111,73,100 } };
 #define c206 (octets_of_c206.octets)
-static const union { u8 octets[5]; u64 aligned; } octets_of_c206 = { { 115,100,111,73,100 } };
+static const union { u8 octets[9]; u64 aligned; } octets_of_c206 = { { 99,108,111,99,107,84,121,112,101 } };
 #define c207 (octets_of_c207.octets)
-static const union { u8 octets[9]; u64 aligned; } octets_of_c207 = { { 99,108,111,99,107,84,121,112,101 } };
+static const union { u8 octets[21]; u64 aligned; } octets_of_c207 = { { 112,104,121,115,105,99,97,108,76,97,121,101,114,80,114,111,116,111,99,111,108 } };
 #define c208 (octets_of_c208.octets)
-static const union { u8 octets[21]; u64 aligned; } octets_of_c208 = { { 112,104,121,115,105,99,97,108,76,97,121,101,114,80,114,111,116,111,99,111,108 } };
+static const union { u8 octets[15]; u64 aligned; } octets_of_c208 = { { 112,104,121,115,105,99,97,108,65,100,100,114,101,115,115 } };
 #define c209 (octets_of_c209.octets)
-static const union { u8 octets[15]; u64 aligned; } octets_of_c209 = { { 112,104,121,115,105,99,97,108,65,100,100,114,101,115,115 } };
+static const union { u8 octets[15]; u64 aligned; } octets_of_c209 = { { 110,101,116,119,111,114,107,80,114,111,116,111,99,111,108 } };
 #define c210 (octets_of_c210.octets)
-static const union { u8 octets[15]; u64 aligned; } octets_of_c210 = { { 110,101,116,119,111,114,107,80,114,111,116,111,99,111,108 } };
+static const union { u8 octets[12]; u64 aligned; } octets_of_c210 = { { 97,100,100,114,101,115,115,70,105,101,108,100 } };
 #define c211 (octets_of_c211.octets)
-static const union { u8 octets[12]; u64 aligned; } octets_of_c211 = { { 97,100,100,114,101,115,115,70,105,101,108,100 } };
+static const union { u8 octets[20]; u64 aligned; } octets_of_c211 = { { 109,97,110,117,102,97,99,116,117,114,101,114,73,100,101,110,116,105,116,121 } };
 #define c212 (octets_of_c212.octets)
-static const union { u8 octets[20]; u64 aligned; } octets_of_c212 = { { 109,97,110,117,102,97,99,116,117,114,101,114,73,100,101,110,116,105,116,121 } };
+static const union { u8 octets[18]; u64 aligned; } octets_of_c212 = { { 112,114,111,100,117,99,116,68,101,115,99,114,105,112,116,105,111,110 } };
 #define c213 (octets_of_c213.octets)
-static const union { u8 octets[18]; u64 aligned; } octets_of_c213 = { { 112,114,111,100,117,99,116,68,101,115,99,114,105,112,116,105,111,110 } };
+static const union { u8 octets[12]; u64 aligned; } octets_of_c213 = { { 114,101,118,105,115,105,111,110,68,97,116,97 } };
 #define c214 (octets_of_c214.octets)
-static const union { u8 octets[12]; u64 aligned; } octets_of_c214 = { { 114,101,118,105,115,105,111,110,68,97,116,97 } };
+static const union { u8 octets[15]; u64 aligned; } octets_of_c214 = { { 112,114,111,102,105,108,101,73,100,101,110,116,105,116,121 } };
 #define c215 (octets_of_c215.octets)
-static const union { u8 octets[15]; u64 aligned; } octets_of_c215 = { { 112,114,111,102,105,108,101,73,100,101,110,116,105,116,121 } };
+static const union { u8 octets[12]; u64 aligned; } octets_of_c215 = { { 115,101,99,111,110,100,115,70,105,101,108,100 } };
 #define c216 (octets_of_c216.octets)
-static const union { u8 octets[12]; u64 aligned; } octets_of_c216 = { { 115,101,99,111,110,100,115,70,105,101,108,100 } };
+static const union { u8 octets[16]; u64 aligned; } octets_of_c216 = { { 110,97,110,111,115,101,99,111,110,100,115,70,105,101,108,100 } };
 #define c217 (octets_of_c217.octets)
-static const union { u8 octets[16]; u64 aligned; } octets_of_c217 = { { 110,97,110,111,115,101,99,111,110,100,115,70,105,101,108,100 } };
+static const union { u8 octets[12]; u64 aligned; } octets_of_c217 = { { 112,97,116,104,83,101,113,117,101,110,99,101 } };
 #define c218 (octets_of_c218.octets)
-static const union { u8 octets[12]; u64 aligned; } octets_of_c218 = { { 112,97,116,104,83,101,113,117,101,110,99,101 } };
+static const union { u8 octets[13]; u64 aligned; } octets_of_c218 = { { 109,97,115,116,101,114,95,111,102,102,115,101,116 } };
 #define c219 (octets_of_c219.octets)
-static const union { u8 octets[13]; u64 aligned; } octets_of_c219 = { { 109,97,115,116,101,114,95,111,102,102,115,101,116 } };
+static const union { u8 octets[12]; u64 aligned; } octets_of_c219 = { { 105,110,103,114,101,115,115,95,116,105,109,101 } };
 #define c220 (octets_of_c220.octets)
-static const union { u8 octets[12]; u64 aligned; } octets_of_c220 = { { 105,110,103,114,101,115,115,95,116,105,109,101 } };
+static const union { u8 octets[26]; u64 aligned; } octets_of_c220 = { { 99,117,109,117,108,97,116,105,118,101,83,99,97,108,101,100,82,97,116,101,79,102,102,115,101,116 } };
 #define c221 (octets_of_c221.octets)
-static const union { u8 octets[26]; u64 aligned; } octets_of_c221 = { { 99,117,109,117,108,97,116,105,118,101,83,99,97,108,101,100,82,97,116,101,79,102,102,115,101,116 } };
+static const union { u8 octets[23]; u64 aligned; } octets_of_c221 = { { 115,99,97,108,101,100,76,97,115,116,71,109,80,104,97,115,101,67,104,97,110,103,101 } };
 #define c222 (octets_of_c222.octets)
-static const union { u8 octets[23]; u64 aligned; } octets_of_c222 = { { 115,99,97,108,101,100,76,97,115,116,71,109,80,104,97,115,101,67,104,97,110,103,101 } };
+static const union { u8 octets[19]; u64 aligned; } octets_of_c222 = { { 103,109,84,105,109,101,66,97,115,101,73,110,100,105,99,97,116,111,114 } };
 #define c223 (octets_of_c223.octets)
-static const union { u8 octets[19]; u64 aligned; } octets_of_c223 = { { 103,109,84,105,109,101,66,97,115,101,73,110,100,105,99,97,116,111,114 } };
+static const union { u8 octets[17]; u64 aligned; } octets_of_c223 = { { 108,97,115,116,71,109,80,104,97,115,101,67,104,97,110,103,101 } };
 #define c224 (octets_of_c224.octets)
-static const union { u8 octets[17]; u64 aligned; } octets_of_c224 = { { 108,97,115,116,71,109,80,104,97,115,101,67,104,97,110,103,101 } };
+static const union { u8 octets[9]; u64 aligned; } octets_of_c224 = { { 103,109,80,114,101,115,101,110,116 } };
 #define c225 (octets_of_c225.octets)
-static const union { u8 octets[9]; u64 aligned; } octets_of_c225 = { { 103,109,80,114,101,115,101,110,116 } };
+static const union { u8 octets[10]; u64 aligned; } octets_of_c225 = { { 103,109,73,100,101,110,116,105,116,121 } };
 #define c226 (octets_of_c226.octets)
-static const union { u8 octets[10]; u64 aligned; } octets_of_c226 = { { 103,109,73,100,101,110,116,105,116,121 } };
+static const union { u8 octets[23]; u64 aligned; } octets_of_c226 = { { 110,101,105,103,104,98,111,114,80,114,111,112,68,101,108,97,121,84,104,114,101,115,104 } };
 #define c227 (octets_of_c227.octets)
-static const union { u8 octets[23]; u64 aligned; } octets_of_c227 = { { 110,101,105,103,104,98,111,114,80,114,111,112,68,101,108,97,121,84,104,114,101,115,104 } };
+static const union { u8 octets[9]; u64 aligned; } octets_of_c227 = { { 97,115,67,97,112,97,98,108,101 } };
 #define c228 (octets_of_c228.octets)
-static const union { u8 octets[9]; u64 aligned; } octets_of_c228 = { { 97,115,67,97,112,97,98,108,101 } };
+static const union { u8 octets[12]; u64 aligned; } octets_of_c228 = { { 116,105,109,101,115,116,97,109,112,105,110,103 } };
 #define c229 (octets_of_c229.octets)
-static const union { u8 octets[12]; u64 aligned; } octets_of_c229 = { { 116,105,109,101,115,116,97,109,112,105,110,103 } };
+static const union { u8 octets[9]; u64 aligned; } octets_of_c229 = { { 105,110,116,101,114,102,97,99,101 } };
 #define c230 (octets_of_c230.octets)
-static const union { u8 octets[9]; u64 aligned; } octets_of_c230 = { { 105,110,116,101,114,102,97,99,101 } };
+static const union { u8 octets[7]; u64 aligned; } octets_of_c230 = { { 114,120,95,83,121,110,99 } };
 #define c231 (octets_of_c231.octets)
-static const union { u8 octets[7]; u64 aligned; } octets_of_c231 = { { 114,120,95,83,121,110,99 } };
+static const union { u8 octets[12]; u64 aligned; } octets_of_c231 = { { 114,120,95,68,101,108,97,121,95,82,101,113 } };
 #define c232 (octets_of_c232.octets)
-static const union { u8 octets[12]; u64 aligned; } octets_of_c232 = { { 114,120,95,68,101,108,97,121,95,82,101,113 } };
+static const union { u8 octets[13]; u64 aligned; } octets_of_c232 = { { 114,120,95,80,100,101,108,97,121,95,82,101,113 } };
 #define c233 (octets_of_c233.octets)
-static const union { u8 octets[13]; u64 aligned; } octets_of_c233 = { { 114,120,95,80,100,101,108,97,121,95,82,101,113 } };
+static const union { u8 octets[14]; u64 aligned; } octets_of_c233 = { { 114,120,95,80,100,101,108,97,121,95,82,101,115,112 } };
 #define c234 (octets_of_c234.octets)
-static const union { u8 octets[14]; u64 aligned; } octets_of_c234 = { { 114,120,95,80,100,101,108,97,121,95,82,101,115,112 } };
+static const union { u8 octets[12]; u64 aligned; } octets_of_c234 = { { 114,120,95,70,111,108,108,111,119,95,85,112 } };
 #define c235 (octets_of_c235.octets)
-static const union { u8 octets[12]; u64 aligned; } octets_of_c235 = { { 114,120,95,70,111,108,108,111,119,95,85,112 } };
+static const union { u8 octets[13]; u64 aligned; } octets_of_c235 = { { 114,120,95,68,101,108,97,121,95,82,101,115,112 } };
 #define c236 (octets_of_c236.octets)
-static const union { u8 octets[13]; u64 aligned; } octets_of_c236 = { { 114,120,95,68,101,108,97,121,95,82,101,115,112 } };
+static const union { u8 octets[24]; u64 aligned; } octets_of_c236 = { { 114,120,95,80,100,101,108,97,121,95,82,101,115,112,95,70,111,108,108,111,119,95,85,112 } };
 #define c237 (octets_of_c237.octets)
-static const union { u8 octets[24]; u64 aligned; } octets_of_c237 = { { 114,120,95,80,100,101,108,97,121,95,82,101,115,112,95,70,111,108,108,111,119,95,85,112 } };
+static const union { u8 octets[11]; u64 aligned; } octets_of_c237 = { { 114,120,95,65,110,110,111,117,110,99,101 } };
 #define c238 (octets_of_c238.octets)
-static const union { u8 octets[11]; u64 aligned; } octets_of_c238 = { { 114,120,95,65,110,110,111,117,110,99,101 } };
+static const union { u8 octets[12]; u64 aligned; } octets_of_c238 = { { 114,120,95,83,105,103,110,97,108,105,110,103 } };
 #define c239 (octets_of_c239.octets)
-static const union { u8 octets[12]; u64 aligned; } octets_of_c239 = { { 114,120,95,83,105,103,110,97,108,105,110,103 } };
+static const union { u8 octets[13]; u64 aligned; } octets_of_c239 = { { 114,120,95,77,97,110,97,103,101,109,101,110,116 } };
 #define c240 (octets_of_c240.octets)
-static const union { u8 octets[13]; u64 aligned; } octets_of_c240 = { { 114,120,95,77,97,110,97,103,101,109,101,110,116 } };
+static const union { u8 octets[7]; u64 aligned; } octets_of_c240 = { { 116,120,95,83,121,110,99 } };
 #define c241 (octets_of_c241.octets)
-static const union { u8 octets[7]; u64 aligned; } octets_of_c241 = { { 116,120,95,83,121,110,99 } };
+static const union { u8 octets[12]; u64 aligned; } octets_of_c241 = { { 116,120,95,68,101,108,97,121,95,82,101,113 } };
 #define c242 (octets_of_c242.octets)
-static const union { u8 octets[12]; u64 aligned; } octets_of_c242 = { { 116,120,95,68,101,108,97,121,95,82,101,113 } };
+static const union { u8 octets[13]; u64 aligned; } octets_of_c242 = { { 116,120,95,80,100,101,108,97,121,95,82,101,113 } };
 #define c243 (octets_of_c243.octets)
-static const union { u8 octets[13]; u64 aligned; } octets_of_c243 = { { 116,120,95,80,100,101,108,97,121,95,82,101,113 } };
+static const union { u8 octets[14]; u64 aligned; } octets_of_c243 = { { 116,120,95,80,100,101,108,97,121,95,82,101,115,112 } };
 #define c244 (octets_of_c244.octets)
-static const union { u8 octets[14]; u64 aligned; } octets_of_c244 = { { 116,120,95,80,100,101,108,97,121,95,82,101,115,112 } };
+static const union { u8 octets[12]; u64 aligned; } octets_of_c244 = { { 116,120,95,70,111,108,108,111,119,95,85,112 } };
 #define c245 (octets_of_c245.octets)
-static const union { u8 octets[12]; u64 aligned; } octets_of_c245 = { { 116,120,95,70,111,108,108,111,119,95,85,112 } };
+static const union { u8 octets[13]; u64 aligned; } octets_of_c245 = { { 116,120,95,68,101,108,97,121,95,82,101,115,112 } };
 #define c246 (octets_of_c246.octets)
-static const union { u8 octets[13]; u64 aligned; } octets_of_c246 = { { 116,120,95,68,101,108,97,121,95,82,101,115,112 } };
+static const union { u8 octets[24]; u64 aligned; } octets_of_c246 = { { 116,120,95,80,100,101,108,97,121,95,82,101,115,112,95,70,111,108,108,111,119,95,85,112 } };
 #define c247 (octets_of_c247.octets)
-static const union { u8 octets[24]; u64 aligned; } octets_of_c247 = { { 116,120,95,80,100,101,108,97,121,95,82,101,115,112,95,70,111,108,108,111,119,95,85,112 } };
+static const union { u8 octets[11]; u64 aligned; } octets_of_c247 = { { 116,120,95,65,110,110,111,117,110,99,101 } };
 #define c248 (octets_of_c248.octets)
-static const union { u8 octets[11]; u64 aligned; } octets_of_c248 = { { 116,120,95,65,110,110,111,117,110,99,101 } };
+static const union { u8 octets[12]; u64 aligned; } octets_of_c248 = { { 116,120,95,83,105,103,110,97,108,105,110,103 } };
 #define c249 (octets_of_c249.octets)
-static const union { u8 octets[12]; u64 aligned; } octets_of_c249 = { { 116,120,95,83,105,103,110,97,108,105,110,103 } };
+static const union { u8 octets[13]; u64 aligned; } octets_of_c249 = { { 116,120,95,77,97,110,97,103,101,109,101,110,116 } };
 #define c250 (octets_of_c250.octets)
-static const union { u8 octets[13]; u64 aligned; } octets_of_c250 = { { 116,120,95,77,97,110,97,103,101,109,101,110,116 } };
+static const union { u8 octets[13]; u64 aligned; } octets_of_c250 = { { 99,108,111,99,107,73,100,101,110,116,105,116,121 } };
 #define c251 (octets_of_c251.octets)
-static const union { u8 octets[13]; u64 aligned; } octets_of_c251 = { { 99,108,111,99,107,73,100,101,110,116,105,116,121 } };
+static const union { u8 octets[12]; u64 aligned; } octets_of_c251 = { { 100,111,109,97,105,110,78,117,109,98,101,114 } };
 #define c252 (octets_of_c252.octets)
-static const union { u8 octets[12]; u64 aligned; } octets_of_c252 = { { 100,111,109,97,105,110,78,117,109,98,101,114 } };
+static const union { u8 octets[15]; u64 aligned; } octets_of_c252 = { { 117,115,101,114,68,101,115,99,114,105,112,116,105,111,110 } };
 #define c253 (octets_of_c253.octets)
-static const union { u8 octets[15]; u64 aligned; } octets_of_c253 = { { 117,115,101,114,68,101,115,99,114,105,112,116,105,111,110 } };
+static const union { u8 octets[11]; u64 aligned; } octets_of_c253 = { { 116,119,111,83,116,101,112,70,108,97,103 } };
 #define c254 (octets_of_c254.octets)
-static const union { u8 octets[11]; u64 aligned; } octets_of_c254 = { { 116,119,111,83,116,101,112,70,108,97,103 } };
+static const union { u8 octets[9]; u64 aligned; } octets_of_c254 = { { 112,114,105,111,114,105,116,121,49 } };
 #define c255 (octets_of_c255.octets)
-static const union { u8 octets[9]; u64 aligned; } octets_of_c255 = { { 112,114,105,111,114,105,116,121,49 } };
+static const union { u8 octets[23]; u64 aligned; } octets_of_c255 = { { 99,108,111,99,107,81,117,97,108,105,116,121,46,99,108,111,99,107,67,108,97,115,115 } };
 #define c256 (octets_of_c256.octets)
-static const union { u8 octets[23]; u64 aligned; } octets_of_c256 = { { 99,108,111,99,107,81,117,97,108,105,116,121,46,99,108,111,99,107,67,108,97,115,115 } };
+static const union { u8 octets[26]; u64 aligned; } octets_of_c256 = { { 99,108,111,99,107,81,117,97,108,105,116,121,46,99,108,111,99,107,65,99,99,117,114,97,99,121 } };
 #define c257 (octets_of_c257.octets)
-static const union { u8 octets[26]; u64 aligned; } octets_of_c257 = { { 99,108,111,99,107,81,117,97,108,105,116,121,46,99,108,111,99,107,65,99,99,117,114,97,99,121 } };
+static const union { u8 octets[36]; u64 aligned; } octets_of_c257 = { { 99,108,111,99,107,81,117,97,108,105,116,121,46,111,102,102,115,101,116,83,99,97,108,101,100,76,111,103,86,97,114,105,97,110,99,101 } };
 #define c258 (octets_of_c258.octets)
-static const union { u8 octets[36]; u64 aligned; } octets_of_c258 = { { 99,108,111,99,107,81,117,97,108,105,116,121,46,111,102,102,115,101,116,83,99,97,108,101,100,76,111,103,86,97,114,105,97,110,99,101 } };
+static const union { u8 octets[9]; u64 aligned; } octets_of_c258 = { { 112,114,105,111,114,105,116,121,50 } };
 #define c259 (octets_of_c259.octets)
-static const union { u8 octets[9]; u64 aligned; } octets_of_c259 = { { 112,114,105,111,114,105,116,121,50 } };
+static const union { u8 octets[12]; u64 aligned; } octets_of_c259 = { { 115,116,101,112,115,82,101,109,111,118,101,100 } };
 #define c260 (octets_of_c260.octets)
-static const union { u8 octets[12]; u64 aligned; } octets_of_c260 = { { 115,116,101,112,115,82,101,109,111,118,101,100 } };
+static const union { u8 octets[16]; u64 aligned; } octets_of_c260 = { { 111,102,102,115,101,116,70,114,111,109,77,97,115,116,101,114 } };
 #define c261 (octets_of_c261.octets)
-static const union { u8 octets[16]; u64 aligned; } octets_of_c261 = { { 111,102,102,115,101,116,70,114,111,109,77,97,115,116,101,114 } };
+static const union { u8 octets[9]; u64 aligned; } octets_of_c261 = { { 109,101,97,110,68,101,108,97,121 } };
 #define c262 (octets_of_c262.octets)
-static const union { u8 octets[9]; u64 aligned; } octets_of_c262 = { { 109,101,97,110,68,101,108,97,121 } };
+static const union { u8 octets[18]; u64 aligned; } octets_of_c262 = { { 112,97,114,101,110,116,80,111,114,116,73,100,101,110,116,105,116,121 } };
 #define c263 (octets_of_c263.octets)
-static const union { u8 octets[18]; u64 aligned; } octets_of_c263 = { { 112,97,114,101,110,116,80,111,114,116,73,100,101,110,116,105,116,121 } };
+static const union { u8 octets[11]; u64 aligned; } octets_of_c263 = { { 112,97,114,101,110,116,83,116,97,116,115 } };
 #define c264 (octets_of_c264.octets)
-static const union { u8 octets[11]; u64 aligned; } octets_of_c264 = { { 112,97,114,101,110,116,83,116,97,116,115 } };
+static const union { u8 octets[37]; u64 aligned; } octets_of_c264 = { { 111,98,115,101,114,118,101,100,80,97,114,101,110,116,79,102,102,115,101,116,83,99,97,108,101,100,76,111,103,86,97,114,105,97,110,99,101 } };
 #define c265 (octets_of_c265.octets)
-static const union { u8 octets[37]; u64 aligned; } octets_of_c265 = { { 111,98,115,101,114,118,101,100,80,97,114,101,110,116,79,102,102,115,101,116,83,99,97,108,101,100,76,111,103,86,97,114,105,97,110,99,101 } };
+static const union { u8 octets[34]; u64 aligned; } octets_of_c265 = { { 111,98,115,101,114,118,101,100,80,97,114,101,110,116,67,108,111,99,107,80,104,97,115,101,67,104,97,110,103,101,82,97,116,101 } };
 #define c266 (octets_of_c266.octets)
-static const union { u8 octets[34]; u64 aligned; } octets_of_c266 = { { 111,98,115,101,114,118,101,100,80,97,114,101,110,116,67,108,111,99,107,80,104,97,115,101,67,104,97,110,103,101,82,97,116,101 } };
+static const union { u8 octets[20]; u64 aligned; } octets_of_c266 = { { 103,114,97,110,100,109,97,115,116,101,114,80,114,105,111,114,105,116,121,49 } };
 #define c267 (octets_of_c267.octets)
-static const union { u8 octets[20]; u64 aligned; } octets_of_c267 = { { 103,114,97,110,100,109,97,115,116,101,114,80,114,105,111,114,105,116,121,49 } };
+static const union { u8 octets[34]; u64 aligned; } octets_of_c267 = { { 103,114,97,110,100,109,97,115,116,101,114,67,108,111,99,107,81,117,97,108,105,116,121,46,99,108,111,99,107,67,108,97,115,115 } };
 #define c268 (octets_of_c268.octets)
-static const union { u8 octets[34]; u64 aligned; } octets_of_c268 = { { 103,114,97,110,100,109,97,115,116,101,114,67,108,111,99,107,81,117,97,108,105,116,121,46,99,108,111,99,107,67,108,97,115,115 } };
+static const union { u8 octets[37]; u64 aligned; } octets_of_c268 = { { 103,114,97,110,100,109,97,115,116,101,114,67,108,111,99,107,81,117,97,108,105,116,121,46,99,108,111,99,107,65,99,99,117,114,97,99,121 } };
 #define c269 (octets_of_c269.octets)
-static const union { u8 octets[37]; u64 aligned; } octets_of_c269 = { { 103,114,97,110,100,109,97,115,116,101,114,67,108,111,99,107,81,117,97,108,105,116,121,46,99,108,111,99,107,65,99,99,117,114,97,99,121 } };
+static const union { u8 octets[47]; u64 aligned; } octets_of_c269 = { { 103,114,97,110,100,109,97,115,116,101,114,67,108,111,99,107,81,117,97,108,105,116,121,46,111,102,102,115,101,116,83,99,97,108,101,100,76,111,103,86,97,114,105,97,110,99,101 } };
 #define c270 (octets_of_c270.octets)
-static const union { u8 octets[47]; u64 aligned; } octets_of_c270 = { { 103,114,97,110,100,109,97,115,116,101,114,67,108,111,99,107,81,117,97,108,105,116,121,46,111,102,102,115,101,116,83,99,97,108,101,100,76,111,103,86,97,114,105,97,110,99,101 } };
+static const union { u8 octets[20]; u64 aligned; } octets_of_c270 = { { 103,114,97,110,100,109,97,115,116,101,114,80,114,105,111,114,105,116,121,50 } };
 #define c271 (octets_of_c271.octets)
-static const union { u8 octets[20]; u64 aligned; } octets_of_c271 = { { 103,114,97,110,100,109,97,115,116,101,114,80,114,105,111,114,105,116,121,50 } };
+static const union { u8 octets[19]; u64 aligned; } octets_of_c271 = { { 103,114,97,110,100,109,97,115,116,101,114,73,100,101,110,116,105,116,121 } };
 #define c272 (octets_of_c272.octets)
-static const union { u8 octets[19]; u64 aligned; } octets_of_c272 = { { 103,114,97,110,100,109,97,115,116,101,114,73,100,101,110,116,105,116,121 } };
+static const union { u8 octets[16]; u64 aligned; } octets_of_c272 = { { 99,117,114,114,101,110,116,85,116,99,79,102,102,115,101,116 } };
 #define c273 (octets_of_c273.octets)
-static const union { u8 octets[16]; u64 aligned; } octets_of_c273 = { { 99,117,114,114,101,110,116,85,116,99,79,102,102,115,101,116 } };
+static const union { u8 octets[6]; u64 aligned; } octets_of_c273 = { { 108,101,97,112,54,49 } };
 #define c274 (octets_of_c274.octets)
-static const union { u8 octets[6]; u64 aligned; } octets_of_c274 = { { 108,101,97,112,54,49 } };
+static const union { u8 octets[6]; u64 aligned; } octets_of_c274 = { { 108,101,97,112,53,57 } };
 #define c275 (octets_of_c275.octets)
-static const union { u8 octets[6]; u64 aligned; } octets_of_c275 = { { 108,101,97,112,53,57 } };
+static const union { u8 octets[21]; u64 aligned; } octets_of_c275 = { { 99,117,114,114,101,110,116,85,116,99,79,102,102,115,101,116,86,97,108,105,100 } };
 #define c276 (octets_of_c276.octets)
-static const union { u8 octets[21]; u64 aligned; } octets_of_c276 = { { 99,117,114,114,101,110,116,85,116,99,79,102,102,115,101,116,86,97,108,105,100 } };
+static const union { u8 octets[12]; u64 aligned; } octets_of_c276 = { { 112,116,112,84,105,109,101,115,99,97,108,101 } };
 #define c277 (octets_of_c277.octets)
-static const union { u8 octets[12]; u64 aligned; } octets_of_c277 = { { 112,116,112,84,105,109,101,115,99,97,108,101 } };
+static const union { u8 octets[13]; u64 aligned; } octets_of_c277 = { { 116,105,109,101,84,114,97,99,101,97,98,108,101 } };
 #define c278 (octets_of_c278.octets)
-static const union { u8 octets[13]; u64 aligned; } octets_of_c278 = { { 116,105,109,101,84,114,97,99,101,97,98,108,101 } };
+static const union { u8 octets[18]; u64 aligned; } octets_of_c278 = { { 102,114,101,113,117,101,110,99,121,84,114,97,99,101,97,98,108,101 } };
 #define c279 (octets_of_c279.octets)
-static const union { u8 octets[18]; u64 aligned; } octets_of_c279 = { { 102,114,101,113,117,101,110,99,121,84,114,97,99,101,97,98,108,101 } };
+static const union { u8 octets[10]; u64 aligned; } octets_of_c279 = { { 116,105,109,101,83,111,117,114,99,101 } };
 #define c280 (octets_of_c280.octets)
-static const union { u8 octets[10]; u64 aligned; } octets_of_c280 = { { 116,105,109,101,83,111,117,114,99,101 } };
+static const union { u8 octets[9]; u64 aligned; } octets_of_c280 = { { 112,111,114,116,83,116,97,116,101 } };
 #define c281 (octets_of_c281.octets)
-static const union { u8 octets[9]; u64 aligned; } octets_of_c281 = { { 112,111,114,116,83,116,97,116,101 } };
+static const union { u8 octets[22]; u64 aligned; } octets_of_c281 = { { 108,111,103,77,105,110,68,101,108,97,121,82,101,113,73,110,116,101,114,118,97,108 } };
 #define c282 (octets_of_c282.octets)
-static const union { u8 octets[22]; u64 aligned; } octets_of_c282 = { { 108,111,103,77,105,110,68,101,108,97,121,82,101,113,73,110,116,101,114,118,97,108 } };
+static const union { u8 octets[13]; u64 aligned; } octets_of_c282 = { { 109,101,97,110,76,105,110,107,68,101,108,97,121 } };
 #define c283 (octets_of_c283.octets)
-static const union { u8 octets[13]; u64 aligned; } octets_of_c283 = { { 109,101,97,110,76,105,110,107,68,101,108,97,121 } };
+static const union { u8 octets[26]; u64 aligned; } octets_of_c283 = { { 32,111,114,32,97,32,110,117,109,98,101,114,32,102,114,111,109,32,48,32,116,111,32,50,53,53 } };
 #define c284 (octets_of_c284.octets)
-static const union { u8 octets[26]; u64 aligned; } octets_of_c284 = { { 32,111,114,32,97,32,110,117,109,98,101,114,32,102,114,111,109,32,48,32,116,111,32,50,53,53 } };
+static const union { u8 octets[2]; u64 aligned; } octets_of_c284 = { { 48,120 } };
 #define c285 (octets_of_c285.octets)
-static const union { u8 octets[2]; u64 aligned; } octets_of_c285 = { { 48,120 } };
+static const union { u8 octets[2]; u64 aligned; } octets_of_c285 = { { 44,32 } };
 #define c286 (octets_of_c286.octets)
-static const union { u8 octets[2]; u64 aligned; } octets_of_c286 = { { 44,32 } };
+static const union { u8 octets[25]; u64 aligned; } octets_of_c286 = { { 97,32,110,117,109,98,101,114,32,102,114,111,109,32,45,49,50,56,32,116,111,32,49,50,55 } };
 #define c287 (octets_of_c287.octets)
-static const union { u8 octets[25]; u64 aligned; } octets_of_c287 = { { 97,32,110,117,109,98,101,114,32,102,114,111,109,32,45,49,50,56,32,116,111,32,49,50,55 } };
+static const union { u8 octets[29]; u64 aligned; } octets_of_c287 = { { 97,32,110,117,109,98,101,114,32,102,114,111,109,32,45,51,50,55,54,56,32,116,111,32,51,50,55,54,55 } };
 #define c288 (octets_of_c288.octets)
-static const union { u8 octets[29]; u64 aligned; } octets_of_c288 = { { 97,32,110,117,109,98,101,114,32,102,114,111,109,32,45,51,50,55,54,56,32,116,111,32,51,50,55,54,55 } };
+static const union { u8 octets[13]; u64 aligned; } octets_of_c288 = { { 116,114,117,101,32,111,114,32,102,97,108,115,101 } };
 #define c289 (octets_of_c289.octets)
-static const union { u8 octets[13]; u64 aligned; } octets_of_c289 = { { 116,114,117,101,32,111,114,32,102,97,108,115,101 } };
+static const union { u8 octets[55]; u64 aligned; } octets_of_c289 = { { 97,32,110,117,109,98,101,114,32,102,114,111,109,32,48,32,116,111,32,49,53,44,32,111,114,32,48,120,32,97,110,100,32,116,119,111,32,104,101,120,97,100,101,99,105,109,97,108,32,100,105,103,105,116,115 } };
 #define c290 (octets_of_c290.octets)
-static const union { u8 octets[55]; u64 aligned; } octets_of_c290 = { { 97,32,110,117,109,98,101,114,32,102,114,111,109,32,48,32,116,111,32,49,53,44,32,111,114,32,48,120,32,97,110,100,32,116,119,111,32,104,101,120,97,100,101,99,105,109,97,108,32,100,105,103,105,116,115 } };
+static const union { u8 octets[37]; u64 aligned; } octets_of_c290 = { { 97,32,116,101,120,116,32,111,102,32,97,116,32,109,111,115,116,32,49,50,56,32,111,99,116,101,116,115,32,105,110,32,85,84,70,45,56 } };
 #define c291 (octets_of_c291.octets)
-static const union { u8 octets[37]; u64 aligned; } octets_of_c291 = { { 97,32,116,101,120,116,32,111,102,32,97,116,32,109,111,115,116,32,49,50,56,32,111,99,116,101,116,115,32,105,110,32,85,84,70,45,56 } };
+static const union { u8 octets[56]; u64 aligned; } octets_of_c291 = { { 97,32,110,117,109,98,101,114,32,102,114,111,109,32,48,32,116,111,32,50,53,53,44,32,111,114,32,48,120,32,97,110,100,32,116,119,111,32,104,101,120,97,100,101,99,105,109,97,108,32,100,105,103,105,116,115 } };
 #define c292 (octets_of_c292.octets)
-static const union { u8 octets[56]; u64 aligned; } octets_of_c292 = { { 97,32,110,117,109,98,101,114,32,102,114,111,109,32,48,32,116,111,32,50,53,53,44,32,111,114,32,48,120,32,97,110,100,32,116,119,111,32,104,101,120,97,100,101,99,105,109,97,108,32,100,105,103,105,116,115 } };
+static const union { u8 octets[8]; u64 aligned; } octets_of_c292 = { { 110,111,32,118,97,108,117,101 } };
 #define c293 (octets_of_c293.octets)
-static const union { u8 octets[8]; u64 aligned; } octets_of_c293 = { { 110,111,32,118,97,108,117,101 } };
+static const union { u8 octets[60]; u64 aligned; } octets_of_c293 = { { 9,0,0,0,1,2,10,0,0,0,14,0,11,0,0,0,14,1,12,0,0,0,14,2,13,0,0,0,14,3,14,0,0,0,14,4,15,0,0,0,14,5,16,0,0,0,14,6,0,2,0,0,14,7,17,0,0,0,14,8 } };
 #define c294 (octets_of_c294.octets)
-static const union { u8 octets[60]; u64 aligned; } octets_of_c294 = { { 9,0,0,0,1,2,10,0,0,0,14,0,11,0,0,0,14,1,12,0,0,0,14,2,13,0,0,0,14,3,14,0,0,0,14,4,15,0,0,0,14,5,16,0,0,0,14,6,0,2,0,0,14,7,17,0,0,0,14,8 } };
+static const union { u8 octets[12]; u64 aligned; } octets_of_c294 = { { 18,0,0,0,0,6,19,0,0,6,0,4 } };
 #define c295 (octets_of_c295.octets)
-static const union { u8 octets[12]; u64 aligned; } octets_of_c295 = { { 18,0,0,0,0,6,19,0,0,6,0,4 } };
+static const union { u8 octets[12]; u64 aligned; } octets_of_c295 = { { 0,27,0,0,3,16,0,28,0,0,3,32 } };
 #define c296 (octets_of_c296.octets)
-static const union { u8 octets[12]; u64 aligned; } octets_of_c296 = { { 0,27,0,0,3,16,0,28,0,0,3,32 } };
+static const union { u8 octets[12]; u64 aligned; } octets_of_c296 = { { 0,26,0,0,3,8,0,29,0,1,9,2 } };
 #define c297 (octets_of_c297.octets)
-static const union { u8 octets[12]; u64 aligned; } octets_of_c297 = { { 0,26,0,0,3,8,0,29,0,1,9,2 } };
+static const union { u8 octets[6]; u64 aligned; } octets_of_c297 = { { 20,0,0,0,13,0 } };
 #define c298 (octets_of_c298.octets)
-static const union { u8 octets[6]; u64 aligned; } octets_of_c298 = { { 20,0,0,0,13,0 } };
+static const union { u8 octets[48]; u64 aligned; } octets_of_c298 = { { 21,0,0,0,2,8,22,0,0,8,2,8,23,0,0,16,2,4,24,0,0,20,2,4,25,0,0,24,0,2,26,0,0,26,12,12,27,0,0,41,3,1,28,0,0,42,7,0 } };
 #define c299 (octets_of_c299.octets)
-static const union { u8 octets[48]; u64 aligned; } octets_of_c299 = { { 21,0,0,0,2,8,22,0,0,8,2,8,23,0,0,16,2,4,24,0,0,20,2,4,25,0,0,24,0,2,26,0,0,26,12,12,27,0,0,41,3,1,28,0,0,42,7,0 } };
+static const union { u8 octets[66]; u64 aligned; } octets_of_c299 = { { 0,5,0,0,0,1,0,6,0,1,1,1,0,7,0,2,1,2,0,22,0,4,2,2,0,23,0,6,3,1,0,24,0,6,3,2,0,25,0,6,3,4,0,26,0,6,3,8,0,27,0,6,3,16,0,28,0,6,3,32,0,29,0,7,9,2 } };
 #define c300 (octets_of_c300.octets)
-static const union { u8 octets[66]; u64 aligned; } octets_of_c300 = { { 0,5,0,0,0,1,0,6,0,1,1,1,0,7,0,2,1,2,0,22,0,4,2,2,0,23,0,6,3,1,0,24,0,6,3,2,0,25,0,6,3,4,0,26,0,6,3,8,0,27,0,6,3,16,0,28,0,6,3,32,0,29,0,7,9,2 } };
+static const union { u8 octets[12]; u64 aligned; } octets_of_c300 = { { 29,0,0,0,0,4,30,0,0,4,2,4 } };
 #define c301 (octets_of_c301.octets)
-static const union { u8 octets[12]; u64 aligned; } octets_of_c301 = { { 29,0,0,0,0,4,30,0,0,4,2,4 } };
+static const union { u8 octets[24]; u64 aligned; } octets_of_c301 = { { 3,0,0,0,8,0,0,30,0,10,9,0,31,0,0,11,9,3,32,0,0,12,10,0 } };
 #define c302 (octets_of_c302.octets)
-static const union { u8 octets[24]; u64 aligned; } octets_of_c302 = { { 3,0,0,0,8,0,0,30,0,10,9,0,31,0,0,11,9,3,32,0,0,12,10,0 } };
+static const union { u8 octets[126]; u64 aligned; } octets_of_c302 = { { 3,0,0,0,8,0,33,0,0,10,11,8,34,0,0,18,11,8,35,0,0,26,11,8,36,0,0,34,11,8,37,0,0,74,11,8,38,0,0,82,11,8,39,0,0,90,11,8,40,0,0,98,11,8,41,0,0,106,11,8,42,0,0,114,11,8,43,0,0,138,11,8,44,0,0,146,11,8,45,0,0,154,11,8,46,0,0,162,11,8,47,0,0,202,11,8,48,0,0,210,11,8,49,0,0,218,11,8,50,0,0,226,11,8,51,0,0,234,11,8,52,0,0,242,11,8 } };
 #define c303 (octets_of_c303.octets)
-static const union { u8 octets[126]; u64 aligned; } octets_of_c303 = { { 3,0,0,0,8,0,33,0,0,10,11,8,34,0,0,18,11,8,35,0,0,26,11,8,36,0,0,34,11,8,37,0,0,74,11,8,38,0,0,82,11,8,39,0,0,90,11,8,40,0,0,98,11,8,41,0,0,106,11,8,42,0,0,114,11,8,43,0,0,138,11,8,44,0,0,146,11,8,45,0,0,154,11,8,46,0,0,162,11,8,47,0,0,202,11,8,48,0,0,210,11,8,49,0,0,218,11,8,50,0,0,226,11,8,51,0,0,234,11,8,52,0,0,242,11,8 } };
+static const union { u8 octets[6]; u64 aligned; } octets_of_c303 = { { 118,97,108,117,101,32 } };
 #define c304 (octets_of_c304.octets)
-static const union { u8 octets[6]; u64 aligned; } octets_of_c304 = { { 118,97,108,117,101,32 } };
+static const union { u8 octets[200]; u64 aligned; } octets_of_c304 = { { 48,48,48,49,48,50,48,51,48,52,48,53,48,54,48,55,48,56,48,57,49,48,49,49,49,50,49,51,49,52,49,53,49,54,49,55,49,56,49,57,50,48,50,49,50,50,50,51,50,52,50,53,50,54,50,55,50,56,50,57,51,48,51,49,51,50,51,51,51,52,51,53,51,54,51,55,51,56,51,57,52,48,52,49,52,50,52,51,52,52,52,53,52,54,52,55,52,56,52,57,53,48,53,49,53,50,53,51,53,52,53,53,53,54,53,55,53,56,53,57,54,48,54,49,54,50,54,51,54,52,54,53,54,54,54,55,54,56,54,57,55,48,55,49,55,50,55,51,55,52,55,53,55,54,55,55,55,56,55,57,56,48,56,49,56,50,56,51,56,52,56,53,56,54,56,55,56,56,56,57,57,48,57,49,57,50,57,51,57,52,57,53,57,54,57,55,57,56,57,57 } };
 #define c305 (octets_of_c305.octets)
-static const union { u8 octets[200]; u64 aligned; } octets_of_c305 = { { 48,48,48,49,48,50,48,51,48,52,48,53,48,54,48,55,48,56,48,57,49,48,49,49,49,50,49,51,49,52,49,53,49,54,49,55,49,56,49,57,50,48,50,49,50,50,50,51,50,52,50,53,50,54,50,55,50,56,50,57,51,48,51,49,51,50,51,51,51,52,51,53,51,54,51,55,51,56,51,57,52,48,52,49,52,50,52,51,52,52,52,53,52,54,52,55,52,56,52,57,53,48,53,49,53,50,53,51,53,52,53,53,53,54,53,55,53,56,53,57,54,48,54,49,54,50,54,51,54,52,54,53,54,54,54,55,54,56,54,57,55,48,55,49,55,50,55,51,55,52,55,53,55,54,55,55,55,56,55,57,56,48,56,49,56,50,56,51,56,52,56,53,56,54,56,55,56,56,56,57,57,48,57,49,57,50,57,51,57,52,57,53,57,54,57,55,57,56,57,57 } };
+static const union { u8 octets[6]; u64 aligned; } octets_of_c305 = { { 99,108,97,115,115,32 } };
 #define c306 (octets_of_c306.octets)
-static const union { u8 octets[6]; u64 aligned; } octets_of_c306 = { { 99,108,97,115,115,32 } };
+static const union { u8 octets[12]; u64 aligned; } octets_of_c306 = { { 32,97,99,99,117,114,97,99,121,32,48,120 } };
 #define c307 (octets_of_c307.octets)
-static const union { u8 octets[12]; u64 aligned; } octets_of_c307 = { { 32,97,99,99,117,114,97,99,121,32,48,120 } };
+static const union { u8 octets[12]; u64 aligned; } octets_of_c307 = { { 32,118,97,114,105,97,110,99,101,32,48,120 } };
 #define c308 (octets_of_c308.octets)
-static const union { u8 octets[12]; u64 aligned; } octets_of_c308 = { { 32,118,97,114,105,97,110,99,101,32,48,120 } };
+static const union { u8 octets[2]; u64 aligned; } octets_of_c308 = { { 92,120 } };
 #define c309 (octets_of_c309.octets)
-static const union { u8 octets[2]; u64 aligned; } octets_of_c309 = { { 92,120 } };
+static const union { u8 octets[42]; u64 aligned; } octets_of_c309 = { { 0,0,2,0,0,32,1,32,2,32,3,32,4,32,5,32,6,32,7,32,8,32,9,32,10,32,11,32,12,32,13,32,14,32,16,32,17,32,0,96,1,96 } };
 #define c310 (octets_of_c310.octets)
-static const union { u8 octets[42]; u64 aligned; } octets_of_c310 = { { 0,0,2,0,0,32,1,32,2,32,3,32,4,32,5,32,6,32,7,32,8,32,9,32,10,32,11,32,12,32,13,32,14,32,16,32,17,32,0,96,1,96 } };
+static const union { u8 octets[4]; u64 aligned; } octets_of_c310 = { { 112,116,112,115 } };
 #define c311 (octets_of_c311.octets)
-static const union { u8 octets[4]; u64 aligned; } octets_of_c311 = { { 112,116,112,115 } };
+static const union { u8 octets[4]; u64 aligned; } octets_of_c311 = { { 112,116,112,109 } };
 #define c312 (octets_of_c312.octets)
-static const union { u8 octets[4]; u64 aligned; } octets_of_c312 = { { 112,116,112,109 } };
+static const union { u8 octets[10]; u64 aligned; } octets_of_c312 = { { 0,1,2,3,4,5,6,7,8,9 } };
 #define c313 (octets_of_c313.octets)
-static const union { u8 octets[10]; u64 aligned; } octets_of_c313 = { { 0,1,2,3,4,5,6,7,8,9 } };
+static const union { u8 octets[17]; u64 aligned; } octets_of_c313 = { { 67,76,79,67,75,95,68,69,83,67,82,73,80,84,73,79,78 } };
 #define c314 (octets_of_c314.octets)
-static const union { u8 octets[17]; u64 aligned; } octets_of_c314 = { { 67,76,79,67,75,95,68,69,83,67,82,73,80,84,73,79,78 } };
+static const union { u8 octets[4]; u64 aligned; } octets_of_c314 = { { 84,73,77,69 } };
 #define c315 (octets_of_c315.octets)
-static const union { u8 octets[4]; u64 aligned; } octets_of_c315 = { { 84,73,77,69 } };
+static const union { u8 octets[23]; u64 aligned; } octets_of_c315 = { { 84,82,65,67,69,65,66,73,76,73,84,89,95,80,82,79,80,69,82,84,73,69,83 } };
 #define c316 (octets_of_c316.octets)
-static const union { u8 octets[23]; u64 aligned; } octets_of_c316 = { { 84,82,65,67,69,65,66,73,76,73,84,89,95,80,82,79,80,69,82,84,73,69,83 } };
+static const union { u8 octets[20]; u64 aligned; } octets_of_c316 = { { 84,73,77,69,83,67,65,76,69,95,80,82,79,80,69,82,84,73,69,83 } };
 #define c317 (octets_of_c317.octets)
-static const union { u8 octets[20]; u64 aligned; } octets_of_c317 = { { 84,73,77,69,83,67,65,76,69,95,80,82,79,80,69,82,84,73,69,83 } };
+static const union { u8 octets[15]; u64 aligned; } octets_of_c317 = { { 80,65,84,72,95,84,82,65,67,69,95,76,73,83,84 } };
 #define c318 (octets_of_c318.octets)
-static const union { u8 octets[15]; u64 aligned; } octets_of_c318 = { { 80,65,84,72,95,84,82,65,67,69,95,76,73,83,84 } };
+static const union { u8 octets[14]; u64 aligned; } octets_of_c318 = { { 84,73,77,69,95,83,84,65,84,85,83,95,78,80 } };
 #define c319 (octets_of_c319.octets)
-static const union { u8 octets[14]; u64 aligned; } octets_of_c319 = { { 84,73,77,69,95,83,84,65,84,85,83,95,78,80 } };
+static const union { u8 octets[23]; u64 aligned; } octets_of_c319 = { { 71,82,65,78,68,77,65,83,84,69,82,95,83,69,84,84,73,78,71,83,95,78,80 } };
 #define c320 (octets_of_c320.octets)
-static const union { u8 octets[23]; u64 aligned; } octets_of_c320 = { { 71,82,65,78,68,77,65,83,84,69,82,95,83,69,84,84,73,78,71,83,95,78,80 } };
+static const union { u8 octets[16]; u64 aligned; } octets_of_c320 = { { 80,79,82,84,95,68,65,84,65,95,83,69,84,95,78,80 } };
 #define c321 (octets_of_c321.octets)
-static const union { u8 octets[16]; u64 aligned; } octets_of_c321 = { { 80,79,82,84,95,68,65,84,65,95,83,69,84,95,78,80 } };
+static const union { u8 octets[18]; u64 aligned; } octets_of_c321 = { { 80,79,82,84,95,80,82,79,80,69,82,84,73,69,83,95,78,80 } };
 #define c322 (octets_of_c322.octets)
-static const union { u8 octets[18]; u64 aligned; } octets_of_c322 = { { 80,79,82,84,95,80,82,79,80,69,82,84,73,69,83,95,78,80 } };
+static const union { u8 octets[13]; u64 aligned; } octets_of_c322 = { { 80,79,82,84,95,83,84,65,84,83,95,78,80 } };
 #define c323 (octets_of_c323.octets)
-static const union { u8 octets[13]; u64 aligned; } octets_of_c323 = { { 80,79,82,84,95,83,84,65,84,83,95,78,80 } };
+static const union { u8 octets[176]; u64 aligned; } octets_of_c323 = { { 16,0,0,0,0,0,0,0,216,0,0,0,0,0,0,0,16,0,0,0,0,0,0,0,88,0,0,0,0,0,0,0,16,0,0,0,0,0,0,0,12,0,0,0,0,0,0,0,196,5,0,0,0,0,0,0,12,0,0,0,0,0,0,0,16,0,0,0,0,0,0,0,26,0,0,0,0,0,0,0,16,0,0,0,0,0,0,0,16,0,0,0,0,0,0,0,10,0,0,0,0,0,0,0,8,0,3,0,0,0,0,0,24,0,0,0,0,0,0,0,16,0,0,0,0,0,0,0,36,0,0,0,0,0,0,0,24,0,0,0,0,0,0,0,150,0,0,0,0,0,0,0,144,5,0,0,0,0,0,0,36,0,0,0,0,0,0,0,32,0,0,0,0,0,0,0 } };
+#if IS_LITTLE_ENDIAN
+static const struct form_of_c324 { slot slot0; u8 octets8[8]; } octets_of_c324;
+#define c324 ((const u8 *)&octets_of_c324)
+#else
+static union form_of_c324 { u8 octets[16]; u64 aligned; } octets_of_c324;
 #define c324 (octets_of_c324.octets)
-static const union { u8 octets[168]; u64 aligned; } octets_of_c324 = { { 16,0,0,0,0,0,0,0,216,0,0,0,0,0,0,0,16,0,0,0,0,0,0,0,88,0,0,0,0,0,0,0,16,0,0,0,0,0,0,0,12,0,0,0,0,0,0,0,196,5,0,0,0,0,0,0,12,0,0,0,0,0,0,0,16,0,0,0,0,0,0,0,26,0,0,0,0,0,0,0,16,0,0,0,0,0,0,0,16,0,0,0,0,0,0,0,10,0,0,0,0,0,0,0,8,0,3,0,0,0,0,0,24,0,0,0,0,0,0,0,16,0,0,0,0,0,0,0,36,0,0,0,0,0,0,0,24,0,0,0,0,0,0,0,150,0,0,0,0,0,0,0,144,5,0,0,0,0,0,0,36,0,0,0,0,0,0,0 } };
-#if IS_LITTLE_ENDIAN
-static const struct form_of_c325 { slot slot0; u8 octets8[8]; } octets_of_c325;
-#define c325 ((const u8 *)&octets_of_c325)
-#else
-static union form_of_c325 { u8 octets[16]; u64 aligned; } octets_of_c325;
+#endif
 #define c325 (octets_of_c325.octets)
-#endif
-#if IS_LITTLE_ENDIAN
-static const struct form_of_c326 { slot slot0; slot slot8; slot slot16; slot slot24; slot slot32; slot slot40; slot slot48; slot slot56; slot slot64; } octets_of_c326;
-#define c326 ((const u8 *)&octets_of_c326)
-#else
-static union form_of_c326 { u8 octets[72]; u64 aligned; } octets_of_c326;
+static const union { u8 octets[9]; u64 aligned; } octets_of_c325 = { { 0,1,1,1,1,1,0,0,0 } };
 #define c326 (octets_of_c326.octets)
-#endif
+static const union { u8 octets[9]; u64 aligned; } octets_of_c326 = { { 1,0,0,0,0,0,1,1,1 } };
 #define c327 (octets_of_c327.octets)
-static const union { u8 octets[72]; u64 aligned; } octets_of_c327 = { { 12,0,0,0,0,0,0,0,6,0,0,0,0,0,0,0,8,0,0,0,0,0,0,0,9,0,0,0,0,0,0,0,10,0,0,0,0,0,0,0,6,0,0,0,0,0,0,0,7,0,0,0,0,0,0,0,12,0,0,0,0,0,0,0,5,0,0,0,0,0,0,0 } };
-#define c328 (octets_of_c328.octets)
-static const union { u8 octets[56]; u64 aligned; } octets_of_c328 = { { 1,0,0,0,0,0,0,0,0,0,0,0,0,0,0,0,0,0,0,0,0,0,0,0,1,0,0,0,0,0,0,0,1,0,0,0,0,0,0,0,1,0,0,0,0,0,0,0,1,0,0,0,0,0,0,0 } };
+static const union { u8 octets[9]; u64 aligned; } octets_of_c327 = { { 6,0,0,0,0,0,3,4,5 } };
 #if IS_LITTLE_ENDIAN
-static const struct form_of_c329 { slot slot0; u8 octets8[16]; slot slot24; slot slot32; slot slot40; slot slot48; } octets_of_c329;
-#define c329 ((const u8 *)&octets_of_c329)
+static const struct form_of_c328 { slot slot0; slot slot8; slot slot16; slot slot24; slot slot32; slot slot40; slot slot48; slot slot56; slot slot64; } octets_of_c328;
+#define c328 ((const u8 *)&octets_of_c328)
 #else
-static union form_of_c329 { u8 octets[56]; u64 aligned; } octets_of_c329;
-#define c329 (octets_of_c329.octets)
+static union form_of_c328 { u8 octets[72]; u64 aligned; } octets_of_c328;
+#define c328 (octets_of_c328.octets)
 #endif
+#define c329 (octets_of_c329.octets)
+static const union { u8 octets[72]; u64 aligned; } octets_of_c329 = { { 12,0,0,0,0,0,0,0,6,0,0,0,0,0,0,0,8,0,0,0,0,0,0,0,9,0,0,0,0,0,0,0,10,0,0,0,0,0,0,0,6,0,0,0,0,0,0,0,7,0,0,0,0,0,0,0,12,0,0,0,0,0,0,0,5,0,0,0,0,0,0,0 } };
 #define c330 (octets_of_c330.octets)
-static const union { u8 octets[56]; u64 aligned; } octets_of_c330 = { { 12,0,0,0,0,0,0,0,0,0,0,0,0,0,0,0,0,0,0,0,0,0,0,0,3,0,0,0,0,0,0,0,3,0,0,0,0,0,0,0,10,0,0,0,0,0,0,0,7,0,0,0,0,0,0,0 } };
+static const union { u8 octets[56]; u64 aligned; } octets_of_c330 = { { 1,0,0,0,0,0,0,0,0,0,0,0,0,0,0,0,0,0,0,0,0,0,0,0,1,0,0,0,0,0,0,0,1,0,0,0,0,0,0,0,1,0,0,0,0,0,0,0,1,0,0,0,0,0,0,0 } };
 #if IS_LITTLE_ENDIAN
-static const struct form_of_c331 { slot slot0; slot slot8; slot slot16; slot slot24; slot slot32; } octets_of_c331;
+static const struct form_of_c331 { slot slot0; u8 octets8[16]; slot slot24; slot slot32; slot slot40; slot slot48; } octets_of_c331;
 #define c331 ((const u8 *)&octets_of_c331)
 #else
-static union form_of_c331 { u8 octets[40]; u64 aligned; } octets_of_c331;
+static union form_of_c331 { u8 octets[56]; u64 aligned; } octets_of_c331;
 #define c331 (octets_of_c331.octets)
 #endif
 #define c332 (octets_of_c332.octets)
-static const union { u8 octets[40]; u64 aligned; } octets_of_c332 = { { 8,0,0,0,0,0,0,0,8,0,0,0,0,0,0,0,9,0,0,0,0,0,0,0,7,0,0,0,0,0,0,0,8,0,0,0,0,0,0,0 } };
+static const union { u8 octets[56]; u64 aligned; } octets_of_c332 = { { 12,0,0,0,0,0,0,0,0,0,0,0,0,0,0,0,0,0,0,0,0,0,0,0,3,0,0,0,0,0,0,0,3,0,0,0,0,0,0,0,10,0,0,0,0,0,0,0,7,0,0,0,0,0,0,0 } };
+#if IS_LITTLE_ENDIAN
+static const struct form_of_c333 { slot slot0; slot slot8; slot slot16; slot slot24; slot slot32; } octets_of_c333;
+#define c333 ((const u8 *)&octets_of_c333)
+#else
+static union form_of_c333 { u8 octets[40]; u64 aligned; } octets_of_c333;
 #define c333 (octets_of_c333.octets)
-static const union { u8 octets[40]; u64 aligned; } octets_of_c333 = { { 19,0,0,0,0,0,0,0,22,0,0,0,0,0,0,0,15,0,0,0,0,0,0,0,14,0,0,0,0,0,0,0,23,0,0,0,0,0,0,0 } };
-#if IS_LITTLE_ENDIAN
-static const struct form_of_c334 { slot slot0; slot slot8; slot slot16; slot slot24; slot slot32; } octets_of_c334;
-#define c334 ((const u8 *)&octets_of_c334)
-#else
-static union form_of_c334 { u8 octets[40]; u64 aligned; } octets_of_c334;
+#endif
 #define c334 (octets_of_c334.octets)
-#endif
-#if IS_LITTLE_ENDIAN
-static const struct form_of_c335 { slot slot0; slot slot8; slot slot16; slot slot24; slot slot32; slot slot40; slot slot48; slot slot56; slot slot64; } octets_of_c335;
-#define c335 ((const u8 *)&octets_of_c335)
-#else
-static union form_of_c335 { u8 octets[72]; u64 aligned; } octets_of_c335;
+static const union { u8 octets[40]; u64 aligned; } octets_of_c334 = { { 8,0,0,0,0,0,0,0,8,0,0,0,0,0,0,0,9,0,0,0,0,0,0,0,7,0,0,0,0,0,0,0,8,0,0,0,0,0,0,0 } };
 #define c335 (octets_of_c335.octets)
-#endif
-#define c336 (octets_of_c336.octets)
-static const union { u8 octets[72]; u64 aligned; } octets_of_c336 = { { 2,0,0,0,0,0,0,0,2,0,0,0,0,0,0,0,2,0,0,0,0,0,0,0,1,0,0,0,0,0,0,0,8,0,0,0,0,0,0,0,11,0,0,0,0,0,0,0,2,0,0,0,0,0,0,0,4,0,0,0,0,0,0,0,21,0,0,0,0,0,0,0 } };
-#define c337 (octets_of_c337.octets)
-static const union { u8 octets[20]; u64 aligned; } octets_of_c337 = { { 0,0,0,0,1,0,0,0,2,0,0,0,3,0,0,0,3,0,0,0 } };
-#define c338 (octets_of_c338.octets)
-static const union { u8 octets[9]; u64 aligned; } octets_of_c338 = { { 6,0,0,0,0,0,3,4,5 } };
-#define c339 (octets_of_c339.octets)
-static const union { u8 octets[72]; u64 aligned; } octets_of_c339 = { { 13,0,0,0,0,0,0,0,0,0,0,0,0,0,0,0,0,0,0,0,0,0,0,0,16,0,0,0,0,0,0,0,10,0,0,0,0,0,0,0,12,0,0,0,0,0,0,0,11,0,0,0,0,0,0,0,11,0,0,0,0,0,0,0,13,0,0,0,0,0,0,0 } };
+static const union { u8 octets[40]; u64 aligned; } octets_of_c335 = { { 19,0,0,0,0,0,0,0,22,0,0,0,0,0,0,0,15,0,0,0,0,0,0,0,14,0,0,0,0,0,0,0,23,0,0,0,0,0,0,0 } };
 #if IS_LITTLE_ENDIAN
-static const struct form_of_c340 { slot slot0; u8 octets8[16]; slot slot24; slot slot32; slot slot40; slot slot48; slot slot56; slot slot64; } octets_of_c340;
-#define c340 ((const u8 *)&octets_of_c340)
+static const struct form_of_c336 { slot slot0; slot slot8; slot slot16; slot slot24; slot slot32; } octets_of_c336;
+#define c336 ((const u8 *)&octets_of_c336)
 #else
-static union form_of_c340 { u8 octets[72]; u64 aligned; } octets_of_c340;
-#define c340 (octets_of_c340.octets)
+static union form_of_c336 { u8 octets[40]; u64 aligned; } octets_of_c336;
+#define c336 (octets_of_c336.octets)
 #endif
 #if IS_LITTLE_ENDIAN
-static const struct form_of_c341 { slot slot0; slot slot8; slot slot16; slot slot24; slot slot32; } octets_of_c341;
+static const struct form_of_c337 { slot slot0; slot slot8; slot slot16; slot slot24; slot slot32; slot slot40; slot slot48; slot slot56; slot slot64; } octets_of_c337;
+#define c337 ((const u8 *)&octets_of_c337)
+#else
+static union form_of_c337 { u8 octets[72]; u64 aligned; } octets_of_c337;
+#define c337 (octets_of_c337.octets)
+#endif
+#define c338 (octets_of_c338.octets)
+static const union { u8 octets[72]; u64 aligned; } octets_of_c338 = { { 2,0,0,0,0,0,0,0,2,0,0,0,0,0,0,0,2,0,0,0,0,0,0,0,1,0,0,0,0,0,0,0,8,0,0,0,0,0,0,0,11,0,0,0,0,0,0,0,2,0,0,0,0,0,0,0,4,0,0,0,0,0,0,0,21,0,0,0,0,0,0,0 } };
+#define c339 (octets_of_c339.octets)
+static const union { u8 octets[20]; u64 aligned; } octets_of_c339 = { { 0,0,0,0,1,0,0,0,2,0,0,0,3,0,0,0,3,0,0,0 } };
+#define c340 (octets_of_c340.octets)
+static const union { u8 octets[72]; u64 aligned; } octets_of_c340 = { { 13,0,0,0,0,0,0,0,0,0,0,0,0,0,0,0,0,0,0,0,0,0,0,0,16,0,0,0,0,0,0,0,10,0,0,0,0,0,0,0,12,0,0,0,0,0,0,0,11,0,0,0,0,0,0,0,11,0,0,0,0,0,0,0,13,0,0,0,0,0,0,0 } };
+#if IS_LITTLE_ENDIAN
+static const struct form_of_c341 { slot slot0; u8 octets8[16]; slot slot24; slot slot32; slot slot40; slot slot48; slot slot56; slot slot64; } octets_of_c341;
 #define c341 ((const u8 *)&octets_of_c341)
 #else
-static union form_of_c341 { u8 octets[40]; u64 aligned; } octets_of_c341;
+static union form_of_c341 { u8 octets[72]; u64 aligned; } octets_of_c341;
 #define c341 (octets_of_c341.octets)
 #endif
+#if IS_LITTLE_ENDIAN
+static const struct form_of_c342 { slot slot0; slot slot8; slot slot16; slot slot24; slot slot32; } octets_of_c342;
+#define c342 ((const u8 *)&octets_of_c342)
+#else
+static union form_of_c342 { u8 octets[40]; u64 aligned; } octets_of_c342;
 #define c342 (octets_of_c342.octets)
-static const union { u8 octets[24]; u64 aligned; } octets_of_c342 = { { 9,0,0,0,0,0,0,0,5,0,0,0,0,0,0,0,9,0,0,0,0,0,0,0 } };
-#if IS_LITTLE_ENDIAN
-static const struct form_of_c343 { slot slot0; slot slot8; slot slot16; } octets_of_c343;
-#define c343 ((const u8 *)&octets_of_c343)
-#else
-static union form_of_c343 { u8 octets[24]; u64 aligned; } octets_of_c343;
+#endif
 #define c343 (octets_of_c343.octets)
-#endif
+static const union { u8 octets[24]; u64 aligned; } octets_of_c343 = { { 9,0,0,0,0,0,0,0,5,0,0,0,0,0,0,0,9,0,0,0,0,0,0,0 } };
+#if IS_LITTLE_ENDIAN
+static const struct form_of_c344 { slot slot0; slot slot8; slot slot16; } octets_of_c344;
+#define c344 ((const u8 *)&octets_of_c344)
+#else
+static union form_of_c344 { u8 octets[24]; u64 aligned; } octets_of_c344;
 #define c344 (octets_of_c344.octets)
-static const union { u8 octets[80]; u64 aligned; } octets_of_c344 = { { 17,0,0,0,0,0,0,0,4,0,0,0,0,0,0,0,23,0,0,0,0,0,0,0,20,0,0,0,0,0,0,0,15,0,0,0,0,0,0,0,14,0,0,0,0,0,0,0,23,0,0,0,0,0,0,0,16,0,0,0,0,0,0,0,18,0,0,0,0,0,0,0,13,0,0,0,0,0,0,0 } };
-#if IS_LITTLE_ENDIAN
-static const struct form_of_c345 { slot slot0; slot slot8; slot slot16; slot slot24; slot slot32; slot slot40; slot slot48; slot slot56; slot slot64; slot slot72; } octets_of_c345;
-#define c345 ((const u8 *)&octets_of_c345)
-#else
-static union form_of_c345 { u8 octets[80]; u64 aligned; } octets_of_c345;
+#endif
 #define c345 (octets_of_c345.octets)
-#endif
+static const union { u8 octets[80]; u64 aligned; } octets_of_c345 = { { 17,0,0,0,0,0,0,0,4,0,0,0,0,0,0,0,23,0,0,0,0,0,0,0,20,0,0,0,0,0,0,0,15,0,0,0,0,0,0,0,14,0,0,0,0,0,0,0,23,0,0,0,0,0,0,0,16,0,0,0,0,0,0,0,18,0,0,0,0,0,0,0,13,0,0,0,0,0,0,0 } };
+#if IS_LITTLE_ENDIAN
+static const struct form_of_c346 { slot slot0; slot slot8; slot slot16; slot slot24; slot slot32; slot slot40; slot slot48; slot slot56; slot slot64; slot slot72; } octets_of_c346;
+#define c346 ((const u8 *)&octets_of_c346)
+#else
+static union form_of_c346 { u8 octets[80]; u64 aligned; } octets_of_c346;
 #define c346 (octets_of_c346.octets)
-static const union { u8 octets[40]; u64 aligned; } octets_of_c346 = { { 1,0,0,0,15,32,0,0,18,32,0,0,19,32,0,0,21,32,0,0,0,192,0,0,1,192,0,0,2,192,0,0,4,192,0,0,5,192,0,0 } };
+#endif
 #define c347 (octets_of_c347.octets)
-static const union { u8 octets[24]; u64 aligned; } octets_of_c347 = { { 38,0,0,0,39,0,0,0,40,0,0,0,41,0,0,0,42,0,0,0,35,0,0,0 } };
+static const union { u8 octets[40]; u64 aligned; } octets_of_c347 = { { 1,0,0,0,15,32,0,0,18,32,0,0,19,32,0,0,21,32,0,0,0,192,0,0,1,192,0,0,2,192,0,0,4,192,0,0,5,192,0,0 } };
 #define c348 (octets_of_c348.octets)
-static const union { u8 octets[12]; u64 aligned; } octets_of_c348 = { { 51,0,0,0,52,0,0,0,35,0,0,0 } };
+static const union { u8 octets[24]; u64 aligned; } octets_of_c348 = { { 38,0,0,0,39,0,0,0,40,0,0,0,41,0,0,0,42,0,0,0,35,0,0,0 } };
 #define c349 (octets_of_c349.octets)
-static const union { u8 octets[24]; u64 aligned; } octets_of_c349 = { { 104,0,0,0,105,0,0,0,106,0,0,0,107,0,0,0,110,0,0,0,35,0,0,0 } };
+static const union { u8 octets[12]; u64 aligned; } octets_of_c349 = { { 51,0,0,0,52,0,0,0,35,0,0,0 } };
 #define c350 (octets_of_c350.octets)
-static const union { u8 octets[14]; u64 aligned; } octets_of_c350 = { { 1,0,2,0,3,0,4,0,5,0,6,0,254,255 } };
+static const union { u8 octets[24]; u64 aligned; } octets_of_c350 = { { 104,0,0,0,105,0,0,0,106,0,0,0,107,0,0,0,110,0,0,0,35,0,0,0 } };
+#define c351 (octets_of_c351.octets)
+static const union { u8 octets[14]; u64 aligned; } octets_of_c351 = { { 1,0,2,0,3,0,4,0,5,0,6,0,254,255 } };
 #if IS_LITTLE_ENDIAN
-static const struct form_of_c137 octets_of_c137 = { SLOT(c137 + 8), { 0 } };
+static const struct form_of_c136 octets_of_c136 = { SLOT(c136 + 8), { 0 } };
 #else
-static union form_of_c137 octets_of_c137 = { { 0 } };
+static union form_of_c136 octets_of_c136 = { { 0 } };
 #endif
 #if IS_LITTLE_ENDIAN
-static const struct form_of_c325 octets_of_c325 = { SLOT(c325 + 8), { 112,116,112,109,0,0,0,0 } };
+static const struct form_of_c324 octets_of_c324 = { SLOT(c324 + 8), { 112,116,112,109,0,0,0,0 } };
 #else
-static union form_of_c325 octets_of_c325 = { { 0,0,0,0,0,0,0,0,112,116,112,109,0,0,0,0 } };
+static union form_of_c324 octets_of_c324 = { { 0,0,0,0,0,0,0,0,112,116,112,109,0,0,0,0 } };
 #endif
 #if IS_LITTLE_ENDIAN
-static const struct form_of_c326 octets_of_c326 = { SLOT(c171 + 0), SLOT(c172 + 0), SLOT(c173 + 0), SLOT(c174 + 0), SLOT(c175 + 0), SLOT(c176 + 0), SLOT(c177 + 0), SLOT(c178 + 0), SLOT(c179 + 0) };
+static const struct form_of_c328 octets_of_c328 = { SLOT(c170 + 0), SLOT(c171 + 0), SLOT(c172 + 0), SLOT(c173 + 0), SLOT(c174 + 0), SLOT(c175 + 0), SLOT(c176 + 0), SLOT(c177 + 0), SLOT(c178 + 0) };
 #else
-static union form_of_c326 octets_of_c326 = { { 0 } };
+static union form_of_c328 octets_of_c328 = { { 0 } };
 #endif
 #if IS_LITTLE_ENDIAN
-static const struct form_of_c329 octets_of_c329 = { SLOT(c184 + 0), { 0 }, SLOT(c182 + 0), SLOT(c183 + 0), SLOT(c180 + 0), SLOT(c181 + 0) };
-#else
-static union form_of_c329 octets_of_c329 = { { 0 } };
-#endif
-#if IS_LITTLE_ENDIAN
-static const struct form_of_c331 octets_of_c331 = { SLOT(c194 + 0), SLOT(c195 + 0), SLOT(c196 + 0), SLOT(c197 + 0), SLOT(c198 + 0) };
+static const struct form_of_c331 octets_of_c331 = { SLOT(c183 + 0), { 0 }, SLOT(c181 + 0), SLOT(c182 + 0), SLOT(c179 + 0), SLOT(c180 + 0) };
 #else
 static union form_of_c331 octets_of_c331 = { { 0 } };
 #endif
 #if IS_LITTLE_ENDIAN
-static const struct form_of_c334 octets_of_c334 = { SLOT(c128 + 0), SLOT(c130 + 0), SLOT(c132 + 0), SLOT(c134 + 0), SLOT(c136 + 0) };
+static const struct form_of_c333 octets_of_c333 = { SLOT(c193 + 0), SLOT(c194 + 0), SLOT(c195 + 0), SLOT(c196 + 0), SLOT(c197 + 0) };
 #else
-static union form_of_c334 octets_of_c334 = { { 0 } };
+static union form_of_c333 octets_of_c333 = { { 0 } };
 #endif
 #if IS_LITTLE_ENDIAN
-static const struct form_of_c335 octets_of_c335 = { SLOT(c295 + 0), SLOT(c296 + 0), SLOT(c297 + 0), SLOT(c298 + 0), SLOT(c299 + 0), SLOT(c300 + 0), SLOT(c301 + 0), SLOT(c302 + 0), SLOT(c303 + 0) };
+static const struct form_of_c336 octets_of_c336 = { SLOT(c127 + 0), SLOT(c129 + 0), SLOT(c131 + 0), SLOT(c133 + 0), SLOT(c135 + 0) };
 #else
-static union form_of_c335 octets_of_c335 = { { 0 } };
+static union form_of_c336 octets_of_c336 = { { 0 } };
 #endif
 #if IS_LITTLE_ENDIAN
-static const struct form_of_c340 octets_of_c340 = { SLOT(c147 + 0), { 0 }, SLOT(c141 + 0), SLOT(c142 + 0), SLOT(c143 + 0), SLOT(c144 + 0), SLOT(c145 + 0), SLOT(c146 + 0) };
+static const struct form_of_c337 octets_of_c337 = { SLOT(c294 + 0), SLOT(c295 + 0), SLOT(c296 + 0), SLOT(c297 + 0), SLOT(c298 + 0), SLOT(c299 + 0), SLOT(c300 + 0), SLOT(c301 + 0), SLOT(c302 + 0) };
 #else
-static union form_of_c340 octets_of_c340 = { { 0 } };
+static union form_of_c337 octets_of_c337 = { { 0 } };
 #endif
 #if IS_LITTLE_ENDIAN
-static const struct form_of_c341 octets_of_c341 = { SLOT(c158 + 0), SLOT(c159 + 0), SLOT(c160 + 0), SLOT(c161 + 0), SLOT(c162 + 0) };
+static const struct form_of_c341 octets_of_c341 = { SLOT(c146 + 0), { 0 }, SLOT(c140 + 0), SLOT(c141 + 0), SLOT(c142 + 0), SLOT(c143 + 0), SLOT(c144 + 0), SLOT(c145 + 0) };
 #else
 static union form_of_c341 octets_of_c341 = { { 0 } };
 #endif
 #if IS_LITTLE_ENDIAN
-static const struct form_of_c343 octets_of_c343 = { SLOT(c168 + 0), SLOT(c169 + 0), SLOT(c170 + 0) };
+static const struct form_of_c342 octets_of_c342 = { SLOT(c157 + 0), SLOT(c158 + 0), SLOT(c159 + 0), SLOT(c160 + 0), SLOT(c161 + 0) };
 #else
-static union form_of_c343 octets_of_c343 = { { 0 } };
+static union form_of_c342 octets_of_c342 = { { 0 } };
 #endif
 #if IS_LITTLE_ENDIAN
-static const struct form_of_c345 octets_of_c345 = { SLOT(c314 + 0), SLOT(c315 + 0), SLOT(c316 + 0), SLOT(c317 + 0), SLOT(c318 + 0), SLOT(c319 + 0), SLOT(c320 + 0), SLOT(c321 + 0), SLOT(c322 + 0), SLOT(c323 + 0) };
+static const struct form_of_c344 octets_of_c344 = { SLOT(c167 + 0), SLOT(c168 + 0), SLOT(c169 + 0) };
 #else
-static union form_of_c345 octets_of_c345 = { { 0 } };
+static union form_of_c344 octets_of_c344 = { { 0 } };
+#endif
+#if IS_LITTLE_ENDIAN
+static const struct form_of_c346 octets_of_c346 = { SLOT(c313 + 0), SLOT(c314 + 0), SLOT(c315 + 0), SLOT(c316 + 0), SLOT(c317 + 0), SLOT(c318 + 0), SLOT(c319 + 0), SLOT(c320 + 0), SLOT(c321 + 0), SLOT(c322 + 0) };
+#else
+static union form_of_c346 octets_of_c346 = { { 0 } };
 #endif
 
 #if !IS_LITTLE_ENDIAN
 void portable_fill(void);
 void portable_fill(void) {
-    store_address(ADDRESS(c137) + 0u, ADDRESS(c137) + 8u);
-    store_address(ADDRESS(c325) + 0u, ADDRESS(c325) + 8u);
-    store_address(ADDRESS(c326) + 0u, ADDRESS(c171) + 0u);
-    store_address(ADDRESS(c326) + 8u, ADDRESS(c172) + 0u);
-    store_address(ADDRESS(c326) + 16u, ADDRESS(c173) + 0u);
-    store_address(ADDRESS(c326) + 24u, ADDRESS(c174) + 0u);
-    store_address(ADDRESS(c326) + 32u, ADDRESS(c175) + 0u);
-    store_address(ADDRESS(c326) + 40u, ADDRESS(c176) + 0u);
-    store_address(ADDRESS(c326) + 48u, ADDRESS(c177) + 0u);
-    store_address(ADDRESS(c326) + 56u, ADDRESS(c178) + 0u);
-    store_address(ADDRESS(c326) + 64u, ADDRESS(c179) + 0u);
-    store_address(ADDRESS(c329) + 0u, ADDRESS(c184) + 0u);
-    store_address(ADDRESS(c329) + 24u, ADDRESS(c182) + 0u);
-    store_address(ADDRESS(c329) + 32u, ADDRESS(c183) + 0u);
-    store_address(ADDRESS(c329) + 40u, ADDRESS(c180) + 0u);
-    store_address(ADDRESS(c329) + 48u, ADDRESS(c181) + 0u);
-    store_address(ADDRESS(c331) + 0u, ADDRESS(c194) + 0u);
-    store_address(ADDRESS(c331) + 8u, ADDRESS(c195) + 0u);
-    store_address(ADDRESS(c331) + 16u, ADDRESS(c196) + 0u);
-    store_address(ADDRESS(c331) + 24u, ADDRESS(c197) + 0u);
-    store_address(ADDRESS(c331) + 32u, ADDRESS(c198) + 0u);
-    store_address(ADDRESS(c334) + 0u, ADDRESS(c128) + 0u);
-    store_address(ADDRESS(c334) + 8u, ADDRESS(c130) + 0u);
-    store_address(ADDRESS(c334) + 16u, ADDRESS(c132) + 0u);
-    store_address(ADDRESS(c334) + 24u, ADDRESS(c134) + 0u);
-    store_address(ADDRESS(c334) + 32u, ADDRESS(c136) + 0u);
-    store_address(ADDRESS(c335) + 0u, ADDRESS(c295) + 0u);
-    store_address(ADDRESS(c335) + 8u, ADDRESS(c296) + 0u);
-    store_address(ADDRESS(c335) + 16u, ADDRESS(c297) + 0u);
-    store_address(ADDRESS(c335) + 24u, ADDRESS(c298) + 0u);
-    store_address(ADDRESS(c335) + 32u, ADDRESS(c299) + 0u);
-    store_address(ADDRESS(c335) + 40u, ADDRESS(c300) + 0u);
-    store_address(ADDRESS(c335) + 48u, ADDRESS(c301) + 0u);
-    store_address(ADDRESS(c335) + 56u, ADDRESS(c302) + 0u);
-    store_address(ADDRESS(c335) + 64u, ADDRESS(c303) + 0u);
-    store_address(ADDRESS(c340) + 0u, ADDRESS(c147) + 0u);
-    store_address(ADDRESS(c340) + 24u, ADDRESS(c141) + 0u);
-    store_address(ADDRESS(c340) + 32u, ADDRESS(c142) + 0u);
-    store_address(ADDRESS(c340) + 40u, ADDRESS(c143) + 0u);
-    store_address(ADDRESS(c340) + 48u, ADDRESS(c144) + 0u);
-    store_address(ADDRESS(c340) + 56u, ADDRESS(c145) + 0u);
-    store_address(ADDRESS(c340) + 64u, ADDRESS(c146) + 0u);
-    store_address(ADDRESS(c341) + 0u, ADDRESS(c158) + 0u);
-    store_address(ADDRESS(c341) + 8u, ADDRESS(c159) + 0u);
-    store_address(ADDRESS(c341) + 16u, ADDRESS(c160) + 0u);
-    store_address(ADDRESS(c341) + 24u, ADDRESS(c161) + 0u);
-    store_address(ADDRESS(c341) + 32u, ADDRESS(c162) + 0u);
-    store_address(ADDRESS(c343) + 0u, ADDRESS(c168) + 0u);
-    store_address(ADDRESS(c343) + 8u, ADDRESS(c169) + 0u);
-    store_address(ADDRESS(c343) + 16u, ADDRESS(c170) + 0u);
-    store_address(ADDRESS(c345) + 0u, ADDRESS(c314) + 0u);
-    store_address(ADDRESS(c345) + 8u, ADDRESS(c315) + 0u);
-    store_address(ADDRESS(c345) + 16u, ADDRESS(c316) + 0u);
-    store_address(ADDRESS(c345) + 24u, ADDRESS(c317) + 0u);
-    store_address(ADDRESS(c345) + 32u, ADDRESS(c318) + 0u);
-    store_address(ADDRESS(c345) + 40u, ADDRESS(c319) + 0u);
-    store_address(ADDRESS(c345) + 48u, ADDRESS(c320) + 0u);
-    store_address(ADDRESS(c345) + 56u, ADDRESS(c321) + 0u);
-    store_address(ADDRESS(c345) + 64u, ADDRESS(c322) + 0u);
-    store_address(ADDRESS(c345) + 72u, ADDRESS(c323) + 0u);
+    store_address(ADDRESS(c136) + 0u, ADDRESS(c136) + 8u);
+    store_address(ADDRESS(c324) + 0u, ADDRESS(c324) + 8u);
+    store_address(ADDRESS(c328) + 0u, ADDRESS(c170) + 0u);
+    store_address(ADDRESS(c328) + 8u, ADDRESS(c171) + 0u);
+    store_address(ADDRESS(c328) + 16u, ADDRESS(c172) + 0u);
+    store_address(ADDRESS(c328) + 24u, ADDRESS(c173) + 0u);
+    store_address(ADDRESS(c328) + 32u, ADDRESS(c174) + 0u);
+    store_address(ADDRESS(c328) + 40u, ADDRESS(c175) + 0u);
+    store_address(ADDRESS(c328) + 48u, ADDRESS(c176) + 0u);
+    store_address(ADDRESS(c328) + 56u, ADDRESS(c177) + 0u);
+    store_address(ADDRESS(c328) + 64u, ADDRESS(c178) + 0u);
+    store_address(ADDRESS(c331) + 0u, ADDRESS(c183) + 0u);
+    store_address(ADDRESS(c331) + 24u, ADDRESS(c181) + 0u);
+    store_address(ADDRESS(c331) + 32u, ADDRESS(c182) + 0u);
+    store_address(ADDRESS(c331) + 40u, ADDRESS(c179) + 0u);
+    store_address(ADDRESS(c331) + 48u, ADDRESS(c180) + 0u);
+    store_address(ADDRESS(c333) + 0u, ADDRESS(c193) + 0u);
+    store_address(ADDRESS(c333) + 8u, ADDRESS(c194) + 0u);
+    store_address(ADDRESS(c333) + 16u, ADDRESS(c195) + 0u);
+    store_address(ADDRESS(c333) + 24u, ADDRESS(c196) + 0u);
+    store_address(ADDRESS(c333) + 32u, ADDRESS(c197) + 0u);
+    store_address(ADDRESS(c336) + 0u, ADDRESS(c127) + 0u);
+    store_address(ADDRESS(c336) + 8u, ADDRESS(c129) + 0u);
+    store_address(ADDRESS(c336) + 16u, ADDRESS(c131) + 0u);
+    store_address(ADDRESS(c336) + 24u, ADDRESS(c133) + 0u);
+    store_address(ADDRESS(c336) + 32u, ADDRESS(c135) + 0u);
+    store_address(ADDRESS(c337) + 0u, ADDRESS(c294) + 0u);
+    store_address(ADDRESS(c337) + 8u, ADDRESS(c295) + 0u);
+    store_address(ADDRESS(c337) + 16u, ADDRESS(c296) + 0u);
+    store_address(ADDRESS(c337) + 24u, ADDRESS(c297) + 0u);
+    store_address(ADDRESS(c337) + 32u, ADDRESS(c298) + 0u);
+    store_address(ADDRESS(c337) + 40u, ADDRESS(c299) + 0u);
+    store_address(ADDRESS(c337) + 48u, ADDRESS(c300) + 0u);
+    store_address(ADDRESS(c337) + 56u, ADDRESS(c301) + 0u);
+    store_address(ADDRESS(c337) + 64u, ADDRESS(c302) + 0u);
+    store_address(ADDRESS(c341) + 0u, ADDRESS(c146) + 0u);
+    store_address(ADDRESS(c341) + 24u, ADDRESS(c140) + 0u);
+    store_address(ADDRESS(c341) + 32u, ADDRESS(c141) + 0u);
+    store_address(ADDRESS(c341) + 40u, ADDRESS(c142) + 0u);
+    store_address(ADDRESS(c341) + 48u, ADDRESS(c143) + 0u);
+    store_address(ADDRESS(c341) + 56u, ADDRESS(c144) + 0u);
+    store_address(ADDRESS(c341) + 64u, ADDRESS(c145) + 0u);
+    store_address(ADDRESS(c342) + 0u, ADDRESS(c157) + 0u);
+    store_address(ADDRESS(c342) + 8u, ADDRESS(c158) + 0u);
+    store_address(ADDRESS(c342) + 16u, ADDRESS(c159) + 0u);
+    store_address(ADDRESS(c342) + 24u, ADDRESS(c160) + 0u);
+    store_address(ADDRESS(c342) + 32u, ADDRESS(c161) + 0u);
+    store_address(ADDRESS(c344) + 0u, ADDRESS(c167) + 0u);
+    store_address(ADDRESS(c344) + 8u, ADDRESS(c168) + 0u);
+    store_address(ADDRESS(c344) + 16u, ADDRESS(c169) + 0u);
+    store_address(ADDRESS(c346) + 0u, ADDRESS(c313) + 0u);
+    store_address(ADDRESS(c346) + 8u, ADDRESS(c314) + 0u);
+    store_address(ADDRESS(c346) + 16u, ADDRESS(c315) + 0u);
+    store_address(ADDRESS(c346) + 24u, ADDRESS(c316) + 0u);
+    store_address(ADDRESS(c346) + 32u, ADDRESS(c317) + 0u);
+    store_address(ADDRESS(c346) + 40u, ADDRESS(c318) + 0u);
+    store_address(ADDRESS(c346) + 48u, ADDRESS(c319) + 0u);
+    store_address(ADDRESS(c346) + 56u, ADDRESS(c320) + 0u);
+    store_address(ADDRESS(c346) + 64u, ADDRESS(c321) + 0u);
+    store_address(ADDRESS(c346) + 72u, ADDRESS(c322) + 0u);
 }
 #endif
 
@@ -906,105 +908,109 @@ static void f11(address a0, address a1);
 static void f12(u8 a0, address a1);
 static void f13(address a0);
 static void f14(address a0);
-static void f15(address a0);
-static void f16(address a0);
-static void f17(address a0);
-static void f18(address a0, address a1, address a2, u64 a3, u16 a4, u8 a5);
-static u32 f19(address a0, u16 a1, address a2, u64 a3, address a4, u64 a5, address a6);
-static u8 f20(address a0, address a1);
-static u8 f21(address a0, address a1);
-static struct s1 f22(address a0, address a1, u16 a2, address a3);
-static u8 f23(address a0, u64 a1);
-static u8 f24(address a0, u64 a1, address a2, u64 a3);
-static void f25(address a0, u16 a1, address a2, u8 a3, address a4);
-static void f26(address a0, address a1, u8 a2, address a3);
-static void f27(address a0, u16 a1, u16 a2, u16 a3, address a4);
-static u8 f28(address a0, address a1, u64 a2);
-static void f29(address a0, address a1, u64 a2);
-static u64 f30(address a0, u64 a1, u64 a2);
-static void f31(address a0, u8 a1, u8 a2, address a3);
-static void f32(address a0, u64 a1);
-static void f33(address a0, u8 a1, address a2);
-static void f34(address a0, u8 a1, address a2);
-static void f35(address a0, address a1, address a2, u8 a3, u8 a4, address a5);
-static void f36(address a0, address a1, u64 a2);
-static void f37(address a0, address a1, u64 a2);
-static void f38(address a0, address a1, u64 a2);
-static void f39(address a0, address a1, address a2);
-static void f40(address a0, u64 a1, address a2, address a3, u16 a4, address a5);
-static void f41(address a0, u8 a1, u16 a2, address a3, address a4, address a5);
-static void f42(address a0, u16 a1, address a2, address a3);
-static void f43(address a0, address a1, address a2);
-static u32 f44(address a0, u16 a1, address a2, u64 a3, u8 a4, address a5, u64 a6, address a7);
-static void f45(address a0, address a1);
-static void f46(address a0, address a1, u16 a2, address a3, u64 a4, address a5, u64 a6);
-static void f47(address a0, address a1);
-static void f48(address a0, address a1, address a2);
-static u32 f49(address a0, u16 a1, address a2, u64 a3, u8 a4, address a5, u64 a6, address a7, address a8);
-static void f50(address a0, address a1, address a2, u64 a3);
-static void f51(address a0, address a1, u8 a2, address a3);
-static void f52(address a0, u8 a1, address a2);
-static void f53(address a0, address a1, address a2, u8 a3, u8 a4, address a5);
-static void f54(address a0, address a1, u8 a2);
-static void f55(address a0, address a1, address a2);
-static void f56(address a0, u8 a1, address a2);
-static void f57(address a0, address a1, address a2, u8 a3, address a4);
-static void f58(address a0, address a1, u16 a2, address a3, address a4);
-static u8 f59(address a0);
-static u8 f60(address a0, address a1);
-static void f61(address a0, address a1, address a2, u64 a3);
-static struct s2 f62(address a0, address a1, u64 a2);
-static void f63(address a0, address a1);
-static u64 f64(u8 a0, u8 a1);
-static void f65(address a0, address a1, address a2, u64 a3, address a4);
-static struct s3 f66(u16 a0, address a1, u64 a2);
-static struct s1 f67(address a0, u64 a1);
-static void f68(address a0, u8 a1, u8 a2);
+static void f15(address a0, address a1, address a2, u64 a3, u16 a4, u8 a5);
+static u8 f16(address a0, address a1);
+static u8 f17(address a0, address a1);
+static struct s1 f18(address a0, address a1, u16 a2, address a3);
+static u8 f19(u16 a0, address a1, u16 a2, address a3);
+static u8 f20(address a0, u64 a1);
+static u8 f21(address a0, u64 a1, address a2, u64 a3);
+static void f22(address a0, u16 a1, address a2, u8 a3, address a4);
+static void f23(address a0, address a1, u8 a2, address a3);
+static void f24(address a0, u16 a1, u16 a2, u16 a3, address a4);
+static u8 f25(address a0, address a1, u64 a2);
+static void f26(address a0, address a1, u64 a2);
+static u64 f27(address a0, u64 a1, u64 a2);
+static void f28(address a0, u8 a1, u8 a2, address a3);
+static void f29(address a0, u64 a1);
+static void f30(address a0, u8 a1, address a2);
+static void f31(address a0, u8 a1, address a2);
+static void f32(address a0, address a1, address a2, u8 a3, u8 a4, address a5);
+static void f33(address a0, address a1, u64 a2);
+static void f34(address a0, address a1, u64 a2);
+static void f35(address a0, address a1, u64 a2);
+static void f36(address a0, address a1, address a2);
+static void f37(address a0, u64 a1, address a2, address a3, u16 a4, address a5);
+static void f38(address a0, u8 a1, u16 a2, address a3, address a4, address a5);
+static void f39(address a0, u16 a1, address a2, address a3);
+static void f40(address a0, address a1, address a2);
+static struct s2 f41(address a0, address a1, u64 a2);
+static void f42(address a0, address a1);
+static void f43(address a0, address a1);
+static void f44(address a0, address a1);
+static void f45(address a0, address a1, u16 a2, address a3, u64 a4);
+static void f46(address a0, address a1, u16 a2, address a3, u64 a4, address a5, u8 a6, address a7, u64 a8);
+static void f47(address a0, address a1, u16 a2, address a3, u64 a4, address a5, u64 a6);
+static void f48(address a0, address a1);
+static void f49(address a0, address a1, u16 a2, address a3, u64 a4, address a5, u64 a6);
+static struct s1 f50(address a0, address a1, u16 a2, address a3);
+static void f51(address a0, address a1, address a2, u64 a3);
+static void f52(address a0, address a1, u8 a2, address a3);
+static void f53(address a0, u8 a1, address a2);
+static void f54(address a0, address a1, address a2, u8 a3, u8 a4, address a5);
+static void f55(address a0, address a1, u8 a2);
+static void f56(address a0, address a1, address a2);
+static void f57(address a0, u8 a1, address a2);
+static void f58(address a0, address a1, address a2, u8 a3, address a4);
+static void f59(address a0, address a1, u16 a2, address a3, address a4);
+static u8 f60(address a0);
+static u8 f61(address a0, address a1);
+static void f62(address a0, address a1, address a2, u64 a3);
+static void f63(address a0, address a1, address a2);
+static u32 f64(address a0, u16 a1, address a2, u64 a3, address a4, u8 a5, address a6, u64 a7, address a8);
+static void f65(address a0, address a1, u64 a2);
+static u64 f66(u8 a0, u8 a1);
+static void f67(address a0, address a1, address a2, u64 a3, address a4);
+static struct s3 f68(u16 a0, address a1, u64 a2);
 static struct s1 f69(address a0, u64 a1);
-static struct s4 f70(address a0);
-static struct s4 f71(u8 a0, u8 a1);
-static u64 f72(u16 a0, address a1);
-static void f73(u8 a0, u8 a1, address a2);
-static struct s4 f74(u16 a0, address a1, u64 a2);
-static struct s4 f75(address a0, u64 a1);
-static void f76(address a0, u8 a1, u8 a2, address a3, u64 a4);
-static void f77(u64 a0, address a1);
-static struct s3 f78(address a0, u64 a1);
-static struct s3 f79(address a0, u64 a1);
-static void f80(address a0, address a1, u64 a2);
-static u32 f81(address a0, u64 a1, address a2, u64 a3);
+static void f70(address a0, u8 a1, u8 a2);
+static struct s1 f71(address a0, u64 a1);
+static struct s4 f72(address a0);
+static struct s4 f73(u8 a0, u8 a1);
+static u64 f74(u16 a0, address a1);
+static void f75(u8 a0, u8 a1, address a2);
+static struct s4 f76(u16 a0, address a1, u64 a2);
+static struct s4 f77(address a0, u64 a1);
+static void f78(address a0, u8 a1, u8 a2, address a3, u64 a4);
+static void f79(u64 a0, address a1);
+static struct s3 f80(address a0, u64 a1);
+static struct s3 f81(address a0, u64 a1);
 static void f82(address a0, address a1, u64 a2);
-static u8 f83(address a0, u64 a1, address a2);
-static u8 f84(u64 a0, address a1, u64 a2, address a3, u64 a4, u64 a5);
-static void f85(address a0, u32 a1, address a2, u64 a3);
-static u64 f86(address a0, u64 a1, u64 a2);
-static u8 f87(address a0);
-static u8 f88(address a0);
-static u8 f89(address a0, u64 a1);
-static void f90(address a0, address a1, u64 a2, address a3, address a4, u16 a5, u16 a6);
-static void f91(address a0, address a1, u64 a2, address a3, u64 a4, address a5, u64 a6);
-static void f92(address a0);
-static void f93(address a0, address a1, address a2, u64 a3);
-static void f94(address a0, address a1, address a2, u64 a3);
-static struct s1 f95(address a0, u64 a1);
-static void f96(address a0, address a1, u64 a2);
-static u8 f97(address a0, u64 a1, address a2);
-static u8 f98(address a0);
-static void f99(address a0, address a1, u64 a2, address a3);
-static u8 f100(address a0, u64 a1, address a2);
-static u8 f101(address a0, address a1, u64 a2);
-static void f102(address a0, address a1, address a2, u64 a3);
-static u8 f103(address a0, address a1, address a2, u64 a3);
-static u8 f104(address a0, address a1, u64 a2);
-static void f105(address a0, address a1, address a2, u64 a3);
-static struct s5 f106(address a0, address a1);
-static u8 f107(address a0, u64 a1, address a2);
-static u8 f108(address a0, address a1);
-static u8 f109(address a0);
-static u32 f110(address a0, address a1);
-static void f111(address a0, address a1, address a2, address a3, u64 a4);
-static void f112(address a0, address a1, address a2, address a3);
-static void f113(address a0, address a1, u8 a2, u16 a3, u16 a4, address a5, u64 a6);
+static u32 f83(address a0, u64 a1, address a2, u64 a3);
+static void f84(address a0, address a1, u64 a2);
+static u8 f85(address a0, u64 a1, address a2);
+static u8 f86(u64 a0, address a1, u64 a2, address a3, u64 a4, u64 a5);
+static void f87(address a0, u32 a1, address a2, u64 a3);
+static u64 f88(address a0, u64 a1, u64 a2);
+static u8 f89(address a0);
+static u8 f90(address a0);
+static u8 f91(address a0, u64 a1);
+static void f92(address a0, address a1, u64 a2, address a3, address a4, u16 a5, u16 a6);
+static void f93(address a0, address a1, u64 a2, address a3, u64 a4, address a5, u64 a6);
+static void f94(address a0);
+static void f95(address a0, address a1, address a2, u64 a3);
+static void f96(address a0, address a1, address a2, u64 a3);
+static struct s1 f97(address a0, u64 a1);
+static void f98(address a0, address a1, u64 a2);
+static u8 f99(address a0, u64 a1, address a2);
+static u8 f100(address a0);
+static void f101(address a0, address a1, u64 a2, address a3);
+static u8 f102(address a0, u64 a1, address a2);
+static u8 f103(address a0, address a1, u64 a2);
+static void f104(address a0, address a1, address a2, u64 a3);
+static u8 f105(address a0, address a1, address a2, u64 a3);
+static u8 f106(address a0, address a1, u64 a2);
+static void f107(address a0, address a1, address a2, u64 a3);
+static struct s5 f108(address a0, address a1);
+static u8 f109(address a0, u64 a1, address a2);
+static u8 f110(address a0, address a1);
+static u8 f111(address a0);
+static u32 f112(address a0, address a1);
+static void f113(address a0, address a1);
+static void f114(address a0, address a1, address a2, address a3, u64 a4);
+static void f115(address a0, address a1, address a2, address a3);
+static void f116(address a0, address a1, u8 a2, u16 a3, u16 a4, address a5, u64 a6);
+static void f117(address a0, address a1, u16 a2, address a3, u64 a4);
 u64 portable_ptpm_answer_name(u32 a0, address a1, u64 a2);
 u32 portable_ptpm_asker_ask(address a0, u64 a1, u64 a2, u8 a3, u16 a4, u16 a5, address a6, u64 a7, u8 a8, address a9);
 u32 portable_ptpm_asker_earlier(address a0, u8 a1, address a2);
@@ -1020,16 +1026,17 @@ void portable_ptpm_asker_stop(address a0);
 u32 portable_ptpm_asker_unsent(address a0, address a1);
 u32 portable_ptpm_asker_wake(address a0, u64 a1, address a2);
 void portable_ptpm_clock_defaults(address a0);
+u64 portable_ptpm_clock_free(address a0);
 u32 portable_ptpm_clock_handle(address a0, u16 a1, address a2, u64 a3, address a4, u64 a5, address a6);
-u32 portable_ptpm_clock_handle_changed(address a0, u16 a1, address a2, u64 a3, address a4, u64 a5, address a6, address a7);
-u32 portable_ptpm_clock_handle_said(address a0, u16 a1, address a2, u64 a3, address a4, address a5, u64 a6, address a7, address a8);
 u32 portable_ptpm_clock_image(address a0, address a1, u64 a2, address a3);
 u32 portable_ptpm_clock_image_of(address a0, address a1, u64 a2, address a3, address a4);
 u64 portable_ptpm_clock_most_sent(address a0);
-u32 portable_ptpm_clock_read(address a0, u16 a1, u16 a2, address a3, u64 a4, address a5);
-u32 portable_ptpm_clock_saved(address a0, u64 a1, address a2, u64 a3, address a4);
-u32 portable_ptpm_clock_saving(address a0);
+u64 portable_ptpm_clock_next(address a0, address a1);
+u32 portable_ptpm_clock_saved(address a0, u64 a1);
+u32 portable_ptpm_clock_saving(address a0, u64 a1);
 void portable_ptpm_clock_stop(address a0);
+u32 portable_ptpm_clock_take(address a0, u16 a1, address a2, u64 a3, address a4, u8 a5, address a6, u64 a7, address a8);
+u32 portable_ptpm_clock_unsaved(address a0);
 u64 portable_ptpm_error_name(u16 a0, address a1, u64 a2);
 u32 portable_ptpm_field_parse(u16 a0, address a1, u64 a2, address a3, u64 a4, address a5, address a6);
 u64 portable_ptpm_field_takes(u16 a0, u64 a1, address a2, u64 a3);
@@ -1085,9 +1092,10 @@ u32 portable_ptpm_session_restore(address a0, address a1, address a2, u64 a3);
 u32 portable_ptpm_session_start(address a0, address a1);
 u32 portable_ptpm_survey_start(address a0, address a1);
 u32 portable_ptpm_survey_start_at(address a0, address a1, address a2);
-u32 portable_ptpm_clock_ask(address a0, u16 a1, address a2, u64 a3, address a4);
 u32 portable_ptpm_clock_observe(address a0, address a1, address a2, u64 a3, address a4);
+u32 portable_ptpm_clock_read(address a0, u16 a1, u16 a2, address a3, u64 a4, address a5);
 u32 portable_ptpm_clock_set(address a0, u8 a1, u16 a2, u16 a3, address a4, u64 a5, address a6, address a7);
+u32 portable_ptpm_clock_ask(address a0, u16 a1, address a2, u64 a3, address a4);
 
 static struct s1 f0(address a0, address a1) {
     address v2, v6, v7, v11, v13, v15, v16, v17, v26, v31, v32, v38, v40, v41, v42, v43;
@@ -1774,16 +1782,16 @@ L2:;
 L3:;
     v12 = a0 + v2 * 1u;
     v13 = (u64)v12;
-    v14 = (u64)((u64)v13 - (u64)(ADDRESS(c137) + 8u * 1u));
+    v14 = (u64)((u64)v13 - (u64)(ADDRESS(c136) + 8u * 1u));
     v15 = v14 < v9;
     if (v15) { v3 = 0u; goto L5; }
     else { goto L4; }
 L4:;
-    memory_cpy(v12, (ADDRESS(c137) + 8u * 1u), v9);
+    memory_cpy(v12, (ADDRESS(c136) + 8u * 1u), v9);
     goto L6;
 L5:;
     v16 = v12 + v3 * 1u;
-    v17 = (ADDRESS(c137) + 8u * 1u) + v3 * 1u;
+    v17 = (ADDRESS(c136) + 8u * 1u) + v3 * 1u;
     v18 = load8(v17);
     store8(v16, v18);
     v19 = (u64)((u64)v3 + (u64)1u);
@@ -1810,7 +1818,7 @@ static void f5(address a0, u64 a1, u16 a2, u16 a3, address a4, u64 a5) {
     v12 = (u64)((u64)v11 + (u64)v10);
     v13 = (u16)(v12);
     v14 = (u64)a0;
-    v15 = (u64)((u64)v14 - (u64)ADDRESS(c138));
+    v15 = (u64)((u64)v14 - (u64)ADDRESS(c137));
     v16 = v15 < 12u;
     if (v16) { goto L1; }
     else { goto L2; }
@@ -1822,7 +1830,7 @@ L1:;
     store32(v18, 0u);
     goto L3;
 L2:;
-    memory_cpy(a0, ADDRESS(c138), 12u);
+    memory_cpy(a0, ADDRESS(c137), 12u);
     goto L3;
 L3:;
     v19 = (u16)((u32)v13 + (u32)8u);
@@ -2281,7 +2289,7 @@ L23:;
 L24:;
     v134 = v22 == 4u;
     if (v134) { v9 = 0u; v10 = 0u; v11 = 0u; v12 = 1u; goto L31; }
-    else { v5 = v13; v6 = ADDRESS(c139); v7 = 0u; goto L29; }
+    else { v5 = v13; v6 = ADDRESS(c138); v7 = 0u; goto L29; }
 L25:;
     v135 = v18 + 54u * 1u;
     v136 = (u64)((u64)v20 + (u64)UINT64_C(18446744073709551562));
@@ -2717,7 +2725,7 @@ L3:;
 L4:;
     memory_cpy(a1, v14, v58);
     v61 = a1 + v58 * 1u;
-    v8 = v61; v9 = 0u; v10 = ADDRESS(c139); goto L6;
+    v8 = v61; v9 = 0u; v10 = ADDRESS(c138); goto L6;
 L5:;
     v62 = load_address(v47);
     v63 = load64(v48);
@@ -2958,7 +2966,7 @@ L10:;
 L11:;
     v130 = v9 + v127 * 1u;
     v131 = (u64)v130;
-    v132 = (u64)((u64)v131 - (u64)ADDRESS(c140));
+    v132 = (u64)((u64)v131 - (u64)ADDRESS(c139));
     v133 = v132 < 8u;
     if (v133) { goto L12; }
     else { goto L13; }
@@ -3015,17 +3023,18 @@ L19:;
 }
 
 static void f12(u8 a0, address a1) {
-    address v2, v3, v4, v7, v9, v10, v11, v13, v15, v17, v18, v19, v29, v30, v31, v32;
-    u64 v5, v12, v20, v28, v33;
-    u8 v6, v8, v14, v16, v21, v22, v23, v24, v25, v26, v27, v34;
+    address v2, v3, v4, v7, v9, v10, v11, v13, v15, v17, v18, v19, v28, v29, v30, v31;
+    address v33, v34, v35;
+    u64 v5, v12, v20, v32, v36;
+    u8 v6, v8, v14, v16, v21, v22, v23, v24, v25, v26, v27, v37, v38;
     switch (a0) {
-    case 0u: goto L13;
+    case 0u: goto L15;
     case 1u: goto L1;
     case 2u: goto L3;
     case 3u: goto L8;
     case 4u: goto L9;
-    case 5u: goto L11;
-    default: goto L12;
+    case 5u: goto L13;
+    default: goto L14;
     }
 L1:;
     v2 = a1 + 448u * 1u;
@@ -3034,11 +3043,11 @@ L1:;
     v5 = load64(v4);
     portable_rattle_dealloc(a1);
     v6 = v5 == 0u;
-    if (v6) { goto L13; }
+    if (v6) { goto L15; }
     else { goto L2; }
 L2:;
     portable_rattle_dealloc(v3);
-    goto L13;
+    goto L15;
 L3:;
     v7 = a1 + 48u * 1u;
     v8 = load8(v7);
@@ -3065,108 +3074,55 @@ L4:;
     goto L5;
 L5:;
     v24 = v14 == 0u;
-    if (v24) { goto L13; }
+    if (v24) { goto L15; }
     else { goto L6; }
 L6:;
     v25 = v16 != 0u;
     v26 = v20 == 0u;
     v27 = v25 ? 1u : v26;
-    if (v27) { goto L13; }
+    if (v27) { goto L15; }
     else { goto L7; }
 L7:;
     portable_rattle_dealloc(v18);
-    goto L13;
+    goto L15;
 L8:;
-    f15(a1);
-    goto L13;
+    f13(a1);
+    goto L15;
 L9:;
-    v28 = load64(a1);
+    v28 = load_address(a1);
+    v29 = a1 + 888u * 1u;
+    v30 = load_address(v29);
+    v31 = a1 + 904u * 1u;
+    v32 = load64(v31);
     portable_rattle_dealloc(a1);
-    v29 = (address)v28;
-    v30 = v29 + 448u * 1u;
-    v31 = load_address(v30);
-    v32 = v29 + 464u * 1u;
-    v33 = load64(v32);
-    portable_rattle_dealloc(v29);
-    v34 = v33 == 0u;
-    if (v34) { goto L13; }
+    v33 = v28 + 448u * 1u;
+    v34 = load_address(v33);
+    v35 = v28 + 464u * 1u;
+    v36 = load64(v35);
+    portable_rattle_dealloc(v28);
+    v37 = v36 == 0u;
+    if (v37) { goto L11; }
     else { goto L10; }
 L10:;
-    portable_rattle_dealloc(v31);
-    goto L13;
+    portable_rattle_dealloc(v34);
+    goto L11;
 L11:;
-    f17(a1);
-    goto L13;
+    v38 = v32 == 0u;
+    if (v38) { goto L15; }
+    else { goto L12; }
 L12:;
-    UNREACHABLE;
+    portable_rattle_dealloc(v30);
+    goto L15;
 L13:;
+    f14(a1);
+    goto L15;
+L14:;
+    UNREACHABLE;
+L15:;
     return;
 }
 
 static void f13(address a0) {
-    address v1, v2, v3;
-    u64 v4;
-    u8 v5;
-    v1 = a0 + 448u * 1u;
-    v2 = load_address(v1);
-    v3 = a0 + 464u * 1u;
-    v4 = load64(v3);
-    portable_rattle_dealloc(a0);
-    v5 = v4 == 0u;
-    if (v5) { goto L2; }
-    else { goto L1; }
-L1:;
-    portable_rattle_dealloc(v2);
-    goto L2;
-L2:;
-    return;
-}
-
-static void f14(address a0) {
-    address v1, v3, v4, v5, v7, v9, v11, v12, v13;
-    u8 v2, v8, v10, v15, v16, v17, v18, v19, v20, v21;
-    u64 v6, v14;
-    v1 = a0 + 48u * 1u;
-    v2 = load8(v1);
-    v3 = a0 + 64u * 1u;
-    v4 = load_address(v3);
-    v5 = a0 + 80u * 1u;
-    v6 = load64(v5);
-    v7 = a0 + 1576u * 1u;
-    v8 = load8(v7);
-    v9 = a0 + 1592u * 1u;
-    v10 = load8(v9);
-    v11 = a0 + 1600u * 1u;
-    v12 = load_address(v11);
-    v13 = a0 + 1616u * 1u;
-    v14 = load64(v13);
-    portable_rattle_dealloc(a0);
-    v15 = v2 == 0u;
-    v16 = v6 == 0u;
-    v17 = v15 ? 1u : v16;
-    if (v17) { goto L2; }
-    else { goto L1; }
-L1:;
-    portable_rattle_dealloc(v4);
-    goto L2;
-L2:;
-    v18 = v8 == 0u;
-    if (v18) { goto L5; }
-    else { goto L3; }
-L3:;
-    v19 = v10 != 0u;
-    v20 = v14 == 0u;
-    v21 = v19 ? 1u : v20;
-    if (v21) { goto L5; }
-    else { goto L4; }
-L4:;
-    portable_rattle_dealloc(v12);
-    goto L5;
-L5:;
-    return;
-}
-
-static void f15(address a0) {
     u64 v1, v5, v9, v11, v15, v19, v22, v26, v32;
     address v2, v3, v4, v6, v7, v8, v10, v12, v13, v14, v16, v17, v18, v23, v25, v30;
     address v31;
@@ -3246,29 +3202,7 @@ L12:;
     return;
 }
 
-static void f16(address a0) {
-    u64 v1, v6;
-    address v2, v3, v4, v5;
-    u8 v7;
-    v1 = load64(a0);
-    portable_rattle_dealloc(a0);
-    v2 = (address)v1;
-    v3 = v2 + 448u * 1u;
-    v4 = load_address(v3);
-    v5 = v2 + 464u * 1u;
-    v6 = load64(v5);
-    portable_rattle_dealloc(v2);
-    v7 = v6 == 0u;
-    if (v7) { goto L2; }
-    else { goto L1; }
-L1:;
-    portable_rattle_dealloc(v4);
-    goto L2;
-L2:;
-    return;
-}
-
-static void f17(address a0) {
+static void f14(address a0) {
     address v1, v3, v4, v5, v7, v9, v10, v11, v13, v15, v16, v17, v19, v21, v23, v24;
     address v25;
     u8 v2, v8, v14, v20, v22, v27, v28, v29, v30, v31, v32, v33, v34, v35, v36, v37;
@@ -3344,7 +3278,7 @@ L9:;
     return;
 }
 
-static void f18(address a0, address a1, address a2, u64 a3, u16 a4, u8 a5) {
+static void f15(address a0, address a1, address a2, u64 a3, u16 a4, u8 a5) {
     address v6, v7, v8, v9, v12, v13, v15, v17, v19, v21, v23, v24, v25, v26, v27, v28;
     address v29, v30, v35, v36, v37, v38, v40, v41, v42, v47, v49, v54, v55, v56, v57, v58;
     address v60, v61, v62, v63, v64, v65, v66, v68, v70, v72, v74, v76, v79, v81, v82, v83;
@@ -3509,378 +3443,69 @@ L9:;
     goto L2;
 }
 
-static u32 f19(address a0, u16 a1, address a2, u64 a3, address a4, u64 a5, address a6) {
-    u16 v7, v21, v48, v49, v50, v51, v58, v59, v60, v72, v75, v76, v77, v83, v84, v85;
-    u16 v86, v102, v103, v104, v105, v106, v127, v147, v148;
-    u64 v8, v10, v20, v43, v53, v62, v68, v90, v91, v97, v99, v101, v120, v125, v130, v133;
-    u64 v138, v139, v140, v142, v155, v157, v158, v159, v160;
-    address v9, v12, v13, v14, v15, v16, v17, v19, v24, v25, v28, v29, v32, v36, v38, v42;
-    address v44, v46, v52, v54, v56, v61, v65, v67, v70, v73, v78, v79, v81, v87, v92, v94;
-    address v96, v98, v100, v107, v108, v109, v110, v111, v112, v115, v117, v119, v122, v123, v124, v126;
-    address v129, v134, v143, v150, v151, v152, v153, v154, v156;
-    u32 v11, v136, v137;
-    u8 v18, v22, v23, v26, v27, v30, v31, v33, v34, v35, v37, v39, v40, v41, v45, v47;
-    u8 v55, v57, v63, v64, v66, v69, v71, v74, v80, v82, v88, v89, v93, v95, v114, v116;
-    u8 v118, v121, v128, v131, v132, v135, v141, v144, v145, v146, v149;
-    struct s1 v113;
-    u64 block0[1];
-    u64 block1[2];
-    u64 block2[3];
-    u64 block3[3];
-    u64 block4[4];
-    u64 block5[3];
-    v12 = ADDRESS(block0);
-    v13 = ADDRESS(block1);
-    v14 = ADDRESS(block2);
-    v15 = ADDRESS(block3);
-    v16 = ADDRESS(block4);
-    v17 = ADDRESS(block5);
-    store64(a6, 0u);
-    v18 = a1 == 0u;
-    if (v18) { goto L33; }
-    else { goto L1; }
-L1:;
-    v19 = a0 + 432u * 1u;
-    v20 = load64(v19);
-    v21 = (u16)(v20);
-    v22 = a1 > v21;
-    if (v22) { goto L33; }
-    else { goto L2; }
-L2:;
-    v23 = a5 < 15u;
-    if (v23) { goto L32; }
-    else { goto L3; }
-L3:;
-    store_address(v17, a4);
-    v24 = v17 + 8u * 1u;
-    store64(v24, a5);
-    v25 = v17 + 16u * 1u;
-    store64(v25, 0u);
-    memory_set(v16, 0u, 32u);
-    f8(v16, a2, a3);
-    v26 = load8(v16);
-    v27 = v26 == 0u;
-    if (v27) { goto L4; }
-    else { goto L23; }
-L4:;
-    v28 = v16 + 8u * 1u;
-    memory_cpy(v15, v28, 24u);
-    v29 = load_address(v15);
-    v30 = load8(v29);
-    v31 = (u8)((u32)v30 >> (4u & 7u));
-    v32 = v29 + 5u * 1u;
-    v33 = load8(v32);
-    v34 = (u8)((u32)v31 | (u32)v33);
-    v35 = v34 == 0u;
-    if (v35) { goto L5; }
-    else { goto L22; }
-L5:;
-    v36 = v29 + 4u * 1u;
-    v37 = load8(v36);
-    v38 = a0 + 8u * 1u;
-    v39 = load8(v38);
-    v40 = v37 == v39;
-    if (v40) { goto L8; }
-    else { goto L6; }
-L6:;
-    v41 = f20(a0, v15);
-    if (v41) { goto L7; }
-    else { goto L22; }
-L7:;
-    v42 = v29 + 20u * 1u;
-    v43 = load64(v42);
-    v44 = v29 + 28u * 1u;
-    v45 = load8(v44);
-    v46 = v29 + 29u * 1u;
-    v47 = load8(v46);
-    v48 = (u16)v45;
-    v49 = (u16)((u32)v48 << (8u & 15u));
-    v50 = (u16)v47;
-    v51 = (u16)((u32)v49 | (u32)v50);
-    v7 = v51; v8 = v43; goto L16;
-L8:;
-    v52 = v29 + 20u * 1u;
-    v53 = load64(v52);
-    v54 = v29 + 28u * 1u;
-    v55 = load8(v54);
-    v56 = v29 + 29u * 1u;
-    v57 = load8(v56);
-    v58 = (u16)v55;
-    v59 = (u16)((u32)v58 << (8u & 15u));
-    v60 = (u16)v57;
-    v61 = a0 + 440u * 1u;
-    v62 = load64(v61);
-    v63 = v53 == v62;
-    if (v63) { goto L24; }
-    else { goto L9; }
-L9:;
-    v64 = f21(a0, v15);
-    if (v64) { goto L10; }
-    else { goto L25; }
-L10:;
-    v65 = v15 + 16u * 1u;
-    v66 = load8(v65);
-    switch (v66) {
-    case 2u: goto L26;
-    case 4u: goto L26;
-    case 0u: goto L12;
-    case 1u: goto L12;
-    case 3u: goto L12;
-    default: goto L11;
-    }
-L11:;
-    UNREACHABLE;
-L12:;
-    v67 = v29 + 34u * 1u;
-    v68 = load64(v67);
-    v69 = v68 == v62;
-    if (v69) { goto L14; }
-    else { goto L13; }
-L13:;
-    goto L31;
-L14:;
-    v70 = v29 + 43u * 1u;
-    v71 = load8(v70);
-    v72 = (u16)v71;
-    v73 = v29 + 42u * 1u;
-    v74 = load8(v73);
-    v75 = (u16)v74;
-    v76 = (u16)((u32)v75 << (8u & 15u));
-    v77 = (u16)((u32)v59 | (u32)v60);
-    store64(v13, v53);
-    v78 = v13 + 8u * 1u;
-    store16(v78, v77);
-    v79 = v29 + 30u * 1u;
-    v80 = load8(v79);
-    v81 = v29 + 31u * 1u;
-    v82 = load8(v81);
-    v83 = (u16)v80;
-    v84 = (u16)((u32)v83 << (8u & 15u));
-    v85 = (u16)v82;
-    v86 = (u16)((u32)v84 | (u32)v85);
-    v87 = v15 + 17u * 1u;
-    v88 = load8(v87);
-    v89 = v88 == 0u;
-    v90 = v89 ? 52u : 54u;
-    v91 = v89 ? 53u : 55u;
-    v92 = v29 + v90 * 1u;
-    v93 = load8(v92);
-    v94 = v29 + v91 * 1u;
-    v95 = load8(v94);
-    v96 = v15 + 8u * 1u;
-    v97 = load64(v96);
-    v98 = v29 + 54u * 1u;
-    v99 = (u64)((u64)v97 + (u64)UINT64_C(18446744073709551562));
-    v100 = v89 ? v98 : ADDRESS(c139);
-    v101 = v89 ? v99 : 0u;
-    v102 = (u16)((u32)v76 | (u32)v72);
-    v103 = (u16)v93;
-    v104 = (u16)((u32)v103 << (8u & 15u));
-    v105 = (u16)v95;
-    v106 = (u16)((u32)v104 | (u32)v105);
-    store8(v14, v66);
-    v107 = v14 + 1u * 1u;
-    store8(v107, 0u);
-    v108 = v14 + 2u * 1u;
-    store16(v108, v106);
-    v109 = v14 + 4u * 1u;
-    store16(v109, v102);
-    v110 = v14 + 6u * 1u;
-    store16(v110, 0u);
-    v111 = v14 + 8u * 1u;
-    store_address(v111, v100);
-    v112 = v14 + 16u * 1u;
-    store64(v112, v101);
-    v113 = f22(v61, v13, v86, v14);
-    v114 = v113.m0;
-    switch (v114) {
-    case 0u: goto L31;
-    case 1u: goto L27;
-    case 2u: v7 = v77; v8 = v53; goto L16;
-    case 3u: goto L30;
-    case 4u: goto L29;
-    default: goto L15;
-    }
-L15:;
-    UNREACHABLE;
-L16:;
-    v115 = v29 + 44u * 1u;
-    v116 = load8(v115);
-    v117 = v29 + 45u * 1u;
-    v118 = load8(v117);
-    v119 = a0 + 456u * 1u;
-    v120 = load64(v119);
-    v121 = v120 == 0u;
-    if (v121) { goto L21; }
-    else { goto L17; }
-L17:;
-    v122 = a0 + 448u * 1u;
-    v123 = load_address(v122);
-    v9 = v123; v10 = v120; goto L18;
-L18:;
-    v124 = v9 + 2136u * 1u;
-    v125 = (u64)((u64)v10 + (u64)UINT64_C(18446744073709551615));
-    v126 = v9 + 2112u * 1u;
-    v127 = load16(v126);
-    v128 = v7 == v127;
-    if (v128) { goto L19; }
-    else { goto L20; }
-L19:;
-    v129 = v9 + 2104u * 1u;
-    v130 = load64(v129);
-    v131 = v8 == v130;
-    if (v131) { goto L28; }
-    else { goto L20; }
-L20:;
-    v132 = v125 == 0u;
-    if (v132) { goto L21; }
-    else { v9 = v124; v10 = v125; goto L18; }
-L21:;
-    TRAP;
-    UNREACHABLE;
-L22:;
-    f41(a0, 1u, a1, a2, v28, v17);
-    v133 = load64(v25);
-    store64(a6, v133);
-    v11 = 1u; goto L34;
-L23:;
-    v134 = v16 + 1u * 1u;
-    v135 = load8(v134);
-    store64(a6, 0u);
-    v136 = (u32)v135;
-    v137 = (u32)((u32)v136 + (u32)16u);
-    v11 = v137; goto L34;
-L24:;
-    f41(a0, 2u, a1, a2, v28, v17);
-    v138 = load64(v25);
-    store64(a6, v138);
-    v11 = 2u; goto L34;
-L25:;
-    f41(a0, 3u, a1, a2, v28, v17);
-    v139 = load64(v25);
-    store64(a6, v139);
-    v11 = 3u; goto L34;
-L26:;
-    f41(a0, 4u, a1, a2, v28, v17);
-    v140 = load64(v25);
-    store64(a6, v140);
-    v11 = 4u; goto L34;
-L27:;
-    v141 = v113.m1;
-    f25(a0, a1, v28, v141, v17);
-    v142 = load64(v25);
-    store64(a6, v142);
-    v11 = 5u; goto L34;
-L28:;
-    store64(v12, 0u);
-    v143 = v9 + 2121u * 1u;
-    v144 = load8(v143);
-    v145 = (u8)((v144) & UINT64_C(1));
-    v146 = (u8)(((u32)v145 ^ (u32)1u) & UINT64_C(1));
-    v147 = v145 ? 0u : a1;
-    v148 = (u16)v146;
-    v149 = v116 > v118 ? (u8)((u32)v116 - (u32)v118) : 0u;
-    store8(v12, v37);
-    v150 = v12 + 2u * 1u;
-    store16(v150, v148);
-    v151 = v12 + 4u * 1u;
-    store16(v151, v147);
-    v152 = v12 + 6u * 1u;
-    store8(v152, v149);
-    v153 = v9 + 1432u * 1u;
-    v154 = v9 + 1440u * 1u;
-    v155 = load64(v154);
-    v156 = v9 + 1448u * 1u;
-    f40(v153, v155, v156, v12, a1, v17);
-    v157 = load64(v25);
-    store64(a6, v157);
-    v11 = 6u; goto L34;
-L29:;
-    f41(a0, 7u, a1, a2, v28, v17);
-    v158 = load64(v25);
-    store64(a6, v158);
-    v11 = 7u; goto L34;
-L30:;
-    f41(a0, 8u, a1, a2, v28, v17);
-    v159 = load64(v25);
-    store64(a6, v159);
-    v11 = 8u; goto L34;
-L31:;
-    f41(a0, 9u, a1, a2, v28, v17);
-    v160 = load64(v25);
-    store64(a6, v160);
-    v11 = 9u; goto L34;
-L32:;
-    v11 = 34u; goto L34;
-L33:;
-    v11 = 33u; goto L34;
-L34:;
-    return v11;
-}
-
-static u8 f20(address a0, address a1) {
-    address v2, v6, v7, v8, v9, v11, v13, v18, v21, v23, v25, v34, v38, v41, v42, v44;
-    address v50, v55, v57, v59, v61, v67, v68, v69, v70, v71, v72;
-    u64 v3, v10, v19, v22, v35, v53, v54, v60, v62;
-    u8 v4, v5, v12, v14, v20, v24, v26, v31, v32, v33, v37, v39, v43, v45, v51, v52;
-    u8 v56, v58, v74, v75;
-    u16 v15, v16, v17, v27, v28, v29, v30, v36, v40, v46, v47, v48, v49, v63, v64, v65;
-    u16 v66;
-    struct s1 v73;
-    u64 block0[2];
+static u8 f16(address a0, address a1) {
+    address v2, v4, v9, v10, v11, v12, v14, v16, v21, v24, v26, v28, v37, v41, v44, v46;
+    address v52, v57, v59, v61, v63, v69, v70, v71, v72, v73, v74, v75, v76, v77, v80, v82;
+    address v85, v89, v92, v94, v96, v98, v100, v102, v103, v104, v105, v106, v107;
+    u64 v3, v5, v13, v22, v25, v38, v55, v56, v62, v64, v78, v81, v86, v101;
+    u8 v6, v7, v8, v15, v17, v23, v27, v29, v34, v35, v36, v40, v42, v45, v47, v53;
+    u8 v54, v58, v60, v79, v84, v87, v88, v90, v91, v95, v108, v109;
+    u16 v18, v19, v20, v30, v31, v32, v33, v39, v43, v48, v49, v50, v51, v65, v66, v67;
+    u16 v68, v83, v93, v97, v99;
+    u64 block0[3];
     u64 block1[3];
-    v6 = ADDRESS(block0);
-    v7 = ADDRESS(block1);
-    v8 = load_address(a1);
-    v9 = v8 + 20u * 1u;
-    v10 = load64(v9);
-    v11 = v8 + 28u * 1u;
-    v12 = load8(v11);
-    v13 = v8 + 29u * 1u;
-    v14 = load8(v13);
-    v15 = (u16)v12;
-    v16 = (u16)((u32)v15 << (8u & 15u));
-    v17 = (u16)v14;
-    v18 = a0 + 440u * 1u;
-    v19 = load64(v18);
-    v20 = v10 == v19;
-    if (v20) { v5 = 0u; goto L11; }
+    v9 = ADDRESS(block0);
+    v10 = ADDRESS(block1);
+    v11 = load_address(a1);
+    v12 = v11 + 20u * 1u;
+    v13 = load64(v12);
+    v14 = v11 + 28u * 1u;
+    v15 = load8(v14);
+    v16 = v11 + 29u * 1u;
+    v17 = load8(v16);
+    v18 = (u16)v15;
+    v19 = (u16)((u32)v18 << (8u & 15u));
+    v20 = (u16)v17;
+    v21 = a0 + 440u * 1u;
+    v22 = load64(v21);
+    v23 = v13 == v22;
+    if (v23) { v8 = 0u; goto L17; }
     else { goto L1; }
 L1:;
-    v21 = v8 + 34u * 1u;
-    v22 = load64(v21);
-    v23 = v8 + 42u * 1u;
-    v24 = load8(v23);
-    v25 = v8 + 43u * 1u;
-    v26 = load8(v25);
-    v27 = (u16)v24;
-    v28 = (u16)((u32)v27 << (8u & 15u));
-    v29 = (u16)v26;
-    v30 = (u16)((u32)v28 | (u32)v29);
-    v31 = v22 == v19;
-    v32 = v22 == UINT64_C(18446744073709551615);
-    v33 = (u8)(((u32)v32 | (u32)v31) & UINT64_C(1));
-    if (v33) { goto L2; }
-    else { v5 = 0u; goto L11; }
+    v24 = v11 + 34u * 1u;
+    v25 = load64(v24);
+    v26 = v11 + 42u * 1u;
+    v27 = load8(v26);
+    v28 = v11 + 43u * 1u;
+    v29 = load8(v28);
+    v30 = (u16)v27;
+    v31 = (u16)((u32)v30 << (8u & 15u));
+    v32 = (u16)v29;
+    v33 = (u16)((u32)v31 | (u32)v32);
+    v34 = v25 == v22;
+    v35 = v25 == UINT64_C(18446744073709551615);
+    v36 = (u8)(((u32)v35 | (u32)v34) & UINT64_C(1));
+    if (v36) { goto L2; }
+    else { v8 = 0u; goto L17; }
 L2:;
-    switch (v30) {
+    switch (v33) {
     case 65535u: goto L4;
-    case 0u: v5 = 0u; goto L11;
+    case 0u: v8 = 0u; goto L17;
     default: goto L3;
     }
 L3:;
-    v34 = a0 + 432u * 1u;
-    v35 = load64(v34);
-    v36 = (u16)(v35);
-    v37 = v30 > v36;
-    if (v37) { v5 = 0u; goto L11; }
+    v37 = a0 + 432u * 1u;
+    v38 = load64(v37);
+    v39 = (u16)(v38);
+    v40 = v33 > v39;
+    if (v40) { v8 = 0u; goto L17; }
     else { goto L4; }
 L4:;
-    v38 = a1 + 16u * 1u;
-    v39 = load8(v38);
-    switch (v39) {
-    case 2u: v5 = 0u; goto L11;
-    case 4u: v5 = 0u; goto L11;
+    v41 = a1 + 16u * 1u;
+    v42 = load8(v41);
+    switch (v42) {
+    case 2u: v8 = 0u; goto L17;
+    case 4u: v8 = 0u; goto L17;
     case 0u: goto L6;
     case 1u: goto L6;
     case 3u: goto L6;
@@ -3889,67 +3514,120 @@ L4:;
 L5:;
     UNREACHABLE;
 L6:;
-    if (v31) { goto L7; }
-    else { v4 = 0u; goto L10; }
+    if (v34) { goto L7; }
+    else { v7 = 0u; goto L16; }
 L7:;
-    v40 = (u16)((u32)v16 | (u32)v17);
-    store64(v6, v10);
-    v41 = v6 + 8u * 1u;
-    store16(v41, v40);
-    v42 = v8 + 30u * 1u;
-    v43 = load8(v42);
-    v44 = v8 + 31u * 1u;
+    v43 = (u16)((u32)v19 | (u32)v20);
+    v44 = v11 + 30u * 1u;
     v45 = load8(v44);
-    v46 = (u16)v43;
-    v47 = (u16)((u32)v46 << (8u & 15u));
+    v46 = v11 + 31u * 1u;
+    v47 = load8(v46);
     v48 = (u16)v45;
-    v49 = (u16)((u32)v47 | (u32)v48);
-    v50 = a1 + 17u * 1u;
-    v51 = load8(v50);
-    v52 = v51 == 0u;
-    v53 = v52 ? 52u : 54u;
-    v54 = v52 ? 53u : 55u;
-    v55 = v8 + v53 * 1u;
-    v56 = load8(v55);
-    v57 = v8 + v54 * 1u;
+    v49 = (u16)((u32)v48 << (8u & 15u));
+    v50 = (u16)v47;
+    v51 = (u16)((u32)v49 | (u32)v50);
+    v52 = a1 + 17u * 1u;
+    v53 = load8(v52);
+    v54 = v53 == 0u;
+    v55 = v54 ? 52u : 54u;
+    v56 = v54 ? 53u : 55u;
+    v57 = v11 + v55 * 1u;
     v58 = load8(v57);
-    if (v52) { goto L8; }
-    else { v2 = ADDRESS(c139); v3 = 0u; goto L9; }
+    v59 = v11 + v56 * 1u;
+    v60 = load8(v59);
+    if (v54) { goto L8; }
+    else { v2 = ADDRESS(c138); v3 = 0u; goto L9; }
 L8:;
-    v59 = a1 + 8u * 1u;
-    v60 = load64(v59);
-    v61 = v8 + 54u * 1u;
-    v62 = (u64)((u64)v60 + (u64)UINT64_C(18446744073709551562));
-    v2 = v61; v3 = v62; goto L9;
+    v61 = a1 + 8u * 1u;
+    v62 = load64(v61);
+    v63 = v11 + 54u * 1u;
+    v64 = (u64)((u64)v62 + (u64)UINT64_C(18446744073709551562));
+    v2 = v63; v3 = v64; goto L9;
 L9:;
-    v63 = (u16)v56;
-    v64 = (u16)((u32)v63 << (8u & 15u));
     v65 = (u16)v58;
-    v66 = (u16)((u32)v64 | (u32)v65);
-    store8(v7, v39);
-    v67 = v7 + 1u * 1u;
-    store8(v67, 0u);
-    v68 = v7 + 2u * 1u;
-    store16(v68, v66);
-    v69 = v7 + 4u * 1u;
-    store16(v69, v30);
-    v70 = v7 + 6u * 1u;
-    store16(v70, 0u);
-    v71 = v7 + 8u * 1u;
-    store_address(v71, v2);
-    v72 = v7 + 16u * 1u;
-    store64(v72, v3);
-    v73 = f22(v18, v6, v49, v7);
-    v74 = v73.m0;
-    v75 = v74 == 2u;
-    v4 = v75; goto L10;
+    v66 = (u16)((u32)v65 << (8u & 15u));
+    v67 = (u16)v60;
+    v68 = (u16)((u32)v66 | (u32)v67);
+    store8(v10, v42);
+    v69 = v10 + 1u * 1u;
+    store8(v69, 0u);
+    v70 = v10 + 2u * 1u;
+    store16(v70, v68);
+    v71 = v10 + 4u * 1u;
+    store16(v71, v33);
+    v72 = v10 + 6u * 1u;
+    store16(v72, 0u);
+    v73 = v10 + 8u * 1u;
+    store_address(v73, v2);
+    v74 = v10 + 16u * 1u;
+    store64(v74, v3);
+    v75 = a0 + 448u * 1u;
+    v76 = load_address(v75);
+    v77 = a0 + 456u * 1u;
+    v78 = load64(v77);
+    v79 = v78 == 0u;
+    if (v79) { v6 = 0u; goto L15; }
+    else { v4 = v76; v5 = v78; goto L10; }
 L10:;
-    v5 = v4; goto L11;
+    v80 = v4 + 2136u * 1u;
+    v81 = (u64)((u64)v5 + (u64)UINT64_C(18446744073709551615));
+    v82 = v4 + 2112u * 1u;
+    v83 = load16(v82);
+    v84 = v43 == v83;
+    if (v84) { goto L11; }
+    else { goto L12; }
 L11:;
-    return v5;
+    v85 = v4 + 2104u * 1u;
+    v86 = load64(v85);
+    v87 = v13 == v86;
+    if (v87) { goto L13; }
+    else { goto L12; }
+L12:;
+    v88 = v81 == 0u;
+    if (v88) { v6 = 0u; goto L15; }
+    else { v4 = v80; v5 = v81; goto L10; }
+L13:;
+    v89 = v4 + 2129u * 1u;
+    v90 = load8(v89);
+    v91 = (u8)((v90) & UINT64_C(1));
+    if (v91) { goto L14; }
+    else { v6 = 0u; goto L15; }
+L14:;
+    v92 = v4 + 2114u * 1u;
+    v93 = load16(v92);
+    v94 = v4 + 2120u * 1u;
+    v95 = load8(v94);
+    v96 = v4 + 2116u * 1u;
+    v97 = load16(v96);
+    v98 = v4 + 2118u * 1u;
+    v99 = load16(v98);
+    v100 = v4 + 1424u * 1u;
+    v101 = load64(v100);
+    store8(v9, v95);
+    v102 = v9 + 1u * 1u;
+    store8(v102, 0u);
+    v103 = v9 + 2u * 1u;
+    store16(v103, v97);
+    v104 = v9 + 4u * 1u;
+    store16(v104, v99);
+    v105 = v9 + 6u * 1u;
+    store16(v105, 0u);
+    v106 = v9 + 8u * 1u;
+    store_address(v106, v4);
+    v107 = v9 + 16u * 1u;
+    store64(v107, v101);
+    v108 = f19(v93, v9, v51, v10);
+    v109 = v108 == 2u;
+    v6 = v109; goto L15;
+L15:;
+    v7 = v6; goto L16;
+L16:;
+    v8 = v7; goto L17;
+L17:;
+    return v8;
 }
 
-static u8 f21(address a0, address a1) {
+static u8 f17(address a0, address a1) {
     u8 v2, v7, v9, v16, v17, v18, v22;
     address v3, v4, v6, v8, v14, v19;
     u64 v5, v15, v20;
@@ -3990,26 +3668,26 @@ L4:;
     return v2;
 }
 
-static struct s1 f22(address a0, address a1, u16 a2, address a3) {
-    address v4, v10, v13, v14, v15, v17, v19, v22, v27, v30, v32, v34, v36, v43, v47, v50;
-    address v53, v54, v55, v62, v63, v68, v69, v74, v75, v81, v82, v90;
-    u64 v5, v6, v11, v18, v23, v24, v37, v56, v86;
-    u8 v7, v8, v9, v12, v21, v25, v26, v28, v29, v38, v40, v41, v42, v44, v45, v46;
-    u8 v49, v52, v57, v58, v59, v60, v61, v64, v65, v66, v67, v70, v71, v72, v73, v76;
-    u8 v77, v78, v79, v80, v83, v84, v85, v87, v88, v89, v91;
-    u16 v16, v20, v31, v33, v35, v39, v48, v51;
-    struct s1 v92, v93;
-    v10 = a0 + 16u * 1u;
-    v11 = load64(v10);
-    v12 = v11 == 0u;
-    if (v12) { v8 = 0u; v9 = 0u; goto L22; }
+static struct s1 f18(address a0, address a1, u16 a2, address a3) {
+    address v4, v9, v10, v11, v12, v15, v17, v19, v22, v27, v30, v32, v34, v36, v38, v40;
+    address v41, v42, v43, v44, v45, v47;
+    u64 v5, v13, v18, v23, v24, v39;
+    u8 v6, v7, v8, v14, v21, v25, v26, v28, v29, v33, v46, v48;
+    u16 v16, v20, v31, v35, v37;
+    struct s1 v49, v50;
+    u64 block0[3];
+    v9 = ADDRESS(block0);
+    v10 = a0 + 8u * 1u;
+    v11 = load_address(v10);
+    v12 = a0 + 16u * 1u;
+    v13 = load64(v12);
+    v14 = v13 == 0u;
+    if (v14) { v7 = 0u; v8 = 0u; goto L8; }
     else { goto L1; }
 L1:;
-    v13 = a0 + 8u * 1u;
-    v14 = load_address(v13);
     v15 = a1 + 8u * 1u;
     v16 = load16(v15);
-    v4 = v14; v5 = v11; goto L2;
+    v4 = v11; v5 = v13; goto L2;
 L2:;
     v17 = v4 + 2136u * 1u;
     v18 = (u64)((u64)v5 + (u64)UINT64_C(18446744073709551615));
@@ -4027,133 +3705,170 @@ L3:;
     else { goto L4; }
 L4:;
     v26 = v18 == 0u;
-    if (v26) { v8 = 0u; v9 = 0u; goto L22; }
+    if (v26) { v7 = 0u; v8 = 0u; goto L8; }
     else { v4 = v17; v5 = v18; goto L2; }
 L5:;
     v27 = v4 + 2129u * 1u;
     v28 = load8(v27);
     v29 = (u8)((v28) & UINT64_C(1));
     if (v29) { goto L6; }
-    else { v7 = 1u; goto L21; }
+    else { v6 = 1u; goto L7; }
 L6:;
     v30 = v4 + 2114u * 1u;
     v31 = load16(v30);
-    v32 = v4 + 2116u * 1u;
-    v33 = load16(v32);
-    v34 = v4 + 2118u * 1u;
+    v32 = v4 + 2120u * 1u;
+    v33 = load8(v32);
+    v34 = v4 + 2116u * 1u;
     v35 = load16(v34);
-    v36 = v4 + 1424u * 1u;
-    v37 = load64(v36);
-    v38 = a2 == v31;
-    v39 = (u16)((u32)a2 - (u32)v31);
-    v40 = (i16)v39 > (i16)65535u;
-    v41 = v40 ? 1u : 2u;
-    v42 = v38 ? 0u : v41;
-    switch (v42) {
-    case 0u: goto L7;
-    case 1u: v7 = v42; goto L21;
-    case 2u: goto L19;
-    default: goto L20;
-    }
+    v36 = v4 + 2118u * 1u;
+    v37 = load16(v36);
+    v38 = v4 + 1424u * 1u;
+    v39 = load64(v38);
+    store8(v9, v33);
+    v40 = v9 + 1u * 1u;
+    store8(v40, 0u);
+    v41 = v9 + 2u * 1u;
+    store16(v41, v35);
+    v42 = v9 + 4u * 1u;
+    store16(v42, v37);
+    v43 = v9 + 6u * 1u;
+    store16(v43, 0u);
+    v44 = v9 + 8u * 1u;
+    store_address(v44, v4);
+    v45 = v9 + 16u * 1u;
+    store64(v45, v39);
+    v46 = f19(v31, v9, a2, a3);
+    v6 = v46; goto L7;
 L7:;
-    v43 = v4 + 2120u * 1u;
-    v44 = load8(v43);
-    v45 = load8(a3);
-    v46 = v44 == v45;
-    if (v46) { goto L8; }
-    else { v7 = 3u; goto L21; }
+    v47 = v4 + 2128u * 1u;
+    v48 = load8(v47);
+    v7 = v6; v8 = v48; goto L8;
 L8:;
-    v47 = a3 + 2u * 1u;
-    v48 = load16(v47);
-    v49 = v33 == v48;
-    if (v49) { goto L9; }
-    else { v7 = 3u; goto L21; }
-L9:;
-    v50 = a3 + 4u * 1u;
-    v51 = load16(v50);
-    v52 = v35 == v51;
-    if (v52) { goto L10; }
-    else { v7 = 3u; goto L21; }
-L10:;
-    v53 = a3 + 8u * 1u;
-    v54 = load_address(v53);
-    v55 = a3 + 16u * 1u;
-    v56 = load64(v55);
-    v57 = v37 == v56;
-    if (v57) { goto L11; }
-    else { v7 = 3u; goto L21; }
-L11:;
-    v58 = v37 < 4u;
-    if (v58) { goto L13; }
-    else { goto L12; }
-L12:;
-    v59 = load8(v4);
-    v60 = load8(v54);
-    v61 = v59 != v60;
-    v62 = v4 + 1u * 1u;
-    v63 = v54 + 1u * 1u;
-    v64 = load8(v62);
-    v65 = load8(v63);
-    v66 = v64 != v65;
-    v67 = (u8)(((u32)v61 | (u32)v66) & UINT64_C(1));
-    v68 = v4 + 2u * 1u;
-    v69 = v54 + 2u * 1u;
-    v70 = load8(v68);
-    v71 = load8(v69);
-    v72 = v70 != v71;
-    v73 = (u8)(((u32)v67 | (u32)v72) & UINT64_C(1));
-    v74 = v4 + 3u * 1u;
-    v75 = v54 + 3u * 1u;
-    v76 = load8(v74);
-    v77 = load8(v75);
-    v78 = v76 != v77;
-    v79 = (u8)(((u32)v73 | (u32)v78) & UINT64_C(1));
-    if (v79) { v7 = 3u; goto L21; }
-    else { goto L16; }
-L13:;
-    v80 = v37 == 0u;
-    if (v80) { goto L18; }
-    else { v6 = 0u; goto L14; }
-L14:;
-    v81 = v4 + v6 * 1u;
-    v82 = v54 + v6 * 1u;
-    v83 = load8(v81);
-    v84 = load8(v82);
-    v85 = v83 == v84;
-    if (v85) { goto L15; }
-    else { goto L17; }
-L15:;
-    v86 = (u64)((u64)v6 + (u64)1u);
-    v87 = v86 == v37;
-    if (v87) { goto L18; }
-    else { v6 = v86; goto L14; }
-L16:;
-    v88 = f24(v4, v37, v54, v37);
-    if (v88) { goto L18; }
-    else { v7 = 3u; goto L21; }
-L17:;
-    v89 = v6 < v37;
-    if (v89) { v7 = 3u; goto L21; }
-    else { goto L18; }
-L18:;
-    v7 = 2u; goto L21;
-L19:;
-    v7 = 4u; goto L21;
-L20:;
-    UNREACHABLE;
-L21:;
-    v90 = v4 + 2128u * 1u;
-    v91 = load8(v90);
-    v8 = v7; v9 = v91; goto L22;
-L22:;
-    v92 = (struct s1){ 0 };
-    v92.m0 = v8;
-    v93 = v92;
-    v93.m1 = v9;
-    return v93;
+    v49 = (struct s1){ 0 };
+    v49.m0 = v7;
+    v50 = v49;
+    v50.m1 = v8;
+    return v50;
 }
 
-static u8 f23(address a0, u64 a1) {
+static u8 f19(u16 a0, address a1, u16 a2, address a3) {
+    u64 v4, v28, v31, v61;
+    u8 v5, v6, v8, v9, v10, v11, v12, v13, v18, v23, v32, v33, v34, v35, v36, v39;
+    u8 v40, v41, v42, v45, v46, v47, v48, v51, v52, v53, v54, v55, v58, v59, v60, v62;
+    u8 v63, v64, v65;
+    u16 v7, v15, v17, v20, v22;
+    address v14, v16, v19, v21, v24, v25, v26, v27, v29, v30, v37, v38, v43, v44, v49, v50;
+    address v56, v57;
+    v6 = a2 == a0;
+    v7 = (u16)((u32)a2 - (u32)a0);
+    v8 = (i16)v7 > (i16)65535u;
+    v9 = v8 ? 1u : 2u;
+    v10 = v6 ? 0u : v9;
+    switch (v10) {
+    case 0u: goto L1;
+    case 1u: v5 = v10; goto L14;
+    case 2u: goto L13;
+    default: goto L15;
+    }
+L1:;
+    v11 = load8(a1);
+    v12 = load8(a3);
+    v13 = v11 == v12;
+    if (v13) { goto L2; }
+    else { v5 = 3u; goto L14; }
+L2:;
+    v14 = a1 + 2u * 1u;
+    v15 = load16(v14);
+    v16 = a3 + 2u * 1u;
+    v17 = load16(v16);
+    v18 = v15 == v17;
+    if (v18) { goto L3; }
+    else { v5 = 3u; goto L14; }
+L3:;
+    v19 = a1 + 4u * 1u;
+    v20 = load16(v19);
+    v21 = a3 + 4u * 1u;
+    v22 = load16(v21);
+    v23 = v20 == v22;
+    if (v23) { goto L4; }
+    else { v5 = 3u; goto L14; }
+L4:;
+    v24 = a1 + 8u * 1u;
+    v25 = a3 + 8u * 1u;
+    v26 = load_address(v24);
+    v27 = a1 + 16u * 1u;
+    v28 = load64(v27);
+    v29 = load_address(v25);
+    v30 = a3 + 16u * 1u;
+    v31 = load64(v30);
+    v32 = v28 == v31;
+    if (v32) { goto L5; }
+    else { v5 = 3u; goto L14; }
+L5:;
+    v33 = v28 < 4u;
+    if (v33) { goto L7; }
+    else { goto L6; }
+L6:;
+    v34 = load8(v26);
+    v35 = load8(v29);
+    v36 = v34 != v35;
+    v37 = v26 + 1u * 1u;
+    v38 = v29 + 1u * 1u;
+    v39 = load8(v37);
+    v40 = load8(v38);
+    v41 = v39 != v40;
+    v42 = (u8)(((u32)v36 | (u32)v41) & UINT64_C(1));
+    v43 = v26 + 2u * 1u;
+    v44 = v29 + 2u * 1u;
+    v45 = load8(v43);
+    v46 = load8(v44);
+    v47 = v45 != v46;
+    v48 = (u8)(((u32)v42 | (u32)v47) & UINT64_C(1));
+    v49 = v26 + 3u * 1u;
+    v50 = v29 + 3u * 1u;
+    v51 = load8(v49);
+    v52 = load8(v50);
+    v53 = v51 != v52;
+    v54 = (u8)(((u32)v48 | (u32)v53) & UINT64_C(1));
+    if (v54) { v5 = 3u; goto L14; }
+    else { goto L10; }
+L7:;
+    v55 = v28 == 0u;
+    if (v55) { goto L12; }
+    else { v4 = 0u; goto L8; }
+L8:;
+    v56 = v26 + v4 * 1u;
+    v57 = v29 + v4 * 1u;
+    v58 = load8(v56);
+    v59 = load8(v57);
+    v60 = v58 == v59;
+    if (v60) { goto L9; }
+    else { goto L11; }
+L9:;
+    v61 = (u64)((u64)v4 + (u64)1u);
+    v62 = v61 == v28;
+    if (v62) { goto L12; }
+    else { v4 = v61; goto L8; }
+L10:;
+    v63 = f21(v26, v28, v29, v28);
+    if (v63) { goto L12; }
+    else { v5 = 3u; goto L14; }
+L11:;
+    v64 = v4 >= v28;
+    v65 = v64;
+    if (v65) { goto L12; }
+    else { v5 = 3u; goto L14; }
+L12:;
+    v5 = 2u; goto L14;
+L13:;
+    v5 = 4u; goto L14;
+L14:;
+    return v5;
+L15:;
+    UNREACHABLE;
+}
+
+static u8 f20(address a0, u64 a1) {
     address v2, v3, v4, v7, v8, v11, v12, v15, v16, v19, v20, v23, v24, v27, v28, v31;
     address v32, v37, v38, v42, v43, v47, v48, v52, v53, v57, v58, v62, v63, v67, v68, v72;
     address v73, v77, v78, v82, v83, v87, v88, v92, v93, v97, v98, v102, v103, v107, v108, v112;
@@ -4388,7 +4103,7 @@ static u8 f23(address a0, u64 a1) {
     return v217;
 }
 
-static u8 f24(address a0, u64 a1, address a2, u64 a3) {
+static u8 f21(address a0, u64 a1, address a2, u64 a3) {
     u8 v4, v6, v9, v13, v15, v17, v22, v23, v24, v27, v28, v31, v32, v35, v36, v40;
     u8 v41, v42, v46, v47, v48, v49, v53, v54, v55, v56, v60, v61, v62, v63, v64, v65;
     u8 v66, v67, v68, v69, v70, v71, v72, v73, v74, v78, v79, v80, v81, v83, v88, v89;
@@ -4466,7 +4181,7 @@ L2:;
     if (v72) { goto L3; }
     else { goto L4; }
 L3:;
-    v73 = f23(v18, a1);
+    v73 = f20(v18, a1);
     v17 = v73; goto L22;
 L4:;
     v74 = a1 < 65u;
@@ -4580,7 +4295,7 @@ L22:;
     return v133;
 }
 
-static void f25(address a0, u16 a1, address a2, u8 a3, address a4) {
+static void f22(address a0, u16 a1, address a2, u8 a3, address a4) {
     address v5, v7, v11, v12, v13, v14, v15, v17, v19, v21, v27, v29, v35, v37, v39, v41;
     address v46, v48, v50, v52, v54, v56, v66, v67, v68, v69, v70, v71, v72, v73, v74, v75;
     address v76, v81, v82, v83, v84, v86, v88, v90, v91, v92, v100, v101, v107, v109, v111, v112;
@@ -4641,7 +4356,7 @@ static void f25(address a0, u16 a1, address a2, u8 a3, address a4) {
     v52 = v14 + 43u * 1u;
     v53 = load8(v52);
     if (v43) { goto L1; }
-    else { v5 = ADDRESS(c139); v6 = 0u; goto L2; }
+    else { v5 = ADDRESS(c138); v6 = 0u; goto L2; }
 L1:;
     v54 = a2 + 8u * 1u;
     v55 = load64(v54);
@@ -4726,7 +4441,7 @@ L2:;
     v108 = swap16(v65);
     v109 = v13 + 52u * 1u;
     store16(v109, v108);
-    f26(a0, v12, a3, v13);
+    f23(a0, v12, a3, v13);
     v110 = load8(v74);
     v111 = a0 + 448u * 1u;
     v112 = load_address(v111);
@@ -4798,7 +4513,7 @@ L10:;
     if (v147) { goto L12; }
     else { v10 = v146; goto L10; }
 L11:;
-    f36(v127, v5, v6);
+    f33(v127, v5, v6);
     goto L12;
 L12:;
     v148 = v127 + 2121u * 1u;
@@ -4846,10 +4561,10 @@ L17:;
     memory_move(v150, v158, 80u);
     goto L23;
 L18:;
-    f37(v150, v158, v157);
+    f34(v150, v158, v157);
     goto L23;
 L19:;
-    f38(v150, v158, v157);
+    f35(v150, v158, v157);
     goto L23;
 L20:;
     v167 = v127 + 2088u * 1u;
@@ -4862,13 +4577,13 @@ L21:;
     store64(v167, 0u);
     goto L22;
 L22:;
-    f39(a4, v149, v150);
+    f36(a4, v149, v150);
     goto L23;
 L23:;
     return;
 }
 
-static void f26(address a0, address a1, u8 a2, address a3) {
+static void f23(address a0, address a1, u8 a2, address a3) {
     address v4, v27, v28, v29, v30, v31, v33, v34, v35, v36, v37, v38, v39, v40, v50, v51;
     address v52, v78, v79, v80, v82, v83, v85, v86, v90, v92, v93, v96, v97, v98, v103, v104;
     address v106, v107, v108, v109, v112, v113, v114, v119, v120, v124, v126, v127, v130, v132, v133, v135;
@@ -4893,7 +4608,7 @@ static void f26(address a0, address a1, u8 a2, address a3) {
     v31 = a1 + 2u * 1u;
     v32 = load16(v31);
     switch (v32) {
-    case 0u: v4 = ADDRESS(c111); v5 = 19u; v6 = 0u; v7 = 2u; v8 = 0u; v9 = 1u; v10 = 0u; v11 = 7u; v12 = 0u; v13 = 0u; goto L21;
+    case 0u: v4 = ADDRESS(c110); v5 = 19u; v6 = 0u; v7 = 2u; v8 = 0u; v9 = 1u; v10 = 0u; v11 = 7u; v12 = 0u; v13 = 0u; goto L21;
     case 2u: goto L1;
     case 8192u: goto L2;
     case 8193u: goto L3;
@@ -4917,45 +4632,45 @@ static void f26(address a0, address a1, u8 a2, address a3) {
     default: goto L70;
     }
 L1:;
-    v4 = ADDRESS(c112); v5 = 16u; v6 = 0u; v7 = 1u; v8 = 1u; v9 = 0u; v10 = 1u; v11 = 3u; v12 = 1u; v13 = 0u; goto L21;
+    v4 = ADDRESS(c111); v5 = 16u; v6 = 0u; v7 = 1u; v8 = 1u; v9 = 0u; v10 = 1u; v11 = 3u; v12 = 1u; v13 = 0u; goto L21;
 L2:;
-    v4 = ADDRESS(c113); v5 = 16u; v6 = 0u; v7 = 1u; v8 = 1u; v9 = 0u; v10 = 1u; v11 = 1u; v12 = 2u; v13 = 0u; goto L21;
+    v4 = ADDRESS(c112); v5 = 16u; v6 = 0u; v7 = 1u; v8 = 1u; v9 = 0u; v10 = 1u; v11 = 1u; v12 = 2u; v13 = 0u; goto L21;
 L3:;
-    v4 = ADDRESS(c114); v5 = 16u; v6 = 0u; v7 = 1u; v8 = 1u; v9 = 0u; v10 = 1u; v11 = 1u; v12 = 3u; v13 = 0u; goto L21;
+    v4 = ADDRESS(c113); v5 = 16u; v6 = 0u; v7 = 1u; v8 = 1u; v9 = 0u; v10 = 1u; v11 = 1u; v12 = 3u; v13 = 0u; goto L21;
 L4:;
-    v4 = ADDRESS(c115); v5 = 15u; v6 = 0u; v7 = 1u; v8 = 1u; v9 = 0u; v10 = 1u; v11 = 1u; v12 = 4u; v13 = 0u; goto L21;
+    v4 = ADDRESS(c114); v5 = 15u; v6 = 0u; v7 = 1u; v8 = 1u; v9 = 0u; v10 = 1u; v11 = 1u; v12 = 4u; v13 = 0u; goto L21;
 L5:;
-    v4 = ADDRESS(c116); v5 = 24u; v6 = 0u; v7 = 1u; v8 = 1u; v9 = 0u; v10 = 1u; v11 = 1u; v12 = 5u; v13 = 0u; goto L21;
+    v4 = ADDRESS(c115); v5 = 24u; v6 = 0u; v7 = 1u; v8 = 1u; v9 = 0u; v10 = 1u; v11 = 1u; v12 = 5u; v13 = 0u; goto L21;
 L6:;
-    v4 = ADDRESS(c117); v5 = 13u; v6 = 4u; v7 = 2u; v8 = 0u; v9 = 1u; v10 = 1u; v11 = 1u; v12 = 6u; v13 = 0u; goto L21;
+    v4 = ADDRESS(c116); v5 = 13u; v6 = 4u; v7 = 2u; v8 = 0u; v9 = 1u; v10 = 1u; v11 = 1u; v12 = 6u; v13 = 0u; goto L21;
 L7:;
-    v4 = ADDRESS(c118); v5 = 9u; v6 = 0u; v7 = 1u; v8 = 1u; v9 = 0u; v10 = 1u; v11 = 3u; v12 = 7u; v13 = 0u; goto L21;
+    v4 = ADDRESS(c117); v5 = 9u; v6 = 0u; v7 = 1u; v8 = 1u; v9 = 0u; v10 = 1u; v11 = 3u; v12 = 7u; v13 = 0u; goto L21;
 L8:;
-    v4 = ADDRESS(c119); v5 = 9u; v6 = 0u; v7 = 1u; v8 = 1u; v9 = 0u; v10 = 1u; v11 = 3u; v12 = 8u; v13 = 0u; goto L21;
+    v4 = ADDRESS(c118); v5 = 9u; v6 = 0u; v7 = 1u; v8 = 1u; v9 = 0u; v10 = 1u; v11 = 3u; v12 = 8u; v13 = 0u; goto L21;
 L9:;
-    v4 = ADDRESS(c120); v5 = 6u; v6 = 0u; v7 = 1u; v8 = 1u; v9 = 0u; v10 = 1u; v11 = 3u; v12 = 9u; v13 = 0u; goto L21;
+    v4 = ADDRESS(c119); v5 = 6u; v6 = 0u; v7 = 1u; v8 = 1u; v9 = 0u; v10 = 1u; v11 = 3u; v12 = 9u; v13 = 0u; goto L21;
 L10:;
-    v4 = ADDRESS(c121); v5 = 10u; v6 = 0u; v7 = 1u; v8 = 1u; v9 = 0u; v10 = 1u; v11 = 1u; v12 = 10u; v13 = 0u; goto L21;
+    v4 = ADDRESS(c120); v5 = 10u; v6 = 0u; v7 = 1u; v8 = 1u; v9 = 0u; v10 = 1u; v11 = 1u; v12 = 10u; v13 = 0u; goto L21;
 L11:;
-    v4 = ADDRESS(c127); v5 = 21u; v6 = 4u; v7 = 2u; v8 = 0u; v9 = 1u; v10 = 1u; v11 = 3u; v12 = 11u; v13 = 0u; goto L21;
+    v4 = ADDRESS(c126); v5 = 21u; v6 = 4u; v7 = 2u; v8 = 0u; v9 = 1u; v10 = 1u; v11 = 3u; v12 = 11u; v13 = 0u; goto L21;
 L12:;
-    v4 = ADDRESS(c129); v5 = 24u; v6 = 4u; v7 = 2u; v8 = 0u; v9 = 1u; v10 = 1u; v11 = 3u; v12 = 11u; v13 = 1u; goto L21;
+    v4 = ADDRESS(c128); v5 = 24u; v6 = 4u; v7 = 2u; v8 = 0u; v9 = 1u; v10 = 1u; v11 = 3u; v12 = 11u; v13 = 1u; goto L21;
 L13:;
-    v4 = ADDRESS(c131); v5 = 17u; v6 = 4u; v7 = 2u; v8 = 0u; v9 = 1u; v10 = 1u; v11 = 3u; v12 = 11u; v13 = 2u; goto L21;
+    v4 = ADDRESS(c130); v5 = 17u; v6 = 4u; v7 = 2u; v8 = 0u; v9 = 1u; v10 = 1u; v11 = 3u; v12 = 11u; v13 = 2u; goto L21;
 L14:;
-    v4 = ADDRESS(c122); v5 = 14u; v6 = 4u; v7 = 2u; v8 = 0u; v9 = 1u; v10 = 1u; v11 = 1u; v12 = 12u; v13 = 0u; goto L21;
+    v4 = ADDRESS(c121); v5 = 14u; v6 = 4u; v7 = 2u; v8 = 0u; v9 = 1u; v10 = 1u; v11 = 1u; v12 = 12u; v13 = 0u; goto L21;
 L15:;
-    v4 = ADDRESS(c123); v5 = 11u; v6 = 4u; v7 = 2u; v8 = 0u; v9 = 1u; v10 = 0u; v11 = 4u; v12 = 13u; v13 = 0u; goto L21;
+    v4 = ADDRESS(c122); v5 = 11u; v6 = 4u; v7 = 2u; v8 = 0u; v9 = 1u; v10 = 0u; v11 = 4u; v12 = 13u; v13 = 0u; goto L21;
 L16:;
-    v4 = ADDRESS(c124); v5 = 12u; v6 = 4u; v7 = 2u; v8 = 0u; v9 = 1u; v10 = 0u; v11 = 4u; v12 = 14u; v13 = 0u; goto L21;
+    v4 = ADDRESS(c123); v5 = 12u; v6 = 4u; v7 = 2u; v8 = 0u; v9 = 1u; v10 = 0u; v11 = 4u; v12 = 14u; v13 = 0u; goto L21;
 L17:;
-    v4 = ADDRESS(c125); v5 = 14u; v6 = 0u; v7 = 1u; v8 = 1u; v9 = 0u; v10 = 1u; v11 = 3u; v12 = 15u; v13 = 0u; goto L21;
+    v4 = ADDRESS(c124); v5 = 14u; v6 = 0u; v7 = 1u; v8 = 1u; v9 = 0u; v10 = 1u; v11 = 3u; v12 = 15u; v13 = 0u; goto L21;
 L18:;
-    v4 = ADDRESS(c126); v5 = 14u; v6 = 0u; v7 = 1u; v8 = 1u; v9 = 0u; v10 = 1u; v11 = 3u; v12 = 16u; v13 = 0u; goto L21;
+    v4 = ADDRESS(c125); v5 = 14u; v6 = 0u; v7 = 1u; v8 = 1u; v9 = 0u; v10 = 1u; v11 = 3u; v12 = 16u; v13 = 0u; goto L21;
 L19:;
-    v4 = ADDRESS(c133); v5 = 15u; v6 = 4u; v7 = 2u; v8 = 0u; v9 = 1u; v10 = 1u; v11 = 3u; v12 = 11u; v13 = 3u; goto L21;
+    v4 = ADDRESS(c132); v5 = 15u; v6 = 4u; v7 = 2u; v8 = 0u; v9 = 1u; v10 = 1u; v11 = 3u; v12 = 11u; v13 = 3u; goto L21;
 L20:;
-    v4 = ADDRESS(c135); v5 = 27u; v6 = 4u; v7 = 2u; v8 = 0u; v9 = 1u; v10 = 1u; v11 = 3u; v12 = 11u; v13 = 4u; goto L21;
+    v4 = ADDRESS(c134); v5 = 27u; v6 = 4u; v7 = 2u; v8 = 0u; v9 = 1u; v10 = 1u; v11 = 3u; v12 = 11u; v13 = 4u; goto L21;
 L21:;
     memory_set(v28, 0u, 6u);
     memory_cpy(v30, v28, 6u);
@@ -5137,7 +4852,7 @@ L48:;
     store8(v79, v17);
     v80 = v27 + 3u * 1u;
     store8(v80, v18);
-    v81 = f28(v27, v51, v53);
+    v81 = f25(v27, v51, v53);
     if (v81) { goto L51; }
     else { v19 = 3u; goto L49; }
 L49:;
@@ -5146,7 +4861,7 @@ L49:;
 L50:;
     goto L51;
 L51:;
-    f31(a0, v12, v13, a1);
+    f28(a0, v12, v13, a1);
     if (v8) { goto L53; }
     else { v25 = 0u; v26 = 0u; goto L68; }
 L52:;
@@ -5170,7 +4885,7 @@ L52:;
     v97 = v96 + 2u * 1u;
     store16(v97, 60u);
     v98 = v96 + 4u * 1u;
-    f27(a3, v84, v89, v91, v98);
+    f24(a3, v84, v89, v91, v98);
     v99 = load64(v93);
     v100 = (u64)((u64)v99 + (u64)1u);
     store64(v93, v100);
@@ -5307,10 +5022,10 @@ L66:;
     store64(v138, v160);
     goto L69;
 L67:;
-    f33(a0, v12, a3);
+    f30(a0, v12, a3);
     goto L69;
 L68:;
-    f35(a0, v29, a1, v26, v25, a3);
+    f32(a0, v29, a1, v26, v25, a3);
     goto L69;
 L69:;
     return;
@@ -5332,14 +5047,14 @@ L70:;
     v173 = v172 + 2u * 1u;
     store16(v173, 60u);
     v174 = v172 + 4u * 1u;
-    f27(a3, v163, 2u, v167, v174);
+    f24(a3, v163, 2u, v167, v174);
     v175 = load64(v169);
     v176 = (u64)((u64)v175 + (u64)1u);
     store64(v169, v176);
     goto L69;
 }
 
-static void f27(address a0, u16 a1, u16 a2, u16 a3, address a4) {
+static void f24(address a0, u16 a1, u16 a2, u16 a3, address a4) {
     u64 v5, v7, v8, v9, v14, v16, v17;
     address v6, v11, v12, v19, v20, v21, v23, v25, v26, v28;
     u8 v10, v13, v15, v18;
@@ -5365,7 +5080,7 @@ L2:;
     else { v5 = v14; goto L2; }
 L3:;
     v16 = (u64)v6;
-    v17 = (u64)((u64)v16 - (u64)ADDRESS(c138));
+    v17 = (u64)((u64)v16 - (u64)ADDRESS(c137));
     v18 = v17 < 12u;
     if (v18) { goto L4; }
     else { goto L5; }
@@ -5377,7 +5092,7 @@ L4:;
     store32(v20, 0u);
     goto L6;
 L5:;
-    memory_cpy(v6, ADDRESS(c138), 12u);
+    memory_cpy(v6, ADDRESS(c137), 12u);
     goto L6;
 L6:;
     v21 = a4 + 50u * 1u;
@@ -5396,7 +5111,7 @@ L6:;
     return;
 }
 
-static u8 f28(address a0, address a1, u64 a2) {
+static u8 f25(address a0, address a1, u64 a2) {
     address v3, v6, v8, v10, v12, v15, v29;
     u64 v4, v17;
     u8 v5, v7, v9, v11, v13, v14, v16, v18, v19, v20, v21, v25, v27, v28, v30, v31;
@@ -5438,7 +5153,7 @@ L3:;
     else { v3 = v15; v4 = v17; goto L4; }
 L4:;
     memory_set(v6, 0u, 24u);
-    f29(v6, v3, v4);
+    f26(v6, v3, v4);
     v19 = load8(v6);
     v20 = v19 == 0u;
     v5 = v20; goto L13;
@@ -5497,7 +5212,7 @@ L14:;
     UNREACHABLE;
 }
 
-static void f29(address a0, address a1, u64 a2) {
+static void f26(address a0, address a1, u64 a2) {
     u64 v3, v4, v5, v6, v7, v8, v9, v10, v11, v12, v13, v14, v15, v17, v21, v33;
     u64 v43, v57, v58, v59, v60, v61, v62, v63, v64, v65, v66, v67, v68, v69, v70, v71;
     u64 v72, v73, v74, v75, v76, v77, v78, v79, v81, v82, v83, v84, v85, v87, v105, v106;
@@ -5791,7 +5506,7 @@ L11:;
     else { v7 = v6; goto L13; }
 L12:;
     v246 = (u64)((u64)v6 + (u64)32u);
-    v247 = f30(v18, v246, a2);
+    v247 = f27(v18, v246, a2);
     v248 = (u64)((u64)a2 - (u64)v247);
     v249 = v248 > 31u;
     if (v249) { v6 = v247; goto L11; }
@@ -6045,7 +5760,7 @@ L45:;
     v13 = 0u; v14 = v403; v15 = a2; goto L36;
 }
 
-static u64 f30(address a0, u64 a1, u64 a2) {
+static u64 f27(address a0, u64 a1, u64 a2) {
     u64 v3, v4, v5, v24, v25, v26, v27, v28, v29, v30, v31, v32, v33, v34, v35, v36;
     u64 v37, v38, v55, v56, v57, v58, v59, v60, v61, v62, v63, v64, v65, v66, v67, v68;
     u64 v69, v86, v87, v88, v89, v90, v91, v92, v93, v94, v95, v96, v97, v98, v99, v100;
@@ -6401,7 +6116,7 @@ L4:;
     return v4;
 }
 
-static void f31(address a0, u8 a1, u8 a2, address a3) {
+static void f28(address a0, u8 a1, u8 a2, address a3) {
     u64 v4, v6, v7, v8, v9, v10, v17, v21, v23, v24, v25, v27, v29, v32, v33, v35;
     u64 v36, v37, v42, v45, v50, v51, v57, v58, v64, v65, v92, v95, v96, v100, v102, v103;
     u64 v106, v112, v115, v119, v121, v122, v129, v132, v134, v136, v137;
@@ -6468,7 +6183,7 @@ L4:;
     if (v28) { v6 = v25; goto L6; }
     else { goto L5; }
 L5:;
-    f32(v22, v25);
+    f29(v22, v25);
     v29 = load64(v26);
     v6 = v29; goto L6;
 L6:;
@@ -6720,7 +6435,7 @@ L44:;
     UNREACHABLE;
 }
 
-static void f32(address a0, u64 a1) {
+static void f29(address a0, u64 a1) {
     u64 v2, v3, v5, v8, v9, v10, v13, v14, v19;
     address v4, v7, v12, v16, v17;
     u8 v6, v11, v15, v18, v20;
@@ -6744,16 +6459,16 @@ L2:;
 L3:;
     v12 = a0 + v2 * 1u;
     v13 = (u64)v12;
-    v14 = (u64)((u64)v13 - (u64)(ADDRESS(c137) + 8u * 1u));
+    v14 = (u64)((u64)v13 - (u64)(ADDRESS(c136) + 8u * 1u));
     v15 = v14 < v9;
     if (v15) { v3 = 0u; goto L5; }
     else { goto L4; }
 L4:;
-    memory_cpy(v12, (ADDRESS(c137) + 8u * 1u), v9);
+    memory_cpy(v12, (ADDRESS(c136) + 8u * 1u), v9);
     goto L6;
 L5:;
     v16 = v12 + v3 * 1u;
-    v17 = (ADDRESS(c137) + 8u * 1u) + v3 * 1u;
+    v17 = (ADDRESS(c136) + 8u * 1u) + v3 * 1u;
     v18 = load8(v17);
     store8(v16, v18);
     v19 = (u64)((u64)v3 + (u64)1u);
@@ -6767,7 +6482,7 @@ L7:;
     return;
 }
 
-static void f33(address a0, u8 a1, address a2) {
+static void f30(address a0, u8 a1, address a2) {
     u64 v3, v4, v5, v6, v11, v19, v20, v27, v28, v29, v34, v36, v37, v38, v43, v52;
     u64 v53, v55, v63, v64, v71, v72, v73, v78, v80, v81, v82, v87, v96, v97;
     address v7, v9, v10, v12, v13, v15, v16, v17, v18, v21, v24, v25, v26, v31, v32, v40;
@@ -6856,7 +6571,7 @@ L7:;
     goto L15;
 L8:;
     memory_set(v7, 0u, 144u);
-    f34(a0, a1, v7);
+    f31(a0, a1, v7);
     v54 = v7 + 136u * 1u;
     v55 = load64(v54);
     v56 = a2 + 58u * 1u;
@@ -6933,7 +6648,7 @@ L15:;
     return;
 }
 
-static void f34(address a0, u8 a1, address a2) {
+static void f31(address a0, u8 a1, address a2) {
     u64 v3, v5, v6, v7, v8, v9, v10, v11, v12, v13, v14, v15, v19, v20, v24, v27;
     u64 v29, v30, v33, v34, v35, v40, v42, v44, v47, v48, v54, v55, v59, v60, v71, v72;
     u64 v78, v83, v84, v87, v88, v89, v113, v114, v115, v121, v123, v124, v130, v131, v134, v135;
@@ -7543,7 +7258,7 @@ L62:;
     UNREACHABLE;
 }
 
-static void f35(address a0, address a1, address a2, u8 a3, u8 a4, address a5) {
+static void f32(address a0, address a1, address a2, u8 a3, u8 a4, address a5) {
     u16 v6, v7, v17, v21, v22, v40, v42, v43, v51, v56, v74, v75, v88, v89, v94, v95;
     u16 v96, v97, v102, v126, v127, v132, v150, v151, v166, v184, v186, v187, v192, v210, v211;
     u64 v8, v9, v10, v11, v13, v14, v20, v31, v34, v35, v36, v46, v47, v52, v53, v60;
@@ -7590,7 +7305,7 @@ L3:;
     v34 = (u64)v7;
     v35 = (u64)v22;
     v36 = (u64)a4;
-    v37 = ADDRESS(c350) + v36 * 2u;
+    v37 = ADDRESS(c351) + v36 * 2u;
     v8 = v34; goto L4;
 L4:;
     v38 = load8(v24);
@@ -7613,7 +7328,7 @@ L5:;
     store16(v49, 60u);
     v50 = v48 + 4u * 1u;
     v51 = (u16)(v8);
-    f27(a5, v51, v42, v43, v50);
+    f24(a5, v51, v42, v43, v50);
     v52 = load64(v45);
     v53 = (u64)((u64)v52 + (u64)1u);
     store64(v45, v53);
@@ -7937,7 +7652,7 @@ L37:;
     return;
 }
 
-static void f36(address a0, address a1, u64 a2) {
+static void f33(address a0, address a1, u64 a2) {
     u64 v3, v4, v5, v7, v10, v12, v14, v15, v16, v21, v24, v25, v28, v29, v30, v35;
     u64 v37;
     address v6, v9, v11, v18, v19, v27, v32, v33;
@@ -8016,7 +7731,7 @@ L12:;
     return;
 }
 
-static void f37(address a0, address a1, u64 a2) {
+static void f34(address a0, address a1, u64 a2) {
     u64 v3, v4, v5, v6, v11;
     u8 v7, v10, v12;
     address v8, v9;
@@ -8042,7 +7757,7 @@ L3:;
     return;
 }
 
-static void f38(address a0, address a1, u64 a2) {
+static void f35(address a0, address a1, u64 a2) {
     u64 v3, v4, v5, v7, v10, v12, v14, v15, v16, v21, v24, v25, v28, v29, v30, v35;
     u64 v37;
     address v6, v9, v11, v18, v19, v27, v32, v33;
@@ -8121,7 +7836,7 @@ L12:;
     return;
 }
 
-static void f39(address a0, address a1, address a2) {
+static void f36(address a0, address a1, address a2) {
     u64 v3, v4, v5, v6, v7, v8, v10, v15, v19, v22, v24, v25, v26, v29, v30, v31;
     u64 v36, v38, v41, v42, v43, v48, v50, v53, v54, v55, v60, v62, v65, v66, v67, v72;
     u64 v74, v75;
@@ -8273,7 +7988,7 @@ L21:;
     return;
 }
 
-static void f40(address a0, u64 a1, address a2, address a3, u16 a4, address a5) {
+static void f37(address a0, u64 a1, address a2, address a3, u16 a4, address a5) {
     u64 v6, v8, v15, v17, v19, v22, v40, v41;
     address v7, v9, v11, v12, v13, v14, v16, v20, v21, v23, v25, v26, v28, v34, v36, v38;
     address v39;
@@ -8319,7 +8034,7 @@ L5:;
     memory_move(v26, v7, 80u);
     goto L7;
 L6:;
-    f37(v26, v7, v19);
+    f34(v26, v7, v19);
     goto L7;
 L7:;
     v27 = load8(a3);
@@ -8355,7 +8070,7 @@ L10:;
     return;
 }
 
-static void f41(address a0, u8 a1, u16 a2, address a3, address a4, address a5) {
+static void f38(address a0, u8 a1, u16 a2, address a3, address a4, address a5) {
     address v6, v8, v9, v10, v12, v13, v18, v22, v24, v27, v30, v36, v40, v42, v45, v47;
     address v50, v53, v55, v57, v59, v61, v63, v73, v74, v75, v76, v77, v78, v79, v81, v83;
     address v85, v91, v93, v99, v101, v103, v104, v105, v110, v111, v112, v114, v116, v118, v119, v120;
@@ -8438,7 +8153,7 @@ L6:;
 L7:;
     UNREACHABLE;
 L8:;
-    f42(a0, a2, a3, a5);
+    f39(a0, a2, a3, a5);
     goto L9;
 L9:;
     v44 = a1 == 9u;
@@ -8462,7 +8177,7 @@ L10:;
     v59 = v50 + 43u * 1u;
     v60 = load8(v59);
     if (v49) { goto L11; }
-    else { v6 = ADDRESS(c139); v7 = 0u; goto L12; }
+    else { v6 = ADDRESS(c138); v7 = 0u; goto L12; }
 L11:;
     v61 = a4 + 8u * 1u;
     v62 = load64(v61);
@@ -8560,13 +8275,13 @@ L12:;
     v129 = swap16(v72);
     v130 = v9 + 52u * 1u;
     store16(v130, v129);
-    f43(a0, v8, v9);
+    f40(a0, v8, v9);
     goto L13;
 L13:;
     return;
 }
 
-static void f42(address a0, u16 a1, address a2, address a3) {
+static void f39(address a0, u16 a1, address a2, address a3) {
     u64 v4, v5, v7, v15, v16, v17, v19, v20, v22, v26, v27, v35, v39, v40, v45, v50;
     u64 v51, v52;
     address v6, v11, v12, v13, v14, v23, v25, v28, v37, v38, v42, v43, v47;
@@ -8668,7 +8383,7 @@ L11:;
     return;
 }
 
-static void f43(address a0, address a1, address a2) {
+static void f40(address a0, address a1, address a2) {
     address v3, v15, v16, v17, v20, v22, v23, v24, v25, v26, v27, v28, v29, v30, v31, v33;
     address v34, v36, v38, v39, v42, v43, v44, v49, v50, v52, v53, v54, v56, v57, v60, v61;
     address v62, v65, v67, v68, v70, v71, v72, v73, v76, v77, v78, v79, v84, v85, v90, v92;
@@ -8688,7 +8403,7 @@ static void f43(address a0, address a1, address a2) {
     v20 = a1 + 2u * 1u;
     v21 = load16(v20);
     switch (v21) {
-    case 0u: v3 = ADDRESS(c111); v4 = 19u; v5 = 0u; v6 = 1u; v7 = 7u; v8 = 0u; v9 = 0u; goto L21;
+    case 0u: v3 = ADDRESS(c110); v4 = 19u; v5 = 0u; v6 = 1u; v7 = 7u; v8 = 0u; v9 = 0u; goto L21;
     case 2u: goto L1;
     case 8192u: goto L2;
     case 8193u: goto L3;
@@ -8712,45 +8427,45 @@ static void f43(address a0, address a1, address a2) {
     default: goto L22;
     }
 L1:;
-    v3 = ADDRESS(c112); v4 = 16u; v5 = 1u; v6 = 0u; v7 = 3u; v8 = 1u; v9 = 0u; goto L21;
+    v3 = ADDRESS(c111); v4 = 16u; v5 = 1u; v6 = 0u; v7 = 3u; v8 = 1u; v9 = 0u; goto L21;
 L2:;
-    v3 = ADDRESS(c113); v4 = 16u; v5 = 1u; v6 = 0u; v7 = 1u; v8 = 2u; v9 = 0u; goto L21;
+    v3 = ADDRESS(c112); v4 = 16u; v5 = 1u; v6 = 0u; v7 = 1u; v8 = 2u; v9 = 0u; goto L21;
 L3:;
-    v3 = ADDRESS(c114); v4 = 16u; v5 = 1u; v6 = 0u; v7 = 1u; v8 = 3u; v9 = 0u; goto L21;
+    v3 = ADDRESS(c113); v4 = 16u; v5 = 1u; v6 = 0u; v7 = 1u; v8 = 3u; v9 = 0u; goto L21;
 L4:;
-    v3 = ADDRESS(c115); v4 = 15u; v5 = 1u; v6 = 0u; v7 = 1u; v8 = 4u; v9 = 0u; goto L21;
+    v3 = ADDRESS(c114); v4 = 15u; v5 = 1u; v6 = 0u; v7 = 1u; v8 = 4u; v9 = 0u; goto L21;
 L5:;
-    v3 = ADDRESS(c116); v4 = 24u; v5 = 1u; v6 = 0u; v7 = 1u; v8 = 5u; v9 = 0u; goto L21;
+    v3 = ADDRESS(c115); v4 = 24u; v5 = 1u; v6 = 0u; v7 = 1u; v8 = 5u; v9 = 0u; goto L21;
 L6:;
-    v3 = ADDRESS(c117); v4 = 13u; v5 = 0u; v6 = 1u; v7 = 1u; v8 = 6u; v9 = 0u; goto L21;
+    v3 = ADDRESS(c116); v4 = 13u; v5 = 0u; v6 = 1u; v7 = 1u; v8 = 6u; v9 = 0u; goto L21;
 L7:;
-    v3 = ADDRESS(c118); v4 = 9u; v5 = 1u; v6 = 0u; v7 = 3u; v8 = 7u; v9 = 0u; goto L21;
+    v3 = ADDRESS(c117); v4 = 9u; v5 = 1u; v6 = 0u; v7 = 3u; v8 = 7u; v9 = 0u; goto L21;
 L8:;
-    v3 = ADDRESS(c119); v4 = 9u; v5 = 1u; v6 = 0u; v7 = 3u; v8 = 8u; v9 = 0u; goto L21;
+    v3 = ADDRESS(c118); v4 = 9u; v5 = 1u; v6 = 0u; v7 = 3u; v8 = 8u; v9 = 0u; goto L21;
 L9:;
-    v3 = ADDRESS(c120); v4 = 6u; v5 = 1u; v6 = 0u; v7 = 3u; v8 = 9u; v9 = 0u; goto L21;
+    v3 = ADDRESS(c119); v4 = 6u; v5 = 1u; v6 = 0u; v7 = 3u; v8 = 9u; v9 = 0u; goto L21;
 L10:;
-    v3 = ADDRESS(c121); v4 = 10u; v5 = 1u; v6 = 0u; v7 = 1u; v8 = 10u; v9 = 0u; goto L21;
+    v3 = ADDRESS(c120); v4 = 10u; v5 = 1u; v6 = 0u; v7 = 1u; v8 = 10u; v9 = 0u; goto L21;
 L11:;
-    v3 = ADDRESS(c127); v4 = 21u; v5 = 0u; v6 = 1u; v7 = 3u; v8 = 11u; v9 = 0u; goto L21;
+    v3 = ADDRESS(c126); v4 = 21u; v5 = 0u; v6 = 1u; v7 = 3u; v8 = 11u; v9 = 0u; goto L21;
 L12:;
-    v3 = ADDRESS(c129); v4 = 24u; v5 = 0u; v6 = 1u; v7 = 3u; v8 = 11u; v9 = 1u; goto L21;
+    v3 = ADDRESS(c128); v4 = 24u; v5 = 0u; v6 = 1u; v7 = 3u; v8 = 11u; v9 = 1u; goto L21;
 L13:;
-    v3 = ADDRESS(c131); v4 = 17u; v5 = 0u; v6 = 1u; v7 = 3u; v8 = 11u; v9 = 2u; goto L21;
+    v3 = ADDRESS(c130); v4 = 17u; v5 = 0u; v6 = 1u; v7 = 3u; v8 = 11u; v9 = 2u; goto L21;
 L14:;
-    v3 = ADDRESS(c122); v4 = 14u; v5 = 0u; v6 = 1u; v7 = 1u; v8 = 12u; v9 = 0u; goto L21;
+    v3 = ADDRESS(c121); v4 = 14u; v5 = 0u; v6 = 1u; v7 = 1u; v8 = 12u; v9 = 0u; goto L21;
 L15:;
-    v3 = ADDRESS(c123); v4 = 11u; v5 = 0u; v6 = 1u; v7 = 4u; v8 = 13u; v9 = 0u; goto L21;
+    v3 = ADDRESS(c122); v4 = 11u; v5 = 0u; v6 = 1u; v7 = 4u; v8 = 13u; v9 = 0u; goto L21;
 L16:;
-    v3 = ADDRESS(c124); v4 = 12u; v5 = 0u; v6 = 1u; v7 = 4u; v8 = 14u; v9 = 0u; goto L21;
+    v3 = ADDRESS(c123); v4 = 12u; v5 = 0u; v6 = 1u; v7 = 4u; v8 = 14u; v9 = 0u; goto L21;
 L17:;
-    v3 = ADDRESS(c125); v4 = 14u; v5 = 1u; v6 = 0u; v7 = 3u; v8 = 15u; v9 = 0u; goto L21;
+    v3 = ADDRESS(c124); v4 = 14u; v5 = 1u; v6 = 0u; v7 = 3u; v8 = 15u; v9 = 0u; goto L21;
 L18:;
-    v3 = ADDRESS(c126); v4 = 14u; v5 = 1u; v6 = 0u; v7 = 3u; v8 = 16u; v9 = 0u; goto L21;
+    v3 = ADDRESS(c125); v4 = 14u; v5 = 1u; v6 = 0u; v7 = 3u; v8 = 16u; v9 = 0u; goto L21;
 L19:;
-    v3 = ADDRESS(c133); v4 = 15u; v5 = 0u; v6 = 1u; v7 = 3u; v8 = 11u; v9 = 3u; goto L21;
+    v3 = ADDRESS(c132); v4 = 15u; v5 = 0u; v6 = 1u; v7 = 3u; v8 = 11u; v9 = 3u; goto L21;
 L20:;
-    v3 = ADDRESS(c135); v4 = 27u; v5 = 0u; v6 = 1u; v7 = 3u; v8 = 11u; v9 = 4u; goto L21;
+    v3 = ADDRESS(c134); v4 = 27u; v5 = 0u; v6 = 1u; v7 = 3u; v8 = 11u; v9 = 4u; goto L21;
 L21:;
     memory_set(v15, 0u, 6u);
     memory_cpy(v17, v15, 6u);
@@ -8792,7 +8507,7 @@ L22:;
     v43 = v42 + 2u * 1u;
     store16(v43, 60u);
     v44 = v42 + 4u * 1u;
-    f27(a2, v32, v35, v37, v44);
+    f24(a2, v32, v35, v37, v44);
     v45 = load64(v39);
     v46 = (u64)((u64)v45 + (u64)1u);
     store64(v39, v46);
@@ -8831,7 +8546,7 @@ L28:;
     v61 = v60 + 2u * 1u;
     store16(v61, 60u);
     v62 = v60 + 4u * 1u;
-    f27(a2, v51, 6u, v55, v62);
+    f24(a2, v51, 6u, v55, v62);
     v63 = load64(v57);
     v64 = (u64)((u64)v63 + (u64)1u);
     store64(v57, v64);
@@ -8919,211 +8634,593 @@ L38:;
     store64(v73, v95);
     goto L23;
 L39:;
-    f33(a0, v8, a2);
+    f30(a0, v8, a2);
     goto L23;
 L40:;
-    f35(a0, v16, a1, v14, v13, a2);
+    f32(a0, v16, a1, v14, v13, a2);
     goto L23;
 }
 
-static u32 f44(address a0, u16 a1, address a2, u64 a3, u8 a4, address a5, u64 a6, address a7) {
-    u64 v8, v9, v10, v11, v19, v20, v21, v22, v24, v30, v31, v34, v35, v36, v40, v51;
-    u64 v60, v90, v91, v93;
-    u32 v12, v94, v95;
-    address v13, v14, v15, v16, v17, v18, v23, v26, v27, v28, v32, v33, v39, v44, v48, v50;
-    address v55, v56, v57, v59, v61, v63, v69, v71, v77, v79, v81, v82, v83, v84, v85, v86;
-    address v87, v88, v89;
-    u8 v25, v29, v37, v38, v42, v43, v45, v46, v47, v49, v52, v53, v54, v58, v62, v64;
-    u8 v70, v72, v78, v80, v92;
-    u16 v41, v65, v66, v67, v68, v73, v74, v75, v76;
-    u64 block0[2];
-    u64 block1[4];
-    u64 block2[5];
-    v13 = ADDRESS(block0);
-    v14 = ADDRESS(block1);
-    v15 = ADDRESS(block2);
-    store64(a7, 0u);
-    v16 = load_address(a0);
-    if (a4) { goto L1; }
-    else { v11 = 15u; goto L5; }
+static struct s2 f41(address a0, address a1, u64 a2) {
+    u64 v3, v4, v5, v6, v7, v8, v9, v13, v14, v15, v16, v18, v19, v21, v22, v23;
+    u64 v24, v25, v27, v30, v34, v35, v36, v37, v38, v39, v48, v52, v53, v55, v58, v66;
+    u64 v67, v71, v73, v80, v84, v86, v90, v94, v96, v98, v99, v100, v101, v103, v104, v105;
+    u64 v106, v108, v109, v110, v113, v115, v121, v124, v128, v130, v134, v140, v141, v150, v152, v163;
+    u64 v172, v173, v174, v179, v181, v183, v185, v187, v195, v197, v233, v234, v236, v242, v243, v244;
+    u64 v245, v323, v328, v330, v332, v333, v334, v336, v337, v338, v340, v345, v347, v348, v350, v352;
+    address v10, v11, v12, v17, v20, v26, v28, v31, v41, v42, v43, v44, v45, v47, v50, v54;
+    address v56, v57, v60, v61, v62, v63, v64, v68, v69, v70, v72, v75, v76, v77, v82, v83;
+    address v112, v114, v117, v118, v119, v120, v123, v125, v131, v132, v133, v136, v137, v138, v142, v143;
+    address v145, v147, v149, v151, v153, v156, v164, v165, v166, v167, v168, v169, v170, v171, v176, v177;
+    address v182, v186, v189, v190, v191, v194, v198, v199, v201, v208, v210, v217, v219, v228, v232, v235;
+    address v237, v241, v248, v249, v251, v252, v254, v255, v257, v258, v260, v261, v263, v264, v266, v267;
+    address v269, v270, v272, v273, v275, v276, v278, v279, v281, v282, v284, v285, v287, v288, v290, v291;
+    address v293, v294, v296, v297, v299, v300, v302, v303, v305, v306, v308, v309, v311, v312, v314, v315;
+    address v317, v318, v320, v321, v325, v326, v331, v341, v342, v343, v355, v356, v357, v358, v359, v360;
+    address v361, v362, v363, v364, v365;
+    u16 v29, v146, v148, v154, v155, v157, v158, v159, v160, v161, v162, v203, v204, v205, v206, v207;
+    u16 v212, v213, v214, v215, v221, v222, v223, v224, v225, v226, v238, v239;
+    u8 v32, v33, v40, v46, v49, v51, v59, v65, v74, v78, v79, v81, v85, v87, v88, v89;
+    u8 v91, v92, v93, v95, v97, v102, v107, v111, v116, v122, v126, v127, v129, v135, v139, v144;
+    u8 v175, v178, v180, v184, v188, v192, v193, v196, v200, v202, v209, v211, v216, v218, v220, v227;
+    u8 v229, v230, v231, v240, v246, v247, v250, v253, v256, v259, v262, v265, v268, v271, v274, v277;
+    u8 v280, v283, v286, v289, v292, v295, v298, v301, v304, v307, v310, v313, v316, v319, v322, v324;
+    u8 v327, v329, v335, v339, v344, v346, v349, v351, v353, v354;
+    struct s2 v366, v367;
+    u64 block0[5];
+    u64 block1[5];
+    u64 block2[42];
+    u64 block3[4];
+    u64 block4[5];
+    v41 = ADDRESS(block0);
+    v42 = ADDRESS(block1);
+    v43 = ADDRESS(block2);
+    v44 = ADDRESS(block3);
+    v45 = ADDRESS(block4);
+    v46 = a2 > 27184u;
+    if (v46) { goto L19; }
+    else { goto L1; }
 L1:;
-    memory_set(v15, 0u, 40u);
-    v17 = v16 + 440u * 1u;
-    f45(v15, v17);
-    v18 = v16 + 432u * 1u;
-    v19 = load64(v18);
-    v20 = (u64)((u64)v19 << (1u & 63u));
-    v21 = (u64)((u64)v20 & (u64)UINT64_C(131070));
-    v22 = (u64)((u64)v21 + (u64)UINT64_C(18446744073709551615));
-    v23 = v15 + 32u * 1u;
-    v24 = load64(v23);
-    v25 = v24 == 0u;
-    if (v25) { v10 = v22; goto L4; }
+    v47 = a0 + 160u * 1u;
+    v48 = load64(v47);
+    v49 = v48 == 0u;
+    if (v49) { v3 = 89u; goto L3; }
     else { goto L2; }
 L2:;
-    v26 = v15 + 16u * 1u;
-    v27 = load_address(v15);
-    v8 = v22; v9 = 0u; goto L3;
+    v50 = a0 + 24u * 1u;
+    v51 = load8(v50);
+    v52 = (u64)v51;
+    v53 = (u64)((u64)v52 + (u64)89u);
+    v3 = v53; goto L3;
 L3:;
-    v28 = v26 + v9 * 1u;
-    v29 = load8(v28);
-    v30 = (u64)v29;
-    v31 = (u64)((u64)v30 * (u64)2136u);
-    v32 = v27 + v31 * 1u;
-    v33 = v32 + 1440u * 1u;
-    v34 = load64(v33);
-    v35 = v8 > v34 ? v8 : v34;
-    v36 = (u64)((u64)v9 + (u64)1u);
-    v37 = v36 == v24;
-    if (v37) { v10 = v35; goto L4; }
-    else { v8 = v35; v9 = v36; goto L3; }
+    v54 = a0 + 432u * 1u;
+    v55 = load64(v54);
+    v56 = a0 + 440u * 1u;
+    memory_set(v45, 0u, 40u);
+    f42(v45, v56);
+    v57 = v45 + 32u * 1u;
+    v58 = load64(v57);
+    v59 = v58 == 0u;
+    if (v59) { v16 = 0u; goto L18; }
+    else { goto L4; }
 L4:;
-    v11 = v10; goto L5;
+    v60 = v45 + 16u * 1u;
+    v61 = v44 + 16u * 1u;
+    v62 = v44 + 24u * 1u;
+    v63 = v44 + 25u * 1u;
+    v4 = 0u; v5 = 0u; goto L5;
 L5:;
-    memory_set(v13, 0u, 16u);
-    memory_set(v14, 0u, 32u);
-    v38 = a1 == 0u;
-    if (v38) { goto L27; }
+    v64 = v60 + v5 * 1u;
+    v65 = load8(v64);
+    v66 = (u64)v65;
+    v67 = (u64)((u64)v66 * (u64)2136u);
+    v68 = load_address(v45);
+    v69 = v68 + v67 * 1u;
+    v70 = v69 + 1424u * 1u;
+    v71 = load64(v70);
+    v72 = v69 + 1440u * 1u;
+    v73 = load64(v72);
+    v74 = v73 == 0u;
+    if (v74) { v15 = 0u; goto L17; }
     else { goto L6; }
 L6:;
-    v39 = v16 + 432u * 1u;
-    v40 = load64(v39);
-    v41 = (u16)(v40);
-    v42 = a1 > v41;
-    if (v42) { goto L27; }
-    else { goto L7; }
+    v75 = v69 + 1432u * 1u;
+    v76 = v69 + 1448u * 1u;
+    v77 = v69 + 2121u * 1u;
+    v6 = 0u; v7 = 0u; goto L7;
 L7:;
-    v43 = a6 < v11;
-    if (v43) { goto L26; }
-    else { goto L8; }
-L8:;
-    v44 = a0 + 16u * 1u;
-    v45 = load8(v44);
-    v46 = v45 == 0u;
-    if (v46) { goto L9; }
-    else { goto L25; }
-L9:;
-    f46(v13, v16, a1, a2, a3, a5, a6);
-    v47 = load8(v13);
-    v48 = v13 + 1u * 1u;
-    v49 = load8(v48);
-    v50 = v13 + 8u * 1u;
-    v51 = load64(v50);
-    v52 = v47 == 5u;
-    if (v52) { goto L10; }
-    else { goto L15; }
-L10:;
-    f8(v14, a2, a3);
-    v53 = load8(v14);
-    v54 = v53 == 0u;
-    if (v54) { goto L11; }
-    else { goto L13; }
-L11:;
-    v55 = v14 + 8u * 1u;
-    v56 = load_address(v55);
-    v57 = v56 + 4u * 1u;
-    v58 = load8(v57);
-    v59 = v56 + 20u * 1u;
-    v60 = load64(v59);
-    v61 = v56 + 28u * 1u;
-    v62 = load8(v61);
-    v63 = v56 + 29u * 1u;
-    v64 = load8(v63);
-    v65 = (u16)v62;
-    v66 = (u16)((u32)v65 << (8u & 15u));
-    v67 = (u16)v64;
-    v68 = (u16)((u32)v66 | (u32)v67);
-    v69 = v56 + 30u * 1u;
-    v70 = load8(v69);
-    v71 = v56 + 31u * 1u;
-    v72 = load8(v71);
-    v73 = (u16)v70;
-    v74 = (u16)((u32)v73 << (8u & 15u));
-    v75 = (u16)v72;
-    v76 = (u16)((u32)v74 | (u32)v75);
-    v77 = v56 + 44u * 1u;
     v78 = load8(v77);
-    v79 = v56 + 45u * 1u;
-    v80 = load8(v79);
-    store16(v44, 2u);
-    v81 = a0 + 18u * 1u;
-    store8(v81, v58);
-    v82 = a0 + 19u * 1u;
-    store8(v82, 0u);
-    v83 = a0 + 20u * 1u;
-    store64(v83, v60);
-    v84 = a0 + 28u * 1u;
-    store16(v84, v68);
-    v85 = a0 + 30u * 1u;
-    store16(v85, v76);
-    v86 = a0 + 32u * 1u;
-    store8(v86, v78);
-    v87 = a0 + 33u * 1u;
-    store8(v87, v80);
-    v88 = a0 + 34u * 1u;
-    store16(v88, a1);
-    v89 = a0 + 8u * 1u;
-    v90 = load64(v89);
-    v91 = (u64)((u64)v90 + (u64)1u);
-    store64(v89, v91);
-    v92 = v51 == 0u;
-    if (v92) { goto L14; }
-    else { goto L12; }
+    v79 = load8(v75);
+    v80 = (u64)v79;
+    v81 = v7 == 0u;
+    if (v81) { v12 = v76; v13 = v80; goto L9; }
+    else { v8 = v80; v9 = v7; v10 = v76; v11 = v75; goto L8; }
+L8:;
+    v82 = v10 + v8 * 1u;
+    v83 = v11 + 1u * 1u;
+    v84 = (u64)((u64)v9 + (u64)UINT64_C(18446744073709551615));
+    v85 = load8(v83);
+    v86 = (u64)v85;
+    v87 = v84 == 0u;
+    if (v87) { v12 = v82; v13 = v86; goto L9; }
+    else { v8 = v86; v9 = v84; v10 = v82; v11 = v83; goto L8; }
+L9:;
+    memory_set(v44, 0u, 32u);
+    f8(v44, v12, v13);
+    v88 = load8(v44);
+    v89 = v88 == 1u;
+    if (v89) { goto L14; }
+    else { goto L10; }
+L10:;
+    v90 = load64(v61);
+    v91 = load8(v62);
+    v92 = load8(v63);
+    switch (v92) {
+    case 0u: goto L12;
+    case 1u: goto L11;
+    default: goto L15;
+    }
+L11:;
+    v14 = 3u; goto L16;
 L12:;
-    v93 = (u64)((u64)v51 * (u64)1476u);
-    memory_set(a5, 0u, v93);
-    goto L14;
+    v93 = v91 == 2u;
+    if (v93) { goto L13; }
+    else { goto L14; }
 L13:;
+    v94 = (u64)((u64)v90 + (u64)UINT64_C(18446744073709551564));
+    v14 = v94; goto L16;
+L14:;
+    v14 = 1u; goto L16;
+L15:;
+    v95 = v91 == 2u;
+    v96 = v95 ? 2u : 1u;
+    v14 = v96; goto L16;
+L16:;
+    v97 = v78 == 0u;
+    v98 = v97 ? 0u : 2u;
+    v99 = (u64)((u64)v98 + (u64)v6);
+    v100 = (u64)((u64)v99 + (u64)v14);
+    v101 = (u64)((u64)v7 + (u64)1u);
+    v102 = v101 == v73;
+    if (v102) { v15 = v100; goto L17; }
+    else { v6 = v100; v7 = v101; goto L7; }
+L17:;
+    v103 = (u64)((u64)v4 + (u64)20u);
+    v104 = (u64)((u64)v103 + (u64)v71);
+    v105 = (u64)((u64)v104 + (u64)v15);
+    v106 = (u64)((u64)v5 + (u64)1u);
+    v107 = v106 == v58;
+    if (v107) { v16 = v105; goto L18; }
+    else { v4 = v105; v5 = v106; goto L5; }
+L18:;
+    v108 = (u64)((u64)v55 * (u64)15u);
+    v109 = (u64)((u64)v108 + (u64)v3);
+    v110 = (u64)((u64)v109 + (u64)v16);
+    v111 = v110 > a2;
+    if (v111) { v39 = 0u; v40 = 0u; goto L55; }
+    else { goto L19; }
+L19:;
+    v112 = a0 + 440u * 1u;
+    v113 = (u64)((u64)a2 + (u64)UINT64_C(18446744073709551604));
+    memory_set(v43, 0u, 336u);
+    f43(v43, a0);
+    v114 = v43 + 328u * 1u;
+    v115 = load64(v114);
+    v116 = v113 < v115;
+    if (v116) { goto L20; }
+    else { goto L21; }
+L20:;
     TRAP;
     UNREACHABLE;
-L14:;
-    store64(a7, 0u);
-    v12 = 5u; goto L28;
-L15:;
-    store64(a7, v51);
-    switch (v47) {
-    case 0u: goto L16;
-    case 9u: goto L23;
-    case 1u: v12 = 1u; goto L28;
-    case 2u: goto L17;
-    case 3u: goto L18;
-    case 4u: goto L19;
-    case 8u: goto L22;
-    case 6u: goto L20;
-    case 7u: goto L21;
-    default: goto L24;
-    }
-L16:;
-    v94 = (u32)v49;
-    v95 = (u32)((u32)v94 + (u32)16u);
-    v12 = v95; goto L28;
-L17:;
-    v12 = 2u; goto L28;
-L18:;
-    v12 = 3u; goto L28;
-L19:;
-    v12 = 4u; goto L28;
-L20:;
-    v12 = 6u; goto L28;
 L21:;
-    v12 = 7u; goto L28;
+    v117 = a1 + 12u * 1u;
+    memory_cpy(v117, v43, v115);
+    v118 = a0 + 448u * 1u;
+    v119 = load_address(v118);
+    v120 = a0 + 456u * 1u;
+    v121 = load64(v120);
+    v17 = v119; v18 = v121; v19 = 0u; goto L22;
 L22:;
-    v12 = 8u; goto L28;
+    v20 = v17; v21 = v18; goto L23;
 L23:;
-    v12 = 9u; goto L28;
+    v122 = v21 == 0u;
+    if (v122) { goto L26; }
+    else { goto L24; }
 L24:;
-    UNREACHABLE;
+    v123 = v20 + 2136u * 1u;
+    v124 = (u64)((u64)v21 + (u64)UINT64_C(18446744073709551615));
+    v125 = v20 + 2129u * 1u;
+    v126 = load8(v125);
+    v127 = (u8)((v126) & UINT64_C(1));
+    if (v127) { goto L25; }
+    else { v20 = v123; v21 = v124; goto L23; }
 L25:;
-    v12 = 118u; goto L28;
+    v128 = (u64)((u64)v19 + (u64)1u);
+    v17 = v123; v18 = v124; v19 = v128; goto L22;
 L26:;
-    v12 = 34u; goto L28;
+    v129 = (u8)(v19);
+    v130 = (u64)((u64)v115 + (u64)13u);
+    v131 = a1 + v115 * 1u;
+    v132 = v131 + 12u * 1u;
+    store8(v132, v129);
+    memory_set(v42, 0u, 40u);
+    f42(v42, v112);
+    memory_cpy(v41, v42, 40u);
+    v133 = v41 + 32u * 1u;
+    v134 = load64(v133);
+    v135 = v134 == 0u;
+    if (v135) { v38 = v130; goto L54; }
+    else { goto L27; }
 L27:;
-    v12 = 33u; goto L28;
+    v136 = v41 + 16u * 1u;
+    v137 = load_address(v41);
+    v22 = v130; v23 = 0u; goto L28;
 L28:;
-    return v12;
+    v138 = v136 + v23 * 1u;
+    v139 = load8(v138);
+    v140 = (u64)v139;
+    v141 = (u64)((u64)v140 * (u64)2136u);
+    v142 = v137 + v141 * 1u;
+    v143 = v142 + 2120u * 1u;
+    v144 = load8(v143);
+    v145 = v142 + 2116u * 1u;
+    v146 = load16(v145);
+    v147 = v142 + 2118u * 1u;
+    v148 = load16(v147);
+    v149 = v142 + 1424u * 1u;
+    v150 = load64(v149);
+    v151 = v142 + 2104u * 1u;
+    v152 = load64(v151);
+    v153 = v142 + 2112u * 1u;
+    v154 = load16(v153);
+    v155 = swap16(v154);
+    v156 = v142 + 2114u * 1u;
+    v157 = load16(v156);
+    v158 = swap16(v157);
+    v159 = swap16(v146);
+    v160 = swap16(v148);
+    v161 = (u16)(v150);
+    v162 = swap16(v161);
+    v163 = (u64)((u64)v22 + (u64)19u);
+    v164 = a1 + v22 * 1u;
+    store64(v164, v152);
+    v165 = v164 + 8u * 1u;
+    store16(v165, v155);
+    v166 = v164 + 10u * 1u;
+    store16(v166, v158);
+    v167 = v164 + 12u * 1u;
+    store8(v167, v144);
+    v168 = v164 + 13u * 1u;
+    store16(v168, v159);
+    v169 = v164 + 15u * 1u;
+    store16(v169, v160);
+    v170 = v164 + 17u * 1u;
+    store16(v170, v162);
+    v171 = a1 + v163 * 1u;
+    v172 = (u64)v171;
+    v173 = (u64)v142;
+    v174 = (u64)((u64)v172 - (u64)v173);
+    v175 = v174 < v150;
+    if (v175) { v24 = 0u; goto L30; }
+    else { goto L29; }
+L29:;
+    memory_move(v171, v142, v150);
+    goto L31;
+L30:;
+    v176 = v171 + v24 * 1u;
+    v177 = v142 + v24 * 1u;
+    v178 = load8(v177);
+    store8(v176, v178);
+    v179 = (u64)((u64)v24 + (u64)1u);
+    v180 = v179 == v150;
+    if (v180) { goto L31; }
+    else { v24 = v179; goto L30; }
+L31:;
+    v181 = (u64)((u64)v150 + (u64)v163);
+    v182 = v142 + 1440u * 1u;
+    v183 = load64(v182);
+    v184 = (u8)(v183);
+    v185 = (u64)((u64)v181 + (u64)1u);
+    v186 = a1 + v181 * 1u;
+    store8(v186, v184);
+    v187 = load64(v182);
+    v188 = v187 == 0u;
+    if (v188) { v37 = v185; goto L53; }
+    else { goto L32; }
+L32:;
+    v189 = v142 + 1448u * 1u;
+    v190 = v142 + 1432u * 1u;
+    v191 = v142 + 2121u * 1u;
+    v192 = load8(v191);
+    v193 = (u8)((v192) & UINT64_C(1));
+    v25 = v185; v26 = v189; v27 = v187; v28 = v190; goto L33;
+L33:;
+    v194 = v28 + 1u * 1u;
+    v195 = (u64)((u64)v27 + (u64)UINT64_C(18446744073709551615));
+    v196 = load8(v28);
+    v197 = (u64)v196;
+    v198 = v26 + v197 * 1u;
+    if (v193) { goto L34; }
+    else { v29 = 0u; goto L35; }
+L34:;
+    v199 = v26 + 28u * 1u;
+    v200 = load8(v199);
+    v201 = v26 + 29u * 1u;
+    v202 = load8(v201);
+    v203 = (u16)v200;
+    v204 = (u16)((u32)v203 << (8u & 15u));
+    v205 = (u16)v202;
+    v206 = (u16)((u32)v204 | (u32)v205);
+    v207 = swap16(v206);
+    v29 = v207; goto L35;
+L35:;
+    v208 = v26 + 48u * 1u;
+    v209 = load8(v208);
+    v210 = v26 + 49u * 1u;
+    v211 = load8(v210);
+    v212 = (u16)v209;
+    v213 = (u16)((u32)v212 << (8u & 15u));
+    v214 = (u16)v211;
+    v215 = (u16)((u32)v213 | (u32)v214);
+    v216 = v215 == 2u;
+    if (v216) { goto L36; }
+    else { goto L37; }
+L36:;
+    v217 = v26 + 52u * 1u;
+    v218 = load8(v217);
+    v219 = v26 + 53u * 1u;
+    v220 = load8(v219);
+    v221 = (u16)v218;
+    v222 = (u16)((u32)v221 << (8u & 15u));
+    v223 = (u16)v220;
+    v224 = (u16)((u32)v222 | (u32)v223);
+    v225 = (u16)((u32)v224 + (u32)65535u);
+    v226 = v225 < 6u ? v225 : 6u;
+    v227 = (u8)(v226);
+    v30 = 0u; v31 = 0u; v32 = 2u; v33 = v227; goto L39;
+L37:;
+    v228 = v26 + 46u * 1u;
+    v229 = load8(v228);
+    v230 = (u8)((u32)v229 & (u32)15u);
+    v231 = v230 == 2u;
+    if (v231) { goto L38; }
+    else { v30 = 0u; v31 = 0u; v32 = 1u; v33 = 0u; goto L39; }
+L38:;
+    v232 = v26 + 54u * 1u;
+    v233 = (u64)((u64)v197 + (u64)UINT64_C(18446744073709551562));
+    v30 = v233; v31 = v232; v32 = 0u; v33 = 0u; goto L39;
+L39:;
+    if (v193) { goto L40; }
+    else { v34 = v25; goto L41; }
+L40:;
+    v234 = (u64)((u64)v25 + (u64)2u);
+    v235 = a1 + v25 * 1u;
+    store16(v235, v29);
+    v34 = v234; goto L41;
+L41:;
+    switch (v32) {
+    case 0u: goto L42;
+    case 1u: goto L49;
+    case 2u: goto L50;
+    default: goto L51;
+    }
+L42:;
+    v236 = (u64)((u64)v34 + (u64)2u);
+    v237 = a1 + v34 * 1u;
+    v238 = (u16)(v30);
+    v239 = (u16)((u32)v238 << (8u & 15u));
+    store16(v237, v239);
+    v240 = v30 == 26u;
+    v241 = a1 + v236 * 1u;
+    v242 = (u64)v241;
+    v243 = (u64)v31;
+    v244 = (u64)((u64)v242 - (u64)v243);
+    if (v240) { goto L43; }
+    else { goto L46; }
+L43:;
+    v245 = (u64)((u64)v34 + (u64)28u);
+    v246 = v244 < 26u;
+    if (v246) { goto L44; }
+    else { goto L45; }
+L44:;
+    v247 = load8(v31);
+    store8(v241, v247);
+    v248 = v241 + 1u * 1u;
+    v249 = v31 + 1u * 1u;
+    v250 = load8(v249);
+    store8(v248, v250);
+    v251 = v241 + 2u * 1u;
+    v252 = v31 + 2u * 1u;
+    v253 = load8(v252);
+    store8(v251, v253);
+    v254 = v241 + 3u * 1u;
+    v255 = v31 + 3u * 1u;
+    v256 = load8(v255);
+    store8(v254, v256);
+    v257 = v241 + 4u * 1u;
+    v258 = v31 + 4u * 1u;
+    v259 = load8(v258);
+    store8(v257, v259);
+    v260 = v241 + 5u * 1u;
+    v261 = v31 + 5u * 1u;
+    v262 = load8(v261);
+    store8(v260, v262);
+    v263 = v241 + 6u * 1u;
+    v264 = v31 + 6u * 1u;
+    v265 = load8(v264);
+    store8(v263, v265);
+    v266 = v241 + 7u * 1u;
+    v267 = v31 + 7u * 1u;
+    v268 = load8(v267);
+    store8(v266, v268);
+    v269 = v241 + 8u * 1u;
+    v270 = v31 + 8u * 1u;
+    v271 = load8(v270);
+    store8(v269, v271);
+    v272 = v241 + 9u * 1u;
+    v273 = v31 + 9u * 1u;
+    v274 = load8(v273);
+    store8(v272, v274);
+    v275 = v241 + 10u * 1u;
+    v276 = v31 + 10u * 1u;
+    v277 = load8(v276);
+    store8(v275, v277);
+    v278 = v241 + 11u * 1u;
+    v279 = v31 + 11u * 1u;
+    v280 = load8(v279);
+    store8(v278, v280);
+    v281 = v241 + 12u * 1u;
+    v282 = v31 + 12u * 1u;
+    v283 = load8(v282);
+    store8(v281, v283);
+    v284 = v241 + 13u * 1u;
+    v285 = v31 + 13u * 1u;
+    v286 = load8(v285);
+    store8(v284, v286);
+    v287 = v241 + 14u * 1u;
+    v288 = v31 + 14u * 1u;
+    v289 = load8(v288);
+    store8(v287, v289);
+    v290 = v241 + 15u * 1u;
+    v291 = v31 + 15u * 1u;
+    v292 = load8(v291);
+    store8(v290, v292);
+    v293 = v241 + 16u * 1u;
+    v294 = v31 + 16u * 1u;
+    v295 = load8(v294);
+    store8(v293, v295);
+    v296 = v241 + 17u * 1u;
+    v297 = v31 + 17u * 1u;
+    v298 = load8(v297);
+    store8(v296, v298);
+    v299 = v241 + 18u * 1u;
+    v300 = v31 + 18u * 1u;
+    v301 = load8(v300);
+    store8(v299, v301);
+    v302 = v241 + 19u * 1u;
+    v303 = v31 + 19u * 1u;
+    v304 = load8(v303);
+    store8(v302, v304);
+    v305 = v241 + 20u * 1u;
+    v306 = v31 + 20u * 1u;
+    v307 = load8(v306);
+    store8(v305, v307);
+    v308 = v241 + 21u * 1u;
+    v309 = v31 + 21u * 1u;
+    v310 = load8(v309);
+    store8(v308, v310);
+    v311 = v241 + 22u * 1u;
+    v312 = v31 + 22u * 1u;
+    v313 = load8(v312);
+    store8(v311, v313);
+    v314 = v241 + 23u * 1u;
+    v315 = v31 + 23u * 1u;
+    v316 = load8(v315);
+    store8(v314, v316);
+    v317 = v241 + 24u * 1u;
+    v318 = v31 + 24u * 1u;
+    v319 = load8(v318);
+    store8(v317, v319);
+    v320 = v241 + 25u * 1u;
+    v321 = v31 + 25u * 1u;
+    v322 = load8(v321);
+    store8(v320, v322);
+    v36 = v245; goto L52;
+L45:;
+    memory_move(v241, v31, 26u);
+    v36 = v245; goto L52;
+L46:;
+    v323 = (u64)((u64)v236 + (u64)v30);
+    v324 = v244 < v30;
+    if (v324) { v35 = 0u; goto L48; }
+    else { goto L47; }
+L47:;
+    memory_move(v241, v31, v30);
+    v36 = v323; goto L52;
+L48:;
+    v325 = v241 + v35 * 1u;
+    v326 = v31 + v35 * 1u;
+    v327 = load8(v326);
+    store8(v325, v327);
+    v328 = (u64)((u64)v35 + (u64)1u);
+    v329 = v328 == v30;
+    if (v329) { v36 = v323; goto L52; }
+    else { v35 = v328; goto L48; }
+L49:;
+    v330 = (u64)((u64)v34 + (u64)1u);
+    v331 = a1 + v34 * 1u;
+    store8(v331, 1u);
+    v36 = v330; goto L52;
+L50:;
+    v332 = (u64)v33;
+    v333 = (u64)(((u64)v332 << (3u & 63u)) & UINT64_C(72057594037927935));
+    v334 = (u64)(((u64)UINT64_C(71501262696415745) >> (v333 & 63u)) & UINT64_C(72057594037927935));
+    v335 = (u8)(v334);
+    v336 = (u64)v33;
+    v337 = (u64)(((u64)v336 << (3u & 63u)) & UINT64_C(72057594037927935));
+    v338 = (u64)(((u64)UINT64_C(71776119061217280) >> (v337 & 63u)) & UINT64_C(72057594037927935));
+    v339 = (u8)(v338);
+    v340 = (u64)((u64)v34 + (u64)3u);
+    v341 = a1 + v34 * 1u;
+    store8(v341, 2u);
+    v342 = v341 + 1u * 1u;
+    store8(v342, v339);
+    v343 = v341 + 2u * 1u;
+    store8(v343, v335);
+    v36 = v340; goto L52;
+L51:;
+    UNREACHABLE;
+L52:;
+    v344 = v195 == 0u;
+    if (v344) { v37 = v36; goto L53; }
+    else { v25 = v36; v26 = v198; v27 = v195; v28 = v194; goto L33; }
+L53:;
+    v345 = (u64)((u64)v23 + (u64)1u);
+    v346 = v345 == v134;
+    if (v346) { v38 = v37; goto L54; }
+    else { v22 = v37; v23 = v345; goto L28; }
+L54:;
+    v347 = (u64)((u64)v38 + (u64)UINT64_C(18446744073709551604));
+    v348 = (u64)((u64)v347 >> (24u & 63u));
+    v349 = (u8)(v348);
+    v350 = (u64)((u64)v347 >> (16u & 63u));
+    v351 = (u8)(v350);
+    v352 = (u64)((u64)v347 >> (8u & 63u));
+    v353 = (u8)(v352);
+    v354 = (u8)(v347);
+    store8(a1, 112u);
+    v355 = a1 + 1u * 1u;
+    store8(v355, 116u);
+    v356 = a1 + 2u * 1u;
+    store8(v356, 112u);
+    v357 = a1 + 3u * 1u;
+    store8(v357, 109u);
+    v358 = a1 + 4u * 1u;
+    store8(v358, 1u);
+    v359 = a1 + 5u * 1u;
+    store8(v359, 1u);
+    v360 = a1 + 6u * 1u;
+    store8(v360, 0u);
+    v361 = a1 + 7u * 1u;
+    store8(v361, 0u);
+    v362 = a1 + 8u * 1u;
+    store8(v362, v349);
+    v363 = a1 + 9u * 1u;
+    store8(v363, v351);
+    v364 = a1 + 10u * 1u;
+    store8(v364, v353);
+    v365 = a1 + 11u * 1u;
+    store8(v365, v354);
+    v39 = v38; v40 = 1u; goto L55;
+L55:;
+    v366 = (struct s2){ 0 };
+    v366.m0 = v40;
+    v367 = v366;
+    v367.m1 = v39;
+    return v367;
 }
 
-static void f45(address a0, address a1) {
+static void f42(address a0, address a1) {
     u64 v2, v3, v5, v6, v12, v15, v16, v21, v25, v26, v28, v29, v32, v33, v40, v42;
     u64 v46, v48, v52;
     address v4, v7, v8, v9, v10, v11, v14, v17, v18, v22, v24, v30, v31, v37, v41, v45;
@@ -9235,329 +9332,401 @@ L13:;
     return;
 }
 
-static void f46(address a0, address a1, u16 a2, address a3, u64 a4, address a5, u64 a6) {
-    u16 v7, v47, v48, v49, v50, v57, v58, v59, v69, v70, v71, v72, v78, v82, v88, v89;
-    u16 v90, v91, v107, v108, v109, v110, v134, v149, v160;
-    u64 v8, v10, v11, v13, v42, v52, v61, v64, v77, v95, v96, v102, v104, v106, v127, v132;
-    u64 v137, v145, v153, v155, v158, v168, v169, v171;
-    address v9, v12, v14, v18, v19, v20, v21, v22, v23, v24, v27, v28, v31, v35, v37, v41;
-    address v43, v45, v51, v53, v55, v60, v63, v65, v67, v76, v80, v83, v84, v86, v92, v97;
-    address v99, v101, v103, v105, v111, v112, v113, v114, v115, v116, v119, v122, v124, v126, v129, v130;
-    address v131, v133, v136, v140, v144, v147, v148, v152, v156, v157, v159, v161, v162, v163, v164, v165;
-    address v166, v167, v172, v173;
-    u8 v15, v16, v17, v25, v26, v29, v30, v32, v33, v34, v36, v38, v39, v40, v44, v46;
-    u8 v54, v56, v62, v66, v68, v73, v74, v75, v79, v81, v85, v87, v93, v94, v98, v100;
-    u8 v118, v120, v121, v123, v125, v128, v135, v138, v139, v141, v142, v143, v146, v150, v151, v154;
-    u8 v170;
-    struct s1 v117;
-    u64 block0[2];
-    u64 block1[3];
-    u64 block2[3];
-    u64 block3[4];
-    u64 block4[3];
-    v18 = ADDRESS(block0);
-    v19 = ADDRESS(block1);
-    v20 = ADDRESS(block2);
-    v21 = ADDRESS(block3);
-    v22 = ADDRESS(block4);
-    store_address(v22, a5);
-    v23 = v22 + 8u * 1u;
-    store64(v23, a6);
-    v24 = v22 + 16u * 1u;
-    store64(v24, 0u);
-    memory_set(v21, 0u, 32u);
-    f8(v21, a3, a4);
-    v25 = load8(v21);
-    v26 = v25 == 0u;
-    if (v26) { goto L1; }
-    else { goto L17; }
+static void f43(address a0, address a1) {
+    u64 v2, v4, v5, v6, v7, v8, v9, v10, v13, v14, v15, v39, v70, v71, v74, v75;
+    u64 v79, v80, v81, v105, v139, v140, v141, v165, v193, v197, v202, v205, v209, v211, v213, v224;
+    u64 v225, v228, v229, v231, v232, v236, v237;
+    address v3, v11, v12, v18, v19, v21, v22, v24, v25, v27, v28, v30, v31, v33, v34, v36;
+    address v37, v40, v42, v44, v49, v50, v52, v55, v56, v57, v58, v61, v62, v64, v65, v68;
+    address v69, v72, v73, v76, v77, v78, v84, v85, v87, v88, v90, v91, v93, v94, v96, v97;
+    address v99, v100, v102, v103, v106, v109, v110, v112, v113, v116, v117, v120, v121, v122, v124, v127;
+    address v128, v129, v130, v133, v134, v136, v137, v138, v144, v145, v147, v148, v150, v151, v153, v154;
+    address v156, v157, v159, v160, v162, v163, v166, v169, v170, v172, v174, v176, v178, v180, v182, v184;
+    address v185, v186, v187, v188, v189, v190, v191, v192, v195, v199, v201, v203, v204, v208, v212, v215;
+    address v219, v227, v230, v234, v235;
+    u8 v16, v17, v20, v23, v26, v29, v32, v35, v38, v41, v43, v51, v53, v54, v63, v82;
+    u8 v83, v86, v89, v92, v95, v98, v101, v104, v111, v123, v125, v126, v135, v142, v143, v146;
+    u8 v149, v152, v155, v158, v161, v164, v171, v173, v175, v177, v179, v181, v183, v194, v196, v198;
+    u8 v200, v206, v207, v210, v214, v216, v217, v218, v226, v233, v238;
+    u16 v45, v46, v47, v48, v59, v60, v66, v67, v107, v108, v114, v115, v131, v132, v167, v168;
+    u16 v220, v221, v222, v223;
+    u32 v118, v119;
+    u64 block0[42];
+    v11 = ADDRESS(block0);
+    memory_set(v11, 0u, 336u);
+    v12 = v11 + 328u * 1u;
+    v13 = (u64)v11;
+    v14 = (u64)a1;
+    v15 = (u64)((u64)v13 - (u64)v14);
+    v16 = v15 < 8u;
+    if (v16) { goto L1; }
+    else { goto L2; }
 L1:;
-    v27 = v21 + 8u * 1u;
-    memory_cpy(v20, v27, 24u);
-    v28 = load_address(v20);
+    v17 = load8(a1);
+    store8(v11, v17);
+    v18 = v11 + 1u * 1u;
+    v19 = a1 + 1u * 1u;
+    v20 = load8(v19);
+    store8(v18, v20);
+    v21 = v11 + 2u * 1u;
+    v22 = a1 + 2u * 1u;
+    v23 = load8(v22);
+    store8(v21, v23);
+    v24 = v11 + 3u * 1u;
+    v25 = a1 + 3u * 1u;
+    v26 = load8(v25);
+    store8(v24, v26);
+    v27 = v11 + 4u * 1u;
+    v28 = a1 + 4u * 1u;
     v29 = load8(v28);
-    v30 = (u8)((u32)v29 >> (4u & 7u));
-    v31 = v28 + 5u * 1u;
+    store8(v27, v29);
+    v30 = v11 + 5u * 1u;
+    v31 = a1 + 5u * 1u;
     v32 = load8(v31);
-    v33 = (u8)((u32)v30 | (u32)v32);
-    v34 = v33 == 0u;
-    if (v34) { goto L2; }
-    else { v15 = 1u; goto L35; }
-L2:;
-    v35 = v28 + 4u * 1u;
-    v36 = load8(v35);
-    v37 = a1 + 8u * 1u;
+    store8(v30, v32);
+    v33 = v11 + 6u * 1u;
+    v34 = a1 + 6u * 1u;
+    v35 = load8(v34);
+    store8(v33, v35);
+    v36 = v11 + 7u * 1u;
+    v37 = a1 + 7u * 1u;
     v38 = load8(v37);
-    v39 = v36 == v38;
-    if (v39) { goto L5; }
-    else { goto L3; }
+    store8(v36, v38);
+    goto L3;
+L2:;
+    v39 = load64(a1);
+    store64(v11, v39);
+    goto L3;
 L3:;
-    v40 = f20(a1, v20);
-    if (v40) { goto L4; }
-    else { v15 = 1u; goto L35; }
+    store64(v12, 8u);
+    v40 = a1 + 9u * 1u;
+    v41 = load8(v40);
+    v42 = a1 + 8u * 1u;
+    v43 = load8(v42);
+    v44 = v11 + 8u * 1u;
+    v45 = (u16)v41;
+    v46 = (u16)((u32)v45 << (8u & 15u));
+    v47 = (u16)v43;
+    v48 = (u16)((u32)v46 | (u32)v47);
+    store16(v44, v48);
+    store64(v12, 10u);
+    v49 = a1 + 10u * 1u;
+    v50 = a1 + 12u * 1u;
+    v51 = load8(v50);
+    v52 = a1 + 11u * 1u;
+    v53 = load8(v52);
+    v54 = load8(v49);
+    v55 = v11 + 10u * 1u;
+    store8(v55, v54);
+    v56 = v11 + 11u * 1u;
+    store8(v56, v53);
+    v57 = v11 + 12u * 1u;
+    store8(v57, v51);
+    store64(v12, 13u);
+    v58 = a1 + 14u * 1u;
+    v59 = load16(v58);
+    v60 = swap16(v59);
+    v61 = v11 + 13u * 1u;
+    store16(v61, v60);
+    store64(v12, 15u);
+    v62 = a1 + 16u * 1u;
+    v63 = load8(v62);
+    v64 = v11 + 15u * 1u;
+    store8(v64, v63);
+    store64(v12, 16u);
+    v65 = a1 + 168u * 1u;
+    v66 = load16(v65);
+    v67 = swap16(v66);
+    v68 = v11 + 16u * 1u;
+    store16(v68, v67);
+    store64(v12, 18u);
+    v69 = a1 + 176u * 1u;
+    v70 = load64(v69);
+    v71 = swap64(v70);
+    v72 = v11 + 18u * 1u;
+    store64(v72, v71);
+    store64(v12, 26u);
+    v73 = a1 + 184u * 1u;
+    v74 = load64(v73);
+    v75 = swap64(v74);
+    v76 = v11 + 26u * 1u;
+    store64(v76, v75);
+    store64(v12, 34u);
+    v77 = a1 + 192u * 1u;
+    v78 = v11 + 34u * 1u;
+    v79 = (u64)v78;
+    v80 = (u64)v77;
+    v81 = (u64)((u64)v79 - (u64)v80);
+    v82 = v81 < 8u;
+    if (v82) { goto L4; }
+    else { goto L5; }
 L4:;
-    v41 = v28 + 20u * 1u;
-    v42 = load64(v41);
-    v43 = v28 + 28u * 1u;
-    v44 = load8(v43);
-    v45 = v28 + 29u * 1u;
-    v46 = load8(v45);
-    v47 = (u16)v44;
-    v48 = (u16)((u32)v47 << (8u & 15u));
-    v49 = (u16)v46;
-    v50 = (u16)((u32)v48 | (u32)v49);
-    v7 = v50; v8 = v42; goto L19;
+    v83 = load8(v77);
+    store8(v78, v83);
+    v84 = v11 + 35u * 1u;
+    v85 = a1 + 193u * 1u;
+    v86 = load8(v85);
+    store8(v84, v86);
+    v87 = v11 + 36u * 1u;
+    v88 = a1 + 194u * 1u;
+    v89 = load8(v88);
+    store8(v87, v89);
+    v90 = v11 + 37u * 1u;
+    v91 = a1 + 195u * 1u;
+    v92 = load8(v91);
+    store8(v90, v92);
+    v93 = v11 + 38u * 1u;
+    v94 = a1 + 196u * 1u;
+    v95 = load8(v94);
+    store8(v93, v95);
+    v96 = v11 + 39u * 1u;
+    v97 = a1 + 197u * 1u;
+    v98 = load8(v97);
+    store8(v96, v98);
+    v99 = v11 + 40u * 1u;
+    v100 = a1 + 198u * 1u;
+    v101 = load8(v100);
+    store8(v99, v101);
+    v102 = v11 + 41u * 1u;
+    v103 = a1 + 199u * 1u;
+    v104 = load8(v103);
+    store8(v102, v104);
+    goto L6;
 L5:;
-    v51 = v28 + 20u * 1u;
-    v52 = load64(v51);
-    v53 = v28 + 28u * 1u;
-    v54 = load8(v53);
-    v55 = v28 + 29u * 1u;
-    v56 = load8(v55);
-    v57 = (u16)v54;
-    v58 = (u16)((u32)v57 << (8u & 15u));
-    v59 = (u16)v56;
-    v60 = a1 + 440u * 1u;
-    v61 = load64(v60);
-    v62 = v52 == v61;
-    if (v62) { v15 = 2u; goto L35; }
-    else { goto L6; }
+    v105 = load64(v77);
+    store64(v78, v105);
+    goto L6;
 L6:;
-    v63 = v28 + 34u * 1u;
-    v64 = load64(v63);
-    v65 = v28 + 42u * 1u;
-    v66 = load8(v65);
-    v67 = v28 + 43u * 1u;
-    v68 = load8(v67);
-    v69 = (u16)v66;
-    v70 = (u16)((u32)v69 << (8u & 15u));
-    v71 = (u16)v68;
-    v72 = (u16)((u32)v70 | (u32)v71);
-    v73 = v64 == v61;
-    v74 = v64 == UINT64_C(18446744073709551615);
-    v75 = (u8)(((u32)v74 | (u32)v73) & UINT64_C(1));
-    if (v75) { goto L7; }
-    else { v15 = 3u; goto L35; }
+    store64(v12, 42u);
+    v106 = a1 + 200u * 1u;
+    v107 = load16(v106);
+    v108 = swap16(v107);
+    v109 = v11 + 42u * 1u;
+    store16(v109, v108);
+    store64(v12, 44u);
+    v110 = a1 + 202u * 1u;
+    v111 = load8(v110);
+    v112 = v11 + 44u * 1u;
+    store8(v112, v111);
+    store64(v12, 45u);
+    v113 = a1 + 204u * 1u;
+    v114 = load16(v113);
+    v115 = swap16(v114);
+    v116 = v11 + 45u * 1u;
+    store16(v116, v115);
+    store64(v12, 47u);
+    v117 = a1 + 208u * 1u;
+    v118 = load32(v117);
+    v119 = swap32(v118);
+    v120 = v11 + 47u * 1u;
+    store32(v120, v119);
+    store64(v12, 51u);
+    v121 = a1 + 220u * 1u;
+    v122 = a1 + 222u * 1u;
+    v123 = load8(v122);
+    v124 = a1 + 221u * 1u;
+    v125 = load8(v124);
+    v126 = load8(v121);
+    v127 = v11 + 51u * 1u;
+    store8(v127, v126);
+    v128 = v11 + 52u * 1u;
+    store8(v128, v125);
+    v129 = v11 + 53u * 1u;
+    store8(v129, v123);
+    store64(v12, 54u);
+    v130 = a1 + 224u * 1u;
+    v131 = load16(v130);
+    v132 = swap16(v131);
+    v133 = v11 + 54u * 1u;
+    store16(v133, v132);
+    store64(v12, 56u);
+    v134 = a1 + 226u * 1u;
+    v135 = load8(v134);
+    v136 = v11 + 56u * 1u;
+    store8(v136, v135);
+    store64(v12, 57u);
+    v137 = a1 + 212u * 1u;
+    v138 = v11 + 57u * 1u;
+    v139 = (u64)v138;
+    v140 = (u64)v137;
+    v141 = (u64)((u64)v139 - (u64)v140);
+    v142 = v141 < 8u;
+    if (v142) { goto L7; }
+    else { goto L8; }
 L7:;
-    switch (v72) {
-    case 65535u: goto L9;
-    case 0u: v15 = 3u; goto L35;
-    default: goto L8;
-    }
+    v143 = load8(v137);
+    store8(v138, v143);
+    v144 = v11 + 58u * 1u;
+    v145 = a1 + 213u * 1u;
+    v146 = load8(v145);
+    store8(v144, v146);
+    v147 = v11 + 59u * 1u;
+    v148 = a1 + 214u * 1u;
+    v149 = load8(v148);
+    store8(v147, v149);
+    v150 = v11 + 60u * 1u;
+    v151 = a1 + 215u * 1u;
+    v152 = load8(v151);
+    store8(v150, v152);
+    v153 = v11 + 61u * 1u;
+    v154 = a1 + 216u * 1u;
+    v155 = load8(v154);
+    store8(v153, v155);
+    v156 = v11 + 62u * 1u;
+    v157 = a1 + 217u * 1u;
+    v158 = load8(v157);
+    store8(v156, v158);
+    v159 = v11 + 63u * 1u;
+    v160 = a1 + 218u * 1u;
+    v161 = load8(v160);
+    store8(v159, v161);
+    v162 = v11 + 64u * 1u;
+    v163 = a1 + 219u * 1u;
+    v164 = load8(v163);
+    store8(v162, v164);
+    goto L9;
 L8:;
-    v76 = a1 + 432u * 1u;
-    v77 = load64(v76);
-    v78 = (u16)(v77);
-    v79 = v72 > v78;
-    if (v79) { v15 = 3u; goto L35; }
-    else { goto L9; }
+    v165 = load64(v137);
+    store64(v138, v165);
+    goto L9;
 L9:;
-    v80 = v20 + 16u * 1u;
-    v81 = load8(v80);
-    switch (v81) {
-    case 2u: v15 = 4u; goto L35;
-    case 4u: v15 = 4u; goto L35;
-    case 0u: goto L11;
-    case 1u: goto L11;
-    case 3u: goto L11;
-    default: goto L10;
-    }
+    store64(v12, 65u);
+    v166 = a1 + 228u * 1u;
+    v167 = load16(v166);
+    v168 = swap16(v167);
+    v169 = v11 + 65u * 1u;
+    store16(v169, v168);
+    store64(v12, 67u);
+    v170 = a1 + 236u * 1u;
+    v171 = load8(v170);
+    v172 = a1 + 235u * 1u;
+    v173 = load8(v172);
+    v174 = a1 + 234u * 1u;
+    v175 = load8(v174);
+    v176 = a1 + 233u * 1u;
+    v177 = load8(v176);
+    v178 = a1 + 232u * 1u;
+    v179 = load8(v178);
+    v180 = a1 + 231u * 1u;
+    v181 = load8(v180);
+    v182 = a1 + 230u * 1u;
+    v183 = load8(v182);
+    v184 = v11 + 67u * 1u;
+    store8(v184, v183);
+    v185 = v11 + 68u * 1u;
+    store8(v185, v181);
+    v186 = v11 + 69u * 1u;
+    store8(v186, v179);
+    v187 = v11 + 70u * 1u;
+    store8(v187, v177);
+    v188 = v11 + 71u * 1u;
+    store8(v188, v175);
+    v189 = v11 + 72u * 1u;
+    store8(v189, v173);
+    v190 = v11 + 73u * 1u;
+    store8(v190, v171);
+    store64(v12, 74u);
+    v191 = a1 + 24u * 1u;
+    v192 = a1 + 160u * 1u;
+    v193 = load64(v192);
+    v194 = v193 == 0u;
+    if (v194) { v2 = 0u; v3 = v191; goto L11; }
+    else { goto L10; }
 L10:;
-    UNREACHABLE;
+    v195 = a1 + 25u * 1u;
+    v196 = load8(v191);
+    v197 = (u64)v196;
+    v2 = v197; v3 = v195; goto L11;
 L11:;
-    if (v73) { goto L13; }
+    v198 = (u8)(v2);
+    v199 = v11 + 74u * 1u;
+    store8(v199, v198);
+    store64(v12, 75u);
+    v200 = v2 > 249u;
+    if (v200) { v4 = 75u; goto L13; }
     else { goto L12; }
 L12:;
-    v15 = 9u; goto L35;
+    v201 = v11 + 75u * 1u;
+    memory_cpy(v201, v3, v2);
+    v202 = (u64)((u64)v2 + (u64)75u);
+    store64(v12, v202);
+    v4 = v202; goto L13;
 L13:;
-    v82 = (u16)((u32)v58 | (u32)v59);
-    store64(v18, v52);
-    v83 = v18 + 8u * 1u;
-    store16(v83, v82);
-    v84 = v28 + 30u * 1u;
-    v85 = load8(v84);
-    v86 = v28 + 31u * 1u;
-    v87 = load8(v86);
-    v88 = (u16)v85;
-    v89 = (u16)((u32)v88 << (8u & 15u));
-    v90 = (u16)v87;
-    v91 = (u16)((u32)v89 | (u32)v90);
-    v92 = v20 + 17u * 1u;
-    v93 = load8(v92);
-    v94 = v93 == 0u;
-    v95 = v94 ? 52u : 54u;
-    v96 = v94 ? 53u : 55u;
-    v97 = v28 + v95 * 1u;
-    v98 = load8(v97);
-    v99 = v28 + v96 * 1u;
-    v100 = load8(v99);
-    v101 = v20 + 8u * 1u;
-    v102 = load64(v101);
-    v103 = v28 + 54u * 1u;
-    v104 = (u64)((u64)v102 + (u64)UINT64_C(18446744073709551562));
-    v105 = v94 ? v103 : ADDRESS(c139);
-    v106 = v94 ? v104 : 0u;
-    v107 = (u16)v98;
-    v108 = (u16)((u32)v107 << (8u & 15u));
-    v109 = (u16)v100;
-    v110 = (u16)((u32)v108 | (u32)v109);
-    store8(v19, v81);
-    v111 = v19 + 1u * 1u;
-    store8(v111, 0u);
-    v112 = v19 + 2u * 1u;
-    store16(v112, v110);
-    v113 = v19 + 4u * 1u;
-    store16(v113, v72);
-    v114 = v19 + 6u * 1u;
-    store16(v114, 0u);
-    v115 = v19 + 8u * 1u;
-    store_address(v115, v105);
-    v116 = v19 + 16u * 1u;
-    store64(v116, v106);
-    v117 = f22(v60, v18, v91, v19);
-    v118 = v117.m0;
-    switch (v118) {
-    case 0u: v15 = 9u; goto L35;
-    case 1u: goto L18;
-    case 2u: v7 = v82; v8 = v52; goto L19;
-    case 3u: goto L14;
-    case 4u: goto L15;
-    default: goto L16;
-    }
+    v203 = a1 + 240u * 1u;
+    v204 = a1 + 432u * 1u;
+    v205 = load64(v204);
+    v206 = v4 == 324u;
+    if (v206) { v5 = 324u; goto L15; }
+    else { goto L14; }
 L14:;
-    v15 = 8u; goto L35;
+    v207 = (u8)(v205);
+    v208 = v11 + v4 * 1u;
+    store8(v208, v207);
+    v209 = (u64)((u64)v4 + (u64)1u);
+    store64(v12, v209);
+    v5 = v209; goto L15;
 L15:;
-    v15 = 7u; goto L35;
+    v210 = v205 == 0u;
+    if (v210) { goto L23; }
+    else { v6 = v5; v7 = 0u; goto L16; }
 L16:;
-    UNREACHABLE;
+    v211 = (u64)((u64)v7 * (u64)24u);
+    v212 = v203 + v211 * 1u;
+    v213 = (u64)((u64)v6 + (u64)UINT64_C(18446744073709551293));
+    v214 = v213 < 2u;
+    if (v214) { v8 = v6; goto L18; }
+    else { goto L17; }
 L17:;
-    v119 = v21 + 1u * 1u;
-    v120 = load8(v119);
-    v16 = v120; v17 = 0u; goto L36;
+    v215 = v212 + 1u * 1u;
+    v216 = load8(v215);
+    v217 = load8(v212);
+    v218 = (u8)((u32)v217 + (u32)1u);
+    v219 = v11 + v6 * 1u;
+    v220 = (u16)v216;
+    v221 = (u16)((u32)v220 << (8u & 15u));
+    v222 = (u16)v218;
+    v223 = (u16)((u32)v221 | (u32)v222);
+    store16(v219, v223);
+    v224 = (u64)((u64)v6 + (u64)2u);
+    store64(v12, v224);
+    v8 = v224; goto L18;
 L18:;
-    v121 = v117.m1;
-    f25(a1, a2, v27, v121, v22);
-    v16 = 0u; v17 = 5u; goto L36;
+    v225 = (u64)((u64)v8 + (u64)UINT64_C(18446744073709551299));
+    v226 = v225 < 8u;
+    if (v226) { v9 = v8; goto L20; }
+    else { goto L19; }
 L19:;
-    v122 = v28 + 44u * 1u;
-    v123 = load8(v122);
-    v124 = v28 + 45u * 1u;
-    v125 = load8(v124);
-    v126 = a1 + 456u * 1u;
-    v127 = load64(v126);
-    v128 = v127 == 0u;
-    if (v128) { goto L24; }
-    else { goto L20; }
+    v227 = v212 + 8u * 1u;
+    v228 = load64(v227);
+    v229 = swap64(v228);
+    v230 = v11 + v8 * 1u;
+    store64(v230, v229);
+    v231 = (u64)((u64)v8 + (u64)8u);
+    store64(v12, v231);
+    v9 = v231; goto L20;
 L20:;
-    v129 = a1 + 448u * 1u;
-    v130 = load_address(v129);
-    v9 = v130; v10 = v127; goto L21;
+    v232 = (u64)((u64)v9 + (u64)UINT64_C(18446744073709551296));
+    v233 = v232 < 5u;
+    if (v233) { v10 = v9; goto L22; }
+    else { goto L21; }
 L21:;
-    v131 = v9 + 2136u * 1u;
-    v132 = (u64)((u64)v10 + (u64)UINT64_C(18446744073709551615));
-    v133 = v9 + 2112u * 1u;
-    v134 = load16(v133);
-    v135 = v7 == v134;
-    if (v135) { goto L22; }
-    else { goto L23; }
+    v234 = v212 + 16u * 1u;
+    v235 = v11 + v9 * 1u;
+    memory_cpy(v235, v234, 5u);
+    v236 = (u64)((u64)v9 + (u64)5u);
+    store64(v12, v236);
+    v10 = v236; goto L22;
 L22:;
-    v136 = v9 + 2104u * 1u;
-    v137 = load64(v136);
-    v138 = v8 == v137;
-    if (v138) { goto L25; }
-    else { goto L23; }
+    v237 = (u64)((u64)v7 + (u64)1u);
+    v238 = v237 == v205;
+    if (v238) { goto L23; }
+    else { v6 = v10; v7 = v237; goto L16; }
 L23:;
-    v139 = v132 == 0u;
-    if (v139) { goto L24; }
-    else { v9 = v131; v10 = v132; goto L21; }
-L24:;
-    TRAP;
-    UNREACHABLE;
-L25:;
-    v140 = v9 + 2121u * 1u;
-    v141 = load8(v140);
-    v142 = (u8)((v141) & UINT64_C(1));
-    v143 = v123 > v125 ? (u8)((u32)v123 - (u32)v125) : 0u;
-    v144 = v9 + 1440u * 1u;
-    v145 = load64(v144);
-    v146 = v145 == 0u;
-    if (v146) { v16 = 0u; v17 = 6u; goto L36; }
-    else { goto L26; }
-L26:;
-    v147 = v9 + 1448u * 1u;
-    v148 = v9 + 1432u * 1u;
-    v149 = (u16)((u32)a2 >> (8u & 15u));
-    v150 = (u8)(v149);
-    v151 = (u8)(a2);
-    v11 = 0u; v12 = v147; v13 = v145; v14 = v148; goto L27;
-L27:;
-    v152 = v14 + 1u * 1u;
-    v153 = (u64)((u64)v13 + (u64)UINT64_C(18446744073709551615));
-    v154 = load8(v14);
-    v155 = (u64)v154;
-    v156 = v12 + v155 * 1u;
-    v157 = load_address(v22);
-    v158 = (u64)((u64)v11 * (u64)1476u);
-    v159 = v157 + v158 * 1u;
-    store16(v159, a2);
-    v160 = (u16)v154;
-    v161 = v159 + 2u * 1u;
-    store16(v161, v160);
-    v162 = v159 + 4u * 1u;
-    switch (v154) {
-    case 54u: goto L28;
-    case 56u: goto L29;
-    case 80u: goto L30;
-    default: goto L31;
-    }
-L28:;
-    memory_move(v162, v12, 54u);
-    goto L32;
-L29:;
-    memory_move(v162, v12, 56u);
-    goto L32;
-L30:;
-    memory_move(v162, v12, 80u);
-    goto L32;
-L31:;
-    f37(v162, v12, v155);
-    goto L32;
-L32:;
-    v163 = v159 + 8u * 1u;
-    store8(v163, v36);
-    if (v142) { goto L34; }
-    else { goto L33; }
-L33:;
-    v164 = v159 + 32u * 1u;
-    store8(v164, v150);
-    v165 = v159 + 33u * 1u;
-    store8(v165, v151);
-    goto L34;
-L34:;
-    v166 = v159 + 48u * 1u;
-    store8(v166, v143);
-    v167 = v159 + 49u * 1u;
-    store8(v167, v143);
-    v168 = load64(v24);
-    v169 = (u64)((u64)v168 + (u64)1u);
-    store64(v24, v169);
-    v170 = v153 == 0u;
-    if (v170) { v16 = 0u; v17 = 6u; goto L36; }
-    else { v11 = v169; v12 = v156; v13 = v153; v14 = v152; goto L27; }
-L35:;
-    f41(a1, v15, a2, a3, v27, v22);
-    v16 = 0u; v17 = v15; goto L36;
-L36:;
-    v171 = load64(v24);
-    store8(a0, v17);
-    v172 = a0 + 1u * 1u;
-    store8(v172, v16);
-    v173 = a0 + 8u * 1u;
-    store64(v173, v171);
+    memory_cpy(a0, v11, 336u);
     return;
 }
 
-static void f47(address a0, address a1) {
+static void f44(address a0, address a1) {
     u64 v2, v3, v4, v68, v70, v71, v72, v73, v75, v78, v82, v86, v87, v88, v89, v91;
     u64 v94, v95, v98;
     address v5, v6, v7, v8, v9, v10, v11, v12, v13, v14, v15, v16, v17, v18, v19, v20;
@@ -9740,7 +9909,7 @@ L6:;
     v88 = (u64)((u64)v87 & (u64)1u);
     v89 = (u64)((u64)v88 + (u64)v87);
     v90 = v6 + 136u * 1u;
-    f32(v6, v89);
+    f29(v6, v89);
     v91 = load64(v90);
     v92 = v6 + 1u * 1u;
     v93 = v92 + v4 * 1u;
@@ -9944,7 +10113,4271 @@ L10:;
     return;
 }
 
-static void f48(address a0, address a1, address a2) {
+static void f45(address a0, address a1, u16 a2, address a3, u64 a4) {
+    u64 v5, v6, v7, v10, v16, v26, v27, v28, v30, v36, v37, v40, v41, v42, v61, v63;
+    u64 v66, v69;
+    u8 v8, v11, v12, v14, v18, v24, v31, v35, v43, v44, v51, v54, v58, v59, v60, v65;
+    u8 v68, v71;
+    address v9, v13, v15, v19, v20, v21, v22, v23, v25, v29, v32, v33, v34, v38, v39, v45;
+    address v46, v47, v48, v49, v50, v55, v62, v64, v67, v70, v72, v73, v74, v75, v76, v77;
+    u16 v17, v52, v53, v56, v57;
+    u64 block0[5];
+    v13 = ADDRESS(block0);
+    v14 = a2 == 0u;
+    if (v14) { goto L3; }
+    else { goto L1; }
+L1:;
+    v15 = a1 + 432u * 1u;
+    v16 = load64(v15);
+    v17 = (u16)(v16);
+    v18 = a2 > v17;
+    if (v18) { goto L3; }
+    else { goto L4; }
+L2:;
+    return;
+L3:;
+    store8(a0, 1u);
+    v19 = a0 + 1u * 1u;
+    store8(v19, 0u);
+    v20 = a0 + 2u * 1u;
+    store8(v20, 0u);
+    v21 = a0 + 8u * 1u;
+    store8(v21, 0u);
+    v22 = a0 + 9u * 1u;
+    store8(v22, 0u);
+    v23 = a0 + 16u * 1u;
+    memory_set(v23, 0u, 16u);
+    goto L2;
+L4:;
+    v24 = a4 > 14u;
+    if (v24) { goto L10; }
+    else { goto L5; }
+L5:;
+    memory_set(v13, 0u, 40u);
+    v25 = a1 + 440u * 1u;
+    f42(v13, v25);
+    v26 = (u64)((u64)v16 << (1u & 63u));
+    v27 = (u64)((u64)v26 & (u64)UINT64_C(131070));
+    v28 = (u64)((u64)v27 + (u64)UINT64_C(18446744073709551615));
+    v29 = v13 + 32u * 1u;
+    v30 = load64(v29);
+    v31 = v30 == 0u;
+    if (v31) { v7 = v28; goto L8; }
+    else { goto L6; }
+L6:;
+    v32 = v13 + 16u * 1u;
+    v33 = load_address(v13);
+    v5 = v28; v6 = 0u; goto L7;
+L7:;
+    v34 = v32 + v6 * 1u;
+    v35 = load8(v34);
+    v36 = (u64)v35;
+    v37 = (u64)((u64)v36 * (u64)2136u);
+    v38 = v33 + v37 * 1u;
+    v39 = v38 + 1440u * 1u;
+    v40 = load64(v39);
+    v41 = v5 > v40 ? v5 : v40;
+    v42 = (u64)((u64)v6 + (u64)1u);
+    v43 = v42 == v30;
+    if (v43) { v7 = v41; goto L8; }
+    else { v5 = v41; v6 = v42; goto L7; }
+L8:;
+    v44 = v7 > a4;
+    if (v44) { goto L9; }
+    else { goto L10; }
+L9:;
+    store8(a0, 1u);
+    v45 = a0 + 1u * 1u;
+    store8(v45, 0u);
+    v46 = a0 + 2u * 1u;
+    store8(v46, 1u);
+    v47 = a0 + 8u * 1u;
+    store8(v47, 0u);
+    v48 = a0 + 9u * 1u;
+    store8(v48, 0u);
+    v49 = a0 + 16u * 1u;
+    memory_set(v49, 0u, 16u);
+    goto L2;
+L10:;
+    v50 = a3 + 4u * 1u;
+    v51 = load8(v50);
+    switch (v51) {
+    case 0u: v8 = v51; v9 = 0u; v10 = 0u; v11 = v51; v12 = v51; goto L16;
+    case 1u: goto L11;
+    case 2u: goto L12;
+    default: goto L14;
+    }
+L11:;
+    v52 = load16(a3);
+    v53 = (u16)((u32)v52 + (u32)2u);
+    v54 = v53 < 9u;
+    if (v54) { goto L15; }
+    else { v8 = 1u; v9 = 0u; v10 = 0u; v11 = 0u; v12 = 0u; goto L16; }
+L12:;
+    v55 = a3 + 2u * 1u;
+    v56 = load16(v55);
+    v57 = (u16)((u32)v56 & (u32)1u);
+    v58 = v57 == 0u;
+    v59 = v56 < 1419u;
+    v60 = (u8)(((u32)v59 & (u32)v58) & UINT64_C(1));
+    if (v60) { goto L13; }
+    else { goto L14; }
+L13:;
+    v61 = (u64)v56;
+    v62 = a3 + 5u * 1u;
+    v8 = 0u; v9 = v62; v10 = v61; v11 = 2u; v12 = 0u; goto L16;
+L14:;
+    v8 = 1u; v9 = 0u; v10 = 0u; v11 = 0u; v12 = 0u; goto L16;
+L15:;
+    v63 = (u64)v53;
+    v64 = ADDRESS(c325) + v63 * 1u;
+    v65 = load8(v64);
+    v66 = (u64)v53;
+    v67 = ADDRESS(c326) + v66 * 1u;
+    v68 = load8(v67);
+    v69 = (u64)v53;
+    v70 = ADDRESS(c327) + v69 * 1u;
+    v71 = load8(v70);
+    v8 = v65; v9 = 0u; v10 = 0u; v11 = v68; v12 = v71; goto L16;
+L16:;
+    store8(a0, v8);
+    v72 = a0 + 1u * 1u;
+    store8(v72, v8);
+    v73 = a0 + 2u * 1u;
+    store8(v73, 0u);
+    v74 = a0 + 8u * 1u;
+    store8(v74, v11);
+    v75 = a0 + 9u * 1u;
+    store8(v75, v12);
+    v76 = a0 + 16u * 1u;
+    store_address(v76, v9);
+    v77 = a0 + 24u * 1u;
+    store64(v77, v10);
+    goto L2;
+}
+
+static void f46(address a0, address a1, u16 a2, address a3, u64 a4, address a5, u8 a6, address a7, u64 a8) {
+    address v9, v33, v34, v35, v36, v37, v38, v39, v40, v41, v42, v43, v44, v45, v46, v47;
+    address v48, v49, v51, v52, v53, v55, v56, v59, v60, v61, v63, v65, v67, v73, v75, v76;
+    address v79, v80, v81, v82, v83, v84, v85, v88, v97, v102, v104, v108, v110, v112, v116, v117;
+    address v119, v122, v125, v127, v129, v131, v133, v135, v137, v147, v148, v149, v150, v151, v152, v154;
+    address v156, v160, v164, v166, v169, v175, v181, v187, v191, v193, v198, v199, v208, v211, v220, v221;
+    address v225, v226, v230, v245, v247, v250, v252, v258, v260, v275, v278, v279, v280, v281, v282, v283;
+    address v284, v285, v286, v287, v288, v289, v290, v291, v292, v293, v298, v299, v309, v310, v312, v315;
+    address v318, v320, v322, v324, v326, v328, v330, v340, v341, v342, v343, v344, v345, v347, v349, v353;
+    address v357, v359, v362, v368, v374, v376, v378, v380, v390, v391, v392, v393, v394, v395, v396, v397;
+    address v398, v399, v400, v403, v405, v407, v408;
+    u8 v10, v11, v12, v13, v22, v24, v25, v28, v29, v30, v31, v50, v57, v58, v62, v66;
+    u8 v68, v87, v89, v90, v91, v92, v93, v94, v95, v96, v98, v100, v101, v103, v106, v107;
+    u8 v109, v111, v114, v115, v118, v120, v121, v126, v128, v130, v132, v153, v158, v159, v161, v162;
+    u8 v163, v165, v167, v168, v171, v172, v173, v174, v178, v179, v180, v182, v183, v184, v185, v190;
+    u8 v194, v197, v203, v206, v209, v212, v213, v224, v227, v229, v231, v232, v235, v236, v237, v238;
+    u8 v246, v248, v249, v251, v253, v259, v261, v297, v300, v302, v307, v308, v311, v313, v314, v319;
+    u8 v321, v323, v325, v346, v351, v352, v354, v355, v356, v358, v360, v361, v364, v365, v366, v367;
+    u8 v371, v372, v373, v375, v377, v379, v381, v402, v404;
+    u64 v14, v15, v16, v17, v18, v20, v21, v23, v26, v27, v32, v54, v64, v74, v77, v78;
+    u64 v86, v99, v105, v113, v123, v124, v134, v136, v138, v155, v157, v170, v176, v188, v189, v192;
+    u64 v200, v201, v202, v204, v205, v207, v210, v218, v222, v223, v228, v233, v234, v239, v240, v274;
+    u64 v294, v295, v296, v301, v306, v316, v317, v327, v329, v331, v348, v350, v363, v369, v401, v406;
+    u16 v19, v69, v70, v71, v72, v139, v140, v141, v142, v143, v144, v145, v146, v177, v186, v195;
+    u16 v196, v214, v215, v216, v217, v219, v241, v242, v243, v244, v254, v255, v256, v257, v262, v263;
+    u16 v264, v265, v266, v267, v268, v269, v273, v276, v277, v303, v304, v305, v332, v333, v334, v335;
+    u16 v336, v337, v338, v339, v370, v382, v383, v384, v385, v386, v387, v388, v389;
+    u32 v270, v271, v272;
+    u64 block0[3];
+    u64 block1[3];
+    u64 block2[4];
+    u64 block3[5];
+    u64 block4[3];
+    u64 block5[3];
+    u64 block6[4];
+    u64 block7[2];
+    u64 block8[6];
+    u64 block9[2];
+    u64 block10[2];
+    u64 block11[2];
+    u64 block12[324];
+    u64 block13[2];
+    u64 block14[4];
+    u64 block15[55];
+    v33 = ADDRESS(block0);
+    v34 = ADDRESS(block1);
+    v35 = ADDRESS(block2);
+    v36 = ADDRESS(block3);
+    v37 = ADDRESS(block4);
+    v38 = ADDRESS(block5);
+    v39 = ADDRESS(block6);
+    v40 = ADDRESS(block7);
+    v41 = ADDRESS(block8);
+    v42 = ADDRESS(block9);
+    v43 = ADDRESS(block10);
+    v44 = ADDRESS(block11);
+    v45 = ADDRESS(block12);
+    v46 = ADDRESS(block13);
+    v47 = ADDRESS(block14);
+    v48 = ADDRESS(block15);
+    v49 = a5 + 1u * 1u;
+    v50 = load8(v49);
+    v51 = a5 + 8u * 1u;
+    v52 = load_address(v51);
+    v53 = a5 + 16u * 1u;
+    v54 = load64(v53);
+    v55 = v46 + 8u * 1u;
+    v56 = v44 + 8u * 1u;
+    if (a6) { goto L1; }
+    else { goto L5; }
+L1:;
+    memory_set(v44, 0u, 16u);
+    memory_set(v46, 0u, 16u);
+    memory_set(v47, 0u, 32u);
+    memory_set(v48, 0u, 440u);
+    f8(v47, a3, a4);
+    v57 = load8(v47);
+    v58 = v57 == 0u;
+    if (v58) { goto L2; }
+    else { goto L3; }
+L2:;
+    v59 = v47 + 8u * 1u;
+    v60 = load_address(v59);
+    v61 = v47 + 24u * 1u;
+    v62 = load8(v61);
+    f44(v48, a1);
+    f48(v45, v48);
+    v63 = v60 + 20u * 1u;
+    v64 = load64(v63);
+    v65 = v60 + 28u * 1u;
+    v66 = load8(v65);
+    v67 = v60 + 29u * 1u;
+    v68 = load8(v67);
+    v69 = (u16)v66;
+    v70 = (u16)((u32)v69 << (8u & 15u));
+    v71 = (u16)v68;
+    v72 = (u16)((u32)v70 | (u32)v71);
+    v73 = v45 + 440u * 1u;
+    v74 = load64(v73);
+    v75 = v45 + 448u * 1u;
+    v76 = v45 + 2584u * 1u;
+    v77 = load64(v76);
+    v78 = (u64)((u64)v77 * (u64)2136u);
+    v79 = v75 + v78 * 1u;
+    memory_set(v79, 0u, 2096u);
+    v80 = v79 + 2096u * 1u;
+    store64(v80, v74);
+    v81 = v79 + 2104u * 1u;
+    store64(v81, v64);
+    v82 = v79 + 2112u * 1u;
+    store16(v82, v72);
+    v83 = v79 + 2114u * 1u;
+    memory_set(v83, 0u, 14u);
+    v84 = v79 + 2128u * 1u;
+    store8(v84, 7u);
+    v85 = v79 + 2129u * 1u;
+    v86 = (u64)((u64)v77 + (u64)1u);
+    memory_set(v85, 0u, 7u);
+    store64(v76, v86);
+    f49(v46, v45, a2, a3, a4, a7, a8);
+    f44(v48, a1);
+    memory_cpy(a1, v45, 440u);
+    v87 = load8(v46);
+    v88 = v46 + 1u * 1u;
+    v89 = load8(v88);
+    v90 = v87 != 5u;
+    v91 = (u8)((u32)v62 & (u32)253u);
+    v92 = v91 == 1u;
+    v93 = (u8)(((u32)v92 | (u32)v90) & UINT64_C(1));
+    v94 = v93 ? v89 : 0u;
+    v95 = v93 ? v87 : 9u;
+    v9 = v55; v10 = v95; v11 = v94; goto L4;
+L3:;
+    f47(v44, a1, a2, a3, a4, a7, a8);
+    v96 = load8(v44);
+    v97 = v44 + 1u * 1u;
+    v98 = load8(v97);
+    v9 = v56; v10 = v96; v11 = v98; goto L4;
+L4:;
+    v99 = load64(v9);
+    v30 = v10; v31 = v11; v32 = v99; goto L57;
+L5:;
+    v100 = load8(a5);
+    memory_set(v43, 0u, 16u);
+    switch (v100) {
+    case 0u: goto L6;
+    case 1u: goto L7;
+    case 2u: goto L11;
+    default: goto L55;
+    }
+L6:;
+    f47(v43, a1, a2, a3, a4, a7, a8);
+    v101 = load8(v43);
+    v102 = v43 + 1u * 1u;
+    v103 = load8(v102);
+    v104 = v43 + 8u * 1u;
+    v105 = load64(v104);
+    v27 = v105; v28 = v103; v29 = v101; goto L56;
+L7:;
+    memory_set(v42, 0u, 16u);
+    memory_set(v41, 0u, 48u);
+    f51(v41, a1, a3, a4);
+    v106 = load8(v41);
+    v107 = v106 == 1u;
+    if (v107) { goto L8; }
+    else { goto L9; }
+L8:;
+    v108 = v41 + 8u * 1u;
+    f55(a1, v108, v50);
+    f47(v42, a1, a2, a3, a4, a7, a8);
+    v12 = 5u; v13 = 0u; goto L10;
+L9:;
+    f47(v42, a1, a2, a3, a4, a7, a8);
+    v109 = load8(v42);
+    v110 = v42 + 1u * 1u;
+    v111 = load8(v110);
+    v12 = v109; v13 = v111; goto L10;
+L10:;
+    v112 = v42 + 8u * 1u;
+    v113 = load64(v112);
+    v27 = v113; v28 = v13; v29 = v12; goto L56;
+L11:;
+    memory_set(v40, 0u, 16u);
+    memory_set(v39, 0u, 32u);
+    f8(v39, a3, a4);
+    v114 = load8(v39);
+    v115 = v114 == 0u;
+    if (v115) { goto L12; }
+    else { goto L42; }
+L12:;
+    v116 = v39 + 8u * 1u;
+    memory_cpy(v38, v116, 24u);
+    v117 = v38 + 16u * 1u;
+    v118 = load8(v117);
+    v119 = v38 + 17u * 1u;
+    v120 = load8(v119);
+    v121 = v120 == 0u;
+    v122 = load_address(v38);
+    v123 = v121 ? 52u : 54u;
+    v124 = v121 ? 53u : 55u;
+    v125 = v122 + v123 * 1u;
+    v126 = load8(v125);
+    v127 = v122 + v124 * 1u;
+    v128 = load8(v127);
+    v129 = v122 + 42u * 1u;
+    v130 = load8(v129);
+    v131 = v122 + 43u * 1u;
+    v132 = load8(v131);
+    v133 = v38 + 8u * 1u;
+    v134 = load64(v133);
+    v135 = v122 + 54u * 1u;
+    v136 = (u64)((u64)v134 + (u64)UINT64_C(18446744073709551562));
+    v137 = v121 ? v135 : ADDRESS(c138);
+    v138 = v121 ? v136 : 0u;
+    v139 = (u16)v130;
+    v140 = (u16)((u32)v139 << (8u & 15u));
+    v141 = (u16)v132;
+    v142 = (u16)((u32)v140 | (u32)v141);
+    v143 = (u16)v126;
+    v144 = (u16)((u32)v143 << (8u & 15u));
+    v145 = (u16)v128;
+    v146 = (u16)((u32)v144 | (u32)v145);
+    store8(v37, v118);
+    v147 = v37 + 1u * 1u;
+    store8(v147, 0u);
+    v148 = v37 + 2u * 1u;
+    store16(v148, v146);
+    v149 = v37 + 4u * 1u;
+    store16(v149, v142);
+    v150 = v37 + 6u * 1u;
+    store16(v150, 0u);
+    v151 = v37 + 8u * 1u;
+    store_address(v151, v137);
+    v152 = v37 + 16u * 1u;
+    store64(v152, v138);
+    v153 = f60(v37);
+    if (v153) { goto L13; }
+    else { goto L19; }
+L13:;
+    v154 = v122 + 34u * 1u;
+    v155 = load64(v154);
+    v156 = a1 + 440u * 1u;
+    v157 = load64(v156);
+    v158 = load8(v122);
+    v159 = (u8)((u32)v158 >> (4u & 7u));
+    v160 = v122 + 5u * 1u;
+    v161 = load8(v160);
+    v162 = (u8)((u32)v159 | (u32)v161);
+    v163 = v162 == 0u;
+    if (v163) { goto L14; }
+    else { goto L19; }
+L14:;
+    v164 = v122 + 4u * 1u;
+    v165 = load8(v164);
+    v166 = a1 + 8u * 1u;
+    v167 = load8(v166);
+    v168 = v165 == v167;
+    if (v168) { goto L15; }
+    else { goto L19; }
+L15:;
+    v169 = v122 + 20u * 1u;
+    v170 = load64(v169);
+    v171 = v170 == v157;
+    if (v171) { goto L19; }
+    else { goto L16; }
+L16:;
+    v172 = v155 == v157;
+    v173 = v155 == UINT64_C(18446744073709551615);
+    v174 = (u8)(((u32)v173 | (u32)v172) & UINT64_C(1));
+    if (v174) { goto L17; }
+    else { goto L19; }
+L17:;
+    switch (v142) {
+    case 65535u: goto L20;
+    case 0u: goto L19;
+    default: goto L18;
+    }
+L18:;
+    v175 = a1 + 432u * 1u;
+    v176 = load64(v175);
+    v177 = (u16)(v176);
+    v178 = v142 > v177;
+    if (v178) { goto L19; }
+    else { goto L20; }
+L19:;
+    goto L42;
+L20:;
+    v179 = f61(a1, v38);
+    v180 = v179 == 0u;
+    if (v180) { goto L21; }
+    else { goto L42; }
+L21:;
+    if (v172) { v18 = 0u; v19 = v146; v20 = v170; v21 = v155; v22 = v165; goto L38; }
+    else { goto L22; }
+L22:;
+    v181 = v122 + 45u * 1u;
+    v182 = load8(v181);
+    v183 = v182 == 0u;
+    v184 = a2 == 0u;
+    v185 = (u8)(((u32)v184 | (u32)v183) & UINT64_C(1));
+    if (v185) { v18 = 0u; v19 = v146; v20 = v170; v21 = v157; v22 = v165; goto L38; }
+    else { goto L23; }
+L23:;
+    v186 = (u16)((u32)a2 + (u32)65535u);
+    v187 = a1 + 432u * 1u;
+    v188 = load64(v187);
+    v189 = (u64)v186;
+    v190 = v188 > v189;
+    if (v190) { goto L24; }
+    else { v18 = 0u; v19 = v146; v20 = v170; v21 = v157; v22 = v165; goto L38; }
+L24:;
+    v191 = a1 + 240u * 1u;
+    v192 = (u64)((u64)v189 * (u64)24u);
+    v193 = v191 + v192 * 1u;
+    v194 = load8(v193);
+    switch (v194) {
+    case 4u: goto L26;
+    case 5u: goto L26;
+    case 7u: goto L26;
+    case 8u: goto L26;
+    case 0u: v18 = 0u; v19 = v146; v20 = v170; v21 = v157; v22 = v165; goto L38;
+    case 1u: v18 = 0u; v19 = v146; v20 = v170; v21 = v157; v22 = v165; goto L38;
+    case 2u: v18 = 0u; v19 = v146; v20 = v170; v21 = v157; v22 = v165; goto L38;
+    case 3u: v18 = 0u; v19 = v146; v20 = v170; v21 = v157; v22 = v165; goto L38;
+    case 6u: v18 = 0u; v19 = v146; v20 = v170; v21 = v157; v22 = v165; goto L38;
+    default: goto L25;
+    }
+L25:;
+    UNREACHABLE;
+L26:;
+    v195 = (u16)(v188);
+    v196 = (u16)((u32)v195 + (u32)1u);
+    v197 = v196 > 1u;
+    if (v197) { goto L27; }
+    else { v18 = 0u; v19 = v146; v20 = v170; v21 = v157; v22 = v165; goto L38; }
+L27:;
+    v198 = a3 + 2u * 1u;
+    v199 = a3 + 3u * 1u;
+    v200 = (u64)a3;
+    v201 = (u64)a2;
+    v202 = (u64)v196;
+    v14 = 0u; v15 = 1u; goto L28;
+L28:;
+    v203 = v15 == v201;
+    if (v203) { v17 = v14; goto L36; }
+    else { goto L29; }
+L29:;
+    v204 = (u64)((u64)v15 + (u64)UINT64_C(18446744073709551615));
+    v205 = load64(v187);
+    v206 = v205 > v204;
+    if (v206) { goto L30; }
+    else { v17 = v14; goto L36; }
+L30:;
+    v207 = (u64)((u64)v204 * (u64)24u);
+    v208 = v191 + v207 * 1u;
+    v209 = load8(v208);
+    switch (v209) {
+    case 4u: goto L32;
+    case 5u: goto L32;
+    case 7u: goto L32;
+    case 8u: goto L32;
+    case 0u: v17 = v14; goto L36;
+    case 1u: v17 = v14; goto L36;
+    case 2u: v17 = v14; goto L36;
+    case 3u: v17 = v14; goto L36;
+    case 6u: v17 = v14; goto L36;
+    default: goto L31;
+    }
+L31:;
+    UNREACHABLE;
+L32:;
+    v210 = (u64)((u64)v14 * (u64)1476u);
+    v211 = a7 + v210 * 1u;
+    v212 = load8(v198);
+    v213 = load8(v199);
+    v214 = (u16)v212;
+    v215 = (u16)((u32)v214 << (8u & 15u));
+    v216 = (u16)v213;
+    v217 = (u16)((u32)v215 | (u32)v216);
+    v218 = (u64)v217;
+    v219 = (u16)(v15);
+    store16(v211, v219);
+    v220 = v211 + 2u * 1u;
+    store16(v220, v217);
+    v221 = v211 + 4u * 1u;
+    v222 = (u64)v221;
+    v223 = (u64)((u64)v222 - (u64)v200);
+    v224 = v223 < v218;
+    if (v224) { v16 = 0u; goto L34; }
+    else { goto L33; }
+L33:;
+    memory_move(v221, a3, v218);
+    goto L35;
+L34:;
+    v225 = v221 + v16 * 1u;
+    v226 = a3 + v16 * 1u;
+    v227 = load8(v226);
+    store8(v225, v227);
+    v228 = (u64)((u64)v16 + (u64)1u);
+    v229 = v228 == v218;
+    if (v229) { goto L35; }
+    else { v16 = v228; goto L34; }
+L35:;
+    v230 = v211 + 49u * 1u;
+    v231 = load8(v230);
+    v232 = (u8)((u32)v231 + (u32)255u);
+    store8(v230, v232);
+    v233 = (u64)((u64)v14 + (u64)1u);
+    v17 = v233; goto L36;
+L36:;
+    v234 = (u64)((u64)v15 + (u64)1u);
+    v235 = v234 == v202;
+    if (v235) { goto L37; }
+    else { v14 = v17; v15 = v234; goto L28; }
+L37:;
+    v236 = load8(v125);
+    v237 = load8(v127);
+    v238 = load8(v164);
+    v239 = load64(v156);
+    v240 = load64(v169);
+    v241 = (u16)v236;
+    v242 = (u16)((u32)v241 << (8u & 15u));
+    v243 = (u16)v237;
+    v244 = (u16)((u32)v242 | (u32)v243);
+    v18 = v17; v19 = v244; v20 = v240; v21 = v239; v22 = v238; goto L38;
+L38:;
+    v245 = v122 + 44u * 1u;
+    v246 = load8(v245);
+    v247 = v122 + 45u * 1u;
+    v248 = load8(v247);
+    v249 = v246 > v248 ? (u8)((u32)v246 - (u32)v248) : 0u;
+    v250 = v122 + 30u * 1u;
+    v251 = load8(v250);
+    v252 = v122 + 31u * 1u;
+    v253 = load8(v252);
+    v254 = (u16)v251;
+    v255 = (u16)((u32)v254 << (8u & 15u));
+    v256 = (u16)v253;
+    v257 = (u16)((u32)v255 | (u32)v256);
+    v258 = v122 + 28u * 1u;
+    v259 = load8(v258);
+    v260 = v122 + 29u * 1u;
+    v261 = load8(v260);
+    v262 = (u16)v259;
+    v263 = (u16)((u32)v262 << (8u & 15u));
+    v264 = (u16)v261;
+    v265 = (u16)((u32)v263 | (u32)v264);
+    v266 = (u16)v22;
+    v267 = swap16(a2);
+    v268 = swap16(v257);
+    v269 = swap16(v265);
+    v270 = (u32)v249;
+    v271 = (u32)((u32)v270 * (u32)257u);
+    v272 = (u32)((u32)v271 | (u32)UINT32_C(131072));
+    v273 = swap16(v19);
+    v274 = (u64)((u64)v18 * (u64)1476u);
+    v275 = a7 + v274 * 1u;
+    store16(v275, a2);
+    v276 = (u16)(v54);
+    v277 = (u16)((u32)v276 + (u32)54u);
+    v278 = v275 + 2u * 1u;
+    store16(v278, v277);
+    v279 = v275 + 4u * 1u;
+    v280 = v275 + 58u * 1u;
+    store16(v279, 4621u);
+    v281 = v275 + 6u * 1u;
+    store16(v281, 13824u);
+    v282 = v275 + 8u * 1u;
+    store16(v282, v266);
+    v283 = v275 + 10u * 1u;
+    memory_set(v283, 0u, 14u);
+    v284 = v275 + 24u * 1u;
+    store64(v284, v21);
+    v285 = v275 + 32u * 1u;
+    store16(v285, v267);
+    v286 = v275 + 34u * 1u;
+    store16(v286, v268);
+    v287 = v275 + 36u * 1u;
+    store16(v287, 32516u);
+    v288 = v275 + 38u * 1u;
+    store64(v288, v20);
+    v289 = v275 + 46u * 1u;
+    store16(v289, v269);
+    v290 = v275 + 48u * 1u;
+    store32(v290, v272);
+    v291 = v275 + 52u * 1u;
+    store16(v291, 256u);
+    v292 = v275 + 54u * 1u;
+    store16(v292, 512u);
+    v293 = v275 + 56u * 1u;
+    store16(v293, v273);
+    v294 = (u64)v280;
+    v295 = (u64)v52;
+    v296 = (u64)((u64)v294 - (u64)v295);
+    v297 = v296 < v54;
+    if (v297) { v23 = 0u; goto L40; }
+    else { goto L39; }
+L39:;
+    memory_move(v280, v52, v54);
+    goto L41;
+L40:;
+    v298 = v280 + v23 * 1u;
+    v299 = v52 + v23 * 1u;
+    v300 = load8(v299);
+    store8(v298, v300);
+    v301 = (u64)((u64)v23 + (u64)1u);
+    v302 = v301 == v54;
+    if (v302) { goto L41; }
+    else { v23 = v301; goto L40; }
+L41:;
+    v303 = swap16(v277);
+    store16(v281, v303);
+    store16(v285, v267);
+    v304 = (u16)((u32)v276 + (u32)2u);
+    v305 = swap16(v304);
+    store16(v292, v305);
+    v306 = (u64)((u64)v18 + (u64)1u);
+    v24 = 9u; v25 = 0u; v26 = v306; goto L54;
+L42:;
+    memory_set(v35, 0u, 32u);
+    f8(v35, a3, a4);
+    v307 = load8(v35);
+    v308 = v307 == 0u;
+    if (v308) { goto L43; }
+    else { goto L53; }
+L43:;
+    v309 = v35 + 8u * 1u;
+    memory_cpy(v34, v309, 24u);
+    v310 = v34 + 16u * 1u;
+    v311 = load8(v310);
+    v312 = v34 + 17u * 1u;
+    v313 = load8(v312);
+    v314 = v313 == 0u;
+    v315 = load_address(v34);
+    v316 = v314 ? 52u : 54u;
+    v317 = v314 ? 53u : 55u;
+    v318 = v315 + v316 * 1u;
+    v319 = load8(v318);
+    v320 = v315 + v317 * 1u;
+    v321 = load8(v320);
+    v322 = v315 + 42u * 1u;
+    v323 = load8(v322);
+    v324 = v315 + 43u * 1u;
+    v325 = load8(v324);
+    v326 = v34 + 8u * 1u;
+    v327 = load64(v326);
+    v328 = v315 + 54u * 1u;
+    v329 = (u64)((u64)v327 + (u64)UINT64_C(18446744073709551562));
+    v330 = v314 ? v328 : ADDRESS(c138);
+    v331 = v314 ? v329 : 0u;
+    v332 = (u16)v323;
+    v333 = (u16)((u32)v332 << (8u & 15u));
+    v334 = (u16)v325;
+    v335 = (u16)((u32)v333 | (u32)v334);
+    v336 = (u16)v319;
+    v337 = (u16)((u32)v336 << (8u & 15u));
+    v338 = (u16)v321;
+    v339 = (u16)((u32)v337 | (u32)v338);
+    store8(v33, v311);
+    v340 = v33 + 1u * 1u;
+    store8(v340, 0u);
+    v341 = v33 + 2u * 1u;
+    store16(v341, v339);
+    v342 = v33 + 4u * 1u;
+    store16(v342, v335);
+    v343 = v33 + 6u * 1u;
+    store16(v343, 0u);
+    v344 = v33 + 8u * 1u;
+    store_address(v344, v330);
+    v345 = v33 + 16u * 1u;
+    store64(v345, v331);
+    v346 = f60(v33);
+    if (v346) { goto L44; }
+    else { goto L50; }
+L44:;
+    v347 = v315 + 34u * 1u;
+    v348 = load64(v347);
+    v349 = a1 + 440u * 1u;
+    v350 = load64(v349);
+    v351 = load8(v315);
+    v352 = (u8)((u32)v351 >> (4u & 7u));
+    v353 = v315 + 5u * 1u;
+    v354 = load8(v353);
+    v355 = (u8)((u32)v352 | (u32)v354);
+    v356 = v355 == 0u;
+    if (v356) { goto L45; }
+    else { goto L50; }
+L45:;
+    v357 = v315 + 4u * 1u;
+    v358 = load8(v357);
+    v359 = a1 + 8u * 1u;
+    v360 = load8(v359);
+    v361 = v358 == v360;
+    if (v361) { goto L46; }
+    else { goto L50; }
+L46:;
+    v362 = v315 + 20u * 1u;
+    v363 = load64(v362);
+    v364 = v363 == v350;
+    if (v364) { goto L50; }
+    else { goto L47; }
+L47:;
+    v365 = v348 == v350;
+    v366 = v348 == UINT64_C(18446744073709551615);
+    v367 = (u8)(((u32)v366 | (u32)v365) & UINT64_C(1));
+    if (v367) { goto L48; }
+    else { goto L50; }
+L48:;
+    switch (v335) {
+    case 65535u: goto L51;
+    case 0u: goto L50;
+    default: goto L49;
+    }
+L49:;
+    v368 = a1 + 432u * 1u;
+    v369 = load64(v368);
+    v370 = (u16)(v369);
+    v371 = v335 > v370;
+    if (v371) { goto L50; }
+    else { goto L51; }
+L50:;
+    goto L53;
+L51:;
+    v372 = f61(a1, v34);
+    v373 = v372 == 1u;
+    if (v373) { goto L52; }
+    else { goto L53; }
+L52:;
+    v374 = v315 + 28u * 1u;
+    v375 = load8(v374);
+    v376 = v315 + 29u * 1u;
+    v377 = load8(v376);
+    v378 = v315 + 30u * 1u;
+    v379 = load8(v378);
+    v380 = v315 + 31u * 1u;
+    v381 = load8(v380);
+    v382 = (u16)v379;
+    v383 = (u16)((u32)v382 << (8u & 15u));
+    v384 = (u16)v381;
+    v385 = (u16)((u32)v383 | (u32)v384);
+    v386 = (u16)v375;
+    v387 = (u16)((u32)v386 << (8u & 15u));
+    v388 = (u16)v377;
+    v389 = (u16)((u32)v387 | (u32)v388);
+    store64(v36, v363);
+    v390 = v36 + 8u * 1u;
+    store16(v390, v389);
+    v391 = v36 + 10u * 1u;
+    store16(v391, v385);
+    v392 = v36 + 12u * 1u;
+    store32(v392, 0u);
+    v393 = v36 + 16u * 1u;
+    store8(v393, v311);
+    v394 = v36 + 17u * 1u;
+    store8(v394, 0u);
+    v395 = v36 + 18u * 1u;
+    store16(v395, v339);
+    v396 = v36 + 20u * 1u;
+    store16(v396, v335);
+    v397 = v36 + 22u * 1u;
+    store16(v397, 0u);
+    v398 = v36 + 24u * 1u;
+    store_address(v398, v330);
+    v399 = v36 + 32u * 1u;
+    store64(v399, v331);
+    f62(a1, v36, v52, v54);
+    f47(v40, a1, a2, a3, a4, a7, a8);
+    v400 = v40 + 8u * 1u;
+    v401 = load64(v400);
+    v24 = 5u; v25 = 0u; v26 = v401; goto L54;
+L53:;
+    f47(v40, a1, a2, a3, a4, a7, a8);
+    v402 = load8(v40);
+    v403 = v40 + 1u * 1u;
+    v404 = load8(v403);
+    v405 = v40 + 8u * 1u;
+    v406 = load64(v405);
+    v24 = v402; v25 = v404; v26 = v406; goto L54;
+L54:;
+    v27 = v26; v28 = v25; v29 = v24; goto L56;
+L55:;
+    UNREACHABLE;
+L56:;
+    v30 = v29; v31 = v28; v32 = v27; goto L57;
+L57:;
+    store8(a0, v30);
+    v407 = a0 + 1u * 1u;
+    store8(v407, v31);
+    v408 = a0 + 8u * 1u;
+    store64(v408, v32);
+    return;
+}
+
+static void f47(address a0, address a1, u16 a2, address a3, u64 a4, address a5, u64 a6) {
+    u16 v7, v47, v48, v49, v50, v57, v58, v59, v69, v70, v71, v72, v78, v82, v88, v89;
+    u16 v90, v91, v107, v108, v109, v110, v134, v149, v160;
+    u64 v8, v10, v11, v13, v42, v52, v61, v64, v77, v95, v96, v102, v104, v106, v127, v132;
+    u64 v137, v145, v153, v155, v158, v168, v169, v171;
+    address v9, v12, v14, v18, v19, v20, v21, v22, v23, v24, v27, v28, v31, v35, v37, v41;
+    address v43, v45, v51, v53, v55, v60, v63, v65, v67, v76, v80, v83, v84, v86, v92, v97;
+    address v99, v101, v103, v105, v111, v112, v113, v114, v115, v116, v119, v122, v124, v126, v129, v130;
+    address v131, v133, v136, v140, v144, v147, v148, v152, v156, v157, v159, v161, v162, v163, v164, v165;
+    address v166, v167, v172, v173;
+    u8 v15, v16, v17, v25, v26, v29, v30, v32, v33, v34, v36, v38, v39, v40, v44, v46;
+    u8 v54, v56, v62, v66, v68, v73, v74, v75, v79, v81, v85, v87, v93, v94, v98, v100;
+    u8 v118, v120, v121, v123, v125, v128, v135, v138, v139, v141, v142, v143, v146, v150, v151, v154;
+    u8 v170;
+    struct s1 v117;
+    u64 block0[2];
+    u64 block1[3];
+    u64 block2[3];
+    u64 block3[4];
+    u64 block4[3];
+    v18 = ADDRESS(block0);
+    v19 = ADDRESS(block1);
+    v20 = ADDRESS(block2);
+    v21 = ADDRESS(block3);
+    v22 = ADDRESS(block4);
+    store_address(v22, a5);
+    v23 = v22 + 8u * 1u;
+    store64(v23, a6);
+    v24 = v22 + 16u * 1u;
+    store64(v24, 0u);
+    memory_set(v21, 0u, 32u);
+    f8(v21, a3, a4);
+    v25 = load8(v21);
+    v26 = v25 == 0u;
+    if (v26) { goto L1; }
+    else { goto L17; }
+L1:;
+    v27 = v21 + 8u * 1u;
+    memory_cpy(v20, v27, 24u);
+    v28 = load_address(v20);
+    v29 = load8(v28);
+    v30 = (u8)((u32)v29 >> (4u & 7u));
+    v31 = v28 + 5u * 1u;
+    v32 = load8(v31);
+    v33 = (u8)((u32)v30 | (u32)v32);
+    v34 = v33 == 0u;
+    if (v34) { goto L2; }
+    else { v15 = 1u; goto L35; }
+L2:;
+    v35 = v28 + 4u * 1u;
+    v36 = load8(v35);
+    v37 = a1 + 8u * 1u;
+    v38 = load8(v37);
+    v39 = v36 == v38;
+    if (v39) { goto L5; }
+    else { goto L3; }
+L3:;
+    v40 = f16(a1, v20);
+    if (v40) { goto L4; }
+    else { v15 = 1u; goto L35; }
+L4:;
+    v41 = v28 + 20u * 1u;
+    v42 = load64(v41);
+    v43 = v28 + 28u * 1u;
+    v44 = load8(v43);
+    v45 = v28 + 29u * 1u;
+    v46 = load8(v45);
+    v47 = (u16)v44;
+    v48 = (u16)((u32)v47 << (8u & 15u));
+    v49 = (u16)v46;
+    v50 = (u16)((u32)v48 | (u32)v49);
+    v7 = v50; v8 = v42; goto L19;
+L5:;
+    v51 = v28 + 20u * 1u;
+    v52 = load64(v51);
+    v53 = v28 + 28u * 1u;
+    v54 = load8(v53);
+    v55 = v28 + 29u * 1u;
+    v56 = load8(v55);
+    v57 = (u16)v54;
+    v58 = (u16)((u32)v57 << (8u & 15u));
+    v59 = (u16)v56;
+    v60 = a1 + 440u * 1u;
+    v61 = load64(v60);
+    v62 = v52 == v61;
+    if (v62) { v15 = 2u; goto L35; }
+    else { goto L6; }
+L6:;
+    v63 = v28 + 34u * 1u;
+    v64 = load64(v63);
+    v65 = v28 + 42u * 1u;
+    v66 = load8(v65);
+    v67 = v28 + 43u * 1u;
+    v68 = load8(v67);
+    v69 = (u16)v66;
+    v70 = (u16)((u32)v69 << (8u & 15u));
+    v71 = (u16)v68;
+    v72 = (u16)((u32)v70 | (u32)v71);
+    v73 = v64 == v61;
+    v74 = v64 == UINT64_C(18446744073709551615);
+    v75 = (u8)(((u32)v74 | (u32)v73) & UINT64_C(1));
+    if (v75) { goto L7; }
+    else { v15 = 3u; goto L35; }
+L7:;
+    switch (v72) {
+    case 65535u: goto L9;
+    case 0u: v15 = 3u; goto L35;
+    default: goto L8;
+    }
+L8:;
+    v76 = a1 + 432u * 1u;
+    v77 = load64(v76);
+    v78 = (u16)(v77);
+    v79 = v72 > v78;
+    if (v79) { v15 = 3u; goto L35; }
+    else { goto L9; }
+L9:;
+    v80 = v20 + 16u * 1u;
+    v81 = load8(v80);
+    switch (v81) {
+    case 2u: v15 = 4u; goto L35;
+    case 4u: v15 = 4u; goto L35;
+    case 0u: goto L11;
+    case 1u: goto L11;
+    case 3u: goto L11;
+    default: goto L10;
+    }
+L10:;
+    UNREACHABLE;
+L11:;
+    if (v73) { goto L13; }
+    else { goto L12; }
+L12:;
+    v15 = 9u; goto L35;
+L13:;
+    v82 = (u16)((u32)v58 | (u32)v59);
+    store64(v18, v52);
+    v83 = v18 + 8u * 1u;
+    store16(v83, v82);
+    v84 = v28 + 30u * 1u;
+    v85 = load8(v84);
+    v86 = v28 + 31u * 1u;
+    v87 = load8(v86);
+    v88 = (u16)v85;
+    v89 = (u16)((u32)v88 << (8u & 15u));
+    v90 = (u16)v87;
+    v91 = (u16)((u32)v89 | (u32)v90);
+    v92 = v20 + 17u * 1u;
+    v93 = load8(v92);
+    v94 = v93 == 0u;
+    v95 = v94 ? 52u : 54u;
+    v96 = v94 ? 53u : 55u;
+    v97 = v28 + v95 * 1u;
+    v98 = load8(v97);
+    v99 = v28 + v96 * 1u;
+    v100 = load8(v99);
+    v101 = v20 + 8u * 1u;
+    v102 = load64(v101);
+    v103 = v28 + 54u * 1u;
+    v104 = (u64)((u64)v102 + (u64)UINT64_C(18446744073709551562));
+    v105 = v94 ? v103 : ADDRESS(c138);
+    v106 = v94 ? v104 : 0u;
+    v107 = (u16)v98;
+    v108 = (u16)((u32)v107 << (8u & 15u));
+    v109 = (u16)v100;
+    v110 = (u16)((u32)v108 | (u32)v109);
+    store8(v19, v81);
+    v111 = v19 + 1u * 1u;
+    store8(v111, 0u);
+    v112 = v19 + 2u * 1u;
+    store16(v112, v110);
+    v113 = v19 + 4u * 1u;
+    store16(v113, v72);
+    v114 = v19 + 6u * 1u;
+    store16(v114, 0u);
+    v115 = v19 + 8u * 1u;
+    store_address(v115, v105);
+    v116 = v19 + 16u * 1u;
+    store64(v116, v106);
+    v117 = f18(v60, v18, v91, v19);
+    v118 = v117.m0;
+    switch (v118) {
+    case 0u: v15 = 9u; goto L35;
+    case 1u: goto L18;
+    case 2u: v7 = v82; v8 = v52; goto L19;
+    case 3u: goto L14;
+    case 4u: goto L15;
+    default: goto L16;
+    }
+L14:;
+    v15 = 8u; goto L35;
+L15:;
+    v15 = 7u; goto L35;
+L16:;
+    UNREACHABLE;
+L17:;
+    v119 = v21 + 1u * 1u;
+    v120 = load8(v119);
+    v16 = v120; v17 = 0u; goto L36;
+L18:;
+    v121 = v117.m1;
+    f22(a1, a2, v27, v121, v22);
+    v16 = 0u; v17 = 5u; goto L36;
+L19:;
+    v122 = v28 + 44u * 1u;
+    v123 = load8(v122);
+    v124 = v28 + 45u * 1u;
+    v125 = load8(v124);
+    v126 = a1 + 456u * 1u;
+    v127 = load64(v126);
+    v128 = v127 == 0u;
+    if (v128) { goto L24; }
+    else { goto L20; }
+L20:;
+    v129 = a1 + 448u * 1u;
+    v130 = load_address(v129);
+    v9 = v130; v10 = v127; goto L21;
+L21:;
+    v131 = v9 + 2136u * 1u;
+    v132 = (u64)((u64)v10 + (u64)UINT64_C(18446744073709551615));
+    v133 = v9 + 2112u * 1u;
+    v134 = load16(v133);
+    v135 = v7 == v134;
+    if (v135) { goto L22; }
+    else { goto L23; }
+L22:;
+    v136 = v9 + 2104u * 1u;
+    v137 = load64(v136);
+    v138 = v8 == v137;
+    if (v138) { goto L25; }
+    else { goto L23; }
+L23:;
+    v139 = v132 == 0u;
+    if (v139) { goto L24; }
+    else { v9 = v131; v10 = v132; goto L21; }
+L24:;
+    TRAP;
+    UNREACHABLE;
+L25:;
+    v140 = v9 + 2121u * 1u;
+    v141 = load8(v140);
+    v142 = (u8)((v141) & UINT64_C(1));
+    v143 = v123 > v125 ? (u8)((u32)v123 - (u32)v125) : 0u;
+    v144 = v9 + 1440u * 1u;
+    v145 = load64(v144);
+    v146 = v145 == 0u;
+    if (v146) { v16 = 0u; v17 = 6u; goto L36; }
+    else { goto L26; }
+L26:;
+    v147 = v9 + 1448u * 1u;
+    v148 = v9 + 1432u * 1u;
+    v149 = (u16)((u32)a2 >> (8u & 15u));
+    v150 = (u8)(v149);
+    v151 = (u8)(a2);
+    v11 = 0u; v12 = v147; v13 = v145; v14 = v148; goto L27;
+L27:;
+    v152 = v14 + 1u * 1u;
+    v153 = (u64)((u64)v13 + (u64)UINT64_C(18446744073709551615));
+    v154 = load8(v14);
+    v155 = (u64)v154;
+    v156 = v12 + v155 * 1u;
+    v157 = load_address(v22);
+    v158 = (u64)((u64)v11 * (u64)1476u);
+    v159 = v157 + v158 * 1u;
+    store16(v159, a2);
+    v160 = (u16)v154;
+    v161 = v159 + 2u * 1u;
+    store16(v161, v160);
+    v162 = v159 + 4u * 1u;
+    switch (v154) {
+    case 54u: goto L28;
+    case 56u: goto L29;
+    case 80u: goto L30;
+    default: goto L31;
+    }
+L28:;
+    memory_move(v162, v12, 54u);
+    goto L32;
+L29:;
+    memory_move(v162, v12, 56u);
+    goto L32;
+L30:;
+    memory_move(v162, v12, 80u);
+    goto L32;
+L31:;
+    f34(v162, v12, v155);
+    goto L32;
+L32:;
+    v163 = v159 + 8u * 1u;
+    store8(v163, v36);
+    if (v142) { goto L34; }
+    else { goto L33; }
+L33:;
+    v164 = v159 + 32u * 1u;
+    store8(v164, v150);
+    v165 = v159 + 33u * 1u;
+    store8(v165, v151);
+    goto L34;
+L34:;
+    v166 = v159 + 48u * 1u;
+    store8(v166, v143);
+    v167 = v159 + 49u * 1u;
+    store8(v167, v143);
+    v168 = load64(v24);
+    v169 = (u64)((u64)v168 + (u64)1u);
+    store64(v24, v169);
+    v170 = v153 == 0u;
+    if (v170) { v16 = 0u; v17 = 6u; goto L36; }
+    else { v11 = v169; v12 = v156; v13 = v153; v14 = v152; goto L27; }
+L35:;
+    f38(a1, v15, a2, a3, v27, v22);
+    v16 = 0u; v17 = v15; goto L36;
+L36:;
+    v171 = load64(v24);
+    store8(a0, v17);
+    v172 = a0 + 1u * 1u;
+    store8(v172, v16);
+    v173 = a0 + 8u * 1u;
+    store64(v173, v171);
+    return;
+}
+
+static void f48(address a0, address a1) {
+    address v2, v4, v5, v6, v7;
+    u64 v3;
+    u64 block0[54];
+    v2 = ADDRESS(block0);
+    v3 = load64(a1);
+    v4 = a1 + 8u * 1u;
+    memory_cpy(v2, v4, 432u);
+    store64(a0, v3);
+    v5 = a0 + 8u * 1u;
+    memory_cpy(v5, v2, 432u);
+    v6 = a0 + 440u * 1u;
+    store64(v6, v3);
+    v7 = a0 + 448u * 1u;
+    memory_set(v7, 0u, 2144u);
+    return;
+}
+
+static void f49(address a0, address a1, u16 a2, address a3, u64 a4, address a5, u64 a6) {
+    address v7, v9, v15, v18, v20, v27, v28, v29, v30, v31, v32, v33, v34, v35, v36, v37;
+    address v38, v41, v42, v43, v45, v47, v51, v55, v57, v60, v62, v64, v69, v72, v74, v76;
+    address v85, v90, v92, v101, v103, v105, v107, v113, v114, v115, v116, v117, v118, v119, v122, v123;
+    address v125, v128, v132, v135, v137, v139, v141, v143, v145, v146, v147, v148, v149, v150, v153, v155;
+    address v157, v166, v171, v172, v174, v183, v185, v187, v189, v195, v196, v197, v198, v199, v200, v203;
+    address v205, v208, v210, v212, v213, v214, v215, v216, v217, v218, v219, v220, v221, v225, v226, v227;
+    address v229, v231, v233, v234, v235, v237, v238, v243, v245, v247, v248, v251, v253, v256, v262, v263;
+    address v264, v265, v266, v267, v269, v278, v279, v283, v284, v285, v288, v289, v292, v294, v295, v298;
+    address v301, v303, v306, v307, v309, v312, v316, v320, v323, v324, v328, v332, v333, v335, v337, v338;
+    address v339, v340, v341, v342, v343, v347, v348, v351, v353, v356, v359, v365, v369, v371, v376, v378;
+    address v380, v382, v384, v386, v396, v397, v398, v399, v400, v401, v402, v404, v406, v408, v414, v416;
+    address v422, v424, v426, v427, v428, v433, v434, v435, v437, v439, v441, v442, v443, v445, v446, v451;
+    address v453, v455, v456;
+    u64 v8, v10, v11, v12, v14, v16, v17, v19, v21, v44, v61, v70, v73, v86, v99, v100;
+    u64 v106, v108, v120, v124, v129, v144, v154, v167, v181, v182, v188, v190, v204, v249, v252, v257;
+    u64 v259, v261, v270, v274, v275, v276, v281, v286, v291, v296, v299, v308, v313, v321, v329, v331;
+    u64 v334, v344, v345, v349, v357, v366, v367, v370, v374, v375, v385, v387, v405, v429, v454;
+    u16 v13, v66, v67, v68, v78, v79, v80, v81, v87, v89, v94, v95, v96, v97, v109, v110;
+    u16 v111, v112, v126, v136, v140, v142, v159, v160, v161, v162, v168, v170, v176, v177, v178, v179;
+    u16 v191, v192, v193, v194, v228, v230, v232, v236, v244, v254, v290, v310, v325, v336, v364, v388;
+    u16 v389, v390, v391, v392, v393, v394, v395, v410, v411, v412, v413, v418, v419, v420, v421, v436;
+    u16 v438, v440, v444, v452;
+    u8 v22, v23, v24, v25, v26, v39, v40, v46, v48, v49, v50, v52, v53, v54, v56, v58;
+    u8 v59, v63, v65, v71, v75, v77, v82, v83, v84, v88, v91, v93, v98, v102, v104, v121;
+    u8 v127, v130, v131, v133, v134, v138, v151, v152, v156, v158, v163, v164, v165, v169, v173, v175;
+    u8 v180, v184, v186, v202, v206, v207, v209, v211, v222, v224, v246, v250, v255, v258, v260, v268;
+    u8 v271, v272, v273, v277, v280, v282, v287, v293, v297, v300, v302, v304, v305, v311, v314, v315;
+    u8 v317, v318, v319, v322, v326, v327, v330, v346, v350, v352, v354, v355, v358, v360, v361, v362;
+    u8 v363, v368, v372, v373, v377, v379, v381, v383, v403, v407, v409, v415, v417, v423, v425, v430;
+    u8 v432;
+    struct s1 v201;
+    u32 v223, v239, v240, v241, v242, v431, v447, v448, v449, v450;
+    u64 block0[3];
+    u64 block1[9];
+    u64 block2[3];
+    u64 block3[9];
+    u64 block4[3];
+    u64 block5[3];
+    u64 block6[2];
+    u64 block7[3];
+    u64 block8[4];
+    u64 block9[3];
+    v27 = ADDRESS(block0);
+    v28 = ADDRESS(block1);
+    v29 = ADDRESS(block2);
+    v30 = ADDRESS(block3);
+    v31 = ADDRESS(block4);
+    v32 = ADDRESS(block5);
+    v33 = ADDRESS(block6);
+    v34 = ADDRESS(block7);
+    v35 = ADDRESS(block8);
+    v36 = ADDRESS(block9);
+    store_address(v36, a5);
+    v37 = v36 + 8u * 1u;
+    store64(v37, a6);
+    v38 = v36 + 16u * 1u;
+    store64(v38, 0u);
+    memory_set(v35, 0u, 32u);
+    f8(v35, a3, a4);
+    v39 = load8(v35);
+    v40 = v39 == 0u;
+    if (v40) { goto L1; }
+    else { goto L33; }
+L1:;
+    v41 = v35 + 8u * 1u;
+    v42 = load_address(v41);
+    v43 = v35 + 16u * 1u;
+    v44 = load64(v43);
+    v45 = v35 + 24u * 1u;
+    v46 = load8(v45);
+    v47 = v35 + 25u * 1u;
+    v48 = load8(v47);
+    v49 = load8(v42);
+    v50 = (u8)((u32)v49 >> (4u & 7u));
+    v51 = v42 + 5u * 1u;
+    v52 = load8(v51);
+    v53 = (u8)((u32)v50 | (u32)v52);
+    v54 = v53 == 0u;
+    if (v54) { goto L3; }
+    else { goto L2; }
+L2:;
+    v24 = 1u; goto L82;
+L3:;
+    v55 = v42 + 4u * 1u;
+    v56 = load8(v55);
+    v57 = a1 + 8u * 1u;
+    v58 = load8(v57);
+    v59 = v56 == v58;
+    v60 = v42 + 20u * 1u;
+    v61 = load64(v60);
+    v62 = v42 + 28u * 1u;
+    v63 = load8(v62);
+    v64 = v42 + 29u * 1u;
+    v65 = load8(v64);
+    v66 = (u16)v63;
+    v67 = (u16)((u32)v66 << (8u & 15u));
+    v68 = (u16)v65;
+    v69 = a1 + 440u * 1u;
+    v70 = load64(v69);
+    v71 = v61 == v70;
+    if (v59) { goto L20; }
+    else { goto L4; }
+L4:;
+    if (v71) { v21 = v61; v22 = 0u; v23 = 1u; goto L72; }
+    else { goto L5; }
+L5:;
+    v72 = v42 + 34u * 1u;
+    v73 = load64(v72);
+    v74 = v42 + 42u * 1u;
+    v75 = load8(v74);
+    v76 = v42 + 43u * 1u;
+    v77 = load8(v76);
+    v78 = (u16)v75;
+    v79 = (u16)((u32)v78 << (8u & 15u));
+    v80 = (u16)v77;
+    v81 = (u16)((u32)v79 | (u32)v80);
+    v82 = v73 == v70;
+    v83 = v73 == UINT64_C(18446744073709551615);
+    v84 = (u8)(((u32)v83 | (u32)v82) & UINT64_C(1));
+    if (v84) { goto L6; }
+    else { v21 = v70; v22 = 0u; v23 = 1u; goto L72; }
+L6:;
+    switch (v81) {
+    case 65535u: goto L8;
+    case 0u: v21 = v70; v22 = 0u; v23 = 1u; goto L72;
+    default: goto L7;
+    }
+L7:;
+    v85 = a1 + 432u * 1u;
+    v86 = load64(v85);
+    v87 = (u16)(v86);
+    v88 = v81 > v87;
+    if (v88) { v21 = v70; v22 = 0u; v23 = 1u; goto L72; }
+    else { goto L8; }
+L8:;
+    switch (v46) {
+    case 2u: v21 = v70; v22 = 0u; v23 = 1u; goto L72;
+    case 4u: v21 = v70; v22 = 0u; v23 = 1u; goto L72;
+    case 0u: goto L10;
+    case 1u: goto L10;
+    case 3u: goto L10;
+    default: goto L9;
+    }
+L9:;
+    UNREACHABLE;
+L10:;
+    if (v82) { goto L12; }
+    else { goto L11; }
+L11:;
+    v21 = v70; v22 = 0u; v23 = 1u; goto L72;
+L12:;
+    v89 = (u16)((u32)v67 | (u32)v68);
+    v90 = v42 + 30u * 1u;
+    v91 = load8(v90);
+    v92 = v42 + 31u * 1u;
+    v93 = load8(v92);
+    v94 = (u16)v91;
+    v95 = (u16)((u32)v94 << (8u & 15u));
+    v96 = (u16)v93;
+    v97 = (u16)((u32)v95 | (u32)v96);
+    v98 = v48 == 0u;
+    v99 = v98 ? 52u : 54u;
+    v100 = v98 ? 53u : 55u;
+    v101 = v42 + v99 * 1u;
+    v102 = load8(v101);
+    v103 = v42 + v100 * 1u;
+    v104 = load8(v103);
+    v105 = v42 + 54u * 1u;
+    v106 = (u64)((u64)v44 + (u64)UINT64_C(18446744073709551562));
+    v107 = v98 ? v105 : ADDRESS(c138);
+    v108 = v98 ? v106 : 0u;
+    v109 = (u16)v102;
+    v110 = (u16)((u32)v109 << (8u & 15u));
+    v111 = (u16)v104;
+    v112 = (u16)((u32)v110 | (u32)v111);
+    store8(v32, v46);
+    v113 = v32 + 1u * 1u;
+    store8(v113, 0u);
+    v114 = v32 + 2u * 1u;
+    store16(v114, v112);
+    v115 = v32 + 4u * 1u;
+    store16(v115, v81);
+    v116 = v32 + 6u * 1u;
+    store16(v116, 0u);
+    v117 = v32 + 8u * 1u;
+    store_address(v117, v107);
+    v118 = v32 + 16u * 1u;
+    store64(v118, v108);
+    v119 = a1 + 2584u * 1u;
+    v120 = load64(v119);
+    v121 = v120 == 0u;
+    if (v121) { goto L18; }
+    else { goto L13; }
+L13:;
+    v122 = a1 + 448u * 1u;
+    v7 = v122; v8 = v120; goto L14;
+L14:;
+    v123 = v7 + 2136u * 1u;
+    v124 = (u64)((u64)v8 + (u64)UINT64_C(18446744073709551615));
+    v125 = v7 + 2112u * 1u;
+    v126 = load16(v125);
+    v127 = v89 == v126;
+    if (v127) { goto L15; }
+    else { goto L16; }
+L15:;
+    v128 = v7 + 2104u * 1u;
+    v129 = load64(v128);
+    v130 = v61 == v129;
+    if (v130) { goto L17; }
+    else { goto L16; }
+L16:;
+    v131 = v124 == 0u;
+    if (v131) { goto L18; }
+    else { v7 = v123; v8 = v124; goto L14; }
+L17:;
+    v132 = v7 + 2129u * 1u;
+    v133 = load8(v132);
+    v134 = (u8)((v133) & UINT64_C(1));
+    if (v134) { goto L19; }
+    else { goto L18; }
+L18:;
+    v21 = v70; v22 = 0u; v23 = 1u; goto L72;
+L19:;
+    v135 = v7 + 2114u * 1u;
+    v136 = load16(v135);
+    v137 = v7 + 2120u * 1u;
+    v138 = load8(v137);
+    v139 = v7 + 2116u * 1u;
+    v140 = load16(v139);
+    v141 = v7 + 2118u * 1u;
+    v142 = load16(v141);
+    v143 = v7 + 1424u * 1u;
+    v144 = load64(v143);
+    store8(v31, v138);
+    v145 = v31 + 1u * 1u;
+    store8(v145, 0u);
+    v146 = v31 + 2u * 1u;
+    store16(v146, v140);
+    v147 = v31 + 4u * 1u;
+    store16(v147, v142);
+    v148 = v31 + 6u * 1u;
+    store16(v148, 0u);
+    v149 = v31 + 8u * 1u;
+    store_address(v149, v7);
+    v150 = v31 + 16u * 1u;
+    store64(v150, v144);
+    v151 = f19(v136, v31, v97, v32);
+    v152 = v151 == 2u;
+    if (v152) { v13 = v89; v14 = v120; goto L56; }
+    else { v21 = v70; v22 = 0u; v23 = 1u; goto L72; }
+L20:;
+    if (v71) { v21 = v61; v22 = 0u; v23 = 2u; goto L72; }
+    else { goto L21; }
+L21:;
+    v153 = v42 + 34u * 1u;
+    v154 = load64(v153);
+    v155 = v42 + 42u * 1u;
+    v156 = load8(v155);
+    v157 = v42 + 43u * 1u;
+    v158 = load8(v157);
+    v159 = (u16)v156;
+    v160 = (u16)((u32)v159 << (8u & 15u));
+    v161 = (u16)v158;
+    v162 = (u16)((u32)v160 | (u32)v161);
+    v163 = v154 == v70;
+    v164 = v154 == UINT64_C(18446744073709551615);
+    v165 = (u8)(((u32)v164 | (u32)v163) & UINT64_C(1));
+    if (v165) { goto L22; }
+    else { v21 = v70; v22 = 0u; v23 = 3u; goto L72; }
+L22:;
+    switch (v162) {
+    case 65535u: goto L24;
+    case 0u: v21 = v70; v22 = 0u; v23 = 3u; goto L72;
+    default: goto L23;
+    }
+L23:;
+    v166 = a1 + 432u * 1u;
+    v167 = load64(v166);
+    v168 = (u16)(v167);
+    v169 = v162 > v168;
+    if (v169) { v21 = v70; v22 = 0u; v23 = 3u; goto L72; }
+    else { goto L24; }
+L24:;
+    switch (v46) {
+    case 2u: v21 = v70; v22 = 0u; v23 = 4u; goto L72;
+    case 4u: v21 = v70; v22 = 0u; v23 = 4u; goto L72;
+    case 0u: goto L26;
+    case 1u: goto L26;
+    case 3u: goto L26;
+    default: goto L25;
+    }
+L25:;
+    UNREACHABLE;
+L26:;
+    if (v163) { goto L28; }
+    else { goto L27; }
+L27:;
+    v21 = v70; v22 = 1u; v23 = 9u; goto L72;
+L28:;
+    v170 = (u16)((u32)v67 | (u32)v68);
+    store64(v33, v61);
+    v171 = v33 + 8u * 1u;
+    store16(v171, v170);
+    v172 = v42 + 30u * 1u;
+    v173 = load8(v172);
+    v174 = v42 + 31u * 1u;
+    v175 = load8(v174);
+    v176 = (u16)v173;
+    v177 = (u16)((u32)v176 << (8u & 15u));
+    v178 = (u16)v175;
+    v179 = (u16)((u32)v177 | (u32)v178);
+    v180 = v48 == 0u;
+    v181 = v180 ? 52u : 54u;
+    v182 = v180 ? 53u : 55u;
+    v183 = v42 + v181 * 1u;
+    v184 = load8(v183);
+    v185 = v42 + v182 * 1u;
+    v186 = load8(v185);
+    v187 = v42 + 54u * 1u;
+    v188 = (u64)((u64)v44 + (u64)UINT64_C(18446744073709551562));
+    v189 = v180 ? v187 : ADDRESS(c138);
+    v190 = v180 ? v188 : 0u;
+    v191 = (u16)v184;
+    v192 = (u16)((u32)v191 << (8u & 15u));
+    v193 = (u16)v186;
+    v194 = (u16)((u32)v192 | (u32)v193);
+    store8(v34, v46);
+    v195 = v34 + 1u * 1u;
+    store8(v195, 0u);
+    v196 = v34 + 2u * 1u;
+    store16(v196, v194);
+    v197 = v34 + 4u * 1u;
+    store16(v197, v162);
+    v198 = v34 + 6u * 1u;
+    store16(v198, 0u);
+    v199 = v34 + 8u * 1u;
+    store_address(v199, v189);
+    v200 = v34 + 16u * 1u;
+    store64(v200, v190);
+    v201 = f50(v69, v33, v179, v34);
+    v202 = v201.m0;
+    switch (v202) {
+    case 0u: v21 = v70; v22 = 1u; v23 = 9u; goto L72;
+    case 1u: goto L34;
+    case 2u: goto L29;
+    case 3u: goto L30;
+    case 4u: goto L31;
+    default: goto L32;
+    }
+L29:;
+    v203 = a1 + 2584u * 1u;
+    v204 = load64(v203);
+    v13 = v170; v14 = v204; goto L56;
+L30:;
+    v21 = v70; v22 = 0u; v23 = 8u; goto L72;
+L31:;
+    v21 = v70; v22 = 0u; v23 = 7u; goto L72;
+L32:;
+    UNREACHABLE;
+L33:;
+    v205 = v35 + 1u * 1u;
+    v206 = load8(v205);
+    v25 = v206; v26 = 0u; goto L83;
+L34:;
+    v207 = v201.m1;
+    v208 = v42 + 44u * 1u;
+    v209 = load8(v208);
+    v210 = v42 + 45u * 1u;
+    v211 = load8(v210);
+    store8(v29, v46);
+    v212 = v29 + 1u * 1u;
+    store8(v212, 0u);
+    v213 = v29 + 2u * 1u;
+    store16(v213, v194);
+    v214 = v29 + 4u * 1u;
+    store16(v214, v162);
+    v215 = v29 + 6u * 1u;
+    store16(v215, 0u);
+    v216 = v29 + 8u * 1u;
+    store_address(v216, v189);
+    v217 = v29 + 16u * 1u;
+    store64(v217, v190);
+    v218 = v30 + 54u * 1u;
+    v219 = v30 + 56u * 1u;
+    v220 = v30 + 58u * 1u;
+    v221 = v30 + 64u * 1u;
+    memory_set(v30, 0u, 64u);
+    store_address(v221, v36);
+    v222 = v46 > 2u;
+    v223 = v222 ? UINT32_C(262144) : UINT32_C(131072);
+    v224 = v209 > v211 ? (u8)((u32)v209 - (u32)v211) : 0u;
+    store16(v218, v194);
+    store16(v219, a2);
+    v225 = v30 + 48u * 1u;
+    store16(v30, 4621u);
+    v226 = v30 + 2u * 1u;
+    store16(v226, 13824u);
+    v227 = v30 + 4u * 1u;
+    v228 = (u16)v56;
+    store16(v227, v228);
+    v229 = v30 + 20u * 1u;
+    store64(v229, v70);
+    v230 = swap16(a2);
+    v231 = v30 + 28u * 1u;
+    store16(v231, v230);
+    v232 = swap16(v179);
+    v233 = v30 + 30u * 1u;
+    store16(v233, v232);
+    v234 = v30 + 32u * 1u;
+    store16(v234, 32516u);
+    v235 = v30 + 34u * 1u;
+    store64(v235, v61);
+    v236 = swap16(v170);
+    v237 = v30 + 42u * 1u;
+    store16(v237, v236);
+    v238 = v30 + 44u * 1u;
+    v239 = (u32)v224;
+    v240 = (u32)((u32)v239 << (8u & 31u));
+    v241 = (u32)((u32)v240 | (u32)v223);
+    v242 = (u32)((u32)v241 | (u32)v239);
+    store32(v238, v242);
+    store16(v225, 256u);
+    v243 = v30 + 50u * 1u;
+    store16(v243, 512u);
+    v244 = swap16(v194);
+    v245 = v30 + 52u * 1u;
+    store16(v245, v244);
+    f23(a1, v29, v207, v30);
+    v246 = load8(v220);
+    v247 = a1 + 448u * 1u;
+    v248 = a1 + 2584u * 1u;
+    v249 = load64(v248);
+    v250 = v249 == 0u;
+    if (v250) { goto L55; }
+    else { v9 = v247; v10 = v249; v11 = 0u; goto L35; }
+L35:;
+    v251 = v9 + 2136u * 1u;
+    v252 = (u64)((u64)v10 + (u64)UINT64_C(18446744073709551615));
+    v253 = v9 + 2112u * 1u;
+    v254 = load16(v253);
+    v255 = v170 == v254;
+    if (v255) { goto L36; }
+    else { goto L37; }
+L36:;
+    v256 = v9 + 2104u * 1u;
+    v257 = load64(v256);
+    v258 = v61 == v257;
+    if (v258) { goto L38; }
+    else { goto L37; }
+L37:;
+    v259 = (u64)((u64)v11 + (u64)1u);
+    v260 = v252 == 0u;
+    if (v260) { goto L55; }
+    else { v9 = v251; v10 = v252; v11 = v259; goto L35; }
+L38:;
+    v261 = (u64)((u64)v11 * (u64)2136u);
+    v262 = v247 + v261 * 1u;
+    v263 = v262 + 2129u * 1u;
+    store8(v263, 1u);
+    v264 = v262 + 2114u * 1u;
+    store16(v264, v179);
+    v265 = v262 + 2120u * 1u;
+    store8(v265, v46);
+    v266 = v262 + 2116u * 1u;
+    store16(v266, v194);
+    v267 = v262 + 2118u * 1u;
+    store16(v267, v162);
+    v268 = v190 == 0u;
+    v269 = v262 + 1424u * 1u;
+    v270 = load64(v269);
+    v271 = v270 == 0u;
+    v272 = v268 ? v271 : 0u;
+    if (v272) { goto L44; }
+    else { goto L39; }
+L39:;
+    v273 = v270 == v190;
+    if (v273) { goto L40; }
+    else { goto L43; }
+L40:;
+    v274 = (u64)v262;
+    v275 = (u64)v189;
+    v276 = (u64)((u64)v274 - (u64)v275);
+    v277 = v276 < v190;
+    if (v277) { v12 = 0u; goto L42; }
+    else { goto L41; }
+L41:;
+    memory_move(v262, v189, v190);
+    goto L44;
+L42:;
+    v278 = v262 + v12 * 1u;
+    v279 = v189 + v12 * 1u;
+    v280 = load8(v279);
+    store8(v278, v280);
+    v281 = (u64)((u64)v12 + (u64)1u);
+    v282 = v281 == v190;
+    if (v282) { goto L44; }
+    else { v12 = v281; goto L42; }
+L43:;
+    f33(v262, v189, v190);
+    goto L44;
+L44:;
+    v283 = v262 + 2121u * 1u;
+    store8(v283, v246);
+    v284 = v262 + 1432u * 1u;
+    v285 = v262 + 1448u * 1u;
+    memory_set(v284, 0u, 16u);
+    v286 = load64(v38);
+    v287 = v286 == 1u;
+    if (v287) { goto L45; }
+    else { goto L52; }
+L45:;
+    v288 = load_address(v36);
+    v289 = v288 + 2u * 1u;
+    v290 = load16(v289);
+    v291 = (u64)v290;
+    v292 = v288 + 4u * 1u;
+    v293 = (u8)(v290);
+    v294 = v262 + 1440u * 1u;
+    store8(v284, v293);
+    store64(v294, 1u);
+    v295 = v262 + 2088u * 1u;
+    v296 = load64(v295);
+    v297 = v296 == v291;
+    if (v297) { goto L46; }
+    else { goto L51; }
+L46:;
+    switch (v290) {
+    case 54u: goto L47;
+    case 56u: goto L48;
+    case 80u: goto L49;
+    default: goto L50;
+    }
+L47:;
+    memory_move(v285, v292, 54u);
+    goto L55;
+L48:;
+    memory_move(v285, v292, 56u);
+    goto L55;
+L49:;
+    memory_move(v285, v292, 80u);
+    goto L55;
+L50:;
+    f34(v285, v292, v291);
+    goto L55;
+L51:;
+    f35(v285, v292, v291);
+    goto L55;
+L52:;
+    v298 = v262 + 2088u * 1u;
+    v299 = load64(v298);
+    v300 = v299 == 0u;
+    if (v300) { goto L54; }
+    else { goto L53; }
+L53:;
+    memory_set(v285, 0u, v299);
+    store64(v298, 0u);
+    goto L54;
+L54:;
+    f36(v36, v284, v285);
+    goto L55;
+L55:;
+    v25 = 0u; v26 = 5u; goto L83;
+L56:;
+    v301 = v42 + 44u * 1u;
+    v302 = load8(v301);
+    v303 = v42 + 45u * 1u;
+    v304 = load8(v303);
+    v305 = v14 == 0u;
+    if (v305) { goto L61; }
+    else { goto L57; }
+L57:;
+    v306 = a1 + 448u * 1u;
+    v15 = v306; v16 = v14; goto L58;
+L58:;
+    v307 = v15 + 2136u * 1u;
+    v308 = (u64)((u64)v16 + (u64)UINT64_C(18446744073709551615));
+    v309 = v15 + 2112u * 1u;
+    v310 = load16(v309);
+    v311 = v13 == v310;
+    if (v311) { goto L59; }
+    else { goto L60; }
+L59:;
+    v312 = v15 + 2104u * 1u;
+    v313 = load64(v312);
+    v314 = v61 == v313;
+    if (v314) { goto L62; }
+    else { goto L60; }
+L60:;
+    v315 = v308 == 0u;
+    if (v315) { goto L61; }
+    else { v15 = v307; v16 = v308; goto L58; }
+L61:;
+    TRAP;
+    UNREACHABLE;
+L62:;
+    v316 = v15 + 2121u * 1u;
+    v317 = load8(v316);
+    v318 = (u8)((v317) & UINT64_C(1));
+    v319 = v302 > v304 ? (u8)((u32)v302 - (u32)v304) : 0u;
+    v320 = v15 + 1440u * 1u;
+    v321 = load64(v320);
+    v322 = v321 == 0u;
+    if (v322) { v25 = 0u; v26 = 6u; goto L83; }
+    else { goto L63; }
+L63:;
+    v323 = v15 + 1448u * 1u;
+    v324 = v15 + 1432u * 1u;
+    v325 = (u16)((u32)a2 >> (8u & 15u));
+    v326 = (u8)(v325);
+    v327 = (u8)(a2);
+    v17 = 0u; v18 = v323; v19 = v321; v20 = v324; goto L64;
+L64:;
+    v328 = v20 + 1u * 1u;
+    v329 = (u64)((u64)v19 + (u64)UINT64_C(18446744073709551615));
+    v330 = load8(v20);
+    v331 = (u64)v330;
+    v332 = v18 + v331 * 1u;
+    v333 = load_address(v36);
+    v334 = (u64)((u64)v17 * (u64)1476u);
+    v335 = v333 + v334 * 1u;
+    store16(v335, a2);
+    v336 = (u16)v330;
+    v337 = v335 + 2u * 1u;
+    store16(v337, v336);
+    v338 = v335 + 4u * 1u;
+    switch (v330) {
+    case 54u: goto L65;
+    case 56u: goto L66;
+    case 80u: goto L67;
+    default: goto L68;
+    }
+L65:;
+    memory_move(v338, v18, 54u);
+    goto L69;
+L66:;
+    memory_move(v338, v18, 56u);
+    goto L69;
+L67:;
+    memory_move(v338, v18, 80u);
+    goto L69;
+L68:;
+    f34(v338, v18, v331);
+    goto L69;
+L69:;
+    v339 = v335 + 8u * 1u;
+    store8(v339, v56);
+    if (v318) { goto L71; }
+    else { goto L70; }
+L70:;
+    v340 = v335 + 32u * 1u;
+    store8(v340, v326);
+    v341 = v335 + 33u * 1u;
+    store8(v341, v327);
+    goto L71;
+L71:;
+    v342 = v335 + 48u * 1u;
+    store8(v342, v319);
+    v343 = v335 + 49u * 1u;
+    store8(v343, v319);
+    v344 = load64(v38);
+    v345 = (u64)((u64)v344 + (u64)1u);
+    store64(v38, v345);
+    v346 = v329 == 0u;
+    if (v346) { v25 = 0u; v26 = 6u; goto L83; }
+    else { v17 = v345; v18 = v332; v19 = v329; v20 = v328; goto L64; }
+L72:;
+    v347 = a1 + 440u * 1u;
+    v348 = v42 + 34u * 1u;
+    v349 = load64(v348);
+    v350 = v349 == v21;
+    if (v350) { goto L80; }
+    else { goto L73; }
+L73:;
+    v351 = v42 + 4u * 1u;
+    v352 = load8(v351);
+    v353 = a1 + 8u * 1u;
+    v354 = load8(v353);
+    v355 = v352 == v354;
+    if (v355) { goto L74; }
+    else { goto L80; }
+L74:;
+    v356 = v42 + 20u * 1u;
+    v357 = load64(v356);
+    v358 = v357 == v21;
+    if (v358) { goto L80; }
+    else { goto L75; }
+L75:;
+    v359 = v42 + 45u * 1u;
+    v360 = load8(v359);
+    v361 = v360 == 0u;
+    v362 = a2 == 0u;
+    v363 = (u8)(((u32)v362 | (u32)v361) & UINT64_C(1));
+    if (v363) { goto L80; }
+    else { goto L76; }
+L76:;
+    v364 = (u16)((u32)a2 + (u32)65535u);
+    v365 = a1 + 432u * 1u;
+    v366 = load64(v365);
+    v367 = (u64)v364;
+    v368 = v366 > v367;
+    if (v368) { goto L77; }
+    else { goto L80; }
+L77:;
+    v369 = a1 + 240u * 1u;
+    v370 = (u64)((u64)v367 * (u64)24u);
+    v371 = v369 + v370 * 1u;
+    v372 = load8(v371);
+    switch (v372) {
+    case 4u: goto L79;
+    case 5u: goto L79;
+    case 7u: goto L79;
+    case 8u: goto L79;
+    case 0u: goto L80;
+    case 1u: goto L80;
+    case 2u: goto L80;
+    case 3u: goto L80;
+    case 6u: goto L80;
+    default: goto L78;
+    }
+L78:;
+    UNREACHABLE;
+L79:;
+    f39(a1, a2, a3, v36);
+    if (v22) { goto L81; }
+    else { v24 = v23; goto L82; }
+L80:;
+    if (v22) { goto L81; }
+    else { v24 = v23; goto L82; }
+L81:;
+    v373 = v48 == 0u;
+    v374 = v373 ? 52u : 54u;
+    v375 = v373 ? 53u : 55u;
+    v376 = v42 + v374 * 1u;
+    v377 = load8(v376);
+    v378 = v42 + v375 * 1u;
+    v379 = load8(v378);
+    v380 = v42 + 42u * 1u;
+    v381 = load8(v380);
+    v382 = v42 + 43u * 1u;
+    v383 = load8(v382);
+    v384 = v42 + 54u * 1u;
+    v385 = (u64)((u64)v44 + (u64)UINT64_C(18446744073709551562));
+    v386 = v373 ? v384 : ADDRESS(c138);
+    v387 = v373 ? v385 : 0u;
+    v388 = (u16)v381;
+    v389 = (u16)((u32)v388 << (8u & 15u));
+    v390 = (u16)v383;
+    v391 = (u16)((u32)v389 | (u32)v390);
+    v392 = (u16)v377;
+    v393 = (u16)((u32)v392 << (8u & 15u));
+    v394 = (u16)v379;
+    v395 = (u16)((u32)v393 | (u32)v394);
+    store8(v27, v46);
+    v396 = v27 + 1u * 1u;
+    store8(v396, 0u);
+    v397 = v27 + 2u * 1u;
+    store16(v397, v395);
+    v398 = v27 + 4u * 1u;
+    store16(v398, v391);
+    v399 = v27 + 6u * 1u;
+    store16(v399, 0u);
+    v400 = v27 + 8u * 1u;
+    store_address(v400, v386);
+    v401 = v27 + 16u * 1u;
+    store64(v401, v387);
+    v402 = v42 + 4u * 1u;
+    v403 = load8(v402);
+    v404 = v42 + 20u * 1u;
+    v405 = load64(v404);
+    v406 = v42 + 28u * 1u;
+    v407 = load8(v406);
+    v408 = v42 + 29u * 1u;
+    v409 = load8(v408);
+    v410 = (u16)v407;
+    v411 = (u16)((u32)v410 << (8u & 15u));
+    v412 = (u16)v409;
+    v413 = (u16)((u32)v411 | (u32)v412);
+    v414 = v42 + 30u * 1u;
+    v415 = load8(v414);
+    v416 = v42 + 31u * 1u;
+    v417 = load8(v416);
+    v418 = (u16)v415;
+    v419 = (u16)((u32)v418 << (8u & 15u));
+    v420 = (u16)v417;
+    v421 = (u16)((u32)v419 | (u32)v420);
+    v422 = v42 + 44u * 1u;
+    v423 = load8(v422);
+    v424 = v42 + 45u * 1u;
+    v425 = load8(v424);
+    v426 = v28 + 54u * 1u;
+    v427 = v28 + 56u * 1u;
+    v428 = v28 + 64u * 1u;
+    memory_set(v28, 0u, 64u);
+    store_address(v428, v36);
+    v429 = load64(v347);
+    v430 = v46 > 2u;
+    v431 = v430 ? UINT32_C(262144) : UINT32_C(131072);
+    v432 = v423 > v425 ? (u8)((u32)v423 - (u32)v425) : 0u;
+    store16(v426, v395);
+    store16(v427, a2);
+    v433 = v28 + 48u * 1u;
+    store16(v28, 4621u);
+    v434 = v28 + 2u * 1u;
+    store16(v434, 13824u);
+    v435 = v28 + 4u * 1u;
+    v436 = (u16)v403;
+    store16(v435, v436);
+    v437 = v28 + 20u * 1u;
+    store64(v437, v429);
+    v438 = swap16(a2);
+    v439 = v28 + 28u * 1u;
+    store16(v439, v438);
+    v440 = swap16(v421);
+    v441 = v28 + 30u * 1u;
+    store16(v441, v440);
+    v442 = v28 + 32u * 1u;
+    store16(v442, 32516u);
+    v443 = v28 + 34u * 1u;
+    store64(v443, v405);
+    v444 = swap16(v413);
+    v445 = v28 + 42u * 1u;
+    store16(v445, v444);
+    v446 = v28 + 44u * 1u;
+    v447 = (u32)v432;
+    v448 = (u32)((u32)v447 << (8u & 31u));
+    v449 = (u32)((u32)v448 | (u32)v431);
+    v450 = (u32)((u32)v449 | (u32)v447);
+    store32(v446, v450);
+    store16(v433, 256u);
+    v451 = v28 + 50u * 1u;
+    store16(v451, 512u);
+    v452 = swap16(v395);
+    v453 = v28 + 52u * 1u;
+    store16(v453, v452);
+    f40(a1, v27, v28);
+    v24 = v23; goto L82;
+L82:;
+    v25 = 0u; v26 = v24; goto L83;
+L83:;
+    v454 = load64(v38);
+    store8(a0, v26);
+    v455 = a0 + 1u * 1u;
+    store8(v455, v25);
+    v456 = a0 + 8u * 1u;
+    store64(v456, v454);
+    return;
+}
+
+static struct s1 f50(address a0, address a1, u16 a2, address a3) {
+    address v4, v9, v10, v13, v14, v16, v18, v21, v26, v29, v31, v33, v35, v37, v39, v40;
+    address v41, v42, v43, v44, v46;
+    u64 v5, v11, v17, v22, v23, v38;
+    u8 v6, v7, v8, v12, v20, v24, v25, v27, v28, v32, v45, v47;
+    u16 v15, v19, v30, v34, v36;
+    struct s1 v48, v49;
+    u64 block0[3];
+    v9 = ADDRESS(block0);
+    v10 = a0 + 2144u * 1u;
+    v11 = load64(v10);
+    v12 = v11 == 0u;
+    if (v12) { v7 = 0u; v8 = 0u; goto L8; }
+    else { goto L1; }
+L1:;
+    v13 = a0 + 8u * 1u;
+    v14 = a1 + 8u * 1u;
+    v15 = load16(v14);
+    v4 = v13; v5 = v11; goto L2;
+L2:;
+    v16 = v4 + 2136u * 1u;
+    v17 = (u64)((u64)v5 + (u64)UINT64_C(18446744073709551615));
+    v18 = v4 + 2112u * 1u;
+    v19 = load16(v18);
+    v20 = v15 == v19;
+    if (v20) { goto L3; }
+    else { goto L4; }
+L3:;
+    v21 = v4 + 2104u * 1u;
+    v22 = load64(a1);
+    v23 = load64(v21);
+    v24 = v22 == v23;
+    if (v24) { goto L5; }
+    else { goto L4; }
+L4:;
+    v25 = v17 == 0u;
+    if (v25) { v7 = 0u; v8 = 0u; goto L8; }
+    else { v4 = v16; v5 = v17; goto L2; }
+L5:;
+    v26 = v4 + 2129u * 1u;
+    v27 = load8(v26);
+    v28 = (u8)((v27) & UINT64_C(1));
+    if (v28) { goto L6; }
+    else { v6 = 1u; goto L7; }
+L6:;
+    v29 = v4 + 2114u * 1u;
+    v30 = load16(v29);
+    v31 = v4 + 2120u * 1u;
+    v32 = load8(v31);
+    v33 = v4 + 2116u * 1u;
+    v34 = load16(v33);
+    v35 = v4 + 2118u * 1u;
+    v36 = load16(v35);
+    v37 = v4 + 1424u * 1u;
+    v38 = load64(v37);
+    store8(v9, v32);
+    v39 = v9 + 1u * 1u;
+    store8(v39, 0u);
+    v40 = v9 + 2u * 1u;
+    store16(v40, v34);
+    v41 = v9 + 4u * 1u;
+    store16(v41, v36);
+    v42 = v9 + 6u * 1u;
+    store16(v42, 0u);
+    v43 = v9 + 8u * 1u;
+    store_address(v43, v4);
+    v44 = v9 + 16u * 1u;
+    store64(v44, v38);
+    v45 = f19(v30, v9, a2, a3);
+    v6 = v45; goto L7;
+L7:;
+    v46 = v4 + 2128u * 1u;
+    v47 = load8(v46);
+    v7 = v6; v8 = v47; goto L8;
+L8:;
+    v48 = (struct s1){ 0 };
+    v48.m0 = v7;
+    v49 = v48;
+    v49.m1 = v8;
+    return v49;
+}
+
+static void f51(address a0, address a1, address a2, u64 a3) {
+    address v4, v7, v8, v9, v10, v11, v12, v15, v16, v17, v19, v21, v26, v28, v30, v32;
+    address v34, v36, v46, v47, v48, v49, v50, v51, v54, v56, v60, v64, v66, v69, v74, v78;
+    address v80, v86, v88, v94, v95, v96, v99, v101, v104, v108, v111, v113, v115, v117, v119, v121;
+    address v123, v124, v125, v126, v127, v128, v130, v135, v136, v137, v138, v139, v140, v141, v142, v143;
+    address v144, v145, v146, v147, v148, v149, v150, v151, v152, v153, v154, v156, v186, v187, v188, v189;
+    address v190, v191, v192, v193, v194, v195, v196;
+    u64 v5, v18, v24, v25, v35, v37, v55, v57, v70, v75, v97, v100, v105, v122, v157, v161;
+    u8 v6, v13, v14, v20, v22, v23, v27, v29, v31, v33, v52, v53, v58, v59, v61, v62;
+    u8 v63, v65, v67, v68, v71, v72, v73, v77, v79, v81, v87, v89, v98, v103, v106, v107;
+    u8 v109, v110, v112, v116, v129, v131, v132, v133, v134, v155, v158, v159, v160, v162, v163, v164;
+    u8 v165, v166, v167, v168, v169;
+    u16 v38, v39, v40, v41, v42, v43, v44, v45, v76, v82, v83, v84, v85, v90, v91, v92;
+    u16 v93, v102, v114, v118, v120, v170, v171, v172, v173, v174, v175, v176, v177, v178, v179, v180;
+    u16 v181, v182, v183, v184, v185;
+    u64 block0[162];
+    u64 block1[55];
+    u64 block2[55];
+    u64 block3[3];
+    u64 block4[3];
+    u64 block5[4];
+    v7 = ADDRESS(block0);
+    v8 = ADDRESS(block1);
+    v9 = ADDRESS(block2);
+    v10 = ADDRESS(block3);
+    v11 = ADDRESS(block4);
+    v12 = ADDRESS(block5);
+    memory_set(v12, 0u, 32u);
+    f8(v12, a2, a3);
+    v13 = load8(v12);
+    v14 = v13 == 0u;
+    if (v14) { goto L1; }
+    else { goto L18; }
+L1:;
+    v15 = v12 + 8u * 1u;
+    v16 = load_address(v15);
+    v17 = v12 + 16u * 1u;
+    v18 = load64(v17);
+    v19 = v12 + 24u * 1u;
+    v20 = load8(v19);
+    v21 = v12 + 25u * 1u;
+    v22 = load8(v21);
+    v23 = v22 == 0u;
+    v24 = v23 ? 52u : 54u;
+    v25 = v23 ? 53u : 55u;
+    v26 = v16 + v24 * 1u;
+    v27 = load8(v26);
+    v28 = v16 + v25 * 1u;
+    v29 = load8(v28);
+    v30 = v16 + 42u * 1u;
+    v31 = load8(v30);
+    v32 = v16 + 43u * 1u;
+    v33 = load8(v32);
+    v34 = v16 + 54u * 1u;
+    v35 = (u64)((u64)v18 + (u64)UINT64_C(18446744073709551562));
+    v36 = v23 ? v34 : ADDRESS(c138);
+    v37 = v23 ? v35 : 0u;
+    v38 = (u16)v31;
+    v39 = (u16)((u32)v38 << (8u & 15u));
+    v40 = (u16)v33;
+    v41 = (u16)((u32)v39 | (u32)v40);
+    v42 = (u16)v27;
+    v43 = (u16)((u32)v42 << (8u & 15u));
+    v44 = (u16)v29;
+    v45 = (u16)((u32)v43 | (u32)v44);
+    store8(v11, v20);
+    v46 = v11 + 1u * 1u;
+    store8(v46, 0u);
+    v47 = v11 + 2u * 1u;
+    store16(v47, v45);
+    v48 = v11 + 4u * 1u;
+    store16(v48, v41);
+    v49 = v11 + 6u * 1u;
+    store16(v49, 0u);
+    v50 = v11 + 8u * 1u;
+    store_address(v50, v36);
+    v51 = v11 + 16u * 1u;
+    store64(v51, v37);
+    v52 = (u8)((u32)v20 & (u32)253u);
+    v53 = v52 == 1u;
+    if (v53) { goto L2; }
+    else { goto L15; }
+L2:;
+    v54 = v16 + 34u * 1u;
+    v55 = load64(v54);
+    v56 = a1 + 440u * 1u;
+    v57 = load64(v56);
+    v58 = load8(v16);
+    v59 = (u8)((u32)v58 >> (4u & 7u));
+    v60 = v16 + 5u * 1u;
+    v61 = load8(v60);
+    v62 = (u8)((u32)v59 | (u32)v61);
+    v63 = v62 == 0u;
+    if (v63) { goto L3; }
+    else { goto L15; }
+L3:;
+    v64 = v16 + 4u * 1u;
+    v65 = load8(v64);
+    v66 = a1 + 8u * 1u;
+    v67 = load8(v66);
+    v68 = v65 == v67;
+    if (v68) { goto L4; }
+    else { goto L15; }
+L4:;
+    v69 = v16 + 20u * 1u;
+    v70 = load64(v69);
+    v71 = v70 != v57;
+    v72 = v55 == v57;
+    v73 = v71 ? v72 : 0u;
+    if (v73) { goto L5; }
+    else { goto L15; }
+L5:;
+    switch (v41) {
+    case 65535u: goto L7;
+    case 0u: goto L15;
+    default: goto L6;
+    }
+L6:;
+    v74 = a1 + 432u * 1u;
+    v75 = load64(v74);
+    v76 = (u16)(v75);
+    v77 = v41 > v76;
+    if (v77) { goto L15; }
+    else { goto L7; }
+L7:;
+    v78 = v16 + 28u * 1u;
+    v79 = load8(v78);
+    v80 = v16 + 29u * 1u;
+    v81 = load8(v80);
+    v82 = (u16)v79;
+    v83 = (u16)((u32)v82 << (8u & 15u));
+    v84 = (u16)v81;
+    v85 = (u16)((u32)v83 | (u32)v84);
+    v86 = v16 + 30u * 1u;
+    v87 = load8(v86);
+    v88 = v16 + 31u * 1u;
+    v89 = load8(v88);
+    v90 = (u16)v87;
+    v91 = (u16)((u32)v90 << (8u & 15u));
+    v92 = (u16)v89;
+    v93 = (u16)((u32)v91 | (u32)v92);
+    v94 = a1 + 448u * 1u;
+    v95 = load_address(v94);
+    v96 = a1 + 456u * 1u;
+    v97 = load64(v96);
+    v98 = v97 == 0u;
+    if (v98) { goto L13; }
+    else { v4 = v95; v5 = v97; goto L8; }
+L8:;
+    v99 = v4 + 2136u * 1u;
+    v100 = (u64)((u64)v5 + (u64)UINT64_C(18446744073709551615));
+    v101 = v4 + 2112u * 1u;
+    v102 = load16(v101);
+    v103 = v85 == v102;
+    if (v103) { goto L9; }
+    else { goto L10; }
+L9:;
+    v104 = v4 + 2104u * 1u;
+    v105 = load64(v104);
+    v106 = v70 == v105;
+    if (v106) { goto L11; }
+    else { goto L10; }
+L10:;
+    v107 = v100 == 0u;
+    if (v107) { goto L13; }
+    else { v4 = v99; v5 = v100; goto L8; }
+L11:;
+    v108 = v4 + 2129u * 1u;
+    v109 = load8(v108);
+    v110 = (u8)((v109) & UINT64_C(1));
+    if (v110) { goto L14; }
+    else { goto L12; }
+L12:;
+    v111 = v4 + 2128u * 1u;
+    v112 = load8(v111);
+    v6 = v112; goto L16;
+L13:;
+    goto L15;
+L14:;
+    v113 = v4 + 2114u * 1u;
+    v114 = load16(v113);
+    v115 = v4 + 2120u * 1u;
+    v116 = load8(v115);
+    v117 = v4 + 2116u * 1u;
+    v118 = load16(v117);
+    v119 = v4 + 2118u * 1u;
+    v120 = load16(v119);
+    v121 = v4 + 1424u * 1u;
+    v122 = load64(v121);
+    store8(v10, v116);
+    v123 = v10 + 1u * 1u;
+    store8(v123, 0u);
+    v124 = v10 + 2u * 1u;
+    store16(v124, v118);
+    v125 = v10 + 4u * 1u;
+    store16(v125, v120);
+    v126 = v10 + 6u * 1u;
+    store16(v126, 0u);
+    v127 = v10 + 8u * 1u;
+    store_address(v127, v4);
+    v128 = v10 + 16u * 1u;
+    store64(v128, v122);
+    v129 = f19(v114, v10, v93, v11);
+    v130 = v4 + 2128u * 1u;
+    v131 = load8(v130);
+    v132 = v129 == 1u;
+    if (v132) { v6 = v131; goto L16; }
+    else { goto L15; }
+L15:;
+    goto L19;
+L16:;
+    memory_set(v9, 0u, 440u);
+    f44(v9, a1);
+    memory_cpy(v8, v9, 440u);
+    v133 = v20 > 2u;
+    v134 = v133 ? 4u : 2u;
+    store8(v7, v134);
+    v135 = v7 + 1u * 1u;
+    store8(v135, 0u);
+    v136 = v7 + 2u * 1u;
+    store16(v136, v45);
+    v137 = v7 + 4u * 1u;
+    store32(v137, 0u);
+    v138 = v7 + 8u * 1u;
+    store64(v138, 0u);
+    v139 = v7 + 16u * 1u;
+    store8(v139, 1u);
+    v140 = v7 + 17u * 1u;
+    memory_set(v140, 0u, 159u);
+    v141 = v7 + 176u * 1u;
+    store8(v141, 1u);
+    v142 = v7 + 177u * 1u;
+    memory_set(v142, 0u, 159u);
+    v143 = v7 + 336u * 1u;
+    store8(v143, 1u);
+    v144 = v7 + 337u * 1u;
+    memory_set(v144, 0u, 159u);
+    v145 = v7 + 496u * 1u;
+    store8(v145, 1u);
+    v146 = v7 + 497u * 1u;
+    memory_set(v146, 0u, 159u);
+    v147 = v7 + 656u * 1u;
+    store8(v147, 1u);
+    v148 = v7 + 657u * 1u;
+    memory_set(v148, 0u, 159u);
+    v149 = v7 + 816u * 1u;
+    store8(v149, 1u);
+    v150 = v7 + 817u * 1u;
+    memory_set(v150, 0u, 159u);
+    v151 = v7 + 976u * 1u;
+    store8(v151, 1u);
+    v152 = v7 + 977u * 1u;
+    memory_set(v152, 0u, 159u);
+    v153 = v7 + 1136u * 1u;
+    store8(v153, 1u);
+    v154 = v7 + 1137u * 1u;
+    memory_set(v154, 0u, 159u);
+    f52(v8, v11, v6, v7);
+    v155 = load8(v139);
+    v156 = v7 + 1288u * 1u;
+    v157 = load64(v156);
+    v158 = v157 == 0u;
+    v159 = v155 != 2u;
+    v160 = v158 ? 1u : v159;
+    if (v160) { goto L20; }
+    else { goto L19; }
+L17:;
+    return;
+L18:;
+    memory_set(a0, 0u, 48u);
+    goto L17;
+L19:;
+    memory_set(a0, 0u, 48u);
+    goto L17;
+L20:;
+    v161 = load64(v69);
+    v162 = load8(v78);
+    v163 = load8(v80);
+    v164 = load8(v86);
+    v165 = load8(v88);
+    v166 = load8(v26);
+    v167 = load8(v28);
+    v168 = load8(v30);
+    v169 = load8(v32);
+    v170 = (u16)v164;
+    v171 = (u16)((u32)v170 << (8u & 15u));
+    v172 = (u16)v165;
+    v173 = (u16)((u32)v171 | (u32)v172);
+    v174 = (u16)v162;
+    v175 = (u16)((u32)v174 << (8u & 15u));
+    v176 = (u16)v163;
+    v177 = (u16)((u32)v175 | (u32)v176);
+    v178 = (u16)v168;
+    v179 = (u16)((u32)v178 << (8u & 15u));
+    v180 = (u16)v169;
+    v181 = (u16)((u32)v179 | (u32)v180);
+    v182 = (u16)v166;
+    v183 = (u16)((u32)v182 << (8u & 15u));
+    v184 = (u16)v167;
+    v185 = (u16)((u32)v183 | (u32)v184);
+    store64(a0, 1u);
+    v186 = a0 + 8u * 1u;
+    store64(v186, v161);
+    v187 = a0 + 16u * 1u;
+    store16(v187, v177);
+    v188 = a0 + 18u * 1u;
+    store16(v188, v173);
+    v189 = a0 + 20u * 1u;
+    store32(v189, 0u);
+    v190 = a0 + 24u * 1u;
+    store8(v190, v20);
+    v191 = a0 + 25u * 1u;
+    store8(v191, 0u);
+    v192 = a0 + 26u * 1u;
+    store16(v192, v185);
+    v193 = a0 + 28u * 1u;
+    store16(v193, v181);
+    v194 = a0 + 30u * 1u;
+    store16(v194, 0u);
+    v195 = a0 + 32u * 1u;
+    store_address(v195, v36);
+    v196 = a0 + 40u * 1u;
+    store64(v196, v37);
+    goto L17;
+}
+
+static void f52(address a0, address a1, u8 a2, address a3) {
+    address v4, v25, v26, v27, v28, v29, v31, v32, v33, v34, v35, v36, v37, v38, v48, v49;
+    address v50, v76, v77, v78, v80, v81, v84, v85, v86, v87, v91, v92, v95, v96, v97, v99;
+    address v101, v102, v105, v106, v107, v108, v110, v111, v114, v115, v116, v117;
+    u64 v5, v21, v51, v55, v56, v57, v58, v65, v66, v69, v70, v73, v74, v82, v83, v88;
+    u64 v93, v94, v98, v103, v104, v109, v112, v113, v118;
+    u8 v6, v7, v8, v9, v10, v11, v12, v13, v14, v15, v16, v17, v18, v19, v20, v22;
+    u8 v23, v24, v39, v40, v41, v42, v43, v44, v45, v46, v47, v52, v53, v54, v59, v60;
+    u8 v61, v62, v63, v64, v67, v68, v71, v72, v75, v79, v89, v90, v100;
+    u16 v30;
+    u64 block0[1];
+    u64 block1[1];
+    u64 block2[4];
+    u64 block3[1];
+    v25 = ADDRESS(block0);
+    v26 = ADDRESS(block1);
+    v27 = ADDRESS(block2);
+    v28 = ADDRESS(block3);
+    v29 = a1 + 2u * 1u;
+    v30 = load16(v29);
+    switch (v30) {
+    case 0u: v4 = ADDRESS(c110); v5 = 19u; v6 = 0u; v7 = 2u; v8 = 0u; v9 = 1u; v10 = 0u; v11 = 7u; v12 = 0u; v13 = 0u; goto L21;
+    case 2u: goto L1;
+    case 8192u: goto L2;
+    case 8193u: goto L3;
+    case 8194u: goto L4;
+    case 8195u: goto L5;
+    case 8196u: goto L6;
+    case 8197u: goto L7;
+    case 8198u: goto L8;
+    case 8199u: goto L9;
+    case 8200u: goto L10;
+    case 8201u: goto L11;
+    case 8202u: goto L12;
+    case 8203u: goto L13;
+    case 8204u: goto L14;
+    case 8205u: goto L15;
+    case 8206u: goto L16;
+    case 8208u: goto L17;
+    case 8209u: goto L18;
+    case 24576u: goto L19;
+    case 24577u: goto L20;
+    default: goto L64;
+    }
+L1:;
+    v4 = ADDRESS(c111); v5 = 16u; v6 = 0u; v7 = 1u; v8 = 1u; v9 = 0u; v10 = 1u; v11 = 3u; v12 = 1u; v13 = 0u; goto L21;
+L2:;
+    v4 = ADDRESS(c112); v5 = 16u; v6 = 0u; v7 = 1u; v8 = 1u; v9 = 0u; v10 = 1u; v11 = 1u; v12 = 2u; v13 = 0u; goto L21;
+L3:;
+    v4 = ADDRESS(c113); v5 = 16u; v6 = 0u; v7 = 1u; v8 = 1u; v9 = 0u; v10 = 1u; v11 = 1u; v12 = 3u; v13 = 0u; goto L21;
+L4:;
+    v4 = ADDRESS(c114); v5 = 15u; v6 = 0u; v7 = 1u; v8 = 1u; v9 = 0u; v10 = 1u; v11 = 1u; v12 = 4u; v13 = 0u; goto L21;
+L5:;
+    v4 = ADDRESS(c115); v5 = 24u; v6 = 0u; v7 = 1u; v8 = 1u; v9 = 0u; v10 = 1u; v11 = 1u; v12 = 5u; v13 = 0u; goto L21;
+L6:;
+    v4 = ADDRESS(c116); v5 = 13u; v6 = 4u; v7 = 2u; v8 = 0u; v9 = 1u; v10 = 1u; v11 = 1u; v12 = 6u; v13 = 0u; goto L21;
+L7:;
+    v4 = ADDRESS(c117); v5 = 9u; v6 = 0u; v7 = 1u; v8 = 1u; v9 = 0u; v10 = 1u; v11 = 3u; v12 = 7u; v13 = 0u; goto L21;
+L8:;
+    v4 = ADDRESS(c118); v5 = 9u; v6 = 0u; v7 = 1u; v8 = 1u; v9 = 0u; v10 = 1u; v11 = 3u; v12 = 8u; v13 = 0u; goto L21;
+L9:;
+    v4 = ADDRESS(c119); v5 = 6u; v6 = 0u; v7 = 1u; v8 = 1u; v9 = 0u; v10 = 1u; v11 = 3u; v12 = 9u; v13 = 0u; goto L21;
+L10:;
+    v4 = ADDRESS(c120); v5 = 10u; v6 = 0u; v7 = 1u; v8 = 1u; v9 = 0u; v10 = 1u; v11 = 1u; v12 = 10u; v13 = 0u; goto L21;
+L11:;
+    v4 = ADDRESS(c126); v5 = 21u; v6 = 4u; v7 = 2u; v8 = 0u; v9 = 1u; v10 = 1u; v11 = 3u; v12 = 11u; v13 = 0u; goto L21;
+L12:;
+    v4 = ADDRESS(c128); v5 = 24u; v6 = 4u; v7 = 2u; v8 = 0u; v9 = 1u; v10 = 1u; v11 = 3u; v12 = 11u; v13 = 1u; goto L21;
+L13:;
+    v4 = ADDRESS(c130); v5 = 17u; v6 = 4u; v7 = 2u; v8 = 0u; v9 = 1u; v10 = 1u; v11 = 3u; v12 = 11u; v13 = 2u; goto L21;
+L14:;
+    v4 = ADDRESS(c121); v5 = 14u; v6 = 4u; v7 = 2u; v8 = 0u; v9 = 1u; v10 = 1u; v11 = 1u; v12 = 12u; v13 = 0u; goto L21;
+L15:;
+    v4 = ADDRESS(c122); v5 = 11u; v6 = 4u; v7 = 2u; v8 = 0u; v9 = 1u; v10 = 0u; v11 = 4u; v12 = 13u; v13 = 0u; goto L21;
+L16:;
+    v4 = ADDRESS(c123); v5 = 12u; v6 = 4u; v7 = 2u; v8 = 0u; v9 = 1u; v10 = 0u; v11 = 4u; v12 = 14u; v13 = 0u; goto L21;
+L17:;
+    v4 = ADDRESS(c124); v5 = 14u; v6 = 0u; v7 = 1u; v8 = 1u; v9 = 0u; v10 = 1u; v11 = 3u; v12 = 15u; v13 = 0u; goto L21;
+L18:;
+    v4 = ADDRESS(c125); v5 = 14u; v6 = 0u; v7 = 1u; v8 = 1u; v9 = 0u; v10 = 1u; v11 = 3u; v12 = 16u; v13 = 0u; goto L21;
+L19:;
+    v4 = ADDRESS(c132); v5 = 15u; v6 = 4u; v7 = 2u; v8 = 0u; v9 = 1u; v10 = 1u; v11 = 3u; v12 = 11u; v13 = 3u; goto L21;
+L20:;
+    v4 = ADDRESS(c134); v5 = 27u; v6 = 4u; v7 = 2u; v8 = 0u; v9 = 1u; v10 = 1u; v11 = 3u; v12 = 11u; v13 = 4u; goto L21;
+L21:;
+    memory_set(v26, 0u, 6u);
+    memory_cpy(v28, v26, 6u);
+    store16(v27, v30);
+    v31 = v27 + 2u * 1u;
+    memory_cpy(v31, v28, 6u);
+    v32 = v27 + 8u * 1u;
+    store_address(v32, v4);
+    v33 = v27 + 16u * 1u;
+    store64(v33, v5);
+    v34 = v27 + 24u * 1u;
+    store8(v34, v9);
+    v35 = v27 + 25u * 1u;
+    store8(v35, v11);
+    v36 = v27 + 26u * 1u;
+    store8(v36, v12);
+    v37 = v27 + 27u * 1u;
+    store8(v37, v13);
+    v38 = v27 + 28u * 1u;
+    store32(v38, 0u);
+    v39 = load8(a1);
+    switch (v39) {
+    case 0u: goto L22;
+    case 1u: goto L25;
+    case 3u: goto L23;
+    case 2u: goto L26;
+    case 4u: goto L26;
+    default: goto L24;
+    }
+L22:;
+    v40 = (u8)((u32)v11 & (u32)1u);
+    v41 = v40 == 0u;
+    if (v41) { goto L26; }
+    else { v14 = 0u; goto L27; }
+L23:;
+    if (v10) { goto L26; }
+    else { v14 = v6; goto L27; }
+L24:;
+    UNREACHABLE;
+L25:;
+    v42 = (u8)((u32)v11 & (u32)2u);
+    v43 = v42 == 0u;
+    if (v43) { goto L26; }
+    else { v14 = v7; goto L27; }
+L26:;
+    v44 = v39 == 1u;
+    v45 = v44 ? 4u : 5u;
+    if (v8) { v20 = v45; goto L52; }
+    else { v23 = v45; v24 = 1u; goto L62; }
+L27:;
+    v46 = (u8)((u32)v14 & (u32)a2);
+    v47 = v46 == v14;
+    if (v47) { goto L28; }
+    else { v19 = 5u; goto L49; }
+L28:;
+    v48 = a1 + 8u * 1u;
+    v49 = load_address(v48);
+    v50 = a1 + 16u * 1u;
+    v51 = load64(v50);
+    switch (v39) {
+    case 1u: goto L29;
+    case 3u: goto L37;
+    case 0u: goto L40;
+    case 2u: goto L40;
+    default: goto L36;
+    }
+L29:;
+    switch (v12) {
+    case 0u: goto L31;
+    case 1u: goto L32;
+    case 7u: goto L35;
+    case 8u: goto L35;
+    case 9u: goto L35;
+    case 11u: goto L35;
+    case 15u: goto L35;
+    case 16u: goto L34;
+    case 2u: v19 = 2u; goto L49;
+    case 3u: v19 = 2u; goto L49;
+    case 4u: v19 = 2u; goto L49;
+    case 5u: v19 = 2u; goto L49;
+    case 6u: v19 = 2u; goto L49;
+    case 10u: v19 = 2u; goto L49;
+    case 12u: v19 = 2u; goto L49;
+    case 13u: v19 = 2u; goto L49;
+    case 14u: v19 = 2u; goto L49;
+    default: goto L30;
+    }
+L30:;
+    UNREACHABLE;
+L31:;
+    v52 = v51 == 0u;
+    if (v52) { goto L39; }
+    else { v19 = 2u; goto L49; }
+L32:;
+    v53 = v51 == 0u;
+    if (v53) { v19 = 2u; goto L49; }
+    else { goto L33; }
+L33:;
+    v54 = load8(v49);
+    v55 = (u64)v54;
+    v56 = (u64)((u64)v55 + (u64)1u);
+    v57 = (u64)((u64)v56 & (u64)1u);
+    v58 = (u64)((u64)v57 + (u64)v56);
+    v59 = v51 == v58;
+    if (v59) { goto L39; }
+    else { v19 = 2u; goto L49; }
+L34:;
+    v60 = v51 == 4u;
+    if (v60) { goto L39; }
+    else { v19 = 2u; goto L49; }
+L35:;
+    v61 = v51 == 2u;
+    if (v61) { goto L39; }
+    else { v19 = 2u; goto L49; }
+L36:;
+    UNREACHABLE;
+L37:;
+    v62 = v51 == 0u;
+    if (v62) { goto L38; }
+    else { v19 = 2u; goto L49; }
+L38:;
+    goto L50;
+L39:;
+    goto L41;
+L40:;
+    v63 = v39 == 1u;
+    if (v63) { goto L41; }
+    else { goto L50; }
+L41:;
+    switch (v12) {
+    case 0u: v15 = 1u; v16 = v12; v17 = v12; v18 = v12; goto L48;
+    case 1u: goto L42;
+    case 7u: goto L43;
+    case 8u: goto L43;
+    case 9u: goto L43;
+    case 11u: goto L47;
+    case 15u: goto L44;
+    case 16u: goto L45;
+    case 2u: goto L46;
+    case 3u: goto L46;
+    case 4u: goto L46;
+    case 5u: goto L46;
+    case 6u: goto L46;
+    case 10u: goto L46;
+    case 12u: goto L46;
+    case 13u: goto L46;
+    case 14u: goto L46;
+    default: goto L30;
+    }
+L42:;
+    v15 = 2u; v16 = 128u; v17 = 0u; v18 = 0u; goto L48;
+L43:;
+    v15 = 3u; v16 = 0u; v17 = 0u; v18 = 0u; goto L48;
+L44:;
+    v15 = 5u; v16 = 23u; v17 = 49u; v18 = 254u; goto L48;
+L45:;
+    v15 = 8u; v16 = 0u; v17 = 0u; v18 = 0u; goto L48;
+L46:;
+    v15 = 0u; v16 = 0u; v17 = 0u; v18 = 0u; goto L48;
+L47:;
+    v64 = (u8)((u32)v13 << (3u & 7u));
+    v65 = (u64)v64;
+    v66 = (u64)(((u64)UINT64_C(30165894151) >> (v65 & 63u)) & UINT64_C(1099511627775));
+    v67 = (u8)(v66);
+    v68 = (u8)((u32)v13 << (3u & 7u));
+    v69 = (u64)v68;
+    v70 = (u64)(((u64)UINT64_C(34360263172) >> (v69 & 63u)) & UINT64_C(1099511627775));
+    v71 = (u8)(v70);
+    v72 = (u8)((u32)v13 << (3u & 7u));
+    v73 = (u64)v72;
+    v74 = (u64)(((u64)UINT64_C(21474904580) >> (v73 & 63u)) & UINT64_C(1099511627775));
+    v75 = (u8)(v74);
+    v15 = v67; v16 = v71; v17 = v75; v18 = 0u; goto L48;
+L48:;
+    store8(v25, v15);
+    v76 = v25 + 1u * 1u;
+    store8(v76, v16);
+    v77 = v25 + 2u * 1u;
+    store8(v77, v17);
+    v78 = v25 + 3u * 1u;
+    store8(v78, v18);
+    v79 = f25(v25, v49, v51);
+    if (v79) { goto L51; }
+    else { v19 = 3u; goto L49; }
+L49:;
+    if (v8) { v20 = v19; goto L52; }
+    else { v23 = v19; v24 = 1u; goto L62; }
+L50:;
+    goto L51;
+L51:;
+    f28(a0, v12, v13, a1);
+    if (v8) { goto L53; }
+    else { v23 = 0u; v24 = 0u; goto L62; }
+L52:;
+    v80 = a3 + 8u * 1u;
+    v81 = a3 + 1288u * 1u;
+    v82 = load64(v81);
+    v83 = (u64)((u64)v82 * (u64)160u);
+    v84 = v80 + v83 * 1u;
+    v85 = v84 + 8u * 1u;
+    store64(v84, 0u);
+    store8(v85, 2u);
+    v86 = v84 + 9u * 1u;
+    store8(v86, v20);
+    v87 = v84 + 10u * 1u;
+    memory_set(v87, 0u, 150u);
+    v88 = (u64)((u64)v82 + (u64)1u);
+    store64(v81, v88);
+    goto L63;
+L53:;
+    v89 = load8(a1);
+    v90 = v89 == 3u;
+    if (v90) { goto L54; }
+    else { goto L55; }
+L54:;
+    v91 = a3 + 8u * 1u;
+    v92 = a3 + 1288u * 1u;
+    v93 = load64(v92);
+    v94 = (u64)((u64)v93 * (u64)160u);
+    v95 = v91 + v94 * 1u;
+    v96 = v95 + 8u * 1u;
+    store64(v95, 0u);
+    store8(v96, 1u);
+    v97 = v95 + 9u * 1u;
+    v98 = (u64)((u64)v93 + (u64)1u);
+    memory_set(v97, 0u, 151u);
+    store64(v92, v98);
+    goto L63;
+L55:;
+    switch (v12) {
+    case 7u: v21 = 10u; goto L59;
+    case 8u: goto L56;
+    case 9u: goto L57;
+    case 10u: v22 = 0u; goto L60;
+    case 15u: goto L58;
+    case 0u: goto L61;
+    case 1u: goto L61;
+    case 2u: goto L61;
+    case 3u: goto L61;
+    case 4u: goto L61;
+    case 5u: goto L61;
+    case 6u: goto L61;
+    case 11u: goto L61;
+    case 12u: goto L61;
+    case 13u: goto L61;
+    case 14u: goto L61;
+    case 16u: goto L61;
+    default: goto L30;
+    }
+L56:;
+    v21 = 16u; goto L59;
+L57:;
+    v21 = 8u; goto L59;
+L58:;
+    v21 = 12u; goto L59;
+L59:;
+    v99 = a0 + v21 * 1u;
+    v100 = load8(v99);
+    v22 = v100; goto L60;
+L60:;
+    v101 = a3 + 8u * 1u;
+    v102 = a3 + 1288u * 1u;
+    v103 = load64(v102);
+    v104 = (u64)((u64)v103 * (u64)160u);
+    v105 = v101 + v104 * 1u;
+    v106 = v105 + 16u * 1u;
+    memory_set(v105, 0u, 16u);
+    store8(v106, v22);
+    v107 = v105 + 17u * 1u;
+    v108 = v105 + 152u * 1u;
+    memory_set(v107, 0u, 135u);
+    store64(v108, 2u);
+    v109 = (u64)((u64)v103 + (u64)1u);
+    store64(v102, v109);
+    goto L63;
+L61:;
+    f53(a0, v12, a3);
+    goto L63;
+L62:;
+    f54(a0, v27, a1, v24, v23, a3);
+    goto L63;
+L63:;
+    return;
+L64:;
+    v110 = a3 + 8u * 1u;
+    v111 = a3 + 1288u * 1u;
+    v112 = load64(v111);
+    v113 = (u64)((u64)v112 * (u64)160u);
+    v114 = v110 + v113 * 1u;
+    v115 = v114 + 8u * 1u;
+    store64(v114, 0u);
+    store8(v115, 2u);
+    v116 = v114 + 9u * 1u;
+    store8(v116, 1u);
+    v117 = v114 + 10u * 1u;
+    memory_set(v117, 0u, 150u);
+    v118 = (u64)((u64)v112 + (u64)1u);
+    store64(v111, v118);
+    goto L63;
+}
+
+static void f53(address a0, u8 a1, address a2) {
+    address v3, v4, v5, v6, v7, v9, v12, v13, v14, v15, v16, v19, v20, v22, v25, v26;
+    address v27, v28, v31, v32;
+    u8 v8, v11, v24;
+    u64 v10, v17, v18, v21, v23, v29, v30, v33;
+    u64 block0[19];
+    u64 block1[18];
+    u64 block2[19];
+    u64 block3[18];
+    u64 block4[18];
+    v3 = ADDRESS(block0);
+    v4 = ADDRESS(block1);
+    v5 = ADDRESS(block2);
+    v6 = ADDRESS(block3);
+    v7 = ADDRESS(block4);
+    v8 = a1 == 1u;
+    if (v8) { goto L1; }
+    else { goto L4; }
+L1:;
+    v9 = a0 + 160u * 1u;
+    v10 = load64(v9);
+    memory_set(v6, 0u, 144u);
+    v11 = v10 > 130u;
+    if (v11) { goto L3; }
+    else { goto L2; }
+L2:;
+    v12 = a0 + 24u * 1u;
+    memory_cpy(v6, v12, v10);
+    v13 = v6 + 136u * 1u;
+    store64(v13, v10);
+    goto L3;
+L3:;
+    memory_set(v5, 0u, 6u);
+    v14 = a2 + 8u * 1u;
+    v15 = v5 + 6u * 1u;
+    memory_cpy(v15, v6, 144u);
+    v16 = a2 + 1288u * 1u;
+    v17 = load64(v16);
+    v18 = (u64)((u64)v17 * (u64)160u);
+    v19 = v14 + v18 * 1u;
+    v20 = v19 + 10u * 1u;
+    memory_set(v19, 0u, 10u);
+    memory_cpy(v20, v5, 150u);
+    v21 = (u64)((u64)v17 + (u64)1u);
+    store64(v16, v21);
+    goto L7;
+L4:;
+    memory_set(v7, 0u, 144u);
+    f31(a0, a1, v7);
+    v22 = v7 + 136u * 1u;
+    v23 = load64(v22);
+    memory_set(v4, 0u, 144u);
+    v24 = v23 > 130u;
+    if (v24) { goto L6; }
+    else { goto L5; }
+L5:;
+    memory_cpy(v4, v7, v23);
+    v25 = v4 + 136u * 1u;
+    store64(v25, v23);
+    goto L6;
+L6:;
+    memory_set(v3, 0u, 6u);
+    v26 = a2 + 8u * 1u;
+    v27 = v3 + 6u * 1u;
+    memory_cpy(v27, v4, 144u);
+    v28 = a2 + 1288u * 1u;
+    v29 = load64(v28);
+    v30 = (u64)((u64)v29 * (u64)160u);
+    v31 = v26 + v30 * 1u;
+    v32 = v31 + 10u * 1u;
+    memory_set(v31, 0u, 10u);
+    memory_cpy(v32, v3, 150u);
+    v33 = (u64)((u64)v29 + (u64)1u);
+    store64(v28, v33);
+    goto L7;
+L7:;
+    return;
+}
+
+static void f54(address a0, address a1, address a2, u8 a3, u8 a4, address a5) {
+    u16 v6, v7, v17, v21, v22, v39, v51, v64, v65, v70, v71, v72, v73, v82, v100, v117;
+    u16 v127;
+    u64 v8, v20, v31, v32, v35, v36, v44, v47, v48, v55, v58, v59, v61, v63, v75, v76;
+    u64 v78, v79, v95, v96, v97, v102, v104, v105, v107, v110, v113, v114, v122, v123, v124, v129;
+    u64 v130;
+    u8 v9, v18, v23, v26, v33, v34, v45, v46, v56, v57, v60, v66, v67, v69, v103, v106;
+    u8 v112, v131;
+    address v10, v11, v12, v13, v14, v15, v16, v19, v24, v25, v27, v28, v29, v30, v37, v38;
+    address v40, v41, v42, v43, v49, v50, v52, v53, v54, v62, v68, v74, v77, v80, v81, v83;
+    address v84, v85, v86, v87, v88, v89, v90, v91, v92, v93, v94, v98, v99, v101, v108, v109;
+    address v111, v115, v116, v118, v119, v120, v121, v125, v126, v128;
+    u64 block0[1];
+    u64 block1[1];
+    u64 block2[14];
+    u64 block3[1];
+    u64 block4[14];
+    u64 block5[1];
+    v10 = ADDRESS(block0);
+    v11 = ADDRESS(block1);
+    v12 = ADDRESS(block2);
+    v13 = ADDRESS(block3);
+    v14 = ADDRESS(block4);
+    v15 = ADDRESS(block5);
+    v16 = a2 + 4u * 1u;
+    v17 = load16(v16);
+    v18 = v17 == 65535u;
+    if (v18) { goto L1; }
+    else { v6 = v17; v7 = v17; goto L2; }
+L1:;
+    v19 = a0 + 432u * 1u;
+    v20 = load64(v19);
+    v21 = (u16)(v20);
+    v6 = v21; v7 = 1u; goto L2;
+L2:;
+    v22 = (u16)((u32)v6 + (u32)1u);
+    v23 = v7 < v22;
+    if (v23) { goto L3; }
+    else { goto L22; }
+L3:;
+    v24 = a1 + 26u * 1u;
+    v25 = a1 + 27u * 1u;
+    v26 = a3 == 1u;
+    v27 = a0 + 432u * 1u;
+    v28 = a5 + 8u * 1u;
+    v29 = a5 + 1288u * 1u;
+    v30 = a0 + 240u * 1u;
+    v31 = (u64)v7;
+    v32 = (u64)v22;
+    v8 = v31; goto L4;
+L4:;
+    v33 = load8(v24);
+    v34 = load8(v25);
+    if (v26) { goto L5; }
+    else { goto L6; }
+L5:;
+    v35 = load64(v29);
+    v36 = (u64)((u64)v35 * (u64)160u);
+    v37 = v28 + v36 * 1u;
+    store16(v37, 1u);
+    v38 = v37 + 2u * 1u;
+    v39 = (u16)(v8);
+    store16(v38, v39);
+    v40 = v37 + 4u * 1u;
+    store32(v40, 0u);
+    v41 = v37 + 8u * 1u;
+    store8(v41, 2u);
+    v42 = v37 + 9u * 1u;
+    store8(v42, a4);
+    v43 = v37 + 10u * 1u;
+    memory_set(v43, 0u, 150u);
+    v44 = (u64)((u64)v35 + (u64)1u);
+    store64(v29, v44);
+    goto L21;
+L6:;
+    v45 = load8(a2);
+    v46 = v45 == 3u;
+    if (v46) { goto L7; }
+    else { goto L8; }
+L7:;
+    v47 = load64(v29);
+    v48 = (u64)((u64)v47 * (u64)160u);
+    v49 = v28 + v48 * 1u;
+    store16(v49, 1u);
+    v50 = v49 + 2u * 1u;
+    v51 = (u16)(v8);
+    store16(v50, v51);
+    v52 = v49 + 4u * 1u;
+    store32(v52, 0u);
+    v53 = v49 + 8u * 1u;
+    store8(v53, 1u);
+    v54 = v49 + 9u * 1u;
+    v55 = (u64)((u64)v47 + (u64)1u);
+    memory_set(v54, 0u, 151u);
+    store64(v29, v55);
+    goto L21;
+L8:;
+    v56 = v33 == 6u;
+    if (v56) { goto L9; }
+    else { goto L14; }
+L9:;
+    v57 = v8 == 0u;
+    if (v57) { goto L12; }
+    else { goto L10; }
+L10:;
+    v58 = load64(v27);
+    v59 = (u64)((u64)v8 + (u64)UINT64_C(18446744073709551615));
+    v60 = v59 < v58;
+    if (v60) { goto L11; }
+    else { goto L12; }
+L11:;
+    v61 = (u64)((u64)v59 * (u64)24u);
+    v62 = v30 + v61 * 1u;
+    memory_set(v15, 0u, 5u);
+    v63 = load64(a0);
+    v64 = (u16)(v8);
+    v65 = swap16(v64);
+    v66 = load8(v62);
+    v67 = (u8)((u32)v66 + (u32)1u);
+    v68 = v62 + 1u * 1u;
+    v69 = load8(v68);
+    v70 = (u16)v69;
+    v71 = (u16)((u32)v70 << (8u & 15u));
+    v72 = (u16)v67;
+    v73 = (u16)((u32)v71 | (u32)v72);
+    v74 = v62 + 8u * 1u;
+    v75 = load64(v74);
+    v76 = swap64(v75);
+    v77 = v62 + 16u * 1u;
+    memory_cpy(v15, v77, 5u);
+    memory_set(v13, 0u, 5u);
+    memory_set(v14, 0u, 110u);
+    memory_cpy(v13, v15, 5u);
+    memory_set(v10, 0u, 6u);
+    memory_cpy(v11, v13, 5u);
+    memory_cpy(v12, v14, 110u);
+    v78 = load64(v29);
+    v79 = (u64)((u64)v78 * (u64)160u);
+    v80 = v28 + v79 * 1u;
+    store16(v80, 1u);
+    v81 = v80 + 2u * 1u;
+    v82 = (u16)(v8);
+    store16(v81, v82);
+    v83 = v80 + 4u * 1u;
+    store32(v83, 0u);
+    v84 = v80 + 8u * 1u;
+    store8(v84, 0u);
+    v85 = v80 + 9u * 1u;
+    store8(v85, 0u);
+    v86 = v80 + 10u * 1u;
+    memory_cpy(v86, v10, 6u);
+    v87 = v80 + 16u * 1u;
+    store64(v87, v63);
+    v88 = v80 + 24u * 1u;
+    store16(v88, v65);
+    v89 = v80 + 26u * 1u;
+    store16(v89, v73);
+    v90 = v80 + 28u * 1u;
+    store64(v90, v76);
+    v91 = v80 + 36u * 1u;
+    memory_cpy(v91, v11, 5u);
+    v92 = v80 + 41u * 1u;
+    store8(v92, 2u);
+    v93 = v80 + 42u * 1u;
+    memory_cpy(v93, v12, 110u);
+    v94 = v80 + 152u * 1u;
+    store64(v94, 26u);
+    v95 = (u64)((u64)v78 + (u64)1u);
+    store64(v29, v95);
+    goto L13;
+L12:;
+    v96 = load64(v29);
+    v97 = (u64)((u64)v96 * (u64)160u);
+    v98 = v28 + v97 * 1u;
+    store16(v98, 1u);
+    v99 = v98 + 2u * 1u;
+    v100 = (u16)(v8);
+    store16(v99, v100);
+    v101 = v98 + 4u * 1u;
+    v102 = (u64)((u64)v96 + (u64)1u);
+    memory_set(v101, 0u, 156u);
+    store64(v29, v102);
+    goto L13;
+L13:;
+    goto L21;
+L14:;
+    v103 = v8 == 0u;
+    if (v103) { goto L20; }
+    else { goto L15; }
+L15:;
+    v104 = load64(v27);
+    v105 = (u64)((u64)v8 + (u64)UINT64_C(18446744073709551615));
+    v106 = v105 < v104;
+    v107 = (u64)((u64)v105 * (u64)24u);
+    v108 = a0 + v107 * 1u;
+    if (v106) { goto L16; }
+    else { goto L20; }
+L16:;
+    switch (v33) {
+    case 11u: goto L17;
+    case 12u: v9 = 2u; goto L19;
+    case 0u: goto L20;
+    case 1u: goto L20;
+    case 2u: goto L20;
+    case 3u: goto L20;
+    case 4u: goto L20;
+    case 5u: goto L20;
+    case 16u: goto L20;
+    case 7u: goto L20;
+    case 8u: goto L20;
+    case 9u: goto L20;
+    case 10u: goto L20;
+    case 13u: goto L20;
+    case 14u: goto L20;
+    case 15u: goto L20;
+    default: goto L18;
+    }
+L17:;
+    v109 = v108 + 256u * 1u;
+    v110 = (u64)v34;
+    v111 = v109 + v110 * 1u;
+    v112 = load8(v111);
+    v9 = v112; goto L19;
+L18:;
+    UNREACHABLE;
+L19:;
+    v113 = load64(v29);
+    v114 = (u64)((u64)v113 * (u64)160u);
+    v115 = v28 + v114 * 1u;
+    store16(v115, 1u);
+    v116 = v115 + 2u * 1u;
+    v117 = (u16)(v8);
+    store16(v116, v117);
+    v118 = v115 + 4u * 1u;
+    v119 = v115 + 16u * 1u;
+    memory_set(v118, 0u, 12u);
+    store8(v119, v9);
+    v120 = v115 + 17u * 1u;
+    v121 = v115 + 152u * 1u;
+    memory_set(v120, 0u, 135u);
+    store64(v121, 2u);
+    v122 = (u64)((u64)v113 + (u64)1u);
+    store64(v29, v122);
+    goto L21;
+L20:;
+    v123 = load64(v29);
+    v124 = (u64)((u64)v123 * (u64)160u);
+    v125 = v28 + v124 * 1u;
+    store16(v125, 1u);
+    v126 = v125 + 2u * 1u;
+    v127 = (u16)(v8);
+    store16(v126, v127);
+    v128 = v125 + 4u * 1u;
+    v129 = (u64)((u64)v123 + (u64)1u);
+    memory_set(v128, 0u, 156u);
+    store64(v29, v129);
+    goto L21;
+L21:;
+    v130 = (u64)((u64)v8 + (u64)1u);
+    v131 = v130 == v32;
+    if (v131) { goto L22; }
+    else { v8 = v130; goto L4; }
+L22:;
+    return;
+}
+
+static void f55(address a0, address a1, u8 a2) {
+    address v3, v4, v5, v6, v10, v12, v13, v14, v15, v16, v17, v18, v19, v20, v21, v22;
+    address v23, v24, v25, v26, v27, v28, v29, v30, v31, v32;
+    u8 v7, v8, v9;
+    u16 v11, v33;
+    u64 block0[163];
+    u64 block1[162];
+    v3 = ADDRESS(block0);
+    v4 = ADDRESS(block1);
+    v5 = a1 + 16u * 1u;
+    v6 = v3 + 1296u * 1u;
+    store64(v6, 0u);
+    v7 = load8(v5);
+    v8 = v7 > 2u;
+    v9 = v8 ? 4u : 2u;
+    v10 = a1 + 18u * 1u;
+    v11 = load16(v10);
+    store8(v3, v9);
+    v12 = v3 + 1u * 1u;
+    store8(v12, 0u);
+    v13 = v3 + 2u * 1u;
+    store16(v13, v11);
+    v14 = v3 + 4u * 1u;
+    store32(v14, 0u);
+    v15 = v3 + 8u * 1u;
+    store64(v15, 0u);
+    v16 = v3 + 16u * 1u;
+    store8(v16, 1u);
+    v17 = v3 + 17u * 1u;
+    memory_set(v17, 0u, 159u);
+    v18 = v3 + 176u * 1u;
+    store8(v18, 1u);
+    v19 = v3 + 177u * 1u;
+    memory_set(v19, 0u, 159u);
+    v20 = v3 + 336u * 1u;
+    store8(v20, 1u);
+    v21 = v3 + 337u * 1u;
+    memory_set(v21, 0u, 159u);
+    v22 = v3 + 496u * 1u;
+    store8(v22, 1u);
+    v23 = v3 + 497u * 1u;
+    memory_set(v23, 0u, 159u);
+    v24 = v3 + 656u * 1u;
+    store8(v24, 1u);
+    v25 = v3 + 657u * 1u;
+    memory_set(v25, 0u, 159u);
+    v26 = v3 + 816u * 1u;
+    store8(v26, 1u);
+    v27 = v3 + 817u * 1u;
+    memory_set(v27, 0u, 159u);
+    v28 = v3 + 976u * 1u;
+    store8(v28, 1u);
+    v29 = v3 + 977u * 1u;
+    memory_set(v29, 0u, 159u);
+    v30 = v3 + 1136u * 1u;
+    store8(v30, 1u);
+    v31 = v3 + 1137u * 1u;
+    memory_set(v31, 0u, 159u);
+    store8(v6, a2);
+    f56(a0, v5, v3);
+    memory_cpy(v4, v3, 1296u);
+    v32 = a1 + 10u * 1u;
+    v33 = load16(v32);
+    f59(a0, a1, v33, v5, v4);
+    return;
+}
+
+static void f56(address a0, address a1, address a2) {
+    address v3, v10, v11, v12, v15, v17, v18, v19, v20, v21, v22, v23, v24, v28, v30, v31;
+    address v34, v35, v36, v37, v39, v41, v42, v45, v46, v47, v48, v50, v52, v53, v56, v57;
+    address v58, v59;
+    u64 v4, v32, v33, v38, v43, v44, v49, v54, v55, v60;
+    u8 v5, v6, v7, v8, v9, v13, v14, v25, v26, v27, v29, v40, v51, v61;
+    u16 v16;
+    u64 block0[1];
+    u64 block1[4];
+    u64 block2[1];
+    v10 = ADDRESS(block0);
+    v11 = ADDRESS(block1);
+    v12 = ADDRESS(block2);
+    v13 = load8(a1);
+    v14 = v13 != 0u;
+    v15 = a1 + 2u * 1u;
+    v16 = load16(v15);
+    switch (v16) {
+    case 0u: v3 = ADDRESS(c110); v4 = 19u; v5 = 0u; v6 = 1u; v7 = 7u; v8 = 0u; v9 = 0u; goto L21;
+    case 2u: goto L1;
+    case 8192u: goto L2;
+    case 8193u: goto L3;
+    case 8194u: goto L4;
+    case 8195u: goto L5;
+    case 8196u: goto L6;
+    case 8197u: goto L7;
+    case 8198u: goto L8;
+    case 8199u: goto L9;
+    case 8200u: goto L10;
+    case 8201u: goto L11;
+    case 8202u: goto L12;
+    case 8203u: goto L13;
+    case 8204u: goto L14;
+    case 8205u: goto L15;
+    case 8206u: goto L16;
+    case 8208u: goto L17;
+    case 8209u: goto L18;
+    case 24576u: goto L19;
+    case 24577u: goto L20;
+    default: goto L22;
+    }
+L1:;
+    v3 = ADDRESS(c111); v4 = 16u; v5 = 1u; v6 = 0u; v7 = 3u; v8 = 1u; v9 = 0u; goto L21;
+L2:;
+    v3 = ADDRESS(c112); v4 = 16u; v5 = 1u; v6 = 0u; v7 = 1u; v8 = 2u; v9 = 0u; goto L21;
+L3:;
+    v3 = ADDRESS(c113); v4 = 16u; v5 = 1u; v6 = 0u; v7 = 1u; v8 = 3u; v9 = 0u; goto L21;
+L4:;
+    v3 = ADDRESS(c114); v4 = 15u; v5 = 1u; v6 = 0u; v7 = 1u; v8 = 4u; v9 = 0u; goto L21;
+L5:;
+    v3 = ADDRESS(c115); v4 = 24u; v5 = 1u; v6 = 0u; v7 = 1u; v8 = 5u; v9 = 0u; goto L21;
+L6:;
+    v3 = ADDRESS(c116); v4 = 13u; v5 = 0u; v6 = 1u; v7 = 1u; v8 = 6u; v9 = 0u; goto L21;
+L7:;
+    v3 = ADDRESS(c117); v4 = 9u; v5 = 1u; v6 = 0u; v7 = 3u; v8 = 7u; v9 = 0u; goto L21;
+L8:;
+    v3 = ADDRESS(c118); v4 = 9u; v5 = 1u; v6 = 0u; v7 = 3u; v8 = 8u; v9 = 0u; goto L21;
+L9:;
+    v3 = ADDRESS(c119); v4 = 6u; v5 = 1u; v6 = 0u; v7 = 3u; v8 = 9u; v9 = 0u; goto L21;
+L10:;
+    v3 = ADDRESS(c120); v4 = 10u; v5 = 1u; v6 = 0u; v7 = 1u; v8 = 10u; v9 = 0u; goto L21;
+L11:;
+    v3 = ADDRESS(c126); v4 = 21u; v5 = 0u; v6 = 1u; v7 = 3u; v8 = 11u; v9 = 0u; goto L21;
+L12:;
+    v3 = ADDRESS(c128); v4 = 24u; v5 = 0u; v6 = 1u; v7 = 3u; v8 = 11u; v9 = 1u; goto L21;
+L13:;
+    v3 = ADDRESS(c130); v4 = 17u; v5 = 0u; v6 = 1u; v7 = 3u; v8 = 11u; v9 = 2u; goto L21;
+L14:;
+    v3 = ADDRESS(c121); v4 = 14u; v5 = 0u; v6 = 1u; v7 = 1u; v8 = 12u; v9 = 0u; goto L21;
+L15:;
+    v3 = ADDRESS(c122); v4 = 11u; v5 = 0u; v6 = 1u; v7 = 4u; v8 = 13u; v9 = 0u; goto L21;
+L16:;
+    v3 = ADDRESS(c123); v4 = 12u; v5 = 0u; v6 = 1u; v7 = 4u; v8 = 14u; v9 = 0u; goto L21;
+L17:;
+    v3 = ADDRESS(c124); v4 = 14u; v5 = 1u; v6 = 0u; v7 = 3u; v8 = 15u; v9 = 0u; goto L21;
+L18:;
+    v3 = ADDRESS(c125); v4 = 14u; v5 = 1u; v6 = 0u; v7 = 3u; v8 = 16u; v9 = 0u; goto L21;
+L19:;
+    v3 = ADDRESS(c132); v4 = 15u; v5 = 0u; v6 = 1u; v7 = 3u; v8 = 11u; v9 = 3u; goto L21;
+L20:;
+    v3 = ADDRESS(c134); v4 = 27u; v5 = 0u; v6 = 1u; v7 = 3u; v8 = 11u; v9 = 4u; goto L21;
+L21:;
+    memory_set(v10, 0u, 6u);
+    memory_cpy(v12, v10, 6u);
+    store16(v11, v16);
+    v17 = v11 + 2u * 1u;
+    memory_cpy(v17, v12, 6u);
+    v18 = v11 + 8u * 1u;
+    store_address(v18, v3);
+    v19 = v11 + 16u * 1u;
+    store64(v19, v4);
+    v20 = v11 + 24u * 1u;
+    store8(v20, v6);
+    v21 = v11 + 25u * 1u;
+    store8(v21, v7);
+    v22 = v11 + 26u * 1u;
+    store8(v22, v8);
+    v23 = v11 + 27u * 1u;
+    store8(v23, v9);
+    v24 = v11 + 28u * 1u;
+    store32(v24, 0u);
+    v25 = (u8)((u32)v7 & (u32)1u);
+    v26 = v25 == 0u;
+    v27 = (u8)(((u32)v14 | (u32)v26) & UINT64_C(1));
+    if (v5) { goto L24; }
+    else { goto L30; }
+L22:;
+    v28 = a2 + 1296u * 1u;
+    v29 = load8(v28);
+    v30 = a2 + 8u * 1u;
+    v31 = a2 + 1288u * 1u;
+    v32 = load64(v31);
+    v33 = (u64)((u64)v32 * (u64)160u);
+    v34 = v30 + v33 * 1u;
+    v35 = v34 + 8u * 1u;
+    store64(v34, 0u);
+    store8(v35, 2u);
+    v36 = v34 + 9u * 1u;
+    store8(v36, v29);
+    v37 = v34 + 10u * 1u;
+    memory_set(v37, 0u, 150u);
+    v38 = (u64)((u64)v32 + (u64)1u);
+    store64(v31, v38);
+    goto L23;
+L23:;
+    return;
+L24:;
+    if (v27) { goto L25; }
+    else { goto L26; }
+L25:;
+    v39 = a2 + 1296u * 1u;
+    v40 = load8(v39);
+    v41 = a2 + 8u * 1u;
+    v42 = a2 + 1288u * 1u;
+    v43 = load64(v42);
+    v44 = (u64)((u64)v43 * (u64)160u);
+    v45 = v41 + v44 * 1u;
+    v46 = v45 + 8u * 1u;
+    store64(v45, 0u);
+    store8(v46, 2u);
+    v47 = v45 + 9u * 1u;
+    store8(v47, v40);
+    v48 = v45 + 10u * 1u;
+    memory_set(v48, 0u, 150u);
+    v49 = (u64)((u64)v43 + (u64)1u);
+    store64(v42, v49);
+    goto L23;
+L26:;
+    switch (v8) {
+    case 7u: goto L28;
+    case 8u: goto L28;
+    case 9u: goto L28;
+    case 10u: goto L28;
+    case 15u: goto L28;
+    case 0u: goto L29;
+    case 1u: goto L29;
+    case 2u: goto L29;
+    case 3u: goto L29;
+    case 4u: goto L29;
+    case 5u: goto L29;
+    case 6u: goto L29;
+    case 11u: goto L29;
+    case 12u: goto L29;
+    case 13u: goto L29;
+    case 14u: goto L29;
+    case 16u: goto L29;
+    default: goto L27;
+    }
+L27:;
+    UNREACHABLE;
+L28:;
+    v50 = a2 + 1296u * 1u;
+    v51 = load8(v50);
+    v52 = a2 + 8u * 1u;
+    v53 = a2 + 1288u * 1u;
+    v54 = load64(v53);
+    v55 = (u64)((u64)v54 * (u64)160u);
+    v56 = v52 + v55 * 1u;
+    v57 = v56 + 8u * 1u;
+    store64(v56, 0u);
+    store8(v57, 2u);
+    v58 = v56 + 9u * 1u;
+    store8(v58, v51);
+    v59 = v56 + 10u * 1u;
+    memory_set(v59, 0u, 150u);
+    v60 = (u64)((u64)v54 + (u64)1u);
+    store64(v53, v60);
+    goto L23;
+L29:;
+    f57(a0, v8, a2);
+    goto L23;
+L30:;
+    v61 = (u8)v27;
+    f58(a0, v11, a1, v61, a2);
+    goto L23;
+}
+
+static void f57(address a0, u8 a1, address a2) {
+    address v3, v5, v7, v8, v11, v12, v13, v14, v16, v18, v19, v22, v23, v24, v25;
+    u8 v4, v6, v17;
+    u64 v9, v10, v15, v20, v21, v26;
+    u64 block0[18];
+    v3 = ADDRESS(block0);
+    v4 = a1 == 1u;
+    if (v4) { goto L1; }
+    else { goto L2; }
+L1:;
+    v5 = a2 + 1296u * 1u;
+    v6 = load8(v5);
+    v7 = a2 + 8u * 1u;
+    v8 = a2 + 1288u * 1u;
+    v9 = load64(v8);
+    v10 = (u64)((u64)v9 * (u64)160u);
+    v11 = v7 + v10 * 1u;
+    v12 = v11 + 8u * 1u;
+    store64(v11, 0u);
+    store8(v12, 2u);
+    v13 = v11 + 9u * 1u;
+    store8(v13, v6);
+    v14 = v11 + 10u * 1u;
+    memory_set(v14, 0u, 150u);
+    v15 = (u64)((u64)v9 + (u64)1u);
+    store64(v8, v15);
+    goto L3;
+L2:;
+    memory_set(v3, 0u, 144u);
+    f31(a0, a1, v3);
+    v16 = a2 + 1296u * 1u;
+    v17 = load8(v16);
+    v18 = a2 + 8u * 1u;
+    v19 = a2 + 1288u * 1u;
+    v20 = load64(v19);
+    v21 = (u64)((u64)v20 * (u64)160u);
+    v22 = v18 + v21 * 1u;
+    v23 = v22 + 8u * 1u;
+    store64(v22, 0u);
+    store8(v23, 2u);
+    v24 = v22 + 9u * 1u;
+    store8(v24, v17);
+    v25 = v22 + 10u * 1u;
+    memory_set(v25, 0u, 150u);
+    v26 = (u64)((u64)v20 + (u64)1u);
+    store64(v19, v26);
+    goto L3;
+L3:;
+    return;
+}
+
+static void f58(address a0, address a1, address a2, u8 a3, address a4) {
+    u16 v5, v6, v9, v13, v14, v26;
+    u64 v7, v12, v19, v20, v22, v23, v31, v32;
+    address v8, v11, v16, v17, v18, v24, v25, v27, v28, v29, v30;
+    u8 v10, v15, v21, v33;
+    v8 = a2 + 4u * 1u;
+    v9 = load16(v8);
+    v10 = v9 == 65535u;
+    if (v10) { goto L1; }
+    else { v5 = v9; v6 = v9; goto L2; }
+L1:;
+    v11 = a0 + 432u * 1u;
+    v12 = load64(v11);
+    v13 = (u16)(v12);
+    v5 = v13; v6 = 1u; goto L2;
+L2:;
+    v14 = (u16)((u32)v5 + (u32)1u);
+    v15 = v6 < v14;
+    if (v15) { goto L3; }
+    else { goto L5; }
+L3:;
+    v16 = a4 + 1296u * 1u;
+    v17 = a4 + 8u * 1u;
+    v18 = a4 + 1288u * 1u;
+    v19 = (u64)v6;
+    v20 = (u64)v14;
+    v7 = v19; goto L4;
+L4:;
+    v21 = load8(v16);
+    v22 = load64(v18);
+    v23 = (u64)((u64)v22 * (u64)160u);
+    v24 = v17 + v23 * 1u;
+    store16(v24, 1u);
+    v25 = v24 + 2u * 1u;
+    v26 = (u16)(v7);
+    store16(v25, v26);
+    v27 = v24 + 4u * 1u;
+    store32(v27, 0u);
+    v28 = v24 + 8u * 1u;
+    store8(v28, 2u);
+    v29 = v24 + 9u * 1u;
+    store8(v29, v21);
+    v30 = v24 + 10u * 1u;
+    memory_set(v30, 0u, 150u);
+    v31 = (u64)((u64)v22 + (u64)1u);
+    store64(v18, v31);
+    v32 = (u64)((u64)v7 + (u64)1u);
+    v33 = v32 == v20;
+    if (v33) { goto L5; }
+    else { v7 = v32; goto L4; }
+L5:;
+    return;
+}
+
+static void f59(address a0, address a1, u16 a2, address a3, address a4) {
+    address v5, v11, v14, v22, v23, v24, v25, v28, v30, v32, v35, v42, v43, v44, v46, v47;
+    address v49, v50, v52, v53, v54, v55, v58, v67, v68, v72, v73, v79, v80, v82, v84, v88;
+    address v89, v90, v93, v94, v97, v133, v135, v138, v140, v141, v143, v149, v153, v154, v159, v161;
+    address v163, v166, v167, v168, v172, v173, v174, v175, v176, v177, v178, v181, v182, v183, v184, v188;
+    address v189, v190, v191, v192, v193, v194, v195, v196, v197, v201, v203, v209, v210, v216;
+    u64 v6, v7, v8, v10, v12, v13, v18, v19, v20, v21, v26, v31, v36, v37, v39, v41;
+    u64 v56, v59, v63, v64, v65, v70, v74, v81, v83, v91, v95, v96, v101, v103, v105, v107;
+    u64 v109, v111, v113, v116, v118, v120, v122, v124, v126, v128, v132, v142, v145, v146, v147, v150;
+    u64 v151, v156, v158, v160, v162, v169, v170, v185, v186, v205, v206, v207, v212, v215, v217, v218;
+    u8 v9, v17, v27, v34, v38, v40, v45, v57, v60, v61, v62, v66, v69, v71, v75, v76;
+    u8 v77, v78, v86, v92, v98, v100, v102, v104, v106, v108, v110, v112, v114, v115, v117, v119;
+    u8 v121, v123, v125, v127, v129, v134, v137, v139, v144, v148, v152, v155, v157, v171, v187, v204;
+    u8 v208, v211, v213, v214, v219;
+    u16 v15, v16, v29, v33, v48, v51, v85, v87, v130, v131, v136, v164, v165, v179, v180, v198;
+    u16 v199, v200, v202;
+    u32 v99;
+    u64 block0[7];
+    v22 = ADDRESS(block0);
+    v23 = a0 + 448u * 1u;
+    v24 = load_address(v23);
+    v25 = a0 + 456u * 1u;
+    v26 = load64(v25);
+    v27 = v26 == 0u;
+    if (v27) { goto L48; }
+    else { goto L1; }
+L1:;
+    v28 = a1 + 8u * 1u;
+    v29 = load16(v28);
+    v5 = v24; v6 = v26; v7 = 0u; goto L2;
+L2:;
+    v30 = v5 + 2136u * 1u;
+    v31 = (u64)((u64)v6 + (u64)UINT64_C(18446744073709551615));
+    v32 = v5 + 2112u * 1u;
+    v33 = load16(v32);
+    v34 = v29 == v33;
+    if (v34) { goto L3; }
+    else { goto L4; }
+L3:;
+    v35 = v5 + 2104u * 1u;
+    v36 = load64(a1);
+    v37 = load64(v35);
+    v38 = v36 == v37;
+    if (v38) { goto L5; }
+    else { goto L4; }
+L4:;
+    v39 = (u64)((u64)v7 + (u64)1u);
+    v40 = v31 == 0u;
+    if (v40) { goto L48; }
+    else { v5 = v30; v6 = v31; v7 = v39; goto L2; }
+L5:;
+    v41 = (u64)((u64)v7 * (u64)2136u);
+    v42 = v24 + v41 * 1u;
+    v43 = v42 + 2129u * 1u;
+    store8(v43, 1u);
+    v44 = v42 + 2114u * 1u;
+    store16(v44, a2);
+    v45 = load8(a3);
+    v46 = v42 + 2120u * 1u;
+    store8(v46, v45);
+    v47 = a3 + 2u * 1u;
+    v48 = load16(v47);
+    v49 = v42 + 2116u * 1u;
+    store16(v49, v48);
+    v50 = a3 + 4u * 1u;
+    v51 = load16(v50);
+    v52 = v42 + 2118u * 1u;
+    store16(v52, v51);
+    v53 = a3 + 8u * 1u;
+    v54 = load_address(v53);
+    v55 = a3 + 16u * 1u;
+    v56 = load64(v55);
+    v57 = v56 == 0u;
+    v58 = v42 + 1424u * 1u;
+    v59 = load64(v58);
+    v60 = v59 == 0u;
+    v61 = v57 ? v60 : 0u;
+    if (v61) { goto L11; }
+    else { goto L6; }
+L6:;
+    v62 = v59 == v56;
+    if (v62) { goto L7; }
+    else { goto L10; }
+L7:;
+    v63 = (u64)v42;
+    v64 = (u64)v54;
+    v65 = (u64)((u64)v63 - (u64)v64);
+    v66 = v65 < v56;
+    if (v66) { v8 = 0u; goto L9; }
+    else { goto L8; }
+L8:;
+    memory_move(v42, v54, v56);
+    goto L11;
+L9:;
+    v67 = v42 + v8 * 1u;
+    v68 = v54 + v8 * 1u;
+    v69 = load8(v68);
+    store8(v67, v69);
+    v70 = (u64)((u64)v8 + (u64)1u);
+    v71 = v70 == v56;
+    if (v71) { goto L11; }
+    else { v8 = v70; goto L9; }
+L10:;
+    f33(v42, v54, v56);
+    goto L11;
+L11:;
+    v72 = a4 + 8u * 1u;
+    v73 = a4 + 1288u * 1u;
+    v74 = load64(v73);
+    v75 = v74 == 0u;
+    if (v75) { v9 = 0u; goto L13; }
+    else { goto L12; }
+L12:;
+    v76 = load8(v72);
+    v77 = v76 == 1u;
+    v9 = v77; goto L13;
+L13:;
+    v78 = (u8)v9;
+    v79 = v42 + 2121u * 1u;
+    store8(v79, v78);
+    v80 = v42 + 2096u * 1u;
+    v81 = load64(v80);
+    v82 = v42 + 2104u * 1u;
+    v83 = load64(v82);
+    v84 = v42 + 2112u * 1u;
+    v85 = load16(v84);
+    v86 = load8(a3);
+    v87 = load16(v47);
+    v88 = v42 + 1432u * 1u;
+    v89 = v42 + 1448u * 1u;
+    memory_set(v88, 0u, 16u);
+    v90 = v42 + 2088u * 1u;
+    v91 = load64(v90);
+    v92 = v91 == 0u;
+    if (v92) { goto L15; }
+    else { goto L14; }
+L14:;
+    memory_set(v89, 0u, v91);
+    store64(v90, 0u);
+    goto L15;
+L15:;
+    if (v75) { goto L47; }
+    else { goto L16; }
+L16:;
+    v93 = v22 + 4u * 1u;
+    v94 = v22 + 16u * 1u;
+    v95 = (u64)v93;
+    v96 = (u64)v94;
+    v97 = v42 + 1440u * 1u;
+    v98 = v86 > 2u;
+    v99 = v98 ? UINT32_C(262144) : UINT32_C(131072);
+    v100 = (u8)(v81);
+    v101 = (u64)((u64)v81 >> (8u & 63u));
+    v102 = (u8)(v101);
+    v103 = (u64)((u64)v81 >> (16u & 63u));
+    v104 = (u8)(v103);
+    v105 = (u64)((u64)v81 >> (24u & 63u));
+    v106 = (u8)(v105);
+    v107 = (u64)((u64)v81 >> (32u & 63u));
+    v108 = (u8)(v107);
+    v109 = (u64)((u64)v81 >> (40u & 63u));
+    v110 = (u8)(v109);
+    v111 = (u64)((u64)v81 >> (48u & 63u));
+    v112 = (u8)(v111);
+    v113 = (u64)((u64)v81 >> (56u & 63u));
+    v114 = (u8)(v113);
+    v115 = (u8)(v83);
+    v116 = (u64)((u64)v83 >> (8u & 63u));
+    v117 = (u8)(v116);
+    v118 = (u64)((u64)v83 >> (16u & 63u));
+    v119 = (u8)(v118);
+    v120 = (u64)((u64)v83 >> (24u & 63u));
+    v121 = (u8)(v120);
+    v122 = (u64)((u64)v83 >> (32u & 63u));
+    v123 = (u8)(v122);
+    v124 = (u64)((u64)v83 >> (40u & 63u));
+    v125 = (u8)(v124);
+    v126 = (u64)((u64)v83 >> (48u & 63u));
+    v127 = (u8)(v126);
+    v128 = (u64)((u64)v83 >> (56u & 63u));
+    v129 = (u8)(v128);
+    v130 = swap16(a2);
+    v131 = swap16(v85);
+    v10 = 0u; goto L17;
+L17:;
+    v132 = (u64)((u64)v10 * (u64)160u);
+    v133 = v72 + v132 * 1u;
+    v134 = load8(v133);
+    v135 = v133 + 2u * 1u;
+    v136 = load16(v135);
+    v137 = v134 == 1u;
+    v138 = v133 + 8u * 1u;
+    v139 = load8(v138);
+    switch (v139) {
+    case 0u: goto L18;
+    case 1u: v11 = ADDRESS(c138); v12 = 0u; goto L28;
+    case 2u: goto L19;
+    default: goto L27;
+    }
+L18:;
+    v140 = v133 + 16u * 1u;
+    v141 = v133 + 152u * 1u;
+    v142 = load64(v141);
+    v11 = v140; v12 = v142; goto L28;
+L19:;
+    v143 = v133 + 9u * 1u;
+    v144 = load8(v143);
+    switch (v144) {
+    case 0u: v13 = 0u; v14 = ADDRESS(c138); v15 = v87; v16 = 1u; v17 = 1u; v18 = 60u; goto L29;
+    case 1u: goto L20;
+    case 2u: goto L21;
+    case 3u: goto L22;
+    case 4u: goto L23;
+    case 5u: goto L24;
+    case 6u: goto L25;
+    default: goto L26;
+    }
+L20:;
+    v13 = 0u; v14 = ADDRESS(c138); v15 = v87; v16 = 2u; v17 = 1u; v18 = 60u; goto L29;
+L21:;
+    v13 = 0u; v14 = ADDRESS(c138); v15 = v87; v16 = 3u; v17 = 1u; v18 = 60u; goto L29;
+L22:;
+    v13 = 0u; v14 = ADDRESS(c138); v15 = v87; v16 = 4u; v17 = 1u; v18 = 60u; goto L29;
+L23:;
+    v13 = 0u; v14 = ADDRESS(c138); v15 = v87; v16 = 5u; v17 = 1u; v18 = 60u; goto L29;
+L24:;
+    v13 = 0u; v14 = ADDRESS(c138); v15 = v87; v16 = 6u; v17 = 1u; v18 = 60u; goto L29;
+L25:;
+    v13 = 0u; v14 = ADDRESS(c138); v15 = v87; v16 = 65534u; v17 = 1u; v18 = 60u; goto L29;
+L26:;
+    UNREACHABLE;
+L27:;
+    UNREACHABLE;
+L28:;
+    v145 = (u64)((u64)v12 + (u64)54u);
+    v13 = v12; v14 = v11; v15 = 0u; v16 = v87; v17 = 0u; v18 = v145; goto L29;
+L29:;
+    v146 = load64(v90);
+    v147 = (u64)((u64)640u - (u64)v146);
+    v148 = v147 < v18;
+    if (v148) { v20 = v146; goto L34; }
+    else { goto L30; }
+L30:;
+    v149 = v89 + v146 * 1u;
+    v150 = (u64)v149;
+    v151 = (u64)((u64)v150 - (u64)(ADDRESS(c136) + 8u * 1u));
+    v152 = v151 < v18;
+    if (v152) { v19 = 0u; goto L32; }
+    else { goto L31; }
+L31:;
+    memory_cpy(v149, (ADDRESS(c136) + 8u * 1u), v18);
+    goto L33;
+L32:;
+    v153 = v149 + v19 * 1u;
+    v154 = (ADDRESS(c136) + 8u * 1u) + v19 * 1u;
+    v155 = load8(v154);
+    store8(v153, v155);
+    v156 = (u64)((u64)v19 + (u64)1u);
+    v157 = v156 == v18;
+    if (v157) { goto L33; }
+    else { v19 = v156; goto L32; }
+L33:;
+    v158 = (u64)((u64)v146 + (u64)v18);
+    store64(v90, v158);
+    v20 = v158; goto L34;
+L34:;
+    v159 = v89 + v146 * 1u;
+    v160 = (u64)((u64)v20 - (u64)v146);
+    v161 = v159 + 48u * 1u;
+    v162 = (u64)((u64)v160 + (u64)UINT64_C(18446744073709551568));
+    v163 = v159 + 6u * 1u;
+    memory_set(v163, 0u, 42u);
+    store16(v159, 4621u);
+    v164 = (u16)(v160);
+    v165 = swap16(v164);
+    v166 = v159 + 2u * 1u;
+    store16(v166, v165);
+    v167 = v159 + 4u * 1u;
+    store16(v167, 0u);
+    v168 = v159 + 20u * 1u;
+    v169 = (u64)v168;
+    v170 = (u64)((u64)v169 - (u64)v95);
+    v171 = v170 < 8u;
+    if (v171) { goto L35; }
+    else { goto L36; }
+L35:;
+    store8(v168, v100);
+    v172 = v159 + 21u * 1u;
+    store8(v172, v102);
+    v173 = v159 + 22u * 1u;
+    store8(v173, v104);
+    v174 = v159 + 23u * 1u;
+    store8(v174, v106);
+    v175 = v159 + 24u * 1u;
+    store8(v175, v108);
+    v176 = v159 + 25u * 1u;
+    store8(v176, v110);
+    v177 = v159 + 26u * 1u;
+    store8(v177, v112);
+    v178 = v159 + 27u * 1u;
+    store8(v178, v114);
+    goto L37;
+L36:;
+    store64(v168, v81);
+    goto L37;
+L37:;
+    v179 = swap16(v136);
+    v180 = v137 ? v179 : 0u;
+    v181 = v159 + 28u * 1u;
+    store16(v181, v180);
+    v182 = v159 + 30u * 1u;
+    store16(v182, v130);
+    v183 = v159 + 32u * 1u;
+    store16(v183, 32516u);
+    v184 = v159 + 34u * 1u;
+    v185 = (u64)v184;
+    v186 = (u64)((u64)v185 - (u64)v96);
+    v187 = v186 < 8u;
+    if (v187) { goto L38; }
+    else { goto L39; }
+L38:;
+    store8(v184, v115);
+    v188 = v159 + 35u * 1u;
+    store8(v188, v117);
+    v189 = v159 + 36u * 1u;
+    store8(v189, v119);
+    v190 = v159 + 37u * 1u;
+    store8(v190, v121);
+    v191 = v159 + 38u * 1u;
+    store8(v191, v123);
+    v192 = v159 + 39u * 1u;
+    store8(v192, v125);
+    v193 = v159 + 40u * 1u;
+    store8(v193, v127);
+    v194 = v159 + 41u * 1u;
+    store8(v194, v129);
+    goto L40;
+L39:;
+    store64(v184, v83);
+    goto L40;
+L40:;
+    v195 = v159 + 42u * 1u;
+    store16(v195, v131);
+    v196 = v159 + 44u * 1u;
+    store32(v196, v99);
+    if (v17) { goto L41; }
+    else { goto L42; }
+L41:;
+    f5(v161, v162, v16, v15, v14, v13);
+    goto L46;
+L42:;
+    v197 = v159 + 54u * 1u;
+    v198 = (u16)(v13);
+    store16(v161, 256u);
+    v199 = (u16)((u32)v198 + (u32)2u);
+    v200 = swap16(v199);
+    v201 = v159 + 50u * 1u;
+    store16(v201, v200);
+    v202 = swap16(v16);
+    v203 = v159 + 52u * 1u;
+    store16(v203, v202);
+    v204 = v13 == 0u;
+    if (v204) { goto L46; }
+    else { goto L43; }
+L43:;
+    v205 = (u64)v197;
+    v206 = (u64)v14;
+    v207 = (u64)((u64)v205 - (u64)v206);
+    v208 = v207 < v13;
+    if (v208) { v21 = 0u; goto L45; }
+    else { goto L44; }
+L44:;
+    memory_move(v197, v14, v13);
+    goto L46;
+L45:;
+    v209 = v197 + v21 * 1u;
+    v210 = v14 + v21 * 1u;
+    v211 = load8(v210);
+    store8(v209, v211);
+    v212 = (u64)((u64)v21 + (u64)1u);
+    v213 = v212 == v13;
+    if (v213) { goto L46; }
+    else { v21 = v212; goto L45; }
+L46:;
+    v214 = (u8)(v18);
+    v215 = load64(v97);
+    v216 = v88 + v215 * 1u;
+    store8(v216, v214);
+    v217 = (u64)((u64)v215 + (u64)1u);
+    store64(v97, v217);
+    v218 = (u64)((u64)v10 + (u64)1u);
+    v219 = v218 == v74;
+    if (v219) { goto L47; }
+    else { v10 = v218; goto L17; }
+L47:;
+    goto L48;
+L48:;
+    return;
+}
+
+static u8 f60(address a0) {
+    u8 v1, v2, v3;
+    address v4;
+    u16 v5;
+    v2 = load8(a0);
+    v3 = v2 == 0u;
+    if (v3) { goto L1; }
+    else { v1 = 0u; goto L3; }
+L1:;
+    v4 = a0 + 2u * 1u;
+    v5 = load16(v4);
+    switch (v5) {
+    case 0u: goto L2;
+    case 2u: goto L2;
+    case 8192u: goto L2;
+    case 8193u: goto L2;
+    case 8194u: goto L2;
+    case 8195u: goto L2;
+    case 8196u: goto L2;
+    case 8197u: goto L2;
+    case 8198u: goto L2;
+    case 8199u: goto L2;
+    case 8200u: goto L2;
+    case 8201u: goto L2;
+    case 8202u: goto L2;
+    case 8203u: goto L2;
+    case 8204u: goto L2;
+    case 8205u: goto L2;
+    case 8206u: goto L2;
+    case 8208u: goto L2;
+    case 8209u: goto L2;
+    case 24576u: goto L2;
+    case 24577u: goto L2;
+    default: v1 = 1u; goto L3;
+    }
+L2:;
+    v1 = 0u; goto L3;
+L3:;
+    return v1;
+}
+
+static u8 f61(address a0, address a1) {
+    address v2, v4, v8, v9, v10, v11, v13, v15, v20, v23, v25, v27, v33, v35, v41, v43;
+    address v48, v50, v52, v54, v61, v62, v63, v64, v65, v66, v67, v68, v69, v72, v74, v77;
+    address v81, v84, v86, v88, v90, v92, v94, v95, v96, v97, v98, v99;
+    u64 v3, v5, v12, v21, v24, v46, v47, v53, v55, v70, v73, v78, v93;
+    u8 v6, v7, v14, v16, v22, v26, v28, v34, v36, v42, v44, v45, v49, v51, v71, v76;
+    u8 v79, v80, v82, v83, v87, v100;
+    u16 v17, v18, v19, v29, v30, v31, v32, v37, v38, v39, v40, v56, v57, v58, v59, v60;
+    u16 v75, v85, v89, v91;
+    u64 block0[3];
+    u64 block1[3];
+    v8 = ADDRESS(block0);
+    v9 = ADDRESS(block1);
+    v10 = load_address(a1);
+    v11 = v10 + 34u * 1u;
+    v12 = load64(v11);
+    v13 = v10 + 42u * 1u;
+    v14 = load8(v13);
+    v15 = v10 + 43u * 1u;
+    v16 = load8(v15);
+    v17 = (u16)v14;
+    v18 = (u16)((u32)v17 << (8u & 15u));
+    v19 = (u16)v16;
+    v20 = a0 + 440u * 1u;
+    v21 = load64(v20);
+    v22 = v12 == v21;
+    if (v22) { goto L1; }
+    else { v7 = 0u; goto L10; }
+L1:;
+    v23 = v10 + 20u * 1u;
+    v24 = load64(v23);
+    v25 = v10 + 28u * 1u;
+    v26 = load8(v25);
+    v27 = v10 + 29u * 1u;
+    v28 = load8(v27);
+    v29 = (u16)v26;
+    v30 = (u16)((u32)v29 << (8u & 15u));
+    v31 = (u16)v28;
+    v32 = (u16)((u32)v30 | (u32)v31);
+    v33 = v10 + 30u * 1u;
+    v34 = load8(v33);
+    v35 = v10 + 31u * 1u;
+    v36 = load8(v35);
+    v37 = (u16)v34;
+    v38 = (u16)((u32)v37 << (8u & 15u));
+    v39 = (u16)v36;
+    v40 = (u16)((u32)v38 | (u32)v39);
+    v41 = a1 + 16u * 1u;
+    v42 = load8(v41);
+    v43 = a1 + 17u * 1u;
+    v44 = load8(v43);
+    v45 = v44 == 0u;
+    v46 = v45 ? 52u : 54u;
+    v47 = v45 ? 53u : 55u;
+    v48 = v10 + v46 * 1u;
+    v49 = load8(v48);
+    v50 = v10 + v47 * 1u;
+    v51 = load8(v50);
+    if (v45) { goto L2; }
+    else { v2 = ADDRESS(c138); v3 = 0u; goto L3; }
+L2:;
+    v52 = a1 + 8u * 1u;
+    v53 = load64(v52);
+    v54 = v10 + 54u * 1u;
+    v55 = (u64)((u64)v53 + (u64)UINT64_C(18446744073709551562));
+    v2 = v54; v3 = v55; goto L3;
+L3:;
+    v56 = (u16)((u32)v18 | (u32)v19);
+    v57 = (u16)v49;
+    v58 = (u16)((u32)v57 << (8u & 15u));
+    v59 = (u16)v51;
+    v60 = (u16)((u32)v58 | (u32)v59);
+    store8(v9, v42);
+    v61 = v9 + 1u * 1u;
+    store8(v61, 0u);
+    v62 = v9 + 2u * 1u;
+    store16(v62, v60);
+    v63 = v9 + 4u * 1u;
+    store16(v63, v56);
+    v64 = v9 + 6u * 1u;
+    store16(v64, 0u);
+    v65 = v9 + 8u * 1u;
+    store_address(v65, v2);
+    v66 = v9 + 16u * 1u;
+    store64(v66, v3);
+    v67 = a0 + 448u * 1u;
+    v68 = load_address(v67);
+    v69 = a0 + 456u * 1u;
+    v70 = load64(v69);
+    v71 = v70 == 0u;
+    if (v71) { v6 = 0u; goto L9; }
+    else { v4 = v68; v5 = v70; goto L4; }
+L4:;
+    v72 = v4 + 2136u * 1u;
+    v73 = (u64)((u64)v5 + (u64)UINT64_C(18446744073709551615));
+    v74 = v4 + 2112u * 1u;
+    v75 = load16(v74);
+    v76 = v32 == v75;
+    if (v76) { goto L5; }
+    else { goto L6; }
+L5:;
+    v77 = v4 + 2104u * 1u;
+    v78 = load64(v77);
+    v79 = v24 == v78;
+    if (v79) { goto L7; }
+    else { goto L6; }
+L6:;
+    v80 = v73 == 0u;
+    if (v80) { v6 = 0u; goto L9; }
+    else { v4 = v72; v5 = v73; goto L4; }
+L7:;
+    v81 = v4 + 2129u * 1u;
+    v82 = load8(v81);
+    v83 = (u8)((v82) & UINT64_C(1));
+    if (v83) { goto L8; }
+    else { v6 = 1u; goto L9; }
+L8:;
+    v84 = v4 + 2114u * 1u;
+    v85 = load16(v84);
+    v86 = v4 + 2120u * 1u;
+    v87 = load8(v86);
+    v88 = v4 + 2116u * 1u;
+    v89 = load16(v88);
+    v90 = v4 + 2118u * 1u;
+    v91 = load16(v90);
+    v92 = v4 + 1424u * 1u;
+    v93 = load64(v92);
+    store8(v8, v87);
+    v94 = v8 + 1u * 1u;
+    store8(v94, 0u);
+    v95 = v8 + 2u * 1u;
+    store16(v95, v89);
+    v96 = v8 + 4u * 1u;
+    store16(v96, v91);
+    v97 = v8 + 6u * 1u;
+    store16(v97, 0u);
+    v98 = v8 + 8u * 1u;
+    store_address(v98, v4);
+    v99 = v8 + 16u * 1u;
+    store64(v99, v93);
+    v100 = f19(v85, v8, v40, v9);
+    v6 = v100; goto L9;
+L9:;
+    v7 = v6; goto L10;
+L10:;
+    return v7;
+}
+
+static void f62(address a0, address a1, address a2, u64 a3) {
+    u8 v4, v25, v28, v32, v33;
+    address v5, v6, v7, v8, v9, v10, v11, v12, v13, v14, v15, v16, v17, v18, v19, v20;
+    address v21, v22, v23, v24, v26, v29, v30, v31, v34, v35, v36, v37, v38, v39, v40, v41;
+    address v42, v43, v44, v45, v46, v47, v48, v49, v50, v51, v52, v53, v54, v55;
+    u16 v27, v56;
+    u64 block0[19];
+    u64 block1[18];
+    u64 block2[20];
+    u64 block3[20];
+    u64 block4[20];
+    u64 block5[20];
+    u64 block6[20];
+    u64 block7[20];
+    u64 block8[20];
+    u64 block9[19];
+    u64 block10[162];
+    u64 block11[20];
+    u64 block12[20];
+    u64 block13[20];
+    u64 block14[20];
+    u64 block15[20];
+    u64 block16[20];
+    u64 block17[20];
+    u64 block18[19];
+    v5 = ADDRESS(block0);
+    v6 = ADDRESS(block1);
+    v7 = ADDRESS(block2);
+    v8 = ADDRESS(block3);
+    v9 = ADDRESS(block4);
+    v10 = ADDRESS(block5);
+    v11 = ADDRESS(block6);
+    v12 = ADDRESS(block7);
+    v13 = ADDRESS(block8);
+    v14 = ADDRESS(block9);
+    v15 = ADDRESS(block10);
+    v16 = ADDRESS(block11);
+    v17 = ADDRESS(block12);
+    v18 = ADDRESS(block13);
+    v19 = ADDRESS(block14);
+    v20 = ADDRESS(block15);
+    v21 = ADDRESS(block16);
+    v22 = ADDRESS(block17);
+    v23 = ADDRESS(block18);
+    memory_set(v15, 0u, 1296u);
+    memory_set(v16, 0u, 159u);
+    memory_set(v17, 0u, 159u);
+    memory_set(v18, 0u, 159u);
+    memory_set(v19, 0u, 159u);
+    memory_set(v20, 0u, 159u);
+    memory_set(v21, 0u, 159u);
+    memory_set(v22, 0u, 159u);
+    memory_set(v23, 0u, 151u);
+    v24 = a1 + 16u * 1u;
+    v25 = load8(v24);
+    v26 = a1 + 18u * 1u;
+    v27 = load16(v26);
+    memory_set(v7, 0u, 159u);
+    memory_set(v8, 0u, 159u);
+    memory_set(v9, 0u, 159u);
+    memory_set(v10, 0u, 159u);
+    memory_set(v11, 0u, 159u);
+    memory_set(v12, 0u, 159u);
+    memory_set(v13, 0u, 159u);
+    memory_set(v14, 0u, 151u);
+    v28 = a3 < 131u;
+    if (v28) { goto L1; }
+    else { goto L2; }
+L1:;
+    memory_set(v6, 0u, 136u);
+    memory_cpy(v6, a2, a3);
+    v29 = v6 + 136u * 1u;
+    store64(v29, a3);
+    memory_set(v5, 0u, 6u);
+    v30 = v5 + 6u * 1u;
+    memory_cpy(v30, v6, 144u);
+    store8(v7, 0u);
+    v31 = v7 + 1u * 1u;
+    memory_cpy(v31, v5, 150u);
+    v4 = 0u; goto L3;
+L2:;
+    memory_set(v7, 0u, 151u);
+    v4 = 2u; goto L3;
+L3:;
+    v32 = v25 > 2u;
+    v33 = v32 ? 4u : 2u;
+    memory_cpy(v16, v7, 159u);
+    memory_cpy(v17, v8, 159u);
+    memory_cpy(v18, v9, 159u);
+    memory_cpy(v19, v10, 159u);
+    memory_cpy(v20, v11, 159u);
+    memory_cpy(v21, v12, 159u);
+    memory_cpy(v22, v13, 159u);
+    memory_cpy(v23, v14, 151u);
+    store8(v15, v33);
+    v34 = v15 + 1u * 1u;
+    store8(v34, 0u);
+    v35 = v15 + 2u * 1u;
+    store16(v35, v27);
+    v36 = v15 + 4u * 1u;
+    store32(v36, 0u);
+    v37 = v15 + 8u * 1u;
+    store64(v37, 0u);
+    v38 = v15 + 16u * 1u;
+    store8(v38, v4);
+    v39 = v15 + 17u * 1u;
+    memory_cpy(v39, v16, 159u);
+    v40 = v15 + 176u * 1u;
+    store8(v40, 1u);
+    v41 = v15 + 177u * 1u;
+    memory_cpy(v41, v17, 159u);
+    v42 = v15 + 336u * 1u;
+    store8(v42, 1u);
+    v43 = v15 + 337u * 1u;
+    memory_cpy(v43, v18, 159u);
+    v44 = v15 + 496u * 1u;
+    store8(v44, 1u);
+    v45 = v15 + 497u * 1u;
+    memory_cpy(v45, v19, 159u);
+    v46 = v15 + 656u * 1u;
+    store8(v46, 1u);
+    v47 = v15 + 657u * 1u;
+    memory_cpy(v47, v20, 159u);
+    v48 = v15 + 816u * 1u;
+    store8(v48, 1u);
+    v49 = v15 + 817u * 1u;
+    memory_cpy(v49, v21, 159u);
+    v50 = v15 + 976u * 1u;
+    store8(v50, 1u);
+    v51 = v15 + 977u * 1u;
+    memory_cpy(v51, v22, 159u);
+    v52 = v15 + 1136u * 1u;
+    store8(v52, 1u);
+    v53 = v15 + 1137u * 1u;
+    memory_cpy(v53, v23, 151u);
+    v54 = v15 + 1288u * 1u;
+    store64(v54, 1u);
+    v55 = a1 + 10u * 1u;
+    v56 = load16(v55);
+    f59(a0, a1, v56, v24, v15);
+    return;
+}
+
+static void f63(address a0, address a1, address a2) {
     u64 v3, v5, v7, v8, v12, v13, v15, v16, v18, v19, v20, v22, v23, v24, v25, v27;
     u64 v28, v29, v30, v31, v33, v34, v35, v36, v37, v38, v40, v41, v42, v43, v44, v45;
     u64 v46, v48, v49, v50, v51, v52, v53, v54, v55, v56, v57, v58, v59, v60, v61, v62;
@@ -10092,7 +14525,7 @@ L10:;
     v124 = v8 >= v3;
     v9 = v124; goto L12;
 L11:;
-    v125 = f24(v4, v3, v6, v3);
+    v125 = f21(v4, v3, v6, v3);
     v9 = v125; goto L12;
 L12:;
     v126 = (u8)(((u32)v9 ^ (u32)1u) & UINT64_C(1));
@@ -10943,3059 +15376,487 @@ L48:;
     return;
 }
 
-static u32 f49(address a0, u16 a1, address a2, u64 a3, u8 a4, address a5, u64 a6, address a7, address a8) {
-    address v9, v10, v11, v12, v13, v16;
-    u32 v14;
-    u8 v15;
-    u64 block0[55];
-    u64 block1[55];
-    u64 block2[2];
-    v9 = ADDRESS(block0);
-    v10 = ADDRESS(block1);
-    v11 = ADDRESS(block2);
-    memory_set(v10, 0u, 440u);
-    memory_set(v11, 0u, 12u);
-    store32(a8, 0u);
-    v12 = a8 + 4u * 1u;
-    store64(v12, 0u);
-    v13 = load_address(a0);
-    f47(v10, v13);
-    memory_cpy(v9, v10, 440u);
-    v14 = f44(a0, a1, a2, a3, a4, a5, a6, a7);
-    v15 = v14 == 5u;
-    if (v15) { goto L1; }
-    else { goto L2; }
-L1:;
-    v16 = load_address(a0);
-    f48(v11, v16, v9);
-    memory_cpy(a8, v11, 12u);
-    goto L2;
-L2:;
-    return v14;
-}
-
-static void f50(address a0, address a1, address a2, u64 a3) {
-    address v4, v5, v6, v7, v8, v9, v12, v13, v14, v16, v18, v23, v25, v27, v29, v31;
-    address v33, v43, v44, v45, v46, v47, v48, v51, v53, v57, v61, v63, v66, v71, v75, v77;
-    address v83, v84, v86, v98, v99, v100, v101, v102, v103, v104, v105, v106, v107, v108, v109, v110;
-    address v111, v112, v113, v114, v115, v116, v117, v119, v149, v150, v151, v152, v153, v154, v155, v156;
-    address v157, v158, v159;
-    u8 v10, v11, v17, v19, v20, v24, v26, v28, v30, v49, v50, v55, v56, v58, v59, v60;
-    u8 v62, v64, v65, v68, v69, v70, v74, v76, v78, v85, v87, v93, v94, v95, v96, v97;
-    u8 v118, v121, v122, v123, v125, v126, v127, v128, v129, v130, v131, v132;
-    u64 v15, v21, v22, v32, v34, v52, v54, v67, v72, v120, v124;
-    u16 v35, v36, v37, v38, v39, v40, v41, v42, v73, v79, v80, v81, v82, v88, v89, v90;
-    u16 v91, v133, v134, v135, v136, v137, v138, v139, v140, v141, v142, v143, v144, v145, v146, v147;
-    u16 v148;
-    struct s1 v92;
-    u64 block0[162];
-    u64 block1[55];
-    u64 block2[55];
-    u64 block3[3];
-    u64 block4[2];
-    u64 block5[4];
-    v4 = ADDRESS(block0);
-    v5 = ADDRESS(block1);
-    v6 = ADDRESS(block2);
-    v7 = ADDRESS(block3);
-    v8 = ADDRESS(block4);
-    v9 = ADDRESS(block5);
-    memory_set(v9, 0u, 32u);
-    f8(v9, a2, a3);
-    v10 = load8(v9);
-    v11 = v10 == 0u;
-    if (v11) { goto L1; }
-    else { goto L11; }
-L1:;
-    v12 = v9 + 8u * 1u;
-    v13 = load_address(v12);
-    v14 = v9 + 16u * 1u;
-    v15 = load64(v14);
-    v16 = v9 + 24u * 1u;
-    v17 = load8(v16);
-    v18 = v9 + 25u * 1u;
-    v19 = load8(v18);
-    v20 = v19 == 0u;
-    v21 = v20 ? 52u : 54u;
-    v22 = v20 ? 53u : 55u;
-    v23 = v13 + v21 * 1u;
-    v24 = load8(v23);
-    v25 = v13 + v22 * 1u;
-    v26 = load8(v25);
-    v27 = v13 + 42u * 1u;
-    v28 = load8(v27);
-    v29 = v13 + 43u * 1u;
-    v30 = load8(v29);
-    v31 = v13 + 54u * 1u;
-    v32 = (u64)((u64)v15 + (u64)UINT64_C(18446744073709551562));
-    v33 = v20 ? v31 : ADDRESS(c139);
-    v34 = v20 ? v32 : 0u;
-    v35 = (u16)v28;
-    v36 = (u16)((u32)v35 << (8u & 15u));
-    v37 = (u16)v30;
-    v38 = (u16)((u32)v36 | (u32)v37);
-    v39 = (u16)v24;
-    v40 = (u16)((u32)v39 << (8u & 15u));
-    v41 = (u16)v26;
-    v42 = (u16)((u32)v40 | (u32)v41);
-    store8(v7, v17);
-    v43 = v7 + 1u * 1u;
-    store8(v43, 0u);
-    v44 = v7 + 2u * 1u;
-    store16(v44, v42);
-    v45 = v7 + 4u * 1u;
-    store16(v45, v38);
-    v46 = v7 + 6u * 1u;
-    store16(v46, 0u);
-    v47 = v7 + 8u * 1u;
-    store_address(v47, v33);
-    v48 = v7 + 16u * 1u;
-    store64(v48, v34);
-    v49 = (u8)((u32)v17 & (u32)253u);
-    v50 = v49 == 1u;
-    if (v50) { goto L2; }
-    else { goto L8; }
-L2:;
-    v51 = v13 + 34u * 1u;
-    v52 = load64(v51);
-    v53 = a1 + 440u * 1u;
-    v54 = load64(v53);
-    v55 = load8(v13);
-    v56 = (u8)((u32)v55 >> (4u & 7u));
-    v57 = v13 + 5u * 1u;
-    v58 = load8(v57);
-    v59 = (u8)((u32)v56 | (u32)v58);
-    v60 = v59 == 0u;
-    if (v60) { goto L3; }
-    else { goto L8; }
-L3:;
-    v61 = v13 + 4u * 1u;
-    v62 = load8(v61);
-    v63 = a1 + 8u * 1u;
-    v64 = load8(v63);
-    v65 = v62 == v64;
-    if (v65) { goto L4; }
-    else { goto L8; }
-L4:;
-    v66 = v13 + 20u * 1u;
-    v67 = load64(v66);
-    v68 = v67 != v54;
-    v69 = v52 == v54;
-    v70 = v68 ? v69 : 0u;
-    if (v70) { goto L5; }
-    else { goto L8; }
-L5:;
-    switch (v38) {
-    case 65535u: goto L7;
-    case 0u: goto L8;
-    default: goto L6;
-    }
-L6:;
-    v71 = a1 + 432u * 1u;
-    v72 = load64(v71);
-    v73 = (u16)(v72);
-    v74 = v38 > v73;
-    if (v74) { goto L8; }
-    else { goto L7; }
-L7:;
-    v75 = v13 + 28u * 1u;
-    v76 = load8(v75);
-    v77 = v13 + 29u * 1u;
-    v78 = load8(v77);
-    v79 = (u16)v76;
-    v80 = (u16)((u32)v79 << (8u & 15u));
-    v81 = (u16)v78;
-    v82 = (u16)((u32)v80 | (u32)v81);
-    store64(v8, v67);
-    v83 = v8 + 8u * 1u;
-    store16(v83, v82);
-    v84 = v13 + 30u * 1u;
-    v85 = load8(v84);
-    v86 = v13 + 31u * 1u;
-    v87 = load8(v86);
-    v88 = (u16)v85;
-    v89 = (u16)((u32)v88 << (8u & 15u));
-    v90 = (u16)v87;
-    v91 = (u16)((u32)v89 | (u32)v90);
-    v92 = f22(v53, v8, v91, v7);
-    v93 = v92.m0;
-    v94 = v93 == 1u;
-    if (v94) { goto L9; }
-    else { goto L8; }
-L8:;
-    goto L12;
-L9:;
-    v95 = v92.m1;
-    memory_set(v6, 0u, 440u);
-    f47(v6, a1);
-    memory_cpy(v5, v6, 440u);
-    v96 = v17 > 2u;
-    v97 = v96 ? 4u : 2u;
-    store8(v4, v97);
-    v98 = v4 + 1u * 1u;
-    store8(v98, 0u);
-    v99 = v4 + 2u * 1u;
-    store16(v99, v42);
-    v100 = v4 + 4u * 1u;
-    store32(v100, 0u);
-    v101 = v4 + 8u * 1u;
-    store64(v101, 0u);
-    v102 = v4 + 16u * 1u;
-    store8(v102, 1u);
-    v103 = v4 + 17u * 1u;
-    memory_set(v103, 0u, 159u);
-    v104 = v4 + 176u * 1u;
-    store8(v104, 1u);
-    v105 = v4 + 177u * 1u;
-    memory_set(v105, 0u, 159u);
-    v106 = v4 + 336u * 1u;
-    store8(v106, 1u);
-    v107 = v4 + 337u * 1u;
-    memory_set(v107, 0u, 159u);
-    v108 = v4 + 496u * 1u;
-    store8(v108, 1u);
-    v109 = v4 + 497u * 1u;
-    memory_set(v109, 0u, 159u);
-    v110 = v4 + 656u * 1u;
-    store8(v110, 1u);
-    v111 = v4 + 657u * 1u;
-    memory_set(v111, 0u, 159u);
-    v112 = v4 + 816u * 1u;
-    store8(v112, 1u);
-    v113 = v4 + 817u * 1u;
-    memory_set(v113, 0u, 159u);
-    v114 = v4 + 976u * 1u;
-    store8(v114, 1u);
-    v115 = v4 + 977u * 1u;
-    memory_set(v115, 0u, 159u);
-    v116 = v4 + 1136u * 1u;
-    store8(v116, 1u);
-    v117 = v4 + 1137u * 1u;
-    memory_set(v117, 0u, 159u);
-    f51(v5, v7, v95, v4);
-    v118 = load8(v102);
-    v119 = v4 + 1288u * 1u;
-    v120 = load64(v119);
-    v121 = v120 == 0u;
-    v122 = v118 != 2u;
-    v123 = v121 ? 1u : v122;
-    if (v123) { goto L13; }
-    else { goto L12; }
-L10:;
-    return;
-L11:;
-    memory_set(a0, 0u, 48u);
-    goto L10;
-L12:;
-    memory_set(a0, 0u, 48u);
-    goto L10;
-L13:;
-    v124 = load64(v66);
-    v125 = load8(v75);
-    v126 = load8(v77);
-    v127 = load8(v84);
-    v128 = load8(v86);
-    v129 = load8(v23);
-    v130 = load8(v25);
-    v131 = load8(v27);
-    v132 = load8(v29);
-    v133 = (u16)v127;
-    v134 = (u16)((u32)v133 << (8u & 15u));
-    v135 = (u16)v128;
-    v136 = (u16)((u32)v134 | (u32)v135);
-    v137 = (u16)v125;
-    v138 = (u16)((u32)v137 << (8u & 15u));
-    v139 = (u16)v126;
-    v140 = (u16)((u32)v138 | (u32)v139);
-    v141 = (u16)v131;
-    v142 = (u16)((u32)v141 << (8u & 15u));
-    v143 = (u16)v132;
-    v144 = (u16)((u32)v142 | (u32)v143);
-    v145 = (u16)v129;
-    v146 = (u16)((u32)v145 << (8u & 15u));
-    v147 = (u16)v130;
-    v148 = (u16)((u32)v146 | (u32)v147);
-    store64(a0, 1u);
-    v149 = a0 + 8u * 1u;
-    store64(v149, v124);
-    v150 = a0 + 16u * 1u;
-    store16(v150, v140);
-    v151 = a0 + 18u * 1u;
-    store16(v151, v136);
-    v152 = a0 + 20u * 1u;
-    store32(v152, 0u);
-    v153 = a0 + 24u * 1u;
-    store8(v153, v17);
-    v154 = a0 + 25u * 1u;
-    store8(v154, 0u);
-    v155 = a0 + 26u * 1u;
-    store16(v155, v148);
-    v156 = a0 + 28u * 1u;
-    store16(v156, v144);
-    v157 = a0 + 30u * 1u;
-    store16(v157, 0u);
-    v158 = a0 + 32u * 1u;
-    store_address(v158, v33);
-    v159 = a0 + 40u * 1u;
-    store64(v159, v34);
-    goto L10;
-}
-
-static void f51(address a0, address a1, u8 a2, address a3) {
-    address v4, v25, v26, v27, v28, v29, v31, v32, v33, v34, v35, v36, v37, v38, v48, v49;
-    address v50, v76, v77, v78, v80, v81, v84, v85, v86, v87, v91, v92, v95, v96, v97, v99;
-    address v101, v102, v105, v106, v107, v108, v110, v111, v114, v115, v116, v117;
-    u64 v5, v21, v51, v55, v56, v57, v58, v65, v66, v69, v70, v73, v74, v82, v83, v88;
-    u64 v93, v94, v98, v103, v104, v109, v112, v113, v118;
-    u8 v6, v7, v8, v9, v10, v11, v12, v13, v14, v15, v16, v17, v18, v19, v20, v22;
-    u8 v23, v24, v39, v40, v41, v42, v43, v44, v45, v46, v47, v52, v53, v54, v59, v60;
-    u8 v61, v62, v63, v64, v67, v68, v71, v72, v75, v79, v89, v90, v100;
-    u16 v30;
-    u64 block0[1];
-    u64 block1[1];
-    u64 block2[4];
-    u64 block3[1];
-    v25 = ADDRESS(block0);
-    v26 = ADDRESS(block1);
-    v27 = ADDRESS(block2);
-    v28 = ADDRESS(block3);
-    v29 = a1 + 2u * 1u;
-    v30 = load16(v29);
-    switch (v30) {
-    case 0u: v4 = ADDRESS(c111); v5 = 19u; v6 = 0u; v7 = 2u; v8 = 0u; v9 = 1u; v10 = 0u; v11 = 7u; v12 = 0u; v13 = 0u; goto L21;
-    case 2u: goto L1;
-    case 8192u: goto L2;
-    case 8193u: goto L3;
-    case 8194u: goto L4;
-    case 8195u: goto L5;
-    case 8196u: goto L6;
-    case 8197u: goto L7;
-    case 8198u: goto L8;
-    case 8199u: goto L9;
-    case 8200u: goto L10;
-    case 8201u: goto L11;
-    case 8202u: goto L12;
-    case 8203u: goto L13;
-    case 8204u: goto L14;
-    case 8205u: goto L15;
-    case 8206u: goto L16;
-    case 8208u: goto L17;
-    case 8209u: goto L18;
-    case 24576u: goto L19;
-    case 24577u: goto L20;
-    default: goto L64;
-    }
-L1:;
-    v4 = ADDRESS(c112); v5 = 16u; v6 = 0u; v7 = 1u; v8 = 1u; v9 = 0u; v10 = 1u; v11 = 3u; v12 = 1u; v13 = 0u; goto L21;
-L2:;
-    v4 = ADDRESS(c113); v5 = 16u; v6 = 0u; v7 = 1u; v8 = 1u; v9 = 0u; v10 = 1u; v11 = 1u; v12 = 2u; v13 = 0u; goto L21;
-L3:;
-    v4 = ADDRESS(c114); v5 = 16u; v6 = 0u; v7 = 1u; v8 = 1u; v9 = 0u; v10 = 1u; v11 = 1u; v12 = 3u; v13 = 0u; goto L21;
-L4:;
-    v4 = ADDRESS(c115); v5 = 15u; v6 = 0u; v7 = 1u; v8 = 1u; v9 = 0u; v10 = 1u; v11 = 1u; v12 = 4u; v13 = 0u; goto L21;
-L5:;
-    v4 = ADDRESS(c116); v5 = 24u; v6 = 0u; v7 = 1u; v8 = 1u; v9 = 0u; v10 = 1u; v11 = 1u; v12 = 5u; v13 = 0u; goto L21;
-L6:;
-    v4 = ADDRESS(c117); v5 = 13u; v6 = 4u; v7 = 2u; v8 = 0u; v9 = 1u; v10 = 1u; v11 = 1u; v12 = 6u; v13 = 0u; goto L21;
-L7:;
-    v4 = ADDRESS(c118); v5 = 9u; v6 = 0u; v7 = 1u; v8 = 1u; v9 = 0u; v10 = 1u; v11 = 3u; v12 = 7u; v13 = 0u; goto L21;
-L8:;
-    v4 = ADDRESS(c119); v5 = 9u; v6 = 0u; v7 = 1u; v8 = 1u; v9 = 0u; v10 = 1u; v11 = 3u; v12 = 8u; v13 = 0u; goto L21;
-L9:;
-    v4 = ADDRESS(c120); v5 = 6u; v6 = 0u; v7 = 1u; v8 = 1u; v9 = 0u; v10 = 1u; v11 = 3u; v12 = 9u; v13 = 0u; goto L21;
-L10:;
-    v4 = ADDRESS(c121); v5 = 10u; v6 = 0u; v7 = 1u; v8 = 1u; v9 = 0u; v10 = 1u; v11 = 1u; v12 = 10u; v13 = 0u; goto L21;
-L11:;
-    v4 = ADDRESS(c127); v5 = 21u; v6 = 4u; v7 = 2u; v8 = 0u; v9 = 1u; v10 = 1u; v11 = 3u; v12 = 11u; v13 = 0u; goto L21;
-L12:;
-    v4 = ADDRESS(c129); v5 = 24u; v6 = 4u; v7 = 2u; v8 = 0u; v9 = 1u; v10 = 1u; v11 = 3u; v12 = 11u; v13 = 1u; goto L21;
-L13:;
-    v4 = ADDRESS(c131); v5 = 17u; v6 = 4u; v7 = 2u; v8 = 0u; v9 = 1u; v10 = 1u; v11 = 3u; v12 = 11u; v13 = 2u; goto L21;
-L14:;
-    v4 = ADDRESS(c122); v5 = 14u; v6 = 4u; v7 = 2u; v8 = 0u; v9 = 1u; v10 = 1u; v11 = 1u; v12 = 12u; v13 = 0u; goto L21;
-L15:;
-    v4 = ADDRESS(c123); v5 = 11u; v6 = 4u; v7 = 2u; v8 = 0u; v9 = 1u; v10 = 0u; v11 = 4u; v12 = 13u; v13 = 0u; goto L21;
-L16:;
-    v4 = ADDRESS(c124); v5 = 12u; v6 = 4u; v7 = 2u; v8 = 0u; v9 = 1u; v10 = 0u; v11 = 4u; v12 = 14u; v13 = 0u; goto L21;
-L17:;
-    v4 = ADDRESS(c125); v5 = 14u; v6 = 0u; v7 = 1u; v8 = 1u; v9 = 0u; v10 = 1u; v11 = 3u; v12 = 15u; v13 = 0u; goto L21;
-L18:;
-    v4 = ADDRESS(c126); v5 = 14u; v6 = 0u; v7 = 1u; v8 = 1u; v9 = 0u; v10 = 1u; v11 = 3u; v12 = 16u; v13 = 0u; goto L21;
-L19:;
-    v4 = ADDRESS(c133); v5 = 15u; v6 = 4u; v7 = 2u; v8 = 0u; v9 = 1u; v10 = 1u; v11 = 3u; v12 = 11u; v13 = 3u; goto L21;
-L20:;
-    v4 = ADDRESS(c135); v5 = 27u; v6 = 4u; v7 = 2u; v8 = 0u; v9 = 1u; v10 = 1u; v11 = 3u; v12 = 11u; v13 = 4u; goto L21;
-L21:;
-    memory_set(v26, 0u, 6u);
-    memory_cpy(v28, v26, 6u);
-    store16(v27, v30);
-    v31 = v27 + 2u * 1u;
-    memory_cpy(v31, v28, 6u);
-    v32 = v27 + 8u * 1u;
-    store_address(v32, v4);
-    v33 = v27 + 16u * 1u;
-    store64(v33, v5);
-    v34 = v27 + 24u * 1u;
-    store8(v34, v9);
-    v35 = v27 + 25u * 1u;
-    store8(v35, v11);
-    v36 = v27 + 26u * 1u;
-    store8(v36, v12);
-    v37 = v27 + 27u * 1u;
-    store8(v37, v13);
-    v38 = v27 + 28u * 1u;
-    store32(v38, 0u);
-    v39 = load8(a1);
-    switch (v39) {
-    case 0u: goto L22;
-    case 1u: goto L25;
-    case 3u: goto L23;
-    case 2u: goto L26;
-    case 4u: goto L26;
-    default: goto L24;
-    }
-L22:;
-    v40 = (u8)((u32)v11 & (u32)1u);
-    v41 = v40 == 0u;
-    if (v41) { goto L26; }
-    else { v14 = 0u; goto L27; }
-L23:;
-    if (v10) { goto L26; }
-    else { v14 = v6; goto L27; }
-L24:;
-    UNREACHABLE;
-L25:;
-    v42 = (u8)((u32)v11 & (u32)2u);
-    v43 = v42 == 0u;
-    if (v43) { goto L26; }
-    else { v14 = v7; goto L27; }
-L26:;
-    v44 = v39 == 1u;
-    v45 = v44 ? 4u : 5u;
-    if (v8) { v20 = v45; goto L52; }
-    else { v23 = v45; v24 = 1u; goto L62; }
-L27:;
-    v46 = (u8)((u32)v14 & (u32)a2);
-    v47 = v46 == v14;
-    if (v47) { goto L28; }
-    else { v19 = 5u; goto L49; }
-L28:;
-    v48 = a1 + 8u * 1u;
-    v49 = load_address(v48);
-    v50 = a1 + 16u * 1u;
-    v51 = load64(v50);
-    switch (v39) {
-    case 1u: goto L29;
-    case 3u: goto L37;
-    case 0u: goto L40;
-    case 2u: goto L40;
-    default: goto L36;
-    }
-L29:;
-    switch (v12) {
-    case 0u: goto L31;
-    case 1u: goto L32;
-    case 7u: goto L35;
-    case 8u: goto L35;
-    case 9u: goto L35;
-    case 11u: goto L35;
-    case 15u: goto L35;
-    case 16u: goto L34;
-    case 2u: v19 = 2u; goto L49;
-    case 3u: v19 = 2u; goto L49;
-    case 4u: v19 = 2u; goto L49;
-    case 5u: v19 = 2u; goto L49;
-    case 6u: v19 = 2u; goto L49;
-    case 10u: v19 = 2u; goto L49;
-    case 12u: v19 = 2u; goto L49;
-    case 13u: v19 = 2u; goto L49;
-    case 14u: v19 = 2u; goto L49;
-    default: goto L30;
-    }
-L30:;
-    UNREACHABLE;
-L31:;
-    v52 = v51 == 0u;
-    if (v52) { goto L39; }
-    else { v19 = 2u; goto L49; }
-L32:;
-    v53 = v51 == 0u;
-    if (v53) { v19 = 2u; goto L49; }
-    else { goto L33; }
-L33:;
-    v54 = load8(v49);
-    v55 = (u64)v54;
-    v56 = (u64)((u64)v55 + (u64)1u);
-    v57 = (u64)((u64)v56 & (u64)1u);
-    v58 = (u64)((u64)v57 + (u64)v56);
-    v59 = v51 == v58;
-    if (v59) { goto L39; }
-    else { v19 = 2u; goto L49; }
-L34:;
-    v60 = v51 == 4u;
-    if (v60) { goto L39; }
-    else { v19 = 2u; goto L49; }
-L35:;
-    v61 = v51 == 2u;
-    if (v61) { goto L39; }
-    else { v19 = 2u; goto L49; }
-L36:;
-    UNREACHABLE;
-L37:;
-    v62 = v51 == 0u;
-    if (v62) { goto L38; }
-    else { v19 = 2u; goto L49; }
-L38:;
-    goto L50;
-L39:;
-    goto L41;
-L40:;
-    v63 = v39 == 1u;
-    if (v63) { goto L41; }
-    else { goto L50; }
-L41:;
-    switch (v12) {
-    case 0u: v15 = 1u; v16 = v12; v17 = v12; v18 = v12; goto L48;
-    case 1u: goto L42;
-    case 7u: goto L43;
-    case 8u: goto L43;
-    case 9u: goto L43;
-    case 11u: goto L47;
-    case 15u: goto L44;
-    case 16u: goto L45;
-    case 2u: goto L46;
-    case 3u: goto L46;
-    case 4u: goto L46;
-    case 5u: goto L46;
-    case 6u: goto L46;
-    case 10u: goto L46;
-    case 12u: goto L46;
-    case 13u: goto L46;
-    case 14u: goto L46;
-    default: goto L30;
-    }
-L42:;
-    v15 = 2u; v16 = 128u; v17 = 0u; v18 = 0u; goto L48;
-L43:;
-    v15 = 3u; v16 = 0u; v17 = 0u; v18 = 0u; goto L48;
-L44:;
-    v15 = 5u; v16 = 23u; v17 = 49u; v18 = 254u; goto L48;
-L45:;
-    v15 = 8u; v16 = 0u; v17 = 0u; v18 = 0u; goto L48;
-L46:;
-    v15 = 0u; v16 = 0u; v17 = 0u; v18 = 0u; goto L48;
-L47:;
-    v64 = (u8)((u32)v13 << (3u & 7u));
-    v65 = (u64)v64;
-    v66 = (u64)(((u64)UINT64_C(30165894151) >> (v65 & 63u)) & UINT64_C(1099511627775));
-    v67 = (u8)(v66);
-    v68 = (u8)((u32)v13 << (3u & 7u));
-    v69 = (u64)v68;
-    v70 = (u64)(((u64)UINT64_C(34360263172) >> (v69 & 63u)) & UINT64_C(1099511627775));
-    v71 = (u8)(v70);
-    v72 = (u8)((u32)v13 << (3u & 7u));
-    v73 = (u64)v72;
-    v74 = (u64)(((u64)UINT64_C(21474904580) >> (v73 & 63u)) & UINT64_C(1099511627775));
-    v75 = (u8)(v74);
-    v15 = v67; v16 = v71; v17 = v75; v18 = 0u; goto L48;
-L48:;
-    store8(v25, v15);
-    v76 = v25 + 1u * 1u;
-    store8(v76, v16);
-    v77 = v25 + 2u * 1u;
-    store8(v77, v17);
-    v78 = v25 + 3u * 1u;
-    store8(v78, v18);
-    v79 = f28(v25, v49, v51);
-    if (v79) { goto L51; }
-    else { v19 = 3u; goto L49; }
-L49:;
-    if (v8) { v20 = v19; goto L52; }
-    else { v23 = v19; v24 = 1u; goto L62; }
-L50:;
-    goto L51;
-L51:;
-    f31(a0, v12, v13, a1);
-    if (v8) { goto L53; }
-    else { v23 = 0u; v24 = 0u; goto L62; }
-L52:;
-    v80 = a3 + 8u * 1u;
-    v81 = a3 + 1288u * 1u;
-    v82 = load64(v81);
-    v83 = (u64)((u64)v82 * (u64)160u);
-    v84 = v80 + v83 * 1u;
-    v85 = v84 + 8u * 1u;
-    store64(v84, 0u);
-    store8(v85, 2u);
-    v86 = v84 + 9u * 1u;
-    store8(v86, v20);
-    v87 = v84 + 10u * 1u;
-    memory_set(v87, 0u, 150u);
-    v88 = (u64)((u64)v82 + (u64)1u);
-    store64(v81, v88);
-    goto L63;
-L53:;
-    v89 = load8(a1);
-    v90 = v89 == 3u;
-    if (v90) { goto L54; }
-    else { goto L55; }
-L54:;
-    v91 = a3 + 8u * 1u;
-    v92 = a3 + 1288u * 1u;
-    v93 = load64(v92);
-    v94 = (u64)((u64)v93 * (u64)160u);
-    v95 = v91 + v94 * 1u;
-    v96 = v95 + 8u * 1u;
-    store64(v95, 0u);
-    store8(v96, 1u);
-    v97 = v95 + 9u * 1u;
-    v98 = (u64)((u64)v93 + (u64)1u);
-    memory_set(v97, 0u, 151u);
-    store64(v92, v98);
-    goto L63;
-L55:;
-    switch (v12) {
-    case 7u: v21 = 10u; goto L59;
-    case 8u: goto L56;
-    case 9u: goto L57;
-    case 10u: v22 = 0u; goto L60;
-    case 15u: goto L58;
-    case 0u: goto L61;
-    case 1u: goto L61;
-    case 2u: goto L61;
-    case 3u: goto L61;
-    case 4u: goto L61;
-    case 5u: goto L61;
-    case 6u: goto L61;
-    case 11u: goto L61;
-    case 12u: goto L61;
-    case 13u: goto L61;
-    case 14u: goto L61;
-    case 16u: goto L61;
-    default: goto L30;
-    }
-L56:;
-    v21 = 16u; goto L59;
-L57:;
-    v21 = 8u; goto L59;
-L58:;
-    v21 = 12u; goto L59;
-L59:;
-    v99 = a0 + v21 * 1u;
-    v100 = load8(v99);
-    v22 = v100; goto L60;
-L60:;
-    v101 = a3 + 8u * 1u;
-    v102 = a3 + 1288u * 1u;
-    v103 = load64(v102);
-    v104 = (u64)((u64)v103 * (u64)160u);
-    v105 = v101 + v104 * 1u;
-    v106 = v105 + 16u * 1u;
-    memory_set(v105, 0u, 16u);
-    store8(v106, v22);
-    v107 = v105 + 17u * 1u;
-    v108 = v105 + 152u * 1u;
-    memory_set(v107, 0u, 135u);
-    store64(v108, 2u);
-    v109 = (u64)((u64)v103 + (u64)1u);
-    store64(v102, v109);
-    goto L63;
-L61:;
-    f52(a0, v12, a3);
-    goto L63;
-L62:;
-    f53(a0, v27, a1, v24, v23, a3);
-    goto L63;
-L63:;
-    return;
-L64:;
-    v110 = a3 + 8u * 1u;
-    v111 = a3 + 1288u * 1u;
-    v112 = load64(v111);
-    v113 = (u64)((u64)v112 * (u64)160u);
-    v114 = v110 + v113 * 1u;
-    v115 = v114 + 8u * 1u;
-    store64(v114, 0u);
-    store8(v115, 2u);
-    v116 = v114 + 9u * 1u;
-    store8(v116, 1u);
-    v117 = v114 + 10u * 1u;
-    memory_set(v117, 0u, 150u);
-    v118 = (u64)((u64)v112 + (u64)1u);
-    store64(v111, v118);
-    goto L63;
-}
-
-static void f52(address a0, u8 a1, address a2) {
-    address v3, v4, v5, v6, v7, v9, v12, v13, v14, v15, v16, v19, v20, v22, v25, v26;
-    address v27, v28, v31, v32;
-    u8 v8, v11, v24;
-    u64 v10, v17, v18, v21, v23, v29, v30, v33;
-    u64 block0[19];
-    u64 block1[18];
-    u64 block2[19];
-    u64 block3[18];
-    u64 block4[18];
-    v3 = ADDRESS(block0);
-    v4 = ADDRESS(block1);
-    v5 = ADDRESS(block2);
-    v6 = ADDRESS(block3);
-    v7 = ADDRESS(block4);
-    v8 = a1 == 1u;
-    if (v8) { goto L1; }
-    else { goto L4; }
-L1:;
-    v9 = a0 + 160u * 1u;
-    v10 = load64(v9);
-    memory_set(v6, 0u, 144u);
-    v11 = v10 > 130u;
-    if (v11) { goto L3; }
-    else { goto L2; }
-L2:;
-    v12 = a0 + 24u * 1u;
-    memory_cpy(v6, v12, v10);
-    v13 = v6 + 136u * 1u;
-    store64(v13, v10);
-    goto L3;
-L3:;
-    memory_set(v5, 0u, 6u);
-    v14 = a2 + 8u * 1u;
-    v15 = v5 + 6u * 1u;
-    memory_cpy(v15, v6, 144u);
-    v16 = a2 + 1288u * 1u;
-    v17 = load64(v16);
-    v18 = (u64)((u64)v17 * (u64)160u);
-    v19 = v14 + v18 * 1u;
-    v20 = v19 + 10u * 1u;
-    memory_set(v19, 0u, 10u);
-    memory_cpy(v20, v5, 150u);
-    v21 = (u64)((u64)v17 + (u64)1u);
-    store64(v16, v21);
-    goto L7;
-L4:;
-    memory_set(v7, 0u, 144u);
-    f34(a0, a1, v7);
-    v22 = v7 + 136u * 1u;
-    v23 = load64(v22);
-    memory_set(v4, 0u, 144u);
-    v24 = v23 > 130u;
-    if (v24) { goto L6; }
-    else { goto L5; }
-L5:;
-    memory_cpy(v4, v7, v23);
-    v25 = v4 + 136u * 1u;
-    store64(v25, v23);
-    goto L6;
-L6:;
-    memory_set(v3, 0u, 6u);
-    v26 = a2 + 8u * 1u;
-    v27 = v3 + 6u * 1u;
-    memory_cpy(v27, v4, 144u);
-    v28 = a2 + 1288u * 1u;
-    v29 = load64(v28);
-    v30 = (u64)((u64)v29 * (u64)160u);
-    v31 = v26 + v30 * 1u;
-    v32 = v31 + 10u * 1u;
-    memory_set(v31, 0u, 10u);
-    memory_cpy(v32, v3, 150u);
-    v33 = (u64)((u64)v29 + (u64)1u);
-    store64(v28, v33);
-    goto L7;
-L7:;
-    return;
-}
-
-static void f53(address a0, address a1, address a2, u8 a3, u8 a4, address a5) {
-    u16 v6, v7, v17, v21, v22, v39, v51, v64, v65, v70, v71, v72, v73, v82, v100, v117;
-    u16 v127;
-    u64 v8, v20, v31, v32, v35, v36, v44, v47, v48, v55, v58, v59, v61, v63, v75, v76;
-    u64 v78, v79, v95, v96, v97, v102, v104, v105, v107, v110, v113, v114, v122, v123, v124, v129;
-    u64 v130;
-    u8 v9, v18, v23, v26, v33, v34, v45, v46, v56, v57, v60, v66, v67, v69, v103, v106;
-    u8 v112, v131;
-    address v10, v11, v12, v13, v14, v15, v16, v19, v24, v25, v27, v28, v29, v30, v37, v38;
-    address v40, v41, v42, v43, v49, v50, v52, v53, v54, v62, v68, v74, v77, v80, v81, v83;
-    address v84, v85, v86, v87, v88, v89, v90, v91, v92, v93, v94, v98, v99, v101, v108, v109;
-    address v111, v115, v116, v118, v119, v120, v121, v125, v126, v128;
-    u64 block0[1];
-    u64 block1[1];
-    u64 block2[14];
-    u64 block3[1];
-    u64 block4[14];
-    u64 block5[1];
-    v10 = ADDRESS(block0);
-    v11 = ADDRESS(block1);
-    v12 = ADDRESS(block2);
-    v13 = ADDRESS(block3);
-    v14 = ADDRESS(block4);
-    v15 = ADDRESS(block5);
-    v16 = a2 + 4u * 1u;
-    v17 = load16(v16);
-    v18 = v17 == 65535u;
-    if (v18) { goto L1; }
-    else { v6 = v17; v7 = v17; goto L2; }
-L1:;
-    v19 = a0 + 432u * 1u;
-    v20 = load64(v19);
-    v21 = (u16)(v20);
-    v6 = v21; v7 = 1u; goto L2;
-L2:;
-    v22 = (u16)((u32)v6 + (u32)1u);
-    v23 = v7 < v22;
-    if (v23) { goto L3; }
-    else { goto L22; }
-L3:;
-    v24 = a1 + 26u * 1u;
-    v25 = a1 + 27u * 1u;
-    v26 = a3 == 1u;
-    v27 = a0 + 432u * 1u;
-    v28 = a5 + 8u * 1u;
-    v29 = a5 + 1288u * 1u;
-    v30 = a0 + 240u * 1u;
-    v31 = (u64)v7;
-    v32 = (u64)v22;
-    v8 = v31; goto L4;
-L4:;
-    v33 = load8(v24);
-    v34 = load8(v25);
-    if (v26) { goto L5; }
-    else { goto L6; }
-L5:;
-    v35 = load64(v29);
-    v36 = (u64)((u64)v35 * (u64)160u);
-    v37 = v28 + v36 * 1u;
-    store16(v37, 1u);
-    v38 = v37 + 2u * 1u;
-    v39 = (u16)(v8);
-    store16(v38, v39);
-    v40 = v37 + 4u * 1u;
-    store32(v40, 0u);
-    v41 = v37 + 8u * 1u;
-    store8(v41, 2u);
-    v42 = v37 + 9u * 1u;
-    store8(v42, a4);
-    v43 = v37 + 10u * 1u;
-    memory_set(v43, 0u, 150u);
-    v44 = (u64)((u64)v35 + (u64)1u);
-    store64(v29, v44);
-    goto L21;
-L6:;
-    v45 = load8(a2);
-    v46 = v45 == 3u;
-    if (v46) { goto L7; }
-    else { goto L8; }
-L7:;
-    v47 = load64(v29);
-    v48 = (u64)((u64)v47 * (u64)160u);
-    v49 = v28 + v48 * 1u;
-    store16(v49, 1u);
-    v50 = v49 + 2u * 1u;
-    v51 = (u16)(v8);
-    store16(v50, v51);
-    v52 = v49 + 4u * 1u;
-    store32(v52, 0u);
-    v53 = v49 + 8u * 1u;
-    store8(v53, 1u);
-    v54 = v49 + 9u * 1u;
-    v55 = (u64)((u64)v47 + (u64)1u);
-    memory_set(v54, 0u, 151u);
-    store64(v29, v55);
-    goto L21;
-L8:;
-    v56 = v33 == 6u;
-    if (v56) { goto L9; }
-    else { goto L14; }
-L9:;
-    v57 = v8 == 0u;
-    if (v57) { goto L12; }
-    else { goto L10; }
-L10:;
-    v58 = load64(v27);
-    v59 = (u64)((u64)v8 + (u64)UINT64_C(18446744073709551615));
-    v60 = v59 < v58;
-    if (v60) { goto L11; }
-    else { goto L12; }
-L11:;
-    v61 = (u64)((u64)v59 * (u64)24u);
-    v62 = v30 + v61 * 1u;
-    memory_set(v15, 0u, 5u);
-    v63 = load64(a0);
-    v64 = (u16)(v8);
-    v65 = swap16(v64);
-    v66 = load8(v62);
-    v67 = (u8)((u32)v66 + (u32)1u);
-    v68 = v62 + 1u * 1u;
-    v69 = load8(v68);
-    v70 = (u16)v69;
-    v71 = (u16)((u32)v70 << (8u & 15u));
-    v72 = (u16)v67;
-    v73 = (u16)((u32)v71 | (u32)v72);
-    v74 = v62 + 8u * 1u;
-    v75 = load64(v74);
-    v76 = swap64(v75);
-    v77 = v62 + 16u * 1u;
-    memory_cpy(v15, v77, 5u);
-    memory_set(v13, 0u, 5u);
-    memory_set(v14, 0u, 110u);
-    memory_cpy(v13, v15, 5u);
-    memory_set(v10, 0u, 6u);
-    memory_cpy(v11, v13, 5u);
-    memory_cpy(v12, v14, 110u);
-    v78 = load64(v29);
-    v79 = (u64)((u64)v78 * (u64)160u);
-    v80 = v28 + v79 * 1u;
-    store16(v80, 1u);
-    v81 = v80 + 2u * 1u;
-    v82 = (u16)(v8);
-    store16(v81, v82);
-    v83 = v80 + 4u * 1u;
-    store32(v83, 0u);
-    v84 = v80 + 8u * 1u;
-    store8(v84, 0u);
-    v85 = v80 + 9u * 1u;
-    store8(v85, 0u);
-    v86 = v80 + 10u * 1u;
-    memory_cpy(v86, v10, 6u);
-    v87 = v80 + 16u * 1u;
-    store64(v87, v63);
-    v88 = v80 + 24u * 1u;
-    store16(v88, v65);
-    v89 = v80 + 26u * 1u;
-    store16(v89, v73);
-    v90 = v80 + 28u * 1u;
-    store64(v90, v76);
-    v91 = v80 + 36u * 1u;
-    memory_cpy(v91, v11, 5u);
-    v92 = v80 + 41u * 1u;
-    store8(v92, 2u);
-    v93 = v80 + 42u * 1u;
-    memory_cpy(v93, v12, 110u);
-    v94 = v80 + 152u * 1u;
-    store64(v94, 26u);
-    v95 = (u64)((u64)v78 + (u64)1u);
-    store64(v29, v95);
-    goto L13;
-L12:;
-    v96 = load64(v29);
-    v97 = (u64)((u64)v96 * (u64)160u);
-    v98 = v28 + v97 * 1u;
-    store16(v98, 1u);
-    v99 = v98 + 2u * 1u;
-    v100 = (u16)(v8);
-    store16(v99, v100);
-    v101 = v98 + 4u * 1u;
-    v102 = (u64)((u64)v96 + (u64)1u);
-    memory_set(v101, 0u, 156u);
-    store64(v29, v102);
-    goto L13;
-L13:;
-    goto L21;
-L14:;
-    v103 = v8 == 0u;
-    if (v103) { goto L20; }
-    else { goto L15; }
-L15:;
-    v104 = load64(v27);
-    v105 = (u64)((u64)v8 + (u64)UINT64_C(18446744073709551615));
-    v106 = v105 < v104;
-    v107 = (u64)((u64)v105 * (u64)24u);
-    v108 = a0 + v107 * 1u;
-    if (v106) { goto L16; }
-    else { goto L20; }
-L16:;
-    switch (v33) {
-    case 11u: goto L17;
-    case 12u: v9 = 2u; goto L19;
-    case 0u: goto L20;
-    case 1u: goto L20;
-    case 2u: goto L20;
-    case 3u: goto L20;
-    case 4u: goto L20;
-    case 5u: goto L20;
-    case 16u: goto L20;
-    case 7u: goto L20;
-    case 8u: goto L20;
-    case 9u: goto L20;
-    case 10u: goto L20;
-    case 13u: goto L20;
-    case 14u: goto L20;
-    case 15u: goto L20;
-    default: goto L18;
-    }
-L17:;
-    v109 = v108 + 256u * 1u;
-    v110 = (u64)v34;
-    v111 = v109 + v110 * 1u;
-    v112 = load8(v111);
-    v9 = v112; goto L19;
-L18:;
-    UNREACHABLE;
-L19:;
-    v113 = load64(v29);
-    v114 = (u64)((u64)v113 * (u64)160u);
-    v115 = v28 + v114 * 1u;
-    store16(v115, 1u);
-    v116 = v115 + 2u * 1u;
-    v117 = (u16)(v8);
-    store16(v116, v117);
-    v118 = v115 + 4u * 1u;
-    v119 = v115 + 16u * 1u;
-    memory_set(v118, 0u, 12u);
-    store8(v119, v9);
-    v120 = v115 + 17u * 1u;
-    v121 = v115 + 152u * 1u;
-    memory_set(v120, 0u, 135u);
-    store64(v121, 2u);
-    v122 = (u64)((u64)v113 + (u64)1u);
-    store64(v29, v122);
-    goto L21;
-L20:;
-    v123 = load64(v29);
-    v124 = (u64)((u64)v123 * (u64)160u);
-    v125 = v28 + v124 * 1u;
-    store16(v125, 1u);
-    v126 = v125 + 2u * 1u;
-    v127 = (u16)(v8);
-    store16(v126, v127);
-    v128 = v125 + 4u * 1u;
-    v129 = (u64)((u64)v123 + (u64)1u);
-    memory_set(v128, 0u, 156u);
-    store64(v29, v129);
-    goto L21;
-L21:;
-    v130 = (u64)((u64)v8 + (u64)1u);
-    v131 = v130 == v32;
-    if (v131) { goto L22; }
-    else { v8 = v130; goto L4; }
-L22:;
-    return;
-}
-
-static void f54(address a0, address a1, u8 a2) {
-    address v3, v4, v5, v6, v10, v12, v13, v14, v15, v16, v17, v18, v19, v20, v21, v22;
-    address v23, v24, v25, v26, v27, v28, v29, v30, v31, v32;
-    u8 v7, v8, v9;
-    u16 v11, v33;
-    u64 block0[163];
-    u64 block1[162];
-    v3 = ADDRESS(block0);
-    v4 = ADDRESS(block1);
-    v5 = a1 + 16u * 1u;
-    v6 = v3 + 1296u * 1u;
-    store64(v6, 0u);
-    v7 = load8(v5);
-    v8 = v7 > 2u;
-    v9 = v8 ? 4u : 2u;
-    v10 = a1 + 18u * 1u;
-    v11 = load16(v10);
-    store8(v3, v9);
-    v12 = v3 + 1u * 1u;
-    store8(v12, 0u);
-    v13 = v3 + 2u * 1u;
-    store16(v13, v11);
-    v14 = v3 + 4u * 1u;
-    store32(v14, 0u);
-    v15 = v3 + 8u * 1u;
-    store64(v15, 0u);
-    v16 = v3 + 16u * 1u;
-    store8(v16, 1u);
-    v17 = v3 + 17u * 1u;
-    memory_set(v17, 0u, 159u);
-    v18 = v3 + 176u * 1u;
-    store8(v18, 1u);
-    v19 = v3 + 177u * 1u;
-    memory_set(v19, 0u, 159u);
-    v20 = v3 + 336u * 1u;
-    store8(v20, 1u);
-    v21 = v3 + 337u * 1u;
-    memory_set(v21, 0u, 159u);
-    v22 = v3 + 496u * 1u;
-    store8(v22, 1u);
-    v23 = v3 + 497u * 1u;
-    memory_set(v23, 0u, 159u);
-    v24 = v3 + 656u * 1u;
-    store8(v24, 1u);
-    v25 = v3 + 657u * 1u;
-    memory_set(v25, 0u, 159u);
-    v26 = v3 + 816u * 1u;
-    store8(v26, 1u);
-    v27 = v3 + 817u * 1u;
-    memory_set(v27, 0u, 159u);
-    v28 = v3 + 976u * 1u;
-    store8(v28, 1u);
-    v29 = v3 + 977u * 1u;
-    memory_set(v29, 0u, 159u);
-    v30 = v3 + 1136u * 1u;
-    store8(v30, 1u);
-    v31 = v3 + 1137u * 1u;
-    memory_set(v31, 0u, 159u);
-    store8(v6, a2);
-    f55(a0, v5, v3);
-    memory_cpy(v4, v3, 1296u);
-    v32 = a1 + 10u * 1u;
-    v33 = load16(v32);
-    f58(a0, a1, v33, v5, v4);
-    return;
-}
-
-static void f55(address a0, address a1, address a2) {
-    address v3, v10, v11, v12, v15, v17, v18, v19, v20, v21, v22, v23, v24, v28, v30, v31;
-    address v34, v35, v36, v37, v39, v41, v42, v45, v46, v47, v48, v50, v52, v53, v56, v57;
-    address v58, v59;
-    u64 v4, v32, v33, v38, v43, v44, v49, v54, v55, v60;
-    u8 v5, v6, v7, v8, v9, v13, v14, v25, v26, v27, v29, v40, v51, v61;
-    u16 v16;
-    u64 block0[1];
-    u64 block1[4];
-    u64 block2[1];
-    v10 = ADDRESS(block0);
-    v11 = ADDRESS(block1);
-    v12 = ADDRESS(block2);
-    v13 = load8(a1);
-    v14 = v13 != 0u;
-    v15 = a1 + 2u * 1u;
-    v16 = load16(v15);
-    switch (v16) {
-    case 0u: v3 = ADDRESS(c111); v4 = 19u; v5 = 0u; v6 = 1u; v7 = 7u; v8 = 0u; v9 = 0u; goto L21;
-    case 2u: goto L1;
-    case 8192u: goto L2;
-    case 8193u: goto L3;
-    case 8194u: goto L4;
-    case 8195u: goto L5;
-    case 8196u: goto L6;
-    case 8197u: goto L7;
-    case 8198u: goto L8;
-    case 8199u: goto L9;
-    case 8200u: goto L10;
-    case 8201u: goto L11;
-    case 8202u: goto L12;
-    case 8203u: goto L13;
-    case 8204u: goto L14;
-    case 8205u: goto L15;
-    case 8206u: goto L16;
-    case 8208u: goto L17;
-    case 8209u: goto L18;
-    case 24576u: goto L19;
-    case 24577u: goto L20;
-    default: goto L22;
-    }
-L1:;
-    v3 = ADDRESS(c112); v4 = 16u; v5 = 1u; v6 = 0u; v7 = 3u; v8 = 1u; v9 = 0u; goto L21;
-L2:;
-    v3 = ADDRESS(c113); v4 = 16u; v5 = 1u; v6 = 0u; v7 = 1u; v8 = 2u; v9 = 0u; goto L21;
-L3:;
-    v3 = ADDRESS(c114); v4 = 16u; v5 = 1u; v6 = 0u; v7 = 1u; v8 = 3u; v9 = 0u; goto L21;
-L4:;
-    v3 = ADDRESS(c115); v4 = 15u; v5 = 1u; v6 = 0u; v7 = 1u; v8 = 4u; v9 = 0u; goto L21;
-L5:;
-    v3 = ADDRESS(c116); v4 = 24u; v5 = 1u; v6 = 0u; v7 = 1u; v8 = 5u; v9 = 0u; goto L21;
-L6:;
-    v3 = ADDRESS(c117); v4 = 13u; v5 = 0u; v6 = 1u; v7 = 1u; v8 = 6u; v9 = 0u; goto L21;
-L7:;
-    v3 = ADDRESS(c118); v4 = 9u; v5 = 1u; v6 = 0u; v7 = 3u; v8 = 7u; v9 = 0u; goto L21;
-L8:;
-    v3 = ADDRESS(c119); v4 = 9u; v5 = 1u; v6 = 0u; v7 = 3u; v8 = 8u; v9 = 0u; goto L21;
-L9:;
-    v3 = ADDRESS(c120); v4 = 6u; v5 = 1u; v6 = 0u; v7 = 3u; v8 = 9u; v9 = 0u; goto L21;
-L10:;
-    v3 = ADDRESS(c121); v4 = 10u; v5 = 1u; v6 = 0u; v7 = 1u; v8 = 10u; v9 = 0u; goto L21;
-L11:;
-    v3 = ADDRESS(c127); v4 = 21u; v5 = 0u; v6 = 1u; v7 = 3u; v8 = 11u; v9 = 0u; goto L21;
-L12:;
-    v3 = ADDRESS(c129); v4 = 24u; v5 = 0u; v6 = 1u; v7 = 3u; v8 = 11u; v9 = 1u; goto L21;
-L13:;
-    v3 = ADDRESS(c131); v4 = 17u; v5 = 0u; v6 = 1u; v7 = 3u; v8 = 11u; v9 = 2u; goto L21;
-L14:;
-    v3 = ADDRESS(c122); v4 = 14u; v5 = 0u; v6 = 1u; v7 = 1u; v8 = 12u; v9 = 0u; goto L21;
-L15:;
-    v3 = ADDRESS(c123); v4 = 11u; v5 = 0u; v6 = 1u; v7 = 4u; v8 = 13u; v9 = 0u; goto L21;
-L16:;
-    v3 = ADDRESS(c124); v4 = 12u; v5 = 0u; v6 = 1u; v7 = 4u; v8 = 14u; v9 = 0u; goto L21;
-L17:;
-    v3 = ADDRESS(c125); v4 = 14u; v5 = 1u; v6 = 0u; v7 = 3u; v8 = 15u; v9 = 0u; goto L21;
-L18:;
-    v3 = ADDRESS(c126); v4 = 14u; v5 = 1u; v6 = 0u; v7 = 3u; v8 = 16u; v9 = 0u; goto L21;
-L19:;
-    v3 = ADDRESS(c133); v4 = 15u; v5 = 0u; v6 = 1u; v7 = 3u; v8 = 11u; v9 = 3u; goto L21;
-L20:;
-    v3 = ADDRESS(c135); v4 = 27u; v5 = 0u; v6 = 1u; v7 = 3u; v8 = 11u; v9 = 4u; goto L21;
-L21:;
-    memory_set(v10, 0u, 6u);
-    memory_cpy(v12, v10, 6u);
-    store16(v11, v16);
-    v17 = v11 + 2u * 1u;
-    memory_cpy(v17, v12, 6u);
-    v18 = v11 + 8u * 1u;
-    store_address(v18, v3);
-    v19 = v11 + 16u * 1u;
-    store64(v19, v4);
-    v20 = v11 + 24u * 1u;
-    store8(v20, v6);
-    v21 = v11 + 25u * 1u;
-    store8(v21, v7);
-    v22 = v11 + 26u * 1u;
-    store8(v22, v8);
-    v23 = v11 + 27u * 1u;
-    store8(v23, v9);
-    v24 = v11 + 28u * 1u;
-    store32(v24, 0u);
-    v25 = (u8)((u32)v7 & (u32)1u);
-    v26 = v25 == 0u;
-    v27 = (u8)(((u32)v14 | (u32)v26) & UINT64_C(1));
-    if (v5) { goto L24; }
-    else { goto L30; }
-L22:;
-    v28 = a2 + 1296u * 1u;
-    v29 = load8(v28);
-    v30 = a2 + 8u * 1u;
-    v31 = a2 + 1288u * 1u;
-    v32 = load64(v31);
-    v33 = (u64)((u64)v32 * (u64)160u);
-    v34 = v30 + v33 * 1u;
-    v35 = v34 + 8u * 1u;
-    store64(v34, 0u);
-    store8(v35, 2u);
-    v36 = v34 + 9u * 1u;
-    store8(v36, v29);
-    v37 = v34 + 10u * 1u;
-    memory_set(v37, 0u, 150u);
-    v38 = (u64)((u64)v32 + (u64)1u);
-    store64(v31, v38);
-    goto L23;
-L23:;
-    return;
-L24:;
-    if (v27) { goto L25; }
-    else { goto L26; }
-L25:;
-    v39 = a2 + 1296u * 1u;
-    v40 = load8(v39);
-    v41 = a2 + 8u * 1u;
-    v42 = a2 + 1288u * 1u;
-    v43 = load64(v42);
-    v44 = (u64)((u64)v43 * (u64)160u);
-    v45 = v41 + v44 * 1u;
-    v46 = v45 + 8u * 1u;
-    store64(v45, 0u);
-    store8(v46, 2u);
-    v47 = v45 + 9u * 1u;
-    store8(v47, v40);
-    v48 = v45 + 10u * 1u;
-    memory_set(v48, 0u, 150u);
-    v49 = (u64)((u64)v43 + (u64)1u);
-    store64(v42, v49);
-    goto L23;
-L26:;
-    switch (v8) {
-    case 7u: goto L28;
-    case 8u: goto L28;
-    case 9u: goto L28;
-    case 10u: goto L28;
-    case 15u: goto L28;
-    case 0u: goto L29;
-    case 1u: goto L29;
-    case 2u: goto L29;
-    case 3u: goto L29;
-    case 4u: goto L29;
-    case 5u: goto L29;
-    case 6u: goto L29;
-    case 11u: goto L29;
-    case 12u: goto L29;
-    case 13u: goto L29;
-    case 14u: goto L29;
-    case 16u: goto L29;
-    default: goto L27;
-    }
-L27:;
-    UNREACHABLE;
-L28:;
-    v50 = a2 + 1296u * 1u;
-    v51 = load8(v50);
-    v52 = a2 + 8u * 1u;
-    v53 = a2 + 1288u * 1u;
-    v54 = load64(v53);
-    v55 = (u64)((u64)v54 * (u64)160u);
-    v56 = v52 + v55 * 1u;
-    v57 = v56 + 8u * 1u;
-    store64(v56, 0u);
-    store8(v57, 2u);
-    v58 = v56 + 9u * 1u;
-    store8(v58, v51);
-    v59 = v56 + 10u * 1u;
-    memory_set(v59, 0u, 150u);
-    v60 = (u64)((u64)v54 + (u64)1u);
-    store64(v53, v60);
-    goto L23;
-L29:;
-    f56(a0, v8, a2);
-    goto L23;
-L30:;
-    v61 = (u8)v27;
-    f57(a0, v11, a1, v61, a2);
-    goto L23;
-}
-
-static void f56(address a0, u8 a1, address a2) {
-    address v3, v5, v7, v8, v11, v12, v13, v14, v16, v18, v19, v22, v23, v24, v25;
-    u8 v4, v6, v17;
-    u64 v9, v10, v15, v20, v21, v26;
-    u64 block0[18];
-    v3 = ADDRESS(block0);
-    v4 = a1 == 1u;
-    if (v4) { goto L1; }
-    else { goto L2; }
-L1:;
-    v5 = a2 + 1296u * 1u;
-    v6 = load8(v5);
-    v7 = a2 + 8u * 1u;
-    v8 = a2 + 1288u * 1u;
-    v9 = load64(v8);
-    v10 = (u64)((u64)v9 * (u64)160u);
-    v11 = v7 + v10 * 1u;
-    v12 = v11 + 8u * 1u;
-    store64(v11, 0u);
-    store8(v12, 2u);
-    v13 = v11 + 9u * 1u;
-    store8(v13, v6);
-    v14 = v11 + 10u * 1u;
-    memory_set(v14, 0u, 150u);
-    v15 = (u64)((u64)v9 + (u64)1u);
-    store64(v8, v15);
-    goto L3;
-L2:;
-    memory_set(v3, 0u, 144u);
-    f34(a0, a1, v3);
-    v16 = a2 + 1296u * 1u;
-    v17 = load8(v16);
-    v18 = a2 + 8u * 1u;
-    v19 = a2 + 1288u * 1u;
-    v20 = load64(v19);
-    v21 = (u64)((u64)v20 * (u64)160u);
-    v22 = v18 + v21 * 1u;
-    v23 = v22 + 8u * 1u;
-    store64(v22, 0u);
-    store8(v23, 2u);
-    v24 = v22 + 9u * 1u;
-    store8(v24, v17);
-    v25 = v22 + 10u * 1u;
-    memory_set(v25, 0u, 150u);
-    v26 = (u64)((u64)v20 + (u64)1u);
-    store64(v19, v26);
-    goto L3;
-L3:;
-    return;
-}
-
-static void f57(address a0, address a1, address a2, u8 a3, address a4) {
-    u16 v5, v6, v9, v13, v14, v26;
-    u64 v7, v12, v19, v20, v22, v23, v31, v32;
-    address v8, v11, v16, v17, v18, v24, v25, v27, v28, v29, v30;
-    u8 v10, v15, v21, v33;
-    v8 = a2 + 4u * 1u;
-    v9 = load16(v8);
-    v10 = v9 == 65535u;
-    if (v10) { goto L1; }
-    else { v5 = v9; v6 = v9; goto L2; }
-L1:;
-    v11 = a0 + 432u * 1u;
-    v12 = load64(v11);
-    v13 = (u16)(v12);
-    v5 = v13; v6 = 1u; goto L2;
-L2:;
-    v14 = (u16)((u32)v5 + (u32)1u);
-    v15 = v6 < v14;
-    if (v15) { goto L3; }
-    else { goto L5; }
-L3:;
-    v16 = a4 + 1296u * 1u;
-    v17 = a4 + 8u * 1u;
-    v18 = a4 + 1288u * 1u;
-    v19 = (u64)v6;
-    v20 = (u64)v14;
-    v7 = v19; goto L4;
-L4:;
-    v21 = load8(v16);
-    v22 = load64(v18);
-    v23 = (u64)((u64)v22 * (u64)160u);
-    v24 = v17 + v23 * 1u;
-    store16(v24, 1u);
-    v25 = v24 + 2u * 1u;
-    v26 = (u16)(v7);
-    store16(v25, v26);
-    v27 = v24 + 4u * 1u;
-    store32(v27, 0u);
-    v28 = v24 + 8u * 1u;
-    store8(v28, 2u);
-    v29 = v24 + 9u * 1u;
-    store8(v29, v21);
-    v30 = v24 + 10u * 1u;
-    memory_set(v30, 0u, 150u);
-    v31 = (u64)((u64)v22 + (u64)1u);
-    store64(v18, v31);
-    v32 = (u64)((u64)v7 + (u64)1u);
-    v33 = v32 == v20;
-    if (v33) { goto L5; }
-    else { v7 = v32; goto L4; }
-L5:;
-    return;
-}
-
-static void f58(address a0, address a1, u16 a2, address a3, address a4) {
-    address v5, v11, v14, v22, v23, v24, v25, v28, v30, v32, v35, v42, v43, v44, v46, v47;
-    address v49, v50, v52, v53, v54, v55, v58, v67, v68, v72, v73, v79, v80, v82, v84, v88;
-    address v89, v90, v93, v94, v97, v133, v135, v138, v140, v141, v143, v149, v153, v154, v159, v161;
-    address v163, v166, v167, v168, v172, v173, v174, v175, v176, v177, v178, v181, v182, v183, v184, v188;
-    address v189, v190, v191, v192, v193, v194, v195, v196, v197, v201, v203, v209, v210, v216;
-    u64 v6, v7, v8, v10, v12, v13, v18, v19, v20, v21, v26, v31, v36, v37, v39, v41;
-    u64 v56, v59, v63, v64, v65, v70, v74, v81, v83, v91, v95, v96, v101, v103, v105, v107;
-    u64 v109, v111, v113, v116, v118, v120, v122, v124, v126, v128, v132, v142, v145, v146, v147, v150;
-    u64 v151, v156, v158, v160, v162, v169, v170, v185, v186, v205, v206, v207, v212, v215, v217, v218;
-    u8 v9, v17, v27, v34, v38, v40, v45, v57, v60, v61, v62, v66, v69, v71, v75, v76;
-    u8 v77, v78, v86, v92, v98, v100, v102, v104, v106, v108, v110, v112, v114, v115, v117, v119;
-    u8 v121, v123, v125, v127, v129, v134, v137, v139, v144, v148, v152, v155, v157, v171, v187, v204;
-    u8 v208, v211, v213, v214, v219;
-    u16 v15, v16, v29, v33, v48, v51, v85, v87, v130, v131, v136, v164, v165, v179, v180, v198;
-    u16 v199, v200, v202;
-    u32 v99;
-    u64 block0[7];
-    v22 = ADDRESS(block0);
-    v23 = a0 + 448u * 1u;
-    v24 = load_address(v23);
-    v25 = a0 + 456u * 1u;
-    v26 = load64(v25);
-    v27 = v26 == 0u;
-    if (v27) { goto L48; }
-    else { goto L1; }
-L1:;
-    v28 = a1 + 8u * 1u;
-    v29 = load16(v28);
-    v5 = v24; v6 = v26; v7 = 0u; goto L2;
-L2:;
-    v30 = v5 + 2136u * 1u;
-    v31 = (u64)((u64)v6 + (u64)UINT64_C(18446744073709551615));
-    v32 = v5 + 2112u * 1u;
-    v33 = load16(v32);
-    v34 = v29 == v33;
-    if (v34) { goto L3; }
-    else { goto L4; }
-L3:;
-    v35 = v5 + 2104u * 1u;
-    v36 = load64(a1);
-    v37 = load64(v35);
-    v38 = v36 == v37;
-    if (v38) { goto L5; }
-    else { goto L4; }
-L4:;
-    v39 = (u64)((u64)v7 + (u64)1u);
-    v40 = v31 == 0u;
-    if (v40) { goto L48; }
-    else { v5 = v30; v6 = v31; v7 = v39; goto L2; }
-L5:;
-    v41 = (u64)((u64)v7 * (u64)2136u);
-    v42 = v24 + v41 * 1u;
-    v43 = v42 + 2129u * 1u;
-    store8(v43, 1u);
-    v44 = v42 + 2114u * 1u;
-    store16(v44, a2);
-    v45 = load8(a3);
-    v46 = v42 + 2120u * 1u;
-    store8(v46, v45);
-    v47 = a3 + 2u * 1u;
-    v48 = load16(v47);
-    v49 = v42 + 2116u * 1u;
-    store16(v49, v48);
-    v50 = a3 + 4u * 1u;
-    v51 = load16(v50);
-    v52 = v42 + 2118u * 1u;
-    store16(v52, v51);
-    v53 = a3 + 8u * 1u;
-    v54 = load_address(v53);
-    v55 = a3 + 16u * 1u;
-    v56 = load64(v55);
-    v57 = v56 == 0u;
-    v58 = v42 + 1424u * 1u;
-    v59 = load64(v58);
-    v60 = v59 == 0u;
-    v61 = v57 ? v60 : 0u;
-    if (v61) { goto L11; }
-    else { goto L6; }
-L6:;
-    v62 = v59 == v56;
-    if (v62) { goto L7; }
-    else { goto L10; }
-L7:;
-    v63 = (u64)v42;
-    v64 = (u64)v54;
-    v65 = (u64)((u64)v63 - (u64)v64);
-    v66 = v65 < v56;
-    if (v66) { v8 = 0u; goto L9; }
-    else { goto L8; }
-L8:;
-    memory_move(v42, v54, v56);
-    goto L11;
-L9:;
-    v67 = v42 + v8 * 1u;
-    v68 = v54 + v8 * 1u;
-    v69 = load8(v68);
-    store8(v67, v69);
-    v70 = (u64)((u64)v8 + (u64)1u);
-    v71 = v70 == v56;
-    if (v71) { goto L11; }
-    else { v8 = v70; goto L9; }
-L10:;
-    f36(v42, v54, v56);
-    goto L11;
-L11:;
-    v72 = a4 + 8u * 1u;
-    v73 = a4 + 1288u * 1u;
-    v74 = load64(v73);
-    v75 = v74 == 0u;
-    if (v75) { v9 = 0u; goto L13; }
-    else { goto L12; }
-L12:;
-    v76 = load8(v72);
-    v77 = v76 == 1u;
-    v9 = v77; goto L13;
-L13:;
-    v78 = (u8)v9;
-    v79 = v42 + 2121u * 1u;
-    store8(v79, v78);
-    v80 = v42 + 2096u * 1u;
-    v81 = load64(v80);
-    v82 = v42 + 2104u * 1u;
-    v83 = load64(v82);
-    v84 = v42 + 2112u * 1u;
-    v85 = load16(v84);
-    v86 = load8(a3);
-    v87 = load16(v47);
-    v88 = v42 + 1432u * 1u;
-    v89 = v42 + 1448u * 1u;
-    memory_set(v88, 0u, 16u);
-    v90 = v42 + 2088u * 1u;
-    v91 = load64(v90);
-    v92 = v91 == 0u;
-    if (v92) { goto L15; }
-    else { goto L14; }
-L14:;
-    memory_set(v89, 0u, v91);
-    store64(v90, 0u);
-    goto L15;
-L15:;
-    if (v75) { goto L47; }
-    else { goto L16; }
-L16:;
-    v93 = v22 + 4u * 1u;
-    v94 = v22 + 16u * 1u;
-    v95 = (u64)v93;
-    v96 = (u64)v94;
-    v97 = v42 + 1440u * 1u;
-    v98 = v86 > 2u;
-    v99 = v98 ? UINT32_C(262144) : UINT32_C(131072);
-    v100 = (u8)(v81);
-    v101 = (u64)((u64)v81 >> (8u & 63u));
-    v102 = (u8)(v101);
-    v103 = (u64)((u64)v81 >> (16u & 63u));
-    v104 = (u8)(v103);
-    v105 = (u64)((u64)v81 >> (24u & 63u));
-    v106 = (u8)(v105);
-    v107 = (u64)((u64)v81 >> (32u & 63u));
-    v108 = (u8)(v107);
-    v109 = (u64)((u64)v81 >> (40u & 63u));
-    v110 = (u8)(v109);
-    v111 = (u64)((u64)v81 >> (48u & 63u));
-    v112 = (u8)(v111);
-    v113 = (u64)((u64)v81 >> (56u & 63u));
-    v114 = (u8)(v113);
-    v115 = (u8)(v83);
-    v116 = (u64)((u64)v83 >> (8u & 63u));
-    v117 = (u8)(v116);
-    v118 = (u64)((u64)v83 >> (16u & 63u));
-    v119 = (u8)(v118);
-    v120 = (u64)((u64)v83 >> (24u & 63u));
-    v121 = (u8)(v120);
-    v122 = (u64)((u64)v83 >> (32u & 63u));
-    v123 = (u8)(v122);
-    v124 = (u64)((u64)v83 >> (40u & 63u));
-    v125 = (u8)(v124);
-    v126 = (u64)((u64)v83 >> (48u & 63u));
-    v127 = (u8)(v126);
-    v128 = (u64)((u64)v83 >> (56u & 63u));
-    v129 = (u8)(v128);
-    v130 = swap16(a2);
-    v131 = swap16(v85);
-    v10 = 0u; goto L17;
-L17:;
-    v132 = (u64)((u64)v10 * (u64)160u);
-    v133 = v72 + v132 * 1u;
-    v134 = load8(v133);
-    v135 = v133 + 2u * 1u;
-    v136 = load16(v135);
-    v137 = v134 == 1u;
-    v138 = v133 + 8u * 1u;
-    v139 = load8(v138);
-    switch (v139) {
-    case 0u: goto L18;
-    case 1u: v11 = ADDRESS(c139); v12 = 0u; goto L28;
-    case 2u: goto L19;
-    default: goto L27;
-    }
-L18:;
-    v140 = v133 + 16u * 1u;
-    v141 = v133 + 152u * 1u;
-    v142 = load64(v141);
-    v11 = v140; v12 = v142; goto L28;
-L19:;
-    v143 = v133 + 9u * 1u;
-    v144 = load8(v143);
-    switch (v144) {
-    case 0u: v13 = 0u; v14 = ADDRESS(c139); v15 = v87; v16 = 1u; v17 = 1u; v18 = 60u; goto L29;
-    case 1u: goto L20;
-    case 2u: goto L21;
-    case 3u: goto L22;
-    case 4u: goto L23;
-    case 5u: goto L24;
-    case 6u: goto L25;
-    default: goto L26;
-    }
-L20:;
-    v13 = 0u; v14 = ADDRESS(c139); v15 = v87; v16 = 2u; v17 = 1u; v18 = 60u; goto L29;
-L21:;
-    v13 = 0u; v14 = ADDRESS(c139); v15 = v87; v16 = 3u; v17 = 1u; v18 = 60u; goto L29;
-L22:;
-    v13 = 0u; v14 = ADDRESS(c139); v15 = v87; v16 = 4u; v17 = 1u; v18 = 60u; goto L29;
-L23:;
-    v13 = 0u; v14 = ADDRESS(c139); v15 = v87; v16 = 5u; v17 = 1u; v18 = 60u; goto L29;
-L24:;
-    v13 = 0u; v14 = ADDRESS(c139); v15 = v87; v16 = 6u; v17 = 1u; v18 = 60u; goto L29;
-L25:;
-    v13 = 0u; v14 = ADDRESS(c139); v15 = v87; v16 = 65534u; v17 = 1u; v18 = 60u; goto L29;
-L26:;
-    UNREACHABLE;
-L27:;
-    UNREACHABLE;
-L28:;
-    v145 = (u64)((u64)v12 + (u64)54u);
-    v13 = v12; v14 = v11; v15 = 0u; v16 = v87; v17 = 0u; v18 = v145; goto L29;
-L29:;
-    v146 = load64(v90);
-    v147 = (u64)((u64)640u - (u64)v146);
-    v148 = v147 < v18;
-    if (v148) { v20 = v146; goto L34; }
-    else { goto L30; }
-L30:;
-    v149 = v89 + v146 * 1u;
-    v150 = (u64)v149;
-    v151 = (u64)((u64)v150 - (u64)(ADDRESS(c137) + 8u * 1u));
-    v152 = v151 < v18;
-    if (v152) { v19 = 0u; goto L32; }
-    else { goto L31; }
-L31:;
-    memory_cpy(v149, (ADDRESS(c137) + 8u * 1u), v18);
-    goto L33;
-L32:;
-    v153 = v149 + v19 * 1u;
-    v154 = (ADDRESS(c137) + 8u * 1u) + v19 * 1u;
-    v155 = load8(v154);
-    store8(v153, v155);
-    v156 = (u64)((u64)v19 + (u64)1u);
-    v157 = v156 == v18;
-    if (v157) { goto L33; }
-    else { v19 = v156; goto L32; }
-L33:;
-    v158 = (u64)((u64)v146 + (u64)v18);
-    store64(v90, v158);
-    v20 = v158; goto L34;
-L34:;
-    v159 = v89 + v146 * 1u;
-    v160 = (u64)((u64)v20 - (u64)v146);
-    v161 = v159 + 48u * 1u;
-    v162 = (u64)((u64)v160 + (u64)UINT64_C(18446744073709551568));
-    v163 = v159 + 6u * 1u;
-    memory_set(v163, 0u, 42u);
-    store16(v159, 4621u);
-    v164 = (u16)(v160);
-    v165 = swap16(v164);
-    v166 = v159 + 2u * 1u;
-    store16(v166, v165);
-    v167 = v159 + 4u * 1u;
-    store16(v167, 0u);
-    v168 = v159 + 20u * 1u;
-    v169 = (u64)v168;
-    v170 = (u64)((u64)v169 - (u64)v95);
-    v171 = v170 < 8u;
-    if (v171) { goto L35; }
-    else { goto L36; }
-L35:;
-    store8(v168, v100);
-    v172 = v159 + 21u * 1u;
-    store8(v172, v102);
-    v173 = v159 + 22u * 1u;
-    store8(v173, v104);
-    v174 = v159 + 23u * 1u;
-    store8(v174, v106);
-    v175 = v159 + 24u * 1u;
-    store8(v175, v108);
-    v176 = v159 + 25u * 1u;
-    store8(v176, v110);
-    v177 = v159 + 26u * 1u;
-    store8(v177, v112);
-    v178 = v159 + 27u * 1u;
-    store8(v178, v114);
-    goto L37;
-L36:;
-    store64(v168, v81);
-    goto L37;
-L37:;
-    v179 = swap16(v136);
-    v180 = v137 ? v179 : 0u;
-    v181 = v159 + 28u * 1u;
-    store16(v181, v180);
-    v182 = v159 + 30u * 1u;
-    store16(v182, v130);
-    v183 = v159 + 32u * 1u;
-    store16(v183, 32516u);
-    v184 = v159 + 34u * 1u;
-    v185 = (u64)v184;
-    v186 = (u64)((u64)v185 - (u64)v96);
-    v187 = v186 < 8u;
-    if (v187) { goto L38; }
-    else { goto L39; }
-L38:;
-    store8(v184, v115);
-    v188 = v159 + 35u * 1u;
-    store8(v188, v117);
-    v189 = v159 + 36u * 1u;
-    store8(v189, v119);
-    v190 = v159 + 37u * 1u;
-    store8(v190, v121);
-    v191 = v159 + 38u * 1u;
-    store8(v191, v123);
-    v192 = v159 + 39u * 1u;
-    store8(v192, v125);
-    v193 = v159 + 40u * 1u;
-    store8(v193, v127);
-    v194 = v159 + 41u * 1u;
-    store8(v194, v129);
-    goto L40;
-L39:;
-    store64(v184, v83);
-    goto L40;
-L40:;
-    v195 = v159 + 42u * 1u;
-    store16(v195, v131);
-    v196 = v159 + 44u * 1u;
-    store32(v196, v99);
-    if (v17) { goto L41; }
-    else { goto L42; }
-L41:;
-    f5(v161, v162, v16, v15, v14, v13);
-    goto L46;
-L42:;
-    v197 = v159 + 54u * 1u;
-    v198 = (u16)(v13);
-    store16(v161, 256u);
-    v199 = (u16)((u32)v198 + (u32)2u);
-    v200 = swap16(v199);
-    v201 = v159 + 50u * 1u;
-    store16(v201, v200);
-    v202 = swap16(v16);
-    v203 = v159 + 52u * 1u;
-    store16(v203, v202);
-    v204 = v13 == 0u;
-    if (v204) { goto L46; }
-    else { goto L43; }
-L43:;
-    v205 = (u64)v197;
-    v206 = (u64)v14;
-    v207 = (u64)((u64)v205 - (u64)v206);
-    v208 = v207 < v13;
-    if (v208) { v21 = 0u; goto L45; }
-    else { goto L44; }
-L44:;
-    memory_move(v197, v14, v13);
-    goto L46;
-L45:;
-    v209 = v197 + v21 * 1u;
-    v210 = v14 + v21 * 1u;
-    v211 = load8(v210);
-    store8(v209, v211);
-    v212 = (u64)((u64)v21 + (u64)1u);
-    v213 = v212 == v13;
-    if (v213) { goto L46; }
-    else { v21 = v212; goto L45; }
-L46:;
-    v214 = (u8)(v18);
-    v215 = load64(v97);
-    v216 = v88 + v215 * 1u;
-    store8(v216, v214);
-    v217 = (u64)((u64)v215 + (u64)1u);
-    store64(v97, v217);
-    v218 = (u64)((u64)v10 + (u64)1u);
-    v219 = v218 == v74;
-    if (v219) { goto L47; }
-    else { v10 = v218; goto L17; }
-L47:;
-    goto L48;
-L48:;
-    return;
-}
-
-static u8 f59(address a0) {
-    u8 v1, v2, v3;
-    address v4;
-    u16 v5;
-    v2 = load8(a0);
-    v3 = v2 == 0u;
-    if (v3) { goto L1; }
-    else { v1 = 0u; goto L3; }
-L1:;
-    v4 = a0 + 2u * 1u;
-    v5 = load16(v4);
-    switch (v5) {
-    case 0u: goto L2;
-    case 2u: goto L2;
-    case 8192u: goto L2;
-    case 8193u: goto L2;
-    case 8194u: goto L2;
-    case 8195u: goto L2;
-    case 8196u: goto L2;
-    case 8197u: goto L2;
-    case 8198u: goto L2;
-    case 8199u: goto L2;
-    case 8200u: goto L2;
-    case 8201u: goto L2;
-    case 8202u: goto L2;
-    case 8203u: goto L2;
-    case 8204u: goto L2;
-    case 8205u: goto L2;
-    case 8206u: goto L2;
-    case 8208u: goto L2;
-    case 8209u: goto L2;
-    case 24576u: goto L2;
-    case 24577u: goto L2;
-    default: v1 = 1u; goto L3;
-    }
-L2:;
-    v1 = 0u; goto L3;
-L3:;
-    return v1;
-}
-
-static u8 f60(address a0, address a1) {
-    address v2, v5, v6, v7, v8, v10, v12, v17, v20, v22, v24, v30, v31, v33, v39, v41;
-    address v46, v48, v50, v52, v59, v60, v61, v62, v63, v64;
-    u64 v3, v9, v18, v21, v44, v45, v51, v53;
-    u8 v4, v11, v13, v19, v23, v25, v32, v34, v40, v42, v43, v47, v49, v66;
-    u16 v14, v15, v16, v26, v27, v28, v29, v35, v36, v37, v38, v54, v55, v56, v57, v58;
-    struct s1 v65;
+static u32 f64(address a0, u16 a1, address a2, u64 a3, address a4, u8 a5, address a6, u64 a7, address a8) {
+    address v9, v19, v28, v29, v30, v31, v32, v33, v34, v35, v36, v37, v38, v39, v40, v41;
+    address v42, v43, v44, v45, v46, v49, v51, v53, v54, v61, v62, v63, v64, v65, v69, v71;
+    address v73, v79, v82, v83, v84, v86, v89, v93, v96, v101, v103, v105, v110, v111, v112, v117;
+    address v120, v121, v122, v126, v127, v134, v135, v136, v137, v138, v140, v142, v144, v147, v148, v149;
+    address v150, v151, v152, v155, v156, v163, v168, v169, v170, v172, v174, v181, v182, v183, v184, v191;
+    address v192, v193, v196, v198;
+    u64 v10, v13, v14, v15, v16, v17, v18, v20, v21, v22, v25, v26, v66, v67, v70, v80;
+    u64 v85, v90, v97, v102, v104, v106, v107, v108, v113, v114, v115, v116, v118, v124, v125, v128;
+    u64 v129, v130, v143, v153, v164, v165, v166, v167, v175, v177, v178, v179, v180, v185, v186, v187;
+    u64 v189;
+    u8 v11, v12, v23, v24, v47, v48, v50, v52, v55, v56, v57, v58, v59, v60, v68, v72;
+    u8 v74, v81, v88, v91, v92, v94, v95, v98, v99, v100, v109, v119, v123, v131, v132, v133;
+    u8 v139, v141, v145, v146, v154, v157, v158, v159, v160, v161, v162, v171, v173, v176, v188, v190;
+    u8 v197, v199, v200, v201;
+    u32 v27, v194, v195, v202, v203;
+    u16 v75, v76, v77, v78, v87;
     u64 block0[2];
     u64 block1[3];
-    v5 = ADDRESS(block0);
-    v6 = ADDRESS(block1);
-    v7 = load_address(a1);
-    v8 = v7 + 34u * 1u;
-    v9 = load64(v8);
-    v10 = v7 + 42u * 1u;
-    v11 = load8(v10);
-    v12 = v7 + 43u * 1u;
-    v13 = load8(v12);
-    v14 = (u16)v11;
-    v15 = (u16)((u32)v14 << (8u & 15u));
-    v16 = (u16)v13;
-    v17 = a0 + 440u * 1u;
-    v18 = load64(v17);
-    v19 = v9 == v18;
-    if (v19) { goto L1; }
-    else { v4 = 0u; goto L4; }
+    u64 block2[2];
+    u64 block3[55];
+    u64 block4[2];
+    u64 block5[55];
+    u64 block6[3];
+    u64 block7[2];
+    u64 block8[55];
+    u64 block9[55];
+    u64 block10[2];
+    u64 block11[3];
+    u64 block12[5];
+    u64 block13[4];
+    u64 block14[4];
+    u64 block15[2];
+    u64 block16[2];
+    u64 block17[2];
+    v28 = ADDRESS(block0);
+    v29 = ADDRESS(block1);
+    v30 = ADDRESS(block2);
+    v31 = ADDRESS(block3);
+    v32 = ADDRESS(block4);
+    v33 = ADDRESS(block5);
+    v34 = ADDRESS(block6);
+    v35 = ADDRESS(block7);
+    v36 = ADDRESS(block8);
+    v37 = ADDRESS(block9);
+    v38 = ADDRESS(block10);
+    v39 = ADDRESS(block11);
+    v40 = ADDRESS(block12);
+    v41 = ADDRESS(block13);
+    v42 = ADDRESS(block14);
+    v43 = ADDRESS(block15);
+    v44 = ADDRESS(block16);
+    v45 = ADDRESS(block17);
+    memory_set(a8, 0u, 32u);
+    memory_set(v42, 0u, 32u);
+    memory_set(v43, 0u, 12u);
+    memory_set(v44, 0u, 12u);
+    v46 = load_address(a0);
+    f45(v42, v46, a1, a4, a7);
+    v47 = load8(v42);
+    v48 = v47 == 0u;
+    if (v48) { goto L1; }
+    else { goto L39; }
 L1:;
-    v20 = v7 + 20u * 1u;
-    v21 = load64(v20);
-    v22 = v7 + 28u * 1u;
-    v23 = load8(v22);
-    v24 = v7 + 29u * 1u;
-    v25 = load8(v24);
-    v26 = (u16)v23;
-    v27 = (u16)((u32)v26 << (8u & 15u));
-    v28 = (u16)v25;
-    v29 = (u16)((u32)v27 | (u32)v28);
-    store64(v5, v21);
-    v30 = v5 + 8u * 1u;
-    store16(v30, v29);
-    v31 = v7 + 30u * 1u;
-    v32 = load8(v31);
-    v33 = v7 + 31u * 1u;
-    v34 = load8(v33);
-    v35 = (u16)v32;
-    v36 = (u16)((u32)v35 << (8u & 15u));
-    v37 = (u16)v34;
-    v38 = (u16)((u32)v36 | (u32)v37);
-    v39 = a1 + 16u * 1u;
-    v40 = load8(v39);
-    v41 = a1 + 17u * 1u;
-    v42 = load8(v41);
-    v43 = v42 == 0u;
-    v44 = v43 ? 52u : 54u;
-    v45 = v43 ? 53u : 55u;
-    v46 = v7 + v44 * 1u;
-    v47 = load8(v46);
-    v48 = v7 + v45 * 1u;
-    v49 = load8(v48);
-    if (v43) { goto L2; }
-    else { v2 = ADDRESS(c139); v3 = 0u; goto L3; }
+    v49 = v42 + 8u * 1u;
+    v50 = load8(v49);
+    v51 = v42 + 9u * 1u;
+    v52 = load8(v51);
+    v53 = v42 + 16u * 1u;
+    v54 = a0 + 953u * 1u;
+    v55 = load8(v54);
+    v56 = (u8)((v55) & UINT64_C(1));
+    v57 = (u8)(((u32)v56 ^ (u32)1u) & UINT64_C(1));
+    v58 = (u8)(((u32)a5 | (u32)v57) & UINT64_C(1));
+    if (v58) { v12 = 1u; goto L10; }
+    else { goto L2; }
 L2:;
-    v50 = a1 + 8u * 1u;
-    v51 = load64(v50);
-    v52 = v7 + 54u * 1u;
-    v53 = (u64)((u64)v51 + (u64)UINT64_C(18446744073709551562));
-    v2 = v52; v3 = v53; goto L3;
+    memory_set(v41, 0u, 32u);
+    f8(v41, a2, a3);
+    v59 = load8(v41);
+    v60 = v59 == 0u;
+    if (v60) { goto L3; }
+    else { v11 = 0u; goto L9; }
 L3:;
-    v54 = (u16)((u32)v15 | (u32)v16);
-    v55 = (u16)v47;
-    v56 = (u16)((u32)v55 << (8u & 15u));
-    v57 = (u16)v49;
-    v58 = (u16)((u32)v56 | (u32)v57);
-    store8(v6, v40);
-    v59 = v6 + 1u * 1u;
-    store8(v59, 0u);
-    v60 = v6 + 2u * 1u;
-    store16(v60, v58);
-    v61 = v6 + 4u * 1u;
-    store16(v61, v54);
-    v62 = v6 + 6u * 1u;
-    store16(v62, 0u);
-    v63 = v6 + 8u * 1u;
-    store_address(v63, v2);
-    v64 = v6 + 16u * 1u;
-    store64(v64, v3);
-    v65 = f22(v17, v5, v38, v6);
-    v66 = v65.m0;
-    v4 = v66; goto L4;
+    v61 = v41 + 8u * 1u;
+    v62 = load_address(v61);
+    v63 = load_address(a0);
+    v64 = v63 + 440u * 1u;
+    v65 = v62 + 34u * 1u;
+    v66 = load64(v65);
+    v67 = load64(v64);
+    v68 = v66 == v67;
+    if (v68) { goto L4; }
+    else { v11 = 0u; goto L9; }
 L4:;
-    return v4;
-}
-
-static void f61(address a0, address a1, address a2, u64 a3) {
-    u8 v4, v25, v28, v32, v33;
-    address v5, v6, v7, v8, v9, v10, v11, v12, v13, v14, v15, v16, v17, v18, v19, v20;
-    address v21, v22, v23, v24, v26, v29, v30, v31, v34, v35, v36, v37, v38, v39, v40, v41;
-    address v42, v43, v44, v45, v46, v47, v48, v49, v50, v51, v52, v53, v54, v55;
-    u16 v27, v56;
-    u64 block0[19];
-    u64 block1[18];
-    u64 block2[20];
-    u64 block3[20];
-    u64 block4[20];
-    u64 block5[20];
-    u64 block6[20];
-    u64 block7[20];
-    u64 block8[20];
-    u64 block9[19];
-    u64 block10[162];
-    u64 block11[20];
-    u64 block12[20];
-    u64 block13[20];
-    u64 block14[20];
-    u64 block15[20];
-    u64 block16[20];
-    u64 block17[20];
-    u64 block18[19];
-    v5 = ADDRESS(block0);
-    v6 = ADDRESS(block1);
-    v7 = ADDRESS(block2);
-    v8 = ADDRESS(block3);
-    v9 = ADDRESS(block4);
-    v10 = ADDRESS(block5);
-    v11 = ADDRESS(block6);
-    v12 = ADDRESS(block7);
-    v13 = ADDRESS(block8);
-    v14 = ADDRESS(block9);
-    v15 = ADDRESS(block10);
-    v16 = ADDRESS(block11);
-    v17 = ADDRESS(block12);
-    v18 = ADDRESS(block13);
-    v19 = ADDRESS(block14);
-    v20 = ADDRESS(block15);
-    v21 = ADDRESS(block16);
-    v22 = ADDRESS(block17);
-    v23 = ADDRESS(block18);
-    memory_set(v15, 0u, 1296u);
-    memory_set(v16, 0u, 159u);
-    memory_set(v17, 0u, 159u);
-    memory_set(v18, 0u, 159u);
-    memory_set(v19, 0u, 159u);
-    memory_set(v20, 0u, 159u);
-    memory_set(v21, 0u, 159u);
-    memory_set(v22, 0u, 159u);
-    memory_set(v23, 0u, 151u);
-    v24 = a1 + 16u * 1u;
-    v25 = load8(v24);
-    v26 = a1 + 18u * 1u;
-    v27 = load16(v26);
-    memory_set(v7, 0u, 159u);
-    memory_set(v8, 0u, 159u);
-    memory_set(v9, 0u, 159u);
-    memory_set(v10, 0u, 159u);
-    memory_set(v11, 0u, 159u);
-    memory_set(v12, 0u, 159u);
-    memory_set(v13, 0u, 159u);
-    memory_set(v14, 0u, 151u);
-    v28 = a3 < 131u;
-    if (v28) { goto L1; }
-    else { goto L2; }
-L1:;
-    memory_set(v6, 0u, 136u);
-    memory_cpy(v6, a2, a3);
-    v29 = v6 + 136u * 1u;
-    store64(v29, a3);
-    memory_set(v5, 0u, 6u);
-    v30 = v5 + 6u * 1u;
-    memory_cpy(v30, v6, 144u);
-    store8(v7, 0u);
-    v31 = v7 + 1u * 1u;
-    memory_cpy(v31, v5, 150u);
-    v4 = 0u; goto L3;
-L2:;
-    memory_set(v7, 0u, 151u);
-    v4 = 2u; goto L3;
-L3:;
-    v32 = v25 > 2u;
-    v33 = v32 ? 4u : 2u;
-    memory_cpy(v16, v7, 159u);
-    memory_cpy(v17, v8, 159u);
-    memory_cpy(v18, v9, 159u);
-    memory_cpy(v19, v10, 159u);
-    memory_cpy(v20, v11, 159u);
-    memory_cpy(v21, v12, 159u);
-    memory_cpy(v22, v13, 159u);
-    memory_cpy(v23, v14, 151u);
-    store8(v15, v33);
-    v34 = v15 + 1u * 1u;
-    store8(v34, 0u);
-    v35 = v15 + 2u * 1u;
-    store16(v35, v27);
-    v36 = v15 + 4u * 1u;
-    store32(v36, 0u);
-    v37 = v15 + 8u * 1u;
-    store64(v37, 0u);
-    v38 = v15 + 16u * 1u;
-    store8(v38, v4);
-    v39 = v15 + 17u * 1u;
-    memory_cpy(v39, v16, 159u);
-    v40 = v15 + 176u * 1u;
-    store8(v40, 1u);
-    v41 = v15 + 177u * 1u;
-    memory_cpy(v41, v17, 159u);
-    v42 = v15 + 336u * 1u;
-    store8(v42, 1u);
-    v43 = v15 + 337u * 1u;
-    memory_cpy(v43, v18, 159u);
-    v44 = v15 + 496u * 1u;
-    store8(v44, 1u);
-    v45 = v15 + 497u * 1u;
-    memory_cpy(v45, v19, 159u);
-    v46 = v15 + 656u * 1u;
-    store8(v46, 1u);
-    v47 = v15 + 657u * 1u;
-    memory_cpy(v47, v20, 159u);
-    v48 = v15 + 816u * 1u;
-    store8(v48, 1u);
-    v49 = v15 + 817u * 1u;
-    memory_cpy(v49, v21, 159u);
-    v50 = v15 + 976u * 1u;
-    store8(v50, 1u);
-    v51 = v15 + 977u * 1u;
-    memory_cpy(v51, v22, 159u);
-    v52 = v15 + 1136u * 1u;
-    store8(v52, 1u);
-    v53 = v15 + 1137u * 1u;
-    memory_cpy(v53, v23, 151u);
-    v54 = v15 + 1288u * 1u;
-    store64(v54, 1u);
-    v55 = a1 + 10u * 1u;
-    v56 = load16(v55);
-    f58(a0, a1, v56, v24, v15);
-    return;
-}
-
-static struct s2 f62(address a0, address a1, u64 a2) {
-    u64 v3, v4, v5, v6, v7, v8, v9, v13, v14, v15, v16, v18, v19, v21, v22, v23;
-    u64 v24, v25, v27, v30, v34, v35, v36, v37, v38, v39, v48, v52, v53, v55, v58, v66;
-    u64 v67, v71, v73, v80, v84, v86, v90, v94, v96, v98, v99, v100, v101, v103, v104, v105;
-    u64 v106, v108, v109, v110, v113, v115, v121, v124, v128, v130, v134, v140, v141, v150, v152, v163;
-    u64 v172, v173, v174, v179, v181, v183, v185, v187, v195, v197, v233, v234, v236, v242, v243, v244;
-    u64 v245, v323, v328, v330, v332, v333, v334, v336, v337, v338, v340, v345, v347, v348, v350, v352;
-    address v10, v11, v12, v17, v20, v26, v28, v31, v41, v42, v43, v44, v45, v47, v50, v54;
-    address v56, v57, v60, v61, v62, v63, v64, v68, v69, v70, v72, v75, v76, v77, v82, v83;
-    address v112, v114, v117, v118, v119, v120, v123, v125, v131, v132, v133, v136, v137, v138, v142, v143;
-    address v145, v147, v149, v151, v153, v156, v164, v165, v166, v167, v168, v169, v170, v171, v176, v177;
-    address v182, v186, v189, v190, v191, v194, v198, v199, v201, v208, v210, v217, v219, v228, v232, v235;
-    address v237, v241, v248, v249, v251, v252, v254, v255, v257, v258, v260, v261, v263, v264, v266, v267;
-    address v269, v270, v272, v273, v275, v276, v278, v279, v281, v282, v284, v285, v287, v288, v290, v291;
-    address v293, v294, v296, v297, v299, v300, v302, v303, v305, v306, v308, v309, v311, v312, v314, v315;
-    address v317, v318, v320, v321, v325, v326, v331, v341, v342, v343, v355, v356, v357, v358, v359, v360;
-    address v361, v362, v363, v364, v365;
-    u16 v29, v146, v148, v154, v155, v157, v158, v159, v160, v161, v162, v203, v204, v205, v206, v207;
-    u16 v212, v213, v214, v215, v221, v222, v223, v224, v225, v226, v238, v239;
-    u8 v32, v33, v40, v46, v49, v51, v59, v65, v74, v78, v79, v81, v85, v87, v88, v89;
-    u8 v91, v92, v93, v95, v97, v102, v107, v111, v116, v122, v126, v127, v129, v135, v139, v144;
-    u8 v175, v178, v180, v184, v188, v192, v193, v196, v200, v202, v209, v211, v216, v218, v220, v227;
-    u8 v229, v230, v231, v240, v246, v247, v250, v253, v256, v259, v262, v265, v268, v271, v274, v277;
-    u8 v280, v283, v286, v289, v292, v295, v298, v301, v304, v307, v310, v313, v316, v319, v322, v324;
-    u8 v327, v329, v335, v339, v344, v346, v349, v351, v353, v354;
-    struct s2 v366, v367;
-    u64 block0[5];
-    u64 block1[5];
-    u64 block2[42];
-    u64 block3[4];
-    u64 block4[5];
-    v41 = ADDRESS(block0);
-    v42 = ADDRESS(block1);
-    v43 = ADDRESS(block2);
-    v44 = ADDRESS(block3);
-    v45 = ADDRESS(block4);
-    v46 = a2 > 27184u;
-    if (v46) { goto L19; }
-    else { goto L1; }
-L1:;
-    v47 = a0 + 160u * 1u;
-    v48 = load64(v47);
-    v49 = v48 == 0u;
-    if (v49) { v3 = 89u; goto L3; }
-    else { goto L2; }
-L2:;
-    v50 = a0 + 24u * 1u;
-    v51 = load8(v50);
-    v52 = (u64)v51;
-    v53 = (u64)((u64)v52 + (u64)89u);
-    v3 = v53; goto L3;
-L3:;
-    v54 = a0 + 432u * 1u;
-    v55 = load64(v54);
-    v56 = a0 + 440u * 1u;
-    memory_set(v45, 0u, 40u);
-    f45(v45, v56);
-    v57 = v45 + 32u * 1u;
-    v58 = load64(v57);
-    v59 = v58 == 0u;
-    if (v59) { v16 = 0u; goto L18; }
-    else { goto L4; }
-L4:;
-    v60 = v45 + 16u * 1u;
-    v61 = v44 + 16u * 1u;
-    v62 = v44 + 24u * 1u;
-    v63 = v44 + 25u * 1u;
-    v4 = 0u; v5 = 0u; goto L5;
-L5:;
-    v64 = v60 + v5 * 1u;
-    v65 = load8(v64);
-    v66 = (u64)v65;
-    v67 = (u64)((u64)v66 * (u64)2136u);
-    v68 = load_address(v45);
-    v69 = v68 + v67 * 1u;
-    v70 = v69 + 1424u * 1u;
-    v71 = load64(v70);
-    v72 = v69 + 1440u * 1u;
-    v73 = load64(v72);
-    v74 = v73 == 0u;
-    if (v74) { v15 = 0u; goto L17; }
-    else { goto L6; }
-L6:;
-    v75 = v69 + 1432u * 1u;
-    v76 = v69 + 1448u * 1u;
-    v77 = v69 + 2121u * 1u;
-    v6 = 0u; v7 = 0u; goto L7;
-L7:;
-    v78 = load8(v77);
-    v79 = load8(v75);
-    v80 = (u64)v79;
-    v81 = v7 == 0u;
-    if (v81) { v12 = v76; v13 = v80; goto L9; }
-    else { v8 = v80; v9 = v7; v10 = v76; v11 = v75; goto L8; }
-L8:;
-    v82 = v10 + v8 * 1u;
-    v83 = v11 + 1u * 1u;
-    v84 = (u64)((u64)v9 + (u64)UINT64_C(18446744073709551615));
-    v85 = load8(v83);
-    v86 = (u64)v85;
-    v87 = v84 == 0u;
-    if (v87) { v12 = v82; v13 = v86; goto L9; }
-    else { v8 = v86; v9 = v84; v10 = v82; v11 = v83; goto L8; }
-L9:;
-    memory_set(v44, 0u, 32u);
-    f8(v44, v12, v13);
-    v88 = load8(v44);
-    v89 = v88 == 1u;
-    if (v89) { goto L14; }
-    else { goto L10; }
-L10:;
-    v90 = load64(v61);
-    v91 = load8(v62);
-    v92 = load8(v63);
-    switch (v92) {
-    case 0u: goto L12;
-    case 1u: goto L11;
-    default: goto L15;
-    }
-L11:;
-    v14 = 3u; goto L16;
-L12:;
-    v93 = v91 == 2u;
-    if (v93) { goto L13; }
-    else { goto L14; }
-L13:;
-    v94 = (u64)((u64)v90 + (u64)UINT64_C(18446744073709551564));
-    v14 = v94; goto L16;
-L14:;
-    v14 = 1u; goto L16;
-L15:;
-    v95 = v91 == 2u;
-    v96 = v95 ? 2u : 1u;
-    v14 = v96; goto L16;
-L16:;
-    v97 = v78 == 0u;
-    v98 = v97 ? 0u : 2u;
-    v99 = (u64)((u64)v98 + (u64)v6);
-    v100 = (u64)((u64)v99 + (u64)v14);
-    v101 = (u64)((u64)v7 + (u64)1u);
-    v102 = v101 == v73;
-    if (v102) { v15 = v100; goto L17; }
-    else { v6 = v100; v7 = v101; goto L7; }
-L17:;
-    v103 = (u64)((u64)v4 + (u64)20u);
-    v104 = (u64)((u64)v103 + (u64)v71);
-    v105 = (u64)((u64)v104 + (u64)v15);
-    v106 = (u64)((u64)v5 + (u64)1u);
-    v107 = v106 == v58;
-    if (v107) { v16 = v105; goto L18; }
-    else { v4 = v105; v5 = v106; goto L5; }
-L18:;
-    v108 = (u64)((u64)v55 * (u64)15u);
-    v109 = (u64)((u64)v108 + (u64)v3);
-    v110 = (u64)((u64)v109 + (u64)v16);
-    v111 = v110 > a2;
-    if (v111) { v39 = 0u; v40 = 0u; goto L55; }
-    else { goto L19; }
-L19:;
-    v112 = a0 + 440u * 1u;
-    v113 = (u64)((u64)a2 + (u64)UINT64_C(18446744073709551604));
-    memory_set(v43, 0u, 336u);
-    f63(v43, a0);
-    v114 = v43 + 328u * 1u;
-    v115 = load64(v114);
-    v116 = v113 < v115;
-    if (v116) { goto L20; }
-    else { goto L21; }
-L20:;
-    TRAP;
-    UNREACHABLE;
-L21:;
-    v117 = a1 + 12u * 1u;
-    memory_cpy(v117, v43, v115);
-    v118 = a0 + 448u * 1u;
-    v119 = load_address(v118);
-    v120 = a0 + 456u * 1u;
-    v121 = load64(v120);
-    v17 = v119; v18 = v121; v19 = 0u; goto L22;
-L22:;
-    v20 = v17; v21 = v18; goto L23;
-L23:;
-    v122 = v21 == 0u;
-    if (v122) { goto L26; }
-    else { goto L24; }
-L24:;
-    v123 = v20 + 2136u * 1u;
-    v124 = (u64)((u64)v21 + (u64)UINT64_C(18446744073709551615));
-    v125 = v20 + 2129u * 1u;
-    v126 = load8(v125);
-    v127 = (u8)((v126) & UINT64_C(1));
-    if (v127) { goto L25; }
-    else { v20 = v123; v21 = v124; goto L23; }
-L25:;
-    v128 = (u64)((u64)v19 + (u64)1u);
-    v17 = v123; v18 = v124; v19 = v128; goto L22;
-L26:;
-    v129 = (u8)(v19);
-    v130 = (u64)((u64)v115 + (u64)13u);
-    v131 = a1 + v115 * 1u;
-    v132 = v131 + 12u * 1u;
-    store8(v132, v129);
-    memory_set(v42, 0u, 40u);
-    f45(v42, v112);
-    memory_cpy(v41, v42, 40u);
-    v133 = v41 + 32u * 1u;
-    v134 = load64(v133);
-    v135 = v134 == 0u;
-    if (v135) { v38 = v130; goto L54; }
-    else { goto L27; }
-L27:;
-    v136 = v41 + 16u * 1u;
-    v137 = load_address(v41);
-    v22 = v130; v23 = 0u; goto L28;
-L28:;
-    v138 = v136 + v23 * 1u;
-    v139 = load8(v138);
-    v140 = (u64)v139;
-    v141 = (u64)((u64)v140 * (u64)2136u);
-    v142 = v137 + v141 * 1u;
-    v143 = v142 + 2120u * 1u;
-    v144 = load8(v143);
-    v145 = v142 + 2116u * 1u;
-    v146 = load16(v145);
-    v147 = v142 + 2118u * 1u;
-    v148 = load16(v147);
-    v149 = v142 + 1424u * 1u;
-    v150 = load64(v149);
-    v151 = v142 + 2104u * 1u;
-    v152 = load64(v151);
-    v153 = v142 + 2112u * 1u;
-    v154 = load16(v153);
-    v155 = swap16(v154);
-    v156 = v142 + 2114u * 1u;
-    v157 = load16(v156);
-    v158 = swap16(v157);
-    v159 = swap16(v146);
-    v160 = swap16(v148);
-    v161 = (u16)(v150);
-    v162 = swap16(v161);
-    v163 = (u64)((u64)v22 + (u64)19u);
-    v164 = a1 + v22 * 1u;
-    store64(v164, v152);
-    v165 = v164 + 8u * 1u;
-    store16(v165, v155);
-    v166 = v164 + 10u * 1u;
-    store16(v166, v158);
-    v167 = v164 + 12u * 1u;
-    store8(v167, v144);
-    v168 = v164 + 13u * 1u;
-    store16(v168, v159);
-    v169 = v164 + 15u * 1u;
-    store16(v169, v160);
-    v170 = v164 + 17u * 1u;
-    store16(v170, v162);
-    v171 = a1 + v163 * 1u;
-    v172 = (u64)v171;
-    v173 = (u64)v142;
-    v174 = (u64)((u64)v172 - (u64)v173);
-    v175 = v174 < v150;
-    if (v175) { v24 = 0u; goto L30; }
-    else { goto L29; }
-L29:;
-    memory_move(v171, v142, v150);
-    goto L31;
-L30:;
-    v176 = v171 + v24 * 1u;
-    v177 = v142 + v24 * 1u;
-    v178 = load8(v177);
-    store8(v176, v178);
-    v179 = (u64)((u64)v24 + (u64)1u);
-    v180 = v179 == v150;
-    if (v180) { goto L31; }
-    else { v24 = v179; goto L30; }
-L31:;
-    v181 = (u64)((u64)v150 + (u64)v163);
-    v182 = v142 + 1440u * 1u;
-    v183 = load64(v182);
-    v184 = (u8)(v183);
-    v185 = (u64)((u64)v181 + (u64)1u);
-    v186 = a1 + v181 * 1u;
-    store8(v186, v184);
-    v187 = load64(v182);
-    v188 = v187 == 0u;
-    if (v188) { v37 = v185; goto L53; }
-    else { goto L32; }
-L32:;
-    v189 = v142 + 1448u * 1u;
-    v190 = v142 + 1432u * 1u;
-    v191 = v142 + 2121u * 1u;
-    v192 = load8(v191);
-    v193 = (u8)((v192) & UINT64_C(1));
-    v25 = v185; v26 = v189; v27 = v187; v28 = v190; goto L33;
-L33:;
-    v194 = v28 + 1u * 1u;
-    v195 = (u64)((u64)v27 + (u64)UINT64_C(18446744073709551615));
-    v196 = load8(v28);
-    v197 = (u64)v196;
-    v198 = v26 + v197 * 1u;
-    if (v193) { goto L34; }
-    else { v29 = 0u; goto L35; }
-L34:;
-    v199 = v26 + 28u * 1u;
-    v200 = load8(v199);
-    v201 = v26 + 29u * 1u;
-    v202 = load8(v201);
-    v203 = (u16)v200;
-    v204 = (u16)((u32)v203 << (8u & 15u));
-    v205 = (u16)v202;
-    v206 = (u16)((u32)v204 | (u32)v205);
-    v207 = swap16(v206);
-    v29 = v207; goto L35;
-L35:;
-    v208 = v26 + 48u * 1u;
-    v209 = load8(v208);
-    v210 = v26 + 49u * 1u;
-    v211 = load8(v210);
-    v212 = (u16)v209;
-    v213 = (u16)((u32)v212 << (8u & 15u));
-    v214 = (u16)v211;
-    v215 = (u16)((u32)v213 | (u32)v214);
-    v216 = v215 == 2u;
-    if (v216) { goto L36; }
-    else { goto L37; }
-L36:;
-    v217 = v26 + 52u * 1u;
-    v218 = load8(v217);
-    v219 = v26 + 53u * 1u;
-    v220 = load8(v219);
-    v221 = (u16)v218;
-    v222 = (u16)((u32)v221 << (8u & 15u));
-    v223 = (u16)v220;
-    v224 = (u16)((u32)v222 | (u32)v223);
-    v225 = (u16)((u32)v224 + (u32)65535u);
-    v226 = v225 < 6u ? v225 : 6u;
-    v227 = (u8)(v226);
-    v30 = 0u; v31 = 0u; v32 = 2u; v33 = v227; goto L39;
-L37:;
-    v228 = v26 + 46u * 1u;
-    v229 = load8(v228);
-    v230 = (u8)((u32)v229 & (u32)15u);
-    v231 = v230 == 2u;
-    if (v231) { goto L38; }
-    else { v30 = 0u; v31 = 0u; v32 = 1u; v33 = 0u; goto L39; }
-L38:;
-    v232 = v26 + 54u * 1u;
-    v233 = (u64)((u64)v197 + (u64)UINT64_C(18446744073709551562));
-    v30 = v233; v31 = v232; v32 = 0u; v33 = 0u; goto L39;
-L39:;
-    if (v193) { goto L40; }
-    else { v34 = v25; goto L41; }
-L40:;
-    v234 = (u64)((u64)v25 + (u64)2u);
-    v235 = a1 + v25 * 1u;
-    store16(v235, v29);
-    v34 = v234; goto L41;
-L41:;
-    switch (v32) {
-    case 0u: goto L42;
-    case 1u: goto L49;
-    case 2u: goto L50;
-    default: goto L51;
-    }
-L42:;
-    v236 = (u64)((u64)v34 + (u64)2u);
-    v237 = a1 + v34 * 1u;
-    v238 = (u16)(v30);
-    v239 = (u16)((u32)v238 << (8u & 15u));
-    store16(v237, v239);
-    v240 = v30 == 26u;
-    v241 = a1 + v236 * 1u;
-    v242 = (u64)v241;
-    v243 = (u64)v31;
-    v244 = (u64)((u64)v242 - (u64)v243);
-    if (v240) { goto L43; }
-    else { goto L46; }
-L43:;
-    v245 = (u64)((u64)v34 + (u64)28u);
-    v246 = v244 < 26u;
-    if (v246) { goto L44; }
-    else { goto L45; }
-L44:;
-    v247 = load8(v31);
-    store8(v241, v247);
-    v248 = v241 + 1u * 1u;
-    v249 = v31 + 1u * 1u;
-    v250 = load8(v249);
-    store8(v248, v250);
-    v251 = v241 + 2u * 1u;
-    v252 = v31 + 2u * 1u;
-    v253 = load8(v252);
-    store8(v251, v253);
-    v254 = v241 + 3u * 1u;
-    v255 = v31 + 3u * 1u;
-    v256 = load8(v255);
-    store8(v254, v256);
-    v257 = v241 + 4u * 1u;
-    v258 = v31 + 4u * 1u;
-    v259 = load8(v258);
-    store8(v257, v259);
-    v260 = v241 + 5u * 1u;
-    v261 = v31 + 5u * 1u;
-    v262 = load8(v261);
-    store8(v260, v262);
-    v263 = v241 + 6u * 1u;
-    v264 = v31 + 6u * 1u;
-    v265 = load8(v264);
-    store8(v263, v265);
-    v266 = v241 + 7u * 1u;
-    v267 = v31 + 7u * 1u;
-    v268 = load8(v267);
-    store8(v266, v268);
-    v269 = v241 + 8u * 1u;
-    v270 = v31 + 8u * 1u;
-    v271 = load8(v270);
-    store8(v269, v271);
-    v272 = v241 + 9u * 1u;
-    v273 = v31 + 9u * 1u;
-    v274 = load8(v273);
-    store8(v272, v274);
-    v275 = v241 + 10u * 1u;
-    v276 = v31 + 10u * 1u;
-    v277 = load8(v276);
-    store8(v275, v277);
-    v278 = v241 + 11u * 1u;
-    v279 = v31 + 11u * 1u;
-    v280 = load8(v279);
-    store8(v278, v280);
-    v281 = v241 + 12u * 1u;
-    v282 = v31 + 12u * 1u;
-    v283 = load8(v282);
-    store8(v281, v283);
-    v284 = v241 + 13u * 1u;
-    v285 = v31 + 13u * 1u;
-    v286 = load8(v285);
-    store8(v284, v286);
-    v287 = v241 + 14u * 1u;
-    v288 = v31 + 14u * 1u;
-    v289 = load8(v288);
-    store8(v287, v289);
-    v290 = v241 + 15u * 1u;
-    v291 = v31 + 15u * 1u;
-    v292 = load8(v291);
-    store8(v290, v292);
-    v293 = v241 + 16u * 1u;
-    v294 = v31 + 16u * 1u;
-    v295 = load8(v294);
-    store8(v293, v295);
-    v296 = v241 + 17u * 1u;
-    v297 = v31 + 17u * 1u;
-    v298 = load8(v297);
-    store8(v296, v298);
-    v299 = v241 + 18u * 1u;
-    v300 = v31 + 18u * 1u;
-    v301 = load8(v300);
-    store8(v299, v301);
-    v302 = v241 + 19u * 1u;
-    v303 = v31 + 19u * 1u;
-    v304 = load8(v303);
-    store8(v302, v304);
-    v305 = v241 + 20u * 1u;
-    v306 = v31 + 20u * 1u;
-    v307 = load8(v306);
-    store8(v305, v307);
-    v308 = v241 + 21u * 1u;
-    v309 = v31 + 21u * 1u;
-    v310 = load8(v309);
-    store8(v308, v310);
-    v311 = v241 + 22u * 1u;
-    v312 = v31 + 22u * 1u;
-    v313 = load8(v312);
-    store8(v311, v313);
-    v314 = v241 + 23u * 1u;
-    v315 = v31 + 23u * 1u;
-    v316 = load8(v315);
-    store8(v314, v316);
-    v317 = v241 + 24u * 1u;
-    v318 = v31 + 24u * 1u;
-    v319 = load8(v318);
-    store8(v317, v319);
-    v320 = v241 + 25u * 1u;
-    v321 = v31 + 25u * 1u;
-    v322 = load8(v321);
-    store8(v320, v322);
-    v36 = v245; goto L52;
-L45:;
-    memory_move(v241, v31, 26u);
-    v36 = v245; goto L52;
-L46:;
-    v323 = (u64)((u64)v236 + (u64)v30);
-    v324 = v244 < v30;
-    if (v324) { v35 = 0u; goto L48; }
-    else { goto L47; }
-L47:;
-    memory_move(v241, v31, v30);
-    v36 = v323; goto L52;
-L48:;
-    v325 = v241 + v35 * 1u;
-    v326 = v31 + v35 * 1u;
-    v327 = load8(v326);
-    store8(v325, v327);
-    v328 = (u64)((u64)v35 + (u64)1u);
-    v329 = v328 == v30;
-    if (v329) { v36 = v323; goto L52; }
-    else { v35 = v328; goto L48; }
-L49:;
-    v330 = (u64)((u64)v34 + (u64)1u);
-    v331 = a1 + v34 * 1u;
-    store8(v331, 1u);
-    v36 = v330; goto L52;
-L50:;
-    v332 = (u64)v33;
-    v333 = (u64)(((u64)v332 << (3u & 63u)) & UINT64_C(72057594037927935));
-    v334 = (u64)(((u64)UINT64_C(71501262696415745) >> (v333 & 63u)) & UINT64_C(72057594037927935));
-    v335 = (u8)(v334);
-    v336 = (u64)v33;
-    v337 = (u64)(((u64)v336 << (3u & 63u)) & UINT64_C(72057594037927935));
-    v338 = (u64)(((u64)UINT64_C(71776119061217280) >> (v337 & 63u)) & UINT64_C(72057594037927935));
-    v339 = (u8)(v338);
-    v340 = (u64)((u64)v34 + (u64)3u);
-    v341 = a1 + v34 * 1u;
-    store8(v341, 2u);
-    v342 = v341 + 1u * 1u;
-    store8(v342, v339);
-    v343 = v341 + 2u * 1u;
-    store8(v343, v335);
-    v36 = v340; goto L52;
-L51:;
-    UNREACHABLE;
-L52:;
-    v344 = v195 == 0u;
-    if (v344) { v37 = v36; goto L53; }
-    else { v25 = v36; v26 = v198; v27 = v195; v28 = v194; goto L33; }
-L53:;
-    v345 = (u64)((u64)v23 + (u64)1u);
-    v346 = v345 == v134;
-    if (v346) { v38 = v37; goto L54; }
-    else { v22 = v37; v23 = v345; goto L28; }
-L54:;
-    v347 = (u64)((u64)v38 + (u64)UINT64_C(18446744073709551604));
-    v348 = (u64)((u64)v347 >> (24u & 63u));
-    v349 = (u8)(v348);
-    v350 = (u64)((u64)v347 >> (16u & 63u));
-    v351 = (u8)(v350);
-    v352 = (u64)((u64)v347 >> (8u & 63u));
-    v353 = (u8)(v352);
-    v354 = (u8)(v347);
-    store8(a1, 112u);
-    v355 = a1 + 1u * 1u;
-    store8(v355, 116u);
-    v356 = a1 + 2u * 1u;
-    store8(v356, 112u);
-    v357 = a1 + 3u * 1u;
-    store8(v357, 109u);
-    v358 = a1 + 4u * 1u;
-    store8(v358, 1u);
-    v359 = a1 + 5u * 1u;
-    store8(v359, 1u);
-    v360 = a1 + 6u * 1u;
-    store8(v360, 0u);
-    v361 = a1 + 7u * 1u;
-    store8(v361, 0u);
-    v362 = a1 + 8u * 1u;
-    store8(v362, v349);
-    v363 = a1 + 9u * 1u;
-    store8(v363, v351);
-    v364 = a1 + 10u * 1u;
-    store8(v364, v353);
-    v365 = a1 + 11u * 1u;
-    store8(v365, v354);
-    v39 = v38; v40 = 1u; goto L55;
-L55:;
-    v366 = (struct s2){ 0 };
-    v366.m0 = v40;
-    v367 = v366;
-    v367.m1 = v39;
-    return v367;
-}
-
-static void f63(address a0, address a1) {
-    u64 v2, v4, v5, v6, v7, v8, v9, v10, v13, v14, v15, v39, v70, v71, v74, v75;
-    u64 v79, v80, v81, v105, v139, v140, v141, v165, v193, v197, v202, v205, v209, v211, v213, v224;
-    u64 v225, v228, v229, v231, v232, v236, v237;
-    address v3, v11, v12, v18, v19, v21, v22, v24, v25, v27, v28, v30, v31, v33, v34, v36;
-    address v37, v40, v42, v44, v49, v50, v52, v55, v56, v57, v58, v61, v62, v64, v65, v68;
-    address v69, v72, v73, v76, v77, v78, v84, v85, v87, v88, v90, v91, v93, v94, v96, v97;
-    address v99, v100, v102, v103, v106, v109, v110, v112, v113, v116, v117, v120, v121, v122, v124, v127;
-    address v128, v129, v130, v133, v134, v136, v137, v138, v144, v145, v147, v148, v150, v151, v153, v154;
-    address v156, v157, v159, v160, v162, v163, v166, v169, v170, v172, v174, v176, v178, v180, v182, v184;
-    address v185, v186, v187, v188, v189, v190, v191, v192, v195, v199, v201, v203, v204, v208, v212, v215;
-    address v219, v227, v230, v234, v235;
-    u8 v16, v17, v20, v23, v26, v29, v32, v35, v38, v41, v43, v51, v53, v54, v63, v82;
-    u8 v83, v86, v89, v92, v95, v98, v101, v104, v111, v123, v125, v126, v135, v142, v143, v146;
-    u8 v149, v152, v155, v158, v161, v164, v171, v173, v175, v177, v179, v181, v183, v194, v196, v198;
-    u8 v200, v206, v207, v210, v214, v216, v217, v218, v226, v233, v238;
-    u16 v45, v46, v47, v48, v59, v60, v66, v67, v107, v108, v114, v115, v131, v132, v167, v168;
-    u16 v220, v221, v222, v223;
-    u32 v118, v119;
-    u64 block0[42];
-    v11 = ADDRESS(block0);
-    memory_set(v11, 0u, 336u);
-    v12 = v11 + 328u * 1u;
-    v13 = (u64)v11;
-    v14 = (u64)a1;
-    v15 = (u64)((u64)v13 - (u64)v14);
-    v16 = v15 < 8u;
-    if (v16) { goto L1; }
-    else { goto L2; }
-L1:;
-    v17 = load8(a1);
-    store8(v11, v17);
-    v18 = v11 + 1u * 1u;
-    v19 = a1 + 1u * 1u;
-    v20 = load8(v19);
-    store8(v18, v20);
-    v21 = v11 + 2u * 1u;
-    v22 = a1 + 2u * 1u;
-    v23 = load8(v22);
-    store8(v21, v23);
-    v24 = v11 + 3u * 1u;
-    v25 = a1 + 3u * 1u;
-    v26 = load8(v25);
-    store8(v24, v26);
-    v27 = v11 + 4u * 1u;
-    v28 = a1 + 4u * 1u;
-    v29 = load8(v28);
-    store8(v27, v29);
-    v30 = v11 + 5u * 1u;
-    v31 = a1 + 5u * 1u;
-    v32 = load8(v31);
-    store8(v30, v32);
-    v33 = v11 + 6u * 1u;
-    v34 = a1 + 6u * 1u;
-    v35 = load8(v34);
-    store8(v33, v35);
-    v36 = v11 + 7u * 1u;
-    v37 = a1 + 7u * 1u;
-    v38 = load8(v37);
-    store8(v36, v38);
-    goto L3;
-L2:;
-    v39 = load64(a1);
-    store64(v11, v39);
-    goto L3;
-L3:;
-    store64(v12, 8u);
-    v40 = a1 + 9u * 1u;
-    v41 = load8(v40);
-    v42 = a1 + 8u * 1u;
-    v43 = load8(v42);
-    v44 = v11 + 8u * 1u;
-    v45 = (u16)v41;
-    v46 = (u16)((u32)v45 << (8u & 15u));
-    v47 = (u16)v43;
-    v48 = (u16)((u32)v46 | (u32)v47);
-    store16(v44, v48);
-    store64(v12, 10u);
-    v49 = a1 + 10u * 1u;
-    v50 = a1 + 12u * 1u;
-    v51 = load8(v50);
-    v52 = a1 + 11u * 1u;
-    v53 = load8(v52);
-    v54 = load8(v49);
-    v55 = v11 + 10u * 1u;
-    store8(v55, v54);
-    v56 = v11 + 11u * 1u;
-    store8(v56, v53);
-    v57 = v11 + 12u * 1u;
-    store8(v57, v51);
-    store64(v12, 13u);
-    v58 = a1 + 14u * 1u;
-    v59 = load16(v58);
-    v60 = swap16(v59);
-    v61 = v11 + 13u * 1u;
-    store16(v61, v60);
-    store64(v12, 15u);
-    v62 = a1 + 16u * 1u;
-    v63 = load8(v62);
-    v64 = v11 + 15u * 1u;
-    store8(v64, v63);
-    store64(v12, 16u);
-    v65 = a1 + 168u * 1u;
-    v66 = load16(v65);
-    v67 = swap16(v66);
-    v68 = v11 + 16u * 1u;
-    store16(v68, v67);
-    store64(v12, 18u);
-    v69 = a1 + 176u * 1u;
+    v69 = v62 + 20u * 1u;
     v70 = load64(v69);
-    v71 = swap64(v70);
-    v72 = v11 + 18u * 1u;
-    store64(v72, v71);
-    store64(v12, 26u);
-    v73 = a1 + 184u * 1u;
-    v74 = load64(v73);
-    v75 = swap64(v74);
-    v76 = v11 + 26u * 1u;
-    store64(v76, v75);
-    store64(v12, 34u);
-    v77 = a1 + 192u * 1u;
-    v78 = v11 + 34u * 1u;
-    v79 = (u64)v78;
-    v80 = (u64)v77;
-    v81 = (u64)((u64)v79 - (u64)v80);
-    v82 = v81 < 8u;
-    if (v82) { goto L4; }
+    v71 = v62 + 28u * 1u;
+    v72 = load8(v71);
+    v73 = v62 + 29u * 1u;
+    v74 = load8(v73);
+    v75 = (u16)v72;
+    v76 = (u16)((u32)v75 << (8u & 15u));
+    v77 = (u16)v74;
+    v78 = (u16)((u32)v76 | (u32)v77);
+    v79 = v63 + 456u * 1u;
+    v80 = load64(v79);
+    v81 = v80 == 0u;
+    if (v81) { v11 = 0u; goto L9; }
     else { goto L5; }
-L4:;
-    v83 = load8(v77);
-    store8(v78, v83);
-    v84 = v11 + 35u * 1u;
-    v85 = a1 + 193u * 1u;
-    v86 = load8(v85);
-    store8(v84, v86);
-    v87 = v11 + 36u * 1u;
-    v88 = a1 + 194u * 1u;
-    v89 = load8(v88);
-    store8(v87, v89);
-    v90 = v11 + 37u * 1u;
-    v91 = a1 + 195u * 1u;
-    v92 = load8(v91);
-    store8(v90, v92);
-    v93 = v11 + 38u * 1u;
-    v94 = a1 + 196u * 1u;
-    v95 = load8(v94);
-    store8(v93, v95);
-    v96 = v11 + 39u * 1u;
-    v97 = a1 + 197u * 1u;
-    v98 = load8(v97);
-    store8(v96, v98);
-    v99 = v11 + 40u * 1u;
-    v100 = a1 + 198u * 1u;
-    v101 = load8(v100);
-    store8(v99, v101);
-    v102 = v11 + 41u * 1u;
-    v103 = a1 + 199u * 1u;
-    v104 = load8(v103);
-    store8(v102, v104);
-    goto L6;
 L5:;
-    v105 = load64(v77);
-    store64(v78, v105);
-    goto L6;
+    v82 = v63 + 448u * 1u;
+    v83 = load_address(v82);
+    v9 = v83; v10 = v80; goto L6;
 L6:;
-    store64(v12, 42u);
-    v106 = a1 + 200u * 1u;
-    v107 = load16(v106);
-    v108 = swap16(v107);
-    v109 = v11 + 42u * 1u;
-    store16(v109, v108);
-    store64(v12, 44u);
-    v110 = a1 + 202u * 1u;
-    v111 = load8(v110);
-    v112 = v11 + 44u * 1u;
-    store8(v112, v111);
-    store64(v12, 45u);
-    v113 = a1 + 204u * 1u;
-    v114 = load16(v113);
-    v115 = swap16(v114);
-    v116 = v11 + 45u * 1u;
-    store16(v116, v115);
-    store64(v12, 47u);
-    v117 = a1 + 208u * 1u;
-    v118 = load32(v117);
-    v119 = swap32(v118);
-    v120 = v11 + 47u * 1u;
-    store32(v120, v119);
-    store64(v12, 51u);
-    v121 = a1 + 220u * 1u;
-    v122 = a1 + 222u * 1u;
-    v123 = load8(v122);
-    v124 = a1 + 221u * 1u;
-    v125 = load8(v124);
-    v126 = load8(v121);
-    v127 = v11 + 51u * 1u;
-    store8(v127, v126);
-    v128 = v11 + 52u * 1u;
-    store8(v128, v125);
-    v129 = v11 + 53u * 1u;
-    store8(v129, v123);
-    store64(v12, 54u);
-    v130 = a1 + 224u * 1u;
-    v131 = load16(v130);
-    v132 = swap16(v131);
-    v133 = v11 + 54u * 1u;
-    store16(v133, v132);
-    store64(v12, 56u);
-    v134 = a1 + 226u * 1u;
-    v135 = load8(v134);
-    v136 = v11 + 56u * 1u;
-    store8(v136, v135);
-    store64(v12, 57u);
-    v137 = a1 + 212u * 1u;
-    v138 = v11 + 57u * 1u;
-    v139 = (u64)v138;
-    v140 = (u64)v137;
-    v141 = (u64)((u64)v139 - (u64)v140);
-    v142 = v141 < 8u;
-    if (v142) { goto L7; }
+    v84 = v9 + 2136u * 1u;
+    v85 = (u64)((u64)v10 + (u64)UINT64_C(18446744073709551615));
+    v86 = v9 + 2112u * 1u;
+    v87 = load16(v86);
+    v88 = v78 == v87;
+    if (v88) { goto L7; }
     else { goto L8; }
 L7:;
-    v143 = load8(v137);
-    store8(v138, v143);
-    v144 = v11 + 58u * 1u;
-    v145 = a1 + 213u * 1u;
-    v146 = load8(v145);
-    store8(v144, v146);
-    v147 = v11 + 59u * 1u;
-    v148 = a1 + 214u * 1u;
-    v149 = load8(v148);
-    store8(v147, v149);
-    v150 = v11 + 60u * 1u;
-    v151 = a1 + 215u * 1u;
-    v152 = load8(v151);
-    store8(v150, v152);
-    v153 = v11 + 61u * 1u;
-    v154 = a1 + 216u * 1u;
-    v155 = load8(v154);
-    store8(v153, v155);
-    v156 = v11 + 62u * 1u;
-    v157 = a1 + 217u * 1u;
-    v158 = load8(v157);
-    store8(v156, v158);
-    v159 = v11 + 63u * 1u;
-    v160 = a1 + 218u * 1u;
-    v161 = load8(v160);
-    store8(v159, v161);
-    v162 = v11 + 64u * 1u;
-    v163 = a1 + 219u * 1u;
-    v164 = load8(v163);
-    store8(v162, v164);
-    goto L9;
+    v89 = v9 + 2104u * 1u;
+    v90 = load64(v89);
+    v91 = v70 == v90;
+    if (v91) { v11 = 1u; goto L9; }
+    else { goto L8; }
 L8:;
-    v165 = load64(v137);
-    store64(v138, v165);
-    goto L9;
+    v92 = v85 == 0u;
+    if (v92) { v11 = 0u; goto L9; }
+    else { v9 = v84; v10 = v85; goto L6; }
 L9:;
-    store64(v12, 65u);
-    v166 = a1 + 228u * 1u;
-    v167 = load16(v166);
-    v168 = swap16(v167);
-    v169 = v11 + 65u * 1u;
-    store16(v169, v168);
-    store64(v12, 67u);
-    v170 = a1 + 236u * 1u;
-    v171 = load8(v170);
-    v172 = a1 + 235u * 1u;
-    v173 = load8(v172);
-    v174 = a1 + 234u * 1u;
-    v175 = load8(v174);
-    v176 = a1 + 233u * 1u;
-    v177 = load8(v176);
-    v178 = a1 + 232u * 1u;
-    v179 = load8(v178);
-    v180 = a1 + 231u * 1u;
-    v181 = load8(v180);
-    v182 = a1 + 230u * 1u;
-    v183 = load8(v182);
-    v184 = v11 + 67u * 1u;
-    store8(v184, v183);
-    v185 = v11 + 68u * 1u;
-    store8(v185, v181);
-    v186 = v11 + 69u * 1u;
-    store8(v186, v179);
-    v187 = v11 + 70u * 1u;
-    store8(v187, v177);
-    v188 = v11 + 71u * 1u;
-    store8(v188, v175);
-    v189 = v11 + 72u * 1u;
-    store8(v189, v173);
-    v190 = v11 + 73u * 1u;
-    store8(v190, v171);
-    store64(v12, 74u);
-    v191 = a1 + 24u * 1u;
-    v192 = a1 + 160u * 1u;
-    v193 = load64(v192);
-    v194 = v193 == 0u;
-    if (v194) { v2 = 0u; v3 = v191; goto L11; }
-    else { goto L10; }
+    v12 = v11; goto L10;
 L10:;
-    v195 = a1 + 25u * 1u;
-    v196 = load8(v191);
-    v197 = (u64)v196;
-    v2 = v197; v3 = v195; goto L11;
+    v93 = a0 + 955u * 1u;
+    v94 = load8(v93);
+    v95 = (u8)((v94) & UINT64_C(1));
+    if (v95) { goto L11; }
+    else { goto L38; }
 L11:;
-    v198 = (u8)(v2);
-    v199 = v11 + 74u * 1u;
-    store8(v199, v198);
-    store64(v12, 75u);
-    v200 = v2 > 249u;
-    if (v200) { v4 = 75u; goto L13; }
+    v96 = a0 + 928u * 1u;
+    v97 = load64(v96);
+    v98 = v97 != 0u;
+    v99 = (u8)(((u32)v12 ^ (u32)1u) & UINT64_C(1));
+    v100 = (u8)(((u32)v98 | (u32)v99) & UINT64_C(1));
+    if (v100) { goto L17; }
     else { goto L12; }
 L12:;
-    v201 = v11 + 75u * 1u;
-    memory_cpy(v201, v3, v2);
-    v202 = (u64)((u64)v2 + (u64)75u);
-    store64(v12, v202);
-    v4 = v202; goto L13;
+    v101 = a0 + 896u * 1u;
+    v102 = load64(v101);
+    v103 = a0 + 920u * 1u;
+    v104 = load64(v103);
+    v105 = a0 + 912u * 1u;
+    v106 = load64(v105);
+    v107 = (u64)((u64)v102 - (u64)v104);
+    v108 = (u64)((u64)v107 + (u64)v106);
+    v109 = v108 > 14u;
+    if (v109) { goto L18; }
+    else { goto L13; }
 L13:;
-    v203 = a1 + 240u * 1u;
-    v204 = a1 + 432u * 1u;
-    v205 = load64(v204);
-    v206 = v4 == 324u;
-    if (v206) { v5 = 324u; goto L15; }
+    v110 = load_address(a0);
+    memory_set(v40, 0u, 40u);
+    v111 = v110 + 440u * 1u;
+    f42(v40, v111);
+    v112 = v110 + 432u * 1u;
+    v113 = load64(v112);
+    v114 = (u64)((u64)v113 << (1u & 63u));
+    v115 = (u64)((u64)v114 & (u64)UINT64_C(131070));
+    v116 = (u64)((u64)v115 + (u64)UINT64_C(18446744073709551615));
+    v117 = v40 + 32u * 1u;
+    v118 = load64(v117);
+    v119 = v118 == 0u;
+    if (v119) { v15 = v116; goto L16; }
     else { goto L14; }
 L14:;
-    v207 = (u8)(v205);
-    v208 = v11 + v4 * 1u;
-    store8(v208, v207);
-    v209 = (u64)((u64)v4 + (u64)1u);
-    store64(v12, v209);
-    v5 = v209; goto L15;
+    v120 = v40 + 16u * 1u;
+    v121 = load_address(v40);
+    v13 = v116; v14 = 0u; goto L15;
 L15:;
-    v210 = v205 == 0u;
-    if (v210) { goto L23; }
-    else { v6 = v5; v7 = 0u; goto L16; }
+    v122 = v120 + v14 * 1u;
+    v123 = load8(v122);
+    v124 = (u64)v123;
+    v125 = (u64)((u64)v124 * (u64)2136u);
+    v126 = v121 + v125 * 1u;
+    v127 = v126 + 1440u * 1u;
+    v128 = load64(v127);
+    v129 = v13 > v128 ? v13 : v128;
+    v130 = (u64)((u64)v14 + (u64)1u);
+    v131 = v130 == v118;
+    if (v131) { v15 = v129; goto L16; }
+    else { v13 = v129; v14 = v130; goto L15; }
 L16:;
-    v211 = (u64)((u64)v7 * (u64)24u);
-    v212 = v203 + v211 * 1u;
-    v213 = (u64)((u64)v6 + (u64)UINT64_C(18446744073709551293));
-    v214 = v213 < 2u;
-    if (v214) { v8 = v6; goto L18; }
-    else { goto L17; }
+    v132 = v15 > v108;
+    if (v132) { goto L38; }
+    else { goto L18; }
 L17:;
-    v215 = v212 + 1u * 1u;
-    v216 = load8(v215);
-    v217 = load8(v212);
-    v218 = (u8)((u32)v217 + (u32)1u);
-    v219 = v11 + v6 * 1u;
-    v220 = (u16)v216;
-    v221 = (u16)((u32)v220 << (8u & 15u));
-    v222 = (u16)v218;
-    v223 = (u16)((u32)v221 | (u32)v222);
-    store16(v219, v223);
-    v224 = (u64)((u64)v6 + (u64)2u);
-    store64(v12, v224);
-    v8 = v224; goto L18;
+    v133 = (u8)(((u32)v12 | (u32)v98) & UINT64_C(1));
+    if (v133) { goto L38; }
+    else { goto L18; }
 L18:;
-    v225 = (u64)((u64)v8 + (u64)UINT64_C(18446744073709551299));
-    v226 = v225 < 8u;
-    if (v226) { v9 = v8; goto L20; }
+    if (v12) { goto L20; }
     else { goto L19; }
 L19:;
-    v227 = v212 + 8u * 1u;
-    v228 = load64(v227);
-    v229 = swap64(v228);
-    v230 = v11 + v8 * 1u;
-    store64(v230, v229);
-    v231 = (u64)((u64)v8 + (u64)8u);
-    store64(v12, v231);
-    v9 = v231; goto L20;
+    memory_set(v38, 0u, 16u);
+    store64(v39, 0u);
+    v134 = load_address(a0);
+    v135 = a0 + 8u * 1u;
+    memory_cpy(v37, v134, 440u);
+    memory_move(v134, v135, 440u);
+    memory_cpy(v135, v37, 440u);
+    v136 = load_address(a0);
+    store8(v39, v50);
+    v137 = v39 + 1u * 1u;
+    store8(v137, v52);
+    v138 = v39 + 8u * 1u;
+    memory_cpy(v138, v53, 16u);
+    f46(v38, v136, a1, a2, a3, v39, 0u, a6, a7);
+    v139 = load8(v38);
+    v140 = v38 + 1u * 1u;
+    v141 = load8(v140);
+    v142 = v38 + 8u * 1u;
+    v143 = load64(v142);
+    v144 = load_address(a0);
+    memory_cpy(v36, v144, 440u);
+    memory_move(v144, v135, 440u);
+    memory_cpy(v135, v36, 440u);
+    memory_set(v45, 0u, 12u);
+    v23 = v139; v24 = v141; v25 = v143; v26 = 0u; goto L27;
 L20:;
-    v232 = (u64)((u64)v9 + (u64)UINT64_C(18446744073709551296));
-    v233 = v232 < 5u;
-    if (v233) { v10 = v9; goto L22; }
-    else { goto L21; }
+    v145 = load8(v54);
+    v146 = (u8)((v145) & UINT64_C(1));
+    if (v146) { goto L21; }
+    else { goto L22; }
 L21:;
-    v234 = v212 + 16u * 1u;
-    v235 = v11 + v9 * 1u;
-    memory_cpy(v235, v234, 5u);
-    v236 = (u64)((u64)v9 + (u64)5u);
-    store64(v12, v236);
-    v10 = v236; goto L22;
+    memory_set(v32, 0u, 16u);
+    memory_set(v33, 0u, 440u);
+    store64(v34, 0u);
+    memory_set(v35, 0u, 12u);
+    v147 = load_address(a0);
+    f44(v33, v147);
+    memory_cpy(v31, v33, 440u);
+    v148 = load_address(a0);
+    store8(v34, v50);
+    v149 = v34 + 1u * 1u;
+    store8(v149, v52);
+    v150 = v34 + 8u * 1u;
+    memory_cpy(v150, v53, 16u);
+    f46(v32, v148, a1, a2, a3, v34, a5, a6, a7);
+    v151 = a0 + 888u * 1u;
+    v152 = v32 + 8u * 1u;
+    v153 = load64(v152);
+    f65(v151, a6, v153);
+    v154 = load8(v32);
+    v155 = v32 + 1u * 1u;
+    v156 = a0 + 954u * 1u;
+    v157 = load8(v156);
+    v158 = (u8)((v157) & UINT64_C(1));
+    v159 = v154 == 5u;
+    v160 = (u8)(((u32)v159 | (u32)v158) & UINT64_C(1));
+    v161 = (u8)v160;
+    store8(v156, v161);
+    v162 = load8(v155);
+    v163 = load_address(a0);
+    f63(v35, v163, v31);
+    v164 = (u64)v154;
+    v165 = (u64)v162;
+    v166 = (u64)((u64)v165 << (8u & 63u));
+    v167 = (u64)((u64)v166 | (u64)v164);
+    memory_cpy(v43, v35, 12u);
+    v19 = v43; v20 = v167; v21 = 0u; v22 = v153; goto L26;
 L22:;
-    v237 = (u64)((u64)v7 + (u64)1u);
-    v238 = v237 == v205;
-    if (v238) { goto L23; }
-    else { v6 = v10; v7 = v237; goto L16; }
+    memory_set(v28, 0u, 16u);
+    store64(v29, 0u);
+    memory_set(v30, 0u, 12u);
+    v168 = load_address(a0);
+    store8(v29, v50);
+    v169 = v29 + 1u * 1u;
+    store8(v169, v52);
+    v170 = v29 + 8u * 1u;
+    memory_cpy(v170, v53, 16u);
+    f46(v28, v168, a1, a2, a3, v29, a5, a6, a7);
+    v171 = load8(v28);
+    v172 = v28 + 1u * 1u;
+    v173 = load8(v172);
+    v174 = v28 + 8u * 1u;
+    v175 = load64(v174);
+    v176 = v171 == 5u;
+    if (v176) { goto L24; }
+    else { goto L23; }
 L23:;
-    memory_cpy(a0, v11, 336u);
+    v177 = (u64)v173;
+    v178 = (u64)((u64)v177 << (8u & 63u));
+    v179 = (u64)v171;
+    v180 = (u64)((u64)v178 | (u64)v179);
+    memory_set(v44, 0u, 12u);
+    v16 = v180; v17 = v175; v18 = 0u; goto L25;
+L24:;
+    v181 = a0 + 888u * 1u;
+    f65(v181, a6, v175);
+    store8(v54, 1u);
+    v182 = a0 + 954u * 1u;
+    store8(v182, 1u);
+    v183 = load_address(a0);
+    v184 = a0 + 8u * 1u;
+    f63(v30, v183, v184);
+    v185 = (u64)v173;
+    v186 = (u64)((u64)v185 << (8u & 63u));
+    v187 = (u64)((u64)v186 | (u64)5u);
+    memory_cpy(v44, v30, 12u);
+    v16 = v187; v17 = 0u; v18 = v175; goto L25;
+L25:;
+    v19 = v44; v20 = v16; v21 = v17; v22 = v18; goto L26;
+L26:;
+    v188 = (u8)(v20);
+    v189 = (u64)((u64)v20 >> (8u & 63u));
+    v190 = (u8)(v189);
+    memory_cpy(v45, v19, 12u);
+    v23 = v188; v24 = v190; v25 = v21; v26 = v22; goto L27;
+L27:;
+    store64(a8, v25);
+    v191 = a8 + 8u * 1u;
+    store64(v191, v26);
+    v192 = a8 + 16u * 1u;
+    memory_cpy(v192, v45, 12u);
+    v193 = a8 + 28u * 1u;
+    store32(v193, 0u);
+    switch (v23) {
+    case 0u: goto L28;
+    case 9u: goto L36;
+    case 1u: v27 = 1u; goto L40;
+    case 2u: goto L29;
+    case 3u: goto L30;
+    case 4u: goto L31;
+    case 5u: goto L32;
+    case 6u: goto L33;
+    case 7u: goto L34;
+    case 8u: goto L35;
+    default: goto L37;
+    }
+L28:;
+    v194 = (u32)v24;
+    v195 = (u32)((u32)v194 + (u32)16u);
+    v27 = v195; goto L40;
+L29:;
+    v27 = 2u; goto L40;
+L30:;
+    v27 = 3u; goto L40;
+L31:;
+    v27 = 4u; goto L40;
+L32:;
+    v27 = 5u; goto L40;
+L33:;
+    v27 = 6u; goto L40;
+L34:;
+    v27 = 7u; goto L40;
+L35:;
+    v27 = 8u; goto L40;
+L36:;
+    v27 = 9u; goto L40;
+L37:;
+    UNREACHABLE;
+L38:;
+    v27 = 118u; goto L40;
+L39:;
+    v196 = v42 + 1u * 1u;
+    v197 = load8(v196);
+    v198 = v42 + 2u * 1u;
+    v199 = load8(v198);
+    v200 = v197 == 0u;
+    v201 = v199 == 0u;
+    v202 = v201 ? 33u : 34u;
+    v203 = v200 ? v202 : 121u;
+    v27 = v203; goto L40;
+L40:;
+    return v27;
+}
+
+static void f65(address a0, address a1, u64 a2) {
+    u64 v3, v4, v5, v6, v7, v9, v12, v14, v16, v17, v19, v21, v23, v24, v25, v28;
+    u64 v29, v32, v41, v42, v43, v44, v46;
+    address v8, v11, v13, v18, v20, v27, v30, v31, v33, v34, v36, v39, v40;
+    u8 v10, v15, v22, v26, v45;
+    u16 v35, v37, v38;
+    v8 = a0 + 24u * 1u;
+    v9 = load64(v8);
+    v10 = v9 == 0u;
+    if (v10) { goto L5; }
+    else { goto L1; }
+L1:;
+    v11 = a0 + 32u * 1u;
+    v12 = load64(v11);
+    v13 = load_address(a0);
+    v14 = (u64)((u64)v12 - (u64)v9);
+    v15 = v12 == v9;
+    if (v15) { v4 = v9; v5 = v9; goto L4; }
+    else { v3 = 0u; goto L2; }
+L2:;
+    v16 = (u64)((u64)v3 + (u64)v9);
+    v17 = (u64)((u64)v16 * (u64)1476u);
+    v18 = v13 + v17 * 1u;
+    v19 = (u64)((u64)v3 * (u64)1476u);
+    v20 = v13 + v19 * 1u;
+    memory_move(v20, v18, 1476u);
+    v21 = (u64)((u64)v3 + (u64)1u);
+    v22 = v21 == v14;
+    if (v22) { goto L3; }
+    else { v3 = v21; goto L2; }
+L3:;
+    v23 = load64(v8);
+    v24 = load64(v11);
+    v4 = v24; v5 = v23; goto L4;
+L4:;
+    v25 = (u64)((u64)v4 - (u64)v5);
+    store64(v11, v25);
+    store64(v8, 0u);
+    goto L5;
+L5:;
+    v26 = a2 == 0u;
+    if (v26) { goto L14; }
+    else { goto L6; }
+L6:;
+    v27 = a0 + 32u * 1u;
+    v28 = load64(v27);
+    v6 = v28; v7 = 0u; goto L7;
+L7:;
+    v29 = (u64)((u64)v7 * (u64)1476u);
+    v30 = a1 + v29 * 1u;
+    v31 = load_address(a0);
+    v32 = (u64)((u64)v6 * (u64)1476u);
+    v33 = v31 + v32 * 1u;
+    v34 = v30 + 2u * 1u;
+    v35 = load16(v34);
+    v36 = v30 + 4u * 1u;
+    v37 = load16(v30);
+    store16(v33, v37);
+    v38 = load16(v34);
+    v39 = v33 + 2u * 1u;
+    store16(v39, v38);
+    v40 = v33 + 4u * 1u;
+    switch (v35) {
+    case 54u: goto L8;
+    case 56u: goto L9;
+    case 80u: goto L10;
+    default: goto L11;
+    }
+L8:;
+    memory_move(v40, v36, 54u);
+    goto L12;
+L9:;
+    memory_move(v40, v36, 56u);
+    goto L12;
+L10:;
+    memory_move(v40, v36, 80u);
+    goto L12;
+L11:;
+    v41 = (u64)v35;
+    f34(v40, v36, v41);
+    goto L12;
+L12:;
+    v42 = load64(v27);
+    v43 = (u64)((u64)v42 + (u64)1u);
+    store64(v27, v43);
+    v44 = (u64)((u64)v7 + (u64)1u);
+    v45 = v44 == a2;
+    if (v45) { goto L13; }
+    else { v6 = v43; v7 = v44; goto L7; }
+L13:;
+    v46 = (u64)((u64)a2 * (u64)1476u);
+    memory_set(a1, 0u, v46);
+    goto L14;
+L14:;
     return;
 }
 
-static u64 f64(u8 a0, u8 a1) {
+static u64 f66(u8 a0, u8 a1) {
     u64 v2, v4, v5, v6, v12, v17, v18, v19, v20;
     address v3, v7, v8, v9, v10, v13, v15;
     u8 v11, v14, v16;
     switch (a0) {
-    case 1u: v2 = 6u; v3 = ADDRESS(c148); goto L15;
+    case 1u: v2 = 6u; v3 = ADDRESS(c147); goto L15;
     case 2u: goto L1;
     case 3u: goto L2;
     case 4u: goto L3;
@@ -14015,34 +15876,34 @@ static u64 f64(u8 a0, u8 a1) {
     default: goto L13;
     }
 L1:;
-    v2 = 60u; v3 = ADDRESS(c149); goto L15;
+    v2 = 60u; v3 = ADDRESS(c148); goto L15;
 L2:;
-    v2 = 18u; v3 = ADDRESS(c150); goto L15;
+    v2 = 18u; v3 = ADDRESS(c149); goto L15;
 L3:;
-    v2 = 60u; v3 = ADDRESS(c151); goto L15;
+    v2 = 60u; v3 = ADDRESS(c150); goto L15;
 L4:;
-    v2 = 48u; v3 = ADDRESS(c152); goto L15;
+    v2 = 48u; v3 = ADDRESS(c151); goto L15;
 L5:;
-    v2 = 60u; v3 = ADDRESS(c153); goto L15;
+    v2 = 60u; v3 = ADDRESS(c152); goto L15;
 L6:;
-    v2 = 6u; v3 = ADDRESS(c154); goto L15;
+    v2 = 6u; v3 = ADDRESS(c153); goto L15;
 L7:;
-    v2 = 6u; v3 = ADDRESS(c155); goto L15;
+    v2 = 6u; v3 = ADDRESS(c154); goto L15;
 L8:;
-    v2 = 6u; v3 = ADDRESS(c156); goto L15;
+    v2 = 6u; v3 = ADDRESS(c155); goto L15;
 L9:;
-    v2 = 6u; v3 = ADDRESS(c157); goto L15;
+    v2 = 6u; v3 = ADDRESS(c156); goto L15;
 L10:;
-    v2 = 6u; v3 = ADDRESS(c163); goto L15;
+    v2 = 6u; v3 = ADDRESS(c162); goto L15;
 L11:;
-    v2 = 6u; v3 = ADDRESS(c164); goto L15;
+    v2 = 6u; v3 = ADDRESS(c163); goto L15;
 L12:;
-    v2 = 24u; v3 = ADDRESS(c165); goto L15;
+    v2 = 24u; v3 = ADDRESS(c164); goto L15;
 L13:;
     UNREACHABLE;
 L14:;
     v6 = (u64)a1;
-    v7 = ADDRESS(c341) + v6 * 8u;
+    v7 = ADDRESS(c342) + v6 * 8u;
     v8 = load_address(v7);
     v2 = 6u; v3 = v8; goto L15;
 L15:;
@@ -14092,7 +15953,7 @@ L22:;
     return v20;
 }
 
-static void f65(address a0, address a1, address a2, u64 a3, address a4) {
+static void f67(address a0, address a1, address a2, u64 a3, address a4) {
     u64 v5, v7, v10, v11, v13, v14, v16, v20, v21, v22, v79, v82, v88, v89, v90, v91;
     u64 v93, v95, v98, v99, v102, v302, v316, v317, v324, v325;
     address v6, v28, v29, v30, v31, v33, v35, v37, v39, v41, v44, v49, v52, v53, v80, v81;
@@ -14239,7 +16100,7 @@ L13:;
     else { goto L21; }
 L14:;
     memory_set(v28, 0u, 24u);
-    f29(v28, v29, v13);
+    f26(v28, v29, v13);
     v85 = load8(v28);
     v86 = v85 == 0u;
     if (v86) { goto L15; }
@@ -14257,7 +16118,7 @@ L15:;
     if (v94) { v14 = v91; goto L17; }
     else { goto L16; }
 L16:;
-    f32(a4, v91);
+    f29(a4, v91);
     v95 = load64(v92);
     v14 = v95; goto L17;
 L17:;
@@ -14300,7 +16161,7 @@ L24:;
     default: v23 = v34; v24 = 3u; v25 = 1u; v26 = v32; v27 = v36; goto L71;
     }
 L25:;
-    v107 = f66(127u, a2, a3);
+    v107 = f68(127u, a2, a3);
     v108 = v107.m0;
     v109 = (u8)((v108) & UINT64_C(1));
     if (v109) { goto L26; }
@@ -14310,7 +16171,7 @@ L26:;
     v111 = (u8)(v110);
     v18 = 0u; v19 = v111; v20 = 1u; goto L66;
 L27:;
-    v112 = f66(32767u, a2, a3);
+    v112 = f68(32767u, a2, a3);
     v113 = v112.m0;
     v114 = (u8)((v113) & UINT64_C(1));
     if (v114) { goto L28; }
@@ -14323,7 +16184,7 @@ L28:;
     v119 = (u8)(v118);
     v18 = v119; v19 = v117; v20 = 2u; goto L66;
 L29:;
-    v120 = f67(a2, a3);
+    v120 = f69(a2, a3);
     v121 = v120.m0;
     v122 = (u8)((v121) & UINT64_C(1));
     if (v122) { goto L30; }
@@ -14334,7 +16195,7 @@ L30:;
     v125 = v124 ? v42 : 0u;
     v18 = 0u; v19 = v125; v20 = 1u; goto L66;
 L31:;
-    v126 = f67(a2, a3);
+    v126 = f69(a2, a3);
     v127 = v126.m0;
     v128 = (u8)((v127) & UINT64_C(1));
     if (v128) { goto L32; }
@@ -14344,7 +16205,7 @@ L32:;
     v130 = (u8)((u32)v129 & (u32)1u);
     v18 = 0u; v19 = v130; v20 = 1u; goto L66;
 L33:;
-    v131 = f69(a2, a3);
+    v131 = f71(a2, a3);
     v132 = v131.m0;
     v133 = v132 == 1u;
     v134 = v131.m1;
@@ -14590,7 +16451,7 @@ L58:;
 L59:;
     v289 = a2 + v16 * 1u;
     v290 = load8(v289);
-    v291 = ADDRESS(c184) + v16 * 1u;
+    v291 = ADDRESS(c183) + v16 * 1u;
     v292 = load8(v291);
     v293 = (u8)((u32)v290 + (u32)191u);
     v294 = v293 < 26u;
@@ -14609,7 +16470,7 @@ L60:;
     if (v303) { v15 = 254u; goto L39; }
     else { v16 = v302; goto L59; }
 L61:;
-    v304 = f69(a2, a3);
+    v304 = f71(a2, a3);
     v17 = v304; goto L62;
 L62:;
     v305 = v17.m0;
@@ -14620,7 +16481,7 @@ L63:;
     v307 = v17.m1;
     v18 = 0u; v19 = v307; v20 = 1u; goto L66;
 L64:;
-    v308 = f69(a2, a3);
+    v308 = f71(a2, a3);
     v309 = v308.m0;
     v310 = v309 == 1u;
     if (v310) { goto L65; }
@@ -14673,7 +16534,7 @@ L71:;
     return;
 }
 
-static struct s3 f66(u16 a0, address a1, u64 a2) {
+static struct s3 f68(u16 a0, address a1, u64 a2) {
     u64 v3, v5, v6, v7, v8, v48, v50, v60, v62, v63, v65, v66, v71, v79, v81, v82;
     u64 v84, v85;
     u32 v4, v15, v20, v22, v23, v24, v28, v30, v31, v32, v33, v34, v38, v39, v40, v41;
@@ -14827,7 +16688,7 @@ L21:;
     return v93;
 }
 
-static struct s1 f67(address a0, u64 a1) {
+static struct s1 f69(address a0, u64 a1) {
     u64 v2, v3, v4, v34, v58, v60, v61, v63, v64;
     u8 v5, v6, v8, v9, v10, v11, v12, v13, v15, v16, v17, v18, v19, v20, v22, v23;
     u8 v24, v25, v26, v27, v28, v29, v30, v31, v32, v33, v35, v37, v39, v40, v41, v42;
@@ -14888,7 +16749,7 @@ L5:;
 L6:;
     v36 = a0 + v2 * 1u;
     v37 = load8(v36);
-    v38 = ADDRESS(c167) + v2 * 1u;
+    v38 = ADDRESS(c166) + v2 * 1u;
     v39 = load8(v38);
     v40 = (u8)((u32)v37 + (u32)191u);
     v41 = v40 < 26u;
@@ -14949,7 +16810,7 @@ L14:;
     return v70;
 }
 
-static void f68(address a0, u8 a1, u8 a2) {
+static void f70(address a0, u8 a1, u8 a2) {
     u64 v3, v5, v9, v12, v14, v18, v20, v21, v24, v26, v27, v30, v32;
     address v4, v10, v11, v13, v19, v22, v23, v25, v28, v29, v31, v33, v34;
     u8 v6, v7, v8, v15, v16, v17;
@@ -14968,10 +16829,10 @@ L1:;
 L2:;
     v8 = (u8)((u32)a2 + (u32)255u);
     v9 = (u64)v8;
-    v10 = ADDRESS(c326) + v9 * 8u;
+    v10 = ADDRESS(c328) + v9 * 8u;
     v11 = load_address(v10);
     v12 = (u64)v8;
-    v13 = ADDRESS(c327) + v12 * 8u;
+    v13 = ADDRESS(c329) + v12 * 8u;
     v14 = load64(v13);
     v3 = 1u; v4 = v11; v5 = v14; goto L17;
 L3:;
@@ -14981,7 +16842,7 @@ L3:;
     else { v3 = 0u; v4 = 0u; v5 = 0u; goto L17; }
 L4:;
     switch (a2) {
-    case 16u: v3 = 1u; v4 = ADDRESS(c185); v5 = 12u; goto L17;
+    case 16u: v3 = 1u; v4 = ADDRESS(c184); v5 = 12u; goto L17;
     case 32u: goto L5;
     case 48u: goto L6;
     case 57u: goto L7;
@@ -14993,21 +16854,21 @@ L4:;
     default: goto L13;
     }
 L5:;
-    v3 = 1u; v4 = ADDRESS(c186); v5 = 4u; goto L17;
+    v3 = 1u; v4 = ADDRESS(c185); v5 = 4u; goto L17;
 L6:;
-    v3 = 1u; v4 = ADDRESS(c187); v5 = 17u; goto L17;
+    v3 = 1u; v4 = ADDRESS(c186); v5 = 17u; goto L17;
 L7:;
-    v3 = 1u; v4 = ADDRESS(c188); v5 = 16u; goto L17;
+    v3 = 1u; v4 = ADDRESS(c187); v5 = 16u; goto L17;
 L8:;
-    v3 = 1u; v4 = ADDRESS(c189); v5 = 3u; goto L17;
+    v3 = 1u; v4 = ADDRESS(c188); v5 = 3u; goto L17;
 L9:;
-    v3 = 1u; v4 = ADDRESS(c190); v5 = 3u; goto L17;
+    v3 = 1u; v4 = ADDRESS(c189); v5 = 3u; goto L17;
 L10:;
-    v3 = 1u; v4 = ADDRESS(c191); v5 = 8u; goto L17;
+    v3 = 1u; v4 = ADDRESS(c190); v5 = 8u; goto L17;
 L11:;
-    v3 = 1u; v4 = ADDRESS(c192); v5 = 5u; goto L17;
+    v3 = 1u; v4 = ADDRESS(c191); v5 = 5u; goto L17;
 L12:;
-    v3 = 1u; v4 = ADDRESS(c193); v5 = 19u; goto L17;
+    v3 = 1u; v4 = ADDRESS(c192); v5 = 19u; goto L17;
 L13:;
     v3 = 0u; v4 = 0u; v5 = 0u; goto L17;
 L14:;
@@ -15016,21 +16877,21 @@ L14:;
     else { v3 = 0u; v4 = 0u; v5 = 0u; goto L17; }
 L15:;
     v18 = (u64)v15;
-    v19 = ADDRESS(c328) + v18 * 8u;
+    v19 = ADDRESS(c330) + v18 * 8u;
     v20 = load64(v19);
     v21 = (u64)v15;
-    v22 = ADDRESS(c329) + v21 * 8u;
+    v22 = ADDRESS(c331) + v21 * 8u;
     v23 = load_address(v22);
     v24 = (u64)v15;
-    v25 = ADDRESS(c330) + v24 * 8u;
+    v25 = ADDRESS(c332) + v24 * 8u;
     v26 = load64(v25);
     v3 = v20; v4 = v23; v5 = v26; goto L17;
 L16:;
     v27 = (u64)a2;
-    v28 = ADDRESS(c331) + v27 * 8u;
+    v28 = ADDRESS(c333) + v27 * 8u;
     v29 = load_address(v28);
     v30 = (u64)a2;
-    v31 = ADDRESS(c332) + v30 * 8u;
+    v31 = ADDRESS(c334) + v30 * 8u;
     v32 = load64(v31);
     v3 = 1u; v4 = v29; v5 = v32; goto L17;
 L17:;
@@ -15044,7 +16905,7 @@ L18:;
     UNREACHABLE;
 }
 
-static struct s1 f69(address a0, u64 a1) {
+static struct s1 f71(address a0, u64 a1) {
     u8 v2, v3, v4, v7, v8, v9, v10, v11, v12, v13, v15, v16, v18, v20, v21, v22;
     u8 v23, v24, v25, v26, v27, v28, v29, v30, v31, v32, v33, v34, v35, v36, v37, v38;
     u8 v39, v40, v41, v42, v43, v44, v45, v47, v48, v49, v50, v51, v53, v56, v60, v61;
@@ -15172,7 +17033,7 @@ L20:;
     return v67;
 }
 
-static struct s4 f70(address a0) {
+static struct s4 f72(address a0) {
     u64 v1, v10;
     address v2, v4, v6, v9;
     u8 v3, v5, v7;
@@ -15180,7 +17041,7 @@ static struct s4 f70(address a0) {
     v3 = load8(a0);
     switch (v3) {
     case 0u: goto L1;
-    case 1u: v1 = 11u; v2 = ADDRESS(c199); goto L53;
+    case 1u: v1 = 11u; v2 = ADDRESS(c198); goto L53;
     case 2u: goto L2;
     case 3u: goto L3;
     case 4u: goto L4;
@@ -15239,112 +17100,112 @@ L1:;
     v5 = load8(v4);
     v6 = a0 + 1u * 1u;
     v7 = load8(v6);
-    v8 = f71(v7, v5);
+    v8 = f73(v7, v5);
     v9 = v8.m0;
     v10 = v8.m1;
     v1 = v10; v2 = v9; goto L53;
 L2:;
-    v1 = 9u; v2 = ADDRESS(c200); goto L53;
+    v1 = 9u; v2 = ADDRESS(c199); goto L53;
 L3:;
-    v1 = 12u; v2 = ADDRESS(c201); goto L53;
+    v1 = 12u; v2 = ADDRESS(c200); goto L53;
 L4:;
-    v1 = 13u; v2 = ADDRESS(c202); goto L53;
+    v1 = 13u; v2 = ADDRESS(c201); goto L53;
 L5:;
-    v1 = 13u; v2 = ADDRESS(c203); goto L53;
+    v1 = 13u; v2 = ADDRESS(c202); goto L53;
 L6:;
-    v1 = 12u; v2 = ADDRESS(c204); goto L53;
+    v1 = 12u; v2 = ADDRESS(c203); goto L53;
 L7:;
-    v1 = 23u; v2 = ADDRESS(c205); goto L53;
+    v1 = 23u; v2 = ADDRESS(c204); goto L53;
 L8:;
-    v1 = 5u; v2 = ADDRESS(c206); goto L53;
+    v1 = 5u; v2 = ADDRESS(c205); goto L53;
 L9:;
-    v1 = 9u; v2 = ADDRESS(c207); goto L53;
+    v1 = 9u; v2 = ADDRESS(c206); goto L53;
 L10:;
-    v1 = 21u; v2 = ADDRESS(c208); goto L53;
+    v1 = 21u; v2 = ADDRESS(c207); goto L53;
 L11:;
-    v1 = 15u; v2 = ADDRESS(c209); goto L53;
+    v1 = 15u; v2 = ADDRESS(c208); goto L53;
 L12:;
-    v1 = 15u; v2 = ADDRESS(c210); goto L53;
+    v1 = 15u; v2 = ADDRESS(c209); goto L53;
 L13:;
-    v1 = 12u; v2 = ADDRESS(c211); goto L53;
+    v1 = 12u; v2 = ADDRESS(c210); goto L53;
 L14:;
-    v1 = 20u; v2 = ADDRESS(c212); goto L53;
+    v1 = 20u; v2 = ADDRESS(c211); goto L53;
 L15:;
-    v1 = 18u; v2 = ADDRESS(c213); goto L53;
+    v1 = 18u; v2 = ADDRESS(c212); goto L53;
 L16:;
-    v1 = 12u; v2 = ADDRESS(c214); goto L53;
+    v1 = 12u; v2 = ADDRESS(c213); goto L53;
 L17:;
-    v1 = 15u; v2 = ADDRESS(c215); goto L53;
+    v1 = 15u; v2 = ADDRESS(c214); goto L53;
 L18:;
-    v1 = 12u; v2 = ADDRESS(c216); goto L53;
+    v1 = 12u; v2 = ADDRESS(c215); goto L53;
 L19:;
-    v1 = 16u; v2 = ADDRESS(c217); goto L53;
+    v1 = 16u; v2 = ADDRESS(c216); goto L53;
 L20:;
-    v1 = 12u; v2 = ADDRESS(c218); goto L53;
+    v1 = 12u; v2 = ADDRESS(c217); goto L53;
 L21:;
-    v1 = 13u; v2 = ADDRESS(c219); goto L53;
+    v1 = 13u; v2 = ADDRESS(c218); goto L53;
 L22:;
-    v1 = 12u; v2 = ADDRESS(c220); goto L53;
+    v1 = 12u; v2 = ADDRESS(c219); goto L53;
 L23:;
-    v1 = 26u; v2 = ADDRESS(c221); goto L53;
+    v1 = 26u; v2 = ADDRESS(c220); goto L53;
 L24:;
-    v1 = 23u; v2 = ADDRESS(c222); goto L53;
+    v1 = 23u; v2 = ADDRESS(c221); goto L53;
 L25:;
-    v1 = 19u; v2 = ADDRESS(c223); goto L53;
+    v1 = 19u; v2 = ADDRESS(c222); goto L53;
 L26:;
-    v1 = 17u; v2 = ADDRESS(c224); goto L53;
+    v1 = 17u; v2 = ADDRESS(c223); goto L53;
 L27:;
-    v1 = 9u; v2 = ADDRESS(c225); goto L53;
+    v1 = 9u; v2 = ADDRESS(c224); goto L53;
 L28:;
-    v1 = 10u; v2 = ADDRESS(c226); goto L53;
+    v1 = 10u; v2 = ADDRESS(c225); goto L53;
 L29:;
-    v1 = 23u; v2 = ADDRESS(c227); goto L53;
+    v1 = 23u; v2 = ADDRESS(c226); goto L53;
 L30:;
-    v1 = 9u; v2 = ADDRESS(c228); goto L53;
+    v1 = 9u; v2 = ADDRESS(c227); goto L53;
 L31:;
-    v1 = 12u; v2 = ADDRESS(c229); goto L53;
+    v1 = 12u; v2 = ADDRESS(c228); goto L53;
 L32:;
-    v1 = 9u; v2 = ADDRESS(c230); goto L53;
+    v1 = 9u; v2 = ADDRESS(c229); goto L53;
 L33:;
-    v1 = 7u; v2 = ADDRESS(c231); goto L53;
+    v1 = 7u; v2 = ADDRESS(c230); goto L53;
 L34:;
-    v1 = 12u; v2 = ADDRESS(c232); goto L53;
+    v1 = 12u; v2 = ADDRESS(c231); goto L53;
 L35:;
-    v1 = 13u; v2 = ADDRESS(c233); goto L53;
+    v1 = 13u; v2 = ADDRESS(c232); goto L53;
 L36:;
-    v1 = 14u; v2 = ADDRESS(c234); goto L53;
+    v1 = 14u; v2 = ADDRESS(c233); goto L53;
 L37:;
-    v1 = 12u; v2 = ADDRESS(c235); goto L53;
+    v1 = 12u; v2 = ADDRESS(c234); goto L53;
 L38:;
-    v1 = 13u; v2 = ADDRESS(c236); goto L53;
+    v1 = 13u; v2 = ADDRESS(c235); goto L53;
 L39:;
-    v1 = 24u; v2 = ADDRESS(c237); goto L53;
+    v1 = 24u; v2 = ADDRESS(c236); goto L53;
 L40:;
-    v1 = 11u; v2 = ADDRESS(c238); goto L53;
+    v1 = 11u; v2 = ADDRESS(c237); goto L53;
 L41:;
-    v1 = 12u; v2 = ADDRESS(c239); goto L53;
+    v1 = 12u; v2 = ADDRESS(c238); goto L53;
 L42:;
-    v1 = 13u; v2 = ADDRESS(c240); goto L53;
+    v1 = 13u; v2 = ADDRESS(c239); goto L53;
 L43:;
-    v1 = 7u; v2 = ADDRESS(c241); goto L53;
+    v1 = 7u; v2 = ADDRESS(c240); goto L53;
 L44:;
-    v1 = 12u; v2 = ADDRESS(c242); goto L53;
+    v1 = 12u; v2 = ADDRESS(c241); goto L53;
 L45:;
-    v1 = 13u; v2 = ADDRESS(c243); goto L53;
+    v1 = 13u; v2 = ADDRESS(c242); goto L53;
 L46:;
-    v1 = 14u; v2 = ADDRESS(c244); goto L53;
+    v1 = 14u; v2 = ADDRESS(c243); goto L53;
 L47:;
-    v1 = 12u; v2 = ADDRESS(c245); goto L53;
+    v1 = 12u; v2 = ADDRESS(c244); goto L53;
 L48:;
-    v1 = 13u; v2 = ADDRESS(c246); goto L53;
+    v1 = 13u; v2 = ADDRESS(c245); goto L53;
 L49:;
-    v1 = 24u; v2 = ADDRESS(c247); goto L53;
+    v1 = 24u; v2 = ADDRESS(c246); goto L53;
 L50:;
-    v1 = 11u; v2 = ADDRESS(c248); goto L53;
+    v1 = 11u; v2 = ADDRESS(c247); goto L53;
 L51:;
-    v1 = 12u; v2 = ADDRESS(c249); goto L53;
+    v1 = 12u; v2 = ADDRESS(c248); goto L53;
 L52:;
-    v1 = 13u; v2 = ADDRESS(c250); goto L53;
+    v1 = 13u; v2 = ADDRESS(c249); goto L53;
 L53:;
     v11 = (struct s4){ 0 };
     v11.m0 = v2;
@@ -15355,12 +17216,12 @@ L54:;
     UNREACHABLE;
 }
 
-static struct s4 f71(u8 a0, u8 a1) {
+static struct s4 f73(u8 a0, u8 a1) {
     u64 v2, v4, v6, v7;
     address v3, v5, v8, v9;
     struct s4 v10, v11;
     switch (a0) {
-    case 0u: v2 = 13u; v3 = ADDRESS(c251); goto L34;
+    case 0u: v2 = 13u; v3 = ADDRESS(c250); goto L34;
     case 1u: goto L1;
     case 2u: goto L2;
     case 3u: goto L3;
@@ -15397,75 +17258,75 @@ static struct s4 f71(u8 a0, u8 a1) {
     default: goto L35;
     }
 L1:;
-    v2 = 12u; v3 = ADDRESS(c252); goto L34;
+    v2 = 12u; v3 = ADDRESS(c251); goto L34;
 L2:;
-    v2 = 15u; v3 = ADDRESS(c253); goto L34;
+    v2 = 15u; v3 = ADDRESS(c252); goto L34;
 L3:;
-    v2 = 11u; v3 = ADDRESS(c254); goto L34;
+    v2 = 11u; v3 = ADDRESS(c253); goto L34;
 L4:;
-    v2 = 9u; v3 = ADDRESS(c255); goto L34;
+    v2 = 9u; v3 = ADDRESS(c254); goto L34;
 L5:;
-    v2 = 23u; v3 = ADDRESS(c256); goto L34;
+    v2 = 23u; v3 = ADDRESS(c255); goto L34;
 L6:;
-    v2 = 26u; v3 = ADDRESS(c257); goto L34;
+    v2 = 26u; v3 = ADDRESS(c256); goto L34;
 L7:;
-    v2 = 36u; v3 = ADDRESS(c258); goto L34;
+    v2 = 36u; v3 = ADDRESS(c257); goto L34;
 L8:;
-    v2 = 9u; v3 = ADDRESS(c259); goto L34;
+    v2 = 9u; v3 = ADDRESS(c258); goto L34;
 L9:;
-    v2 = 12u; v3 = ADDRESS(c260); goto L34;
+    v2 = 12u; v3 = ADDRESS(c259); goto L34;
 L10:;
-    v2 = 16u; v3 = ADDRESS(c261); goto L34;
+    v2 = 16u; v3 = ADDRESS(c260); goto L34;
 L11:;
-    v2 = 9u; v3 = ADDRESS(c262); goto L34;
+    v2 = 9u; v3 = ADDRESS(c261); goto L34;
 L12:;
-    v2 = 18u; v3 = ADDRESS(c263); goto L34;
+    v2 = 18u; v3 = ADDRESS(c262); goto L34;
 L13:;
-    v2 = 11u; v3 = ADDRESS(c264); goto L34;
+    v2 = 11u; v3 = ADDRESS(c263); goto L34;
 L14:;
-    v2 = 37u; v3 = ADDRESS(c265); goto L34;
+    v2 = 37u; v3 = ADDRESS(c264); goto L34;
 L15:;
-    v2 = 34u; v3 = ADDRESS(c266); goto L34;
+    v2 = 34u; v3 = ADDRESS(c265); goto L34;
 L16:;
-    v2 = 20u; v3 = ADDRESS(c267); goto L34;
+    v2 = 20u; v3 = ADDRESS(c266); goto L34;
 L17:;
-    v2 = 34u; v3 = ADDRESS(c268); goto L34;
+    v2 = 34u; v3 = ADDRESS(c267); goto L34;
 L18:;
-    v2 = 37u; v3 = ADDRESS(c269); goto L34;
+    v2 = 37u; v3 = ADDRESS(c268); goto L34;
 L19:;
-    v2 = 47u; v3 = ADDRESS(c270); goto L34;
+    v2 = 47u; v3 = ADDRESS(c269); goto L34;
 L20:;
-    v2 = 20u; v3 = ADDRESS(c271); goto L34;
+    v2 = 20u; v3 = ADDRESS(c270); goto L34;
 L21:;
-    v2 = 19u; v3 = ADDRESS(c272); goto L34;
+    v2 = 19u; v3 = ADDRESS(c271); goto L34;
 L22:;
-    v2 = 16u; v3 = ADDRESS(c273); goto L34;
+    v2 = 16u; v3 = ADDRESS(c272); goto L34;
 L23:;
-    v2 = 6u; v3 = ADDRESS(c274); goto L34;
+    v2 = 6u; v3 = ADDRESS(c273); goto L34;
 L24:;
-    v2 = 6u; v3 = ADDRESS(c275); goto L34;
+    v2 = 6u; v3 = ADDRESS(c274); goto L34;
 L25:;
-    v2 = 21u; v3 = ADDRESS(c276); goto L34;
+    v2 = 21u; v3 = ADDRESS(c275); goto L34;
 L26:;
-    v2 = 12u; v3 = ADDRESS(c277); goto L34;
+    v2 = 12u; v3 = ADDRESS(c276); goto L34;
 L27:;
-    v2 = 13u; v3 = ADDRESS(c278); goto L34;
+    v2 = 13u; v3 = ADDRESS(c277); goto L34;
 L28:;
-    v2 = 18u; v3 = ADDRESS(c279); goto L34;
+    v2 = 18u; v3 = ADDRESS(c278); goto L34;
 L29:;
-    v2 = 10u; v3 = ADDRESS(c280); goto L34;
+    v2 = 10u; v3 = ADDRESS(c279); goto L34;
 L30:;
-    v2 = 9u; v3 = ADDRESS(c281); goto L34;
+    v2 = 9u; v3 = ADDRESS(c280); goto L34;
 L31:;
-    v2 = 22u; v3 = ADDRESS(c282); goto L34;
+    v2 = 22u; v3 = ADDRESS(c281); goto L34;
 L32:;
-    v2 = 13u; v3 = ADDRESS(c283); goto L34;
+    v2 = 13u; v3 = ADDRESS(c282); goto L34;
 L33:;
     v4 = (u64)a1;
-    v5 = ADDRESS(c333) + v4 * 8u;
+    v5 = ADDRESS(c335) + v4 * 8u;
     v6 = load64(v5);
     v7 = (u64)a1;
-    v8 = ADDRESS(c334) + v7 * 8u;
+    v8 = ADDRESS(c336) + v7 * 8u;
     v9 = load_address(v8);
     v2 = v6; v3 = v9; goto L34;
 L34:;
@@ -15478,7 +17339,7 @@ L35:;
     UNREACHABLE;
 }
 
-static u64 f72(u16 a0, address a1) {
+static u64 f74(u16 a0, address a1) {
     u64 v2, v4, v12, v22;
     address v3, v6, v8, v13, v16, v19;
     u8 v5, v7, v9, v10, v11, v14, v15, v17, v18, v20, v21, v23;
@@ -15490,7 +17351,7 @@ static u64 f72(u16 a0, address a1) {
     switch (a0) {
     case 0u: goto L27;
     case 2u: goto L1;
-    case 8192u: v2 = 10u; v3 = ADDRESS(c149); goto L18;
+    case 8192u: v2 = 10u; v3 = ADDRESS(c148); goto L18;
     case 8193u: goto L3;
     case 8194u: goto L4;
     case 8195u: goto L5;
@@ -15512,39 +17373,39 @@ static u64 f72(u16 a0, address a1) {
     default: goto L19;
     }
 L1:;
-    v2 = 1u; v3 = ADDRESS(c148); goto L18;
+    v2 = 1u; v3 = ADDRESS(c147); goto L18;
 L2:;
-    v2 = 1u; v3 = ADDRESS(c158); goto L18;
-L3:;
-    v2 = 3u; v3 = ADDRESS(c150); goto L18;
-L4:;
-    v2 = 10u; v3 = ADDRESS(c151); goto L18;
-L5:;
-    v2 = 8u; v3 = ADDRESS(c152); goto L18;
-L6:;
-    v2 = 10u; v3 = ADDRESS(c153); goto L18;
-L7:;
-    v2 = 1u; v3 = ADDRESS(c154); goto L18;
-L8:;
-    v2 = 1u; v3 = ADDRESS(c155); goto L18;
-L9:;
-    v2 = 1u; v3 = ADDRESS(c156); goto L18;
-L10:;
     v2 = 1u; v3 = ADDRESS(c157); goto L18;
+L3:;
+    v2 = 3u; v3 = ADDRESS(c149); goto L18;
+L4:;
+    v2 = 10u; v3 = ADDRESS(c150); goto L18;
+L5:;
+    v2 = 8u; v3 = ADDRESS(c151); goto L18;
+L6:;
+    v2 = 10u; v3 = ADDRESS(c152); goto L18;
+L7:;
+    v2 = 1u; v3 = ADDRESS(c153); goto L18;
+L8:;
+    v2 = 1u; v3 = ADDRESS(c154); goto L18;
+L9:;
+    v2 = 1u; v3 = ADDRESS(c155); goto L18;
+L10:;
+    v2 = 1u; v3 = ADDRESS(c156); goto L18;
 L11:;
-    v2 = 1u; v3 = ADDRESS(c159); goto L18;
+    v2 = 1u; v3 = ADDRESS(c158); goto L18;
 L12:;
-    v2 = 1u; v3 = ADDRESS(c160); goto L18;
+    v2 = 1u; v3 = ADDRESS(c159); goto L18;
 L13:;
-    v2 = 1u; v3 = ADDRESS(c161); goto L18;
+    v2 = 1u; v3 = ADDRESS(c160); goto L18;
 L14:;
-    v2 = 1u; v3 = ADDRESS(c162); goto L18;
+    v2 = 1u; v3 = ADDRESS(c161); goto L18;
 L15:;
-    v2 = 1u; v3 = ADDRESS(c163); goto L18;
+    v2 = 1u; v3 = ADDRESS(c162); goto L18;
 L16:;
-    v2 = 1u; v3 = ADDRESS(c164); goto L18;
+    v2 = 1u; v3 = ADDRESS(c163); goto L18;
 L17:;
-    v2 = 4u; v3 = ADDRESS(c165); goto L18;
+    v2 = 4u; v3 = ADDRESS(c164); goto L18;
 L18:;
     v10 = v5 == 0u;
     v11 = v7 == 33u;
@@ -15589,7 +17450,7 @@ L27:;
     UNREACHABLE;
 }
 
-static void f73(u8 a0, u8 a1, address a2) {
+static void f75(u8 a0, u8 a1, address a2) {
     u64 v3, v4, v5, v6, v7, v14, v19, v21, v23, v27, v29, v30, v31, v36, v42, v44;
     u64 v46, v50, v52, v53, v56, v64, v66, v74;
     address v8, v11, v12, v13, v15, v18, v20, v26, v28, v33, v34, v38, v41, v43, v49, v51;
@@ -15599,7 +17460,7 @@ static void f73(u8 a0, u8 a1, address a2) {
     u64 block0[3];
     v8 = ADDRESS(block0);
     memory_set(v8, 0u, 24u);
-    f68(v8, a0, a1);
+    f70(v8, a0, a1);
     v9 = load8(v8);
     v10 = v9 == 1u;
     if (v10) { goto L1; }
@@ -15673,7 +17534,7 @@ L9:;
     v50 = (u64)((u64)v42 + (u64)2u);
     v51 = v49 + v42 * 1u;
     v52 = (u64)v51;
-    v53 = (u64)((u64)v52 - (u64)ADDRESS(c285));
+    v53 = (u64)((u64)v52 - (u64)ADDRESS(c284));
     v54 = v53 < 2u;
     if (v54) { goto L10; }
     else { goto L11; }
@@ -15729,7 +17590,7 @@ L18:;
     return;
 }
 
-static struct s4 f74(u16 a0, address a1, u64 a2) {
+static struct s4 f76(u16 a0, address a1, u64 a2) {
     u8 v3, v4, v9, v11, v12, v17, v22, v25, v27, v30, v31, v32, v33, v36, v38, v40;
     u8 v45, v48, v49, v51, v52;
     u64 v5, v6, v8, v10, v13, v14, v15, v16, v19, v21, v24, v26, v28, v29, v35, v37;
@@ -15768,11 +17629,11 @@ static struct s4 f74(u16 a0, address a1, u64 a2) {
     case 49154u: goto L42;
     case 49156u: goto L45;
     case 49157u: goto L48;
-    default: v7 = ADDRESS(c139); v8 = 0u; goto L53;
+    default: v7 = ADDRESS(c138); v8 = 0u; goto L53;
     }
 L1:;
     v9 = a2 == 0u;
-    if (v9) { v7 = ADDRESS(c139); v8 = 0u; goto L53; }
+    if (v9) { v7 = ADDRESS(c138); v8 = 0u; goto L53; }
     else { goto L22; }
 L2:;
     v3 = 2u; v4 = 0u; goto L21;
@@ -15813,10 +17674,10 @@ L19:;
 L20:;
     v3 = 11u; v4 = 4u; goto L21;
 L21:;
-    v10 = f64(v3, v4);
+    v10 = f66(v3, v4);
     v11 = a2 == v10;
     if (v11) { goto L23; }
-    else { v7 = ADDRESS(c139); v8 = 0u; goto L53; }
+    else { v7 = ADDRESS(c138); v8 = 0u; goto L53; }
 L22:;
     v12 = load8(a1);
     v13 = (u64)v12;
@@ -15824,12 +17685,12 @@ L22:;
     v15 = (u64)((u64)v14 & (u64)1u);
     v16 = (u64)((u64)v15 + (u64)v14);
     v17 = a2 == v16;
-    v18 = v17 ? ADDRESS(c148) : ADDRESS(c139);
+    v18 = v17 ? ADDRESS(c147) : ADDRESS(c138);
     v19 = (u64)v17;
     v7 = v18; v8 = v19; goto L53;
 L23:;
     switch (v3) {
-    case 1u: v7 = ADDRESS(c148); v8 = 1u; goto L53;
+    case 1u: v7 = ADDRESS(c147); v8 = 1u; goto L53;
     case 2u: goto L24;
     case 3u: goto L25;
     case 4u: goto L26;
@@ -15849,31 +17710,31 @@ L23:;
     default: goto L37;
     }
 L24:;
-    v7 = ADDRESS(c149); v8 = 10u; goto L53;
+    v7 = ADDRESS(c148); v8 = 10u; goto L53;
 L25:;
-    v7 = ADDRESS(c150); v8 = 3u; goto L53;
+    v7 = ADDRESS(c149); v8 = 3u; goto L53;
 L26:;
-    v7 = ADDRESS(c151); v8 = 10u; goto L53;
+    v7 = ADDRESS(c150); v8 = 10u; goto L53;
 L27:;
-    v7 = ADDRESS(c152); v8 = 8u; goto L53;
+    v7 = ADDRESS(c151); v8 = 8u; goto L53;
 L28:;
-    v7 = ADDRESS(c153); v8 = 10u; goto L53;
+    v7 = ADDRESS(c152); v8 = 10u; goto L53;
 L29:;
-    v7 = ADDRESS(c154); v8 = 1u; goto L53;
+    v7 = ADDRESS(c153); v8 = 1u; goto L53;
 L30:;
-    v7 = ADDRESS(c155); v8 = 1u; goto L53;
+    v7 = ADDRESS(c154); v8 = 1u; goto L53;
 L31:;
-    v7 = ADDRESS(c156); v8 = 1u; goto L53;
+    v7 = ADDRESS(c155); v8 = 1u; goto L53;
 L32:;
-    v7 = ADDRESS(c157); v8 = 1u; goto L53;
+    v7 = ADDRESS(c156); v8 = 1u; goto L53;
 L33:;
-    v7 = ADDRESS(c163); v8 = 1u; goto L53;
+    v7 = ADDRESS(c162); v8 = 1u; goto L53;
 L34:;
-    v7 = ADDRESS(c164); v8 = 1u; goto L53;
+    v7 = ADDRESS(c163); v8 = 1u; goto L53;
 L35:;
-    v7 = ADDRESS(c165); v8 = 4u; goto L53;
+    v7 = ADDRESS(c164); v8 = 4u; goto L53;
 L36:;
-    v7 = ADDRESS(c139); v8 = 0u; goto L53;
+    v7 = ADDRESS(c138); v8 = 0u; goto L53;
 L37:;
     UNREACHABLE;
 L38:;
@@ -15887,10 +17748,10 @@ L41:;
 L42:;
     v5 = 6u; v6 = 8u; goto L49;
 L43:;
-    v20 = f75(a1, a2);
+    v20 = f77(a1, a2);
     v21 = v20.m1;
     v22 = v21 == 0u;
-    if (v22) { v7 = ADDRESS(c139); v8 = 0u; goto L53; }
+    if (v22) { v7 = ADDRESS(c138); v8 = 0u; goto L53; }
     else { goto L44; }
 L44:;
     v23 = v20.m0;
@@ -15904,17 +17765,17 @@ L44:;
     v31 = (u8)(((u32)v27 & (u32)v30) & UINT64_C(1));
     v32 = a2 > 1u;
     v33 = (u8)(((u32)v32 & (u32)v31) & UINT64_C(1));
-    v34 = v33 ? ADDRESS(c294) : ADDRESS(c139);
+    v34 = v33 ? ADDRESS(c293) : ADDRESS(c138);
     v35 = v33 ? 10u : 0u;
     v7 = v34; v8 = v35; goto L53;
 L45:;
     v36 = a2 > 11u;
     if (v36) { goto L46; }
-    else { v7 = ADDRESS(c139); v8 = 0u; goto L53; }
+    else { v7 = ADDRESS(c138); v8 = 0u; goto L53; }
 L46:;
     v37 = (u64)((u64)a2 + (u64)UINT64_C(18446744073709551604));
     v38 = v37 == 0u;
-    if (v38) { v7 = ADDRESS(c139); v8 = 0u; goto L53; }
+    if (v38) { v7 = ADDRESS(c138); v8 = 0u; goto L53; }
     else { goto L47; }
 L47:;
     v39 = a1 + 12u * 1u;
@@ -15924,7 +17785,7 @@ L47:;
     v43 = (u64)((u64)v42 & (u64)1u);
     v44 = (u64)((u64)v43 + (u64)v42);
     v45 = v37 == v44;
-    v46 = v45 ? ADDRESS(c302) : ADDRESS(c139);
+    v46 = v45 ? ADDRESS(c301) : ADDRESS(c138);
     v47 = v45 ? 4u : 0u;
     v7 = v46; v8 = v47; goto L53;
 L48:;
@@ -15932,24 +17793,24 @@ L48:;
 L49:;
     v48 = a2 == v6;
     if (v48) { goto L51; }
-    else { v7 = ADDRESS(c139); v8 = 0u; goto L53; }
+    else { v7 = ADDRESS(c138); v8 = 0u; goto L53; }
 L50:;
     v49 = a2 > 7u;
     v50 = (u64)((u64)a2 & (u64)7u);
     v51 = v50 == 0u;
     v52 = (u8)(((u32)v49 & (u32)v51) & UINT64_C(1));
-    v53 = v52 ? ADDRESS(c298) : ADDRESS(c139);
+    v53 = v52 ? ADDRESS(c297) : ADDRESS(c138);
     v54 = (u64)v52;
     v7 = v53; v8 = v54; goto L53;
 L51:;
-    v55 = ADDRESS(c335) + v5 * 8u;
+    v55 = ADDRESS(c337) + v5 * 8u;
     v56 = load_address(v55);
-    v57 = ADDRESS(c336) + v5 * 8u;
+    v57 = ADDRESS(c338) + v5 * 8u;
     v58 = load64(v57);
     v7 = v56; v8 = v58; goto L53;
 L52:;
     v59 = (u64)v4;
-    v60 = ADDRESS(c341) + v59 * 8u;
+    v60 = ADDRESS(c342) + v59 * 8u;
     v61 = load_address(v60);
     v7 = v61; v8 = 1u; goto L53;
 L53:;
@@ -15960,7 +17821,7 @@ L53:;
     return v63;
 }
 
-static struct s4 f75(address a0, u64 a1) {
+static struct s4 f77(address a0, u64 a1) {
     u64 v2, v3, v5, v7, v11, v13, v16, v20, v21, v23, v24, v26, v29, v31, v34, v36;
     u64 v40, v41, v43, v44, v47, v50, v52, v58, v60, v63, v66, v68, v71, v73;
     address v4, v6, v9, v10, v15, v18, v25, v28, v30, v33, v35, v38, v45, v46, v49, v51;
@@ -15969,7 +17830,7 @@ static struct s4 f75(address a0, u64 a1) {
     u8 v64, v67, v69;
     struct s4 v74, v75;
     v8 = a1 < 3u;
-    if (v8) { v2 = 0u; v3 = 0u; v4 = ADDRESS(c139); goto L4; }
+    if (v8) { v2 = 0u; v3 = 0u; v4 = ADDRESS(c138); goto L4; }
     else { goto L1; }
 L1:;
     v9 = a0 + 2u * 1u;
@@ -15980,11 +17841,11 @@ L1:;
     v14 = v11 < v13;
     v15 = v10 + v13 * 1u;
     v16 = v11 > v13 ? (u64)((u64)v11 - (u64)v13) : 0u;
-    if (v14) { v2 = 0u; v3 = 0u; v4 = ADDRESS(c139); goto L4; }
+    if (v14) { v2 = 0u; v3 = 0u; v4 = ADDRESS(c138); goto L4; }
     else { goto L2; }
 L2:;
     v17 = v16 < 2u;
-    if (v17) { v2 = 0u; v3 = v16; v4 = ADDRESS(c139); goto L4; }
+    if (v17) { v2 = 0u; v3 = v16; v4 = ADDRESS(c138); goto L4; }
     else { goto L3; }
 L3:;
     v18 = v15 + 1u * 1u;
@@ -16001,12 +17862,12 @@ L4:;
     v27 = v26 < v2;
     v28 = v4 + v2 * 1u;
     v29 = v26 > v2 ? (u64)((u64)v26 - (u64)v2) : 0u;
-    v30 = v27 ? ADDRESS(c139) : v28;
+    v30 = v27 ? ADDRESS(c138) : v28;
     v31 = v27 ? 0u : v29;
     v32 = v31 < 2u;
     v33 = v30 + 2u * 1u;
     v34 = v31 > 2u ? (u64)((u64)v31 - (u64)2u) : 0u;
-    v35 = v32 ? ADDRESS(c139) : v33;
+    v35 = v32 ? ADDRESS(c138) : v33;
     v36 = v32 ? 0u : v34;
     v37 = v36 < 2u;
     if (v37) { v5 = 0u; goto L6; }
@@ -16022,16 +17883,16 @@ L5:;
     v5 = v44; goto L6;
 L6:;
     v45 = v35 + 2u * 1u;
-    v46 = v37 ? ADDRESS(c139) : v45;
+    v46 = v37 ? ADDRESS(c138) : v45;
     v47 = v36 > 2u ? (u64)((u64)v36 - (u64)2u) : 0u;
     v48 = v47 < v5;
     v49 = v46 + v5 * 1u;
     v50 = v47 > v5 ? (u64)((u64)v47 - (u64)v5) : 0u;
-    v51 = v48 ? ADDRESS(c139) : v49;
+    v51 = v48 ? ADDRESS(c138) : v49;
     v52 = v48 ? 0u : v50;
     v53 = v52 < 4u;
     v54 = v51 + 4u * 1u;
-    v55 = v53 ? ADDRESS(c139) : v54;
+    v55 = v53 ? ADDRESS(c138) : v54;
     v56 = v52 < 5u;
     if (v56) { v6 = v55; v7 = 0u; goto L10; }
     else { goto L7; }
@@ -16043,7 +17904,7 @@ L7:;
     v61 = v58 < v60;
     v62 = v57 + v60 * 1u;
     v63 = v58 > v60 ? (u64)((u64)v58 - (u64)v60) : 0u;
-    if (v61) { v6 = ADDRESS(c139); v7 = 0u; goto L10; }
+    if (v61) { v6 = ADDRESS(c138); v7 = 0u; goto L10; }
     else { goto L8; }
 L8:;
     v64 = v58 > v60;
@@ -16057,7 +17918,7 @@ L9:;
     v69 = v66 < v68;
     v70 = v65 + v68 * 1u;
     v71 = v66 > v68 ? (u64)((u64)v66 - (u64)v68) : 0u;
-    v72 = v69 ? ADDRESS(c139) : v70;
+    v72 = v69 ? ADDRESS(c138) : v70;
     v73 = v69 ? 0u : v71;
     v6 = v72; v7 = v73; goto L10;
 L10:;
@@ -16068,7 +17929,7 @@ L10:;
     return v75;
 }
 
-static void f76(address a0, u8 a1, u8 a2, address a3, u64 a4) {
+static void f78(address a0, u8 a1, u8 a2, address a3, u64 a4) {
     u64 v5, v7, v8, v10, v11, v13, v14, v16, v17, v18, v20, v22, v24, v25, v26, v28;
     u64 v30, v33, v35, v36, v40, v42, v43, v44, v45, v49, v50, v52, v53, v54, v55, v56;
     u64 v58, v59, v60, v62, v63, v64, v75, v76, v78, v79, v80, v81, v82, v85, v87, v88;
@@ -16253,7 +18114,7 @@ L15:;
 L16:;
     v131 = a4 < 2u;
     v132 = a3 + 2u * 1u;
-    v133 = v131 ? ADDRESS(c139) : v132;
+    v133 = v131 ? ADDRESS(c138) : v132;
     v134 = a4 > 2u ? (u64)((u64)a4 - (u64)2u) : 0u;
     v135 = (struct s4){ 0 };
     v135.m0 = v133;
@@ -16262,7 +18123,7 @@ L16:;
     v31 = v136; goto L60;
 L17:;
     v137 = a4 < 3u;
-    if (v137) { v34 = 9u; v35 = ADDRESS(c139); v36 = 0u; goto L63; }
+    if (v137) { v34 = 9u; v35 = ADDRESS(c138); v36 = 0u; goto L63; }
     else { goto L18; }
 L18:;
     v138 = a3 + 2u * 1u;
@@ -16273,11 +18134,11 @@ L18:;
     v143 = v140 < v142;
     v144 = v139 + v142 * 1u;
     v145 = v140 > v142 ? (u64)((u64)v140 - (u64)v142) : 0u;
-    if (v143) { v34 = 9u; v35 = ADDRESS(c139); v36 = 0u; goto L63; }
+    if (v143) { v34 = 9u; v35 = ADDRESS(c138); v36 = 0u; goto L63; }
     else { v23 = v144; v24 = v145; goto L54; }
 L19:;
     v146 = a4 < 3u;
-    if (v146) { v25 = 0u; v26 = 0u; v27 = ADDRESS(c139); goto L56; }
+    if (v146) { v25 = 0u; v26 = 0u; v27 = ADDRESS(c138); goto L56; }
     else { goto L20; }
 L20:;
     v147 = a3 + 2u * 1u;
@@ -16288,11 +18149,11 @@ L20:;
     v152 = v149 < v151;
     v153 = v148 + v151 * 1u;
     v154 = v149 > v151 ? (u64)((u64)v149 - (u64)v151) : 0u;
-    if (v152) { v25 = 0u; v26 = 0u; v27 = ADDRESS(c139); goto L56; }
+    if (v152) { v25 = 0u; v26 = 0u; v27 = ADDRESS(c138); goto L56; }
     else { goto L21; }
 L21:;
     v155 = v154 < 2u;
-    if (v155) { v25 = 0u; v26 = v154; v27 = ADDRESS(c139); goto L56; }
+    if (v155) { v25 = 0u; v26 = v154; v27 = ADDRESS(c138); goto L56; }
     else { goto L22; }
 L22:;
     v156 = v153 + 1u * 1u;
@@ -16306,7 +18167,7 @@ L22:;
     v25 = v162; v26 = v154; v27 = v163; goto L56;
 L23:;
     v164 = a4 < 3u;
-    if (v164) { v7 = 0u; v8 = 0u; v9 = ADDRESS(c139); goto L27; }
+    if (v164) { v7 = 0u; v8 = 0u; v9 = ADDRESS(c138); goto L27; }
     else { goto L24; }
 L24:;
     v165 = a3 + 2u * 1u;
@@ -16317,11 +18178,11 @@ L24:;
     v170 = v167 < v169;
     v171 = v166 + v169 * 1u;
     v172 = v167 > v169 ? (u64)((u64)v167 - (u64)v169) : 0u;
-    if (v170) { v7 = 0u; v8 = 0u; v9 = ADDRESS(c139); goto L27; }
+    if (v170) { v7 = 0u; v8 = 0u; v9 = ADDRESS(c138); goto L27; }
     else { goto L25; }
 L25:;
     v173 = v172 < 2u;
-    if (v173) { v7 = 0u; v8 = v172; v9 = ADDRESS(c139); goto L27; }
+    if (v173) { v7 = 0u; v8 = v172; v9 = ADDRESS(c138); goto L27; }
     else { goto L26; }
 L26:;
     v174 = v171 + 1u * 1u;
@@ -16338,16 +18199,16 @@ L27:;
     v183 = v182 < v7;
     v184 = v9 + v7 * 1u;
     v185 = v182 > v7 ? (u64)((u64)v182 - (u64)v7) : 0u;
-    v186 = v183 ? ADDRESS(c139) : v184;
+    v186 = v183 ? ADDRESS(c138) : v184;
     v187 = v183 ? 0u : v185;
     v188 = v187 < 2u;
     v189 = v186 + 2u * 1u;
     v190 = (u64)((u64)v187 + (u64)UINT64_C(18446744073709551614));
-    if (v188) { v34 = 9u; v35 = ADDRESS(c139); v36 = 0u; goto L63; }
+    if (v188) { v34 = 9u; v35 = ADDRESS(c138); v36 = 0u; goto L63; }
     else { v23 = v189; v24 = v190; goto L54; }
 L28:;
     v191 = a4 < 3u;
-    if (v191) { v10 = 0u; v11 = 0u; v12 = ADDRESS(c139); goto L32; }
+    if (v191) { v10 = 0u; v11 = 0u; v12 = ADDRESS(c138); goto L32; }
     else { goto L29; }
 L29:;
     v192 = a3 + 2u * 1u;
@@ -16358,11 +18219,11 @@ L29:;
     v197 = v194 < v196;
     v198 = v193 + v196 * 1u;
     v199 = v194 > v196 ? (u64)((u64)v194 - (u64)v196) : 0u;
-    if (v197) { v10 = 0u; v11 = 0u; v12 = ADDRESS(c139); goto L32; }
+    if (v197) { v10 = 0u; v11 = 0u; v12 = ADDRESS(c138); goto L32; }
     else { goto L30; }
 L30:;
     v200 = v199 < 2u;
-    if (v200) { v10 = 0u; v11 = v199; v12 = ADDRESS(c139); goto L32; }
+    if (v200) { v10 = 0u; v11 = v199; v12 = ADDRESS(c138); goto L32; }
     else { goto L31; }
 L31:;
     v201 = v198 + 1u * 1u;
@@ -16379,12 +18240,12 @@ L32:;
     v210 = v209 < v10;
     v211 = v12 + v10 * 1u;
     v212 = v209 > v10 ? (u64)((u64)v209 - (u64)v10) : 0u;
-    v213 = v210 ? ADDRESS(c139) : v211;
+    v213 = v210 ? ADDRESS(c138) : v211;
     v214 = v210 ? 0u : v212;
     v215 = v214 < 2u;
     v216 = v213 + 2u * 1u;
     v217 = v214 > 2u ? (u64)((u64)v214 - (u64)2u) : 0u;
-    v218 = v215 ? ADDRESS(c139) : v216;
+    v218 = v215 ? ADDRESS(c138) : v216;
     v219 = v215 ? 0u : v217;
     v220 = v219 < 2u;
     if (v220) { v28 = 0u; goto L58; }
@@ -16400,7 +18261,7 @@ L33:;
     v28 = v227; goto L58;
 L34:;
     v228 = a4 < 3u;
-    if (v228) { v13 = 0u; v14 = 0u; v15 = ADDRESS(c139); goto L38; }
+    if (v228) { v13 = 0u; v14 = 0u; v15 = ADDRESS(c138); goto L38; }
     else { goto L35; }
 L35:;
     v229 = a3 + 2u * 1u;
@@ -16411,11 +18272,11 @@ L35:;
     v234 = v231 < v233;
     v235 = v230 + v233 * 1u;
     v236 = v231 > v233 ? (u64)((u64)v231 - (u64)v233) : 0u;
-    if (v234) { v13 = 0u; v14 = 0u; v15 = ADDRESS(c139); goto L38; }
+    if (v234) { v13 = 0u; v14 = 0u; v15 = ADDRESS(c138); goto L38; }
     else { goto L36; }
 L36:;
     v237 = v236 < 2u;
-    if (v237) { v13 = 0u; v14 = v236; v15 = ADDRESS(c139); goto L38; }
+    if (v237) { v13 = 0u; v14 = v236; v15 = ADDRESS(c138); goto L38; }
     else { goto L37; }
 L37:;
     v238 = v235 + 1u * 1u;
@@ -16432,12 +18293,12 @@ L38:;
     v247 = v246 < v13;
     v248 = v15 + v13 * 1u;
     v249 = v246 > v13 ? (u64)((u64)v246 - (u64)v13) : 0u;
-    v250 = v247 ? ADDRESS(c139) : v248;
+    v250 = v247 ? ADDRESS(c138) : v248;
     v251 = v247 ? 0u : v249;
     v252 = v251 < 2u;
     v253 = v250 + 2u * 1u;
     v254 = v251 > 2u ? (u64)((u64)v251 - (u64)2u) : 0u;
-    v255 = v252 ? ADDRESS(c139) : v253;
+    v255 = v252 ? ADDRESS(c138) : v253;
     v256 = v252 ? 0u : v254;
     v257 = v256 < 2u;
     if (v257) { v16 = 0u; goto L40; }
@@ -16453,17 +18314,17 @@ L39:;
     v16 = v264; goto L40;
 L40:;
     v265 = v255 + 2u * 1u;
-    v266 = v257 ? ADDRESS(c139) : v265;
+    v266 = v257 ? ADDRESS(c138) : v265;
     v267 = v256 > 2u ? (u64)((u64)v256 - (u64)2u) : 0u;
     v268 = v267 < v16;
     v269 = v266 + v16 * 1u;
     v270 = v267 > v16 ? (u64)((u64)v267 - (u64)v16) : 0u;
-    v271 = v268 ? ADDRESS(c139) : v269;
+    v271 = v268 ? ADDRESS(c138) : v269;
     v272 = v268 ? 0u : v270;
     v273 = v272 < 4u;
     v274 = v271 + 4u * 1u;
     v275 = v272 > 4u ? (u64)((u64)v272 - (u64)4u) : 0u;
-    v276 = v273 ? ADDRESS(c139) : v274;
+    v276 = v273 ? ADDRESS(c138) : v274;
     v277 = v273 ? 0u : v275;
     v278 = (struct s4){ 0 };
     v278.m0 = v276;
@@ -16472,7 +18333,7 @@ L40:;
     v31 = v279; goto L60;
 L41:;
     v280 = a4 < 3u;
-    if (v280) { v17 = 0u; v18 = 0u; v19 = ADDRESS(c139); goto L45; }
+    if (v280) { v17 = 0u; v18 = 0u; v19 = ADDRESS(c138); goto L45; }
     else { goto L42; }
 L42:;
     v281 = a3 + 2u * 1u;
@@ -16483,11 +18344,11 @@ L42:;
     v286 = v283 < v285;
     v287 = v282 + v285 * 1u;
     v288 = v283 > v285 ? (u64)((u64)v283 - (u64)v285) : 0u;
-    if (v286) { v17 = 0u; v18 = 0u; v19 = ADDRESS(c139); goto L45; }
+    if (v286) { v17 = 0u; v18 = 0u; v19 = ADDRESS(c138); goto L45; }
     else { goto L43; }
 L43:;
     v289 = v288 < 2u;
-    if (v289) { v17 = 0u; v18 = v288; v19 = ADDRESS(c139); goto L45; }
+    if (v289) { v17 = 0u; v18 = v288; v19 = ADDRESS(c138); goto L45; }
     else { goto L44; }
 L44:;
     v290 = v287 + 1u * 1u;
@@ -16504,12 +18365,12 @@ L45:;
     v299 = v298 < v17;
     v300 = v19 + v17 * 1u;
     v301 = v298 > v17 ? (u64)((u64)v298 - (u64)v17) : 0u;
-    v302 = v299 ? ADDRESS(c139) : v300;
+    v302 = v299 ? ADDRESS(c138) : v300;
     v303 = v299 ? 0u : v301;
     v304 = v303 < 2u;
     v305 = v302 + 2u * 1u;
     v306 = v303 > 2u ? (u64)((u64)v303 - (u64)2u) : 0u;
-    v307 = v304 ? ADDRESS(c139) : v305;
+    v307 = v304 ? ADDRESS(c138) : v305;
     v308 = v304 ? 0u : v306;
     v309 = v308 < 2u;
     if (v309) { v20 = 0u; goto L47; }
@@ -16525,16 +18386,16 @@ L46:;
     v20 = v316; goto L47;
 L47:;
     v317 = v307 + 2u * 1u;
-    v318 = v309 ? ADDRESS(c139) : v317;
+    v318 = v309 ? ADDRESS(c138) : v317;
     v319 = v308 > 2u ? (u64)((u64)v308 - (u64)2u) : 0u;
     v320 = v319 < v20;
     v321 = v318 + v20 * 1u;
     v322 = v319 > v20 ? (u64)((u64)v319 - (u64)v20) : 0u;
-    v323 = v320 ? ADDRESS(c139) : v321;
+    v323 = v320 ? ADDRESS(c138) : v321;
     v324 = v320 ? 0u : v322;
     v325 = v324 < 4u;
     v326 = v323 + 4u * 1u;
-    v327 = v325 ? ADDRESS(c139) : v326;
+    v327 = v325 ? ADDRESS(c138) : v326;
     v328 = v324 < 5u;
     if (v328) { v21 = v327; v22 = 0u; goto L49; }
     else { goto L48; }
@@ -16546,7 +18407,7 @@ L48:;
     v333 = v330 < v332;
     v334 = v329 + v332 * 1u;
     v335 = v330 > v332 ? (u64)((u64)v330 - (u64)v332) : 0u;
-    v336 = v333 ? ADDRESS(c139) : v334;
+    v336 = v333 ? ADDRESS(c138) : v334;
     v337 = v333 ? 0u : v335;
     v21 = v336; v22 = v337; goto L49;
 L49:;
@@ -16556,10 +18417,10 @@ L49:;
     v339.m1 = v22;
     v31 = v339; goto L60;
 L50:;
-    v340 = f75(a3, a4);
+    v340 = f77(a3, a4);
     v31 = v340; goto L60;
 L51:;
-    v341 = f75(a3, a4);
+    v341 = f77(a3, a4);
     v342 = v341.m0;
     v343 = v341.m1;
     v344 = v343 == 0u;
@@ -16573,7 +18434,7 @@ L52:;
     v349 = v346 < v348;
     v350 = v345 + v348 * 1u;
     v351 = v346 > v348 ? (u64)((u64)v346 - (u64)v348) : 0u;
-    v352 = v349 ? ADDRESS(c139) : v350;
+    v352 = v349 ? ADDRESS(c138) : v350;
     v353 = v351 < 6u ? v351 : 6u;
     v354 = v349 ? 0u : v353;
     v29 = v352; v30 = v354; goto L59;
@@ -16581,7 +18442,7 @@ L53:;
     UNREACHABLE;
 L54:;
     v355 = v24 < 2u;
-    if (v355) { v34 = 9u; v35 = ADDRESS(c139); v36 = 0u; goto L63; }
+    if (v355) { v34 = 9u; v35 = ADDRESS(c138); v36 = 0u; goto L63; }
     else { goto L55; }
 L55:;
     v356 = v23 + 1u * 1u;
@@ -16616,7 +18477,7 @@ L57:;
     v34 = 0u; v35 = v379; v36 = 0u; goto L63;
 L58:;
     v380 = v218 + 2u * 1u;
-    v381 = v220 ? ADDRESS(c139) : v380;
+    v381 = v220 ? ADDRESS(c138) : v380;
     v382 = v219 > 2u ? (u64)((u64)v219 - (u64)2u) : 0u;
     v383 = v382 < v28;
     v384 = v381 + v28 * 1u;
@@ -16624,7 +18485,7 @@ L58:;
     v386 = v385 < 3u ? v385 : 3u;
     v387 = v383 ? 0u : v386;
     v388 = (u64)v384;
-    v389 = v383 ? ADDRESS(c139) : v388;
+    v389 = v383 ? ADDRESS(c138) : v388;
     v34 = 9u; v35 = v389; v36 = v387; goto L63;
 L59:;
     v390 = (u64)v29;
@@ -16699,7 +18560,7 @@ L66:;
     UNREACHABLE;
 }
 
-static void f77(u64 a0, address a1) {
+static void f79(u64 a0, address a1) {
     u64 v2, v3, v4, v5, v6, v7, v8, v11, v12, v13, v14, v20, v28, v30, v42, v44;
     u64 v45, v57, v68, v70, v72, v80, v85, v87, v89, v93;
     address v9, v21, v23, v25, v26, v27, v31, v33, v35, v36, v43, v46, v48, v50, v51, v58;
@@ -16724,7 +18585,7 @@ L1:;
     v18 = (u16)((u32)v15 - (u32)v17);
     v19 = (u16)((u32)v18 << (1u & 15u));
     v20 = (u64)v19;
-    v21 = ADDRESS(c305) + v20 * 1u;
+    v21 = ADDRESS(c304) + v20 * 1u;
     v22 = load8(v21);
     v23 = v21 + 1u * 1u;
     v24 = load8(v23);
@@ -16736,7 +18597,7 @@ L1:;
     v28 = (u64)((u64)v3 + (u64)UINT64_C(18446744073709551612));
     v29 = (u16)((u32)v16 << (1u & 15u));
     v30 = (u64)v29;
-    v31 = ADDRESS(c305) + v30 * 1u;
+    v31 = ADDRESS(c304) + v30 * 1u;
     v32 = load8(v31);
     v33 = v31 + 1u * 1u;
     v34 = load8(v33);
@@ -16765,7 +18626,7 @@ L4:;
 L5:;
     v44 = (u64)((u64)v4 + (u64)UINT64_C(18446744073709551614));
     v45 = (u64)((u64)v5 << (1u & 63u));
-    v46 = ADDRESS(c305) + v45 * 1u;
+    v46 = ADDRESS(c304) + v45 * 1u;
     v47 = load8(v46);
     v48 = v46 + 1u * 1u;
     v49 = load8(v48);
@@ -16781,7 +18642,7 @@ L6:;
     v55 = (u16)((u32)v52 - (u32)v54);
     v56 = (u16)((u32)v55 << (1u & 15u));
     v57 = (u64)v56;
-    v58 = ADDRESS(c305) + v57 * 1u;
+    v58 = ADDRESS(c304) + v57 * 1u;
     v59 = load8(v58);
     v60 = v58 + 1u * 1u;
     v61 = load8(v60);
@@ -16804,7 +18665,7 @@ L8:;
     v70 = (u64)((u64)v4 + (u64)UINT64_C(18446744073709551612));
     v71 = (u16)((u32)v53 << (1u & 15u));
     v72 = (u64)v71;
-    v73 = ADDRESS(c305) + v72 * 1u;
+    v73 = ADDRESS(c304) + v72 * 1u;
     v74 = load8(v73);
     v75 = v73 + 1u * 1u;
     v76 = load8(v75);
@@ -16846,7 +18707,7 @@ L13:;
     return;
 }
 
-static struct s3 f78(address a0, u64 a1) {
+static struct s3 f80(address a0, u64 a1) {
     u64 v2, v4, v5, v8, v12, v27;
     address v3, v9, v14, v16;
     u8 v6, v11, v13, v15, v17, v18, v19, v20, v21, v22, v23, v24, v25, v26, v28;
@@ -16855,10 +18716,10 @@ static struct s3 f78(address a0, u64 a1) {
     v2 = 0u; goto L1;
 L1:;
     v8 = (u64)((u64)v2 << (1u & 63u));
-    v9 = ADDRESS(c310) + v8 * 1u;
+    v9 = ADDRESS(c309) + v8 * 1u;
     v10 = load16(v9);
     switch (v10) {
-    case 0u: v3 = ADDRESS(c111); v4 = 19u; goto L22;
+    case 0u: v3 = ADDRESS(c110); v4 = 19u; goto L22;
     case 2u: goto L2;
     case 8192u: goto L3;
     case 8193u: goto L4;
@@ -16882,45 +18743,45 @@ L1:;
     default: goto L25;
     }
 L2:;
-    v3 = ADDRESS(c112); v4 = 16u; goto L22;
+    v3 = ADDRESS(c111); v4 = 16u; goto L22;
 L3:;
-    v3 = ADDRESS(c113); v4 = 16u; goto L22;
+    v3 = ADDRESS(c112); v4 = 16u; goto L22;
 L4:;
-    v3 = ADDRESS(c114); v4 = 16u; goto L22;
+    v3 = ADDRESS(c113); v4 = 16u; goto L22;
 L5:;
-    v3 = ADDRESS(c115); v4 = 15u; goto L22;
+    v3 = ADDRESS(c114); v4 = 15u; goto L22;
 L6:;
-    v3 = ADDRESS(c116); v4 = 24u; goto L22;
+    v3 = ADDRESS(c115); v4 = 24u; goto L22;
 L7:;
-    v3 = ADDRESS(c117); v4 = 13u; goto L22;
+    v3 = ADDRESS(c116); v4 = 13u; goto L22;
 L8:;
-    v3 = ADDRESS(c118); v4 = 9u; goto L22;
+    v3 = ADDRESS(c117); v4 = 9u; goto L22;
 L9:;
-    v3 = ADDRESS(c119); v4 = 9u; goto L22;
+    v3 = ADDRESS(c118); v4 = 9u; goto L22;
 L10:;
-    v3 = ADDRESS(c120); v4 = 6u; goto L22;
+    v3 = ADDRESS(c119); v4 = 6u; goto L22;
 L11:;
-    v3 = ADDRESS(c121); v4 = 10u; goto L22;
+    v3 = ADDRESS(c120); v4 = 10u; goto L22;
 L12:;
-    v3 = ADDRESS(c127); v4 = 21u; goto L22;
+    v3 = ADDRESS(c126); v4 = 21u; goto L22;
 L13:;
-    v3 = ADDRESS(c129); v4 = 24u; goto L22;
+    v3 = ADDRESS(c128); v4 = 24u; goto L22;
 L14:;
-    v3 = ADDRESS(c131); v4 = 17u; goto L22;
+    v3 = ADDRESS(c130); v4 = 17u; goto L22;
 L15:;
-    v3 = ADDRESS(c122); v4 = 14u; goto L22;
+    v3 = ADDRESS(c121); v4 = 14u; goto L22;
 L16:;
-    v3 = ADDRESS(c123); v4 = 11u; goto L22;
+    v3 = ADDRESS(c122); v4 = 11u; goto L22;
 L17:;
-    v3 = ADDRESS(c124); v4 = 12u; goto L22;
+    v3 = ADDRESS(c123); v4 = 12u; goto L22;
 L18:;
-    v3 = ADDRESS(c125); v4 = 14u; goto L22;
+    v3 = ADDRESS(c124); v4 = 14u; goto L22;
 L19:;
-    v3 = ADDRESS(c126); v4 = 14u; goto L22;
+    v3 = ADDRESS(c125); v4 = 14u; goto L22;
 L20:;
-    v3 = ADDRESS(c133); v4 = 15u; goto L22;
+    v3 = ADDRESS(c132); v4 = 15u; goto L22;
 L21:;
-    v3 = ADDRESS(c135); v4 = 27u; goto L22;
+    v3 = ADDRESS(c134); v4 = 27u; goto L22;
 L22:;
     v11 = v4 == a1;
     if (v11) { v5 = 0u; goto L24; }
@@ -16959,7 +18820,7 @@ L26:;
     return v30;
 }
 
-static struct s3 f79(address a0, u64 a1) {
+static struct s3 f81(address a0, u64 a1) {
     u8 v2, v3, v4, v5, v7, v8, v9, v11, v12, v13, v14, v15, v16, v17, v18, v19;
     u8 v20, v21, v22, v23, v24, v25, v26, v27, v29, v31, v32, v33, v34, v35, v36, v37;
     u8 v38, v39, v40, v41, v42, v43, v44, v45, v46, v47;
@@ -17082,7 +18943,7 @@ L22:;
     return v53;
 }
 
-static void f80(address a0, address a1, u64 a2) {
+static void f82(address a0, address a1, u64 a2) {
     u8 v3, v6, v7, v8, v11, v12, v13, v18, v20, v21, v23, v24, v26, v29, v31, v32;
     u8 v33, v34, v35, v36, v37, v38, v39, v40, v41, v42, v43, v44, v45, v46, v47, v50;
     u8 v60, v62, v63, v64, v65, v66, v67, v68, v69, v70, v71, v72, v73, v74, v75, v76;
@@ -17272,7 +19133,7 @@ L34:;
     v3 = v13; v4 = v14; goto L5;
 }
 
-static u32 f81(address a0, u64 a1, address a2, u64 a3) {
+static u32 f83(address a0, u64 a1, address a2, u64 a3) {
     u32 v4, v6, v7, v9, v13, v14, v15, v17, v18, v19, v20, v22, v23, v24, v25, v27;
     u32 v28, v29, v30, v32, v33, v34, v35, v37, v38, v39, v40, v42, v43, v44, v45, v47;
     u32 v48, v49, v50, v52, v53, v54, v60, v61, v62, v64, v65, v66, v67, v69, v70, v71;
@@ -17392,7 +19253,7 @@ L4:;
     return v104;
 }
 
-static void f82(address a0, address a1, u64 a2) {
+static void f84(address a0, address a1, u64 a2) {
     u32 v3, v31, v32, v33, v34, v35, v36, v37, v38, v39, v40, v41, v73, v74, v75, v77;
     u32 v78, v79, v80, v82, v83, v84, v85, v87, v88, v89, v90, v92, v93, v94, v95, v97;
     u32 v98, v99, v100, v102, v103, v104, v105, v107, v108, v109, v110, v112, v113, v114, v117, v118;
@@ -17426,7 +19287,7 @@ L1:;
     if (v19) { goto L4; }
     else { goto L2; }
 L2:;
-    v20 = f24(a1, 4u, ADDRESS(c312), 4u);
+    v20 = f21(a1, 4u, ADDRESS(c311), 4u);
     if (v20) { goto L5; }
     else { goto L4; }
 L3:;
@@ -17483,7 +19344,7 @@ L6:;
     if (v60) { goto L11; }
     else { goto L7; }
 L7:;
-    v61 = f24(v46, 4u, ADDRESS(c311), 4u);
+    v61 = f21(v46, 4u, ADDRESS(c310), 4u);
     if (v61) { goto L8; }
     else { goto L11; }
 L8:;
@@ -17619,7 +19480,7 @@ L12:;
     goto L3;
 }
 
-static u8 f83(address a0, u64 a1, address a2) {
+static u8 f85(address a0, u64 a1, address a2) {
     address v3, v7, v8, v10, v14, v21, v24, v27, v30, v33, v36, v39, v42, v45, v48, v51;
     address v54, v57, v60, v63, v66, v69, v72, v75, v78, v81, v84, v87, v90, v93, v96, v99;
     address v102, v105, v108, v111, v114;
@@ -17858,7 +19719,7 @@ L38:;
     return v5;
 }
 
-static u8 f84(u64 a0, address a1, u64 a2, address a3, u64 a4, u64 a5) {
+static u8 f86(u64 a0, address a1, u64 a2, address a3, u64 a4, u64 a5) {
     u64 v6, v8, v12, v13, v16, v17, v18, v19, v20, v21, v22, v24, v25, v26, v27, v28;
     u64 v31, v32, v35, v36, v37, v40, v41, v42, v43, v44, v45, v46, v47, v48, v49, v50;
     u64 v51, v52, v54, v55, v56, v58, v59, v61, v69, v72, v84, v86, v88, v90, v91, v92;
@@ -18004,7 +19865,7 @@ L13:;
     v7 = 1u; goto L10;
 }
 
-static void f85(address a0, u32 a1, address a2, u64 a3) {
+static void f87(address a0, u32 a1, address a2, u64 a3) {
     u64 v4, v5, v6, v7, v8, v9, v10, v12, v14, v15, v27, v44, v45, v46, v47, v48;
     u64 v49, v50, v51, v52, v53, v54, v55, v56, v57, v58, v59, v60, v61, v62, v63, v64;
     u64 v65, v66, v67, v68, v69, v70, v71, v72, v74, v75, v76, v94, v95, v96, v97, v98;
@@ -18298,7 +20159,7 @@ L7:;
     else { v6 = v5; goto L9; }
 L8:;
     v251 = (u64)((u64)v5 + (u64)32u);
-    v252 = f86(v16, v251, a3);
+    v252 = f88(v16, v251, a3);
     v253 = (u64)((u64)a3 - (u64)v252);
     v254 = v253 > 31u;
     if (v254) { v5 = v252; goto L7; }
@@ -18435,7 +20296,7 @@ L19:;
     v358 = (u64)((u64)v10 + (u64)1u);
     v359 = a2 + v358 * 1u;
     v360 = (u64)((u64)a3 - (u64)v358);
-    f80(v17, a2, v10);
+    f82(v17, a2, v10);
     v361 = load8(v17);
     v362 = v361 == 1u;
     if (v362) { goto L21; }
@@ -18490,7 +20351,7 @@ L27:;
     v11 = 1u; v12 = v366; v13 = v385; goto L20;
 }
 
-static u64 f86(address a0, u64 a1, u64 a2) {
+static u64 f88(address a0, u64 a1, u64 a2) {
     u64 v3, v4, v5, v10, v11, v28, v29, v30, v31, v32, v33, v34, v35, v36, v37, v38;
     u64 v39, v40, v41, v42, v43, v44, v45, v46, v47, v48, v49, v50, v51, v52, v53, v70;
     u64 v71, v72, v73, v74, v75, v76, v77, v78, v79, v80, v81, v82, v83, v84, v85, v86;
@@ -18884,7 +20745,7 @@ L4:;
     return v4;
 }
 
-static u8 f87(address a0) {
+static u8 f89(address a0) {
     u64 v1, v6, v11, v13, v15, v16, v18, v20, v24, v25, v27, v29, v32, v34, v38, v40;
     u64 v41, v43, v45, v49, v50, v52, v54, v57, v59;
     struct pair v2, v3, v26, v30, v31, v51, v55, v56;
@@ -18897,7 +20758,7 @@ static u8 f87(address a0) {
     else { v1 = v6; goto L3; }
 L1:;
     v8 = a0 + 48u * 1u;
-    v9 = f88(v8);
+    v9 = f90(v8);
     v10 = (u8)((v9) & UINT64_C(1));
     if (v10) { v4 = 1u; goto L17; }
     else { goto L2; }
@@ -19001,7 +20862,7 @@ L17:;
     return v4;
 }
 
-static u8 f88(address a0) {
+static u8 f90(address a0) {
     u64 v1, v2, v3, v5, v7, v8, v9, v10, v12, v13, v14, v15, v19, v22, v23, v24;
     u64 v25, v32, v34, v35, v36, v39, v40, v47, v118, v119, v121, v124, v127, v128, v131, v133;
     u64 v134, v135, v136, v138, v139, v141, v142, v144, v150, v151, v153, v155, v158, v160, v162, v163;
@@ -19326,7 +21187,7 @@ L30:;
     if (v190) { goto L31; }
     else { v9 = v7; v10 = 0u; goto L33; }
 L31:;
-    v191 = f89(a0, v3);
+    v191 = f91(a0, v3);
     if (v191) { goto L32; }
     else { goto L36; }
 L32:;
@@ -19517,7 +21378,7 @@ L44:;
     return v16;
 }
 
-static u8 f89(address a0, u64 a1) {
+static u8 f91(address a0, u64 a1) {
     u8 v2, v7, v12, v16, v17, v23, v28;
     struct pair v3, v21, v25, v26;
     address v4, v8, v18, v30;
@@ -19571,7 +21432,7 @@ L6:;
     v2 = 1u; goto L1;
 }
 
-static void f90(address a0, address a1, u64 a2, address a3, address a4, u16 a5, u16 a6) {
+static void f92(address a0, address a1, u64 a2, address a3, address a4, u16 a5, u16 a6) {
     u8 v7, v16, v19, v24, v30, v31, v32, v36, v41, v53, v54, v55, v57, v58, v59, v61;
     u8 v62, v63, v65, v66, v67, v68, v70, v71, v73, v74, v75, v77, v78, v79, v80, v84;
     u8 v86, v90, v92, v94, v96, v98, v100, v102, v104, v106, v108, v110, v112, v114, v116, v118;
@@ -19643,7 +21504,7 @@ L1:;
     if (v67) { v16 = 0u; goto L38; }
     else { goto L2; }
 L2:;
-    v68 = f24(a1, 4u, (ADDRESS(c325) + 8u * 1u), 4u);
+    v68 = f21(a1, 4u, (ADDRESS(c324) + 8u * 1u), 4u);
     if (v68) { goto L3; }
     else { v16 = 0u; goto L38; }
 L3:;
@@ -19912,7 +21773,7 @@ L18:;
     v256 = v255 == 0u;
     v257 = load_address(v228);
     v258 = load64(v229);
-    v259 = v256 ? ADDRESS(c139) : v257;
+    v259 = v256 ? ADDRESS(c138) : v257;
     v260 = v256 ? 0u : v258;
     v261 = a2 < v254;
     if (v261) { goto L33; }
@@ -19968,7 +21829,7 @@ L24:;
     if (v293) { goto L27; }
     else { goto L33; }
 L25:;
-    v294 = f24(a1, v254, v43, v254);
+    v294 = f21(a1, v254, v43, v254);
     v295 = v263 == v260;
     v296 = (u8)(((u32)v295 & (u32)v294) & UINT64_C(1));
     if (v296) { goto L27; }
@@ -20029,7 +21890,7 @@ L32:;
 L33:;
     goto L39;
 L34:;
-    v329 = f24(v262, v263, v259, v260);
+    v329 = f21(v262, v263, v259, v260);
     if (v329) { goto L36; }
     else { goto L39; }
 L35:;
@@ -20191,7 +22052,7 @@ L50:;
     goto L37;
 }
 
-static void f91(address a0, address a1, u64 a2, address a3, u64 a4, address a5, u64 a6) {
+static void f93(address a0, address a1, u64 a2, address a3, u64 a4, address a5, u64 a6) {
     u8 v7, v8, v9, v16, v17, v18, v20, v21, v22, v23, v25, v26, v27, v29, v30, v31;
     u8 v33, v34, v35, v36, v38, v39, v41, v42, v43, v45, v49, v50, v51, v57, v58, v61;
     u64 v10, v19, v44, v47, v48, v60, v62;
@@ -20208,9 +22069,9 @@ static void f91(address a0, address a1, u64 a2, address a3, u64 a4, address a5, 
     v14 = ADDRESS(block3);
     memory_set(v12, 0u, 440u);
     memory_set(v13, 0u, 40u);
-    f92(v12);
+    f94(v12);
     memory_cpy(v11, v12, 440u);
-    v15 = f95(a3, a4);
+    v15 = f97(a3, a4);
     v16 = v15.m0;
     v17 = v16 == 1u;
     if (v17) { goto L1; }
@@ -20245,7 +22106,7 @@ L4:;
     if (v35) { v7 = 1u; v8 = 2u; v9 = 0u; v10 = 0u; goto L12; }
     else { goto L5; }
 L5:;
-    v36 = f24(a5, 4u, (ADDRESS(c325) + 8u * 1u), 4u);
+    v36 = f21(a5, 4u, (ADDRESS(c324) + 8u * 1u), 4u);
     if (v36) { goto L6; }
     else { v7 = 1u; v8 = 2u; v9 = 0u; v10 = 0u; goto L12; }
 L6:;
@@ -20261,7 +22122,7 @@ L7:;
     if (v42) { goto L8; }
     else { v7 = 1u; v8 = 2u; v9 = 2u; v10 = 0u; goto L12; }
 L8:;
-    v43 = f97(a5, a6, v11);
+    v43 = f99(a5, a6, v11);
     if (v43) { goto L9; }
     else { v7 = 1u; v8 = 2u; v9 = 3u; v10 = 0u; goto L12; }
 L9:;
@@ -20278,7 +22139,7 @@ L10:;
     else { v7 = 1u; v8 = 2u; v9 = 5u; v10 = 0u; goto L12; }
 L11:;
     store64(v14, v19);
-    f105(v13, v14, a3, a4);
+    f107(v13, v14, a3, a4);
     v50 = load8(v13);
     v51 = v50 == 0u;
     if (v51) { goto L13; }
@@ -20294,7 +22155,7 @@ L12:;
     return;
 L13:;
     v55 = v13 + 8u * 1u;
-    v56 = f106(v11, v55);
+    v56 = f108(v11, v55);
     v57 = v56.m0;
     v58 = v57 == 0u;
     v59 = v56.m1;
@@ -20304,7 +22165,7 @@ L13:;
     v7 = v57; v8 = v61; v9 = 0u; v10 = v62; goto L12;
 }
 
-static void f92(address a0) {
+static void f94(address a0) {
     address v1, v2, v3, v4, v5, v6, v7, v8, v9, v10, v11, v12, v13, v14, v15, v16;
     address v17, v18, v19, v20, v21, v22, v23, v24, v25, v28;
     u8 v26, v27;
@@ -20361,7 +22222,7 @@ static void f92(address a0) {
     store8(v24, 1u);
     v25 = v3 + 20u * 1u;
     store32(v25, 0u);
-    f93(v2, v1, v3, 1u);
+    f95(v2, v1, v3, 1u);
     v26 = load8(v2);
     v27 = v26 == 0u;
     if (v27) { goto L1; }
@@ -20375,7 +22236,7 @@ L2:;
     UNREACHABLE;
 }
 
-static void f93(address a0, address a1, address a2, u64 a3) {
+static void f95(address a0, address a1, address a2, u64 a3) {
     u64 v4, v16, v33, v34, v35, v36, v39, v42, v43, v46, v52, v54, v71, v73;
     address v5, v6, v7, v8, v9, v10, v11, v12, v15, v17, v19, v21, v23, v25, v27, v29;
     address v31, v32, v38, v40, v41, v48, v49, v51, v53, v55, v57, v58, v59, v61, v62, v64;
@@ -20410,7 +22271,7 @@ static void f93(address a0, address a1, address a2, u64 a3) {
     memory_set(v10, 0u, 10u);
     memory_set(v11, 0u, 150u);
     memory_set(v12, 0u, 202u);
-    f94(v8, a1, a2, a3);
+    f96(v8, a1, a2, a3);
     v13 = load8(v8);
     v14 = v13 == 0u;
     if (v14) { goto L1; }
@@ -20444,7 +22305,7 @@ L1:;
     else { goto L2; }
 L2:;
     v38 = v7 + 136u * 1u;
-    f32(v7, v36);
+    f29(v7, v36);
     v39 = load64(v38);
     v4 = v39; goto L3;
 L3:;
@@ -20652,7 +22513,7 @@ L9:;
     goto L8;
 }
 
-static void f94(address a0, address a1, address a2, u64 a3) {
+static void f96(address a0, address a1, address a2, u64 a3) {
     address v4, v6, v8, v13, v14, v15, v16, v17, v18, v19, v23, v24, v25, v26, v27, v30;
     address v31, v36, v51, v52, v53, v54, v55, v56, v57, v58, v59, v60, v61, v62, v63, v64;
     address v65, v66, v67, v68, v69, v70, v71, v72, v73, v74, v75, v76, v77, v78, v79, v80;
@@ -20710,7 +22571,7 @@ L2:;
     else { goto L3; }
 L3:;
     memory_set(v17, 0u, 24u);
-    f29(v17, v26, v32);
+    f26(v17, v26, v32);
     v34 = load8(v17);
     v35 = v34 == 0u;
     if (v35) { goto L4; }
@@ -21183,14 +23044,14 @@ L36:;
     goto L10;
 }
 
-static struct s1 f95(address a0, u64 a1) {
+static struct s1 f97(address a0, u64 a1) {
     address v2, v5;
     u8 v3, v4, v6, v7;
     struct s1 v8, v9;
     u64 block0[26];
     v2 = ADDRESS(block0);
     memory_set(v2, 0u, 208u);
-    f96(v2, a0, a1);
+    f98(v2, a0, a1);
     v3 = load8(v2);
     v4 = v3 == 0u;
     v5 = v2 + 1u * 1u;
@@ -21203,7 +23064,7 @@ static struct s1 f95(address a0, u64 a1) {
     return v9;
 }
 
-static void f96(address a0, address a1, u64 a2) {
+static void f98(address a0, address a1, u64 a2) {
     u64 v3, v4, v6, v15, v17, v26, v29, v30, v38, v39, v41;
     address v5, v7, v8, v9, v10, v12, v13, v16, v18, v20, v22, v23, v24, v25, v32, v33;
     address v35, v42, v44, v45, v46, v47, v48;
@@ -21310,7 +23171,7 @@ L14:;
     goto L1;
 }
 
-static u8 f97(address a0, u64 a1, address a2) {
+static u8 f99(address a0, u64 a1, address a2) {
     u8 v3, v5, v8, v11, v13, v18, v21, v24, v29, v33, v34;
     address v4, v6, v9, v14, v15, v25, v26, v30, v31, v32;
     u64 v7, v10, v12, v16, v17, v19, v20, v22, v23, v27, v28;
@@ -21363,17 +23224,17 @@ L5:;
     store_address(v31, v26);
     v32 = v4 + 16u * 1u;
     store64(v32, v28);
-    v33 = f98(v4);
+    v33 = f100(v4);
     if (v33) { goto L6; }
     else { v3 = 0u; goto L7; }
 L6:;
-    v34 = f100(a0, a1, a2);
+    v34 = f102(a0, a1, a2);
     v3 = v34; goto L7;
 L7:;
     return v3;
 }
 
-static u8 f98(address a0) {
+static u8 f100(address a0) {
     u8 v1, v3, v6, v7, v8, v9, v10, v11, v12, v13, v14, v15, v19, v20, v40, v54;
     u8 v55, v57, v60, v61, v62, v63, v64, v65, v66, v67, v68, v69, v70, v71, v72, v73;
     u8 v74, v75, v76, v77, v81, v82, v83, v84, v85, v86, v87, v88, v89, v90, v91, v92;
@@ -21449,7 +23310,7 @@ L3:;
     v51 = v18 + 16u * 1u;
     v52 = v18 + 48u * 1u;
     v53 = v18 + 56u * 1u;
-    f99(v18, v42, v39, v17);
+    f101(v18, v42, v39, v17);
     v54 = load8(v18);
     v55 = v54 == 1u;
     if (v55) { goto L4; }
@@ -21472,7 +23333,7 @@ L5:;
     v67 = load8(v43);
     v2 = v58; v3 = 1u; v4 = v56; v5 = v59; v6 = v60; v7 = v61; v8 = v62; v9 = v63; v10 = v64; v11 = v65; v12 = v66; v13 = v67; goto L6;
 L6:;
-    f99(v18, v2, v4, v17);
+    f101(v18, v2, v4, v17);
     v68 = load8(v18);
     v69 = v68 == 1u;
     if (v69) { goto L7; }
@@ -21556,7 +23417,7 @@ L19:;
     v1 = v108; goto L1;
 }
 
-static void f99(address a0, address a1, u64 a2, address a3) {
+static void f101(address a0, address a1, u64 a2, address a3) {
     u8 v4, v12, v13, v18, v28, v31, v34, v38, v42, v45, v48, v51, v52, v54, v57, v60;
     u8 v63, v66, v70, v73, v76, v79, v82, v83, v85, v89, v92, v93, v94, v95, v96, v97;
     u8 v98, v102, v108, v109, v115, v119, v122, v126, v129, v130, v132, v134, v135, v136, v137, v141;
@@ -21982,7 +23843,7 @@ L60:;
     goto L2;
 }
 
-static u8 f100(address a0, u64 a1, address a2) {
+static u8 f102(address a0, u64 a1, address a2) {
     u8 v3, v5, v9, v11, v13, v14, v26, v27, v29, v30, v31, v33, v34, v35, v37, v38;
     u8 v39, v40, v41, v42;
     address v4, v6, v15, v16, v17, v18, v19, v20, v21, v22, v23, v24, v25, v28, v32, v36;
@@ -22046,19 +23907,19 @@ L2:;
 L3:;
     v3 = 0u; goto L1;
 L4:;
-    v40 = f24(a0, 12u, v4, 12u);
+    v40 = f21(a0, 12u, v4, 12u);
     if (v40) { goto L5; }
     else { v3 = 0u; goto L1; }
 L5:;
-    v41 = f101(a2, v6, v7);
+    v41 = f103(a2, v6, v7);
     if (v41) { goto L6; }
     else { v3 = 0u; goto L1; }
 L6:;
-    v42 = f104(a2, v6, v7);
+    v42 = f106(a2, v6, v7);
     v3 = v42; goto L1;
 }
 
-static u8 f101(address a0, address a1, u64 a2) {
+static u8 f103(address a0, address a1, u64 a2) {
     u8 v3, v6, v9, v11, v14, v17, v20, v21, v22, v25;
     address v4, v5, v7, v12, v13, v23, v24;
     u64 v8, v10, v15, v16, v18, v19;
@@ -22093,7 +23954,7 @@ L3:;
     if (v20) { v3 = 0u; goto L5; }
     else { goto L4; }
 L4:;
-    f102(v5, a1, v12, v10);
+    f104(v5, a1, v12, v10);
     v21 = load8(v5);
     v22 = v21 == 1u;
     if (v22) { goto L6; }
@@ -22104,11 +23965,11 @@ L6:;
     v23 = v13 + 1u * 1u;
     v24 = v5 + 8u * 1u;
     memory_cpy(v4, v24, 248u);
-    v25 = f103(a0, v4, v23, v19);
+    v25 = f105(a0, v4, v23, v19);
     v3 = v25; goto L5;
 }
 
-static void f102(address a0, address a1, address a2, u64 a3) {
+static void f104(address a0, address a1, address a2, u64 a3) {
     address v4, v5, v6, v8, v9, v10, v11, v13, v15, v19, v21, v23, v25, v27, v31, v36;
     address v42, v44, v46, v48, v50, v52, v54, v56, v81, v83, v85, v87, v89, v91, v93, v95;
     address v121, v123, v129, v133, v135, v141, v143, v145, v147, v160, v162, v164, v166, v168, v170, v174;
@@ -22443,7 +24304,7 @@ L3:;
     goto L1;
 }
 
-static u8 f103(address a0, address a1, address a2, u64 a3) {
+static u8 f105(address a0, address a1, address a2, u64 a3) {
     u64 v4, v6, v48, v67, v125, v147, v148, v149, v150, v151, v152, v153, v154, v155, v156, v157;
     u64 v158, v159, v160, v161, v162, v163, v164, v165, v166, v167, v168, v169, v179, v190, v300, v326;
     u64 v327, v328, v329, v332, v335, v336, v339, v346, v348, v357, v370, v372;
@@ -22882,7 +24743,7 @@ L5:;
     v295 = v57 + 192u * 1u;
     store64(v295, v6);
     memory_set(v53, 0u, 208u);
-    f94(v53, a1, v57, v6);
+    f96(v53, a1, v57, v6);
     v296 = load8(v53);
     v297 = v296 == 0u;
     if (v297) { goto L6; }
@@ -22937,7 +24798,7 @@ L6:;
     else { goto L7; }
 L7:;
     v331 = v52 + 136u * 1u;
-    f32(v52, v329);
+    f29(v52, v329);
     v332 = load64(v331);
     v48 = v332; goto L8;
 L8:;
@@ -23109,7 +24970,7 @@ L14:;
     return v49;
 }
 
-static u8 f104(address a0, address a1, u64 a2) {
+static u8 f106(address a0, address a1, u64 a2) {
     u8 v3, v5, v8, v12, v14, v16, v17, v23, v27, v28, v29, v30, v31, v35, v36, v37;
     u8 v41, v42, v43, v44, v45, v46, v47, v48, v51, v52, v55, v56, v59, v60, v64, v65;
     u8 v66, v70, v71, v72, v73, v77, v78, v79, v80, v84, v85, v86, v87, v88, v89, v90;
@@ -23129,7 +24990,7 @@ static u8 f104(address a0, address a1, u64 a2) {
     v19 = ADDRESS(block1);
     v20 = ADDRESS(block2);
     memory_set(v19, 0u, 336u);
-    f63(v19, a0);
+    f43(v19, a0);
     memory_cpy(v20, v19, 336u);
     v21 = v20 + 328u * 1u;
     v22 = load64(v21);
@@ -23230,7 +25091,7 @@ L6:;
     if (v96) { goto L7; }
     else { goto L8; }
 L7:;
-    v97 = f23(v18, v22);
+    v97 = f20(v18, v22);
     v16 = v97; goto L26;
 L8:;
     v98 = v22 < 65u;
@@ -23346,7 +25207,7 @@ L27:;
     return v17;
 }
 
-static void f105(address a0, address a1, address a2, u64 a3) {
+static void f107(address a0, address a1, address a2, u64 a3) {
     u64 v4, v6, v8, v10, v17, v20, v23, v25, v27, v31, v38;
     u8 v5, v13, v14, v18, v19, v24, v30, v39;
     address v7, v9, v11, v12, v15, v16, v26, v28, v29, v32, v33, v34, v35, v36, v37, v40;
@@ -23360,7 +25221,7 @@ static void f105(address a0, address a1, address a2, u64 a3) {
     v11 = ADDRESS(block1);
     v12 = ADDRESS(block2);
     memory_set(v12, 0u, 208u);
-    f96(v12, a2, a3);
+    f98(v12, a2, a3);
     v13 = load8(v12);
     v14 = v13 == 0u;
     if (v14) { goto L1; }
@@ -23427,7 +25288,7 @@ L7:;
     UNREACHABLE;
 }
 
-static struct s5 f106(address a0, address a1) {
+static struct s5 f108(address a0, address a1) {
     u8 v2, v17, v25;
     address v3, v4, v5, v7, v8, v9, v11, v13, v14, v19, v20, v21, v22, v23, v24;
     u64 v6, v10, v12, v16, v18;
@@ -23445,7 +25306,7 @@ static struct s5 f106(address a0, address a1) {
     v11 = a1 + 24u * 1u;
     v12 = load64(v11);
     memory_set(v5, 0u, 440u);
-    f47(v5, a0);
+    f44(v5, a0);
     v13 = load_address(v5);
     v14 = v5 + 8u * 1u;
     memory_cpy(v4, v14, 432u);
@@ -23484,7 +25345,7 @@ L4:;
     return v27;
 }
 
-static u8 f107(address a0, u64 a1, address a2) {
+static u8 f109(address a0, u64 a1, address a2) {
     address v3, v7, v12, v13, v23, v24, v25, v29, v30, v31;
     u8 v4, v6, v9, v11, v16, v19, v22, v28, v32;
     u64 v5, v8, v10, v14, v15, v17, v18, v20, v21, v26, v27;
@@ -23537,14 +25398,14 @@ L5:;
     store_address(v30, v25);
     v31 = v3 + 16u * 1u;
     store64(v31, v27);
-    v32 = f108(v3, a2);
+    v32 = f110(v3, a2);
     return v32;
 L6:;
     TRAP;
     UNREACHABLE;
 }
 
-static u8 f108(address a0, address a1) {
+static u8 f110(address a0, address a1) {
     address v2, v6, v10, v11, v12, v13, v14, v15, v16, v17, v18, v19, v20, v21, v22, v23;
     address v24, v25, v26, v27, v28, v29, v32, v34, v35, v36, v37, v38, v39, v40, v41, v42;
     address v43, v46, v50, v53, v55, v58;
@@ -23613,7 +25474,7 @@ L1:;
     v43 = v11 + 16u * 1u;
     v2 = v35; v3 = v33; v4 = 0u; v5 = 0u; goto L2;
 L2:;
-    f99(v12, v2, v3, v10);
+    f101(v12, v2, v3, v10);
     v44 = load8(v12);
     v45 = v44 == 1u;
     if (v45) { goto L3; }
@@ -23651,7 +25512,7 @@ L7:;
     else { v6 = v53; v7 = v54; goto L5; }
 L8:;
     v62 = load16(v42);
-    f58(a1, v36, v62, v43, v10);
+    f59(a1, v36, v62, v43, v10);
     v8 = 0u; goto L9;
 L9:;
     v63 = (u8)((u32)v8 + (u32)v4);
@@ -23666,7 +25527,7 @@ L11:;
     return v9;
 }
 
-static u8 f109(address a0) {
+static u8 f111(address a0) {
     u8 v1, v5, v10, v14, v15, v21, v26;
     struct pair v2, v19, v23, v24;
     address v3, v6, v16, v28;
@@ -23719,7 +25580,7 @@ L6:;
     v1 = 1u; goto L1;
 }
 
-static u32 f110(address a0, address a1) {
+static u32 f112(address a0, address a1) {
     u64 v2, v10, v12, v16, v18, v22, v24, v28, v30, v32, v34, v36, v38, v56, v58, v67;
     u64 v72, v76, v82;
     u32 v3;
@@ -23833,7 +25694,7 @@ L4:;
     memory_set(v69, 0u, 7u);
     v3 = 0u; goto L18;
 L5:;
-    f15(v39);
+    f13(v39);
     v3 = 35u; goto L18;
 L6:;
     v70 = v12 == 0u;
@@ -23892,649 +25753,665 @@ L18:;
     return v3;
 }
 
-static void f111(address a0, address a1, address a2, address a3, u64 a4) {
-    u64 v5, v6, v7, v9, v18, v21, v24, v26, v42, v43, v51, v65, v67, v68, v69, v74;
-    u64 v75, v95, v99, v129, v133, v146, v147, v149, v150, v281, v283, v284, v286, v288, v295, v311;
-    u64 v321, v323, v327, v347, v352, v361, v366, v367, v368, v369, v370, v371, v372, v373, v374, v375;
-    u64 v376, v377, v385, v387, v390, v392, v413, v426, v428, v430, v431;
-    u16 v8, v13, v88, v92, v107, v121, v131, v138, v139, v152, v153, v155, v156, v163, v164, v168;
-    u16 v170, v171, v289, v294, v332, v365, v380, v382, v395, v396;
-    u8 v10, v11, v12, v14, v15, v16, v17, v19, v20, v22, v23, v25, v27, v28, v29, v30;
-    u8 v31, v44, v49, v54, v55, v56, v57, v59, v60, v61, v62, v64, v66, v76, v78, v80;
-    u8 v82, v84, v86, v90, v94, v97, v101, v103, v105, v109, v113, v114, v116, v117, v119, v123;
-    u8 v125, v127, v134, v137, v140, v141, v142, v143, v144, v145, v148, v151, v154, v157, v158, v159;
-    u8 v160, v161, v162, v166, v169, v173, v175, v176, v177, v178, v179, v180, v182, v184, v185, v186;
-    u8 v187, v188, v189, v191, v193, v194, v195, v196, v197, v198, v200, v202, v203, v204, v205, v206;
-    u8 v207, v209, v211, v212, v213, v214, v215, v216, v218, v220, v221, v222, v223, v224, v225, v227;
-    u8 v229, v230, v231, v232, v285, v287, v290, v291, v292, v293, v297, v298, v300, v301, v303, v304;
-    u8 v305, v306, v307, v308, v309, v310, v314, v315, v317, v318, v319, v320, v322, v324, v329, v330;
-    u8 v334, v336, v338, v339, v340, v341, v342, v343, v344, v345, v346, v348, v349, v350, v354, v355;
-    u8 v357, v358, v359, v362, v363, v364, v379, v381, v383, v386, v388, v391, v398, v399, v401, v402;
-    u8 v404, v405, v407, v408, v410, v411, v416, v417, v418, v420, v421, v422, v424, v429, v432;
-    address v32, v33, v34, v35, v36, v37, v38, v39, v40, v41, v45, v46, v47, v48, v50, v52;
-    address v53, v58, v63, v70, v71, v72, v73, v77, v79, v81, v83, v85, v87, v89, v91, v93;
-    address v96, v98, v100, v102, v104, v106, v108, v110, v112, v115, v118, v120, v122, v124, v126, v128;
-    address v130, v132, v165, v167, v172, v174, v181, v183, v190, v192, v199, v201, v208, v210, v217, v219;
-    address v226, v228, v233, v234, v235, v236, v237, v238, v239, v240, v241, v242, v243, v244, v245, v246;
-    address v247, v248, v249, v250, v251, v252, v253, v254, v255, v256, v257, v258, v259, v260, v261, v262;
-    address v263, v264, v265, v266, v267, v268, v269, v270, v271, v272, v273, v274, v275, v276, v277, v278;
-    address v279, v280, v282, v296, v299, v302, v312, v313, v316, v325, v326, v328, v331, v333, v335, v337;
-    address v351, v353, v356, v360, v378, v384, v389, v393, v394, v397, v400, v403, v406, v409, v412, v414;
-    address v415, v419, v423, v425, v427, v433, v434, v435, v436, v437, v438, v439, v440;
-    u32 v111, v135, v136;
-    u64 block0[2];
-    u64 block1[5];
-    u64 block2[5];
-    u64 block3[3];
-    u64 block4[25];
-    u64 block5[3];
-    u64 block6[25];
-    u64 block7[25];
-    u64 block8[14];
-    v32 = ADDRESS(block0);
-    v33 = ADDRESS(block1);
-    v34 = ADDRESS(block2);
-    v35 = ADDRESS(block3);
-    v36 = ADDRESS(block4);
-    v37 = ADDRESS(block5);
-    v38 = ADDRESS(block6);
-    v39 = ADDRESS(block7);
-    v40 = ADDRESS(block8);
-    memory_set(v37, 0u, 20u);
-    v41 = a1 + 432u * 1u;
-    v42 = load64(v41);
-    v43 = (u64)((u64)v42 & (u64)65535u);
-    v44 = a4 > v43;
-    if (v44) { goto L2; }
-    else { goto L3; }
+static void f113(address a0, address a1) {
+    u64 v2, v4, v30, v34, v64, v68, v81, v82, v84, v85;
+    u16 v3, v8, v23, v27, v42, v56, v66, v73, v74, v87, v88, v90, v91, v98, v99, v103;
+    u16 v105, v106;
+    u8 v5, v6, v7, v9, v10, v11, v13, v15, v17, v19, v21, v25, v29, v32, v36, v38;
+    u8 v40, v44, v48, v49, v51, v52, v54, v58, v60, v62, v69, v72, v75, v76, v77, v78;
+    u8 v79, v80, v83, v86, v89, v92, v93, v94, v95, v96, v97, v101, v104, v108, v110, v111;
+    u8 v112, v113, v114, v115, v117, v119, v120, v121, v122, v123, v124, v126, v128, v129, v130, v131;
+    u8 v132, v133, v135, v137, v138, v139, v140, v141, v142, v144, v146, v147, v148, v149, v150, v151;
+    u8 v153, v155, v156, v157, v158, v159, v160, v162, v164, v165, v166, v167;
+    address v12, v14, v16, v18, v20, v22, v24, v26, v28, v31, v33, v35, v37, v39, v41, v43;
+    address v45, v47, v50, v53, v55, v57, v59, v61, v63, v65, v67, v100, v102, v107, v109, v116;
+    address v118, v125, v127, v134, v136, v143, v145, v152, v154, v161, v163, v168, v169, v170, v171, v172;
+    address v173, v174, v175, v176, v177, v178, v179, v180, v181, v182, v183, v184, v185, v186, v187, v188;
+    address v189, v190, v191, v192, v193, v194, v195, v196, v197, v198, v199, v200, v201, v202, v203, v204;
+    address v205, v206, v207, v208, v209, v210, v211, v212, v213, v214;
+    u32 v46, v70, v71;
+    v12 = a1 + 62u * 1u;
+    v13 = load8(v12);
+    v14 = a1 + 48u * 1u;
+    v15 = load8(v14);
+    v16 = a1 + 63u * 1u;
+    v17 = load8(v16);
+    v18 = a1 + 49u * 1u;
+    v19 = load8(v18);
+    v20 = a1 + 64u * 1u;
+    v21 = load8(v20);
+    v22 = a1 + 20u * 1u;
+    v23 = load16(v22);
+    v24 = a1 + 65u * 1u;
+    v25 = load8(v24);
+    v26 = a1 + 22u * 1u;
+    v27 = load16(v26);
+    v28 = a1 + 66u * 1u;
+    v29 = load8(v28);
+    v30 = load64(a1);
+    v31 = a1 + 67u * 1u;
+    v32 = load8(v31);
+    v33 = a1 + 8u * 1u;
+    v34 = load64(v33);
+    v35 = a1 + 68u * 1u;
+    v36 = load8(v35);
+    v37 = a1 + 50u * 1u;
+    v38 = load8(v37);
+    v39 = a1 + 69u * 1u;
+    v40 = load8(v39);
+    v41 = a1 + 24u * 1u;
+    v42 = load16(v41);
+    v43 = a1 + 70u * 1u;
+    v44 = load8(v43);
+    v45 = a1 + 16u * 1u;
+    v46 = load32(v45);
+    v47 = a1 + 71u * 1u;
+    v48 = load8(v47);
+    v49 = v48 == 0u;
+    if (v49) { goto L1; }
+    else { v2 = 0u; v3 = 0u; v4 = 0u; v5 = 0u; v6 = 0u; v7 = 0u; v8 = 0u; v9 = 0u; v10 = 1u; v11 = 0u; goto L3; }
 L1:;
-    return;
+    v50 = a1 + 72u * 1u;
+    v51 = load8(v50);
+    v52 = v51 == 0u;
+    if (v52) { v2 = 0u; v3 = 0u; v4 = 0u; v5 = 0u; v6 = 0u; v7 = 0u; v8 = 0u; v9 = 0u; v10 = 0u; v11 = 0u; goto L3; }
+    else { goto L2; }
 L2:;
-    store8(a0, 1u);
-    v45 = a0 + 1u * 1u;
-    store8(v45, 0u);
-    v46 = a0 + 2u * 1u;
-    store8(v46, 0u);
-    v47 = a0 + 3u * 1u;
-    store8(v47, 0u);
-    v48 = a0 + 8u * 1u;
-    memory_set(v48, 0u, 16u);
-    goto L1;
-L3:;
-    memory_set(v36, 0u, 200u);
-    v49 = a4 == 0u;
-    if (v49) { goto L6; }
-    else { goto L4; }
-L4:;
-    v50 = v36 + 192u * 1u;
-    v5 = 0u; v6 = 0u; goto L5;
-L5:;
-    v51 = (u64)((u64)v6 << (4u & 63u));
-    v52 = a3 + v51 * 1u;
-    v53 = v52 + 8u * 1u;
+    v53 = a1 + 54u * 1u;
     v54 = load8(v53);
-    v55 = (u8)((u32)v54 + (u32)255u);
-    v56 = v55 < 9u;
-    v57 = v56 ? v55 : 2u;
-    v58 = v52 + 9u * 1u;
-    v59 = load8(v58);
-    v60 = v59 != 0u;
-    v61 = (u8)v60;
-    v62 = v60 ? v57 : 0u;
-    v63 = v52 + 10u * 1u;
-    v64 = load8(v63);
-    v65 = load64(v52);
-    v66 = v64 != 0u;
-    v67 = v66 ? v65 : 0u;
-    v68 = (u64)v66;
-    v69 = (u64)((u64)v5 * (u64)24u);
-    v70 = v36 + v69 * 1u;
-    v71 = v70 + 1u * 1u;
-    v72 = v70 + 8u * 1u;
-    v73 = v70 + 16u * 1u;
-    store8(v70, v61);
-    store8(v71, v62);
-    store64(v72, v68);
-    store64(v73, v67);
-    v74 = (u64)((u64)v5 + (u64)1u);
-    store64(v50, v74);
-    v75 = (u64)((u64)v6 + (u64)1u);
-    v76 = v75 == a4;
-    if (v76) { goto L6; }
-    else { v5 = v74; v6 = v75; goto L5; }
-L6:;
-    memory_cpy(v39, v36, 200u);
-    memory_cpy(v38, v39, 200u);
-    v77 = a2 + 62u * 1u;
-    v78 = load8(v77);
-    v79 = a2 + 48u * 1u;
-    v80 = load8(v79);
-    v81 = a2 + 63u * 1u;
-    v82 = load8(v81);
-    v83 = a2 + 49u * 1u;
-    v84 = load8(v83);
-    v85 = a2 + 64u * 1u;
-    v86 = load8(v85);
-    v87 = a2 + 20u * 1u;
-    v88 = load16(v87);
-    v89 = a2 + 65u * 1u;
-    v90 = load8(v89);
-    v91 = a2 + 22u * 1u;
-    v92 = load16(v91);
-    v93 = a2 + 66u * 1u;
-    v94 = load8(v93);
-    v95 = load64(a2);
-    v96 = a2 + 67u * 1u;
-    v97 = load8(v96);
-    v98 = a2 + 8u * 1u;
-    v99 = load64(v98);
-    v100 = a2 + 68u * 1u;
+    v55 = a1 + 26u * 1u;
+    v56 = load16(v55);
+    v57 = a1 + 53u * 1u;
+    v58 = load8(v57);
+    v59 = a1 + 52u * 1u;
+    v60 = load8(v59);
+    v61 = a1 + 51u * 1u;
+    v62 = load8(v61);
+    v63 = a1 + 40u * 1u;
+    v64 = load64(v63);
+    v65 = a1 + 28u * 1u;
+    v66 = load16(v65);
+    v67 = a1 + 32u * 1u;
+    v68 = load64(v67);
+    v2 = v68; v3 = v66; v4 = v64; v5 = v62; v6 = v60; v7 = v58; v8 = v56; v9 = v54; v10 = 1u; v11 = 1u; goto L3;
+L3:;
+    v69 = v44 != 0u;
+    v70 = (u32)v69;
+    v71 = v69 ? v46 : 0u;
+    v72 = v40 != 0u;
+    v73 = (u16)v72;
+    v74 = v72 ? v42 : 0u;
+    v75 = v36 != 0u;
+    v76 = v38 != 0u;
+    v77 = (u8)(((u32)v75 & (u32)v76) & UINT64_C(1));
+    v78 = (u8)v77;
+    v79 = (u8)v75;
+    v80 = v32 != 0u;
+    v81 = (u64)v80;
+    v82 = v80 ? v34 : 0u;
+    v83 = v29 != 0u;
+    v84 = (u64)v83;
+    v85 = v83 ? v30 : 0u;
+    v86 = v25 != 0u;
+    v87 = (u16)v86;
+    v88 = v86 ? v27 : 0u;
+    v89 = v21 != 0u;
+    v90 = (u16)v89;
+    v91 = v89 ? v23 : 0u;
+    v92 = v17 != 0u;
+    v93 = v92 ? v19 : 0u;
+    v94 = (u8)v92;
+    v95 = v13 != 0u;
+    v96 = v95 ? v15 : 0u;
+    v97 = (u8)v95;
+    v98 = (u16)v10;
+    v99 = (u16)v11;
+    v100 = a1 + 73u * 1u;
     v101 = load8(v100);
-    v102 = a2 + 50u * 1u;
-    v103 = load8(v102);
-    v104 = a2 + 69u * 1u;
-    v105 = load8(v104);
-    v106 = a2 + 24u * 1u;
-    v107 = load16(v106);
-    v108 = a2 + 70u * 1u;
-    v109 = load8(v108);
-    v110 = a2 + 16u * 1u;
-    v111 = load32(v110);
-    v112 = a2 + 71u * 1u;
-    v113 = load8(v112);
-    v114 = v113 == 0u;
-    if (v114) { goto L7; }
-    else { v7 = 0u; v8 = 0u; v9 = 0u; v10 = 0u; v11 = 0u; v12 = 0u; v13 = 0u; v14 = 0u; v15 = 1u; v16 = 0u; goto L9; }
-L7:;
-    v115 = a2 + 72u * 1u;
-    v116 = load8(v115);
-    v117 = v116 == 0u;
-    if (v117) { v7 = 0u; v8 = 0u; v9 = 0u; v10 = 0u; v11 = 0u; v12 = 0u; v13 = 0u; v14 = 0u; v15 = 0u; v16 = 0u; goto L9; }
-    else { goto L8; }
-L8:;
-    v118 = a2 + 54u * 1u;
+    v102 = a1 + 30u * 1u;
+    v103 = load16(v102);
+    v104 = v101 != 0u;
+    v105 = v104 ? v103 : 0u;
+    v106 = (u16)v104;
+    v107 = a1 + 74u * 1u;
+    v108 = load8(v107);
+    v109 = a1 + 55u * 1u;
+    v110 = load8(v109);
+    v111 = v110 != 0u;
+    v112 = v108 != 0u;
+    v113 = (u8)v112;
+    v114 = (u8)(((u32)v112 & (u32)v111) & UINT64_C(1));
+    v115 = (u8)v114;
+    v116 = a1 + 75u * 1u;
+    v117 = load8(v116);
+    v118 = a1 + 56u * 1u;
     v119 = load8(v118);
-    v120 = a2 + 26u * 1u;
-    v121 = load16(v120);
-    v122 = a2 + 53u * 1u;
-    v123 = load8(v122);
-    v124 = a2 + 52u * 1u;
-    v125 = load8(v124);
-    v126 = a2 + 51u * 1u;
-    v127 = load8(v126);
-    v128 = a2 + 40u * 1u;
-    v129 = load64(v128);
-    v130 = a2 + 28u * 1u;
-    v131 = load16(v130);
-    v132 = a2 + 32u * 1u;
-    v133 = load64(v132);
-    v7 = v133; v8 = v131; v9 = v129; v10 = v127; v11 = v125; v12 = v123; v13 = v121; v14 = v119; v15 = 1u; v16 = 1u; goto L9;
-L9:;
-    v134 = v109 != 0u;
-    v135 = (u32)v134;
-    v136 = v134 ? v111 : 0u;
-    v137 = v105 != 0u;
-    v138 = (u16)v137;
-    v139 = v137 ? v107 : 0u;
-    v140 = v101 != 0u;
-    v141 = v103 != 0u;
-    v142 = (u8)(((u32)v140 & (u32)v141) & UINT64_C(1));
-    v143 = (u8)v142;
-    v144 = (u8)v140;
-    v145 = v97 != 0u;
-    v146 = (u64)v145;
-    v147 = v145 ? v99 : 0u;
-    v148 = v94 != 0u;
-    v149 = (u64)v148;
-    v150 = v148 ? v95 : 0u;
-    v151 = v90 != 0u;
-    v152 = (u16)v151;
-    v153 = v151 ? v92 : 0u;
-    v154 = v86 != 0u;
-    v155 = (u16)v154;
-    v156 = v154 ? v88 : 0u;
-    v157 = v82 != 0u;
-    v158 = v157 ? v84 : 0u;
-    v159 = (u8)v157;
-    v160 = v78 != 0u;
-    v161 = v160 ? v80 : 0u;
-    v162 = (u8)v160;
-    v163 = (u16)v15;
-    v164 = (u16)v16;
-    v165 = a2 + 73u * 1u;
-    v166 = load8(v165);
-    v167 = a2 + 30u * 1u;
-    v168 = load16(v167);
-    v169 = v166 != 0u;
-    v170 = v169 ? v168 : 0u;
-    v171 = (u16)v169;
-    v172 = a2 + 74u * 1u;
-    v173 = load8(v172);
-    v174 = a2 + 55u * 1u;
-    v175 = load8(v174);
-    v176 = v175 != 0u;
-    v177 = v173 != 0u;
-    v178 = (u8)v177;
-    v179 = (u8)(((u32)v177 & (u32)v176) & UINT64_C(1));
-    v180 = (u8)v179;
-    v181 = a2 + 75u * 1u;
-    v182 = load8(v181);
-    v183 = a2 + 56u * 1u;
-    v184 = load8(v183);
-    v185 = v184 != 0u;
-    v186 = v182 != 0u;
-    v187 = (u8)v186;
-    v188 = (u8)(((u32)v186 & (u32)v185) & UINT64_C(1));
-    v189 = (u8)v188;
-    v190 = a2 + 76u * 1u;
-    v191 = load8(v190);
-    v192 = a2 + 57u * 1u;
-    v193 = load8(v192);
-    v194 = v193 != 0u;
-    v195 = v191 != 0u;
-    v196 = (u8)v195;
-    v197 = (u8)(((u32)v195 & (u32)v194) & UINT64_C(1));
-    v198 = (u8)v197;
-    v199 = a2 + 77u * 1u;
-    v200 = load8(v199);
-    v201 = a2 + 58u * 1u;
-    v202 = load8(v201);
-    v203 = v202 != 0u;
-    v204 = v200 != 0u;
-    v205 = (u8)v204;
-    v206 = (u8)(((u32)v204 & (u32)v203) & UINT64_C(1));
-    v207 = (u8)v206;
-    v208 = a2 + 78u * 1u;
-    v209 = load8(v208);
-    v210 = a2 + 59u * 1u;
-    v211 = load8(v210);
-    v212 = v211 != 0u;
-    v213 = v209 != 0u;
-    v214 = (u8)v213;
-    v215 = (u8)(((u32)v213 & (u32)v212) & UINT64_C(1));
-    v216 = (u8)v215;
-    v217 = a2 + 79u * 1u;
-    v218 = load8(v217);
-    v219 = a2 + 60u * 1u;
-    v220 = load8(v219);
-    v221 = v220 != 0u;
-    v222 = v218 != 0u;
-    v223 = (u8)v222;
-    v224 = (u8)(((u32)v222 & (u32)v221) & UINT64_C(1));
-    v225 = (u8)v224;
-    v226 = a2 + 80u * 1u;
-    v227 = load8(v226);
-    v228 = a2 + 61u * 1u;
-    v229 = load8(v228);
-    v230 = v227 != 0u;
-    v231 = (u8)v230;
-    v232 = v230 ? v229 : 0u;
-    store8(v40, v162);
-    v233 = v40 + 1u * 1u;
-    store8(v233, v161);
-    v234 = v40 + 2u * 1u;
-    store8(v234, v159);
-    v235 = v40 + 3u * 1u;
-    store8(v235, v158);
-    v236 = v40 + 4u * 1u;
-    store16(v236, v155);
-    v237 = v40 + 6u * 1u;
-    store16(v237, v156);
-    v238 = v40 + 8u * 1u;
-    store16(v238, v152);
-    v239 = v40 + 10u * 1u;
-    store16(v239, v153);
-    v240 = v40 + 12u * 1u;
-    store32(v240, 0u);
-    v241 = v40 + 16u * 1u;
-    store64(v241, v149);
-    v242 = v40 + 24u * 1u;
-    store64(v242, v150);
-    v243 = v40 + 32u * 1u;
-    store64(v243, v146);
-    v244 = v40 + 40u * 1u;
-    store64(v244, v147);
-    v245 = v40 + 48u * 1u;
-    store8(v245, v144);
-    v246 = v40 + 49u * 1u;
-    store8(v246, v143);
-    v247 = v40 + 50u * 1u;
-    store16(v247, v138);
-    v248 = v40 + 52u * 1u;
-    store16(v248, v139);
-    v249 = v40 + 54u * 1u;
-    store16(v249, 0u);
-    v250 = v40 + 56u * 1u;
-    store32(v250, v135);
-    v251 = v40 + 60u * 1u;
-    store32(v251, v136);
-    v252 = v40 + 64u * 1u;
-    store16(v252, v163);
-    v253 = v40 + 66u * 1u;
-    store16(v253, v164);
-    v254 = v40 + 68u * 1u;
-    store64(v254, v7);
-    v255 = v40 + 76u * 1u;
-    store16(v255, v8);
-    v256 = v40 + 78u * 1u;
-    store64(v256, v9);
-    v257 = v40 + 86u * 1u;
-    store8(v257, v10);
-    v258 = v40 + 87u * 1u;
-    store8(v258, v11);
-    v259 = v40 + 88u * 1u;
-    store8(v259, v12);
-    v260 = v40 + 89u * 1u;
-    store8(v260, 0u);
-    v261 = v40 + 90u * 1u;
-    store16(v261, v13);
-    v262 = v40 + 92u * 1u;
-    store8(v262, v14);
-    v263 = v40 + 93u * 1u;
-    store8(v263, 0u);
-    v264 = v40 + 94u * 1u;
-    store16(v264, v171);
-    v265 = v40 + 96u * 1u;
-    store16(v265, v170);
-    v266 = v40 + 98u * 1u;
-    store8(v266, v178);
-    v267 = v40 + 99u * 1u;
-    store8(v267, v180);
-    v268 = v40 + 100u * 1u;
-    store8(v268, v187);
-    v269 = v40 + 101u * 1u;
-    store8(v269, v189);
-    v270 = v40 + 102u * 1u;
-    store8(v270, v196);
-    v271 = v40 + 103u * 1u;
-    store8(v271, v198);
-    v272 = v40 + 104u * 1u;
-    store8(v272, v205);
-    v273 = v40 + 105u * 1u;
-    store8(v273, v207);
-    v274 = v40 + 106u * 1u;
-    store8(v274, v214);
-    v275 = v40 + 107u * 1u;
-    store8(v275, v216);
-    v276 = v40 + 108u * 1u;
-    store8(v276, v223);
-    v277 = v40 + 109u * 1u;
-    store8(v277, v225);
-    v278 = v40 + 110u * 1u;
-    store8(v278, v231);
-    v279 = v40 + 111u * 1u;
-    store8(v279, v232);
-    v280 = v38 + 192u * 1u;
-    v281 = load64(v280);
-    memory_set(v35, 0u, 20u);
-    v282 = a1 + 10u * 1u;
-    v283 = load64(v282);
-    v284 = (u64)((u64)v283 >> (8u & 63u));
-    v285 = (u8)(v284);
-    v286 = (u64)((u64)v283 >> (16u & 63u));
-    v287 = (u8)(v286);
-    v288 = (u64)((u64)v283 >> (32u & 63u));
-    v289 = (u16)(v288);
-    v290 = v160 ? v80 : v285;
-    v291 = v157 ? v84 : v287;
-    v292 = load8(v236);
-    v293 = v292 == 1u;
-    v294 = v293 ? v156 : v289;
-    v295 = load64(a1);
-    v296 = a1 + 230u * 1u;
-    v297 = load8(v296);
-    v298 = v177 ? v180 : v297;
-    v299 = a1 + 231u * 1u;
-    v300 = load8(v299);
-    v301 = v186 ? v189 : v300;
-    v302 = a1 + 240u * 1u;
-    v303 = v42 < v281;
-    if (v303) { v22 = 0u; v23 = 0u; goto L24; }
-    else { goto L10; }
-L10:;
-    v304 = (u8)((u32)v291 + (u32)233u);
-    v305 = v304 < 27u;
-    v306 = v291 == 254u;
-    v307 = (u8)(((u32)v306 | (u32)v305) & UINT64_C(1));
-    if (v307) { goto L11; }
-    else { v22 = 6u; v23 = 1u; goto L24; }
-L11:;
-    v308 = (u8)((u32)v301 & (u32)v298);
-    v309 = v308 == 0u;
-    if (v309) { goto L12; }
-    else { v22 = 24u; v23 = 1u; goto L24; }
-L12:;
-    v310 = v281 == 0u;
-    if (v310) { goto L21; }
-    else { v17 = 0u; v18 = 0u; goto L13; }
-L13:;
-    if (v17) { goto L18; }
-    else { goto L14; }
-L14:;
-    v311 = (u64)((u64)v18 * (u64)24u);
-    v312 = v38 + v311 * 1u;
-    v313 = v302 + v311 * 1u;
-    v314 = load8(v312);
-    v315 = v314 == 1u;
-    if (v315) { goto L15; }
-    else { v19 = 0u; goto L17; }
-L15:;
-    v316 = v312 + 1u * 1u;
-    v317 = load8(v316);
-    v318 = v317 == 2u;
-    if (v318) { goto L16; }
-    else { v19 = 0u; goto L17; }
-L16:;
-    v319 = load8(v313);
-    v320 = v319 != 2u;
-    v19 = v320; goto L17;
-L17:;
-    v321 = (u64)((u64)v18 + (u64)1u);
-    v322 = v321 == v281;
-    if (v322) { goto L20; }
-    else { v20 = v19; v21 = v321; goto L19; }
-L18:;
-    v323 = (u64)((u64)v18 + (u64)1u);
-    v324 = v323 == v281;
-    if (v324) { v22 = 30u; v23 = 1u; goto L24; }
-    else { v20 = 1u; v21 = v323; goto L19; }
-L19:;
-    v17 = v20; v18 = v21; goto L13;
-L20:;
-    if (v19) { v22 = 30u; v23 = 1u; goto L24; }
-    else { goto L21; }
-L21:;
-    v325 = a1 + 192u * 1u;
-    f112(v33, v40, a1, v325);
-    v326 = v33 + 20u * 1u;
-    v327 = load64(v326);
-    v328 = v33 + 34u * 1u;
-    v329 = load8(v328);
-    v330 = v327 == v295;
-    if (v330) { goto L23; }
-    else { goto L22; }
-L22:;
-    goto L26;
-L23:;
-    v331 = v33 + 32u * 1u;
-    v332 = load16(v331);
-    v333 = v33 + 30u * 1u;
-    v334 = load8(v333);
-    v335 = v33 + 29u * 1u;
-    v336 = load8(v335);
-    v337 = v33 + 28u * 1u;
-    v338 = load8(v337);
-    v339 = (u8)(v283);
-    v340 = v338 == v339;
-    v341 = v336 == v290;
-    v342 = v340 ? v341 : 0u;
-    v343 = v334 == v291;
-    v344 = v342 ? v343 : 0u;
-    v345 = v332 == v294;
-    v346 = v344 ? v345 : 0u;
-    if (v346) { goto L25; }
-    else { v22 = 0u; v23 = 2u; goto L24; }
-L24:;
-    v27 = v23; v28 = v22; goto L36;
-L25:;
-    v347 = (u64)((u64)v283 >> (48u & 63u));
-    v348 = (u8)(v347);
-    v349 = v329 != v348;
-    v350 = v349;
-    if (v350) { v27 = 2u; v28 = 0u; goto L36; }
-    else { goto L26; }
-L26:;
-    memory_set(v32, 0u, 16u);
-    if (v310) { goto L31; }
-    else { goto L27; }
-L27:;
-    v351 = v32 + 8u * 1u;
-    v24 = 0u; goto L28;
-L28:;
-    v352 = (u64)((u64)v24 * (u64)24u);
-    v353 = v38 + v352 * 1u;
-    v354 = load8(v353);
-    v355 = v354 == 1u;
-    if (v355) { goto L29; }
-    else { v25 = 0u; goto L30; }
-L29:;
-    v356 = v302 + v352 * 1u;
-    v357 = load8(v356);
-    v358 = v357 == 2u;
-    v25 = v358; goto L30;
-L30:;
-    v359 = (u8)v25;
-    v360 = v32 + v24 * 1u;
-    store8(v360, v359);
-    v361 = (u64)((u64)v24 + (u64)1u);
-    store64(v351, v361);
-    v362 = v361 == v281;
-    if (v362) { goto L31; }
-    else { v24 = v361; goto L28; }
-L31:;
-    f112(v34, v40, a1, v325);
-    memory_cpy(v325, v34, 36u);
-    v363 = v160 ? v80 : v285;
-    v364 = v157 ? v84 : v287;
-    v365 = v293 ? v156 : v289;
-    v366 = (u64)((u64)v283 & (u64)UINT64_C(71776119061217280));
-    v367 = (u64)v365;
-    v368 = (u64)((u64)v367 << (32u & 63u));
-    v369 = (u64)((u64)v368 | (u64)v366);
-    v370 = (u64)v364;
-    v371 = (u64)((u64)v370 << (16u & 63u));
-    v372 = (u64)((u64)v369 | (u64)v371);
-    v373 = (u64)v363;
-    v374 = (u64)((u64)v373 << (8u & 63u));
-    v375 = (u64)((u64)v372 | (u64)v374);
-    v376 = (u64)((u64)v283 & (u64)255u);
-    v377 = (u64)((u64)v375 | (u64)v376);
-    store64(v282, v377);
-    v378 = a1 + 168u * 1u;
-    v379 = load8(v238);
-    v380 = load16(v378);
-    v381 = v379 == 1u;
-    v382 = v381 ? v153 : v380;
-    v383 = load8(v241);
-    v384 = a1 + 176u * 1u;
-    v385 = load64(v384);
-    v386 = v383 == 1u;
-    v387 = v386 ? v150 : v385;
-    v388 = load8(v243);
-    v389 = a1 + 184u * 1u;
-    v390 = load64(v389);
-    v391 = v388 == 1u;
-    v392 = v391 ? v147 : v390;
-    store16(v378, v382);
-    v393 = a1 + 170u * 1u;
-    memory_set(v393, 0u, 6u);
-    store64(v384, v387);
-    store64(v389, v392);
-    v394 = a1 + 228u * 1u;
-    v395 = load16(v394);
-    v396 = v169 ? v168 : v395;
-    v397 = a1 + 232u * 1u;
-    v398 = load8(v397);
-    v399 = v195 ? v198 : v398;
-    v400 = a1 + 233u * 1u;
-    v401 = load8(v400);
-    v402 = v204 ? v207 : v401;
-    v403 = a1 + 234u * 1u;
-    v404 = load8(v403);
-    v405 = v213 ? v216 : v404;
-    v406 = a1 + 235u * 1u;
-    v407 = load8(v406);
-    v408 = v222 ? v225 : v407;
-    v409 = a1 + 236u * 1u;
-    v410 = load8(v409);
-    v411 = v230 ? v229 : v410;
-    store16(v394, v396);
-    store8(v296, v298);
-    store8(v299, v301);
-    store8(v397, v399);
-    store8(v400, v402);
-    store8(v403, v405);
-    store8(v406, v408);
-    store8(v409, v411);
-    v412 = a1 + 237u * 1u;
-    store8(v412, 0u);
-    if (v310) { goto L35; }
-    else { v26 = 0u; goto L32; }
-L32:;
-    v413 = (u64)((u64)v26 * (u64)24u);
-    v414 = v38 + v413 * 1u;
-    v415 = v302 + v413 * 1u;
-    v416 = load8(v415);
-    v417 = v416 == 2u;
-    if (v417) { goto L34; }
-    else { goto L33; }
-L33:;
-    v418 = load8(v414);
-    v419 = v414 + 1u * 1u;
-    v420 = load8(v419);
-    v421 = v418 == 1u;
-    v422 = v421 ? v420 : v416;
-    store8(v415, v422);
-    goto L34;
-L34:;
-    v423 = v414 + 8u * 1u;
-    v424 = load8(v423);
-    v425 = v414 + 16u * 1u;
-    v426 = load64(v425);
-    v427 = v415 + 8u * 1u;
-    v428 = load64(v427);
-    v429 = v424 == 1u;
-    v430 = v429 ? v426 : v428;
-    store64(v427, v430);
-    v431 = (u64)((u64)v26 + (u64)1u);
-    v432 = v431 == v281;
-    if (v432) { goto L35; }
-    else { v26 = v431; goto L32; }
-L35:;
-    v433 = v35 + 4u * 1u;
-    memory_cpy(v433, v32, 16u);
-    v29 = 0u; v30 = 0u; v31 = 0u; goto L37;
-L36:;
-    v434 = v35 + 4u * 1u;
-    memory_set(v434, 0u, 16u);
-    v29 = 1u; v30 = v27; v31 = v28; goto L37;
-L37:;
-    v435 = v35 + 4u * 1u;
-    v436 = v37 + 4u * 1u;
-    memory_cpy(v436, v435, 16u);
-    store8(a0, v29);
-    v437 = a0 + 1u * 1u;
-    store8(v437, v30);
-    v438 = a0 + 2u * 1u;
-    store8(v438, v31);
-    v439 = a0 + 3u * 1u;
-    store8(v439, 0u);
-    v440 = a0 + 8u * 1u;
-    memory_cpy(v440, v436, 16u);
-    goto L1;
+    v120 = v119 != 0u;
+    v121 = v117 != 0u;
+    v122 = (u8)v121;
+    v123 = (u8)(((u32)v121 & (u32)v120) & UINT64_C(1));
+    v124 = (u8)v123;
+    v125 = a1 + 76u * 1u;
+    v126 = load8(v125);
+    v127 = a1 + 57u * 1u;
+    v128 = load8(v127);
+    v129 = v128 != 0u;
+    v130 = v126 != 0u;
+    v131 = (u8)v130;
+    v132 = (u8)(((u32)v130 & (u32)v129) & UINT64_C(1));
+    v133 = (u8)v132;
+    v134 = a1 + 77u * 1u;
+    v135 = load8(v134);
+    v136 = a1 + 58u * 1u;
+    v137 = load8(v136);
+    v138 = v137 != 0u;
+    v139 = v135 != 0u;
+    v140 = (u8)v139;
+    v141 = (u8)(((u32)v139 & (u32)v138) & UINT64_C(1));
+    v142 = (u8)v141;
+    v143 = a1 + 78u * 1u;
+    v144 = load8(v143);
+    v145 = a1 + 59u * 1u;
+    v146 = load8(v145);
+    v147 = v146 != 0u;
+    v148 = v144 != 0u;
+    v149 = (u8)v148;
+    v150 = (u8)(((u32)v148 & (u32)v147) & UINT64_C(1));
+    v151 = (u8)v150;
+    v152 = a1 + 79u * 1u;
+    v153 = load8(v152);
+    v154 = a1 + 60u * 1u;
+    v155 = load8(v154);
+    v156 = v155 != 0u;
+    v157 = v153 != 0u;
+    v158 = (u8)v157;
+    v159 = (u8)(((u32)v157 & (u32)v156) & UINT64_C(1));
+    v160 = (u8)v159;
+    v161 = a1 + 80u * 1u;
+    v162 = load8(v161);
+    v163 = a1 + 61u * 1u;
+    v164 = load8(v163);
+    v165 = v162 != 0u;
+    v166 = (u8)v165;
+    v167 = v165 ? v164 : 0u;
+    store8(a0, v97);
+    v168 = a0 + 1u * 1u;
+    store8(v168, v96);
+    v169 = a0 + 2u * 1u;
+    store8(v169, v94);
+    v170 = a0 + 3u * 1u;
+    store8(v170, v93);
+    v171 = a0 + 4u * 1u;
+    store16(v171, v90);
+    v172 = a0 + 6u * 1u;
+    store16(v172, v91);
+    v173 = a0 + 8u * 1u;
+    store16(v173, v87);
+    v174 = a0 + 10u * 1u;
+    store16(v174, v88);
+    v175 = a0 + 12u * 1u;
+    store32(v175, 0u);
+    v176 = a0 + 16u * 1u;
+    store64(v176, v84);
+    v177 = a0 + 24u * 1u;
+    store64(v177, v85);
+    v178 = a0 + 32u * 1u;
+    store64(v178, v81);
+    v179 = a0 + 40u * 1u;
+    store64(v179, v82);
+    v180 = a0 + 48u * 1u;
+    store8(v180, v79);
+    v181 = a0 + 49u * 1u;
+    store8(v181, v78);
+    v182 = a0 + 50u * 1u;
+    store16(v182, v73);
+    v183 = a0 + 52u * 1u;
+    store16(v183, v74);
+    v184 = a0 + 54u * 1u;
+    store16(v184, 0u);
+    v185 = a0 + 56u * 1u;
+    store32(v185, v70);
+    v186 = a0 + 60u * 1u;
+    store32(v186, v71);
+    v187 = a0 + 64u * 1u;
+    store16(v187, v98);
+    v188 = a0 + 66u * 1u;
+    store16(v188, v99);
+    v189 = a0 + 68u * 1u;
+    store64(v189, v2);
+    v190 = a0 + 76u * 1u;
+    store16(v190, v3);
+    v191 = a0 + 78u * 1u;
+    store64(v191, v4);
+    v192 = a0 + 86u * 1u;
+    store8(v192, v5);
+    v193 = a0 + 87u * 1u;
+    store8(v193, v6);
+    v194 = a0 + 88u * 1u;
+    store8(v194, v7);
+    v195 = a0 + 89u * 1u;
+    store8(v195, 0u);
+    v196 = a0 + 90u * 1u;
+    store16(v196, v8);
+    v197 = a0 + 92u * 1u;
+    store8(v197, v9);
+    v198 = a0 + 93u * 1u;
+    store8(v198, 0u);
+    v199 = a0 + 94u * 1u;
+    store16(v199, v106);
+    v200 = a0 + 96u * 1u;
+    store16(v200, v105);
+    v201 = a0 + 98u * 1u;
+    store8(v201, v113);
+    v202 = a0 + 99u * 1u;
+    store8(v202, v115);
+    v203 = a0 + 100u * 1u;
+    store8(v203, v122);
+    v204 = a0 + 101u * 1u;
+    store8(v204, v124);
+    v205 = a0 + 102u * 1u;
+    store8(v205, v131);
+    v206 = a0 + 103u * 1u;
+    store8(v206, v133);
+    v207 = a0 + 104u * 1u;
+    store8(v207, v140);
+    v208 = a0 + 105u * 1u;
+    store8(v208, v142);
+    v209 = a0 + 106u * 1u;
+    store8(v209, v149);
+    v210 = a0 + 107u * 1u;
+    store8(v210, v151);
+    v211 = a0 + 108u * 1u;
+    store8(v211, v158);
+    v212 = a0 + 109u * 1u;
+    store8(v212, v160);
+    v213 = a0 + 110u * 1u;
+    store8(v213, v166);
+    v214 = a0 + 111u * 1u;
+    store8(v214, v167);
+    return;
 }
 
-static void f112(address a0, address a1, address a2, address a3) {
+static void f114(address a0, address a1, address a2, address a3, u64 a4) {
+    u8 v5, v7, v8, v10, v11, v14, v16, v17, v25, v27, v30, v32, v33, v34, v36, v38;
+    u8 v39, v40, v42, v45, v49, v51, v53, v54, v55, v57, v59, v61, v62, v63, v67, v68;
+    u8 v69, v70, v71, v72, v73, v74, v75, v79, v80, v82, v83, v84, v85, v87, v89, v94;
+    u8 v95, v99, v101, v103, v104, v105, v106, v107, v108, v109, v110, v111, v113, v114, v115, v119;
+    u8 v120, v122, v123, v124, v128, v129, v130, v131, v132, v133, v134, v135, v136, v137, v139, v155;
+    u8 v159, v162, v167, v170, v175, v180, v184, v186, v187, v188, v189, v190, v191, v192, v193, v194;
+    u8 v195, v197, v199, v201, v202, v203, v204, v206, v208, v210, v211, v212, v213, v215, v217, v219;
+    u8 v220, v221, v222, v224, v226, v228, v229, v230, v231, v233, v235, v237, v238, v239, v244, v245;
+    u8 v246, v248, v249, v250, v252, v257, v260;
+    u64 v6, v9, v12, v13, v15, v23, v24, v26, v28, v47, v66, v76, v86, v88, v92, v112;
+    u64 v117, v126, v127, v141, v142, v143, v144, v145, v146, v147, v148, v149, v150, v151, v152, v164;
+    u64 v166, v168, v172, v174, v176, v241, v254, v256, v258, v259;
+    address v18, v19, v20, v21, v22, v31, v35, v37, v41, v43, v48, v50, v52, v56, v58, v60;
+    address v64, v65, v77, v78, v81, v90, v91, v93, v96, v98, v100, v102, v116, v118, v121, v125;
+    address v153, v154, v156, v161, v163, v165, v169, v171, v173, v177, v178, v179, v181, v196, v198, v200;
+    address v205, v207, v209, v214, v216, v218, v223, v225, v227, v232, v234, v236, v240, v242, v243, v247;
+    address v251, v253, v255, v261, v262, v263, v264, v265;
+    u16 v29, v44, v46, v97, v138, v140, v157, v158, v160, v182, v183, v185;
+    u64 block0[2];
+    u64 block1[5];
+    u64 block2[2];
+    u64 block3[5];
+    v18 = ADDRESS(block0);
+    v19 = ADDRESS(block1);
+    v20 = ADDRESS(block2);
+    v21 = ADDRESS(block3);
+    v22 = a1 + 10u * 1u;
+    v23 = load64(v22);
+    v24 = (u64)((u64)v23 >> (8u & 63u));
+    v25 = (u8)(v24);
+    v26 = (u64)((u64)v23 >> (16u & 63u));
+    v27 = (u8)(v26);
+    v28 = (u64)((u64)v23 >> (32u & 63u));
+    v29 = (u16)(v28);
+    v30 = load8(a2);
+    v31 = a2 + 1u * 1u;
+    v32 = load8(v31);
+    v33 = v30 == 1u;
+    v34 = v33 ? v32 : v25;
+    v35 = a2 + 2u * 1u;
+    v36 = load8(v35);
+    v37 = a2 + 3u * 1u;
+    v38 = load8(v37);
+    v39 = v36 == 1u;
+    v40 = v39 ? v38 : v27;
+    v41 = a2 + 4u * 1u;
+    v42 = load8(v41);
+    v43 = a2 + 6u * 1u;
+    v44 = load16(v43);
+    v45 = v42 == 1u;
+    v46 = v45 ? v44 : v29;
+    v47 = load64(a1);
+    v48 = a2 + 98u * 1u;
+    v49 = load8(v48);
+    v50 = a2 + 99u * 1u;
+    v51 = load8(v50);
+    v52 = a1 + 230u * 1u;
+    v53 = load8(v52);
+    v54 = v49 == 1u;
+    v55 = v54 ? v51 : v53;
+    v56 = a2 + 100u * 1u;
+    v57 = load8(v56);
+    v58 = a2 + 101u * 1u;
+    v59 = load8(v58);
+    v60 = a1 + 231u * 1u;
+    v61 = load8(v60);
+    v62 = v57 == 1u;
+    v63 = v62 ? v59 : v61;
+    v64 = a1 + 240u * 1u;
+    v65 = a1 + 432u * 1u;
+    v66 = load64(v65);
+    v67 = v66 < a4;
+    if (v67) { v10 = 0u; v11 = 0u; goto L15; }
+    else { goto L1; }
+L1:;
+    v68 = (u8)((u32)v40 + (u32)233u);
+    v69 = v68 < 27u;
+    v70 = v40 == 254u;
+    v71 = (u8)(((u32)v70 | (u32)v69) & UINT64_C(1));
+    if (v71) { goto L2; }
+    else { v10 = 6u; v11 = 1u; goto L15; }
+L2:;
+    v72 = (u8)((v55) & UINT64_C(1));
+    v73 = (u8)((v63) & UINT64_C(1));
+    v74 = v72 ? v73 : 0u;
+    if (v74) { v10 = 24u; v11 = 1u; goto L15; }
+    else { goto L3; }
+L3:;
+    v75 = a4 == 0u;
+    if (v75) { goto L12; }
+    else { v5 = 0u; v6 = 0u; goto L4; }
+L4:;
+    if (v5) { goto L9; }
+    else { goto L5; }
+L5:;
+    v76 = (u64)((u64)v6 * (u64)24u);
+    v77 = a3 + v76 * 1u;
+    v78 = v64 + v76 * 1u;
+    v79 = load8(v77);
+    v80 = v79 == 1u;
+    if (v80) { goto L6; }
+    else { v7 = 0u; goto L8; }
+L6:;
+    v81 = v77 + 1u * 1u;
+    v82 = load8(v81);
+    v83 = v82 == 2u;
+    if (v83) { goto L7; }
+    else { v7 = 0u; goto L8; }
+L7:;
+    v84 = load8(v78);
+    v85 = v84 != 2u;
+    v7 = v85; goto L8;
+L8:;
+    v86 = (u64)((u64)v6 + (u64)1u);
+    v87 = v86 == a4;
+    if (v87) { goto L11; }
+    else { v8 = v7; v9 = v86; goto L10; }
+L9:;
+    v88 = (u64)((u64)v6 + (u64)1u);
+    v89 = v88 == a4;
+    if (v89) { v10 = 30u; v11 = 1u; goto L15; }
+    else { v8 = 1u; v9 = v88; goto L10; }
+L10:;
+    v5 = v8; v6 = v9; goto L4;
+L11:;
+    if (v7) { v10 = 30u; v11 = 1u; goto L15; }
+    else { goto L12; }
+L12:;
+    v90 = a1 + 192u * 1u;
+    f115(v19, a2, a1, v90);
+    v91 = v19 + 20u * 1u;
+    v92 = load64(v91);
+    v93 = v19 + 34u * 1u;
+    v94 = load8(v93);
+    v95 = v92 == v47;
+    if (v95) { goto L14; }
+    else { goto L13; }
+L13:;
+    goto L17;
+L14:;
+    v96 = v19 + 32u * 1u;
+    v97 = load16(v96);
+    v98 = v19 + 30u * 1u;
+    v99 = load8(v98);
+    v100 = v19 + 29u * 1u;
+    v101 = load8(v100);
+    v102 = v19 + 28u * 1u;
+    v103 = load8(v102);
+    v104 = (u8)(v23);
+    v105 = v103 == v104;
+    v106 = v101 == v34;
+    v107 = v105 ? v106 : 0u;
+    v108 = v99 == v40;
+    v109 = v107 ? v108 : 0u;
+    v110 = v97 == v46;
+    v111 = v109 ? v110 : 0u;
+    if (v111) { goto L16; }
+    else { v10 = 0u; v11 = 2u; goto L15; }
+L15:;
+    v16 = v11; v17 = v10; goto L28;
+L16:;
+    v112 = (u64)((u64)v23 >> (48u & 63u));
+    v113 = (u8)(v112);
+    v114 = v94 != v113;
+    v115 = v114;
+    if (v115) { v16 = 2u; v17 = 0u; goto L28; }
+    else { goto L17; }
+L17:;
+    memory_set(v18, 0u, 16u);
+    if (v75) { goto L22; }
+    else { goto L18; }
+L18:;
+    v116 = v18 + 8u * 1u;
+    v12 = 0u; v13 = 0u; goto L19;
+L19:;
+    v117 = (u64)((u64)v13 * (u64)24u);
+    v118 = a3 + v117 * 1u;
+    v119 = load8(v118);
+    v120 = v119 == 1u;
+    if (v120) { goto L20; }
+    else { v14 = 0u; goto L21; }
+L20:;
+    v121 = v64 + v117 * 1u;
+    v122 = load8(v121);
+    v123 = v122 == 2u;
+    v14 = v123; goto L21;
+L21:;
+    v124 = (u8)v14;
+    v125 = v18 + v12 * 1u;
+    store8(v125, v124);
+    v126 = (u64)((u64)v12 + (u64)1u);
+    store64(v116, v126);
+    v127 = (u64)((u64)v13 + (u64)1u);
+    v128 = v127 == a4;
+    if (v128) { goto L22; }
+    else { v12 = v126; v13 = v127; goto L19; }
+L22:;
+    memory_cpy(v20, v18, 16u);
+    f115(v21, a2, a1, v90);
+    memory_cpy(v90, v21, 36u);
+    v129 = load8(a2);
+    v130 = load8(v31);
+    v131 = v129 == 1u;
+    v132 = v131 ? v130 : v25;
+    v133 = load8(v35);
+    v134 = load8(v37);
+    v135 = v133 == 1u;
+    v136 = v135 ? v134 : v27;
+    v137 = load8(v41);
+    v138 = load16(v43);
+    v139 = v137 == 1u;
+    v140 = v139 ? v138 : v29;
+    v141 = (u64)((u64)v23 & (u64)UINT64_C(71776119061217280));
+    v142 = (u64)v140;
+    v143 = (u64)((u64)v142 << (32u & 63u));
+    v144 = (u64)((u64)v143 | (u64)v141);
+    v145 = (u64)v136;
+    v146 = (u64)((u64)v145 << (16u & 63u));
+    v147 = (u64)((u64)v144 | (u64)v146);
+    v148 = (u64)v132;
+    v149 = (u64)((u64)v148 << (8u & 63u));
+    v150 = (u64)((u64)v147 | (u64)v149);
+    v151 = (u64)((u64)v23 & (u64)255u);
+    v152 = (u64)((u64)v150 | (u64)v151);
+    store64(v22, v152);
+    v153 = a1 + 168u * 1u;
+    v154 = a2 + 8u * 1u;
+    v155 = load8(v154);
+    v156 = a2 + 10u * 1u;
+    v157 = load16(v156);
+    v158 = load16(v153);
+    v159 = v155 == 1u;
+    v160 = v159 ? v157 : v158;
+    v161 = a2 + 16u * 1u;
+    v162 = load8(v161);
+    v163 = a2 + 24u * 1u;
+    v164 = load64(v163);
+    v165 = a1 + 176u * 1u;
+    v166 = load64(v165);
+    v167 = v162 == 1u;
+    v168 = v167 ? v164 : v166;
+    v169 = a2 + 32u * 1u;
+    v170 = load8(v169);
+    v171 = a2 + 40u * 1u;
+    v172 = load64(v171);
+    v173 = a1 + 184u * 1u;
+    v174 = load64(v173);
+    v175 = v170 == 1u;
+    v176 = v175 ? v172 : v174;
+    store16(v153, v160);
+    v177 = a1 + 170u * 1u;
+    memory_set(v177, 0u, 6u);
+    store64(v165, v168);
+    store64(v173, v176);
+    v178 = a1 + 228u * 1u;
+    v179 = a2 + 94u * 1u;
+    v180 = load8(v179);
+    v181 = a2 + 96u * 1u;
+    v182 = load16(v181);
+    v183 = load16(v178);
+    v184 = v180 == 1u;
+    v185 = v184 ? v182 : v183;
+    v186 = load8(v48);
+    v187 = load8(v50);
+    v188 = v186 == 1u;
+    v189 = v188 ? v187 : v53;
+    v190 = (u8)((u32)v189 & (u32)1u);
+    v191 = load8(v56);
+    v192 = load8(v58);
+    v193 = v191 == 1u;
+    v194 = v193 ? v192 : v61;
+    v195 = (u8)((u32)v194 & (u32)1u);
+    v196 = a2 + 102u * 1u;
+    v197 = load8(v196);
+    v198 = a2 + 103u * 1u;
+    v199 = load8(v198);
+    v200 = a1 + 232u * 1u;
+    v201 = load8(v200);
+    v202 = v197 == 1u;
+    v203 = v202 ? v199 : v201;
+    v204 = (u8)((u32)v203 & (u32)1u);
+    v205 = a2 + 104u * 1u;
+    v206 = load8(v205);
+    v207 = a2 + 105u * 1u;
+    v208 = load8(v207);
+    v209 = a1 + 233u * 1u;
+    v210 = load8(v209);
+    v211 = v206 == 1u;
+    v212 = v211 ? v208 : v210;
+    v213 = (u8)((u32)v212 & (u32)1u);
+    v214 = a2 + 106u * 1u;
+    v215 = load8(v214);
+    v216 = a2 + 107u * 1u;
+    v217 = load8(v216);
+    v218 = a1 + 234u * 1u;
+    v219 = load8(v218);
+    v220 = v215 == 1u;
+    v221 = v220 ? v217 : v219;
+    v222 = (u8)((u32)v221 & (u32)1u);
+    v223 = a2 + 108u * 1u;
+    v224 = load8(v223);
+    v225 = a2 + 109u * 1u;
+    v226 = load8(v225);
+    v227 = a1 + 235u * 1u;
+    v228 = load8(v227);
+    v229 = v224 == 1u;
+    v230 = v229 ? v226 : v228;
+    v231 = (u8)((u32)v230 & (u32)1u);
+    v232 = a2 + 110u * 1u;
+    v233 = load8(v232);
+    v234 = a2 + 111u * 1u;
+    v235 = load8(v234);
+    v236 = a1 + 236u * 1u;
+    v237 = load8(v236);
+    v238 = v233 == 1u;
+    v239 = v238 ? v235 : v237;
+    store16(v178, v185);
+    store8(v52, v190);
+    store8(v60, v195);
+    store8(v200, v204);
+    store8(v209, v213);
+    store8(v218, v222);
+    store8(v227, v231);
+    store8(v236, v239);
+    v240 = a1 + 237u * 1u;
+    store8(v240, 0u);
+    if (v75) { goto L26; }
+    else { v15 = 0u; goto L23; }
+L23:;
+    v241 = (u64)((u64)v15 * (u64)24u);
+    v242 = a3 + v241 * 1u;
+    v243 = v64 + v241 * 1u;
+    v244 = load8(v243);
+    v245 = v244 == 2u;
+    if (v245) { goto L25; }
+    else { goto L24; }
+L24:;
+    v246 = load8(v242);
+    v247 = v242 + 1u * 1u;
+    v248 = load8(v247);
+    v249 = v246 == 1u;
+    v250 = v249 ? v248 : v244;
+    store8(v243, v250);
+    goto L25;
+L25:;
+    v251 = v242 + 8u * 1u;
+    v252 = load8(v251);
+    v253 = v242 + 16u * 1u;
+    v254 = load64(v253);
+    v255 = v243 + 8u * 1u;
+    v256 = load64(v255);
+    v257 = v252 == 1u;
+    v258 = v257 ? v254 : v256;
+    store64(v255, v258);
+    v259 = (u64)((u64)v15 + (u64)1u);
+    v260 = v259 == a4;
+    if (v260) { goto L26; }
+    else { v15 = v259; goto L23; }
+L26:;
+    v261 = a0 + 8u * 1u;
+    store32(a0, 0u);
+    memory_cpy(v261, v20, 16u);
+    goto L27;
+L27:;
+    return;
+L28:;
+    store8(a0, 1u);
+    v262 = a0 + 1u * 1u;
+    store8(v262, v16);
+    v263 = a0 + 2u * 1u;
+    store8(v263, v17);
+    v264 = a0 + 3u * 1u;
+    store8(v264, 0u);
+    v265 = a0 + 8u * 1u;
+    memory_set(v265, 0u, 16u);
+    goto L27;
+}
+
+static void f115(address a0, address a1, address a2, address a3) {
     u64 v4, v6, v7, v8, v18, v20, v24, v26, v28, v30, v49, v50, v51, v52, v53, v54;
     u64 v55, v56, v57, v58, v59, v60, v64, v66, v67, v69, v71, v90, v91, v92, v93, v94;
     u64 v95, v96, v97, v98, v99, v100, v101, v103, v107, v109;
@@ -24702,7 +26579,7 @@ L6:;
     return;
 }
 
-static void f113(address a0, address a1, u8 a2, u16 a3, u16 a4, address a5, u64 a6) {
+static void f116(address a0, address a1, u8 a2, u16 a3, u16 a4, address a5, u64 a6) {
     u8 v7, v8, v15, v16, v20, v24, v25, v30, v31, v32, v40, v41, v62, v63, v66, v67;
     u8 v68, v69;
     address v9, v10, v11, v12, v13, v14, v17, v21, v22, v23, v26, v27, v28, v33, v34, v35;
@@ -24791,7 +26668,7 @@ L8:;
     store_address(v38, a5);
     v39 = v10 + 16u * 1u;
     store64(v39, a6);
-    f47(v12, a1);
+    f44(v12, a1);
     memory_cpy(v11, v12, 440u);
     v40 = v16 == 3u;
     v41 = v40 ? 4u : 2u;
@@ -24836,7 +26713,7 @@ L8:;
     store8(v60, 1u);
     v61 = v9 + 1137u * 1u;
     memory_set(v61, 0u, 159u);
-    f51(a1, v10, 7u, v9);
+    f52(a1, v10, 7u, v9);
     v62 = load8(v46);
     v63 = load8(v47);
     v64 = v9 + 1288u * 1u;
@@ -24848,7 +26725,7 @@ L8:;
     if (v68) { v7 = 3u; v8 = v63; goto L10; }
     else { goto L9; }
 L9:;
-    f48(v14, a1, v11);
+    f63(v14, a1, v11);
     v70 = v13 + 1u * 1u;
     memory_cpy(v70, v14, 12u);
     v7 = 0u; v8 = 0u; goto L10;
@@ -24864,6 +26741,262 @@ L10:;
     goto L2;
 }
 
+static void f117(address a0, address a1, u16 a2, address a3, u64 a4) {
+    u16 v5, v7, v8, v9, v10, v23, v31, v33, v37, v39, v45, v82, v83, v84, v85, v86;
+    u16 v87, v88, v89, v119, v131, v132, v133, v134, v135, v136, v137, v138, v139;
+    u64 v6, v22, v29, v43, v66, v67, v77, v79, v81, v98, v100, v113, v118;
+    u8 v11, v12, v20, v24, v26, v27, v35, v44, v57, v58, v61, v63, v64, v69, v71, v73;
+    u8 v75, v96, v101, v102, v104, v105, v106, v108, v110, v111, v114, v115, v116, v117, v120, v121;
+    u8 v122, v124, v126, v128, v130;
+    address v13, v14, v15, v16, v17, v18, v19, v21, v25, v28, v30, v32, v34, v36, v38, v40;
+    address v41, v42, v46, v47, v48, v49, v50, v51, v52, v53, v54, v55, v56, v59, v60, v62;
+    address v65, v68, v70, v72, v74, v76, v78, v80, v90, v91, v92, v93, v94, v95, v97, v99;
+    address v103, v107, v109, v112, v123, v125, v127, v129, v140, v141, v142, v143, v144, v145, v146, v147;
+    address v148, v149, v150;
+    u64 block0[3];
+    u64 block1[3];
+    u64 block2[4];
+    u64 block3[17];
+    u64 block4[6];
+    u64 block5[17];
+    u64 block6[17];
+    v13 = ADDRESS(block0);
+    v14 = ADDRESS(block1);
+    v15 = ADDRESS(block2);
+    v16 = ADDRESS(block3);
+    v17 = ADDRESS(block4);
+    v18 = ADDRESS(block5);
+    v19 = ADDRESS(block6);
+    memory_set(v17, 0u, 48u);
+    v20 = a2 == 0u;
+    if (v20) { goto L3; }
+    else { goto L1; }
+L1:;
+    v21 = a1 + 432u * 1u;
+    v22 = load64(v21);
+    v23 = (u16)(v22);
+    v24 = a2 > v23;
+    if (v24) { goto L3; }
+    else { goto L4; }
+L2:;
+    return;
+L3:;
+    store8(a0, 1u);
+    v25 = a0 + 1u * 1u;
+    memory_set(v25, 0u, 153u);
+    goto L2;
+L4:;
+    f51(v17, a1, a3, a4);
+    v26 = load8(v17);
+    v27 = v26 == 1u;
+    if (v27) { goto L5; }
+    else { goto L8; }
+L5:;
+    v28 = v17 + 8u * 1u;
+    v29 = load64(v28);
+    v30 = v17 + 16u * 1u;
+    v31 = load16(v30);
+    v32 = v17 + 18u * 1u;
+    v33 = load16(v32);
+    v34 = v17 + 24u * 1u;
+    v35 = load8(v34);
+    v36 = v17 + 26u * 1u;
+    v37 = load16(v36);
+    v38 = v17 + 28u * 1u;
+    v39 = load16(v38);
+    v40 = v17 + 32u * 1u;
+    v41 = load_address(v40);
+    v42 = v17 + 40u * 1u;
+    v43 = load64(v42);
+    memory_set(v16, 0u, 130u);
+    v44 = v43 > 130u;
+    if (v44) { v5 = 0u; goto L7; }
+    else { goto L6; }
+L6:;
+    memory_cpy(v16, v41, v43);
+    v45 = (u16)(v43);
+    v5 = v45; goto L7;
+L7:;
+    memory_cpy(v18, v16, 130u);
+    store8(a0, 0u);
+    v46 = a0 + 1u * 1u;
+    store8(v46, 0u);
+    v47 = a0 + 2u * 1u;
+    store16(v47, 1u);
+    v48 = a0 + 4u * 1u;
+    store64(v48, v29);
+    v49 = a0 + 12u * 1u;
+    store16(v49, v31);
+    v50 = a0 + 14u * 1u;
+    store16(v50, v33);
+    v51 = a0 + 16u * 1u;
+    store16(v51, v37);
+    v52 = a0 + 18u * 1u;
+    store16(v52, v39);
+    v53 = a0 + 20u * 1u;
+    store16(v53, v5);
+    v54 = a0 + 22u * 1u;
+    store8(v54, v35);
+    v55 = a0 + 23u * 1u;
+    memory_cpy(v55, v18, 130u);
+    v56 = a0 + 153u * 1u;
+    store8(v56, 0u);
+    goto L2;
+L8:;
+    memory_set(v15, 0u, 32u);
+    f8(v15, a3, a4);
+    v57 = load8(v15);
+    v58 = v57 == 0u;
+    if (v58) { goto L9; }
+    else { v6 = 0u; v7 = 0u; v8 = 0u; v9 = 0u; v10 = 0u; v11 = 0u; v12 = 0u; goto L19; }
+L9:;
+    v59 = v15 + 8u * 1u;
+    memory_cpy(v14, v59, 24u);
+    v60 = v14 + 16u * 1u;
+    v61 = load8(v60);
+    v62 = v14 + 17u * 1u;
+    v63 = load8(v62);
+    v64 = v63 == 0u;
+    v65 = load_address(v14);
+    v66 = v64 ? 52u : 54u;
+    v67 = v64 ? 53u : 55u;
+    v68 = v65 + v66 * 1u;
+    v69 = load8(v68);
+    v70 = v65 + v67 * 1u;
+    v71 = load8(v70);
+    v72 = v65 + 42u * 1u;
+    v73 = load8(v72);
+    v74 = v65 + 43u * 1u;
+    v75 = load8(v74);
+    v76 = v14 + 8u * 1u;
+    v77 = load64(v76);
+    v78 = v65 + 54u * 1u;
+    v79 = (u64)((u64)v77 + (u64)UINT64_C(18446744073709551562));
+    v80 = v64 ? v78 : ADDRESS(c138);
+    v81 = v64 ? v79 : 0u;
+    v82 = (u16)v73;
+    v83 = (u16)((u32)v82 << (8u & 15u));
+    v84 = (u16)v75;
+    v85 = (u16)((u32)v83 | (u32)v84);
+    v86 = (u16)v69;
+    v87 = (u16)((u32)v86 << (8u & 15u));
+    v88 = (u16)v71;
+    v89 = (u16)((u32)v87 | (u32)v88);
+    store8(v13, v61);
+    v90 = v13 + 1u * 1u;
+    store8(v90, 0u);
+    v91 = v13 + 2u * 1u;
+    store16(v91, v89);
+    v92 = v13 + 4u * 1u;
+    store16(v92, v85);
+    v93 = v13 + 6u * 1u;
+    store16(v93, 0u);
+    v94 = v13 + 8u * 1u;
+    store_address(v94, v80);
+    v95 = v13 + 16u * 1u;
+    store64(v95, v81);
+    v96 = f60(v13);
+    if (v96) { goto L10; }
+    else { goto L16; }
+L10:;
+    v97 = v65 + 34u * 1u;
+    v98 = load64(v97);
+    v99 = a1 + 440u * 1u;
+    v100 = load64(v99);
+    v101 = load8(v65);
+    v102 = (u8)((u32)v101 >> (4u & 7u));
+    v103 = v65 + 5u * 1u;
+    v104 = load8(v103);
+    v105 = (u8)((u32)v102 | (u32)v104);
+    v106 = v105 == 0u;
+    if (v106) { goto L11; }
+    else { goto L16; }
+L11:;
+    v107 = v65 + 4u * 1u;
+    v108 = load8(v107);
+    v109 = a1 + 8u * 1u;
+    v110 = load8(v109);
+    v111 = v108 == v110;
+    if (v111) { goto L12; }
+    else { goto L16; }
+L12:;
+    v112 = v65 + 20u * 1u;
+    v113 = load64(v112);
+    v114 = v113 == v100;
+    if (v114) { goto L16; }
+    else { goto L13; }
+L13:;
+    v115 = v98 == v100;
+    v116 = v98 == UINT64_C(18446744073709551615);
+    v117 = (u8)(((u32)v116 | (u32)v115) & UINT64_C(1));
+    if (v117) { goto L14; }
+    else { goto L16; }
+L14:;
+    switch (v85) {
+    case 65535u: goto L17;
+    case 0u: goto L16;
+    default: goto L15;
+    }
+L15:;
+    v118 = load64(v21);
+    v119 = (u16)(v118);
+    v120 = v85 > v119;
+    if (v120) { goto L16; }
+    else { goto L17; }
+L16:;
+    v6 = 0u; v7 = 0u; v8 = 0u; v9 = 0u; v10 = 0u; v11 = 0u; v12 = 0u; goto L19;
+L17:;
+    v121 = f61(a1, v14);
+    v122 = v121 < 2u;
+    if (v122) { goto L18; }
+    else { v6 = 0u; v7 = 0u; v8 = 0u; v9 = 0u; v10 = 0u; v11 = 0u; v12 = 0u; goto L19; }
+L18:;
+    v123 = v65 + 28u * 1u;
+    v124 = load8(v123);
+    v125 = v65 + 29u * 1u;
+    v126 = load8(v125);
+    v127 = v65 + 30u * 1u;
+    v128 = load8(v127);
+    v129 = v65 + 31u * 1u;
+    v130 = load8(v129);
+    v131 = (u16)v128;
+    v132 = (u16)((u32)v131 << (8u & 15u));
+    v133 = (u16)v130;
+    v134 = (u16)((u32)v132 | (u32)v133);
+    v135 = (u16)v124;
+    v136 = (u16)((u32)v135 << (8u & 15u));
+    v137 = (u16)v126;
+    v138 = (u16)((u32)v136 | (u32)v137);
+    v6 = v113; v7 = v138; v8 = v134; v9 = v89; v10 = v85; v11 = v61; v12 = 2u; goto L19;
+L19:;
+    memory_set(v19, 0u, 130u);
+    v139 = (u16)v12;
+    store8(a0, 0u);
+    v140 = a0 + 1u * 1u;
+    store8(v140, 0u);
+    v141 = a0 + 2u * 1u;
+    store16(v141, v139);
+    v142 = a0 + 4u * 1u;
+    store64(v142, v6);
+    v143 = a0 + 12u * 1u;
+    store16(v143, v7);
+    v144 = a0 + 14u * 1u;
+    store16(v144, v8);
+    v145 = a0 + 16u * 1u;
+    store16(v145, v9);
+    v146 = a0 + 18u * 1u;
+    store16(v146, v10);
+    v147 = a0 + 20u * 1u;
+    store16(v147, 0u);
+    v148 = a0 + 22u * 1u;
+    store8(v148, v11);
+    v149 = a0 + 23u * 1u;
+    memory_cpy(v149, v19, 130u);
+    v150 = a0 + 153u * 1u;
+    store8(v150, 0u);
+    goto L2;
+}
+
 u64 portable_ptpm_answer_name(u32 a0, address a1, u64 a2) {
     u64 v3, v5, v6, v8, v11, v12, v13, v18;
     address v4, v9, v15, v16;
@@ -24872,7 +27005,7 @@ u64 portable_ptpm_answer_name(u32 a0, address a1, u64 a2) {
     v8 = v7 ? 4096u : 0u;
     v9 = a1 + v8 * 1u;
     switch (a0) {
-    case 1u: v3 = 12u; v4 = ADDRESS(c0); goto L111;
+    case 1u: v3 = 12u; v4 = ADDRESS(c0); goto L110;
     case 2u: goto L1;
     case 3u: goto L2;
     case 4u: goto L3;
@@ -24901,7 +27034,7 @@ u64 portable_ptpm_answer_name(u32 a0, address a1, u64 a2) {
     case 28u: goto L26;
     case 29u: goto L27;
     case 30u: goto L28;
-    case 32u: goto L109;
+    case 32u: goto L108;
     case 33u: goto L29;
     case 34u: goto L30;
     case 35u: goto L31;
@@ -24944,291 +27077,288 @@ u64 portable_ptpm_answer_name(u32 a0, address a1, u64 a2) {
     case 119u: goto L68;
     case 120u: goto L69;
     case 121u: goto L70;
-    case 122u: goto L71;
-    case 64u: goto L101;
-    case 65u: goto L72;
-    case 66u: goto L73;
-    case 67u: goto L74;
-    case 68u: goto L75;
-    case 69u: goto L76;
-    case 70u: goto L77;
-    case 71u: goto L78;
-    case 72u: goto L79;
-    case 73u: goto L80;
-    case 74u: goto L81;
-    case 75u: goto L82;
-    case 76u: goto L83;
-    case 77u: goto L84;
-    case 78u: goto L85;
-    case 79u: goto L86;
-    case 80u: goto L87;
-    case 81u: goto L88;
-    case 82u: goto L89;
-    case 83u: goto L90;
-    case 84u: goto L91;
-    case 85u: goto L92;
-    case 86u: goto L93;
-    case 87u: goto L94;
-    case 88u: goto L95;
-    case 89u: goto L96;
-    case 90u: goto L97;
-    case 91u: goto L98;
-    case 92u: goto L99;
-    case 93u: goto L100;
-    case 94u: goto L110;
-    case 95u: goto L102;
-    case 96u: goto L103;
-    case 97u: goto L104;
-    case 98u: goto L105;
-    case 99u: goto L106;
-    case 100u: goto L107;
-    case 101u: goto L108;
-    default: v6 = 0u; goto L115;
+    case 64u: goto L100;
+    case 65u: goto L71;
+    case 66u: goto L72;
+    case 67u: goto L73;
+    case 68u: goto L74;
+    case 69u: goto L75;
+    case 70u: goto L76;
+    case 71u: goto L77;
+    case 72u: goto L78;
+    case 73u: goto L79;
+    case 74u: goto L80;
+    case 75u: goto L81;
+    case 76u: goto L82;
+    case 77u: goto L83;
+    case 78u: goto L84;
+    case 79u: goto L85;
+    case 80u: goto L86;
+    case 81u: goto L87;
+    case 82u: goto L88;
+    case 83u: goto L89;
+    case 84u: goto L90;
+    case 85u: goto L91;
+    case 86u: goto L92;
+    case 87u: goto L93;
+    case 88u: goto L94;
+    case 89u: goto L95;
+    case 90u: goto L96;
+    case 91u: goto L97;
+    case 92u: goto L98;
+    case 93u: goto L99;
+    case 94u: goto L109;
+    case 95u: goto L101;
+    case 96u: goto L102;
+    case 97u: goto L103;
+    case 98u: goto L104;
+    case 99u: goto L105;
+    case 100u: goto L106;
+    case 101u: goto L107;
+    default: v6 = 0u; goto L114;
     }
 L1:;
-    v3 = 11u; v4 = ADDRESS(c1); goto L111;
+    v3 = 11u; v4 = ADDRESS(c1); goto L110;
 L2:;
-    v3 = 13u; v4 = ADDRESS(c2); goto L111;
+    v3 = 13u; v4 = ADDRESS(c2); goto L110;
 L3:;
-    v3 = 13u; v4 = ADDRESS(c3); goto L111;
+    v3 = 13u; v4 = ADDRESS(c3); goto L110;
 L4:;
-    v3 = 12u; v4 = ADDRESS(c4); goto L111;
+    v3 = 12u; v4 = ADDRESS(c4); goto L110;
 L5:;
-    v3 = 15u; v4 = ADDRESS(c5); goto L111;
+    v3 = 15u; v4 = ADDRESS(c5); goto L110;
 L6:;
-    v3 = 11u; v4 = ADDRESS(c6); goto L111;
+    v3 = 11u; v4 = ADDRESS(c6); goto L110;
 L7:;
-    v3 = 16u; v4 = ADDRESS(c7); goto L111;
+    v3 = 16u; v4 = ADDRESS(c7); goto L110;
 L8:;
-    v3 = 19u; v4 = ADDRESS(c8); goto L111;
+    v3 = 19u; v4 = ADDRESS(c8); goto L110;
 L9:;
-    v3 = 11u; v4 = ADDRESS(c9); goto L111;
+    v3 = 11u; v4 = ADDRESS(c9); goto L110;
 L10:;
-    v3 = 12u; v4 = ADDRESS(c10); goto L111;
+    v3 = 12u; v4 = ADDRESS(c10); goto L110;
 L11:;
-    v3 = 12u; v4 = ADDRESS(c11); goto L111;
+    v3 = 12u; v4 = ADDRESS(c11); goto L110;
 L12:;
-    v3 = 13u; v4 = ADDRESS(c12); goto L111;
+    v3 = 13u; v4 = ADDRESS(c12); goto L110;
 L13:;
-    v3 = 12u; v4 = ADDRESS(c13); goto L111;
+    v3 = 12u; v4 = ADDRESS(c13); goto L110;
 L14:;
-    v3 = 13u; v4 = ADDRESS(c14); goto L111;
+    v3 = 13u; v4 = ADDRESS(c14); goto L110;
 L15:;
-    v3 = 9u; v4 = ADDRESS(c15); goto L111;
+    v3 = 9u; v4 = ADDRESS(c15); goto L110;
 L16:;
-    v3 = 14u; v4 = ADDRESS(c16); goto L111;
+    v3 = 14u; v4 = ADDRESS(c16); goto L110;
 L17:;
-    v3 = 11u; v4 = ADDRESS(c17); goto L111;
+    v3 = 11u; v4 = ADDRESS(c17); goto L110;
 L18:;
-    v3 = 10u; v4 = ADDRESS(c18); goto L111;
+    v3 = 10u; v4 = ADDRESS(c18); goto L110;
 L19:;
-    v3 = 10u; v4 = ADDRESS(c19); goto L111;
+    v3 = 10u; v4 = ADDRESS(c19); goto L110;
 L20:;
-    v3 = 12u; v4 = ADDRESS(c20); goto L111;
+    v3 = 12u; v4 = ADDRESS(c20); goto L110;
 L21:;
-    v3 = 14u; v4 = ADDRESS(c21); goto L111;
+    v3 = 14u; v4 = ADDRESS(c21); goto L110;
 L22:;
-    v3 = 8u; v4 = ADDRESS(c22); goto L111;
+    v3 = 8u; v4 = ADDRESS(c22); goto L110;
 L23:;
-    v3 = 4u; v4 = ADDRESS(c23); goto L111;
+    v3 = 4u; v4 = ADDRESS(c23); goto L110;
 L24:;
-    v3 = 7u; v4 = ADDRESS(c24); goto L111;
+    v3 = 7u; v4 = ADDRESS(c24); goto L110;
 L25:;
-    v3 = 5u; v4 = ADDRESS(c25); goto L111;
+    v3 = 5u; v4 = ADDRESS(c25); goto L110;
 L26:;
-    v3 = 4u; v4 = ADDRESS(c26); goto L111;
+    v3 = 4u; v4 = ADDRESS(c26); goto L110;
 L27:;
-    v3 = 12u; v4 = ADDRESS(c27); goto L111;
+    v3 = 12u; v4 = ADDRESS(c27); goto L110;
 L28:;
-    v3 = 11u; v4 = ADDRESS(c28); goto L111;
+    v3 = 11u; v4 = ADDRESS(c28); goto L110;
 L29:;
-    v3 = 7u; v4 = ADDRESS(c30); goto L111;
+    v3 = 7u; v4 = ADDRESS(c30); goto L110;
 L30:;
-    v3 = 7u; v4 = ADDRESS(c31); goto L111;
+    v3 = 7u; v4 = ADDRESS(c31); goto L110;
 L31:;
-    v3 = 9u; v4 = ADDRESS(c32); goto L111;
+    v3 = 9u; v4 = ADDRESS(c32); goto L110;
 L32:;
-    v3 = 12u; v4 = ADDRESS(c33); goto L111;
+    v3 = 12u; v4 = ADDRESS(c33); goto L110;
 L33:;
-    v3 = 10u; v4 = ADDRESS(c34); goto L111;
+    v3 = 10u; v4 = ADDRESS(c34); goto L110;
 L34:;
-    v3 = 4u; v4 = ADDRESS(c35); goto L111;
+    v3 = 4u; v4 = ADDRESS(c35); goto L110;
 L35:;
-    v3 = 10u; v4 = ADDRESS(c36); goto L111;
+    v3 = 10u; v4 = ADDRESS(c36); goto L110;
 L36:;
-    v3 = 13u; v4 = ADDRESS(c37); goto L111;
+    v3 = 13u; v4 = ADDRESS(c37); goto L110;
 L37:;
-    v3 = 9u; v4 = ADDRESS(c38); goto L111;
+    v3 = 9u; v4 = ADDRESS(c38); goto L110;
 L38:;
-    v3 = 16u; v4 = ADDRESS(c39); goto L111;
+    v3 = 16u; v4 = ADDRESS(c39); goto L110;
 L39:;
-    v3 = 4u; v4 = ADDRESS(c40); goto L111;
+    v3 = 4u; v4 = ADDRESS(c40); goto L110;
 L40:;
-    v3 = 7u; v4 = ADDRESS(c41); goto L111;
+    v3 = 7u; v4 = ADDRESS(c41); goto L110;
 L41:;
-    v3 = 9u; v4 = ADDRESS(c42); goto L111;
+    v3 = 9u; v4 = ADDRESS(c42); goto L110;
 L42:;
-    v3 = 9u; v4 = ADDRESS(c43); goto L111;
+    v3 = 9u; v4 = ADDRESS(c43); goto L110;
 L43:;
-    v3 = 11u; v4 = ADDRESS(c44); goto L111;
+    v3 = 11u; v4 = ADDRESS(c44); goto L110;
 L44:;
-    v3 = 8u; v4 = ADDRESS(c45); goto L111;
+    v3 = 8u; v4 = ADDRESS(c45); goto L110;
 L45:;
-    v3 = 14u; v4 = ADDRESS(c46); goto L111;
+    v3 = 14u; v4 = ADDRESS(c46); goto L110;
 L46:;
-    v3 = 19u; v4 = ADDRESS(c47); goto L111;
+    v3 = 19u; v4 = ADDRESS(c47); goto L110;
 L47:;
-    v3 = 17u; v4 = ADDRESS(c48); goto L111;
+    v3 = 17u; v4 = ADDRESS(c48); goto L110;
 L48:;
-    v3 = 13u; v4 = ADDRESS(c49); goto L111;
+    v3 = 13u; v4 = ADDRESS(c49); goto L110;
 L49:;
-    v3 = 16u; v4 = ADDRESS(c50); goto L111;
+    v3 = 16u; v4 = ADDRESS(c50); goto L110;
 L50:;
-    v3 = 15u; v4 = ADDRESS(c51); goto L111;
+    v3 = 15u; v4 = ADDRESS(c51); goto L110;
 L51:;
-    v3 = 10u; v4 = ADDRESS(c52); goto L111;
+    v3 = 10u; v4 = ADDRESS(c52); goto L110;
 L52:;
-    v3 = 16u; v4 = ADDRESS(c53); goto L111;
+    v3 = 16u; v4 = ADDRESS(c53); goto L110;
 L53:;
-    v3 = 14u; v4 = ADDRESS(c54); goto L111;
+    v3 = 14u; v4 = ADDRESS(c54); goto L110;
 L54:;
-    v3 = 12u; v4 = ADDRESS(c55); goto L111;
+    v3 = 12u; v4 = ADDRESS(c55); goto L110;
 L55:;
-    v3 = 13u; v4 = ADDRESS(c56); goto L111;
+    v3 = 13u; v4 = ADDRESS(c56); goto L110;
 L56:;
-    v3 = 10u; v4 = ADDRESS(c57); goto L111;
+    v3 = 10u; v4 = ADDRESS(c57); goto L110;
 L57:;
-    v3 = 7u; v4 = ADDRESS(c58); goto L111;
+    v3 = 7u; v4 = ADDRESS(c58); goto L110;
 L58:;
-    v3 = 11u; v4 = ADDRESS(c59); goto L111;
+    v3 = 11u; v4 = ADDRESS(c59); goto L110;
 L59:;
-    v3 = 11u; v4 = ADDRESS(c60); goto L111;
+    v3 = 11u; v4 = ADDRESS(c60); goto L110;
 L60:;
-    v3 = 13u; v4 = ADDRESS(c61); goto L111;
+    v3 = 13u; v4 = ADDRESS(c61); goto L110;
 L61:;
-    v3 = 12u; v4 = ADDRESS(c62); goto L111;
+    v3 = 12u; v4 = ADDRESS(c62); goto L110;
 L62:;
-    v3 = 9u; v4 = ADDRESS(c63); goto L111;
+    v3 = 9u; v4 = ADDRESS(c63); goto L110;
 L63:;
-    v3 = 10u; v4 = ADDRESS(c64); goto L111;
+    v3 = 10u; v4 = ADDRESS(c64); goto L110;
 L64:;
-    v3 = 10u; v4 = ADDRESS(c65); goto L111;
+    v3 = 10u; v4 = ADDRESS(c65); goto L110;
 L65:;
-    v3 = 10u; v4 = ADDRESS(c66); goto L111;
+    v3 = 10u; v4 = ADDRESS(c66); goto L110;
 L66:;
-    v3 = 8u; v4 = ADDRESS(c67); goto L111;
+    v3 = 8u; v4 = ADDRESS(c67); goto L110;
 L67:;
-    v3 = 7u; v4 = ADDRESS(c68); goto L111;
+    v3 = 7u; v4 = ADDRESS(c68); goto L110;
 L68:;
-    v3 = 11u; v4 = ADDRESS(c69); goto L111;
+    v3 = 11u; v4 = ADDRESS(c69); goto L110;
 L69:;
-    v3 = 8u; v4 = ADDRESS(c70); goto L111;
+    v3 = 8u; v4 = ADDRESS(c70); goto L110;
 L70:;
-    v3 = 7u; v4 = ADDRESS(c71); goto L111;
+    v3 = 7u; v4 = ADDRESS(c71); goto L110;
 L71:;
-    v3 = 11u; v4 = ADDRESS(c72); goto L111;
+    v3 = 10u; v4 = ADDRESS(c73); goto L110;
 L72:;
-    v3 = 10u; v4 = ADDRESS(c74); goto L111;
+    v3 = 20u; v4 = ADDRESS(c74); goto L110;
 L73:;
-    v3 = 20u; v4 = ADDRESS(c75); goto L111;
+    v3 = 12u; v4 = ADDRESS(c75); goto L110;
 L74:;
-    v3 = 12u; v4 = ADDRESS(c76); goto L111;
+    v3 = 13u; v4 = ADDRESS(c76); goto L110;
 L75:;
-    v3 = 13u; v4 = ADDRESS(c77); goto L111;
+    v3 = 15u; v4 = ADDRESS(c77); goto L110;
 L76:;
-    v3 = 15u; v4 = ADDRESS(c78); goto L111;
+    v3 = 18u; v4 = ADDRESS(c78); goto L110;
 L77:;
-    v3 = 18u; v4 = ADDRESS(c79); goto L111;
+    v3 = 12u; v4 = ADDRESS(c79); goto L110;
 L78:;
-    v3 = 12u; v4 = ADDRESS(c80); goto L111;
+    v3 = 13u; v4 = ADDRESS(c80); goto L110;
 L79:;
-    v3 = 13u; v4 = ADDRESS(c81); goto L111;
+    v3 = 17u; v4 = ADDRESS(c81); goto L110;
 L80:;
-    v3 = 17u; v4 = ADDRESS(c82); goto L111;
+    v3 = 22u; v4 = ADDRESS(c82); goto L110;
 L81:;
-    v3 = 22u; v4 = ADDRESS(c83); goto L111;
+    v3 = 19u; v4 = ADDRESS(c83); goto L110;
 L82:;
-    v3 = 19u; v4 = ADDRESS(c84); goto L111;
+    v3 = 15u; v4 = ADDRESS(c84); goto L110;
 L83:;
-    v3 = 15u; v4 = ADDRESS(c85); goto L111;
+    v3 = 16u; v4 = ADDRESS(c85); goto L110;
 L84:;
-    v3 = 16u; v4 = ADDRESS(c86); goto L111;
+    v3 = 21u; v4 = ADDRESS(c86); goto L110;
 L85:;
-    v3 = 21u; v4 = ADDRESS(c87); goto L111;
+    v3 = 17u; v4 = ADDRESS(c87); goto L110;
 L86:;
-    v3 = 17u; v4 = ADDRESS(c88); goto L111;
+    v3 = 25u; v4 = ADDRESS(c88); goto L110;
 L87:;
-    v3 = 25u; v4 = ADDRESS(c89); goto L111;
+    v3 = 21u; v4 = ADDRESS(c89); goto L110;
 L88:;
-    v3 = 21u; v4 = ADDRESS(c90); goto L111;
+    v3 = 24u; v4 = ADDRESS(c90); goto L110;
 L89:;
-    v3 = 24u; v4 = ADDRESS(c91); goto L111;
+    v3 = 24u; v4 = ADDRESS(c91); goto L110;
 L90:;
-    v3 = 24u; v4 = ADDRESS(c92); goto L111;
+    v3 = 25u; v4 = ADDRESS(c92); goto L110;
 L91:;
-    v3 = 25u; v4 = ADDRESS(c93); goto L111;
+    v3 = 15u; v4 = ADDRESS(c93); goto L110;
 L92:;
-    v3 = 15u; v4 = ADDRESS(c94); goto L111;
+    v3 = 14u; v4 = ADDRESS(c94); goto L110;
 L93:;
-    v3 = 14u; v4 = ADDRESS(c95); goto L111;
+    v3 = 10u; v4 = ADDRESS(c95); goto L110;
 L94:;
-    v3 = 10u; v4 = ADDRESS(c96); goto L111;
+    v3 = 10u; v4 = ADDRESS(c96); goto L110;
 L95:;
-    v3 = 10u; v4 = ADDRESS(c97); goto L111;
+    v3 = 13u; v4 = ADDRESS(c97); goto L110;
 L96:;
-    v3 = 13u; v4 = ADDRESS(c98); goto L111;
+    v3 = 17u; v4 = ADDRESS(c98); goto L110;
 L97:;
-    v3 = 17u; v4 = ADDRESS(c99); goto L111;
+    v3 = 18u; v4 = ADDRESS(c99); goto L110;
 L98:;
-    v3 = 18u; v4 = ADDRESS(c100); goto L111;
+    v3 = 23u; v4 = ADDRESS(c100); goto L110;
 L99:;
-    v3 = 23u; v4 = ADDRESS(c101); goto L111;
+    v3 = 15u; v4 = ADDRESS(c101); goto L110;
 L100:;
-    v3 = 15u; v4 = ADDRESS(c102); goto L111;
+    v3 = 12u; v4 = ADDRESS(c72); goto L110;
 L101:;
-    v3 = 12u; v4 = ADDRESS(c73); goto L111;
+    v3 = 21u; v4 = ADDRESS(c103); goto L110;
 L102:;
-    v3 = 21u; v4 = ADDRESS(c104); goto L111;
+    v3 = 14u; v4 = ADDRESS(c104); goto L110;
 L103:;
-    v3 = 14u; v4 = ADDRESS(c105); goto L111;
+    v3 = 16u; v4 = ADDRESS(c105); goto L110;
 L104:;
-    v3 = 16u; v4 = ADDRESS(c106); goto L111;
+    v3 = 19u; v4 = ADDRESS(c106); goto L110;
 L105:;
-    v3 = 19u; v4 = ADDRESS(c107); goto L111;
+    v3 = 12u; v4 = ADDRESS(c107); goto L110;
 L106:;
-    v3 = 12u; v4 = ADDRESS(c108); goto L111;
+    v3 = 19u; v4 = ADDRESS(c108); goto L110;
 L107:;
-    v3 = 19u; v4 = ADDRESS(c109); goto L111;
+    v3 = 18u; v4 = ADDRESS(c109); goto L110;
 L108:;
-    v3 = 18u; v4 = ADDRESS(c110); goto L111;
+    v3 = 8u; v4 = ADDRESS(c29); goto L110;
 L109:;
-    v3 = 8u; v4 = ADDRESS(c29); goto L111;
+    v3 = 9u; v4 = ADDRESS(c102); goto L110;
 L110:;
-    v3 = 9u; v4 = ADDRESS(c103); goto L111;
-L111:;
     v10 = a2 < v3;
-    if (v10) { v6 = 0u; goto L115; }
-    else { goto L112; }
-L112:;
+    if (v10) { v6 = 0u; goto L114; }
+    else { goto L111; }
+L111:;
     v11 = (u64)v9;
     v12 = (u64)v4;
     v13 = (u64)((u64)v11 - (u64)v12);
     v14 = v13 < v3;
-    if (v14) { v5 = 0u; goto L114; }
-    else { goto L113; }
-L113:;
+    if (v14) { v5 = 0u; goto L113; }
+    else { goto L112; }
+L112:;
     memory_move(v9, v4, v3);
-    v6 = v3; goto L115;
-L114:;
+    v6 = v3; goto L114;
+L113:;
     v15 = v9 + v5 * 1u;
     v16 = v4 + v5 * 1u;
     v17 = load8(v16);
     store8(v15, v17);
     v18 = (u64)((u64)v5 + (u64)1u);
     v19 = v18 == v3;
-    if (v19) { v6 = v3; goto L115; }
-    else { v5 = v18; goto L114; }
-L115:;
+    if (v19) { v6 = v3; goto L114; }
+    else { v5 = v18; goto L113; }
+L114:;
     return v6;
 }
 
@@ -25862,7 +27992,7 @@ L75:;
 L76:;
     v342 = v12.m1;
     v343 = (u64)v342;
-    v344 = ADDRESS(c347) + v343 * 4u;
+    v344 = ADDRESS(c348) + v343 * 4u;
     v345 = load32(v344);
     v47 = v345; goto L77;
 L77:;
@@ -25917,7 +28047,7 @@ L6:;
     v21 = v20 + 235u * 1u;
     v22 = load8(v21);
     v23 = (u64)v22;
-    v24 = ADDRESS(c337) + v23 * 4u;
+    v24 = ADDRESS(c339) + v23 * 4u;
     v25 = load32(v24);
     v4 = v25; goto L7;
 L7:;
@@ -26480,7 +28610,7 @@ L19:;
 L20:;
     v74 = v4.m1;
     v75 = (u64)v74;
-    v76 = ADDRESS(c347) + v75 * 4u;
+    v76 = ADDRESS(c348) + v75 * 4u;
     v77 = load32(v76);
     v8 = v77; goto L21;
 L21:;
@@ -27206,7 +29336,7 @@ L5:;
     v39 = load16(v38);
     v40 = v31 + 237u * 1u;
     v41 = load8(v40);
-    f18(v22, v31, v32, a1, v39, v41);
+    f15(v22, v31, v32, a1, v39, v41);
     goto L46;
 L6:;
     memory_set(v21, 0u, 64u);
@@ -27638,7 +29768,7 @@ L42:;
     v259 = load16(v258);
     v260 = (u16)((u32)v259 + (u32)16384u);
     v261 = (u8)((u32)v234 + (u32)255u);
-    f18(v21, v31, v32, a1, v260, v261);
+    f15(v21, v31, v32, a1, v260, v261);
     goto L43;
 L43:;
     memory_cpy(v22, v21, 64u);
@@ -27739,7 +29869,7 @@ L57:;
     v16 = 0u; goto L59;
 L58:;
     v303 = (u64)v280;
-    v304 = ADDRESS(c347) + v303 * 4u;
+    v304 = ADDRESS(c348) + v303 * 4u;
     v305 = load32(v304);
     v16 = v305; goto L59;
 L59:;
@@ -27784,885 +29914,378 @@ void portable_ptpm_clock_defaults(address a0) {
     return;
 }
 
-u32 portable_ptpm_clock_handle(address a0, u16 a1, address a2, u64 a3, address a4, u64 a5, address a6) {
-    u32 v7, v22, v25;
-    u8 v8, v11, v16, v17, v19;
-    u64 v9, v12;
-    address v10, v13, v14, v15, v18, v20, v21, v23, v24;
-    v8 = a2 == 0u;
-    v9 = v8 ? 4096u : 0u;
-    v10 = a2 + v9 * 1u;
-    v11 = a4 == 0u;
-    v12 = v11 ? 4096u : 0u;
-    v13 = a4 + v12 * 1u;
-    store64(a6, 0u);
-    v14 = a0 + 9u * 1u;
-    store8(v14, 0u);
-    v15 = a0 + 8u * 1u;
-    v16 = load8(v15);
-    v17 = (u8)((v16) & UINT64_C(1));
-    if (v17) { goto L1; }
-    else { v7 = 32u; goto L5; }
+u64 portable_ptpm_clock_free(address a0) {
+    u64 v1, v10, v12, v14, v15, v16;
+    address v2, v5, v7, v8, v9, v11, v13;
+    u8 v3, v4, v6;
+    v2 = a0 + 8u * 1u;
+    v3 = load8(v2);
+    v4 = (u8)((v3) & UINT64_C(1));
+    if (v4) { goto L1; }
+    else { v1 = 0u; goto L5; }
 L1:;
-    v18 = load_address(a0);
-    v19 = load8(v18);
-    switch (v19) {
-    case 1u: goto L2;
-    case 4u: goto L3;
-    case 0u: v7 = 32u; goto L5;
-    case 2u: v7 = 32u; goto L5;
-    case 3u: v7 = 32u; goto L5;
-    case 5u: v7 = 32u; goto L5;
+    v5 = load_address(a0);
+    v6 = load8(v5);
+    switch (v6) {
+    case 1u: v1 = UINT64_C(18446744073709551615); goto L5;
+    case 4u: goto L2;
+    case 0u: goto L3;
+    case 2u: goto L3;
+    case 3u: goto L3;
+    case 5u: goto L3;
     default: goto L4;
     }
 L2:;
-    v20 = v18 + 8u * 1u;
-    v21 = load_address(v20);
-    v22 = f19(v21, a1, v10, a3, v13, a5, a6);
-    v7 = v22; goto L5;
+    v7 = v5 + 8u * 1u;
+    v8 = load_address(v7);
+    v9 = v8 + 896u * 1u;
+    v10 = load64(v9);
+    v11 = v8 + 920u * 1u;
+    v12 = load64(v11);
+    v13 = v8 + 912u * 1u;
+    v14 = load64(v13);
+    v15 = (u64)((u64)v10 - (u64)v12);
+    v16 = (u64)((u64)v15 + (u64)v14);
+    v1 = v16; goto L5;
 L3:;
-    v23 = v18 + 8u * 1u;
-    v24 = load_address(v23);
-    v25 = f44(v24, a1, v10, a3, 0u, v13, a5, a6);
-    v7 = v25; goto L5;
+    v1 = 0u; goto L5;
 L4:;
     UNREACHABLE;
 L5:;
-    return v7;
+    return v1;
 }
 
-u32 portable_ptpm_clock_handle_changed(address a0, u16 a1, address a2, u64 a3, address a4, u64 a5, address a6, address a7) {
-    u32 v8, v27, v31;
-    address v9, v10, v11, v14, v17, v18, v19, v20, v23, v25, v26, v29, v30;
-    u8 v12, v15, v21, v22, v24, v28;
-    u64 v13, v16;
-    u64 block0[55];
-    u64 block1[55];
-    u64 block2[2];
-    v9 = ADDRESS(block0);
-    v10 = ADDRESS(block1);
-    v11 = ADDRESS(block2);
-    v12 = a2 == 0u;
-    v13 = v12 ? 4096u : 0u;
-    v14 = a2 + v13 * 1u;
-    v15 = a4 == 0u;
-    v16 = v15 ? 4096u : 0u;
-    v17 = a4 + v16 * 1u;
-    store64(a6, 0u);
-    store32(a7, 0u);
-    v18 = a7 + 4u * 1u;
-    store64(v18, 0u);
-    v19 = a0 + 9u * 1u;
-    store8(v19, 0u);
-    v20 = a0 + 8u * 1u;
-    v21 = load8(v20);
-    v22 = (u8)((v21) & UINT64_C(1));
-    if (v22) { goto L1; }
-    else { v8 = 32u; goto L7; }
-L1:;
-    v23 = load_address(a0);
-    v24 = load8(v23);
-    switch (v24) {
-    case 1u: goto L2;
-    case 4u: goto L5;
-    case 0u: v8 = 32u; goto L7;
-    case 2u: v8 = 32u; goto L7;
-    case 3u: v8 = 32u; goto L7;
-    case 5u: v8 = 32u; goto L7;
-    default: goto L6;
-    }
-L2:;
-    v25 = v23 + 8u * 1u;
-    v26 = load_address(v25);
-    memory_set(v10, 0u, 440u);
-    memory_set(v11, 0u, 12u);
-    store32(a7, 0u);
-    store64(v18, 0u);
-    f47(v10, v26);
-    memory_cpy(v9, v10, 440u);
-    v27 = f19(v26, a1, v14, a3, v17, a5, a6);
-    v28 = v27 == 5u;
-    if (v28) { goto L3; }
-    else { goto L4; }
-L3:;
-    f48(v11, v26, v9);
-    memory_cpy(a7, v11, 12u);
-    goto L4;
-L4:;
-    v8 = v27; goto L7;
-L5:;
-    v29 = v23 + 8u * 1u;
-    v30 = load_address(v29);
-    v31 = f49(v30, a1, v14, a3, 0u, v17, a5, a6, a7);
-    v8 = v31; goto L7;
-L6:;
-    UNREACHABLE;
-L7:;
-    return v8;
-}
-
-u32 portable_ptpm_clock_handle_said(address a0, u16 a1, address a2, u64 a3, address a4, address a5, u64 a6, address a7, address a8) {
-    u64 v9, v10, v11, v14, v15, v16, v17, v18, v20, v21, v23, v26, v29, v48, v51, v64;
-    u64 v69, v70, v71, v73, v79, v80, v83, v84, v85, v106, v107, v117, v118, v129, v130, v140;
-    u64 v142, v144, v161, v163, v176, v181, v190, v191, v194, v202, v203, v204, v206, v207, v209, v212;
-    u64 v220, v224, v225, v230, v235, v236, v241, v242, v276, v295, v296, v297, v302, v307, v317, v318;
-    u64 v328, v330, v332, v349, v351, v364, v369, v401, v406;
-    u8 v12, v13, v22, v24, v25, v27, v28, v47, v50, v56, v57, v59, v62, v66, v67, v74;
-    u8 v78, v86, v87, v89, v92, v94, v95, v99, v100, v101, v102, v104, v109, v110, v111, v113;
-    u8 v115, v120, v121, v124, v126, v127, v132, v134, v136, v138, v159, v164, v165, v167, v168, v169;
-    u8 v171, v173, v174, v177, v178, v179, v180, v183, v184, v185, v187, v188, v192, v196, v199, v205;
-    u8 v208, v211, v214, v215, v226, v229, v231, v233, v234, v237, v238, v239, v240, v248, v250, v251;
-    u8 v253, v255, v261, v263, v298, v301, v303, v308, v309, v312, v314, v315, v320, v322, v324, v326;
-    u8 v347, v352, v353, v355, v356, v357, v359, v361, v362, v365, v366, v367, v368, v371, v372, v373;
-    u8 v375, v377, v379, v381, v402, v404, v410, v411;
-    u16 v19, v65, v90, v91, v93, v97, v98, v145, v146, v147, v148, v149, v150, v151, v152, v182;
-    u16 v189, v197, v198, v216, v217, v218, v219, v221, v243, v244, v245, v246, v256, v257, v258, v259;
-    u16 v264, v265, v266, v267, v268, v269, v270, v271, v275, v278, v304, v305, v306, v333, v334, v335;
-    u16 v336, v337, v338, v339, v340, v370, v382, v383, v384, v385, v386, v387, v388, v389;
-    u32 v30, v31, v272, v273, v274, v407, v408, v414;
-    address v32, v33, v34, v35, v36, v37, v38, v39, v40, v41, v42, v43, v44, v45, v46, v49;
-    address v52, v53, v54, v55, v58, v60, v61, v63, v68, v72, v75, v76, v77, v81, v82, v88;
-    address v96, v103, v105, v108, v112, v114, v116, v119, v122, v123, v125, v128, v131, v133, v135, v137;
-    address v139, v141, v143, v153, v154, v155, v156, v157, v158, v160, v162, v166, v170, v172, v175, v186;
-    address v193, v195, v200, v201, v210, v213, v222, v223, v227, v228, v232, v247, v249, v252, v254, v260;
-    address v262, v277, v279, v280, v281, v282, v283, v284, v285, v286, v287, v288, v289, v290, v291, v292;
-    address v293, v294, v299, v300, v310, v311, v313, v316, v319, v321, v323, v325, v327, v329, v331, v341;
-    address v342, v343, v344, v345, v346, v348, v350, v354, v358, v360, v363, v374, v376, v378, v380, v390;
-    address v391, v392, v393, v394, v395, v396, v397, v398, v399, v400, v403, v405, v409, v412, v413;
-    u64 block0[3];
-    u64 block1[3];
-    u64 block2[4];
-    u64 block3[5];
-    u64 block4[3];
+u32 portable_ptpm_clock_handle(address a0, u16 a1, address a2, u64 a3, address a4, u64 a5, address a6) {
+    u16 v7, v36, v63, v64, v65, v66, v73, v74, v75, v87, v90, v91, v92, v98, v99, v100;
+    u16 v101, v117, v118, v119, v120, v121, v142, v162, v163;
+    u64 v8, v10, v19, v22, v35, v58, v68, v77, v83, v105, v106, v112, v114, v116, v135, v140;
+    u64 v145, v148, v153, v154, v155, v157, v170, v172, v173, v174, v175;
+    address v9, v12, v13, v14, v15, v16, v17, v20, v23, v24, v25, v28, v31, v32, v34, v39;
+    address v40, v43, v44, v47, v51, v53, v57, v59, v61, v67, v69, v71, v76, v80, v82, v85;
+    address v88, v93, v94, v96, v102, v107, v109, v111, v113, v115, v122, v123, v124, v125, v126, v127;
+    address v130, v132, v134, v137, v138, v139, v141, v144, v149, v158, v165, v166, v167, v168, v169, v171;
+    u32 v11, v151, v152;
+    u8 v18, v21, v26, v27, v29, v30, v33, v37, v38, v41, v42, v45, v46, v48, v49, v50;
+    u8 v52, v54, v55, v56, v60, v62, v70, v72, v78, v79, v81, v84, v86, v89, v95, v97;
+    u8 v103, v104, v108, v110, v129, v131, v133, v136, v143, v146, v147, v150, v156, v159, v160, v161;
+    u8 v164;
+    struct s1 v128;
+    u64 block0[1];
+    u64 block1[2];
+    u64 block2[3];
+    u64 block3[3];
+    u64 block4[4];
     u64 block5[3];
-    u64 block6[4];
-    u64 block7[2];
-    u64 block8[6];
-    u64 block9[2];
-    u64 block10[5];
-    u64 block11[2];
-    u64 block12[55];
-    u64 block13[55];
-    u64 block14[2];
-    v32 = ADDRESS(block0);
-    v33 = ADDRESS(block1);
-    v34 = ADDRESS(block2);
-    v35 = ADDRESS(block3);
-    v36 = ADDRESS(block4);
-    v37 = ADDRESS(block5);
-    v38 = ADDRESS(block6);
-    v39 = ADDRESS(block7);
-    v40 = ADDRESS(block8);
-    v41 = ADDRESS(block9);
-    v42 = ADDRESS(block10);
-    v43 = ADDRESS(block11);
-    v44 = ADDRESS(block12);
-    v45 = ADDRESS(block13);
-    v46 = ADDRESS(block14);
-    v47 = a2 == 0u;
-    v48 = v47 ? 4096u : 0u;
-    v49 = a2 + v48 * 1u;
-    v50 = a5 == 0u;
-    v51 = v50 ? 4096u : 0u;
-    v52 = a5 + v51 * 1u;
-    store64(a7, 0u);
-    store32(a8, 0u);
-    v53 = a8 + 4u * 1u;
-    store64(v53, 0u);
-    v54 = a0 + 9u * 1u;
-    store8(v54, 0u);
-    v55 = a0 + 8u * 1u;
-    v56 = load8(v55);
-    v57 = (u8)((v56) & UINT64_C(1));
-    if (v57) { goto L1; }
-    else { v31 = 32u; goto L79; }
+    v12 = ADDRESS(block0);
+    v13 = ADDRESS(block1);
+    v14 = ADDRESS(block2);
+    v15 = ADDRESS(block3);
+    v16 = ADDRESS(block4);
+    v17 = ADDRESS(block5);
+    v18 = a2 == 0u;
+    v19 = v18 ? 4096u : 0u;
+    v20 = a2 + v19 * 1u;
+    v21 = a4 == 0u;
+    v22 = v21 ? 4096u : 0u;
+    v23 = a4 + v22 * 1u;
+    store64(a6, 0u);
+    v24 = a0 + 9u * 1u;
+    store8(v24, 0u);
+    v25 = a0 + 8u * 1u;
+    v26 = load8(v25);
+    v27 = (u8)((v26) & UINT64_C(1));
+    if (v27) { goto L1; }
+    else { v11 = 32u; goto L36; }
 L1:;
-    v58 = load_address(a0);
-    v59 = load8(v58);
-    switch (v59) {
-    case 1u: goto L2;
-    case 4u: goto L76;
-    case 0u: v31 = 32u; goto L79;
-    case 2u: v31 = 32u; goto L79;
-    case 3u: v31 = 32u; goto L79;
-    case 5u: v31 = 32u; goto L79;
-    default: goto L78;
-    }
+    v28 = load_address(a0);
+    v29 = load8(v28);
+    v30 = v29 == 1u;
+    if (v30) { goto L2; }
+    else { v11 = 32u; goto L36; }
 L2:;
-    v60 = v58 + 8u * 1u;
-    v61 = load_address(v60);
-    memory_set(v45, 0u, 440u);
-    memory_set(v46, 0u, 12u);
-    store64(a7, 0u);
-    store32(a8, 0u);
-    store64(v53, 0u);
-    f47(v45, v61);
-    memory_cpy(v44, v45, 440u);
-    memory_set(v43, 0u, 16u);
-    v62 = a1 == 0u;
-    if (v62) { goto L74; }
+    v31 = v28 + 8u * 1u;
+    v32 = load_address(v31);
+    store64(a6, 0u);
+    v33 = a1 == 0u;
+    if (v33) { goto L35; }
     else { goto L3; }
 L3:;
-    v63 = v61 + 432u * 1u;
-    v64 = load64(v63);
-    v65 = (u16)(v64);
-    v66 = a1 > v65;
-    if (v66) { goto L74; }
+    v34 = v32 + 432u * 1u;
+    v35 = load64(v34);
+    v36 = (u16)(v35);
+    v37 = a1 > v36;
+    if (v37) { goto L35; }
     else { goto L4; }
 L4:;
-    v67 = a6 > 14u;
-    if (v67) { goto L9; }
+    v38 = a5 < 15u;
+    if (v38) { goto L34; }
     else { goto L5; }
 L5:;
-    memory_set(v42, 0u, 40u);
-    v68 = v61 + 440u * 1u;
-    f45(v42, v68);
-    v69 = (u64)((u64)v64 << (1u & 63u));
-    v70 = (u64)((u64)v69 & (u64)UINT64_C(131070));
-    v71 = (u64)((u64)v70 + (u64)UINT64_C(18446744073709551615));
-    v72 = v42 + 32u * 1u;
-    v73 = load64(v72);
-    v74 = v73 == 0u;
-    if (v74) { v11 = v71; goto L8; }
-    else { goto L6; }
+    store_address(v17, v23);
+    v39 = v17 + 8u * 1u;
+    store64(v39, a5);
+    v40 = v17 + 16u * 1u;
+    store64(v40, 0u);
+    memory_set(v16, 0u, 32u);
+    f8(v16, v20, a3);
+    v41 = load8(v16);
+    v42 = v41 == 0u;
+    if (v42) { goto L6; }
+    else { goto L25; }
 L6:;
-    v75 = v42 + 16u * 1u;
-    v76 = load_address(v42);
-    v9 = v71; v10 = 0u; goto L7;
+    v43 = v16 + 8u * 1u;
+    memory_cpy(v15, v43, 24u);
+    v44 = load_address(v15);
+    v45 = load8(v44);
+    v46 = (u8)((u32)v45 >> (4u & 7u));
+    v47 = v44 + 5u * 1u;
+    v48 = load8(v47);
+    v49 = (u8)((u32)v46 | (u32)v48);
+    v50 = v49 == 0u;
+    if (v50) { goto L7; }
+    else { goto L24; }
 L7:;
-    v77 = v75 + v10 * 1u;
-    v78 = load8(v77);
-    v79 = (u64)v78;
-    v80 = (u64)((u64)v79 * (u64)2136u);
-    v81 = v76 + v80 * 1u;
-    v82 = v81 + 1440u * 1u;
-    v83 = load64(v82);
-    v84 = v9 > v83 ? v9 : v83;
-    v85 = (u64)((u64)v10 + (u64)1u);
-    v86 = v85 == v73;
-    if (v86) { v11 = v84; goto L8; }
-    else { v9 = v84; v10 = v85; goto L7; }
+    v51 = v44 + 4u * 1u;
+    v52 = load8(v51);
+    v53 = v32 + 8u * 1u;
+    v54 = load8(v53);
+    v55 = v52 == v54;
+    if (v55) { goto L10; }
+    else { goto L8; }
 L8:;
-    v87 = v11 > a6;
-    if (v87) { goto L73; }
-    else { goto L9; }
+    v56 = f16(v32, v15);
+    if (v56) { goto L9; }
+    else { goto L24; }
 L9:;
-    v88 = a4 + 4u * 1u;
-    v89 = load8(v88);
-    switch (v89) {
-    case 0u: goto L12;
-    case 1u: goto L10;
-    case 2u: goto L11;
-    default: goto L72;
-    }
+    v57 = v44 + 20u * 1u;
+    v58 = load64(v57);
+    v59 = v44 + 28u * 1u;
+    v60 = load8(v59);
+    v61 = v44 + 29u * 1u;
+    v62 = load8(v61);
+    v63 = (u16)v60;
+    v64 = (u16)((u32)v63 << (8u & 15u));
+    v65 = (u16)v62;
+    v66 = (u16)((u32)v64 | (u32)v65);
+    v7 = v66; v8 = v58; goto L18;
 L10:;
-    v90 = load16(a4);
-    v91 = (u16)((u32)v90 + (u32)2u);
-    v92 = v91 < 9u;
-    v93 = (u16)((u32)449u >> (v91 & 15u));
-    v94 = (u8)((v93) & UINT64_C(1));
-    v95 = v92 ? v94 : 0u;
-    if (v95) { goto L13; }
-    else { goto L72; }
+    v67 = v44 + 20u * 1u;
+    v68 = load64(v67);
+    v69 = v44 + 28u * 1u;
+    v70 = load8(v69);
+    v71 = v44 + 29u * 1u;
+    v72 = load8(v71);
+    v73 = (u16)v70;
+    v74 = (u16)((u32)v73 << (8u & 15u));
+    v75 = (u16)v72;
+    v76 = v32 + 440u * 1u;
+    v77 = load64(v76);
+    v78 = v68 == v77;
+    if (v78) { goto L26; }
+    else { goto L11; }
 L11:;
-    v96 = a4 + 2u * 1u;
-    v97 = load16(v96);
-    v98 = (u16)((u32)v97 & (u32)1u);
-    v99 = v98 == 0u;
-    v100 = v97 < 1419u;
-    v101 = (u8)(((u32)v100 & (u32)v99) & UINT64_C(1));
-    if (v101) { goto L17; }
-    else { goto L72; }
+    v79 = f17(v32, v15);
+    if (v79) { goto L12; }
+    else { goto L27; }
 L12:;
-    f46(v43, v61, a1, v49, a3, v52, a6);
-    v102 = load8(v43);
-    v103 = v43 + 1u * 1u;
-    v104 = load8(v103);
-    v105 = v43 + 8u * 1u;
-    v106 = load64(v105);
-    v27 = v102; v28 = v104; v29 = v106; goto L61;
+    v80 = v15 + 16u * 1u;
+    v81 = load8(v80);
+    switch (v81) {
+    case 2u: goto L28;
+    case 4u: goto L28;
+    case 0u: goto L14;
+    case 1u: goto L14;
+    case 3u: goto L14;
+    default: goto L13;
+    }
 L13:;
-    v107 = (u64)v91;
-    v108 = ADDRESS(c338) + v107 * 1u;
-    v109 = load8(v108);
-    memory_set(v41, 0u, 16u);
-    f50(v40, v61, v49, a3);
-    v110 = load8(v40);
-    v111 = v110 == 1u;
-    if (v111) { goto L14; }
-    else { goto L15; }
+    UNREACHABLE;
 L14:;
-    v112 = v40 + 8u * 1u;
-    f54(v61, v112, v109);
-    f46(v41, v61, a1, v49, a3, v52, a6);
-    v12 = 5u; v13 = 0u; goto L16;
+    v82 = v44 + 34u * 1u;
+    v83 = load64(v82);
+    v84 = v83 == v77;
+    if (v84) { goto L16; }
+    else { goto L15; }
 L15:;
-    f46(v41, v61, a1, v49, a3, v52, a6);
-    v113 = load8(v41);
-    v114 = v41 + 1u * 1u;
-    v115 = load8(v114);
-    v12 = v113; v13 = v115; goto L16;
+    goto L33;
 L16:;
-    v116 = v41 + 8u * 1u;
-    v117 = load64(v116);
-    v27 = v12; v28 = v13; v29 = v117; goto L61;
+    v85 = v44 + 43u * 1u;
+    v86 = load8(v85);
+    v87 = (u16)v86;
+    v88 = v44 + 42u * 1u;
+    v89 = load8(v88);
+    v90 = (u16)v89;
+    v91 = (u16)((u32)v90 << (8u & 15u));
+    v92 = (u16)((u32)v74 | (u32)v75);
+    store64(v13, v68);
+    v93 = v13 + 8u * 1u;
+    store16(v93, v92);
+    v94 = v44 + 30u * 1u;
+    v95 = load8(v94);
+    v96 = v44 + 31u * 1u;
+    v97 = load8(v96);
+    v98 = (u16)v95;
+    v99 = (u16)((u32)v98 << (8u & 15u));
+    v100 = (u16)v97;
+    v101 = (u16)((u32)v99 | (u32)v100);
+    v102 = v15 + 17u * 1u;
+    v103 = load8(v102);
+    v104 = v103 == 0u;
+    v105 = v104 ? 52u : 54u;
+    v106 = v104 ? 53u : 55u;
+    v107 = v44 + v105 * 1u;
+    v108 = load8(v107);
+    v109 = v44 + v106 * 1u;
+    v110 = load8(v109);
+    v111 = v15 + 8u * 1u;
+    v112 = load64(v111);
+    v113 = v44 + 54u * 1u;
+    v114 = (u64)((u64)v112 + (u64)UINT64_C(18446744073709551562));
+    v115 = v104 ? v113 : ADDRESS(c138);
+    v116 = v104 ? v114 : 0u;
+    v117 = (u16)((u32)v91 | (u32)v87);
+    v118 = (u16)v108;
+    v119 = (u16)((u32)v118 << (8u & 15u));
+    v120 = (u16)v110;
+    v121 = (u16)((u32)v119 | (u32)v120);
+    store8(v14, v81);
+    v122 = v14 + 1u * 1u;
+    store8(v122, 0u);
+    v123 = v14 + 2u * 1u;
+    store16(v123, v121);
+    v124 = v14 + 4u * 1u;
+    store16(v124, v117);
+    v125 = v14 + 6u * 1u;
+    store16(v125, 0u);
+    v126 = v14 + 8u * 1u;
+    store_address(v126, v115);
+    v127 = v14 + 16u * 1u;
+    store64(v127, v116);
+    v128 = f18(v76, v13, v101, v14);
+    v129 = v128.m0;
+    switch (v129) {
+    case 0u: goto L33;
+    case 1u: goto L29;
+    case 2u: v7 = v92; v8 = v68; goto L18;
+    case 3u: goto L32;
+    case 4u: goto L31;
+    default: goto L17;
+    }
 L17:;
-    v118 = (u64)v97;
-    v119 = a4 + 5u * 1u;
-    memory_set(v39, 0u, 16u);
-    memory_set(v38, 0u, 32u);
-    f8(v38, v49, a3);
-    v120 = load8(v38);
-    v121 = v120 == 0u;
-    if (v121) { goto L18; }
-    else { goto L48; }
+    UNREACHABLE;
 L18:;
-    v122 = v38 + 8u * 1u;
-    memory_cpy(v37, v122, 24u);
-    v123 = v37 + 16u * 1u;
-    v124 = load8(v123);
-    v125 = v37 + 17u * 1u;
-    v126 = load8(v125);
-    v127 = v126 == 0u;
-    v128 = load_address(v37);
-    v129 = v127 ? 52u : 54u;
-    v130 = v127 ? 53u : 55u;
-    v131 = v128 + v129 * 1u;
-    v132 = load8(v131);
-    v133 = v128 + v130 * 1u;
-    v134 = load8(v133);
-    v135 = v128 + 42u * 1u;
-    v136 = load8(v135);
-    v137 = v128 + 43u * 1u;
-    v138 = load8(v137);
-    v139 = v37 + 8u * 1u;
-    v140 = load64(v139);
-    v141 = v128 + 54u * 1u;
-    v142 = (u64)((u64)v140 + (u64)UINT64_C(18446744073709551562));
-    v143 = v127 ? v141 : ADDRESS(c139);
-    v144 = v127 ? v142 : 0u;
-    v145 = (u16)v136;
-    v146 = (u16)((u32)v145 << (8u & 15u));
-    v147 = (u16)v138;
-    v148 = (u16)((u32)v146 | (u32)v147);
-    v149 = (u16)v132;
-    v150 = (u16)((u32)v149 << (8u & 15u));
-    v151 = (u16)v134;
-    v152 = (u16)((u32)v150 | (u32)v151);
-    store8(v36, v124);
-    v153 = v36 + 1u * 1u;
-    store8(v153, 0u);
-    v154 = v36 + 2u * 1u;
-    store16(v154, v152);
-    v155 = v36 + 4u * 1u;
-    store16(v155, v148);
-    v156 = v36 + 6u * 1u;
-    store16(v156, 0u);
-    v157 = v36 + 8u * 1u;
-    store_address(v157, v143);
-    v158 = v36 + 16u * 1u;
-    store64(v158, v144);
-    v159 = f59(v36);
-    if (v159) { goto L19; }
-    else { goto L25; }
+    v130 = v44 + 44u * 1u;
+    v131 = load8(v130);
+    v132 = v44 + 45u * 1u;
+    v133 = load8(v132);
+    v134 = v32 + 456u * 1u;
+    v135 = load64(v134);
+    v136 = v135 == 0u;
+    if (v136) { goto L23; }
+    else { goto L19; }
 L19:;
-    v160 = v128 + 34u * 1u;
-    v161 = load64(v160);
-    v162 = v61 + 440u * 1u;
-    v163 = load64(v162);
-    v164 = load8(v128);
-    v165 = (u8)((u32)v164 >> (4u & 7u));
-    v166 = v128 + 5u * 1u;
-    v167 = load8(v166);
-    v168 = (u8)((u32)v165 | (u32)v167);
-    v169 = v168 == 0u;
-    if (v169) { goto L20; }
-    else { goto L25; }
+    v137 = v32 + 448u * 1u;
+    v138 = load_address(v137);
+    v9 = v138; v10 = v135; goto L20;
 L20:;
-    v170 = v128 + 4u * 1u;
-    v171 = load8(v170);
-    v172 = v61 + 8u * 1u;
-    v173 = load8(v172);
-    v174 = v171 == v173;
-    if (v174) { goto L21; }
-    else { goto L25; }
+    v139 = v9 + 2136u * 1u;
+    v140 = (u64)((u64)v10 + (u64)UINT64_C(18446744073709551615));
+    v141 = v9 + 2112u * 1u;
+    v142 = load16(v141);
+    v143 = v7 == v142;
+    if (v143) { goto L21; }
+    else { goto L22; }
 L21:;
-    v175 = v128 + 20u * 1u;
-    v176 = load64(v175);
-    v177 = v176 == v163;
-    if (v177) { goto L25; }
+    v144 = v9 + 2104u * 1u;
+    v145 = load64(v144);
+    v146 = v8 == v145;
+    if (v146) { goto L30; }
     else { goto L22; }
 L22:;
-    v178 = v161 == v163;
-    v179 = v161 == UINT64_C(18446744073709551615);
-    v180 = (u8)(((u32)v179 | (u32)v178) & UINT64_C(1));
-    if (v180) { goto L23; }
-    else { goto L25; }
+    v147 = v140 == 0u;
+    if (v147) { goto L23; }
+    else { v9 = v139; v10 = v140; goto L20; }
 L23:;
-    switch (v148) {
-    case 65535u: goto L26;
-    case 0u: goto L25;
-    default: goto L24;
-    }
+    TRAP;
+    UNREACHABLE;
 L24:;
-    v181 = load64(v63);
-    v182 = (u16)(v181);
-    v183 = v148 > v182;
-    if (v183) { goto L25; }
-    else { goto L26; }
+    f38(v32, 1u, a1, v20, v43, v17);
+    v148 = load64(v40);
+    store64(a6, v148);
+    v11 = 1u; goto L36;
 L25:;
-    goto L48;
+    v149 = v16 + 1u * 1u;
+    v150 = load8(v149);
+    store64(a6, 0u);
+    v151 = (u32)v150;
+    v152 = (u32)((u32)v151 + (u32)16u);
+    v11 = v152; goto L36;
 L26:;
-    v184 = f60(v61, v37);
-    v185 = v184 == 0u;
-    if (v185) { goto L27; }
-    else { goto L48; }
+    f38(v32, 2u, a1, v20, v43, v17);
+    v153 = load64(v40);
+    store64(a6, v153);
+    v11 = 2u; goto L36;
 L27:;
-    if (v178) { v18 = 0u; v19 = v152; v20 = v176; v21 = v161; v22 = v171; goto L44; }
-    else { goto L28; }
+    f38(v32, 3u, a1, v20, v43, v17);
+    v154 = load64(v40);
+    store64(a6, v154);
+    v11 = 3u; goto L36;
 L28:;
-    v186 = v128 + 45u * 1u;
-    v187 = load8(v186);
-    v188 = v187 == 0u;
-    if (v188) { v18 = 0u; v19 = v152; v20 = v176; v21 = v163; v22 = v171; goto L44; }
-    else { goto L29; }
+    f38(v32, 4u, a1, v20, v43, v17);
+    v155 = load64(v40);
+    store64(a6, v155);
+    v11 = 4u; goto L36;
 L29:;
-    v189 = (u16)((u32)a1 + (u32)65535u);
-    v190 = load64(v63);
-    v191 = (u64)v189;
-    v192 = v190 > v191;
-    if (v192) { goto L30; }
-    else { v18 = 0u; v19 = v152; v20 = v176; v21 = v163; v22 = v171; goto L44; }
+    v156 = v128.m1;
+    f22(v32, a1, v43, v156, v17);
+    v157 = load64(v40);
+    store64(a6, v157);
+    v11 = 5u; goto L36;
 L30:;
-    v193 = v61 + 240u * 1u;
-    v194 = (u64)((u64)v191 * (u64)24u);
-    v195 = v193 + v194 * 1u;
-    v196 = load8(v195);
-    switch (v196) {
-    case 4u: goto L32;
-    case 5u: goto L32;
-    case 7u: goto L32;
-    case 8u: goto L32;
-    case 0u: v18 = 0u; v19 = v152; v20 = v176; v21 = v163; v22 = v171; goto L44;
-    case 1u: v18 = 0u; v19 = v152; v20 = v176; v21 = v163; v22 = v171; goto L44;
-    case 2u: v18 = 0u; v19 = v152; v20 = v176; v21 = v163; v22 = v171; goto L44;
-    case 3u: v18 = 0u; v19 = v152; v20 = v176; v21 = v163; v22 = v171; goto L44;
-    case 6u: v18 = 0u; v19 = v152; v20 = v176; v21 = v163; v22 = v171; goto L44;
-    default: goto L31;
-    }
+    store64(v12, 0u);
+    v158 = v9 + 2121u * 1u;
+    v159 = load8(v158);
+    v160 = (u8)((v159) & UINT64_C(1));
+    v161 = (u8)(((u32)v160 ^ (u32)1u) & UINT64_C(1));
+    v162 = v160 ? 0u : a1;
+    v163 = (u16)v161;
+    v164 = v131 > v133 ? (u8)((u32)v131 - (u32)v133) : 0u;
+    store8(v12, v52);
+    v165 = v12 + 2u * 1u;
+    store16(v165, v163);
+    v166 = v12 + 4u * 1u;
+    store16(v166, v162);
+    v167 = v12 + 6u * 1u;
+    store8(v167, v164);
+    v168 = v9 + 1432u * 1u;
+    v169 = v9 + 1440u * 1u;
+    v170 = load64(v169);
+    v171 = v9 + 1448u * 1u;
+    f37(v168, v170, v171, v12, a1, v17);
+    v172 = load64(v40);
+    store64(a6, v172);
+    v11 = 6u; goto L36;
 L31:;
-    UNREACHABLE;
+    f38(v32, 7u, a1, v20, v43, v17);
+    v173 = load64(v40);
+    store64(a6, v173);
+    v11 = 7u; goto L36;
 L32:;
-    v197 = (u16)(v190);
-    v198 = (u16)((u32)v197 + (u32)1u);
-    v199 = v198 > 1u;
-    if (v199) { goto L33; }
-    else { v18 = 0u; v19 = v152; v20 = v176; v21 = v163; v22 = v171; goto L44; }
+    f38(v32, 8u, a1, v20, v43, v17);
+    v174 = load64(v40);
+    store64(a6, v174);
+    v11 = 8u; goto L36;
 L33:;
-    v200 = v49 + 2u * 1u;
-    v201 = v49 + 3u * 1u;
-    v202 = (u64)v49;
-    v203 = (u64)a1;
-    v204 = (u64)v198;
-    v14 = 0u; v15 = 1u; goto L34;
+    f38(v32, 9u, a1, v20, v43, v17);
+    v175 = load64(v40);
+    store64(a6, v175);
+    v11 = 9u; goto L36;
 L34:;
-    v205 = v15 == v203;
-    if (v205) { v17 = v14; goto L42; }
-    else { goto L35; }
+    v11 = 34u; goto L36;
 L35:;
-    v206 = (u64)((u64)v15 + (u64)UINT64_C(18446744073709551615));
-    v207 = load64(v63);
-    v208 = v207 > v206;
-    if (v208) { goto L36; }
-    else { v17 = v14; goto L42; }
+    v11 = 33u; goto L36;
 L36:;
-    v209 = (u64)((u64)v206 * (u64)24u);
-    v210 = v193 + v209 * 1u;
-    v211 = load8(v210);
-    switch (v211) {
-    case 4u: goto L38;
-    case 5u: goto L38;
-    case 7u: goto L38;
-    case 8u: goto L38;
-    case 0u: v17 = v14; goto L42;
-    case 1u: v17 = v14; goto L42;
-    case 2u: v17 = v14; goto L42;
-    case 3u: v17 = v14; goto L42;
-    case 6u: v17 = v14; goto L42;
-    default: goto L37;
-    }
-L37:;
-    UNREACHABLE;
-L38:;
-    v212 = (u64)((u64)v14 * (u64)1476u);
-    v213 = v52 + v212 * 1u;
-    v214 = load8(v200);
-    v215 = load8(v201);
-    v216 = (u16)v214;
-    v217 = (u16)((u32)v216 << (8u & 15u));
-    v218 = (u16)v215;
-    v219 = (u16)((u32)v217 | (u32)v218);
-    v220 = (u64)v219;
-    v221 = (u16)(v15);
-    store16(v213, v221);
-    v222 = v213 + 2u * 1u;
-    store16(v222, v219);
-    v223 = v213 + 4u * 1u;
-    v224 = (u64)v223;
-    v225 = (u64)((u64)v224 - (u64)v202);
-    v226 = v225 < v220;
-    if (v226) { v16 = 0u; goto L40; }
-    else { goto L39; }
-L39:;
-    memory_move(v223, v49, v220);
-    goto L41;
-L40:;
-    v227 = v223 + v16 * 1u;
-    v228 = v49 + v16 * 1u;
-    v229 = load8(v228);
-    store8(v227, v229);
-    v230 = (u64)((u64)v16 + (u64)1u);
-    v231 = v230 == v220;
-    if (v231) { goto L41; }
-    else { v16 = v230; goto L40; }
-L41:;
-    v232 = v213 + 49u * 1u;
-    v233 = load8(v232);
-    v234 = (u8)((u32)v233 + (u32)255u);
-    store8(v232, v234);
-    v235 = (u64)((u64)v14 + (u64)1u);
-    v17 = v235; goto L42;
-L42:;
-    v236 = (u64)((u64)v15 + (u64)1u);
-    v237 = v236 == v204;
-    if (v237) { goto L43; }
-    else { v14 = v17; v15 = v236; goto L34; }
-L43:;
-    v238 = load8(v131);
-    v239 = load8(v133);
-    v240 = load8(v170);
-    v241 = load64(v162);
-    v242 = load64(v175);
-    v243 = (u16)v238;
-    v244 = (u16)((u32)v243 << (8u & 15u));
-    v245 = (u16)v239;
-    v246 = (u16)((u32)v244 | (u32)v245);
-    v18 = v17; v19 = v246; v20 = v242; v21 = v241; v22 = v240; goto L44;
-L44:;
-    v247 = v128 + 44u * 1u;
-    v248 = load8(v247);
-    v249 = v128 + 45u * 1u;
-    v250 = load8(v249);
-    v251 = v248 > v250 ? (u8)((u32)v248 - (u32)v250) : 0u;
-    v252 = v128 + 30u * 1u;
-    v253 = load8(v252);
-    v254 = v128 + 31u * 1u;
-    v255 = load8(v254);
-    v256 = (u16)v253;
-    v257 = (u16)((u32)v256 << (8u & 15u));
-    v258 = (u16)v255;
-    v259 = (u16)((u32)v257 | (u32)v258);
-    v260 = v128 + 28u * 1u;
-    v261 = load8(v260);
-    v262 = v128 + 29u * 1u;
-    v263 = load8(v262);
-    v264 = (u16)v261;
-    v265 = (u16)((u32)v264 << (8u & 15u));
-    v266 = (u16)v263;
-    v267 = (u16)((u32)v265 | (u32)v266);
-    v268 = (u16)v22;
-    v269 = swap16(a1);
-    v270 = swap16(v259);
-    v271 = swap16(v267);
-    v272 = (u32)v251;
-    v273 = (u32)((u32)v272 * (u32)257u);
-    v274 = (u32)((u32)v273 | (u32)UINT32_C(131072));
-    v275 = swap16(v19);
-    v276 = (u64)((u64)v18 * (u64)1476u);
-    v277 = v52 + v276 * 1u;
-    store16(v277, a1);
-    v278 = (u16)((u32)v97 + (u32)54u);
-    v279 = v277 + 2u * 1u;
-    store16(v279, v278);
-    v280 = v277 + 4u * 1u;
-    v281 = v277 + 58u * 1u;
-    store16(v280, 4621u);
-    v282 = v277 + 6u * 1u;
-    store16(v282, 13824u);
-    v283 = v277 + 8u * 1u;
-    store16(v283, v268);
-    v284 = v277 + 10u * 1u;
-    memory_set(v284, 0u, 14u);
-    v285 = v277 + 24u * 1u;
-    store64(v285, v21);
-    v286 = v277 + 32u * 1u;
-    store16(v286, v269);
-    v287 = v277 + 34u * 1u;
-    store16(v287, v270);
-    v288 = v277 + 36u * 1u;
-    store16(v288, 32516u);
-    v289 = v277 + 38u * 1u;
-    store64(v289, v20);
-    v290 = v277 + 46u * 1u;
-    store16(v290, v271);
-    v291 = v277 + 48u * 1u;
-    store32(v291, v274);
-    v292 = v277 + 52u * 1u;
-    store16(v292, 256u);
-    v293 = v277 + 54u * 1u;
-    store16(v293, 512u);
-    v294 = v277 + 56u * 1u;
-    store16(v294, v275);
-    v295 = (u64)v281;
-    v296 = (u64)v119;
-    v297 = (u64)((u64)v295 - (u64)v296);
-    v298 = v297 < v118;
-    if (v298) { v23 = 0u; goto L46; }
-    else { goto L45; }
-L45:;
-    memory_move(v281, v119, v118);
-    goto L47;
-L46:;
-    v299 = v281 + v23 * 1u;
-    v300 = v119 + v23 * 1u;
-    v301 = load8(v300);
-    store8(v299, v301);
-    v302 = (u64)((u64)v23 + (u64)1u);
-    v303 = v302 == v118;
-    if (v303) { goto L47; }
-    else { v23 = v302; goto L46; }
-L47:;
-    v304 = swap16(v278);
-    store16(v282, v304);
-    store16(v286, v269);
-    v305 = (u16)((u32)v97 + (u32)2u);
-    v306 = swap16(v305);
-    store16(v293, v306);
-    v307 = (u64)((u64)v18 + (u64)1u);
-    v24 = 9u; v25 = 0u; v26 = v307; goto L60;
-L48:;
-    memory_set(v34, 0u, 32u);
-    f8(v34, v49, a3);
-    v308 = load8(v34);
-    v309 = v308 == 0u;
-    if (v309) { goto L49; }
-    else { goto L59; }
-L49:;
-    v310 = v34 + 8u * 1u;
-    memory_cpy(v33, v310, 24u);
-    v311 = v33 + 16u * 1u;
-    v312 = load8(v311);
-    v313 = v33 + 17u * 1u;
-    v314 = load8(v313);
-    v315 = v314 == 0u;
-    v316 = load_address(v33);
-    v317 = v315 ? 52u : 54u;
-    v318 = v315 ? 53u : 55u;
-    v319 = v316 + v317 * 1u;
-    v320 = load8(v319);
-    v321 = v316 + v318 * 1u;
-    v322 = load8(v321);
-    v323 = v316 + 42u * 1u;
-    v324 = load8(v323);
-    v325 = v316 + 43u * 1u;
-    v326 = load8(v325);
-    v327 = v33 + 8u * 1u;
-    v328 = load64(v327);
-    v329 = v316 + 54u * 1u;
-    v330 = (u64)((u64)v328 + (u64)UINT64_C(18446744073709551562));
-    v331 = v315 ? v329 : ADDRESS(c139);
-    v332 = v315 ? v330 : 0u;
-    v333 = (u16)v324;
-    v334 = (u16)((u32)v333 << (8u & 15u));
-    v335 = (u16)v326;
-    v336 = (u16)((u32)v334 | (u32)v335);
-    v337 = (u16)v320;
-    v338 = (u16)((u32)v337 << (8u & 15u));
-    v339 = (u16)v322;
-    v340 = (u16)((u32)v338 | (u32)v339);
-    store8(v32, v312);
-    v341 = v32 + 1u * 1u;
-    store8(v341, 0u);
-    v342 = v32 + 2u * 1u;
-    store16(v342, v340);
-    v343 = v32 + 4u * 1u;
-    store16(v343, v336);
-    v344 = v32 + 6u * 1u;
-    store16(v344, 0u);
-    v345 = v32 + 8u * 1u;
-    store_address(v345, v331);
-    v346 = v32 + 16u * 1u;
-    store64(v346, v332);
-    v347 = f59(v32);
-    if (v347) { goto L50; }
-    else { goto L56; }
-L50:;
-    v348 = v316 + 34u * 1u;
-    v349 = load64(v348);
-    v350 = v61 + 440u * 1u;
-    v351 = load64(v350);
-    v352 = load8(v316);
-    v353 = (u8)((u32)v352 >> (4u & 7u));
-    v354 = v316 + 5u * 1u;
-    v355 = load8(v354);
-    v356 = (u8)((u32)v353 | (u32)v355);
-    v357 = v356 == 0u;
-    if (v357) { goto L51; }
-    else { goto L56; }
-L51:;
-    v358 = v316 + 4u * 1u;
-    v359 = load8(v358);
-    v360 = v61 + 8u * 1u;
-    v361 = load8(v360);
-    v362 = v359 == v361;
-    if (v362) { goto L52; }
-    else { goto L56; }
-L52:;
-    v363 = v316 + 20u * 1u;
-    v364 = load64(v363);
-    v365 = v364 == v351;
-    if (v365) { goto L56; }
-    else { goto L53; }
-L53:;
-    v366 = v349 == v351;
-    v367 = v349 == UINT64_C(18446744073709551615);
-    v368 = (u8)(((u32)v367 | (u32)v366) & UINT64_C(1));
-    if (v368) { goto L54; }
-    else { goto L56; }
-L54:;
-    switch (v336) {
-    case 65535u: goto L57;
-    case 0u: goto L56;
-    default: goto L55;
-    }
-L55:;
-    v369 = load64(v63);
-    v370 = (u16)(v369);
-    v371 = v336 > v370;
-    if (v371) { goto L56; }
-    else { goto L57; }
-L56:;
-    goto L59;
-L57:;
-    v372 = f60(v61, v33);
-    v373 = v372 == 1u;
-    if (v373) { goto L58; }
-    else { goto L59; }
-L58:;
-    v374 = v316 + 28u * 1u;
-    v375 = load8(v374);
-    v376 = v316 + 29u * 1u;
-    v377 = load8(v376);
-    v378 = v316 + 30u * 1u;
-    v379 = load8(v378);
-    v380 = v316 + 31u * 1u;
-    v381 = load8(v380);
-    v382 = (u16)v379;
-    v383 = (u16)((u32)v382 << (8u & 15u));
-    v384 = (u16)v381;
-    v385 = (u16)((u32)v383 | (u32)v384);
-    v386 = (u16)v375;
-    v387 = (u16)((u32)v386 << (8u & 15u));
-    v388 = (u16)v377;
-    v389 = (u16)((u32)v387 | (u32)v388);
-    store64(v35, v364);
-    v390 = v35 + 8u * 1u;
-    store16(v390, v389);
-    v391 = v35 + 10u * 1u;
-    store16(v391, v385);
-    v392 = v35 + 12u * 1u;
-    store32(v392, 0u);
-    v393 = v35 + 16u * 1u;
-    store8(v393, v312);
-    v394 = v35 + 17u * 1u;
-    store8(v394, 0u);
-    v395 = v35 + 18u * 1u;
-    store16(v395, v340);
-    v396 = v35 + 20u * 1u;
-    store16(v396, v336);
-    v397 = v35 + 22u * 1u;
-    store16(v397, 0u);
-    v398 = v35 + 24u * 1u;
-    store_address(v398, v331);
-    v399 = v35 + 32u * 1u;
-    store64(v399, v332);
-    f61(v61, v35, v119, v118);
-    f46(v39, v61, a1, v49, a3, v52, a6);
-    v400 = v39 + 8u * 1u;
-    v401 = load64(v400);
-    v24 = 5u; v25 = 0u; v26 = v401; goto L60;
-L59:;
-    f46(v39, v61, a1, v49, a3, v52, a6);
-    v402 = load8(v39);
-    v403 = v39 + 1u * 1u;
-    v404 = load8(v403);
-    v405 = v39 + 8u * 1u;
-    v406 = load64(v405);
-    v24 = v402; v25 = v404; v26 = v406; goto L60;
-L60:;
-    v27 = v24; v28 = v25; v29 = v26; goto L61;
-L61:;
-    store64(a7, v29);
-    f48(v46, v61, v44);
-    memory_cpy(a8, v46, 12u);
-    switch (v27) {
-    case 0u: goto L62;
-    case 9u: goto L70;
-    case 1u: v30 = 1u; goto L75;
-    case 2u: goto L63;
-    case 3u: goto L64;
-    case 4u: goto L65;
-    case 5u: goto L66;
-    case 6u: goto L67;
-    case 7u: goto L68;
-    case 8u: goto L69;
-    default: goto L71;
-    }
-L62:;
-    v407 = (u32)v28;
-    v408 = (u32)((u32)v407 + (u32)16u);
-    v30 = v408; goto L75;
-L63:;
-    v30 = 2u; goto L75;
-L64:;
-    v30 = 3u; goto L75;
-L65:;
-    v30 = 4u; goto L75;
-L66:;
-    v30 = 5u; goto L75;
-L67:;
-    v30 = 6u; goto L75;
-L68:;
-    v30 = 7u; goto L75;
-L69:;
-    v30 = 8u; goto L75;
-L70:;
-    v30 = 9u; goto L75;
-L71:;
-    UNREACHABLE;
-L72:;
-    v30 = 121u; goto L75;
-L73:;
-    v30 = 34u; goto L75;
-L74:;
-    v30 = 33u; goto L75;
-L75:;
-    v31 = v30; goto L79;
-L76:;
-    v409 = a4 + 4u * 1u;
-    v410 = load8(v409);
-    v411 = v410 == 0u;
-    if (v411) { goto L77; }
-    else { v31 = 122u; goto L79; }
-L77:;
-    v412 = v58 + 8u * 1u;
-    v413 = load_address(v412);
-    v414 = f49(v413, a1, v49, a3, 1u, v52, a6, a7, a8);
-    v31 = v414; goto L79;
-L78:;
-    UNREACHABLE;
-L79:;
-    return v31;
+    return v11;
 }
 
 u32 portable_ptpm_clock_image(address a0, address a1, u64 a2, address a3) {
@@ -28703,7 +30326,7 @@ L4:;
     UNREACHABLE;
 L5:;
     v17 = load_address(v4);
-    v18 = f62(v17, v8, a2);
+    v18 = f41(v17, v8, a2);
     v19 = v18.m0;
     v20 = v19 == 1u;
     if (v20) { goto L6; }
@@ -28717,45 +30340,70 @@ L7:;
 }
 
 u32 portable_ptpm_clock_image_of(address a0, address a1, u64 a2, address a3, address a4) {
-    u32 v5;
-    u8 v6, v10, v11, v13, v14, v19, v20;
-    u64 v7, v21, v23;
-    address v8, v9, v12, v15, v16, v17, v22;
-    struct s2 v18;
-    v6 = a1 == 0u;
-    v7 = v6 ? 4096u : 0u;
-    v8 = a1 + v7 * 1u;
+    u32 v5, v8;
+    u64 v6, v7, v11, v25, v29, v31, v33, v34, v35, v38, v39;
+    address v9, v12, v13, v16, v19, v20, v21, v26, v27, v28, v30, v32, v36, v37, v40, v41;
+    u8 v10, v14, v15, v17, v18, v23, v24;
+    struct s2 v22;
+    u64 block0[55];
+    v9 = ADDRESS(block0);
+    v10 = a1 == 0u;
+    v11 = v10 ? 4096u : 0u;
+    v12 = a1 + v11 * 1u;
     store64(a3, 0u);
     store64(a4, 0u);
-    v9 = a0 + 8u * 1u;
-    v10 = load8(v9);
-    v11 = (u8)((v10) & UINT64_C(1));
-    if (v11) { goto L1; }
-    else { v5 = 32u; goto L4; }
+    v13 = a0 + 8u * 1u;
+    v14 = load8(v13);
+    v15 = (u8)((v14) & UINT64_C(1));
+    if (v15) { goto L1; }
+    else { v8 = 32u; goto L5; }
 L1:;
-    v12 = load_address(a0);
-    v13 = load8(v12);
-    v14 = v13 == 4u;
-    if (v14) { goto L2; }
-    else { v5 = 32u; goto L4; }
+    v16 = load_address(a0);
+    v17 = load8(v16);
+    v18 = v17 == 4u;
+    if (v18) { goto L2; }
+    else { v8 = 32u; goto L5; }
 L2:;
-    v15 = v12 + 8u * 1u;
-    v16 = load_address(v15);
-    v17 = load_address(v16);
-    v18 = f62(v17, v8, a2);
-    v19 = v18.m0;
-    v20 = (u8)((v19) & UINT64_C(1));
-    if (v20) { goto L3; }
-    else { v5 = 34u; goto L4; }
+    v19 = v16 + 8u * 1u;
+    v20 = load_address(v19);
+    memory_set(v9, 0u, 440u);
+    v21 = load_address(v20);
+    v22 = f41(v21, v12, a2);
+    v23 = v22.m0;
+    v24 = (u8)((v23) & UINT64_C(1));
+    if (v24) { goto L3; }
+    else { v5 = 34u; v6 = 0u; v7 = 0u; goto L4; }
 L3:;
-    v21 = v18.m1;
-    v22 = v16 + 8u * 1u;
-    v23 = load64(v22);
-    store64(a3, v21);
-    store64(a4, v23);
-    v5 = 0u; goto L4;
+    v25 = v22.m1;
+    v26 = load_address(v20);
+    f44(v9, v26);
+    v27 = v20 + 448u * 1u;
+    memory_cpy(v27, v9, 440u);
+    v28 = v20 + 920u * 1u;
+    v29 = load64(v28);
+    v30 = v20 + 912u * 1u;
+    v31 = load64(v30);
+    v32 = v20 + 928u * 1u;
+    v33 = load64(v32);
+    v34 = (u64)((u64)v31 + (u64)v33);
+    v35 = (u64)((u64)v29 - (u64)v34);
+    v36 = v20 + 936u * 1u;
+    store64(v36, v35);
+    v37 = v20 + 944u * 1u;
+    v38 = load64(v37);
+    v39 = (u64)((u64)v38 + (u64)1u);
+    store64(v37, v39);
+    v40 = v20 + 952u * 1u;
+    store8(v40, 1u);
+    v41 = v20 + 954u * 1u;
+    store8(v41, 0u);
+    v5 = 0u; v6 = v39; v7 = v25; goto L4;
 L4:;
-    return v5;
+    store64(a3, v7);
+    store64(a4, v6);
+    v8 = v5; goto L5;
+L5:;
+    return v8;
 }
 
 u64 portable_ptpm_clock_most_sent(address a0) {
@@ -28794,7 +30442,7 @@ L5:;
     v15 = load_address(v1);
     memory_set(v6, 0u, 40u);
     v16 = v15 + 440u * 1u;
-    f45(v6, v16);
+    f42(v6, v16);
     v17 = v15 + 432u * 1u;
     v18 = load64(v17);
     v19 = (u64)((u64)v18 << (1u & 63u));
@@ -28828,629 +30476,620 @@ L9:;
     return v5;
 }
 
-u32 portable_ptpm_clock_read(address a0, u16 a1, u16 a2, address a3, u64 a4, address a5) {
-    address v6, v13, v16, v17, v20, v22, v23, v24, v25, v27, v32, v35, v36, v42, v48, v49;
-    address v51, v52, v54, v55, v57, v58, v60, v61, v63, v64, v66, v67, v71, v72, v76, v81;
-    address v84, v85, v86, v87, v89, v95, v96, v97;
-    u8 v7, v8, v10, v14, v18, v19, v21, v26, v30, v31, v34, v40, v46, v47, v50, v53;
-    u8 v56, v59, v62, v65, v68, v73, v74, v75, v88, v93, v98;
-    u64 v9, v11, v15, v28, v33, v37, v38, v39, v41, v43, v44, v45, v69, v82, v83, v90;
-    u64 v91, v92, v94;
-    u32 v12;
-    u16 v29, v70, v77, v78, v79, v80, v99;
-    u64 block0[18];
-    v13 = ADDRESS(block0);
-    v14 = a3 == 0u;
-    v15 = v14 ? 4096u : 0u;
-    v16 = a3 + v15 * 1u;
-    store64(a5, 0u);
-    v17 = a0 + 8u * 1u;
-    v18 = load8(v17);
-    v19 = (u8)((v18) & UINT64_C(1));
-    if (v19) { goto L1; }
-    else { v12 = 32u; goto L46; }
+u64 portable_ptpm_clock_next(address a0, address a1) {
+    u64 v2, v12, v16, v18, v27, v28, v29, v30, v31, v32;
+    address v3, v6, v9, v10, v11, v14, v15, v17, v19, v20, v22, v25, v26;
+    u8 v4, v5, v7, v8, v13;
+    u16 v21, v23, v24;
+    v3 = a0 + 8u * 1u;
+    v4 = load8(v3);
+    v5 = (u8)((v4) & UINT64_C(1));
+    if (v5) { goto L1; }
+    else { v2 = 0u; goto L10; }
 L1:;
-    v20 = load_address(a0);
-    v21 = load8(v20);
-    switch (v21) {
-    case 1u: goto L2;
-    case 4u: goto L3;
-    case 0u: v12 = 32u; goto L46;
-    case 2u: v12 = 32u; goto L46;
-    case 3u: v12 = 32u; goto L46;
-    case 5u: v12 = 32u; goto L46;
-    default: goto L4;
-    }
+    v6 = load_address(a0);
+    v7 = load8(v6);
+    v8 = v7 == 4u;
+    if (v8) { goto L2; }
+    else { v2 = 0u; goto L10; }
 L2:;
-    v22 = v20 + 8u * 1u;
-    v6 = v22; goto L5;
-L3:;
-    v23 = v20 + 8u * 1u;
-    v24 = load_address(v23);
-    v6 = v24; goto L5;
-L4:;
-    UNREACHABLE;
-L5:;
-    v25 = load_address(v6);
-    switch (a1) {
-    case 0u: goto L7;
-    case 2u: goto L7;
-    case 8192u: goto L7;
-    case 8193u: goto L7;
-    case 8194u: goto L7;
-    case 8195u: goto L7;
-    case 8196u: goto L7;
-    case 8197u: goto L7;
-    case 8198u: goto L7;
-    case 8199u: goto L7;
-    case 8200u: goto L7;
-    case 8201u: goto L7;
-    case 8202u: goto L7;
-    case 8203u: goto L7;
-    case 8204u: goto L7;
-    case 24577u: goto L7;
-    case 24576u: goto L7;
-    case 8208u: goto L7;
-    case 8209u: goto L7;
-    default: goto L6;
-    }
-L6:;
-    v12 = 36u; goto L46;
-L7:;
-    switch (a1) {
-    case 0u: goto L8;
-    case 24577u: goto L8;
-    case 24576u: goto L8;
-    case 8206u: goto L8;
-    case 8205u: goto L8;
-    case 8204u: goto L8;
-    case 8196u: goto L8;
-    case 8203u: goto L8;
-    case 8202u: goto L8;
-    case 8201u: goto L8;
-    default: goto L10;
-    }
-L8:;
-    v26 = a2 == 0u;
-    if (v26) { goto L44; }
+    v9 = v6 + 8u * 1u;
+    v10 = load_address(v9);
+    v11 = v10 + 928u * 1u;
+    v12 = load64(v11);
+    v13 = v12 != 0u;
+    if (v13) { goto L3; }
     else { goto L9; }
+L3:;
+    v14 = v10 + 888u * 1u;
+    v15 = v10 + 912u * 1u;
+    v16 = load64(v15);
+    v17 = load_address(v14);
+    v18 = (u64)((u64)v16 * (u64)1476u);
+    v19 = v17 + v18 * 1u;
+    v20 = v19 + 2u * 1u;
+    v21 = load16(v20);
+    v22 = v19 + 4u * 1u;
+    v23 = load16(v19);
+    store16(a1, v23);
+    v24 = load16(v20);
+    v25 = a1 + 2u * 1u;
+    store16(v25, v24);
+    v26 = a1 + 4u * 1u;
+    switch (v21) {
+    case 54u: goto L4;
+    case 56u: goto L5;
+    case 80u: goto L6;
+    default: goto L7;
+    }
+L4:;
+    memory_move(v26, v22, 54u);
+    goto L8;
+L5:;
+    memory_move(v26, v22, 56u);
+    goto L8;
+L6:;
+    memory_move(v26, v22, 80u);
+    goto L8;
+L7:;
+    v27 = (u64)v21;
+    f34(v26, v22, v27);
+    goto L8;
+L8:;
+    v28 = load64(v15);
+    v29 = (u64)((u64)v28 + (u64)1u);
+    store64(v15, v29);
+    v30 = load64(v11);
+    v31 = (u64)((u64)v30 + (u64)UINT64_C(18446744073709551615));
+    store64(v11, v31);
+    goto L9;
 L9:;
-    v27 = v25 + 432u * 1u;
-    v28 = load64(v27);
-    v29 = (u16)(v28);
-    v30 = a2 > v29;
-    if (v30) { goto L44; }
-    else { goto L10; }
+    v32 = (u64)v13;
+    v2 = v32; goto L10;
 L10:;
-    v31 = a4 < 130u;
-    if (v31) { goto L45; }
-    else { goto L11; }
-L11:;
-    memory_set(v13, 0u, 144u);
-    v32 = v13 + 136u * 1u;
-    switch (a1) {
-    case 0u: v8 = 0u; v9 = 0u; goto L37;
-    case 2u: v7 = 1u; goto L30;
-    case 8192u: goto L12;
-    case 8193u: goto L13;
-    case 8194u: goto L14;
-    case 8195u: goto L15;
-    case 8196u: goto L31;
-    case 8197u: goto L16;
-    case 8198u: goto L17;
-    case 8199u: goto L18;
-    case 8200u: goto L19;
-    case 8201u: goto L20;
-    case 8202u: goto L21;
-    case 8203u: goto L22;
-    case 8204u: goto L23;
-    case 8205u: goto L24;
-    case 8206u: goto L25;
-    case 8208u: goto L26;
-    case 8209u: goto L27;
-    case 24576u: goto L28;
-    case 24577u: goto L29;
-    default: v11 = 0u; goto L43;
-    }
-L12:;
-    v7 = 2u; goto L30;
-L13:;
-    v7 = 3u; goto L30;
-L14:;
-    v7 = 4u; goto L30;
-L15:;
-    v7 = 5u; goto L30;
-L16:;
-    v7 = 7u; goto L30;
-L17:;
-    v7 = 8u; goto L30;
-L18:;
-    v7 = 9u; goto L30;
-L19:;
-    v7 = 10u; goto L30;
-L20:;
-    v8 = 11u; v9 = 0u; goto L37;
-L21:;
-    v8 = 11u; v9 = 1u; goto L37;
-L22:;
-    v8 = 11u; v9 = 2u; goto L37;
-L23:;
-    v8 = 12u; v9 = 0u; goto L37;
-L24:;
-    v8 = 13u; v9 = 0u; goto L37;
-L25:;
-    v8 = 14u; v9 = 0u; goto L37;
-L26:;
-    v7 = 15u; goto L30;
-L27:;
-    v7 = 16u; goto L30;
-L28:;
-    v8 = 11u; v9 = 3u; goto L37;
-L29:;
-    v8 = 11u; v9 = 4u; goto L37;
-L30:;
-    f34(v25, v7, v13);
-    v33 = load64(v32);
-    v11 = v33; goto L43;
-L31:;
-    v34 = a2 == 0u;
-    if (v34) { v11 = 0u; goto L43; }
-    else { goto L32; }
-L32:;
-    v35 = v25 + 240u * 1u;
-    v36 = v25 + 432u * 1u;
-    v37 = load64(v36);
-    v38 = (u64)a2;
-    v39 = (u64)((u64)v38 + (u64)UINT64_C(18446744073709551615));
-    v40 = v39 < v37;
-    v41 = (u64)((u64)v39 * (u64)24u);
-    v42 = v35 + v41 * 1u;
-    if (v40) { goto L33; }
-    else { v11 = 0u; goto L43; }
-L33:;
-    v43 = (u64)v13;
-    v44 = (u64)v25;
-    v45 = (u64)((u64)v43 - (u64)v44);
-    v46 = v45 < 8u;
-    if (v46) { goto L34; }
-    else { goto L35; }
-L34:;
-    v47 = load8(v25);
-    store8(v13, v47);
-    v48 = v13 + 1u * 1u;
-    v49 = v25 + 1u * 1u;
-    v50 = load8(v49);
-    store8(v48, v50);
-    v51 = v13 + 2u * 1u;
-    v52 = v25 + 2u * 1u;
-    v53 = load8(v52);
-    store8(v51, v53);
-    v54 = v13 + 3u * 1u;
-    v55 = v25 + 3u * 1u;
-    v56 = load8(v55);
-    store8(v54, v56);
-    v57 = v13 + 4u * 1u;
-    v58 = v25 + 4u * 1u;
-    v59 = load8(v58);
-    store8(v57, v59);
-    v60 = v13 + 5u * 1u;
-    v61 = v25 + 5u * 1u;
-    v62 = load8(v61);
-    store8(v60, v62);
-    v63 = v13 + 6u * 1u;
-    v64 = v25 + 6u * 1u;
-    v65 = load8(v64);
-    store8(v63, v65);
-    v66 = v13 + 7u * 1u;
-    v67 = v25 + 7u * 1u;
-    v68 = load8(v67);
-    store8(v66, v68);
-    goto L36;
-L35:;
-    v69 = load64(v25);
-    store64(v13, v69);
-    goto L36;
-L36:;
-    v70 = swap16(a2);
-    v71 = v13 + 8u * 1u;
-    store16(v71, v70);
-    v72 = v42 + 1u * 1u;
-    v73 = load8(v72);
-    v74 = load8(v42);
-    v75 = (u8)((u32)v74 + (u32)1u);
-    v76 = v13 + 10u * 1u;
-    v77 = (u16)v73;
-    v78 = (u16)((u32)v77 << (8u & 15u));
-    v79 = (u16)v75;
-    v80 = (u16)((u32)v78 | (u32)v79);
-    store16(v76, v80);
-    v81 = v42 + 8u * 1u;
-    v82 = load64(v81);
-    v83 = swap64(v82);
-    v84 = v13 + 12u * 1u;
-    store64(v84, v83);
-    v85 = v42 + 16u * 1u;
-    v86 = v13 + 20u * 1u;
-    memory_cpy(v86, v85, 5u);
-    v87 = v13 + 25u * 1u;
-    store8(v87, 2u);
-    store64(v32, 26u);
-    v11 = 26u; goto L43;
-L37:;
-    v88 = a2 == 0u;
-    if (v88) { v11 = 0u; goto L43; }
-    else { goto L38; }
-L38:;
-    v89 = v25 + 432u * 1u;
-    v90 = load64(v89);
-    v91 = (u64)a2;
-    v92 = (u64)((u64)v91 + (u64)UINT64_C(18446744073709551615));
-    v93 = v92 < v90;
-    v94 = (u64)((u64)v92 * (u64)24u);
-    v95 = v25 + v94 * 1u;
-    if (v93) { goto L39; }
-    else { v11 = 0u; goto L43; }
-L39:;
-    switch (v8) {
-    case 11u: goto L40;
-    case 12u: v10 = 2u; goto L42;
-    case 0u: v11 = 0u; goto L43;
-    case 1u: v11 = 0u; goto L43;
-    case 2u: v11 = 0u; goto L43;
-    case 3u: v11 = 0u; goto L43;
-    case 4u: v11 = 0u; goto L43;
-    case 5u: v11 = 0u; goto L43;
-    case 14u: v11 = 0u; goto L43;
-    case 7u: v11 = 0u; goto L43;
-    case 8u: v11 = 0u; goto L43;
-    case 9u: v11 = 0u; goto L43;
-    case 10u: v11 = 0u; goto L43;
-    case 13u: v11 = 0u; goto L43;
-    default: goto L41;
-    }
-L40:;
-    v96 = v95 + 256u * 1u;
-    v97 = v96 + v9 * 1u;
-    v98 = load8(v97);
-    v10 = v98; goto L42;
-L41:;
-    UNREACHABLE;
-L42:;
-    v99 = (u16)v10;
-    store16(v13, v99);
-    store64(v32, 2u);
-    v11 = 2u; goto L43;
-L43:;
-    memory_cpy(v16, v13, v11);
-    store64(a5, v11);
-    v12 = 0u; goto L46;
-L44:;
-    v12 = 33u; goto L46;
-L45:;
-    v12 = 34u; goto L46;
-L46:;
-    return v12;
+    return v2;
 }
 
-u32 portable_ptpm_clock_saved(address a0, u64 a1, address a2, u64 a3, address a4) {
-    u64 v5, v6, v7, v9, v10, v12, v14, v18, v32, v33, v34, v35, v37, v43, v44, v47;
-    u64 v48, v49, v53, v61, v71, v76, v81, v89, v97, v99, v101, v111;
-    address v8, v11, v13, v16, v19, v20, v23, v26, v27, v28, v30, v31, v36, v39, v40, v41;
-    address v45, v46, v52, v55, v58, v60, v62, v64, v66, v68, v70, v73, v74, v75, v77, v80;
-    address v84, v88, v91, v92, v96, v100, v102, v104, v105, v106, v107, v108, v109, v110;
-    u32 v15;
-    u8 v17, v21, v22, v24, v25, v29, v38, v42, v50, v51, v54, v56, v57, v59, v65, v67;
-    u8 v72, v79, v82, v83, v85, v86, v87, v90, v94, v95, v98, v112;
-    u16 v63, v69, v78, v93, v103;
-    u64 block0[5];
-    v16 = ADDRESS(block0);
-    v17 = a2 == 0u;
-    v18 = v17 ? 4096u : 0u;
-    v19 = a2 + v18 * 1u;
-    store64(a4, 0u);
-    v20 = a0 + 8u * 1u;
-    v21 = load8(v20);
-    v22 = (u8)((v21) & UINT64_C(1));
-    if (v22) { goto L1; }
-    else { v15 = 32u; goto L26; }
+u32 portable_ptpm_clock_saved(address a0, u64 a1) {
+    u32 v2, v4;
+    u64 v3, v18, v23, v25, v26, v31, v33, v34;
+    address v5, v6, v9, v12, v13, v14, v17, v20, v21, v22, v24, v27, v30, v32, v35, v36;
+    address v37, v38;
+    u8 v7, v8, v10, v11, v15, v16, v19, v28, v29;
+    u64 block0[55];
+    v5 = ADDRESS(block0);
+    v6 = a0 + 8u * 1u;
+    v7 = load8(v6);
+    v8 = (u8)((v7) & UINT64_C(1));
+    if (v8) { goto L1; }
+    else { v4 = 32u; goto L8; }
 L1:;
-    v23 = load_address(a0);
-    v24 = load8(v23);
-    v25 = v24 == 4u;
-    if (v25) { goto L2; }
-    else { v15 = 32u; goto L26; }
+    v9 = load_address(a0);
+    v10 = load8(v9);
+    v11 = v10 == 4u;
+    if (v11) { goto L3; }
+    else { v4 = 32u; goto L8; }
 L2:;
-    v26 = v23 + 8u * 1u;
-    v27 = load_address(v26);
-    v28 = load_address(v27);
-    v29 = a3 > 14u;
-    if (v29) { goto L7; }
+    v4 = v2; goto L8;
+L3:;
+    v12 = v9 + 8u * 1u;
+    v13 = load_address(v12);
+    memory_set(v5, 0u, 440u);
+    v14 = v13 + 952u * 1u;
+    v15 = load8(v14);
+    v16 = (u8)((v15) & UINT64_C(1));
+    if (v16) { goto L4; }
+    else { v2 = 119u; goto L2; }
+L4:;
+    v17 = v13 + 944u * 1u;
+    v18 = load64(v17);
+    v19 = a1 == v18;
+    if (v19) { goto L5; }
+    else { v2 = 119u; goto L2; }
+L5:;
+    v20 = v13 + 448u * 1u;
+    f44(v5, v20);
+    v21 = v13 + 8u * 1u;
+    memory_cpy(v21, v5, 440u);
+    v22 = v13 + 920u * 1u;
+    v23 = load64(v22);
+    v24 = v13 + 912u * 1u;
+    v25 = load64(v24);
+    v26 = (u64)((u64)v23 - (u64)v25);
+    v27 = v13 + 954u * 1u;
+    v28 = load8(v27);
+    v29 = (u8)((v28) & UINT64_C(1));
+    if (v29) { goto L6; }
+    else { v3 = v26; goto L7; }
+L6:;
+    v30 = v13 + 928u * 1u;
+    v31 = load64(v30);
+    v32 = v13 + 936u * 1u;
+    v33 = load64(v32);
+    v34 = (u64)((u64)v33 + (u64)v31);
+    v3 = v34; goto L7;
+L7:;
+    v35 = v13 + 928u * 1u;
+    store64(v35, v3);
+    v36 = v13 + 936u * 1u;
+    store64(v36, 0u);
+    v37 = v13 + 953u * 1u;
+    store8(v37, v28);
+    store8(v14, 0u);
+    v38 = v13 + 955u * 1u;
+    store8(v38, 1u);
+    v2 = 0u; goto L2;
+L8:;
+    return v4;
+}
+
+u32 portable_ptpm_clock_saving(address a0, u64 a1) {
+    u64 v2, v3, v4, v5, v7, v22, v27, v28, v29, v30, v32, v38, v39, v42, v43, v44;
+    u64 v49, v52, v54, v57, v58, v59, v61, v62, v66, v73, v80, v88, v100, v104, v107, v122;
+    u64 v129, v137, v149, v153, v162, v169, v177, v189, v193, v196;
+    address v6, v9, v10, v11, v12, v13, v14, v16, v19, v21, v23, v25, v26, v31, v34, v35;
+    address v36, v40, v41, v55, v60, v63, v64, v69, v70, v71, v72, v75, v77, v78, v79, v81;
+    address v83, v85, v86, v87, v96, v97, v98, v99, v101, v102, v103, v108, v109, v110, v111, v112;
+    address v113, v114, v115, v116, v118, v119, v120, v121, v124, v126, v127, v128, v130, v132, v134, v135;
+    address v136, v145, v146, v147, v148, v150, v151, v152, v158, v159, v160, v161, v164, v166, v167, v168;
+    address v170, v172, v174, v175, v176, v185, v186, v187, v188, v190, v191, v192;
+    u32 v8;
+    u8 v15, v17, v18, v20, v24, v33, v37, v45, v46, v47, v48, v53, v56, v67, v68, v74;
+    u8 v76, v82, v84, v89, v90, v91, v92, v93, v94, v95, v105, v106, v117, v123, v125, v131;
+    u8 v133, v138, v139, v140, v141, v142, v143, v144, v154, v155, v156, v157, v163, v165, v171, v173;
+    u8 v178, v179, v180, v181, v182, v183, v184, v194, v195;
+    struct pair v50, v51, v65;
+    u64 block0[1];
+    u64 block1[5];
+    u64 block2[109];
+    u64 block3[55];
+    u64 block4[55];
+    v9 = ADDRESS(block0);
+    v10 = ADDRESS(block1);
+    v11 = ADDRESS(block2);
+    v12 = ADDRESS(block3);
+    v13 = ADDRESS(block4);
+    v14 = a0 + 9u * 1u;
+    v15 = load8(v14);
+    v16 = a0 + 8u * 1u;
+    v17 = load8(v16);
+    v18 = (u8)((v17) & UINT64_C(1));
+    if (v18) { goto L1; }
+    else { v8 = 32u; goto L64; }
+L1:;
+    v19 = load_address(a0);
+    v20 = load8(v19);
+    v21 = v19 + 8u * 1u;
+    v22 = load64(v21);
+    v23 = (address)v22;
+    memory_set(v19, 0u, 16u);
+    switch (v20) {
+    case 1u: goto L2;
+    case 4u: goto L61;
+    case 0u: goto L62;
+    case 2u: goto L62;
+    case 3u: goto L62;
+    case 5u: goto L62;
+    default: goto L63;
+    }
+L2:;
+    memory_set(v12, 0u, 440u);
+    memory_set(v13, 0u, 440u);
+    v24 = a1 > 14u;
+    if (v24) { goto L8; }
     else { goto L3; }
 L3:;
-    memory_set(v16, 0u, 40u);
-    v30 = v28 + 440u * 1u;
-    f45(v16, v30);
-    v31 = v28 + 432u * 1u;
+    memory_set(v10, 0u, 40u);
+    v25 = v23 + 440u * 1u;
+    f42(v10, v25);
+    v26 = v23 + 432u * 1u;
+    v27 = load64(v26);
+    v28 = (u64)((u64)v27 << (1u & 63u));
+    v29 = (u64)((u64)v28 & (u64)UINT64_C(131070));
+    v30 = (u64)((u64)v29 + (u64)UINT64_C(18446744073709551615));
+    v31 = v10 + 32u * 1u;
     v32 = load64(v31);
-    v33 = (u64)((u64)v32 << (1u & 63u));
-    v34 = (u64)((u64)v33 & (u64)UINT64_C(131070));
-    v35 = (u64)((u64)v34 + (u64)UINT64_C(18446744073709551615));
-    v36 = v16 + 32u * 1u;
-    v37 = load64(v36);
-    v38 = v37 == 0u;
-    if (v38) { v7 = v35; goto L6; }
+    v33 = v32 == 0u;
+    if (v33) { v4 = v30; goto L6; }
     else { goto L4; }
 L4:;
-    v39 = v16 + 16u * 1u;
-    v40 = load_address(v16);
-    v5 = v35; v6 = 0u; goto L5;
+    v34 = v10 + 16u * 1u;
+    v35 = load_address(v10);
+    v2 = v30; v3 = 0u; goto L5;
 L5:;
-    v41 = v39 + v6 * 1u;
-    v42 = load8(v41);
-    v43 = (u64)v42;
-    v44 = (u64)((u64)v43 * (u64)2136u);
-    v45 = v40 + v44 * 1u;
-    v46 = v45 + 1440u * 1u;
-    v47 = load64(v46);
-    v48 = v5 > v47 ? v5 : v47;
-    v49 = (u64)((u64)v6 + (u64)1u);
-    v50 = v49 == v37;
-    if (v50) { v7 = v48; goto L6; }
-    else { v5 = v48; v6 = v49; goto L5; }
+    v36 = v34 + v3 * 1u;
+    v37 = load8(v36);
+    v38 = (u64)v37;
+    v39 = (u64)((u64)v38 * (u64)2136u);
+    v40 = v35 + v39 * 1u;
+    v41 = v40 + 1440u * 1u;
+    v42 = load64(v41);
+    v43 = v2 > v42 ? v2 : v42;
+    v44 = (u64)((u64)v3 + (u64)1u);
+    v45 = v44 == v32;
+    if (v45) { v4 = v43; goto L6; }
+    else { v2 = v43; v3 = v44; goto L5; }
 L6:;
-    v51 = v7 > a3;
-    if (v51) { v15 = 34u; goto L26; }
+    v46 = v4 > a1;
+    if (v46) { goto L15; }
     else { goto L7; }
 L7:;
-    v52 = v27 + 8u * 1u;
-    v53 = load64(v52);
-    v54 = a1 == v53;
-    if (v54) { goto L8; }
-    else { v15 = 119u; goto L26; }
-L8:;
-    v55 = v27 + 16u * 1u;
-    v56 = load8(v55);
-    v57 = v56 == 2u;
-    if (v57) { goto L9; }
-    else { v14 = 0u; goto L25; }
-L9:;
-    v58 = v27 + 18u * 1u;
-    v59 = load8(v58);
-    v60 = v27 + 20u * 1u;
-    v61 = load64(v60);
-    v62 = v27 + 28u * 1u;
-    v63 = load16(v62);
-    v64 = v27 + 32u * 1u;
-    v65 = load8(v64);
-    v66 = v27 + 33u * 1u;
-    v67 = load8(v66);
-    v68 = v27 + 34u * 1u;
-    v69 = load16(v68);
-    v70 = v28 + 456u * 1u;
-    v71 = load64(v70);
-    v72 = v71 == 0u;
-    if (v72) { goto L14; }
+    v47 = a1 == 0u;
+    if (v47) { v6 = v9; v7 = 0u; goto L14; }
     else { goto L10; }
+L8:;
+    v48 = a1 < UINT64_C(6248897043939551);
+    if (v48) { goto L10; }
+    else { goto L9; }
+L9:;
+    store64(v19, 1u);
+    store64(v21, v22);
+    v8 = 35u; goto L64;
 L10:;
-    v73 = v28 + 448u * 1u;
-    v74 = load_address(v73);
-    v8 = v74; v9 = v71; goto L11;
-L11:;
-    v75 = v8 + 2136u * 1u;
-    v76 = (u64)((u64)v9 + (u64)UINT64_C(18446744073709551615));
-    v77 = v8 + 2112u * 1u;
-    v78 = load16(v77);
-    v79 = v63 == v78;
-    if (v79) { goto L12; }
-    else { goto L13; }
-L12:;
-    v80 = v8 + 2104u * 1u;
-    v81 = load64(v80);
-    v82 = v61 == v81;
-    if (v82) { goto L15; }
-    else { goto L13; }
-L13:;
-    v83 = v76 == 0u;
-    if (v83) { goto L14; }
-    else { v8 = v75; v9 = v76; goto L11; }
-L14:;
-    TRAP;
-    UNREACHABLE;
-L15:;
-    v84 = v8 + 2121u * 1u;
-    v85 = load8(v84);
-    v86 = (u8)((v85) & UINT64_C(1));
-    v87 = v65 > v67 ? (u8)((u32)v65 - (u32)v67) : 0u;
-    v88 = v8 + 1440u * 1u;
-    v89 = load64(v88);
-    v90 = v89 == 0u;
-    if (v90) { v14 = 0u; goto L25; }
+    v49 = (u64)((u64)a1 * (u64)1476u);
+    v50 = portable_rattle_alloc(v49, 2u);
+    v51 = v50;
+    v52 = v51.m0;
+    v53 = (u8)((v52) & UINT64_C(1));
+    if (v53) { goto L11; }
     else { goto L16; }
+L11:;
+    v54 = v51.m1;
+    v55 = (address)v54;
+    v56 = a1 == 1u;
+    if (v56) { v5 = 0u; goto L13; }
+    else { goto L12; }
+L12:;
+    v57 = (u64)((u64)v49 + (u64)UINT64_C(18446744073709550140));
+    memory_set(v55, 0u, v57);
+    v58 = (u64)((u64)a1 + (u64)UINT64_C(18446744073709551615));
+    v5 = v58; goto L13;
+L13:;
+    v59 = (u64)((u64)v5 * (u64)1476u);
+    v60 = v55 + v59 * 1u;
+    memory_set(v60, 0u, 1476u);
+    v61 = (u64)((u64)v5 + (u64)1u);
+    v6 = v55; v7 = v61; goto L14;
+L14:;
+    f44(v12, v23);
+    f44(v13, v23);
+    v62 = load64(v12);
+    v63 = v12 + 8u * 1u;
+    memory_cpy(v11, v63, 432u);
+    v64 = v11 + 432u * 1u;
+    memory_cpy(v64, v13, 440u);
+    v65 = portable_rattle_alloc(960u, 8u);
+    v66 = v65.m0;
+    v67 = (u8)((v66) & UINT64_C(1));
+    if (v67) { goto L30; }
+    else { goto L44; }
+L15:;
+    store64(v19, 1u);
+    store64(v21, v22);
+    v8 = 34u; goto L64;
 L16:;
-    v91 = v8 + 1448u * 1u;
-    v92 = v8 + 1432u * 1u;
-    v93 = (u16)((u32)v69 >> (8u & 15u));
-    v94 = (u8)(v93);
-    v95 = (u8)(v69);
-    v10 = 0u; v11 = v91; v12 = v89; v13 = v92; goto L17;
-L17:;
-    v96 = v13 + 1u * 1u;
-    v97 = (u64)((u64)v12 + (u64)UINT64_C(18446744073709551615));
-    v98 = load8(v13);
-    v99 = (u64)v98;
-    v100 = v11 + v99 * 1u;
-    v101 = (u64)((u64)v10 * (u64)1476u);
-    v102 = v19 + v101 * 1u;
-    store16(v102, v69);
-    v103 = (u16)v98;
-    v104 = v102 + 2u * 1u;
-    store16(v104, v103);
-    v105 = v102 + 4u * 1u;
-    switch (v98) {
-    case 54u: goto L18;
-    case 56u: goto L19;
-    case 80u: goto L20;
-    default: goto L21;
+    v68 = load8(v19);
+    v69 = load_address(v21);
+    store64(v19, 1u);
+    store64(v21, v22);
+    switch (v68) {
+    case 1u: goto L17;
+    case 2u: goto L19;
+    case 3u: goto L24;
+    case 4u: goto L25;
+    case 5u: goto L29;
+    case 0u: v8 = 35u; goto L64;
+    default: goto L60;
     }
+L17:;
+    v70 = v69 + 448u * 1u;
+    v71 = load_address(v70);
+    v72 = v69 + 464u * 1u;
+    v73 = load64(v72);
+    portable_rattle_dealloc(v69);
+    v74 = v73 == 0u;
+    if (v74) { v8 = 35u; goto L64; }
+    else { goto L18; }
 L18:;
-    memory_move(v105, v11, 54u);
-    goto L22;
+    portable_rattle_dealloc(v71);
+    v8 = 35u; goto L64;
 L19:;
-    memory_move(v105, v11, 56u);
-    goto L22;
+    v75 = v69 + 48u * 1u;
+    v76 = load8(v75);
+    v77 = v69 + 64u * 1u;
+    v78 = load_address(v77);
+    v79 = v69 + 80u * 1u;
+    v80 = load64(v79);
+    v81 = v69 + 1576u * 1u;
+    v82 = load8(v81);
+    v83 = v69 + 1592u * 1u;
+    v84 = load8(v83);
+    v85 = v69 + 1600u * 1u;
+    v86 = load_address(v85);
+    v87 = v69 + 1616u * 1u;
+    v88 = load64(v87);
+    portable_rattle_dealloc(v69);
+    v89 = v76 == 0u;
+    v90 = v80 == 0u;
+    v91 = v89 ? 1u : v90;
+    if (v91) { goto L21; }
+    else { goto L20; }
 L20:;
-    memory_move(v105, v11, 80u);
-    goto L22;
+    portable_rattle_dealloc(v78);
+    goto L21;
 L21:;
-    f37(v105, v11, v99);
-    goto L22;
+    v92 = v82 == 0u;
+    if (v92) { v8 = 35u; goto L64; }
+    else { goto L22; }
 L22:;
-    v106 = v102 + 8u * 1u;
-    store8(v106, v59);
-    if (v86) { goto L24; }
+    v93 = v84 != 0u;
+    v94 = v88 == 0u;
+    v95 = v93 ? 1u : v94;
+    if (v95) { v8 = 35u; goto L64; }
     else { goto L23; }
 L23:;
-    v107 = v102 + 32u * 1u;
-    store8(v107, v94);
-    v108 = v102 + 33u * 1u;
-    store8(v108, v95);
-    goto L24;
+    portable_rattle_dealloc(v86);
+    v8 = 35u; goto L64;
 L24:;
-    v109 = v102 + 48u * 1u;
-    store8(v109, v87);
-    v110 = v102 + 49u * 1u;
-    store8(v110, v87);
-    v111 = (u64)((u64)v10 + (u64)1u);
-    v112 = v97 == 0u;
-    if (v112) { v14 = v89; goto L25; }
-    else { v10 = v111; v11 = v100; v12 = v97; v13 = v96; goto L17; }
+    f13(v69);
+    v8 = 35u; goto L64;
 L25:;
-    memory_set(v55, 0u, 20u);
-    store64(a4, v14);
-    v15 = 0u; goto L26;
+    v96 = load_address(v69);
+    v97 = v69 + 888u * 1u;
+    v98 = load_address(v97);
+    v99 = v69 + 904u * 1u;
+    v100 = load64(v99);
+    portable_rattle_dealloc(v69);
+    v101 = v96 + 448u * 1u;
+    v102 = load_address(v101);
+    v103 = v96 + 464u * 1u;
+    v104 = load64(v103);
+    portable_rattle_dealloc(v96);
+    v105 = v104 == 0u;
+    if (v105) { goto L27; }
+    else { goto L26; }
 L26:;
-    return v15;
-}
-
-u32 portable_ptpm_clock_saving(address a0) {
-    u32 v1;
-    address v2, v5, v8, v10, v12, v19, v20, v21, v22, v24, v26;
-    u8 v3, v4, v6, v7, v9, v15, v16, v23, v25;
-    u64 v11, v14, v18, v27;
-    struct pair v13;
-    u16 v17;
-    v2 = a0 + 9u * 1u;
-    v3 = load8(v2);
-    v4 = (u8)((v3) & UINT64_C(1));
-    v5 = a0 + 8u * 1u;
-    v6 = load8(v5);
-    v7 = (u8)((v6) & UINT64_C(1));
-    if (v7) { goto L1; }
-    else { v1 = 32u; goto L18; }
-L1:;
-    v8 = load_address(a0);
-    v9 = load8(v8);
-    v10 = v8 + 8u * 1u;
-    v11 = load64(v10);
-    v12 = (address)v11;
-    memory_set(v8, 0u, 16u);
-    switch (v9) {
-    case 1u: goto L2;
-    case 4u: goto L15;
-    case 0u: goto L16;
-    case 2u: goto L16;
-    case 3u: goto L16;
-    case 5u: goto L16;
-    default: goto L17;
+    portable_rattle_dealloc(v102);
+    goto L27;
+L27:;
+    v106 = v100 == 0u;
+    if (v106) { v8 = 35u; goto L64; }
+    else { goto L28; }
+L28:;
+    portable_rattle_dealloc(v98);
+    v8 = 35u; goto L64;
+L29:;
+    f14(v69);
+    v8 = 35u; goto L64;
+L30:;
+    v107 = v65.m1;
+    v108 = (address)v107;
+    store_address(v108, v23);
+    v109 = v108 + 8u * 1u;
+    store64(v109, v62);
+    v110 = v108 + 16u * 1u;
+    memory_cpy(v110, v11, 872u);
+    v111 = v108 + 888u * 1u;
+    store_address(v111, v6);
+    v112 = v108 + 896u * 1u;
+    store64(v112, v7);
+    v113 = v108 + 904u * 1u;
+    store64(v113, a1);
+    v114 = v108 + 912u * 1u;
+    memory_set(v114, 0u, 43u);
+    v115 = v108 + 955u * 1u;
+    store8(v115, v15);
+    v116 = v108 + 956u * 1u;
+    store32(v116, 0u);
+    v117 = load8(v19);
+    v118 = load_address(v21);
+    store64(v19, 4u);
+    store64(v21, v107);
+    switch (v117) {
+    case 1u: goto L31;
+    case 2u: goto L33;
+    case 3u: goto L38;
+    case 4u: goto L39;
+    case 5u: goto L43;
+    case 0u: v8 = 0u; goto L64;
+    default: goto L60;
     }
-L2:;
-    v13 = portable_rattle_alloc(40u, 8u);
-    v14 = v13.m0;
-    v15 = (u8)((v14) & UINT64_C(1));
-    if (v15) { goto L3; }
-    else { goto L9; }
-L3:;
-    v16 = (u8)(((u32)v4 ^ (u32)1u) & UINT64_C(1));
-    v17 = (u16)v16;
-    v18 = v13.m1;
-    v19 = (address)v18;
-    store64(v19, v11);
-    v20 = v19 + 8u * 1u;
-    store64(v20, 0u);
-    v21 = v19 + 16u * 1u;
-    store16(v21, v17);
-    v22 = v19 + 18u * 1u;
-    memory_set(v22, 0u, 18u);
-    v23 = load8(v8);
-    v24 = load_address(v10);
-    store64(v8, 4u);
-    store64(v10, v18);
-    switch (v23) {
-    case 1u: goto L4;
-    case 2u: goto L5;
-    case 3u: goto L6;
-    case 4u: goto L7;
-    case 5u: goto L8;
-    case 0u: v1 = 0u; goto L18;
-    default: goto L17;
+L31:;
+    v119 = v118 + 448u * 1u;
+    v120 = load_address(v119);
+    v121 = v118 + 464u * 1u;
+    v122 = load64(v121);
+    portable_rattle_dealloc(v118);
+    v123 = v122 == 0u;
+    if (v123) { v8 = 0u; goto L64; }
+    else { goto L32; }
+L32:;
+    portable_rattle_dealloc(v120);
+    v8 = 0u; goto L64;
+L33:;
+    v124 = v118 + 48u * 1u;
+    v125 = load8(v124);
+    v126 = v118 + 64u * 1u;
+    v127 = load_address(v126);
+    v128 = v118 + 80u * 1u;
+    v129 = load64(v128);
+    v130 = v118 + 1576u * 1u;
+    v131 = load8(v130);
+    v132 = v118 + 1592u * 1u;
+    v133 = load8(v132);
+    v134 = v118 + 1600u * 1u;
+    v135 = load_address(v134);
+    v136 = v118 + 1616u * 1u;
+    v137 = load64(v136);
+    portable_rattle_dealloc(v118);
+    v138 = v125 == 0u;
+    v139 = v129 == 0u;
+    v140 = v138 ? 1u : v139;
+    if (v140) { goto L35; }
+    else { goto L34; }
+L34:;
+    portable_rattle_dealloc(v127);
+    goto L35;
+L35:;
+    v141 = v131 == 0u;
+    if (v141) { v8 = 0u; goto L64; }
+    else { goto L36; }
+L36:;
+    v142 = v133 != 0u;
+    v143 = v137 == 0u;
+    v144 = v142 ? 1u : v143;
+    if (v144) { v8 = 0u; goto L64; }
+    else { goto L37; }
+L37:;
+    portable_rattle_dealloc(v135);
+    v8 = 0u; goto L64;
+L38:;
+    f13(v118);
+    v8 = 0u; goto L64;
+L39:;
+    v145 = load_address(v118);
+    v146 = v118 + 888u * 1u;
+    v147 = load_address(v146);
+    v148 = v118 + 904u * 1u;
+    v149 = load64(v148);
+    portable_rattle_dealloc(v118);
+    v150 = v145 + 448u * 1u;
+    v151 = load_address(v150);
+    v152 = v145 + 464u * 1u;
+    v153 = load64(v152);
+    portable_rattle_dealloc(v145);
+    v154 = v153 == 0u;
+    if (v154) { goto L41; }
+    else { goto L40; }
+L40:;
+    portable_rattle_dealloc(v151);
+    goto L41;
+L41:;
+    v155 = v149 == 0u;
+    if (v155) { v8 = 0u; goto L64; }
+    else { goto L42; }
+L42:;
+    portable_rattle_dealloc(v147);
+    v8 = 0u; goto L64;
+L43:;
+    f14(v118);
+    v8 = 0u; goto L64;
+L44:;
+    v156 = a1 == 0u;
+    if (v156) { goto L46; }
+    else { goto L45; }
+L45:;
+    portable_rattle_dealloc(v6);
+    goto L46;
+L46:;
+    v157 = load8(v19);
+    v158 = load_address(v21);
+    store64(v19, 1u);
+    store_address(v21, v23);
+    switch (v157) {
+    case 1u: goto L47;
+    case 2u: goto L49;
+    case 3u: goto L54;
+    case 4u: goto L55;
+    case 5u: goto L59;
+    case 0u: v8 = 35u; goto L64;
+    default: goto L60;
     }
-L4:;
-    f13(v24);
-    v1 = 0u; goto L18;
-L5:;
-    f14(v24);
-    v1 = 0u; goto L18;
-L6:;
-    f15(v24);
-    v1 = 0u; goto L18;
-L7:;
-    f16(v24);
-    v1 = 0u; goto L18;
-L8:;
-    f17(v24);
-    v1 = 0u; goto L18;
-L9:;
-    v25 = load8(v8);
-    v26 = load_address(v10);
-    store64(v8, 1u);
-    store_address(v10, v12);
-    switch (v25) {
-    case 1u: goto L10;
-    case 2u: goto L11;
-    case 3u: goto L12;
-    case 4u: goto L13;
-    case 5u: goto L14;
-    case 0u: v1 = 35u; goto L18;
-    default: goto L17;
-    }
-L10:;
-    f13(v26);
-    v1 = 35u; goto L18;
-L11:;
-    f14(v26);
-    v1 = 35u; goto L18;
-L12:;
-    f15(v26);
-    v1 = 35u; goto L18;
-L13:;
-    f16(v26);
-    v1 = 35u; goto L18;
-L14:;
-    f17(v26);
-    v1 = 35u; goto L18;
-L15:;
-    store64(v8, 4u);
-    store64(v10, v11);
-    v1 = 0u; goto L18;
-L16:;
-    v27 = (u64)v9;
-    store64(v8, v27);
-    store64(v10, v11);
-    v1 = 32u; goto L18;
-L17:;
+L47:;
+    v159 = v158 + 448u * 1u;
+    v160 = load_address(v159);
+    v161 = v158 + 464u * 1u;
+    v162 = load64(v161);
+    portable_rattle_dealloc(v158);
+    v163 = v162 == 0u;
+    if (v163) { v8 = 35u; goto L64; }
+    else { goto L48; }
+L48:;
+    portable_rattle_dealloc(v160);
+    v8 = 35u; goto L64;
+L49:;
+    v164 = v158 + 48u * 1u;
+    v165 = load8(v164);
+    v166 = v158 + 64u * 1u;
+    v167 = load_address(v166);
+    v168 = v158 + 80u * 1u;
+    v169 = load64(v168);
+    v170 = v158 + 1576u * 1u;
+    v171 = load8(v170);
+    v172 = v158 + 1592u * 1u;
+    v173 = load8(v172);
+    v174 = v158 + 1600u * 1u;
+    v175 = load_address(v174);
+    v176 = v158 + 1616u * 1u;
+    v177 = load64(v176);
+    portable_rattle_dealloc(v158);
+    v178 = v165 == 0u;
+    v179 = v169 == 0u;
+    v180 = v178 ? 1u : v179;
+    if (v180) { goto L51; }
+    else { goto L50; }
+L50:;
+    portable_rattle_dealloc(v167);
+    goto L51;
+L51:;
+    v181 = v171 == 0u;
+    if (v181) { v8 = 35u; goto L64; }
+    else { goto L52; }
+L52:;
+    v182 = v173 != 0u;
+    v183 = v177 == 0u;
+    v184 = v182 ? 1u : v183;
+    if (v184) { v8 = 35u; goto L64; }
+    else { goto L53; }
+L53:;
+    portable_rattle_dealloc(v175);
+    v8 = 35u; goto L64;
+L54:;
+    f13(v158);
+    v8 = 35u; goto L64;
+L55:;
+    v185 = load_address(v158);
+    v186 = v158 + 888u * 1u;
+    v187 = load_address(v186);
+    v188 = v158 + 904u * 1u;
+    v189 = load64(v188);
+    portable_rattle_dealloc(v158);
+    v190 = v185 + 448u * 1u;
+    v191 = load_address(v190);
+    v192 = v185 + 464u * 1u;
+    v193 = load64(v192);
+    portable_rattle_dealloc(v185);
+    v194 = v193 == 0u;
+    if (v194) { goto L57; }
+    else { goto L56; }
+L56:;
+    portable_rattle_dealloc(v191);
+    goto L57;
+L57:;
+    v195 = v189 == 0u;
+    if (v195) { v8 = 35u; goto L64; }
+    else { goto L58; }
+L58:;
+    portable_rattle_dealloc(v187);
+    v8 = 35u; goto L64;
+L59:;
+    f14(v158);
+    v8 = 35u; goto L64;
+L60:;
     UNREACHABLE;
-L18:;
-    return v1;
+L61:;
+    store64(v19, 4u);
+    store64(v21, v22);
+    v8 = 0u; goto L64;
+L62:;
+    v196 = (u64)v20;
+    store64(v19, v196);
+    store64(v21, v22);
+    v8 = 32u; goto L64;
+L63:;
+    UNREACHABLE;
+L64:;
+    return v8;
 }
 
 void portable_ptpm_clock_stop(address a0) {
@@ -29476,6 +31115,179 @@ L2:;
     return;
 }
 
+u32 portable_ptpm_clock_take(address a0, u16 a1, address a2, u64 a3, address a4, u8 a5, address a6, u64 a7, address a8) {
+    u32 v9, v10, v47, v48, v55, v56, v59;
+    address v11, v12, v13, v14, v15, v16, v19, v22, v23, v24, v27, v30, v31, v34, v36, v38;
+    address v39, v40, v42, v44, v46, v49, v51, v57, v58;
+    u8 v17, v20, v25, v26, v28, v29, v32, v33, v35, v37, v41, v43, v50, v52, v53, v54;
+    u64 v18, v21, v45;
+    u64 block0[4];
+    u64 block1[2];
+    u64 block2[3];
+    u64 block3[55];
+    u64 block4[55];
+    u64 block5[2];
+    v11 = ADDRESS(block0);
+    v12 = ADDRESS(block1);
+    v13 = ADDRESS(block2);
+    v14 = ADDRESS(block3);
+    v15 = ADDRESS(block4);
+    v16 = ADDRESS(block5);
+    v17 = a2 == 0u;
+    v18 = v17 ? 4096u : 0u;
+    v19 = a2 + v18 * 1u;
+    v20 = a6 == 0u;
+    v21 = v20 ? 4096u : 0u;
+    v22 = a6 + v21 * 1u;
+    memory_set(a8, 0u, 32u);
+    v23 = a0 + 9u * 1u;
+    store8(v23, 0u);
+    v24 = a0 + 8u * 1u;
+    v25 = load8(v24);
+    v26 = (u8)((v25) & UINT64_C(1));
+    if (v26) { goto L1; }
+    else { v10 = 32u; goto L18; }
+L1:;
+    v27 = load_address(a0);
+    v28 = a5 == 1u;
+    v29 = load8(v27);
+    switch (v29) {
+    case 1u: goto L2;
+    case 4u: goto L16;
+    case 0u: v10 = 32u; goto L18;
+    case 2u: v10 = 32u; goto L18;
+    case 3u: v10 = 32u; goto L18;
+    case 5u: v10 = 32u; goto L18;
+    default: goto L17;
+    }
+L2:;
+    v30 = v27 + 8u * 1u;
+    v31 = load_address(v30);
+    memory_set(v15, 0u, 440u);
+    memory_set(v16, 0u, 12u);
+    memory_set(a8, 0u, 32u);
+    f44(v15, v31);
+    memory_cpy(v14, v15, 440u);
+    memory_set(v11, 0u, 32u);
+    memory_set(v12, 0u, 16u);
+    store64(v13, 0u);
+    f45(v11, v31, a1, a4, a7);
+    v32 = load8(v11);
+    v33 = v32 == 0u;
+    if (v33) { goto L3; }
+    else { goto L14; }
+L3:;
+    v34 = v11 + 9u * 1u;
+    v35 = load8(v34);
+    v36 = v11 + 8u * 1u;
+    v37 = load8(v36);
+    v38 = v11 + 16u * 1u;
+    store8(v13, v37);
+    v39 = v13 + 1u * 1u;
+    store8(v39, v35);
+    v40 = v13 + 8u * 1u;
+    memory_cpy(v40, v38, 16u);
+    f46(v12, v31, a1, v19, a3, v13, v28, v22, a7);
+    v41 = load8(v12);
+    v42 = v12 + 1u * 1u;
+    v43 = load8(v42);
+    v44 = v12 + 8u * 1u;
+    v45 = load64(v44);
+    store64(a8, v45);
+    f63(v16, v31, v14);
+    v46 = a8 + 16u * 1u;
+    memory_cpy(v46, v16, 12u);
+    switch (v41) {
+    case 0u: goto L4;
+    case 9u: goto L12;
+    case 1u: v9 = 1u; goto L15;
+    case 2u: goto L5;
+    case 3u: goto L6;
+    case 4u: goto L7;
+    case 5u: goto L8;
+    case 6u: goto L9;
+    case 7u: goto L10;
+    case 8u: goto L11;
+    default: goto L13;
+    }
+L4:;
+    v47 = (u32)v43;
+    v48 = (u32)((u32)v47 + (u32)16u);
+    v9 = v48; goto L15;
+L5:;
+    v9 = 2u; goto L15;
+L6:;
+    v9 = 3u; goto L15;
+L7:;
+    v9 = 4u; goto L15;
+L8:;
+    v9 = 5u; goto L15;
+L9:;
+    v9 = 6u; goto L15;
+L10:;
+    v9 = 7u; goto L15;
+L11:;
+    v9 = 8u; goto L15;
+L12:;
+    v9 = 9u; goto L15;
+L13:;
+    UNREACHABLE;
+L14:;
+    v49 = v11 + 2u * 1u;
+    v50 = load8(v49);
+    v51 = v11 + 1u * 1u;
+    v52 = load8(v51);
+    v53 = v52 == 0u;
+    v54 = v50 == 0u;
+    v55 = v54 ? 33u : 34u;
+    v56 = v53 ? v55 : 121u;
+    v9 = v56; goto L15;
+L15:;
+    v10 = v9; goto L18;
+L16:;
+    v57 = v27 + 8u * 1u;
+    v58 = load_address(v57);
+    v59 = f64(v58, a1, v19, a3, a4, v28, v22, a7, a8);
+    v10 = v59; goto L18;
+L17:;
+    UNREACHABLE;
+L18:;
+    return v10;
+}
+
+u32 portable_ptpm_clock_unsaved(address a0) {
+    u32 v1, v16;
+    address v2, v5, v8, v9, v10, v13;
+    u8 v3, v4, v6, v7, v11, v12, v14, v15;
+    v2 = a0 + 8u * 1u;
+    v3 = load8(v2);
+    v4 = (u8)((v3) & UINT64_C(1));
+    if (v4) { goto L1; }
+    else { v1 = 0u; goto L4; }
+L1:;
+    v5 = load_address(a0);
+    v6 = load8(v5);
+    v7 = v6 == 4u;
+    if (v7) { goto L2; }
+    else { v1 = 0u; goto L4; }
+L2:;
+    v8 = v5 + 8u * 1u;
+    v9 = load_address(v8);
+    v10 = v9 + 953u * 1u;
+    v11 = load8(v10);
+    v12 = (u8)((v11) & UINT64_C(1));
+    if (v12) { v1 = 1u; goto L4; }
+    else { goto L3; }
+L3:;
+    v13 = v9 + 955u * 1u;
+    v14 = load8(v13);
+    v15 = (u8)((u32)v14 ^ (u32)1u);
+    v16 = (u32)v15;
+    v1 = v16; goto L4;
+L4:;
+    return v1;
+}
+
 u64 portable_ptpm_error_name(u16 a0, address a1, u64 a2) {
     u64 v3, v4, v6, v13, v15, v16, v20, v21, v22, v27;
     u8 v5, v9, v11, v12, v19, v23, v26, v28;
@@ -29493,10 +31305,10 @@ u64 portable_ptpm_error_name(u16 a0, address a1, u64 a2) {
     else { v4 = 0u; goto L5; }
 L1:;
     v13 = (u64)v8;
-    v14 = ADDRESS(c339) + v13 * 8u;
+    v14 = ADDRESS(c340) + v13 * 8u;
     v15 = load64(v14);
     v16 = (u64)v8;
-    v17 = ADDRESS(c340) + v16 * 8u;
+    v17 = ADDRESS(c341) + v16 * 8u;
     v18 = load_address(v17);
     v19 = a2 < v15;
     if (v19) { v4 = 0u; goto L5; }
@@ -29577,87 +31389,87 @@ u32 portable_ptpm_field_parse(u16 a0, address a1, u64 a2, address a3, u64 a4, ad
     memory_set(v81, 0u, 328u);
     memory_set(v82, 0u, 144u);
     memory_set(v83, 0u, 16u);
-    store_address(v80, ADDRESS(c139));
+    store_address(v80, ADDRESS(c138));
     v87 = v80 + 8u * 1u;
     store64(v87, 0u);
     v88 = v80 + 16u * 1u;
-    store_address(v88, ADDRESS(c139));
+    store_address(v88, ADDRESS(c138));
     v89 = v80 + 24u * 1u;
     store64(v89, 0u);
     v90 = v80 + 32u * 1u;
-    store_address(v90, ADDRESS(c139));
+    store_address(v90, ADDRESS(c138));
     v91 = v80 + 40u * 1u;
     store64(v91, 0u);
     v92 = v80 + 48u * 1u;
-    store_address(v92, ADDRESS(c139));
+    store_address(v92, ADDRESS(c138));
     v93 = v80 + 56u * 1u;
     store64(v93, 0u);
     v94 = v80 + 64u * 1u;
-    store_address(v94, ADDRESS(c139));
+    store_address(v94, ADDRESS(c138));
     v95 = v80 + 72u * 1u;
     store64(v95, 0u);
     v96 = v80 + 80u * 1u;
-    store_address(v96, ADDRESS(c139));
+    store_address(v96, ADDRESS(c138));
     v97 = v80 + 88u * 1u;
     store64(v97, 0u);
     v98 = v80 + 96u * 1u;
-    store_address(v98, ADDRESS(c139));
+    store_address(v98, ADDRESS(c138));
     v99 = v80 + 104u * 1u;
     store64(v99, 0u);
     v100 = v80 + 112u * 1u;
-    store_address(v100, ADDRESS(c139));
+    store_address(v100, ADDRESS(c138));
     v101 = v80 + 120u * 1u;
     store64(v101, 0u);
     v102 = v80 + 128u * 1u;
-    store_address(v102, ADDRESS(c139));
+    store_address(v102, ADDRESS(c138));
     v103 = v80 + 136u * 1u;
     store64(v103, 0u);
     v104 = v80 + 144u * 1u;
-    store_address(v104, ADDRESS(c139));
+    store_address(v104, ADDRESS(c138));
     v105 = v80 + 152u * 1u;
     store64(v105, 0u);
     v106 = v80 + 160u * 1u;
-    store_address(v106, ADDRESS(c139));
+    store_address(v106, ADDRESS(c138));
     v107 = v80 + 168u * 1u;
     store64(v107, 0u);
     v108 = v80 + 176u * 1u;
-    store_address(v108, ADDRESS(c139));
+    store_address(v108, ADDRESS(c138));
     v109 = v80 + 184u * 1u;
     store64(v109, 0u);
     v110 = v80 + 192u * 1u;
-    store_address(v110, ADDRESS(c139));
+    store_address(v110, ADDRESS(c138));
     v111 = v80 + 200u * 1u;
     store64(v111, 0u);
     v112 = v80 + 208u * 1u;
-    store_address(v112, ADDRESS(c139));
+    store_address(v112, ADDRESS(c138));
     v113 = v80 + 216u * 1u;
     store64(v113, 0u);
     v114 = v80 + 224u * 1u;
-    store_address(v114, ADDRESS(c139));
+    store_address(v114, ADDRESS(c138));
     v115 = v80 + 232u * 1u;
     store64(v115, 0u);
     v116 = v80 + 240u * 1u;
-    store_address(v116, ADDRESS(c139));
+    store_address(v116, ADDRESS(c138));
     v117 = v80 + 248u * 1u;
     store64(v117, 0u);
     v118 = v80 + 256u * 1u;
-    store_address(v118, ADDRESS(c139));
+    store_address(v118, ADDRESS(c138));
     v119 = v80 + 264u * 1u;
     store64(v119, 0u);
     v120 = v80 + 272u * 1u;
-    store_address(v120, ADDRESS(c139));
+    store_address(v120, ADDRESS(c138));
     v121 = v80 + 280u * 1u;
     store64(v121, 0u);
     v122 = v80 + 288u * 1u;
-    store_address(v122, ADDRESS(c139));
+    store_address(v122, ADDRESS(c138));
     v123 = v80 + 296u * 1u;
     store64(v123, 0u);
     v124 = v80 + 304u * 1u;
-    store_address(v124, ADDRESS(c139));
+    store_address(v124, ADDRESS(c138));
     v125 = v80 + 312u * 1u;
     memory_set(v125, 0u, 16u);
     v126 = a2 == 0u;
-    if (v126) { v13 = ADDRESS(c139); v14 = 0u; v15 = ADDRESS(c139); v16 = 0u; v17 = ADDRESS(c139); v18 = 0u; v19 = ADDRESS(c139); v20 = 0u; v21 = ADDRESS(c139); v22 = 0u; v23 = ADDRESS(c139); v24 = 0u; v25 = ADDRESS(c139); v26 = 0u; v27 = ADDRESS(c139); v28 = 0u; v29 = ADDRESS(c139); v30 = 0u; v31 = ADDRESS(c139); v32 = 0u; v33 = ADDRESS(c139); v34 = 0u; v35 = ADDRESS(c139); v36 = 0u; v37 = ADDRESS(c139); v38 = 0u; v39 = ADDRESS(c139); v40 = 0u; v41 = ADDRESS(c139); v42 = 0u; v43 = ADDRESS(c139); v44 = 0u; v45 = ADDRESS(c139); v46 = 0u; v47 = ADDRESS(c139); v48 = 0u; v49 = ADDRESS(c139); v50 = 0u; v51 = ADDRESS(c139); goto L10; }
+    if (v126) { v13 = ADDRESS(c138); v14 = 0u; v15 = ADDRESS(c138); v16 = 0u; v17 = ADDRESS(c138); v18 = 0u; v19 = ADDRESS(c138); v20 = 0u; v21 = ADDRESS(c138); v22 = 0u; v23 = ADDRESS(c138); v24 = 0u; v25 = ADDRESS(c138); v26 = 0u; v27 = ADDRESS(c138); v28 = 0u; v29 = ADDRESS(c138); v30 = 0u; v31 = ADDRESS(c138); v32 = 0u; v33 = ADDRESS(c138); v34 = 0u; v35 = ADDRESS(c138); v36 = 0u; v37 = ADDRESS(c138); v38 = 0u; v39 = ADDRESS(c138); v40 = 0u; v41 = ADDRESS(c138); v42 = 0u; v43 = ADDRESS(c138); v44 = 0u; v45 = ADDRESS(c138); v46 = 0u; v47 = ADDRESS(c138); v48 = 0u; v49 = ADDRESS(c138); v50 = 0u; v51 = ADDRESS(c138); goto L10; }
     else { goto L1; }
 L1:;
     v127 = a1 == 0u;
@@ -29683,7 +31495,7 @@ L4:;
     if (v138) { goto L7; }
     else { v10 = v136; v11 = v137; v12 = v135; goto L3; }
 L5:;
-    f29(v79, v9, v11);
+    f26(v79, v9, v11);
     v139 = load8(v79);
     v140 = v139 == 0u;
     if (v140) { goto L6; }
@@ -29900,7 +31712,7 @@ L30:;
     v52 = 11u; v53 = 4u; goto L31;
 L31:;
     memory_set(v78, 0u, 144u);
-    v232 = f64(v52, v53);
+    v232 = f66(v52, v53);
     v233 = v232 > 130u;
     if (v233) { goto L33; }
     else { goto L32; }
@@ -29911,8 +31723,8 @@ L32:;
     goto L33;
 L33:;
     switch (v52) {
-    case 1u: v54 = ADDRESS(c148); goto L47;
-    case 2u: v55 = 10u; v56 = ADDRESS(c149); goto L48;
+    case 1u: v54 = ADDRESS(c147); goto L47;
+    case 2u: v55 = 10u; v56 = ADDRESS(c148); goto L48;
     case 3u: goto L34;
     case 4u: goto L35;
     case 5u: goto L36;
@@ -29931,32 +31743,32 @@ L33:;
     default: goto L45;
     }
 L34:;
-    v55 = 3u; v56 = ADDRESS(c150); goto L48;
+    v55 = 3u; v56 = ADDRESS(c149); goto L48;
 L35:;
-    v55 = 10u; v56 = ADDRESS(c151); goto L48;
+    v55 = 10u; v56 = ADDRESS(c150); goto L48;
 L36:;
-    v55 = 8u; v56 = ADDRESS(c152); goto L48;
+    v55 = 8u; v56 = ADDRESS(c151); goto L48;
 L37:;
-    v55 = 10u; v56 = ADDRESS(c153); goto L48;
+    v55 = 10u; v56 = ADDRESS(c152); goto L48;
 L38:;
-    v54 = ADDRESS(c154); goto L47;
+    v54 = ADDRESS(c153); goto L47;
 L39:;
-    v54 = ADDRESS(c155); goto L47;
+    v54 = ADDRESS(c154); goto L47;
 L40:;
-    v54 = ADDRESS(c156); goto L47;
+    v54 = ADDRESS(c155); goto L47;
 L41:;
-    v54 = ADDRESS(c157); goto L47;
+    v54 = ADDRESS(c156); goto L47;
 L42:;
-    v54 = ADDRESS(c163); goto L47;
+    v54 = ADDRESS(c162); goto L47;
 L43:;
-    v54 = ADDRESS(c164); goto L47;
+    v54 = ADDRESS(c163); goto L47;
 L44:;
-    v55 = 4u; v56 = ADDRESS(c165); goto L48;
+    v55 = 4u; v56 = ADDRESS(c164); goto L48;
 L45:;
     UNREACHABLE;
 L46:;
     v235 = (u64)v53;
-    v236 = ADDRESS(c341) + v235 * 8u;
+    v236 = ADDRESS(c342) + v235 * 8u;
     v237 = load_address(v236);
     v54 = v237; goto L47;
 L47:;
@@ -30010,7 +31822,7 @@ L52:;
     store8(v241, v263);
     v264 = load8(v244);
     store8(v243, v264);
-    v265 = f70(v75);
+    v265 = f72(v75);
     v266 = v265.m0;
     v267 = v265.m1;
     v268 = v257 == v267;
@@ -30044,7 +31856,7 @@ L55:;
 L56:;
     v61 = v264; v62 = v263; v63 = v262; v64 = 2u; goto L58;
 L57:;
-    f65(v76, v74, v259, v261, v78);
+    f67(v76, v74, v259, v261, v78);
     v285 = load8(v76);
     v286 = load8(v245);
     v287 = load8(v246);
@@ -30058,7 +31870,7 @@ L58:;
 L59:;
     goto L62;
 L60:;
-    f65(v77, v54, v51, v50, v78);
+    f67(v77, v54, v51, v50, v78);
     v291 = load8(v77);
     v292 = v77 + 1u * 1u;
     v293 = load8(v292);
@@ -30105,7 +31917,7 @@ L69:;
     store8(v304, v67);
     v305 = v72 + 2u * 1u;
     store8(v305, v68);
-    v306 = f72(a0, v72);
+    v306 = f74(a0, v72);
     v69 = 0u; v70 = v306; v71 = 116u; goto L71;
 L70:;
     store8(v73, v66);
@@ -30113,7 +31925,7 @@ L70:;
     store8(v307, v67);
     v308 = v73 + 2u * 1u;
     store8(v308, v68);
-    v309 = f72(a0, v73);
+    v309 = f74(a0, v73);
     v69 = 0u; v70 = v309; v71 = 117u; goto L71;
 L71:;
     store64(a5, v69);
@@ -30141,7 +31953,7 @@ u64 portable_ptpm_field_takes(u16 a0, u64 a1, address a2, u64 a3) {
     switch (a0) {
     case 24577u: goto L14;
     case 2u: goto L1;
-    case 8192u: v4 = 10u; v5 = ADDRESS(c149); goto L18;
+    case 8192u: v4 = 10u; v5 = ADDRESS(c148); goto L18;
     case 8193u: goto L3;
     case 8194u: goto L4;
     case 8195u: goto L5;
@@ -30160,39 +31972,39 @@ u64 portable_ptpm_field_takes(u16 a0, u64 a1, address a2, u64 a3) {
     default: v18 = 0u; goto L63;
     }
 L1:;
-    v4 = 1u; v5 = ADDRESS(c148); goto L18;
+    v4 = 1u; v5 = ADDRESS(c147); goto L18;
 L2:;
-    v4 = 1u; v5 = ADDRESS(c158); goto L18;
-L3:;
-    v4 = 3u; v5 = ADDRESS(c150); goto L18;
-L4:;
-    v4 = 10u; v5 = ADDRESS(c151); goto L18;
-L5:;
-    v4 = 8u; v5 = ADDRESS(c152); goto L18;
-L6:;
-    v4 = 10u; v5 = ADDRESS(c153); goto L18;
-L7:;
-    v4 = 1u; v5 = ADDRESS(c154); goto L18;
-L8:;
-    v4 = 1u; v5 = ADDRESS(c155); goto L18;
-L9:;
-    v4 = 1u; v5 = ADDRESS(c156); goto L18;
-L10:;
     v4 = 1u; v5 = ADDRESS(c157); goto L18;
+L3:;
+    v4 = 3u; v5 = ADDRESS(c149); goto L18;
+L4:;
+    v4 = 10u; v5 = ADDRESS(c150); goto L18;
+L5:;
+    v4 = 8u; v5 = ADDRESS(c151); goto L18;
+L6:;
+    v4 = 10u; v5 = ADDRESS(c152); goto L18;
+L7:;
+    v4 = 1u; v5 = ADDRESS(c153); goto L18;
+L8:;
+    v4 = 1u; v5 = ADDRESS(c154); goto L18;
+L9:;
+    v4 = 1u; v5 = ADDRESS(c155); goto L18;
+L10:;
+    v4 = 1u; v5 = ADDRESS(c156); goto L18;
 L11:;
-    v4 = 1u; v5 = ADDRESS(c159); goto L18;
+    v4 = 1u; v5 = ADDRESS(c158); goto L18;
 L12:;
-    v4 = 1u; v5 = ADDRESS(c160); goto L18;
+    v4 = 1u; v5 = ADDRESS(c159); goto L18;
 L13:;
-    v4 = 1u; v5 = ADDRESS(c161); goto L18;
+    v4 = 1u; v5 = ADDRESS(c160); goto L18;
 L14:;
-    v4 = 1u; v5 = ADDRESS(c162); goto L18;
+    v4 = 1u; v5 = ADDRESS(c161); goto L18;
 L15:;
-    v4 = 1u; v5 = ADDRESS(c163); goto L18;
+    v4 = 1u; v5 = ADDRESS(c162); goto L18;
 L16:;
-    v4 = 1u; v5 = ADDRESS(c164); goto L18;
+    v4 = 1u; v5 = ADDRESS(c163); goto L18;
 L17:;
-    v4 = 4u; v5 = ADDRESS(c165); goto L18;
+    v4 = 4u; v5 = ADDRESS(c164); goto L18;
 L18:;
     v23 = a1 < v4;
     if (v23) { goto L19; }
@@ -30217,7 +32029,7 @@ L19:;
     if (v35) { goto L20; }
     else { goto L49; }
 L20:;
-    f73(1u, 1u, v19);
+    f75(1u, 1u, v19);
     v36 = load8(v31);
     v37 = v36 == 1u;
     if (v37) { goto L21; }
@@ -30236,7 +32048,7 @@ L22:;
     v45 = (u64)((u64)v38 + (u64)2u);
     v46 = v44 + v38 * 1u;
     v47 = (u64)v46;
-    v48 = (u64)((u64)v47 - (u64)ADDRESS(c286));
+    v48 = (u64)((u64)v47 - (u64)ADDRESS(c285));
     v49 = v48 < 2u;
     if (v49) { goto L23; }
     else { goto L24; }
@@ -30253,7 +32065,7 @@ L25:;
     store64(v32, v6);
     goto L26;
 L26:;
-    f73(1u, 2u, v19);
+    f75(1u, 2u, v19);
     v51 = load8(v31);
     v52 = v51 == 1u;
     if (v52) { goto L27; }
@@ -30272,7 +32084,7 @@ L28:;
     v60 = (u64)((u64)v53 + (u64)2u);
     v61 = v59 + v53 * 1u;
     v62 = (u64)v61;
-    v63 = (u64)((u64)v62 - (u64)ADDRESS(c286));
+    v63 = (u64)((u64)v62 - (u64)ADDRESS(c285));
     v64 = v63 < 2u;
     if (v64) { goto L30; }
     else { goto L29; }
@@ -30289,7 +32101,7 @@ L31:;
     store64(v32, v8);
     goto L32;
 L32:;
-    f73(1u, 3u, v19);
+    f75(1u, 3u, v19);
     v66 = load8(v31);
     v67 = v66 == 1u;
     if (v67) { goto L33; }
@@ -30308,7 +32120,7 @@ L34:;
     v75 = (u64)((u64)v68 + (u64)2u);
     v76 = v74 + v68 * 1u;
     v77 = (u64)v76;
-    v78 = (u64)((u64)v77 - (u64)ADDRESS(c286));
+    v78 = (u64)((u64)v77 - (u64)ADDRESS(c285));
     v79 = v78 < 2u;
     if (v79) { goto L36; }
     else { goto L35; }
@@ -30325,7 +32137,7 @@ L37:;
     store64(v32, v10);
     goto L38;
 L38:;
-    f73(1u, 4u, v19);
+    f75(1u, 4u, v19);
     v81 = load8(v31);
     v82 = v81 == 1u;
     if (v82) { goto L39; }
@@ -30344,7 +32156,7 @@ L40:;
     v90 = (u64)((u64)v83 + (u64)2u);
     v91 = v89 + v83 * 1u;
     v92 = (u64)v91;
-    v93 = (u64)((u64)v92 - (u64)ADDRESS(c286));
+    v93 = (u64)((u64)v92 - (u64)ADDRESS(c285));
     v94 = v93 < 2u;
     if (v94) { goto L42; }
     else { goto L41; }
@@ -30361,7 +32173,7 @@ L43:;
     store64(v32, v12);
     goto L44;
 L44:;
-    f73(1u, 254u, v19);
+    f75(1u, 254u, v19);
     v96 = load8(v31);
     v97 = v96 == 1u;
     if (v97) { goto L45; }
@@ -30380,7 +32192,7 @@ L46:;
     v105 = (u64)((u64)v98 + (u64)26u);
     v106 = v104 + v98 * 1u;
     v107 = (u64)v106;
-    v108 = (u64)((u64)v107 - (u64)ADDRESS(c284));
+    v108 = (u64)((u64)v107 - (u64)ADDRESS(c283));
     v109 = v108 < 26u;
     if (v109) { goto L47; }
     else { goto L48; }
@@ -30438,15 +32250,15 @@ L47:;
     store8(v134, 53u);
     v17 = v105; goto L62;
 L48:;
-    memory_cpy(v106, ADDRESS(c284), 26u);
+    memory_cpy(v106, ADDRESS(c283), 26u);
     v17 = v105; goto L62;
 L49:;
     switch (v27) {
     case 0u: goto L50;
     case 1u: goto L51;
     case 2u: goto L52;
-    case 3u: v14 = 13u; v15 = ADDRESS(c289); goto L58;
-    case 4u: v14 = 13u; v15 = ADDRESS(c289); goto L58;
+    case 3u: v14 = 13u; v15 = ADDRESS(c288); goto L58;
+    case 4u: v14 = 13u; v15 = ADDRESS(c288); goto L58;
     case 5u: goto L54;
     case 10u: goto L55;
     case 6u: goto L56;
@@ -30460,25 +32272,25 @@ L49:;
     default: goto L57;
     }
 L50:;
-    if (v34) { v14 = 56u; v15 = ADDRESS(c292); goto L58; }
+    if (v34) { v14 = 56u; v15 = ADDRESS(c291); goto L58; }
     else { goto L56; }
 L51:;
-    if (v34) { v14 = 56u; v15 = ADDRESS(c292); goto L58; }
+    if (v34) { v14 = 56u; v15 = ADDRESS(c291); goto L58; }
     else { goto L56; }
 L52:;
     switch (v29) {
-    case 1u: v14 = 25u; v15 = ADDRESS(c287); goto L58;
+    case 1u: v14 = 25u; v15 = ADDRESS(c286); goto L58;
     case 2u: goto L53;
     default: goto L56;
     }
 L53:;
-    v14 = 29u; v15 = ADDRESS(c288); goto L58;
+    v14 = 29u; v15 = ADDRESS(c287); goto L58;
 L54:;
-    v14 = 55u; v15 = ADDRESS(c290); goto L58;
+    v14 = 55u; v15 = ADDRESS(c289); goto L58;
 L55:;
-    v14 = 37u; v15 = ADDRESS(c291); goto L58;
+    v14 = 37u; v15 = ADDRESS(c290); goto L58;
 L56:;
-    v14 = 8u; v15 = ADDRESS(c293); goto L58;
+    v14 = 8u; v15 = ADDRESS(c292); goto L58;
 L57:;
     UNREACHABLE;
 L58:;
@@ -30593,7 +32405,7 @@ u64 portable_ptpm_field_text(u16 a0, address a1, u64 a2, address a3, u64 a4) {
     store64(v217, 1u);
     v218 = v209 + 24u * 1u;
     store64(v218, 0u);
-    v219 = f74(a0, v212, a2);
+    v219 = f76(a0, v212, a2);
     v220 = v219.m0;
     v221 = v219.m1;
     v222 = v221 == 0u;
@@ -30625,7 +32437,7 @@ L2:;
     else { goto L8; }
 L3:;
     v242 = (u64)v215;
-    v243 = (u64)((u64)v242 - (u64)ADDRESS(c304));
+    v243 = (u64)((u64)v242 - (u64)ADDRESS(c303));
     v244 = v243 < 6u;
     if (v244) { goto L4; }
     else { goto L5; }
@@ -30643,7 +32455,7 @@ L4:;
     store8(v249, 32u);
     goto L6;
 L5:;
-    memory_cpy(v215, ADDRESS(c304), 6u);
+    memory_cpy(v215, ADDRESS(c303), 6u);
     goto L6;
 L6:;
     v250 = a2 == 0u;
@@ -30774,7 +32586,7 @@ L26:;
     store8(v208, v294);
     store8(v223, v296);
     store8(v224, v298);
-    v315 = f70(v208);
+    v315 = f72(v208);
     v316 = v315.m0;
     v317 = v315.m1;
     v318 = v41 == 1u;
@@ -30858,7 +32670,7 @@ L39:;
     v353 = (u64)((u64)v346 + (u64)2u);
     v354 = v352 + v346 * 1u;
     v355 = (u64)v354;
-    v356 = (u64)((u64)v355 - (u64)ADDRESS(c285));
+    v356 = (u64)((u64)v355 - (u64)ADDRESS(c284));
     v357 = v356 < 2u;
     if (v357) { goto L40; }
     else { goto L41; }
@@ -30931,7 +32743,7 @@ L50:;
     if (v388) { v176 = v86; v177 = v87; v178 = v88; v179 = v89; v180 = v90; v181 = v91; v182 = v92; v183 = v93; v184 = v94; v185 = v95; v186 = v96; v187 = v97; goto L186; }
     else { v70 = v86; v71 = v87; v72 = v88; v73 = v89; v74 = v90; v75 = v91; v76 = v92; v77 = v93; v78 = v94; v79 = v95; v80 = v96; v81 = v97; v82 = v98; v83 = v387; goto L44; }
 L51:;
-    f76(v207, v302, v304, v306, v307);
+    f78(v207, v302, v304, v306, v307);
     v389 = load8(v207);
     v390 = load8(v225);
     v391 = load8(v226);
@@ -30957,7 +32769,7 @@ L51:;
     default: goto L184;
     }
 L52:;
-    f77(v395, v209);
+    f79(v395, v209);
     goto L185;
 L53:;
     memory_set(v204, 0u, 40u);
@@ -30976,7 +32788,7 @@ L54:;
     v406 = (u16)((u32)v403 - (u32)v405);
     v407 = (u16)((u32)v406 << (1u & 15u));
     v408 = (u64)v407;
-    v409 = ADDRESS(c305) + v408 * 1u;
+    v409 = ADDRESS(c304) + v408 * 1u;
     v410 = load8(v409);
     v411 = v409 + 1u * 1u;
     v412 = load8(v411);
@@ -30988,7 +32800,7 @@ L54:;
     v416 = (u64)((u64)v109 + (u64)UINT64_C(18446744073709551612));
     v417 = (u16)((u32)v404 << (1u & 15u));
     v418 = (u64)v417;
-    v419 = ADDRESS(c305) + v418 * 1u;
+    v419 = ADDRESS(c304) + v418 * 1u;
     v420 = load8(v419);
     v421 = v419 + 1u * 1u;
     v422 = load8(v421);
@@ -31017,7 +32829,7 @@ L57:;
 L58:;
     v432 = (u64)((u64)v110 + (u64)UINT64_C(18446744073709551614));
     v433 = (u64)((u64)v111 << (1u & 63u));
-    v434 = ADDRESS(c305) + v433 * 1u;
+    v434 = ADDRESS(c304) + v433 * 1u;
     v435 = load8(v434);
     v436 = v434 + 1u * 1u;
     v437 = load8(v436);
@@ -31033,7 +32845,7 @@ L59:;
     v443 = (u16)((u32)v440 - (u32)v442);
     v444 = (u16)((u32)v443 << (1u & 15u));
     v445 = (u64)v444;
-    v446 = ADDRESS(c305) + v445 * 1u;
+    v446 = ADDRESS(c304) + v445 * 1u;
     v447 = load8(v446);
     v448 = v446 + 1u * 1u;
     v449 = load8(v448);
@@ -31056,7 +32868,7 @@ L61:;
     v458 = (u64)((u64)v110 + (u64)UINT64_C(18446744073709551612));
     v459 = (u16)((u32)v441 << (1u & 15u));
     v460 = (u64)v459;
-    v461 = ADDRESS(c305) + v460 * 1u;
+    v461 = ADDRESS(c304) + v460 * 1u;
     v462 = load8(v461);
     v463 = v461 + 1u * 1u;
     v464 = load8(v463);
@@ -31104,7 +32916,7 @@ L68:;
 L69:;
     v482 = (u8)((v390) & UINT64_C(1));
     v483 = v482 ? 4u : 5u;
-    v484 = v482 ? ADDRESS(c166) : ADDRESS(c167);
+    v484 = v482 ? ADDRESS(c165) : ADDRESS(c166);
     v485 = v100 == 1u;
     if (v485) { goto L70; }
     else { goto L185; }
@@ -31168,7 +32980,7 @@ L78:;
     goto L79;
 L79:;
     v514 = (u64)((u64)v504 >> (16u & 63u));
-    f77(v514, v209);
+    f79(v514, v209);
     v515 = load8(v217);
     v516 = v515 == 1u;
     if (v516) { goto L80; }
@@ -31197,7 +33009,7 @@ L84:;
     v525 = (u32)((u32)v123 * (u32)10u);
     v526 = (u32)((u32)v525 >> (16u & 31u));
     v527 = (u64)v526;
-    f77(v527, v209);
+    f79(v527, v209);
     v528 = (u32)((u32)v525 & (u32)65534u);
     v529 = v528 == 0u;
     v530 = (u8)((u32)v124 + (u32)255u);
@@ -31349,10 +33161,10 @@ L105:;
     goto L106;
 L106:;
     v599 = (u64)((u64)v562 & (u64)65535u);
-    f77(v599, v209);
+    f79(v599, v209);
     goto L185;
 L107:;
-    f73(v390, v391, v209);
+    f75(v390, v391, v209);
     goto L185;
 L108:;
     v600 = v104 == 1u;
@@ -31372,7 +33184,7 @@ L110:;
     v608 = (u64)((u64)v601 + (u64)6u);
     v609 = v607 + v601 * 1u;
     v610 = (u64)v609;
-    v611 = (u64)((u64)v610 - (u64)ADDRESS(c306));
+    v611 = (u64)((u64)v610 - (u64)ADDRESS(c305));
     v612 = v611 < 6u;
     if (v612) { goto L111; }
     else { goto L112; }
@@ -31390,7 +33202,7 @@ L111:;
     store8(v617, 32u);
     v143 = v608; v144 = 1u; goto L113;
 L112:;
-    memory_cpy(v609, ADDRESS(c306), 6u);
+    memory_cpy(v609, ADDRESS(c305), 6u);
     v143 = v608; v144 = 1u; goto L113;
 L113:;
     store64(v217, v144);
@@ -31398,7 +33210,7 @@ L113:;
     goto L114;
 L114:;
     v618 = (u64)v391;
-    f77(v618, v209);
+    f79(v618, v209);
     v619 = load8(v217);
     v620 = v619 == 1u;
     if (v620) { goto L115; }
@@ -31417,7 +33229,7 @@ L116:;
     v628 = (u64)((u64)v621 + (u64)12u);
     v629 = v627 + v621 * 1u;
     v630 = (u64)v629;
-    v631 = (u64)((u64)v630 - (u64)ADDRESS(c307));
+    v631 = (u64)((u64)v630 - (u64)ADDRESS(c306));
     v632 = v631 < 12u;
     if (v632) { goto L117; }
     else { goto L118; }
@@ -31448,7 +33260,7 @@ L117:;
     v644 = load64(v216);
     v145 = v644; goto L119;
 L118:;
-    memory_cpy(v629, ADDRESS(c307), 12u);
+    memory_cpy(v629, ADDRESS(c306), 12u);
     v145 = v622; goto L119;
 L119:;
     v645 = v145 > v628;
@@ -31496,7 +33308,7 @@ L124:;
     v670 = (u64)((u64)v621 + (u64)26u);
     v671 = v669 + v662 * 1u;
     v672 = (u64)v671;
-    v673 = (u64)((u64)v672 - (u64)ADDRESS(c308));
+    v673 = (u64)((u64)v672 - (u64)ADDRESS(c307));
     v674 = v673 < 12u;
     if (v674) { goto L125; }
     else { goto L126; }
@@ -31527,7 +33339,7 @@ L125:;
     v686 = load64(v216);
     v146 = v686; goto L127;
 L126:;
-    memory_cpy(v671, ADDRESS(c308), 12u);
+    memory_cpy(v671, ADDRESS(c307), 12u);
     v146 = v664; goto L127;
 L127:;
     v687 = (u16)((u32)v393 >> (8u & 15u));
@@ -31660,7 +33472,7 @@ L146:;
     v752 = (u64)((u64)v745 + (u64)2u);
     v753 = v751 + v745 * 1u;
     v754 = (u64)v753;
-    v755 = (u64)((u64)v754 - (u64)ADDRESS(c309));
+    v755 = (u64)((u64)v754 - (u64)ADDRESS(c308));
     v756 = v755 < 2u;
     if (v756) { goto L147; }
     else { goto L148; }
@@ -31937,7 +33749,7 @@ u32 portable_ptpm_id_at(u64 a0) {
     else { v1 = UINT32_C(65536); goto L2; }
 L1:;
     v3 = (u64)((u64)a0 << (1u & 63u));
-    v4 = ADDRESS(c310) + v3 * 1u;
+    v4 = ADDRESS(c309) + v3 * 1u;
     v5 = load16(v4);
     v6 = (u32)v5;
     v1 = v6; goto L2;
@@ -31953,7 +33765,7 @@ u64 portable_ptpm_id_name(u16 a0, address a1, u64 a2) {
     v8 = v7 ? 4096u : 0u;
     v9 = a1 + v8 * 1u;
     switch (a0) {
-    case 0u: v3 = ADDRESS(c111); v4 = 19u; goto L21;
+    case 0u: v3 = ADDRESS(c110); v4 = 19u; goto L21;
     case 2u: goto L1;
     case 8192u: goto L2;
     case 8193u: goto L3;
@@ -31977,45 +33789,45 @@ u64 portable_ptpm_id_name(u16 a0, address a1, u64 a2) {
     default: v6 = 0u; goto L25;
     }
 L1:;
-    v3 = ADDRESS(c112); v4 = 16u; goto L21;
+    v3 = ADDRESS(c111); v4 = 16u; goto L21;
 L2:;
-    v3 = ADDRESS(c113); v4 = 16u; goto L21;
+    v3 = ADDRESS(c112); v4 = 16u; goto L21;
 L3:;
-    v3 = ADDRESS(c114); v4 = 16u; goto L21;
+    v3 = ADDRESS(c113); v4 = 16u; goto L21;
 L4:;
-    v3 = ADDRESS(c115); v4 = 15u; goto L21;
+    v3 = ADDRESS(c114); v4 = 15u; goto L21;
 L5:;
-    v3 = ADDRESS(c116); v4 = 24u; goto L21;
+    v3 = ADDRESS(c115); v4 = 24u; goto L21;
 L6:;
-    v3 = ADDRESS(c117); v4 = 13u; goto L21;
+    v3 = ADDRESS(c116); v4 = 13u; goto L21;
 L7:;
-    v3 = ADDRESS(c118); v4 = 9u; goto L21;
+    v3 = ADDRESS(c117); v4 = 9u; goto L21;
 L8:;
-    v3 = ADDRESS(c119); v4 = 9u; goto L21;
+    v3 = ADDRESS(c118); v4 = 9u; goto L21;
 L9:;
-    v3 = ADDRESS(c120); v4 = 6u; goto L21;
+    v3 = ADDRESS(c119); v4 = 6u; goto L21;
 L10:;
-    v3 = ADDRESS(c121); v4 = 10u; goto L21;
+    v3 = ADDRESS(c120); v4 = 10u; goto L21;
 L11:;
-    v3 = ADDRESS(c127); v4 = 21u; goto L21;
+    v3 = ADDRESS(c126); v4 = 21u; goto L21;
 L12:;
-    v3 = ADDRESS(c129); v4 = 24u; goto L21;
+    v3 = ADDRESS(c128); v4 = 24u; goto L21;
 L13:;
-    v3 = ADDRESS(c131); v4 = 17u; goto L21;
+    v3 = ADDRESS(c130); v4 = 17u; goto L21;
 L14:;
-    v3 = ADDRESS(c122); v4 = 14u; goto L21;
+    v3 = ADDRESS(c121); v4 = 14u; goto L21;
 L15:;
-    v3 = ADDRESS(c123); v4 = 11u; goto L21;
+    v3 = ADDRESS(c122); v4 = 11u; goto L21;
 L16:;
-    v3 = ADDRESS(c124); v4 = 12u; goto L21;
+    v3 = ADDRESS(c123); v4 = 12u; goto L21;
 L17:;
-    v3 = ADDRESS(c125); v4 = 14u; goto L21;
+    v3 = ADDRESS(c124); v4 = 14u; goto L21;
 L18:;
-    v3 = ADDRESS(c126); v4 = 14u; goto L21;
+    v3 = ADDRESS(c125); v4 = 14u; goto L21;
 L19:;
-    v3 = ADDRESS(c133); v4 = 15u; goto L21;
+    v3 = ADDRESS(c132); v4 = 15u; goto L21;
 L20:;
-    v3 = ADDRESS(c135); v4 = 27u; goto L21;
+    v3 = ADDRESS(c134); v4 = 27u; goto L21;
 L21:;
     v10 = a2 < v4;
     if (v10) { v6 = 0u; goto L25; }
@@ -32053,7 +33865,7 @@ u32 portable_ptpm_id_named(address a0, u64 a1) {
     v2 = a0 == 0u;
     v3 = v2 ? 4096u : 0u;
     v4 = a0 + v3 * 1u;
-    v5 = f78(v4, a1);
+    v5 = f80(v4, a1);
     v6 = v5.m0;
     v7 = v6 == 1u;
     v8 = v5.m1;
@@ -32091,13 +33903,13 @@ L2:;
 L3:;
     v11 = v5 + 2u * 1u;
     v12 = (u64)((u64)a1 + (u64)UINT64_C(18446744073709551614));
-    v13 = f79(v11, v12);
+    v13 = f81(v11, v12);
     v2 = v13; goto L5;
 L4:;
-    v14 = f78(v5, a1);
+    v14 = f80(v5, a1);
     v15 = v14.m0;
     v16 = v14.m1;
-    v17 = f79(v5, a1);
+    v17 = f81(v5, a1);
     v18 = v17.m0;
     v19 = v17.m1;
     v20 = (u8)((v15) & UINT64_C(1));
@@ -32130,7 +33942,7 @@ u8 portable_ptpm_identity_parse(address a0, u64 a1, address a2) {
     v8 = a0 + v7 * 1u;
     memory_set(v5, 0u, 9u);
     memory_set(v4, 0u, 24u);
-    f29(v4, v8, a1);
+    f26(v4, v8, a1);
     v9 = load8(v4);
     v10 = v9 == 0u;
     if (v10) { goto L2; }
@@ -32142,7 +33954,7 @@ L2:;
     v12 = load_address(v11);
     v13 = v4 + 16u * 1u;
     v14 = load64(v13);
-    f80(v5, v12, v14);
+    f82(v5, v12, v14);
     v15 = load8(v5);
     v16 = v15 == 1u;
     if (v16) { goto L3; }
@@ -32181,7 +33993,7 @@ L1:;
     v18 = v7 + 4u * 1u;
     store64(v18, v17);
     store64(v16, 12u);
-    v19 = f81(v14, a2, v7, 12u);
+    v19 = f83(v14, a2, v7, 12u);
     v20 = swap32(v19);
     v21 = v7 + 12u * 1u;
     store32(v21, v20);
@@ -32207,7 +34019,7 @@ u32 portable_ptpm_image_unseal(address a0, u64 a1, address a2, address a3) {
     memory_set(v5, 0u, 24u);
     store64(a2, 0u);
     store64(a3, 0u);
-    f82(v5, v8, a1);
+    f84(v5, v8, a1);
     v9 = load8(v5);
     v10 = v9 == 0u;
     if (v10) { goto L1; }
@@ -32294,11 +34106,11 @@ u16 portable_ptpm_limits_say(address a0, u64 a1, address a2) {
     default: goto L11;
     }
 L1:;
-    v11 = f83(v8, a1, a2);
+    v11 = f85(v8, a1, a2);
     if (v11) { v5 = 6u; goto L12; }
     else { goto L11; }
 L2:;
-    v12 = f83(v8, a1, a2);
+    v12 = f85(v8, a1, a2);
     if (v12) { v5 = 5u; goto L12; }
     else { goto L3; }
 L3:;
@@ -32373,7 +34185,7 @@ u32 portable_ptpm_member_kind(u16 a0, address a1, u64 a2, u64 a3) {
     v7 = v6 ? 4096u : 0u;
     v8 = a1 + v7 * 1u;
     memory_set(v5, 0u, 24u);
-    v9 = f74(a0, v8, a2);
+    v9 = f76(a0, v8, a2);
     v10 = v9.m1;
     v11 = a3 < v10;
     if (v11) { goto L1; }
@@ -32391,7 +34203,7 @@ L1:;
     v21 = (u64)v20;
     v22 = v8 + v21 * 1u;
     v23 = (u64)((u64)a2 - (u64)v21);
-    f76(v5, v16, v18, v22, v23);
+    f78(v5, v16, v18, v22, v23);
     v24 = load8(v5);
     switch (v24) {
     case 0u: v4 = 1u; goto L12;
@@ -32460,7 +34272,7 @@ L3:;
     memory_set(v17, 0u, 24u);
     v26 = (u64)((u64)v5 * (u64)a2);
     v27 = v20 + v26 * 1u;
-    f82(v17, v27, a2);
+    f84(v17, v27, a2);
     v28 = load8(v17);
     v29 = v28 == 0u;
     if (v29) { goto L5; }
@@ -32514,7 +34326,7 @@ L1:;
     v12 = a1 + v11 * 1u;
     v13 = (u8)(v8);
     memory_set(v7, 0u, 24u);
-    f29(v7, v12, a2);
+    f26(v7, v12, a2);
     v14 = load8(v7);
     v15 = v14 == 0u;
     if (v15) { goto L2; }
@@ -32526,10 +34338,10 @@ L2:;
     v19 = load64(v18);
     memory_set(v6, 0u, 24u);
     v20 = (u64)v8;
-    v21 = ADDRESS(c342) + v20 * 8u;
+    v21 = ADDRESS(c343) + v20 * 8u;
     v22 = load64(v21);
     v23 = (u64)v8;
-    v24 = ADDRESS(c343) + v23 * 8u;
+    v24 = ADDRESS(c344) + v23 * 8u;
     v25 = load_address(v24);
     v26 = v6 + 16u * 1u;
     v27 = v6 + 8u * 1u;
@@ -32538,7 +34350,7 @@ L2:;
 L3:;
     v29 = v25 + v3 * 1u;
     v30 = load8(v29);
-    f68(v6, v13, v30);
+    f70(v6, v13, v30);
     v31 = load8(v6);
     v32 = v31 == 1u;
     if (v32) { goto L4; }
@@ -32598,10 +34410,10 @@ u32 portable_ptpm_other_id_at(u64 a0) {
     if (v2) { goto L1; }
     else { v1 = UINT32_C(65536); goto L2; }
 L1:;
-    v3 = ADDRESS(c313) + a0 * 1u;
+    v3 = ADDRESS(c312) + a0 * 1u;
     v4 = load8(v3);
     v5 = (u64)v4;
-    v6 = ADDRESS(c346) + v5 * 4u;
+    v6 = ADDRESS(c347) + v5 * 4u;
     v7 = load32(v6);
     v1 = v7; goto L2;
 L2:;
@@ -32616,7 +34428,7 @@ u64 portable_ptpm_other_id_name(u16 a0, address a1, u64 a2) {
     v8 = v7 ? 4096u : 0u;
     v9 = a1 + v8 * 1u;
     switch (a0) {
-    case 1u: v3 = ADDRESS(c314); v4 = 17u; goto L10;
+    case 1u: v3 = ADDRESS(c313); v4 = 17u; goto L10;
     case 8207u: goto L9;
     case 8210u: goto L1;
     case 8211u: goto L2;
@@ -32629,23 +34441,23 @@ u64 portable_ptpm_other_id_name(u16 a0, address a1, u64 a2) {
     default: v6 = 0u; goto L14;
     }
 L1:;
-    v3 = ADDRESS(c316); v4 = 23u; goto L10;
+    v3 = ADDRESS(c315); v4 = 23u; goto L10;
 L2:;
-    v3 = ADDRESS(c317); v4 = 20u; goto L10;
+    v3 = ADDRESS(c316); v4 = 20u; goto L10;
 L3:;
-    v3 = ADDRESS(c318); v4 = 15u; goto L10;
+    v3 = ADDRESS(c317); v4 = 15u; goto L10;
 L4:;
-    v3 = ADDRESS(c319); v4 = 14u; goto L10;
+    v3 = ADDRESS(c318); v4 = 14u; goto L10;
 L5:;
-    v3 = ADDRESS(c320); v4 = 23u; goto L10;
+    v3 = ADDRESS(c319); v4 = 23u; goto L10;
 L6:;
-    v3 = ADDRESS(c321); v4 = 16u; goto L10;
+    v3 = ADDRESS(c320); v4 = 16u; goto L10;
 L7:;
-    v3 = ADDRESS(c322); v4 = 18u; goto L10;
+    v3 = ADDRESS(c321); v4 = 18u; goto L10;
 L8:;
-    v3 = ADDRESS(c323); v4 = 13u; goto L10;
+    v3 = ADDRESS(c322); v4 = 13u; goto L10;
 L9:;
-    v3 = ADDRESS(c315); v4 = 4u; goto L10;
+    v3 = ADDRESS(c314); v4 = 4u; goto L10;
 L10:;
     v10 = a2 < v4;
     if (v10) { v6 = 0u; goto L14; }
@@ -32685,7 +34497,7 @@ u32 portable_ptpm_other_id_named(address a0, u64 a1) {
     v7 = v6 ? 4096u : 0u;
     v8 = a0 + v7 * 1u;
     memory_set(v5, 0u, 24u);
-    f29(v5, v8, a1);
+    f26(v5, v8, a1);
     v9 = load8(v5);
     v10 = v9 == 0u;
     if (v10) { goto L1; }
@@ -32697,13 +34509,13 @@ L1:;
     v14 = load64(v13);
     v2 = 0u; goto L2;
 L2:;
-    v15 = ADDRESS(c313) + v2 * 1u;
+    v15 = ADDRESS(c312) + v2 * 1u;
     v16 = load8(v15);
     v17 = (u64)v16;
-    v18 = ADDRESS(c344) + v17 * 8u;
+    v18 = ADDRESS(c345) + v17 * 8u;
     v19 = load64(v18);
     v20 = (u64)v16;
-    v21 = ADDRESS(c345) + v20 * 8u;
+    v21 = ADDRESS(c346) + v20 * 8u;
     v22 = load_address(v21);
     v23 = v14 == v19;
     if (v23) { v3 = 0u; goto L4; }
@@ -32736,7 +34548,7 @@ L5:;
     else { v2 = v39; goto L2; }
 L6:;
     v41 = (u64)v16;
-    v42 = ADDRESS(c346) + v41 * 4u;
+    v42 = ADDRESS(c347) + v41 * 4u;
     v43 = load32(v42);
     v4 = v43; goto L7;
 L7:;
@@ -32827,7 +34639,7 @@ L1:;
     store8(v67, v18);
     v68 = v7 + 25u * 1u;
     memory_set(v68, 0u, 7u);
-    v69 = f84(v11, v14, 4096u, v7, a3, a4);
+    v69 = f86(v11, v14, 4096u, v7, a3, a4);
     v5 = v69; goto L2;
 L2:;
     return v5;
@@ -32924,7 +34736,7 @@ L2:;
     store8(v72, v23);
     v73 = v9 + 25u * 1u;
     memory_set(v73, 0u, 7u);
-    v74 = f84(a0, v12, a2, v9, a5, a6);
+    v74 = f86(a0, v12, a2, v9, a5, a6);
     v7 = v74; goto L3;
 L3:;
     return v7;
@@ -32967,7 +34779,7 @@ u8 portable_ptpm_port_identity_parse(address a0, u64 a1, address a2, address a3)
     v11 = v10 ? 4096u : 0u;
     v12 = a0 + v11 * 1u;
     memory_set(v9, 0u, 24u);
-    f29(v9, v12, a1);
+    f26(v9, v12, a1);
     v13 = load8(v9);
     v14 = v13 == 0u;
     if (v14) { goto L2; }
@@ -32981,7 +34793,7 @@ L2:;
     v18 = load64(v17);
     memory_set(v7, 0u, 12u);
     memory_set(v8, 0u, 12u);
-    f85(v7, 47u, v16, v18);
+    f87(v7, 47u, v16, v18);
     v19 = load8(v7);
     v20 = v19 == 1u;
     v21 = v8 + 10u * 1u;
@@ -32995,7 +34807,7 @@ L3:;
     v25 = load16(v21);
     v4 = v25; v5 = v24; goto L5;
 L4:;
-    f85(v8, 45u, v16, v18);
+    f87(v8, 45u, v16, v18);
     v26 = load8(v8);
     v27 = v8 + 2u * 1u;
     v28 = load64(v27);
@@ -33113,7 +34925,7 @@ L5:;
 L6:;
     v40 = v20.m1;
     v41 = (u64)v40;
-    v42 = ADDRESS(c347) + v41 * 4u;
+    v42 = ADDRESS(c348) + v41 * 4u;
     v43 = load32(v42);
     v6 = v43; goto L7;
 L7:;
@@ -33231,7 +35043,7 @@ L11:;
     else { goto L12; }
 L12:;
     v65 = (u64)v8;
-    v66 = ADDRESS(c347) + v65 * 4u;
+    v66 = ADDRESS(c348) + v65 * 4u;
     v67 = load32(v66);
     v9 = v67; goto L13;
 L13:;
@@ -33900,16 +35712,16 @@ L2:;
 
 u32 portable_ptpm_sizes_agree(address a0, u64 a1) {
     u64 v2, v3, v6, v9, v11, v14, v15, v17, v18, v21, v22, v24, v25, v28, v29, v31;
-    u64 v32, v35, v36, v38, v42;
-    u32 v4, v44;
-    u8 v5, v8, v10, v16, v23, v30, v37, v39, v40, v43;
-    address v7, v12, v13, v19, v20, v26, v27, v33, v34, v41;
+    u64 v32, v35, v36, v38, v42, v45;
+    u32 v4, v47;
+    u8 v5, v8, v10, v16, v23, v30, v37, v39, v40, v43, v46;
+    address v7, v12, v13, v19, v20, v26, v27, v33, v34, v41, v44;
     v5 = a0 == 0u;
     v6 = v5 ? 4096u : 0u;
     v7 = a0 + v6 * 1u;
-    v8 = a1 == 21u;
+    v8 = a1 == 22u;
     if (v8) { v2 = 0u; goto L1; }
-    else { v4 = 47u; goto L10; }
+    else { v4 = 47u; goto L11; }
 L1:;
     v9 = (u64)((u64)v2 + (u64)4u);
     v10 = v2 == UINT64_C(18446744073709551612);
@@ -33920,7 +35732,7 @@ L2:;
 L3:;
     v11 = (u64)((u64)v2 << (3u & 63u));
     v12 = v7 + v11 * 1u;
-    v13 = ADDRESS(c324) + v11 * 1u;
+    v13 = ADDRESS(c323) + v11 * 1u;
     v14 = load64(v12);
     v15 = load64(v13);
     v16 = v14 == v15;
@@ -33930,7 +35742,7 @@ L4:;
     v17 = (u64)((u64)v2 | (u64)1u);
     v18 = (u64)((u64)v17 << (3u & 63u));
     v19 = v7 + v18 * 1u;
-    v20 = ADDRESS(c324) + v18 * 1u;
+    v20 = ADDRESS(c323) + v18 * 1u;
     v21 = load64(v19);
     v22 = load64(v20);
     v23 = v21 == v22;
@@ -33940,7 +35752,7 @@ L5:;
     v24 = (u64)((u64)v2 | (u64)2u);
     v25 = (u64)((u64)v24 << (3u & 63u));
     v26 = v7 + v25 * 1u;
-    v27 = ADDRESS(c324) + v25 * 1u;
+    v27 = ADDRESS(c323) + v25 * 1u;
     v28 = load64(v26);
     v29 = load64(v27);
     v30 = v28 == v29;
@@ -33950,7 +35762,7 @@ L6:;
     v31 = (u64)((u64)v2 | (u64)3u);
     v32 = (u64)((u64)v31 << (3u & 63u));
     v33 = v7 + v32 * 1u;
-    v34 = ADDRESS(c324) + v32 * 1u;
+    v34 = ADDRESS(c323) + v32 * 1u;
     v35 = load64(v33);
     v36 = load64(v34);
     v37 = v35 == v36;
@@ -33958,7 +35770,7 @@ L6:;
     v3 = v38; goto L7;
 L7:;
     v39 = v3 < v9;
-    if (v39) { v4 = 47u; goto L10; }
+    if (v39) { v4 = 47u; goto L11; }
     else { goto L8; }
 L8:;
     v40 = v2 == 16u;
@@ -33968,9 +35780,15 @@ L9:;
     v41 = v7 + 160u * 1u;
     v42 = load64(v41);
     v43 = v42 == 36u;
-    v44 = v43 ? 0u : 47u;
-    v4 = v44; goto L10;
+    if (v43) { goto L10; }
+    else { v4 = 47u; goto L11; }
 L10:;
+    v44 = v7 + 168u * 1u;
+    v45 = load64(v44);
+    v46 = v45 == 32u;
+    v47 = v46 ? 0u : 47u;
+    v4 = v47; goto L11;
+L11:;
     return v4;
 }
 
@@ -34182,7 +36000,7 @@ L18:;
     if (v163) { goto L21; }
     else { v21 = v162; goto L17; }
 L19:;
-    v164 = f24(v8, v9, v15, v9);
+    v164 = f21(v8, v9, v15, v9);
     if (v164) { goto L21; }
     else { v22 = 3u; goto L26; }
 L20:;
@@ -34809,7 +36627,7 @@ L23:;
     switch (v42) {
     case 0u: goto L25;
     case 1u: goto L24;
-    default: v5 = v20; v6 = ADDRESS(c139); v7 = 0u; goto L29;
+    default: v5 = v20; v6 = ADDRESS(c138); v7 = 0u; goto L29;
     }
 L24:;
     v324 = v36 + 52u * 1u;
@@ -35154,7 +36972,7 @@ L40:;
     if (v569) { goto L41; }
     else { v16 = v446; v17 = v445; goto L43; }
 L41:;
-    v570 = f87(v102);
+    v570 = f89(v102);
     v571 = v570 == 0u;
     if (v571) { goto L42; }
     else { goto L49; }
@@ -35485,7 +37303,7 @@ L3:;
     v42 = v5 + 38u * 1u;
     store16(v42, 0u);
     v43 = v5 + 40u * 1u;
-    store_address(v43, ADDRESS(c139));
+    store_address(v43, ADDRESS(c138));
     v44 = v5 + 48u * 1u;
     store64(v44, 0u);
     f3(v5, v6);
@@ -35691,7 +37509,7 @@ L9:;
     v99 = v38 + 8u * 1u;
     store16(v99, v77);
     store64(v39, v68);
-    f90(v37, v64, a4, v38, v39, v73, v5);
+    f92(v37, v64, a4, v38, v39, v73, v5);
     v100 = load8(v37);
     v101 = v100 == 0u;
     if (v101) { goto L10; }
@@ -35949,7 +37767,7 @@ L31:;
     memory_set(v217, 0u, 7u);
     v33 = 0u; goto L36;
 L32:;
-    f17(v158);
+    f14(v158);
     v33 = 35u; goto L36;
 L33:;
     v218 = v17 != 1u;
@@ -35961,7 +37779,7 @@ L34:;
     portable_rattle_dealloc(v15);
     v33 = 35u; goto L36;
 L35:;
-    v221 = ADDRESS(c349) + v32 * 4u;
+    v221 = ADDRESS(c350) + v32 * 4u;
     v222 = load32(v221);
     v33 = v222; goto L36;
 L36:;
@@ -36150,7 +37968,7 @@ L12:;
     memory_set(v92, 0u, 7u);
     v3 = 0u; goto L15;
 L13:;
-    f17(v45);
+    f14(v45);
     v3 = 35u; goto L15;
 L14:;
     v3 = 35u; goto L15;
@@ -36175,7 +37993,7 @@ u32 portable_ptpm_clock_restore(address a0, address a1, u64 a2, address a3, u64 
     v15 = a5 + v14 * 1u;
     store64(a7, 0u);
     memory_set(v9, 0u, 16u);
-    f91(v9, a1, a2, v12, a4, v15, a6);
+    f93(v9, a1, a2, v12, a4, v15, a6);
     v16 = load8(v9);
     v17 = v16 == 0u;
     if (v17) { goto L1; }
@@ -36184,7 +38002,7 @@ L1:;
     v18 = v9 + 8u * 1u;
     v19 = load64(v18);
     v20 = (address)v19;
-    v21 = f107(v15, a6, v20);
+    v21 = f109(v15, a6, v20);
     v22 = portable_rattle_alloc(16u, 8u);
     v23 = v22.m0;
     v24 = (u8)((v23) & UINT64_C(1));
@@ -36255,7 +38073,7 @@ L10:;
     v8 = 0u; goto L12;
 L11:;
     v50 = (u64)v42;
-    v51 = ADDRESS(c348) + v50 * 4u;
+    v51 = ADDRESS(c349) + v50 * 4u;
     v52 = load32(v51);
     v8 = v52; goto L12;
 L12:;
@@ -36376,7 +38194,7 @@ L4:;
     if (v65) { goto L5; }
     else { v9 = v6; v10 = v7; goto L7; }
 L5:;
-    v66 = f109(v22);
+    v66 = f111(v22);
     if (v66) { goto L6; }
     else { goto L8; }
 L6:;
@@ -36634,14 +38452,14 @@ L11:;
     store8(v247, v204);
     v248 = v24 + 243u * 1u;
     memory_set(v248, 0u, 5u);
-    f93(v23, v24, v13, v12);
+    f95(v23, v24, v13, v12);
     v249 = load8(v23);
     v250 = v249 == 0u;
     if (v250) { goto L12; }
     else { goto L13; }
 L12:;
     v251 = v23 + 8u * 1u;
-    f96(v25, v35, a5);
+    f98(v25, v35, a5);
     v252 = load8(v25);
     v253 = v252 == 0u;
     if (v253) { goto L15; }
@@ -36743,7 +38561,7 @@ L27:;
     store64(v293, v269);
     v294 = v29 + 24u * 1u;
     store64(v294, v269);
-    v295 = f106(v27, v29);
+    v295 = f108(v27, v29);
     v296 = v295.m0;
     v297 = v296 == 0u;
     v298 = v295.m1;
@@ -36925,7 +38743,7 @@ L75:;
     UNREACHABLE;
 L76:;
     v322 = (u64)v262;
-    v323 = ADDRESS(c348) + v322 * 4u;
+    v323 = ADDRESS(c349) + v322 * 4u;
     v324 = load32(v323);
     v16 = v324; goto L77;
 L77:;
@@ -36969,7 +38787,7 @@ u32 portable_ptpm_session_restore(address a0, address a1, address a2, u64 a3) {
     v20 = load16(v19);
     v21 = a1 + 4u * 1u;
     v22 = load16(v21);
-    f90(v5, v12, a3, v6, v7, v20, v22);
+    f92(v5, v12, a3, v6, v7, v20, v22);
     v23 = load8(v5);
     v24 = v23 == 0u;
     if (v24) { goto L1; }
@@ -37002,7 +38820,7 @@ L2:;
     v44 = v5 + 1u * 1u;
     v45 = load8(v44);
     v46 = (u64)v45;
-    v47 = ADDRESS(c349) + v46 * 4u;
+    v47 = ADDRESS(c350) + v46 * 4u;
     v48 = load32(v47);
     v4 = v48; goto L14;
 L3:;
@@ -37352,7 +39170,7 @@ L3:;
     memory_set(v43, 0u, 24u);
     v44 = v4 + 136u * 1u;
     store64(v44, UINT64_C(2611923443488327891));
-    v45 = f110(a0, v4);
+    v45 = f112(a0, v4);
     v2 = v45; goto L4;
 L4:;
     return v2;
@@ -37452,399 +39270,132 @@ L6:;
     memory_set(v48, 0u, 24u);
     v49 = v5 + 136u * 1u;
     store64(v49, UINT64_C(2611923443488327891));
-    v50 = f110(a0, v5);
+    v50 = f112(a0, v5);
     v3 = v50; goto L7;
 L7:;
     return v3;
 }
 
-u32 portable_ptpm_clock_ask(address a0, u16 a1, address a2, u64 a3, address a4) {
-    u8 v5, v14, v18, v19, v21, v25, v26, v29, v33, v34, v35, v43, v52, v54, v55, v58;
-    u8 v60, v61, v66, v68, v70, v72, v93, v98, v99, v101, v102, v103, v105, v107, v108, v111;
-    u8 v112, v113, v114, v117, v118, v119, v129, v131, v133, v135;
-    address v6, v9, v10, v11, v12, v13, v16, v17, v20, v22, v23, v24, v27, v28, v30, v36;
-    address v38, v40, v42, v44, v46, v48, v49, v50, v56, v57, v59, v62, v65, v67, v69, v71;
-    address v73, v75, v77, v87, v88, v89, v90, v91, v92, v94, v96, v100, v104, v106, v109, v120;
-    address v121, v122, v123, v124, v125, v126, v127, v128, v130, v132, v134, v144, v145, v146, v147, v148;
-    address v149, v150;
-    u16 v7, v32, v39, v41, v45, v47, v53, v79, v80, v81, v82, v83, v84, v85, v86, v116;
-    u16 v136, v137, v138, v139, v140, v141, v142, v143;
-    u32 v8;
-    u64 v15, v31, v37, v51, v63, v64, v74, v76, v78, v95, v97, v110, v115;
-    u64 block0[3];
-    u64 block1[3];
-    u64 block2[4];
-    u64 block3[17];
-    u64 block4[6];
-    v9 = ADDRESS(block0);
-    v10 = ADDRESS(block1);
-    v11 = ADDRESS(block2);
-    v12 = ADDRESS(block3);
-    v13 = ADDRESS(block4);
-    v14 = a2 == 0u;
-    v15 = v14 ? 4096u : 0u;
-    v16 = a2 + v15 * 1u;
-    memory_set(a4, 0u, 150u);
-    v17 = a0 + 8u * 1u;
-    v18 = load8(v17);
-    v19 = (u8)((v18) & UINT64_C(1));
-    if (v19) { goto L1; }
-    else { v8 = 32u; goto L25; }
-L1:;
-    v20 = load_address(a0);
-    v21 = load8(v20);
-    switch (v21) {
-    case 4u: goto L2;
-    case 1u: goto L3;
-    default: v8 = 32u; goto L25;
-    }
-L2:;
-    v22 = v20 + 8u * 1u;
-    v23 = load_address(v22);
-    v24 = v23 + 16u * 1u;
-    v25 = load8(v24);
-    v26 = v25 == 0u;
-    v5 = v26; v6 = v23; goto L4;
-L3:;
-    v27 = v20 + 8u * 1u;
-    v5 = 1u; v6 = v27; goto L4;
-L4:;
-    v28 = load_address(v6);
-    v29 = a1 == 0u;
-    if (v29) { goto L24; }
-    else { goto L5; }
-L5:;
-    v30 = v28 + 432u * 1u;
-    v31 = load64(v30);
-    v32 = (u16)(v31);
-    v33 = a1 > v32;
-    if (v33) { goto L24; }
-    else { goto L6; }
-L6:;
-    f50(v13, v28, v16, a3);
-    v34 = load8(v13);
-    v35 = v34 == 1u;
-    if (v35) { goto L7; }
-    else { goto L9; }
-L7:;
-    v36 = v13 + 8u * 1u;
-    v37 = load64(v36);
-    v38 = v13 + 16u * 1u;
-    v39 = load16(v38);
-    v40 = v13 + 18u * 1u;
-    v41 = load16(v40);
-    v42 = v13 + 24u * 1u;
-    v43 = load8(v42);
-    v44 = v13 + 26u * 1u;
-    v45 = load16(v44);
-    v46 = v13 + 28u * 1u;
-    v47 = load16(v46);
-    v48 = v13 + 32u * 1u;
-    v49 = load_address(v48);
-    v50 = v13 + 40u * 1u;
-    v51 = load64(v50);
-    memory_set(v12, 0u, 130u);
-    v52 = v51 > 130u;
-    if (v52) { v7 = 0u; goto L20; }
-    else { goto L8; }
-L8:;
-    memory_cpy(v12, v49, v51);
-    v53 = (u16)(v51);
-    v7 = v53; goto L20;
-L9:;
-    memory_set(v11, 0u, 32u);
-    f8(v11, v16, a3);
-    v54 = load8(v11);
-    v55 = v54 == 0u;
-    if (v55) { goto L10; }
-    else { goto L19; }
-L10:;
-    v56 = v11 + 8u * 1u;
-    memory_cpy(v10, v56, 24u);
-    v57 = v10 + 16u * 1u;
-    v58 = load8(v57);
-    v59 = v10 + 17u * 1u;
-    v60 = load8(v59);
-    v61 = v60 == 0u;
-    v62 = load_address(v10);
-    v63 = v61 ? 52u : 54u;
-    v64 = v61 ? 53u : 55u;
-    v65 = v62 + v63 * 1u;
-    v66 = load8(v65);
-    v67 = v62 + v64 * 1u;
-    v68 = load8(v67);
-    v69 = v62 + 42u * 1u;
-    v70 = load8(v69);
-    v71 = v62 + 43u * 1u;
-    v72 = load8(v71);
-    v73 = v10 + 8u * 1u;
-    v74 = load64(v73);
-    v75 = v62 + 54u * 1u;
-    v76 = (u64)((u64)v74 + (u64)UINT64_C(18446744073709551562));
-    v77 = v61 ? v75 : ADDRESS(c139);
-    v78 = v61 ? v76 : 0u;
-    v79 = (u16)v70;
-    v80 = (u16)((u32)v79 << (8u & 15u));
-    v81 = (u16)v72;
-    v82 = (u16)((u32)v80 | (u32)v81);
-    v83 = (u16)v66;
-    v84 = (u16)((u32)v83 << (8u & 15u));
-    v85 = (u16)v68;
-    v86 = (u16)((u32)v84 | (u32)v85);
-    store8(v9, v58);
-    v87 = v9 + 1u * 1u;
-    store8(v87, 0u);
-    v88 = v9 + 2u * 1u;
-    store16(v88, v86);
-    v89 = v9 + 4u * 1u;
-    store16(v89, v82);
-    v90 = v9 + 6u * 1u;
-    store16(v90, 0u);
-    v91 = v9 + 8u * 1u;
-    store_address(v91, v77);
-    v92 = v9 + 16u * 1u;
-    store64(v92, v78);
-    v93 = f59(v9);
-    if (v93) { goto L11; }
-    else { goto L17; }
-L11:;
-    v94 = v62 + 34u * 1u;
-    v95 = load64(v94);
-    v96 = v28 + 440u * 1u;
-    v97 = load64(v96);
-    v98 = load8(v62);
-    v99 = (u8)((u32)v98 >> (4u & 7u));
-    v100 = v62 + 5u * 1u;
-    v101 = load8(v100);
-    v102 = (u8)((u32)v99 | (u32)v101);
-    v103 = v102 == 0u;
-    if (v103) { goto L12; }
-    else { goto L17; }
-L12:;
-    v104 = v62 + 4u * 1u;
-    v105 = load8(v104);
-    v106 = v28 + 8u * 1u;
-    v107 = load8(v106);
-    v108 = v105 == v107;
-    if (v108) { goto L13; }
-    else { goto L17; }
-L13:;
-    v109 = v62 + 20u * 1u;
-    v110 = load64(v109);
-    v111 = v110 == v97;
-    if (v111) { goto L17; }
-    else { goto L14; }
-L14:;
-    v112 = v95 == v97;
-    v113 = v95 == UINT64_C(18446744073709551615);
-    v114 = (u8)(((u32)v113 | (u32)v112) & UINT64_C(1));
-    if (v114) { goto L15; }
-    else { goto L17; }
-L15:;
-    switch (v82) {
-    case 65535u: goto L18;
-    case 0u: goto L17;
-    default: goto L16;
-    }
-L16:;
-    v115 = load64(v30);
-    v116 = (u16)(v115);
-    v117 = v82 > v116;
-    if (v117) { goto L17; }
-    else { goto L18; }
-L17:;
-    goto L19;
-L18:;
-    v118 = f60(v28, v10);
-    v119 = v118 < 2u;
-    if (v119) { goto L22; }
-    else { goto L19; }
-L19:;
-    v8 = 0u; goto L25;
-L20:;
-    if (v5) { goto L21; }
-    else { v8 = 0u; goto L25; }
-L21:;
-    store64(a4, v37);
-    v120 = a4 + 8u * 1u;
-    store16(v120, v39);
-    v121 = a4 + 10u * 1u;
-    store16(v121, v41);
-    v122 = a4 + 12u * 1u;
-    store16(v122, v45);
-    v123 = a4 + 14u * 1u;
-    store16(v123, v47);
-    v124 = a4 + 16u * 1u;
-    store16(v124, v7);
-    v125 = a4 + 18u * 1u;
-    store8(v125, v43);
-    v126 = a4 + 19u * 1u;
-    memory_cpy(v126, v12, 130u);
-    v127 = a4 + 149u * 1u;
-    store8(v127, 0u);
-    v8 = 29u; goto L25;
-L22:;
-    v128 = v62 + 28u * 1u;
-    v129 = load8(v128);
-    v130 = v62 + 29u * 1u;
-    v131 = load8(v130);
-    v132 = v62 + 30u * 1u;
-    v133 = load8(v132);
-    v134 = v62 + 31u * 1u;
-    v135 = load8(v134);
-    if (v5) { goto L23; }
-    else { v8 = 0u; goto L25; }
-L23:;
-    v136 = (u16)v129;
-    v137 = (u16)((u32)v136 << (8u & 15u));
-    v138 = (u16)v131;
-    v139 = (u16)((u32)v137 | (u32)v138);
-    v140 = (u16)v133;
-    v141 = (u16)((u32)v140 << (8u & 15u));
-    v142 = (u16)v135;
-    v143 = (u16)((u32)v141 | (u32)v142);
-    store64(a4, v110);
-    v144 = a4 + 8u * 1u;
-    store16(v144, v139);
-    v145 = a4 + 10u * 1u;
-    store16(v145, v143);
-    v146 = a4 + 12u * 1u;
-    store16(v146, v86);
-    v147 = a4 + 14u * 1u;
-    store16(v147, v82);
-    v148 = a4 + 16u * 1u;
-    store16(v148, 0u);
-    v149 = a4 + 18u * 1u;
-    store8(v149, v58);
-    v150 = a4 + 19u * 1u;
-    memory_set(v150, 0u, 131u);
-    v8 = 30u; goto L25;
-L24:;
-    v8 = 33u; goto L25;
-L25:;
-    return v8;
-}
-
 u32 portable_ptpm_clock_observe(address a0, address a1, address a2, u64 a3, address a4) {
-    u8 v5, v6, v7, v8, v9, v10, v11, v12, v13, v14, v17, v18, v19, v24, v29, v30;
-    u8 v44, v45, v46, v47, v48, v49, v50, v51, v52, v53, v54, v55, v56, v57, v58, v59;
-    u8 v60, v61, v62, v63, v64, v65, v66, v67, v68, v74, v75, v76, v77, v78, v79, v80;
-    u8 v81, v82, v83, v84, v88, v90, v92, v94, v96, v98, v100, v102, v104, v106, v108, v110;
-    u64 v15, v25, v73, v112;
-    address v16, v21, v22, v23, v26, v27, v28, v31, v32, v33, v34, v35, v36, v37, v38, v39;
-    address v40, v41, v42, v43, v71, v72, v85, v86, v87, v89, v91, v93, v95, v97, v99, v101;
-    address v103, v105, v107, v109, v111;
-    u32 v20, v69, v70;
+    u8 v5, v6, v7, v8, v9, v10, v11, v12, v13, v14, v15, v17, v18, v19, v21, v22;
+    u8 v23, v24, v25, v26, v27, v28, v29, v30, v31, v32, v35, v36, v37, v38, v39, v40;
+    u8 v41, v42, v43, v44, v45, v46, v47, v57, v62, v63, v65, v66, v67, v68, v69, v70;
+    u8 v71, v72, v73, v74, v75, v76, v77, v78, v79, v80, v81, v82, v83, v84, v85, v86;
+    u8 v87, v88, v96, v97, v102, v103, v104, v105, v107, v108, v109, v110, v112, v114, v123, v124;
+    u8 v126, v128, v130, v132, v134, v136, v138, v140, v142, v144, v146, v155, v156, v161, v162, v163;
+    u8 v164, v166, v167, v168, v169, v171, v173, v182, v183, v185, v187, v189, v192, v193, v195, v197;
+    u8 v199, v201, v203, v205, v207, v213, v214, v216, v217, v218;
+    u64 v16, v20, v33, v34, v48, v58, v94, v95, v99, v113, v115, v116, v117, v122, v148, v153;
+    u64 v154, v158, v172, v174, v175, v176, v181, v209;
+    u32 v49, v89, v90;
+    address v50, v51, v52, v53, v54, v55, v56, v59, v60, v61, v64, v91, v92, v93, v98, v100;
+    address v101, v106, v111, v118, v119, v120, v121, v125, v127, v129, v131, v133, v135, v137, v139, v141;
+    address v143, v145, v147, v149, v150, v151, v152, v157, v159, v160, v165, v170, v177, v178, v179, v180;
+    address v184, v186, v188, v190, v191, v194, v196, v198, v200, v202, v204, v206, v208, v210, v211, v212;
+    address v215;
     u64 block0[3];
-    u64 block1[3];
-    u64 block2[1];
-    v21 = ADDRESS(block0);
-    v22 = ADDRESS(block1);
-    v23 = ADDRESS(block2);
-    v24 = a2 == 0u;
-    v25 = v24 ? 4096u : 0u;
-    v26 = a2 + v25 * 1u;
-    memory_set(v22, 0u, 24u);
-    store8(v23, 0u);
+    u64 block1[25];
+    u64 block2[14];
+    u64 block3[3];
+    u64 block4[3];
+    u64 block5[25];
+    u64 block6[14];
+    v50 = ADDRESS(block0);
+    v51 = ADDRESS(block1);
+    v52 = ADDRESS(block2);
+    v53 = ADDRESS(block3);
+    v54 = ADDRESS(block4);
+    v55 = ADDRESS(block5);
+    v56 = ADDRESS(block6);
+    v57 = a2 == 0u;
+    v58 = v57 ? 4096u : 0u;
+    v59 = a2 + v58 * 1u;
     store8(a4, 0u);
-    v27 = a0 + 9u * 1u;
-    store8(v27, 0u);
-    v28 = a0 + 8u * 1u;
-    v29 = load8(v28);
-    v30 = (u8)((v29) & UINT64_C(1));
-    v31 = v22 + 2u * 1u;
-    v32 = v22 + 3u * 1u;
-    v33 = v22 + 8u * 1u;
-    v34 = v22 + 9u * 1u;
-    v35 = v22 + 10u * 1u;
-    v36 = v22 + 11u * 1u;
-    v37 = v22 + 12u * 1u;
-    v38 = v22 + 13u * 1u;
-    v39 = v22 + 14u * 1u;
-    v40 = v22 + 15u * 1u;
-    v41 = v22 + 16u * 1u;
-    v42 = v22 + 1u * 1u;
-    if (v30) { goto L1; }
-    else { v20 = 32u; goto L53; }
+    v60 = a0 + 9u * 1u;
+    store8(v60, 0u);
+    v61 = a0 + 8u * 1u;
+    v62 = load8(v61);
+    v63 = (u8)((v62) & UINT64_C(1));
+    if (v63) { goto L1; }
+    else { v49 = 32u; goto L66; }
 L1:;
-    v43 = load_address(a0);
-    v44 = load8(v43);
-    switch (v44) {
+    v64 = load_address(a0);
+    v65 = load8(v64);
+    switch (v65) {
     case 1u: goto L50;
-    case 4u: goto L51;
-    case 0u: v20 = 32u; goto L53;
-    case 2u: v20 = 32u; goto L53;
-    case 3u: v20 = 32u; goto L53;
-    case 5u: v20 = 32u; goto L53;
-    default: goto L52;
+    case 4u: goto L56;
+    case 0u: v49 = 32u; goto L66;
+    case 2u: v49 = 32u; goto L66;
+    case 3u: v49 = 32u; goto L66;
+    case 5u: v49 = 32u; goto L66;
+    default: goto L65;
     }
 L2:;
-    v45 = v17 == 0u;
-    if (v45) { goto L3; }
+    v66 = v17 == 0u;
+    if (v66) { goto L3; }
     else { goto L12; }
 L3:;
-    switch (v15) {
+    switch (v16) {
     case 0u: v18 = 0u; v19 = 0u; goto L11;
     case 1u: goto L10;
     default: goto L4;
     }
 L4:;
-    v46 = (u8)((u32)v8 << (1u & 7u));
-    v47 = (u8)((u32)v46 + (u32)v7);
-    v48 = v15 > 2u;
-    if (v48) { goto L5; }
-    else { v18 = v47; v19 = 0u; goto L11; }
+    v67 = (u8)((u32)v9 << (1u & 7u));
+    v68 = (u8)((u32)v67 | (u32)v8);
+    v69 = v16 > 2u;
+    if (v69) { goto L5; }
+    else { v18 = v68; v19 = 0u; goto L11; }
 L5:;
-    v49 = (u8)((u32)v9 << (2u & 7u));
-    v50 = (u8)((u32)v49 + (u32)v47);
-    v51 = v15 == 3u;
-    if (v51) { v18 = v50; v19 = 0u; goto L11; }
+    v70 = (u8)((u32)v10 << (2u & 7u));
+    v71 = (u8)((u32)v70 | (u32)v68);
+    v72 = v16 == 3u;
+    if (v72) { v18 = v71; v19 = 0u; goto L11; }
     else { goto L6; }
 L6:;
-    v52 = (u8)((u32)v10 << (3u & 7u));
-    v53 = (u8)((u32)v52 + (u32)v50);
-    v54 = v15 > 4u;
-    if (v54) { goto L7; }
-    else { v18 = v53; v19 = 0u; goto L11; }
+    v73 = (u8)((u32)v11 << (3u & 7u));
+    v74 = (u8)((u32)v73 | (u32)v71);
+    v75 = v16 > 4u;
+    if (v75) { goto L7; }
+    else { v18 = v74; v19 = 0u; goto L11; }
 L7:;
-    v55 = (u8)((u32)v11 << (4u & 7u));
-    v56 = (u8)((u32)v55 + (u32)v53);
-    v57 = v15 == 5u;
-    if (v57) { v18 = v56; v19 = 0u; goto L11; }
+    v76 = (u8)((u32)v12 << (4u & 7u));
+    v77 = (u8)((u32)v76 | (u32)v74);
+    v78 = v16 == 5u;
+    if (v78) { v18 = v77; v19 = 0u; goto L11; }
     else { goto L8; }
 L8:;
-    v58 = (u8)((u32)v12 << (5u & 7u));
-    v59 = (u8)((u32)v58 + (u32)v56);
-    v60 = v15 > 6u;
-    if (v60) { goto L9; }
-    else { v18 = v59; v19 = 0u; goto L11; }
+    v79 = (u8)((u32)v13 << (5u & 7u));
+    v80 = (u8)((u32)v79 | (u32)v77);
+    v81 = v16 > 6u;
+    if (v81) { goto L9; }
+    else { v18 = v80; v19 = 0u; goto L11; }
 L9:;
-    v61 = (u8)((u32)v13 << (6u & 7u));
-    v62 = (u8)((u32)v61 + (u32)v59);
-    v63 = v15 == 7u;
-    v64 = (u8)((u32)v14 << (7u & 7u));
-    v65 = v63 ? 0u : v64;
-    v18 = v62; v19 = v65; goto L11;
+    v82 = (u8)((u32)v14 << (6u & 7u));
+    v83 = (u8)((u32)v82 + (u32)v80);
+    v84 = v16 == 7u;
+    v85 = (u8)((u32)v15 << (7u & 7u));
+    v86 = v84 ? 0u : v85;
+    v18 = v83; v19 = v86; goto L11;
 L10:;
-    v18 = v7; v19 = 0u; goto L11;
+    v18 = v8; v19 = 0u; goto L11;
 L11:;
-    v66 = (u8)((u32)v19 + (u32)v18);
-    store8(a4, v66);
-    v20 = 0u; goto L53;
+    v87 = (u8)((u32)v19 + (u32)v18);
+    store8(a4, v87);
+    v49 = 0u; goto L66;
 L12:;
-    v67 = load8(v16);
     store8(a4, 0u);
-    switch (v67) {
-    case 0u: v20 = 33u; goto L53;
+    switch (v5) {
+    case 0u: v49 = 33u; goto L66;
     case 2u: goto L13;
     case 1u: goto L14;
     default: goto L49;
     }
 L13:;
-    v20 = 50u; goto L53;
+    v49 = 50u; goto L66;
 L14:;
-    switch (v5) {
-    case 0u: v20 = 64u; goto L53;
+    switch (v6) {
+    case 0u: v49 = 64u; goto L66;
     case 1u: goto L15;
     case 2u: goto L16;
     case 3u: goto L17;
@@ -37881,141 +39432,584 @@ L14:;
     default: goto L48;
     }
 L15:;
-    v20 = 65u; goto L53;
+    v49 = 65u; goto L66;
 L16:;
-    v20 = 66u; goto L53;
+    v49 = 66u; goto L66;
 L17:;
-    v20 = 67u; goto L53;
+    v49 = 67u; goto L66;
 L18:;
-    v20 = 68u; goto L53;
+    v49 = 68u; goto L66;
 L19:;
-    v20 = 69u; goto L53;
+    v49 = 69u; goto L66;
 L20:;
-    v20 = 70u; goto L53;
+    v49 = 70u; goto L66;
 L21:;
-    v20 = 71u; goto L53;
+    v49 = 71u; goto L66;
 L22:;
-    v20 = 72u; goto L53;
+    v49 = 72u; goto L66;
 L23:;
-    v20 = 73u; goto L53;
+    v49 = 73u; goto L66;
 L24:;
-    v20 = 74u; goto L53;
+    v49 = 74u; goto L66;
 L25:;
-    v20 = 75u; goto L53;
+    v49 = 75u; goto L66;
 L26:;
-    v20 = 76u; goto L53;
+    v49 = 76u; goto L66;
 L27:;
-    v20 = 77u; goto L53;
+    v49 = 77u; goto L66;
 L28:;
-    v20 = 78u; goto L53;
+    v49 = 78u; goto L66;
 L29:;
-    v20 = 79u; goto L53;
+    v49 = 79u; goto L66;
 L30:;
-    v20 = 80u; goto L53;
+    v49 = 80u; goto L66;
 L31:;
-    v20 = 81u; goto L53;
+    v49 = 81u; goto L66;
 L32:;
-    v20 = 82u; goto L53;
+    v49 = 82u; goto L66;
 L33:;
-    v20 = 83u; goto L53;
+    v49 = 83u; goto L66;
 L34:;
-    v20 = 84u; goto L53;
+    v49 = 84u; goto L66;
 L35:;
-    v20 = 85u; goto L53;
+    v49 = 85u; goto L66;
 L36:;
-    v20 = 86u; goto L53;
+    v49 = 86u; goto L66;
 L37:;
-    v20 = 87u; goto L53;
+    v49 = 87u; goto L66;
 L38:;
-    v20 = 88u; goto L53;
+    v49 = 88u; goto L66;
 L39:;
-    v20 = 89u; goto L53;
+    v49 = 89u; goto L66;
 L40:;
-    v20 = 90u; goto L53;
+    v49 = 90u; goto L66;
 L41:;
-    v20 = 91u; goto L53;
+    v49 = 91u; goto L66;
 L42:;
-    v20 = 92u; goto L53;
+    v49 = 92u; goto L66;
 L43:;
-    v20 = 93u; goto L53;
+    v49 = 93u; goto L66;
 L44:;
-    v20 = 94u; goto L53;
+    v49 = 94u; goto L66;
 L45:;
-    v20 = 95u; goto L53;
+    v49 = 95u; goto L66;
 L46:;
-    v20 = 96u; goto L53;
+    v49 = 96u; goto L66;
 L47:;
-    v68 = (u8)((u32)v6 + (u32)33u);
-    v69 = (u32)v68;
-    v70 = (u32)((u32)v69 + (u32)64u);
-    v20 = v70; goto L53;
+    v88 = (u8)((u32)v7 + (u32)33u);
+    v89 = (u32)v88;
+    v90 = (u32)((u32)v89 + (u32)64u);
+    v49 = v90; goto L66;
 L48:;
     UNREACHABLE;
 L49:;
     UNREACHABLE;
 L50:;
-    v71 = v43 + 8u * 1u;
-    v72 = load_address(v71);
-    f111(v22, v72, a1, v26, a3);
-    v73 = load64(v41);
-    v74 = load8(v40);
-    v75 = load8(v39);
-    v76 = load8(v38);
-    v77 = load8(v37);
-    v78 = load8(v36);
-    v79 = load8(v35);
-    v80 = load8(v34);
-    v81 = load8(v33);
-    v82 = load8(v32);
-    v83 = load8(v31);
-    v84 = load8(v22);
-    v5 = v83; v6 = v82; v7 = v81; v8 = v80; v9 = v79; v10 = v78; v11 = v77; v12 = v76; v13 = v75; v14 = v74; v15 = v73; v16 = v42; v17 = v84; goto L2;
+    v91 = v64 + 8u * 1u;
+    v92 = load_address(v91);
+    v93 = v92 + 432u * 1u;
+    v94 = load64(v93);
+    v95 = (u64)((u64)v94 & (u64)65535u);
+    v96 = a3 > v95;
+    if (v96) { v21 = 1u; v22 = 0u; v23 = 0u; v24 = 0u; v25 = 0u; v26 = 0u; v27 = 0u; v28 = 0u; v29 = 0u; v30 = 0u; v31 = 0u; v32 = 0u; v33 = 0u; goto L55; }
+    else { goto L51; }
 L51:;
-    v85 = v43 + 8u * 1u;
-    v86 = load_address(v85);
-    memory_set(v21, 0u, 24u);
-    v87 = load_address(v86);
-    f111(v21, v87, a1, v26, a3);
-    v88 = load8(v21);
-    v89 = v21 + 1u * 1u;
-    v90 = load8(v89);
-    store8(v23, v90);
-    v91 = v21 + 2u * 1u;
-    v92 = load8(v91);
-    v93 = v21 + 3u * 1u;
-    v94 = load8(v93);
-    v95 = v21 + 8u * 1u;
-    v96 = load8(v95);
-    v97 = v21 + 9u * 1u;
-    v98 = load8(v97);
-    v99 = v21 + 10u * 1u;
-    v100 = load8(v99);
-    v101 = v21 + 11u * 1u;
-    v102 = load8(v101);
-    v103 = v21 + 12u * 1u;
-    v104 = load8(v103);
-    v105 = v21 + 13u * 1u;
-    v106 = load8(v105);
-    v107 = v21 + 14u * 1u;
-    v108 = load8(v107);
-    v109 = v21 + 15u * 1u;
-    v110 = load8(v109);
-    v111 = v21 + 16u * 1u;
-    v112 = load64(v111);
-    v5 = v92; v6 = v94; v7 = v96; v8 = v98; v9 = v100; v10 = v102; v11 = v104; v12 = v106; v13 = v108; v14 = v110; v15 = v112; v16 = v23; v17 = v88; goto L2;
+    memory_set(v55, 0u, 200u);
+    v97 = a3 == 0u;
+    if (v97) { goto L54; }
+    else { goto L52; }
 L52:;
-    UNREACHABLE;
+    v98 = v55 + 192u * 1u;
+    v20 = 0u; goto L53;
 L53:;
-    return v20;
+    v99 = (u64)((u64)v20 << (4u & 63u));
+    v100 = v59 + v99 * 1u;
+    v101 = v100 + 8u * 1u;
+    v102 = load8(v101);
+    v103 = (u8)((u32)v102 + (u32)255u);
+    v104 = v103 < 9u;
+    v105 = v104 ? v103 : 2u;
+    v106 = v100 + 9u * 1u;
+    v107 = load8(v106);
+    v108 = v107 != 0u;
+    v109 = (u8)v108;
+    v110 = v108 ? v105 : 0u;
+    v111 = v100 + 10u * 1u;
+    v112 = load8(v111);
+    v113 = load64(v100);
+    v114 = v112 != 0u;
+    v115 = v114 ? v113 : 0u;
+    v116 = (u64)v114;
+    v117 = (u64)((u64)v20 * (u64)24u);
+    v118 = v55 + v117 * 1u;
+    v119 = v118 + 1u * 1u;
+    v120 = v118 + 8u * 1u;
+    v121 = v118 + 16u * 1u;
+    store8(v118, v109);
+    store8(v119, v110);
+    store64(v120, v116);
+    store64(v121, v115);
+    v122 = (u64)((u64)v20 + (u64)1u);
+    store64(v98, v122);
+    v123 = v122 == a3;
+    if (v123) { goto L54; }
+    else { v20 = v122; goto L53; }
+L54:;
+    f113(v56, a1);
+    memory_set(v54, 0u, 24u);
+    f114(v54, v92, v56, v55, a3);
+    v124 = load8(v54);
+    v125 = v54 + 1u * 1u;
+    v126 = load8(v125);
+    v127 = v54 + 2u * 1u;
+    v128 = load8(v127);
+    v129 = v54 + 3u * 1u;
+    v130 = load8(v129);
+    v131 = v54 + 8u * 1u;
+    v132 = load8(v131);
+    v133 = v54 + 9u * 1u;
+    v134 = load8(v133);
+    v135 = v54 + 10u * 1u;
+    v136 = load8(v135);
+    v137 = v54 + 11u * 1u;
+    v138 = load8(v137);
+    v139 = v54 + 12u * 1u;
+    v140 = load8(v139);
+    v141 = v54 + 13u * 1u;
+    v142 = load8(v141);
+    v143 = v54 + 14u * 1u;
+    v144 = load8(v143);
+    v145 = v54 + 15u * 1u;
+    v146 = load8(v145);
+    v147 = v54 + 16u * 1u;
+    v148 = load64(v147);
+    v21 = v124; v22 = v126; v23 = v128; v24 = v130; v25 = v132; v26 = v134; v27 = v136; v28 = v138; v29 = v140; v30 = v142; v31 = v144; v32 = v146; v33 = v148; goto L55;
+L55:;
+    v5 = v22; v6 = v23; v7 = v24; v8 = v25; v9 = v26; v10 = v27; v11 = v28; v12 = v29; v13 = v30; v14 = v31; v15 = v32; v16 = v33; v17 = v21; goto L2;
+L56:;
+    v149 = v64 + 8u * 1u;
+    v150 = load_address(v149);
+    v151 = load_address(v150);
+    v152 = v151 + 432u * 1u;
+    v153 = load64(v152);
+    v154 = (u64)((u64)v153 & (u64)65535u);
+    v155 = a3 > v154;
+    if (v155) { v36 = 0u; v37 = 1u; v38 = 0u; v39 = 0u; v40 = 0u; v41 = 0u; v42 = 0u; v43 = 0u; v44 = 0u; v45 = 0u; v46 = 0u; v47 = 0u; v48 = 0u; goto L64; }
+    else { goto L57; }
+L57:;
+    f113(v52, a1);
+    memory_set(v51, 0u, 200u);
+    v156 = a3 == 0u;
+    if (v156) { goto L60; }
+    else { goto L58; }
+L58:;
+    v157 = v51 + 192u * 1u;
+    v34 = 0u; goto L59;
+L59:;
+    v158 = (u64)((u64)v34 << (4u & 63u));
+    v159 = v59 + v158 * 1u;
+    v160 = v159 + 8u * 1u;
+    v161 = load8(v160);
+    v162 = (u8)((u32)v161 + (u32)255u);
+    v163 = v162 < 9u;
+    v164 = v163 ? v162 : 2u;
+    v165 = v159 + 9u * 1u;
+    v166 = load8(v165);
+    v167 = v166 != 0u;
+    v168 = (u8)v167;
+    v169 = v167 ? v164 : 0u;
+    v170 = v159 + 10u * 1u;
+    v171 = load8(v170);
+    v172 = load64(v159);
+    v173 = v171 != 0u;
+    v174 = v173 ? v172 : 0u;
+    v175 = (u64)v173;
+    v176 = (u64)((u64)v34 * (u64)24u);
+    v177 = v51 + v176 * 1u;
+    v178 = v177 + 1u * 1u;
+    v179 = v177 + 8u * 1u;
+    v180 = v177 + 16u * 1u;
+    store8(v177, v168);
+    store8(v178, v169);
+    store64(v179, v175);
+    store64(v180, v174);
+    v181 = (u64)((u64)v34 + (u64)1u);
+    store64(v157, v181);
+    v182 = v181 == a3;
+    if (v182) { goto L60; }
+    else { v34 = v181; goto L59; }
+L60:;
+    memory_set(v50, 0u, 24u);
+    f114(v50, v151, v52, v51, a3);
+    v183 = load8(v50);
+    v184 = v50 + 1u * 1u;
+    v185 = load8(v184);
+    v186 = v50 + 2u * 1u;
+    v187 = load8(v186);
+    v188 = v50 + 3u * 1u;
+    v189 = load8(v188);
+    v190 = v53 + 8u * 1u;
+    v191 = v50 + 8u * 1u;
+    memory_cpy(v190, v191, 16u);
+    v192 = v183 == 0u;
+    if (v192) { goto L61; }
+    else { v36 = v185; v37 = 1u; v38 = v187; v39 = v189; v40 = 0u; v41 = 0u; v42 = 0u; v43 = 0u; v44 = 0u; v45 = 0u; v46 = 0u; v47 = 0u; v48 = 0u; goto L64; }
+L61:;
+    v193 = load8(v190);
+    v194 = v53 + 9u * 1u;
+    v195 = load8(v194);
+    v196 = v53 + 10u * 1u;
+    v197 = load8(v196);
+    v198 = v53 + 11u * 1u;
+    v199 = load8(v198);
+    v200 = v53 + 12u * 1u;
+    v201 = load8(v200);
+    v202 = v53 + 13u * 1u;
+    v203 = load8(v202);
+    v204 = v53 + 14u * 1u;
+    v205 = load8(v204);
+    v206 = v53 + 15u * 1u;
+    v207 = load8(v206);
+    v208 = v53 + 16u * 1u;
+    v209 = load64(v208);
+    v210 = v150 + 8u * 1u;
+    f114(v53, v210, v52, v51, a3);
+    v211 = v150 + 448u * 1u;
+    f114(v53, v211, v52, v51, a3);
+    v212 = v150 + 952u * 1u;
+    v213 = load8(v212);
+    v214 = (u8)((v213) & UINT64_C(1));
+    if (v214) { goto L62; }
+    else { v35 = 0u; goto L63; }
+L62:;
+    v215 = v150 + 953u * 1u;
+    v216 = load8(v215);
+    v217 = (u8)((v216) & UINT64_C(1));
+    v35 = v217; goto L63;
+L63:;
+    v218 = (u8)v35;
+    store8(v212, v218);
+    v36 = 0u; v37 = 0u; v38 = 0u; v39 = 0u; v40 = v193; v41 = v195; v42 = v197; v43 = v199; v44 = v201; v45 = v203; v46 = v205; v47 = v207; v48 = v209; goto L64;
+L64:;
+    v5 = v36; v6 = v38; v7 = v39; v8 = v40; v9 = v41; v10 = v42; v11 = v43; v12 = v44; v13 = v45; v14 = v46; v15 = v47; v16 = v48; v17 = v37; goto L2;
+L65:;
+    UNREACHABLE;
+L66:;
+    return v49;
+}
+
+u32 portable_ptpm_clock_read(address a0, u16 a1, u16 a2, address a3, u64 a4, address a5) {
+    address v6, v13, v16, v17, v20, v22, v23, v24, v25, v26, v28, v33, v36, v37, v43, v49;
+    address v50, v52, v53, v55, v56, v58, v59, v61, v62, v64, v65, v67, v68, v72, v73, v77;
+    address v82, v85, v86, v87, v88, v90, v96, v97, v98;
+    u8 v7, v8, v10, v14, v18, v19, v21, v27, v31, v32, v35, v41, v47, v48, v51, v54;
+    u8 v57, v60, v63, v66, v69, v74, v75, v76, v89, v94, v99;
+    u64 v9, v11, v15, v29, v34, v38, v39, v40, v42, v44, v45, v46, v70, v83, v84, v91;
+    u64 v92, v93, v95;
+    u32 v12;
+    u16 v30, v71, v78, v79, v80, v81, v100;
+    u64 block0[18];
+    v13 = ADDRESS(block0);
+    v14 = a3 == 0u;
+    v15 = v14 ? 4096u : 0u;
+    v16 = a3 + v15 * 1u;
+    store64(a5, 0u);
+    v17 = a0 + 8u * 1u;
+    v18 = load8(v17);
+    v19 = (u8)((v18) & UINT64_C(1));
+    if (v19) { goto L1; }
+    else { v12 = 32u; goto L46; }
+L1:;
+    v20 = load_address(a0);
+    v21 = load8(v20);
+    switch (v21) {
+    case 1u: goto L2;
+    case 4u: goto L3;
+    case 0u: v12 = 32u; goto L46;
+    case 2u: v12 = 32u; goto L46;
+    case 3u: v12 = 32u; goto L46;
+    case 5u: v12 = 32u; goto L46;
+    default: goto L4;
+    }
+L2:;
+    v22 = v20 + 8u * 1u;
+    v23 = load_address(v22);
+    v6 = v23; goto L5;
+L3:;
+    v24 = v20 + 8u * 1u;
+    v25 = load_address(v24);
+    v26 = v25 + 8u * 1u;
+    v6 = v26; goto L5;
+L4:;
+    UNREACHABLE;
+L5:;
+    switch (a1) {
+    case 0u: goto L7;
+    case 2u: goto L7;
+    case 8192u: goto L7;
+    case 8193u: goto L7;
+    case 8194u: goto L7;
+    case 8195u: goto L7;
+    case 8196u: goto L7;
+    case 8197u: goto L7;
+    case 8198u: goto L7;
+    case 8199u: goto L7;
+    case 8200u: goto L7;
+    case 8201u: goto L7;
+    case 8202u: goto L7;
+    case 8203u: goto L7;
+    case 8204u: goto L7;
+    case 24577u: goto L7;
+    case 24576u: goto L7;
+    case 8208u: goto L7;
+    case 8209u: goto L7;
+    default: goto L6;
+    }
+L6:;
+    v12 = 36u; goto L46;
+L7:;
+    switch (a1) {
+    case 0u: goto L8;
+    case 24577u: goto L8;
+    case 24576u: goto L8;
+    case 8206u: goto L8;
+    case 8205u: goto L8;
+    case 8204u: goto L8;
+    case 8196u: goto L8;
+    case 8203u: goto L8;
+    case 8202u: goto L8;
+    case 8201u: goto L8;
+    default: goto L10;
+    }
+L8:;
+    v27 = a2 == 0u;
+    if (v27) { goto L44; }
+    else { goto L9; }
+L9:;
+    v28 = v6 + 432u * 1u;
+    v29 = load64(v28);
+    v30 = (u16)(v29);
+    v31 = a2 > v30;
+    if (v31) { goto L44; }
+    else { goto L10; }
+L10:;
+    v32 = a4 < 130u;
+    if (v32) { goto L45; }
+    else { goto L11; }
+L11:;
+    memory_set(v13, 0u, 144u);
+    v33 = v13 + 136u * 1u;
+    switch (a1) {
+    case 0u: v8 = 0u; v9 = 0u; goto L37;
+    case 2u: v7 = 1u; goto L30;
+    case 8192u: goto L12;
+    case 8193u: goto L13;
+    case 8194u: goto L14;
+    case 8195u: goto L15;
+    case 8196u: goto L31;
+    case 8197u: goto L16;
+    case 8198u: goto L17;
+    case 8199u: goto L18;
+    case 8200u: goto L19;
+    case 8201u: goto L20;
+    case 8202u: goto L21;
+    case 8203u: goto L22;
+    case 8204u: goto L23;
+    case 8205u: goto L24;
+    case 8206u: goto L25;
+    case 8208u: goto L26;
+    case 8209u: goto L27;
+    case 24576u: goto L28;
+    case 24577u: goto L29;
+    default: v11 = 0u; goto L43;
+    }
+L12:;
+    v7 = 2u; goto L30;
+L13:;
+    v7 = 3u; goto L30;
+L14:;
+    v7 = 4u; goto L30;
+L15:;
+    v7 = 5u; goto L30;
+L16:;
+    v7 = 7u; goto L30;
+L17:;
+    v7 = 8u; goto L30;
+L18:;
+    v7 = 9u; goto L30;
+L19:;
+    v7 = 10u; goto L30;
+L20:;
+    v8 = 11u; v9 = 0u; goto L37;
+L21:;
+    v8 = 11u; v9 = 1u; goto L37;
+L22:;
+    v8 = 11u; v9 = 2u; goto L37;
+L23:;
+    v8 = 12u; v9 = 0u; goto L37;
+L24:;
+    v8 = 13u; v9 = 0u; goto L37;
+L25:;
+    v8 = 14u; v9 = 0u; goto L37;
+L26:;
+    v7 = 15u; goto L30;
+L27:;
+    v7 = 16u; goto L30;
+L28:;
+    v8 = 11u; v9 = 3u; goto L37;
+L29:;
+    v8 = 11u; v9 = 4u; goto L37;
+L30:;
+    f31(v6, v7, v13);
+    v34 = load64(v33);
+    v11 = v34; goto L43;
+L31:;
+    v35 = a2 == 0u;
+    if (v35) { v11 = 0u; goto L43; }
+    else { goto L32; }
+L32:;
+    v36 = v6 + 240u * 1u;
+    v37 = v6 + 432u * 1u;
+    v38 = load64(v37);
+    v39 = (u64)a2;
+    v40 = (u64)((u64)v39 + (u64)UINT64_C(18446744073709551615));
+    v41 = v40 < v38;
+    v42 = (u64)((u64)v40 * (u64)24u);
+    v43 = v36 + v42 * 1u;
+    if (v41) { goto L33; }
+    else { v11 = 0u; goto L43; }
+L33:;
+    v44 = (u64)v13;
+    v45 = (u64)v6;
+    v46 = (u64)((u64)v44 - (u64)v45);
+    v47 = v46 < 8u;
+    if (v47) { goto L34; }
+    else { goto L35; }
+L34:;
+    v48 = load8(v6);
+    store8(v13, v48);
+    v49 = v13 + 1u * 1u;
+    v50 = v6 + 1u * 1u;
+    v51 = load8(v50);
+    store8(v49, v51);
+    v52 = v13 + 2u * 1u;
+    v53 = v6 + 2u * 1u;
+    v54 = load8(v53);
+    store8(v52, v54);
+    v55 = v13 + 3u * 1u;
+    v56 = v6 + 3u * 1u;
+    v57 = load8(v56);
+    store8(v55, v57);
+    v58 = v13 + 4u * 1u;
+    v59 = v6 + 4u * 1u;
+    v60 = load8(v59);
+    store8(v58, v60);
+    v61 = v13 + 5u * 1u;
+    v62 = v6 + 5u * 1u;
+    v63 = load8(v62);
+    store8(v61, v63);
+    v64 = v13 + 6u * 1u;
+    v65 = v6 + 6u * 1u;
+    v66 = load8(v65);
+    store8(v64, v66);
+    v67 = v13 + 7u * 1u;
+    v68 = v6 + 7u * 1u;
+    v69 = load8(v68);
+    store8(v67, v69);
+    goto L36;
+L35:;
+    v70 = load64(v6);
+    store64(v13, v70);
+    goto L36;
+L36:;
+    v71 = swap16(a2);
+    v72 = v13 + 8u * 1u;
+    store16(v72, v71);
+    v73 = v43 + 1u * 1u;
+    v74 = load8(v73);
+    v75 = load8(v43);
+    v76 = (u8)((u32)v75 + (u32)1u);
+    v77 = v13 + 10u * 1u;
+    v78 = (u16)v74;
+    v79 = (u16)((u32)v78 << (8u & 15u));
+    v80 = (u16)v76;
+    v81 = (u16)((u32)v79 | (u32)v80);
+    store16(v77, v81);
+    v82 = v43 + 8u * 1u;
+    v83 = load64(v82);
+    v84 = swap64(v83);
+    v85 = v13 + 12u * 1u;
+    store64(v85, v84);
+    v86 = v43 + 16u * 1u;
+    v87 = v13 + 20u * 1u;
+    memory_cpy(v87, v86, 5u);
+    v88 = v13 + 25u * 1u;
+    store8(v88, 2u);
+    store64(v33, 26u);
+    v11 = 26u; goto L43;
+L37:;
+    v89 = a2 == 0u;
+    if (v89) { v11 = 0u; goto L43; }
+    else { goto L38; }
+L38:;
+    v90 = v6 + 432u * 1u;
+    v91 = load64(v90);
+    v92 = (u64)a2;
+    v93 = (u64)((u64)v92 + (u64)UINT64_C(18446744073709551615));
+    v94 = v93 < v91;
+    v95 = (u64)((u64)v93 * (u64)24u);
+    v96 = v6 + v95 * 1u;
+    if (v94) { goto L39; }
+    else { v11 = 0u; goto L43; }
+L39:;
+    switch (v8) {
+    case 11u: goto L40;
+    case 12u: v10 = 2u; goto L42;
+    case 0u: v11 = 0u; goto L43;
+    case 1u: v11 = 0u; goto L43;
+    case 2u: v11 = 0u; goto L43;
+    case 3u: v11 = 0u; goto L43;
+    case 4u: v11 = 0u; goto L43;
+    case 5u: v11 = 0u; goto L43;
+    case 14u: v11 = 0u; goto L43;
+    case 7u: v11 = 0u; goto L43;
+    case 8u: v11 = 0u; goto L43;
+    case 9u: v11 = 0u; goto L43;
+    case 10u: v11 = 0u; goto L43;
+    case 13u: v11 = 0u; goto L43;
+    default: goto L41;
+    }
+L40:;
+    v97 = v96 + 256u * 1u;
+    v98 = v97 + v9 * 1u;
+    v99 = load8(v98);
+    v10 = v99; goto L42;
+L41:;
+    UNREACHABLE;
+L42:;
+    v100 = (u16)v10;
+    store16(v13, v100);
+    store64(v33, 2u);
+    v11 = 2u; goto L43;
+L43:;
+    memory_cpy(v16, v13, v11);
+    store64(a5, v11);
+    v12 = 0u; goto L46;
+L44:;
+    v12 = 33u; goto L46;
+L45:;
+    v12 = 34u; goto L46;
+L46:;
+    return v12;
 }
 
 u32 portable_ptpm_clock_set(address a0, u8 a1, u16 a2, u16 a3, address a4, u64 a5, address a6, address a7) {
     u32 v8;
     address v9, v10, v11, v14, v15, v16, v17, v20, v22, v23, v25, v27, v30, v32, v34, v35;
-    address v36, v39, v40, v43, v44, v47, v48, v50, v53;
-    u8 v12, v18, v19, v21, v24, v26, v28, v29, v37, v38, v41, v42, v49, v51;
-    u64 v13, v31, v45, v46, v52;
-    u16 v33, v54;
+    address v36, v39, v40, v41, v42, v43, v45, v48;
+    u8 v12, v18, v19, v21, v24, v26, v28, v29, v37, v38, v44, v46;
+    u64 v13, v31, v47;
+    u16 v33, v49;
     u64 block0[2];
     u64 block1[2];
     u64 block2[2];
@@ -38036,23 +40030,23 @@ u32 portable_ptpm_clock_set(address a0, u8 a1, u16 a2, u16 a3, address a4, u64 a
     v18 = load8(v17);
     v19 = (u8)((v18) & UINT64_C(1));
     if (v19) { goto L1; }
-    else { v8 = 32u; goto L19; }
+    else { v8 = 32u; goto L17; }
 L1:;
     v20 = load_address(a0);
     v21 = load8(v20);
     switch (v21) {
     case 1u: goto L2;
     case 4u: goto L9;
-    case 0u: v8 = 32u; goto L19;
-    case 2u: v8 = 32u; goto L19;
-    case 3u: v8 = 32u; goto L19;
-    case 5u: v8 = 32u; goto L19;
-    default: goto L18;
+    case 0u: v8 = 32u; goto L17;
+    case 2u: v8 = 32u; goto L17;
+    case 3u: v8 = 32u; goto L17;
+    case 5u: v8 = 32u; goto L17;
+    default: goto L16;
     }
 L2:;
     v22 = v20 + 8u * 1u;
     v23 = load_address(v22);
-    f113(v10, v23, a1, a2, a3, v14, a5);
+    f116(v10, v23, a1, a2, a3, v14, a5);
     v24 = load8(v10);
     v25 = v10 + 1u * 1u;
     v26 = load8(v25);
@@ -38067,25 +40061,25 @@ L2:;
 L3:;
     v30 = v10 + 4u * 1u;
     memory_cpy(a6, v30, 12u);
-    v8 = 0u; goto L19;
+    v8 = 0u; goto L17;
 L4:;
     switch (v26) {
     case 3u: goto L5;
-    case 0u: v8 = 33u; goto L19;
+    case 0u: v8 = 33u; goto L17;
     case 1u: goto L6;
     case 2u: goto L7;
     default: goto L8;
     }
 L5:;
     v31 = (u64)v28;
-    v32 = ADDRESS(c350) + v31 * 2u;
+    v32 = ADDRESS(c351) + v31 * 2u;
     v33 = load16(v32);
     store16(a7, v33);
-    v8 = 26u; goto L19;
+    v8 = 26u; goto L17;
 L6:;
-    v8 = 40u; goto L19;
+    v8 = 40u; goto L17;
 L7:;
-    v8 = 41u; goto L19;
+    v8 = 41u; goto L17;
 L8:;
     UNREACHABLE;
 L9:;
@@ -38093,62 +40087,252 @@ L9:;
     v35 = load_address(v34);
     memory_set(v9, 0u, 16u);
     v36 = load_address(v35);
-    f113(v9, v36, a1, a2, a3, v14, a5);
+    f116(v9, v36, a1, a2, a3, v14, a5);
     v37 = load8(v9);
     v38 = v37 == 0u;
     if (v38) { goto L10; }
-    else { goto L13; }
+    else { goto L11; }
 L10:;
     v39 = v9 + 4u * 1u;
-    v40 = v35 + 16u * 1u;
-    v41 = load8(v40);
-    v42 = v41 == 0u;
-    if (v42) { goto L11; }
-    else { goto L12; }
-L11:;
-    store16(v40, 1u);
-    v43 = v35 + 18u * 1u;
-    memory_set(v43, 0u, 18u);
-    goto L12;
-L12:;
-    v44 = v35 + 8u * 1u;
-    v45 = load64(v44);
-    v46 = (u64)((u64)v45 + (u64)1u);
-    store64(v44, v46);
-    v47 = v11 + 1u * 1u;
-    memory_cpy(v47, v39, 12u);
+    v40 = v35 + 953u * 1u;
+    store8(v40, 1u);
+    v41 = v35 + 954u * 1u;
+    store8(v41, 1u);
+    v42 = v11 + 1u * 1u;
+    memory_cpy(v42, v39, 12u);
     store16(a7, 0u);
-    memory_cpy(a6, v47, 12u);
-    v8 = 0u; goto L19;
-L13:;
-    v48 = v9 + 2u * 1u;
-    v49 = load8(v48);
-    v50 = v9 + 1u * 1u;
-    v51 = load8(v50);
+    memory_cpy(a6, v42, 12u);
+    v8 = 0u; goto L17;
+L11:;
+    v43 = v9 + 2u * 1u;
+    v44 = load8(v43);
+    v45 = v9 + 1u * 1u;
+    v46 = load8(v45);
     store32(a6, 0u);
     store64(v15, 0u);
     store16(a7, 0u);
-    switch (v51) {
-    case 3u: goto L14;
-    case 0u: v8 = 33u; goto L19;
-    case 1u: goto L15;
-    case 2u: goto L16;
-    default: goto L17;
+    switch (v46) {
+    case 3u: goto L12;
+    case 0u: v8 = 33u; goto L17;
+    case 1u: goto L13;
+    case 2u: goto L14;
+    default: goto L15;
     }
+L12:;
+    v47 = (u64)v44;
+    v48 = ADDRESS(c351) + v47 * 2u;
+    v49 = load16(v48);
+    store16(a7, v49);
+    v8 = 26u; goto L17;
+L13:;
+    v8 = 40u; goto L17;
 L14:;
-    v52 = (u64)v49;
-    v53 = ADDRESS(c350) + v52 * 2u;
-    v54 = load16(v53);
-    store16(a7, v54);
-    v8 = 26u; goto L19;
+    v8 = 41u; goto L17;
 L15:;
-    v8 = 40u; goto L19;
+    UNREACHABLE;
 L16:;
-    v8 = 41u; goto L19;
+    UNREACHABLE;
 L17:;
-    UNREACHABLE;
-L18:;
-    UNREACHABLE;
-L19:;
     return v8;
+}
+
+u32 portable_ptpm_clock_ask(address a0, u16 a1, address a2, u64 a3, address a4) {
+    address v5, v7, v8, v9, v10, v11, v13, v14, v15, v16, v17, v18, v19, v22, v23, v26;
+    address v27, v28, v29, v30, v31, v32, v34, v35, v37, v39, v41, v45, v46, v47, v50, v53;
+    address v54, v55, v56, v57, v61, v63, v65, v71, v74, v75, v76, v78, v81, v85, v86, v87;
+    u64 v6, v21, v58, v59, v62, v72, v77, v82;
+    u32 v12, v44, v93;
+    u8 v20, v24, v25, v33, v36, v38, v40, v42, v43, v48, v49, v51, v52, v60, v64, v66;
+    u8 v73, v80, v83, v84, v88, v89, v90, v91, v92;
+    u16 v67, v68, v69, v70, v79;
+    u64 block0[55];
+    u64 block1[55];
+    u64 block2[4];
+    u64 block3[20];
+    u64 block4[20];
+    u64 block5[20];
+    u64 block6[19];
+    v13 = ADDRESS(block0);
+    v14 = ADDRESS(block1);
+    v15 = ADDRESS(block2);
+    v16 = ADDRESS(block3);
+    v17 = ADDRESS(block4);
+    v18 = ADDRESS(block5);
+    v19 = ADDRESS(block6);
+    v20 = a2 == 0u;
+    v21 = v20 ? 4096u : 0u;
+    v22 = a2 + v21 * 1u;
+    memory_set(a4, 0u, 150u);
+    v23 = a0 + 8u * 1u;
+    v24 = load8(v23);
+    v25 = (u8)((v24) & UINT64_C(1));
+    v26 = v16 + 1u * 1u;
+    v27 = v17 + 1u * 1u;
+    v28 = v16 + 2u * 1u;
+    v29 = v17 + 2u * 1u;
+    v30 = v16 + 4u * 1u;
+    v31 = v17 + 4u * 1u;
+    if (v25) { goto L1; }
+    else { v12 = 32u; goto L27; }
+L1:;
+    v32 = load_address(a0);
+    v33 = load8(v32);
+    switch (v33) {
+    case 1u: goto L2;
+    case 4u: goto L8;
+    case 0u: v12 = 32u; goto L27;
+    case 2u: v12 = 32u; goto L27;
+    case 3u: v12 = 32u; goto L27;
+    case 5u: v12 = 32u; goto L27;
+    default: goto L26;
+    }
+L2:;
+    v34 = v32 + 8u * 1u;
+    v35 = load_address(v34);
+    f117(v18, v35, a1, v22, a3);
+    v36 = load8(v18);
+    v37 = v18 + 1u * 1u;
+    v38 = load8(v37);
+    v39 = v18 + 2u * 1u;
+    v40 = load8(v39);
+    v41 = v18 + 4u * 1u;
+    memory_set(a4, 0u, 150u);
+    v42 = v36 == 0u;
+    if (v42) { goto L3; }
+    else { goto L6; }
+L3:;
+    switch (v40) {
+    case 1u: goto L4;
+    case 2u: goto L5;
+    case 0u: v12 = 0u; goto L27;
+    default: goto L7;
+    }
+L4:;
+    memory_cpy(a4, v41, 150u);
+    v12 = 29u; goto L27;
+L5:;
+    memory_cpy(a4, v41, 150u);
+    v12 = 30u; goto L27;
+L6:;
+    v43 = v38 == 0u;
+    v44 = v43 ? 33u : 34u;
+    v12 = v44; goto L27;
+L7:;
+    UNREACHABLE;
+L8:;
+    v45 = v32 + 8u * 1u;
+    v46 = load_address(v45);
+    v47 = v46 + 953u * 1u;
+    v48 = load8(v47);
+    v49 = (u8)((v48) & UINT64_C(1));
+    if (v49) { goto L10; }
+    else { goto L9; }
+L9:;
+    v50 = load_address(v46);
+    v7 = v50; goto L18;
+L10:;
+    memory_set(v15, 0u, 32u);
+    f8(v15, v22, a3);
+    v51 = load8(v15);
+    v52 = v51 == 0u;
+    v53 = load_address(v46);
+    if (v52) { goto L11; }
+    else { goto L19; }
+L11:;
+    v54 = v15 + 8u * 1u;
+    v55 = load_address(v54);
+    v56 = v53 + 440u * 1u;
+    v57 = v55 + 34u * 1u;
+    v58 = load64(v57);
+    v59 = load64(v56);
+    v60 = v58 == v59;
+    if (v60) { goto L12; }
+    else { goto L19; }
+L12:;
+    v61 = v55 + 20u * 1u;
+    v62 = load64(v61);
+    v63 = v55 + 28u * 1u;
+    v64 = load8(v63);
+    v65 = v55 + 29u * 1u;
+    v66 = load8(v65);
+    v67 = (u16)v64;
+    v68 = (u16)((u32)v67 << (8u & 15u));
+    v69 = (u16)v66;
+    v70 = (u16)((u32)v68 | (u32)v69);
+    v71 = v53 + 456u * 1u;
+    v72 = load64(v71);
+    v73 = v72 == 0u;
+    if (v73) { goto L19; }
+    else { goto L13; }
+L13:;
+    v74 = v53 + 448u * 1u;
+    v75 = load_address(v74);
+    v5 = v75; v6 = v72; goto L14;
+L14:;
+    v76 = v5 + 2136u * 1u;
+    v77 = (u64)((u64)v6 + (u64)UINT64_C(18446744073709551615));
+    v78 = v5 + 2112u * 1u;
+    v79 = load16(v78);
+    v80 = v70 == v79;
+    if (v80) { goto L15; }
+    else { goto L16; }
+L15:;
+    v81 = v5 + 2104u * 1u;
+    v82 = load64(v81);
+    v83 = v62 == v82;
+    if (v83) { goto L17; }
+    else { goto L16; }
+L16:;
+    v84 = v77 == 0u;
+    if (v84) { goto L19; }
+    else { v5 = v76; v6 = v77; goto L14; }
+L17:;
+    v7 = v53; goto L18;
+L18:;
+    f117(v16, v7, a1, v22, a3);
+    v8 = v26; v9 = v28; v10 = v30; v11 = v16; goto L20;
+L19:;
+    v85 = v46 + 8u * 1u;
+    memory_cpy(v14, v53, 440u);
+    memory_move(v53, v85, 440u);
+    memory_cpy(v85, v14, 440u);
+    v86 = load_address(v46);
+    f117(v17, v86, a1, v22, a3);
+    v87 = load_address(v46);
+    memory_cpy(v13, v87, 440u);
+    memory_move(v87, v85, 440u);
+    memory_cpy(v85, v13, 440u);
+    v8 = v27; v9 = v29; v10 = v31; v11 = v17; goto L20;
+L20:;
+    v88 = load8(v11);
+    v89 = load8(v8);
+    v90 = load8(v9);
+    memory_cpy(v19, v10, 150u);
+    memory_set(a4, 0u, 150u);
+    v91 = v88 == 0u;
+    if (v91) { goto L21; }
+    else { goto L24; }
+L21:;
+    switch (v90) {
+    case 1u: goto L22;
+    case 2u: goto L23;
+    case 0u: v12 = 0u; goto L27;
+    default: goto L25;
+    }
+L22:;
+    memory_cpy(a4, v19, 150u);
+    v12 = 29u; goto L27;
+L23:;
+    memory_cpy(a4, v19, 150u);
+    v12 = 30u; goto L27;
+L24:;
+    v92 = v89 == 0u;
+    v93 = v92 ? 33u : 34u;
+    v12 = v93; goto L27;
+L25:;
+    UNREACHABLE;
+L26:;
+    UNREACHABLE;
+L27:;
+    return v12;
 }
