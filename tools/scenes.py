@@ -42,6 +42,7 @@ SITE = [("receiver", ["eth0"], "020000.fffe.000010", "time server", 100),
 NEIGHBOUR = [("neighbour", ["eth0"], "020000.fffe.000020", "", 128)]
 
 LAB = "docs/tutorial.md"    # whose network is that of examples/lab
+BESIDE = "docs/ptp4l.md"    # whose agent is the neighbour's, beside its ptp4l
 AT_REST = 69            # octets of a session's file without a request, its seal among them
 # The clocks that a page does not begin itself: at the device, with the manager.
 AGENT = "ptpm-clock -m 000000fffe000010/1"
@@ -154,6 +155,8 @@ class Scene:
             self.start(host, " ".join([WITHOUT_CLOCK, "ptp4l", "-m", "-f", f"/run/{host}.conf", *ports]))
         for text in [] if is_site else AGENTS.get(page, []):
             self.start("device", text)
+        if page == BESIDE:
+            shell("mkdir /var/lib/ptpm")
         self.settle(["camera 7", "camera 8", "findings: none"] if is_site else ["020000fffe000020"])
 
     def settle(self, wanted):
@@ -164,9 +167,14 @@ class Scene:
             time.sleep(0.2)
             printed = self.run("ptpm-manage -i eth0 status --once").stdout
 
+    def host_of(self, text):
+        """Where a command runs. The lab makes namespaces, which it can't inside another one."""
+        if self.clocks[0] == BESIDE and "ptpm-manage " not in text:
+            return "neighbour"
+        return None if "examples/lab" in text else self.place
+
     def run(self, text):
-        """What a command prints. The lab makes namespaces, which it can't inside another one."""
-        return shell(text, host=None if "examples/lab" in text else self.place, cwd=self.home, env=self.environment, stdin=subprocess.DEVNULL, timeout=300)
+        return shell(text, host=self.host_of(text), cwd=self.home, env=self.environment, stdin=subprocess.DEVNULL, timeout=300)
 
     def latest_apply(self):
         """Its name."""
