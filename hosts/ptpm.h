@@ -18,8 +18,8 @@
      its size. No call is made from a signal handler, or in a forked child of a process with threads.
    - A call has the stack that it needs. As the library is built for x86-64 and aarch64, most calls take 500 octets. A start of a
      clock takes 5,300, its restore 3,700, and that of an asker 4,600. The message of a survey takes 1,700.
-     The call ptpm_clock_take takes 5,800, ptpm_clock_ask 3,800, and ptpm_clock_set 3,300. The call ptpm_field_parse takes
-     2,200. The calls ptpm_clock_handle and ptpm_clock_observe take 1,200 each. The images, the restore of a session, ptpm_asker_ask and ptpm_asker_wake take 1,000 each.
+     The call ptpm_clock_take takes 10,000 on x86-64, ptpm_clock_ask 3,800, ptpm_clock_set 3,300, and ptpm_clock_saving 2,800. The calls
+     ptpm_clock_image_of and ptpm_clock_saved take 1,500 each, and ptpm_field_parse takes 2,200. The calls ptpm_clock_handle and ptpm_clock_observe take 1,200 each. The images, the restore of a session, ptpm_asker_ask and ptpm_asker_wake take 1,000 each.
      As C it takes more (docs/embedding.md, "On any other processor"). Beyond that a call takes the stack of the host's malloc,
      realloc, free, memcpy, memmove and memset. No call calls itself.
 
