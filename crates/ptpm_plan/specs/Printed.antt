@@ -10,11 +10,15 @@ use Rattle.ptpm_commands.specs.declared.faults.Fault.{Fault}
 use Rattle.ptpm_commands.specs.Taken.{HasNumbers, line_datagram, taken}
 use Rattle.ptpm_text.specs.Lines.{whole_lines}
 use Rattle.ptpm_plan.specs.Answers.{answer_in}
+use Rattle.ptpm_plan.specs.FileText.{file_of, file_value}
 use Rattle.ptpm_plan.specs.Outcome.{or_changes, status_of}
+use Rattle.ptpm_plan.specs.Planned.{IsPlanOf}
 use Rattle.ptpm_plan.specs.PlannedId.{number_of}
 use Rattle.ptpm_plan.specs.declared.answer.Answer.{Answer}
+use Rattle.ptpm_plan.specs.declared.answers.Answers.{Answers}
 use Rattle.ptpm_plan.specs.declared.change.Change.{Change}
 use Rattle.ptpm_plan.specs.declared.plan.Plan.{Plan}
+use Rattle.ptpm_plan.specs.declared.wish.PlanFile.{PlanFile}
 
 -- ---- the lines of steps, which `apply` reads
 
@@ -81,3 +85,14 @@ AreAnswersOf known answers = IfSome known (λ octets. HasNumbers octets → answ
 abbrev pub status_by : Bool → Plan → ℕ
 status_by false p = status_of p.rows.items p.unnamed.items p.found.items p.left_out
 status_by true p = or_changes p.changes.items (status_of p.rows.items p.unnamed.items p.found.items p.left_out)
+
+-- the status is that of the plan which a file and answers make
+pub record IsStatus (text : List ℕ) (known : Option (List ℕ)) (tells : Bool) (status : ℕ) : Type 0 where
+  pub file : PlanFile
+  pub answers : Answers
+  pub plan : Plan
+  pub reads : file_of text ≡ Some (file_value file)
+  pub answered : AreAnswersOf known answers.list.items
+  pub plans : IsPlanOf file answers.list.items plan
+  pub left_out : plan.left_out ≡ answers.left_out
+  pub is : status ≡ status_by tells plan

@@ -10,6 +10,7 @@ ghost use Rattle.ptpm_plan.specs.Order.{order_key};
 ghost use Rattle.ptpm_plan.specs.Outcome.{found_by};
 ghost use Rattle.ptpm_plan.specs.Plans.{change_of};
 ghost use Rattle.ptpm_plan.specs.Rows.{with_row};
+ghost use Rattle.ptpm_plan.specs.Warnings.{AreWarnings};
 
 use crate::answer::value_of;
 use crate::answers::Answers;
@@ -51,10 +52,12 @@ impl Plan {
     /// The plan of a file, by the answers of a survey.
     pub fn of(alloc: Global, file: &PlanFile, answers: &Answers) -> Result<Plan, FileFault>
         ensures plan { IfOk result (IsPlanOf file.now answers.now.list.items) }
+        ensures left_out { IfOk result (λ p. p.left_out ≡ answers.now.left_out) }
         ensures sorted { IfOk result
             (λ p. IsSortedByKey (order_key p.surveyed (filter_map change_of p.rows.items)) ⟦<OrderKey as Ord>⟧.cmp p.changes.items) }
         ensures best { IfOk result
             (λ p. map shown p.best.items ≡ best_clocks p.changes.items (ranks_of p.surveyed) 256) }
+        ensures warnings { IfOk result (λ p. AreWarnings p.changes.items p.best.items p.surveyed p.warnings.items) }
     {
         let surveyed = answers.surveyed(alloc)?;
         let rows = rows_of_file(alloc, file, answers, &surveyed)?;

@@ -2,7 +2,7 @@
 
 ghost use Rattle.std.specs.Prelude.{◌≡◌, IfOk, OnOk};
 ghost use Rattle.ptpm_commands.specs.Lines.{datagram_in, latest_line};
-ghost use Rattle.ptpm_plan.specs.Printed.{AreAnswersOf, TakesLine, status_by};
+ghost use Rattle.ptpm_plan.specs.Printed.{AreAnswersOf, IsStatus, TakesLine, status_by};
 
 use crate::answers::Answers;
 use crate::asks::print_asks;
@@ -66,7 +66,9 @@ pub fn print_plan<R: Read + Drop, O: Write>(
     options: PlanOptions,
     reader: R,
     out: &mut O,
-) -> Result<u8, PlanFault> {
+) -> Result<u8, PlanFault>
+    ensures { IfOk result (IsStatus text.now (R.remaining reader) options.tells_changes) }
+{
     let file = PlanFile::read(alloc, text)?;
     let answers = read_answers(alloc, reader)?;
     let plan = Plan::of(alloc, &file, &answers)?;
