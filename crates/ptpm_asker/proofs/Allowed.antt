@@ -1,6 +1,5 @@
 -- What an asker hands out, and what its driver does, is allowed.
-use Rattle.std.proofs.Common.{◌≡◌, ℕ, Bool, true, false, not, ◌&&◌, ◌||◌, List, [], ◌∷◌, ◌++◌, Option, Some, None, refl, sym, ap, subst, is_some, nat_lt, if◌then◌else◌}
-use Rattle.std.proofs.lemmas.Bool.{and_parts}
+use Rattle.std.proofs.Common.{◌≡◌, ℕ, Bool, true, false, not, ◌&&◌, ◌||◌, List, [], ◌∷◌, ◌++◌, Option, Some, None, refl, sym, subst, is_some, nat_lt, if◌then◌else◌}
 use Rattle.std.specs.Option.{option_or}
 use Rattle.ptpm_codec.specs.Ordered.{first_of}
 use Rattle.ptpm_manager.specs.declared.ask.Ask.{Ask}
@@ -15,9 +14,9 @@ use Rattle.ptpm_asker.specs.declared.stage.Stage.{Stage}
 use Rattle.ptpm_asker.specs.declared.stage.Stage.TheVariants as stages
 use Rattle.ptpm_asker.specs.Asker.{AskerValue}
 use Rattle.ptpm_asker.specs.Question.{asked_refusal}
-use Rattle.ptpm_asker.specs.Desk.{AreAllowed, Crashes, Desk, Run, Move, Note, moved, moved_by, new_run}
-use Rattle.ptpm_asker.specs.Turns.{Turn, asks, asks_refusal, can_settle, idle, is_busy, is_resting, is_unsettled, lets_go, lets_go_refusal, settles, wakes, wakes_at}
-use Rattle.ptpm_asker.specs.Allowed.{Asks, Driven, Ends, GivesUp, Hears, Input, IsAllowedAsker, IsDone, IsUnsent, Opening, Settles, Wakes, after_input, all_moves, begins_driven, desk_of, driven_by, left_due, moves_of, reopens, turn_of}
+use Rattle.ptpm_asker.specs.Desk.{AreAllowed, Desk, Run, Move, Note, moved, moved_by, new_run}
+use Rattle.ptpm_asker.specs.Turns.{asks, asks_refusal, can_settle, idle, is_busy, is_resting, is_unsettled, lets_go, lets_go_refusal, settles, wakes_at}
+use Rattle.ptpm_asker.specs.Allowed.{Asks, Driven, Ends, GivesUp, Hears, Input, IsAllowedAsker, IsDone, IsUnsent, Opening, Settles, Wakes, after_input, all_moves, begins_driven, desk_of, left_due, moves_of, turn_of}
 use Rattle.ptpm_asker.proofs.Standing.{Goes, GoesOn, IsUnderWay, RestsWith, Stands, StandsAt, desk, goes_if}
 use Rattle.ptpm_asker.proofs.Parts.{idles}
 use Rattle.ptpm_asker.proofs.Inputs.{asks_so, done_so, hears_so, lets_go_so, settles_so, unsents_so, wakes_so}

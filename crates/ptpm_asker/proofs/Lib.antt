@@ -4,3 +4,4 @@ pub mod Parts
 pub mod Inputs
 pub mod Ends
 pub mod Allowed
+pub mod Permitted

@@ -1,10 +1,9 @@
 -- What is restored is long enough to be read, and has the first number that is read in it.
-use Rattle.std.proofs.Common.{◌≡◌, ◌∙◌, ap, ℕ, Bool, true, false, not, ◌&&◌, nat_le, List, [], ◌∷◌, length, Option, Some, None}
+use Rattle.std.proofs.Common.{◌≡◌, ◌∙◌, ap, ℕ, true, not, ◌&&◌, nat_le, List, length, Option, Some, None}
 use Rattle.std.proofs.lemmas.Bool.{and_parts, cond-true, not-false}
 use Rattle.std.specs.Option.{option_or}
 use Rattle.ptpm_codec.specs.declared.identity.ClockIdentity.{ClockIdentity}
 use Rattle.ptpm_codec.specs.declared.identity.PortIdentity.{PortIdentity}
-use Rattle.ptpm_codec.specs.Ordered.{first_of}
 use Rattle.ptpm_codec.specs.Layout.{number_at, octet}
 use Rattle.ptpm_data.proofs.StartLemmas.{passes}
 use Rattle.ptpm_manager.specs.ImageReading.{session_at, setup_at}

@@ -1,7 +1,6 @@
 -- An asker and its driver, who does what the asker hands out, and what may happen to them. What they do is allowed at the asker's desk.
 use Rattle.std.specs.Prelude.{◌≡◌, ℕ, Bool, true, false, is_some, if◌then◌else◌, List, [], ◌∷◌, ◌++◌, length, Option, Some, None}
 use Rattle.ptpm_manager.specs.declared.ask.Ask.{Ask}
-use Rattle.ptpm_manager.specs.declared.report.Outcome.{Outcome}
 use Rattle.ptpm_manager.specs.Session.{SessionValue, anew}
 use Rattle.ptpm_asker.specs.declared.output.Output.{Output}
 use Rattle.ptpm_asker.specs.declared.output.Output.TheVariants as outputs

@@ -1,9 +1,8 @@
 -- What an asker is, and how it begins.
-use Rattle.std.specs.Prelude.{◌≤◌, ℕ, Bool, true, false, List, Option, None, nat_le, length, if◌then◌else◌}
+use Rattle.std.specs.Prelude.{◌≡◌, ◌≤◌, ℕ, Bool, true, false, List, Option, None, Some, nat_le, length, if◌then◌else◌}
 use Rattle.ptpm_codec.specs.Layout.{number_at, octet}
 use Rattle.ptpm_manager.specs.declared.ask.Ask.{Ask}
 use Rattle.ptpm_manager.specs.declared.setup.Setup.{Setup}
-use Rattle.ptpm_manager.specs.ImageReading.{session_at}
 use Rattle.ptpm_manager.specs.Session.{SessionValue, fresh}
 use Rattle.ptpm_manager.specs.Setup.{AreTwoClocks}
 use Rattle.ptpm_asker.specs.declared.asker.Asker.TheInside.{Inside}
@@ -12,7 +11,7 @@ use Rattle.ptpm_asker.specs.declared.earlier.Earlier.TheVariants as earlier
 use Rattle.ptpm_asker.specs.declared.settings.Settings.{Settings}
 use Rattle.ptpm_asker.specs.declared.stage.Stage.{Stage}
 use Rattle.ptpm_asker.specs.declared.stage.Stage.TheVariants as stages
-use Rattle.ptpm_asker.specs.Question.{earlier_of}
+use Rattle.ptpm_asker.specs.Question.{asked_refusal, earlier_of}
 
 pub record AskerValue : Type 0 where
   pub settings : Settings
@@ -79,8 +78,15 @@ pub record AreSettings (s : Settings) : Type 0 where
   pub some_port : 1 ≤ s.ports
   pub few_ports : s.ports ≤ 8
 
-abbrev pub IsAsker : Inside → Type 0
-IsAsker i = AreSettings i.settings
+-- what is wanted is an ask that by itself is not refused
+abbrev pub IsJudged : ℕ → Option Ask → Type 0
+IsJudged ports None = Unit {0}
+IsJudged ports (Some wanted) = asked_refusal ports wanted ≡ None
+
+-- what holds of every asker
+pub record IsAsker (i : Inside) : Type 0 where
+  pub settings : AreSettings i.settings
+  pub wanted : IsJudged i.settings.ports i.wanted
 
 -- a session that begins at a number
 abbrev pub setup_with : Settings → ℕ → Setup

@@ -10,6 +10,7 @@ use Rattle.ptpm_data.specs.Request.{RequestValue}
 use Rattle.ptpm_manager.specs.declared.ask.Ask.{Ask}
 use Rattle.ptpm_manager.specs.declared.error.BeginError.{BeginError}
 use Rattle.ptpm_manager.specs.Ask.{ask_refusal, named_ask_refusal, request_at_port, request_of}
+use Rattle.ptpm_manager.specs.Session.{SessionValue, begin_at_refusal, begin_refusal}
 use Rattle.ptpm_asker.specs.declared.earlier.Earlier.{Earlier}
 use Rattle.ptpm_asker.specs.declared.earlier.Earlier.TheVariants as earlier
 
@@ -20,6 +21,10 @@ asked_request a = if is_some a.port then request_at_port a else request_of a
 -- why an ask by itself is refused, at a clock of this many ports
 abbrev pub asked_refusal : ℕ → Ask → Option BeginError
 asked_refusal ports a = if is_some a.port then named_ask_refusal ports a else ask_refusal ports a
+
+-- why a session does not begin the request that is made of an ask
+abbrev pub begins_refusal : SessionValue → Ask → Option BeginError
+begins_refusal s a = if is_some a.port then begin_at_refusal s a else begin_refusal s a
 
 -- DEFAULT_DATA_SET; PORT_DATA_SET for an id of a port, since some clocks answer only if the port is named
 abbrev pub question_id : ℕ → ℕ

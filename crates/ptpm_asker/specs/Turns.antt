@@ -13,7 +13,7 @@ use Rattle.ptpm_manager.specs.declared.error.GiveUpRefusal.TheVariants as give_u
 use Rattle.ptpm_manager.specs.declared.receiving.Received.{Received}
 use Rattle.ptpm_manager.specs.declared.receiving.Received.TheVariants as received
 use Rattle.ptpm_manager.specs.declared.report.Outcome.{Outcome}
-use Rattle.ptpm_manager.specs.Receiving.{left_by, received_of}
+use Rattle.ptpm_manager.specs.Receiving.{received_of}
 use Rattle.ptpm_manager.specs.Session.{SessionValue, answered, begun, due_message, fresh, give_up_refusal, given_up, is_waiting, resumed, retuned, send_refusal, sent}
 use Rattle.ptpm_asker.specs.declared.earlier.Earlier.{Earlier}
 use Rattle.ptpm_asker.specs.declared.earlier.Earlier.TheVariants as earlier
@@ -22,8 +22,8 @@ use Rattle.ptpm_asker.specs.declared.output.Output.TheVariants as outputs
 use Rattle.ptpm_asker.specs.declared.stage.Stage.{Stage}
 use Rattle.ptpm_asker.specs.declared.stage.Stage.TheVariants as stages
 use Rattle.ptpm_asker.specs.Asker.{AskerValue, reader_setup, setup_with}
-use Rattle.ptpm_asker.specs.Desk.{Move, Begins, Continues, Hears, LetsGo, Notes, IsLetGo, Resumes, Retunes, Saves, Sends, Starts, TakesBack}
-use Rattle.ptpm_asker.specs.Question.{asked_refusal, asked_request, question, read_of}
+use Rattle.ptpm_asker.specs.Desk.{Move, Begins, Continues, Hears, LetsGo, Notes, IsLetGo, Resumes, Retunes, Sends, Starts, TakesBack}
+use Rattle.ptpm_asker.specs.Question.{asked_refusal, asked_request, begins_refusal, question, read_of}
 
 pub record Turn : Type 0 where
   pub asker : AskerValue
@@ -444,3 +444,20 @@ noted_at stages.Over a = idle a
 
 abbrev pub noted : AskerValue → Turn
 noted a = noted_at a.stage a
+
+-- why a request that was noted is not begun
+abbrev pub begins_wanted_refusal : AskerValue → Option Ask → Option BeginError
+begins_wanted_refusal a None = None
+begins_wanted_refusal a (Some wanted) = begins_refusal a.session wanted
+
+abbrev pub noted_refusal_at : Stage → AskerValue → Option BeginError
+noted_refusal_at stages.Resting a = None
+noted_refusal_at stages.Waiting a = None
+noted_refusal_at stages.Noting a = begins_wanted_refusal a a.wanted
+noted_refusal_at stages.Saving a = None
+noted_refusal_at stages.Asking a = None
+noted_refusal_at stages.Telling a = None
+noted_refusal_at stages.Over a = None
+
+abbrev pub noted_refusal : AskerValue → Option BeginError
+noted_refusal a = noted_refusal_at a.stage a

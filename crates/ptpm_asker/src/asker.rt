@@ -6,6 +6,7 @@ ghost use Rattle.ptpm_manager.specs.declared.error.GiveUpRefusal.{GiveUpRefusal}
 ghost use Rattle.ptpm_codec.specs.SequenceNumber.{number_of};
 ghost use Rattle.ptpm_manager.specs.Ask.{ask_of};
 ghost use Rattle.ptpm_manager.specs.Receiving.{NeedsMemory, received_of};
+ghost use Rattle.ptpm_asker.specs.Question.{asked_refusal};
 
 use crate::earlier::Earlier;
 use crate::output::Output;
@@ -83,7 +84,7 @@ impl Model for Asker {
 
 impl Asker {
     ghost use Rattle.ptpm_asker.specs.Asker.{AreSettings, at_rest};
-    ghost use Rattle.ptpm_asker.specs.Turns.{IsMessage, announces, asks, asks_refusal, asked_of, begins_asking, begins_waking, begins_wanted, can_settle, fails, goes_on, goes_on_begun, goes_on_saved, has_enough, has_no_way, has_sent, hears, is_answered, is_busy, is_new_session, is_resting, is_used_up, later, latest, lets_go, lets_go_refusal, next, next_wake, noted, reads_next, reads_wanted, renewed_for, resumes, saved, saves, sends, sends_or_tests, settled, settles, takes_back, tests_wanted, unsents, wakes};
+    ghost use Rattle.ptpm_asker.specs.Turns.{IsMessage, announces, asks, asks_refusal, asked_of, begins_asking, begins_waking, begins_wanted, begins_wanted_refusal, can_settle, fails, goes_on, goes_on_begun, goes_on_saved, has_enough, has_no_way, has_sent, hears, is_answered, is_busy, is_new_session, is_resting, is_used_up, later, latest, lets_go, lets_go_refusal, next, next_wake, noted, noted_refusal, reads_next, reads_wanted, renewed_for, resumes, saved, saves, sends, sends_or_tests, settled, settles, takes_back, tests_wanted, unsents, wakes};
 
     /// What it does, or what it waits for.
     pub fn stage(&self) -> Stage
@@ -216,13 +217,14 @@ impl Asker {
         }
     }
 
-    /// Time has come. Earlier than the time that was handed out, nothing changes. What was heard before is handed in first. It can be
-    /// refused only if a question or a read by nobody is begun. Then the asker stays as it was.
+    /// Time has come. Earlier than the time that was handed out, nothing changes. What was heard before is handed in first. Only
+    /// memory for a question or a read by nobody is ever refused. Then the asker stays as it was.
     pub fn wake(&mut self, buffer: &mut Buffer, now: u64) -> Result<Output, BeginError>
         ensures asker { OnOk result (self.new ≡ (wakes self.old now).asker) }
         ensures output { IfOk result (λ o. o ≡ (wakes self.old now).output) }
         ensures message { IfOk result (λ o. IsMessage o self.new buffer.new.items) }
         ensures begins { OnErr result (begins_waking self.old now ≡ true) }
+        ensures memory { IfErr result (λ e. e ≡ BeginError.OutOfMemory) }
         ensures unchanged { OnErr result (self.new ≡ self.old) }
     {
         if now < self.wake_at {
@@ -263,13 +265,17 @@ impl Asker {
         }
     }
 
-    /// What was handed out to be noted is written where the owner keeps it. Memory is asked for the dataField of a request alone; if
-    /// it is refused, the asker stays as it was.
+    /// What was handed out to be noted is written where the owner keeps it. A request that is then begun is refused for what its
+    /// session refuses, and memory is asked for its dataField alone. If it is refused, the asker stays as it was.
     pub fn noted(&mut self) -> Result<Output, BeginError>
         ensures asker { OnOk result (self.new ≡ (noted self.old).asker) }
         ensures output { IfOk result (λ o. o ≡ (noted self.old).output) }
         ensures begins { OnErr result
             ((self.old.stage ≡ Stage.Noting) × IsSome self.old.wanted) }
+        ensures permitted { OnOk result (noted_refusal self.old ≡ None) }
+        ensures refused { (e : BeginError) → noted_refusal self.old ≡ Some e → result ≡ Err e }
+        ensures no_other { IfErr result
+            (λ e. e ≢ BeginError.OutOfMemory → noted_refusal self.old ≡ Some e) }
         ensures unchanged { OnErr result (self.new ≡ self.old) }
     {
         match self.stage {
@@ -314,6 +320,7 @@ impl Asker {
         wanted: Ask,
         domain: u8,
     ) -> Result<Output, OutOfMemory>
+        requires { asked_refusal self.old.settings.ports wanted ≡ None }
         ensures asker { OnOk result (self.new ≡ (asks self.old now tag wanted domain).asker) }
         ensures output { IfOk result (λ o. o ≡ (asks self.old now tag wanted domain).output) }
         ensures message { IfOk result (λ o. IsMessage o self.new buffer.new.items) }
@@ -439,6 +446,7 @@ impl Asker {
 
     /// Keeps what is wanted, and asks in its domain.
     fn want(&mut self, tag: u64, wanted: Ask, domain: u8)
+        requires { asked_refusal self.old.settings.ports wanted ≡ None }
         ensures { self.new ≡ asked_of self.old tag wanted domain }
     {
         self.session.retune(domain);
@@ -596,6 +604,7 @@ impl Asker {
         ensures output { IfOk result (λ o. o ≡ (sends_or_tests self.old now).output) }
         ensures message { IfOk result (λ o. IsMessage o self.new buffer.new.items) }
         ensures begins { OnErr result (begins_asking self.old ≡ true) }
+        ensures memory { IfErr result (λ e. e ≡ BeginError.OutOfMemory) }
         ensures unchanged { OnErr result (self.new ≡ self.old) }
     {
         if self.is_read_due {
@@ -627,12 +636,13 @@ impl Asker {
     }
 
     /// Reads by nobody what the question asks.
-    #[tactic(auto, unfolding(ptpm_manager::specs::Session::send_refusal))]
+    #[tactic(auto, using(crate::proofs::Permitted::begins_fresh), unfolding(ptpm_manager::specs::Session::send_refusal))]
     fn read(&mut self, buffer: &mut Buffer, now: u64) -> Result<Output, BeginError>
         ensures asker { OnOk result (self.new ≡ (reads_wanted self.old self.old.wanted now).asker) }
         ensures output { IfOk result
             (λ o. o ≡ (reads_wanted self.old self.old.wanted now).output) }
         ensures message { IfOk result (λ o. IsMessage o self.new buffer.new.items) }
+        ensures memory { IfErr result (λ e. e ≡ BeginError.OutOfMemory) }
         ensures unchanged { OnErr result (self.new ≡ self.old) }
     {
         let Some(wanted) = &self.wanted else {
@@ -655,6 +665,7 @@ impl Asker {
     }
 
     /// Asks in a session at this number whether it is new.
+    #[tactic(auto, using(crate::proofs::Permitted::begins_fresh))]
     fn test(
         &mut self,
         buffer: &mut Buffer,
@@ -667,6 +678,7 @@ impl Asker {
         ensures output { IfOk result
             (λ o. o ≡ (tests_wanted self.old first numbers_left self.old.wanted now).output) }
         ensures message { IfOk result (λ o. IsMessage o self.new buffer.new.items) }
+        ensures memory { IfErr result (λ e. e ≡ BeginError.OutOfMemory) }
         ensures unchanged { OnErr result (self.new ≡ self.old) }
     {
         let Some(wanted) = &self.wanted else {
@@ -751,6 +763,14 @@ impl Asker {
         ensures asker { OnOk result (self.new ≡ (begins_wanted self.old self.old.wanted).asker) }
         ensures output { IfOk result (λ o. o ≡ (begins_wanted self.old self.old.wanted).output) }
         ensures begins { OnErr result (IsSome self.old.wanted) }
+        ensures permitted { OnOk result (begins_wanted_refusal self.old self.old.wanted ≡ None) }
+        ensures refused { (e : BeginError)
+            → begins_wanted_refusal self.old self.old.wanted ≡ Some e
+            → result ≡ Err e }
+        ensures no_other { IfErr result
+            (λ e.
+            e ≢ BeginError.OutOfMemory
+            → begins_wanted_refusal self.old self.old.wanted ≡ Some e) }
         ensures unchanged { OnErr result (self.new ≡ self.old) }
     {
         let Some(wanted) = &self.wanted else {

@@ -1,6 +1,6 @@
 //! How an asker begins: without a file, or with what its file has.
 
-ghost use Rattle.std.specs.Prelude.{◌≡◌, ◌≢◌, length, Err, None, Some, IfErr, IfOk, OnOk};
+ghost use Rattle.std.specs.Prelude.{◌≡◌, ◌≢◌, length, Err, None, Some, IfErr, IfOk, IsSome, OnOk};
 ghost use Rattle.ptpm_manager.specs.declared.error.RestoreError.{RestoreError};
 ghost use Rattle.ptpm_manager.specs.ImageReading.{session_at};
 ghost use Rattle.ptpm_manager.specs.Restoring.{restore_refusal};
@@ -67,6 +67,8 @@ impl Asker {
             e ≢ RestoreError.OutOfMemory
             → restore_refusal settings.me settings.target settings.ports (first_in image.now) image.now
             ≡ Some e) }
+        ensures memory { IfErr result
+            (λ e. e ≡ RestoreError.OutOfMemory → IsSome (session_at image.now).unanswered) }
     {
         let first = first_in(image);
         let session = Session::restored(

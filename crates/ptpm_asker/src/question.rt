@@ -1,10 +1,11 @@
 //! The question whether a session's next number is new.
 
-ghost use Rattle.std.specs.Prelude.{◌≡◌, OnErr, OnOk};
+ghost use Rattle.std.specs.Prelude.{◌≡◌, ◌≢◌, Err, IfErr, None, OnErr, OnOk, Some};
 ghost use Rattle.ptpm_data.specs.ManagementId.{is_of_port};
+ghost use Rattle.ptpm_manager.specs.declared.error.BeginError.{BeginError};
 ghost use Rattle.ptpm_manager.specs.Ask.{ask_of};
 ghost use Rattle.ptpm_manager.specs.Session.{begun};
-ghost use Rattle.ptpm_asker.specs.Question.{asked_request, question, read_of};
+ghost use Rattle.ptpm_asker.specs.Question.{asked_request, begins_refusal, question, read_of};
 
 use ptpm_codec::Action;
 use ptpm_data::{Scope, row};
@@ -13,7 +14,7 @@ use ptpm_manager::{Ask, BeginError, Session};
 /// How many random octets a question has at most.
 pub const DRAWN_OCTETS: usize = 26;
 
-/// Begins the question that comes before a request.
+/// Begins the question that comes before a request. If the request itself could be begun, only memory is refused.
 pub(crate) fn begin_question(
     session: &mut Session,
     wanted: &Ask,
@@ -21,6 +22,8 @@ pub(crate) fn begin_question(
 ) -> Result<(), BeginError>
     ensures begun { OnOk result
         (session.new ≡ begun session.old (asked_request (question drawn.now wanted.now))) }
+    ensures memory { begins_refusal session.old wanted.now ≡ None
+        → IfErr result (λ e. e ≡ BeginError.OutOfMemory) }
     ensures unchanged { OnErr result (session.new ≡ session.old) }
 {
     if is_of_port(wanted.id) {
@@ -30,10 +33,12 @@ pub(crate) fn begin_question(
     }
 }
 
-/// Begins a read of the same.
+/// Begins a read of the same. If the request itself could be begun, only memory is refused.
 pub(crate) fn begin_read(session: &mut Session, wanted: &Ask) -> Result<(), BeginError>
     ensures begun { OnOk result
         (session.new ≡ begun session.old (asked_request (read_of wanted.now))) }
+    ensures memory { begins_refusal session.old wanted.now ≡ None
+        → IfErr result (λ e. e ≡ BeginError.OutOfMemory) }
     ensures unchanged { OnErr result (session.new ≡ session.old) }
 {
     let id = if is_of_port(wanted.id) {
@@ -54,6 +59,15 @@ pub(crate) fn begin_asked(
 ) -> Result<(), BeginError>
     ensures begun { OnOk result
         (session.new ≡ begun session.old (asked_request (ask_of action id port octets.now))) }
+    ensures permitted { OnOk result
+        (begins_refusal session.old (ask_of action id port octets.now) ≡ None) }
+    ensures refused { (e : BeginError)
+        → begins_refusal session.old (ask_of action id port octets.now) ≡ Some e
+        → result ≡ Err e }
+    ensures no_other { IfErr result
+        (λ e.
+        e ≢ BeginError.OutOfMemory
+        → begins_refusal session.old (ask_of action id port octets.now) ≡ Some e) }
     ensures unchanged { OnErr result (session.new ≡ session.old) }
 {
     match port {
