@@ -31,10 +31,6 @@ clock_process c = record {
   back = λ s. as_observed s.sets;
 }
 
--- while something is unsaved, every datagram is held: also a repeat, whose answer would show what is not saved
-abbrev pub held_by_clock : Datagram → Bool
-held_by_clock x = true
-
 -- what the data sets of every agent satisfy
 abbrev pub CanBe : State → Type 0
 CanBe s = IsConsistent s.sets

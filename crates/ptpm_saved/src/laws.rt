@@ -18,7 +18,7 @@ ghost use Rattle.ptpm_saved.specs.BatchingClock.{is_of_manager};
 ghost use Rattle.ptpm_manager.specs.Session.{SessionValue};
 ghost use Rattle.ptpm_manager.specs.Setup.{request_message};
 ghost use Rattle.ptpm_saved.specs.SavingSession.{SessionInput, SessionNote, held_by_session, session_process, session_reports};
-ghost use Rattle.ptpm_saved.specs.SavingClock.{Datagram, clock_process, held_by_clock};
+ghost use Rattle.ptpm_saved.specs.SavingClock.{Datagram, clock_process};
 ghost use Rattle.ptpm_saved.specs.Image.{AreEntries, IsSaved, clock_image, saved_of};
 
 use ptpm_agent::Agent;
@@ -92,20 +92,6 @@ pub fn next_session_law()
         ≡ map (counted_after s.issued) (all_reports session_reports session_process (next_session s hops) hs) }
 {}
 
-/// A clock that takes no datagram while something is unsaved gives no message out before it is saved. Its host may make any calls,
-/// in any order. The calls are events at a clock that saves before it answers, so that clock's law holds for them. And a
-/// datagram that has to be saved gives nothing out, nor does any that comes while something is unsaved: that one does nothing. The
-/// premise is that the host says of no image that it is saved before a restart would find it.
-pub fn withholding_clock_law()
-    ensures powered { (c : Clock) (s : State) (calls : List (Event Datagram Observation))
-        → IsConsistent s.sets
-        → IsAsIfPowered (clock_process c) s
-        (events_of (clock_process c) held_by_clock (started s) calls)
-        (called_each (clock_process c) held_by_clock (started s) calls) }
-    ensures withholds { (c : Clock) (d : Device State (ℕ × List ℕ)) (x : Datagram)
-        → Withholds (clock_process c) held_by_clock d x }
-{}
-
 /// A clock may go on while it is being saved. Then it is a clock that saves before it answers, to which the requests that wait come in
 /// late, at their save. So `saving_clock_law` holds for it, whatever its host calls, in whatever order, and whenever power fails. Any
 /// other datagram changes nothing, and its answer does not depend on what is kept for managers. The premise is that the host confirms
@@ -121,7 +107,9 @@ pub fn batching_clock_law()
         → outbox_of (turn c s x.0 x.1) ≡ outbox_of (turn c (record { sets = s.sets; entries = e }) x.0 x.1) }
 {}
 
-/// The same for a session that sends nothing while something is unsaved. It still hears and begins meanwhile.
+/// A session whose host says when it was saved sends nothing while something is unsaved. It still hears and begins meanwhile. Its host
+/// may make any calls, in any order. The calls are events at a session that saves before it asks, so that session's law holds for
+/// them. The premise is that the host says of no image that it is saved before a restart would find it.
 pub fn withholding_session_law()
     ensures powered { (s : SessionValue) (calls : List (Event SessionInput SessionNote))
         → IsAsIfPowered session_process s
