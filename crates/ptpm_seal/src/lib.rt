@@ -6,6 +6,7 @@ mod laws;
 mod places;
 mod sealing;
 
+pub use crc::crc32;
 pub use laws::{changed_octet_law, crc_law, seal_law, torn_writes_keep_one};
 pub use places::{Newest, newest_image, place_count};
 pub use sealing::{SEAL_OCTETS, Sealed, UnsealError, seal, unseal};

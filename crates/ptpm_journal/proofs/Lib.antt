@@ -1,0 +1,5 @@
+pub mod InOrder
+pub mod Empty
+pub mod Octets
+pub mod Frames
+pub mod Replay

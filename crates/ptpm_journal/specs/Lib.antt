@@ -1,0 +1,10 @@
+pub mod Order
+pub mod Replay
+pub mod InOrder
+pub mod Octets
+pub mod Frames
+pub mod Journal
+pub mod State
+pub mod Turns
+pub mod Plain
+pub mod Torn
