@@ -1,5 +1,5 @@
-/* A simulated device, for the host of embedding.md ("In C"): it observes nothing, and prints what its manager changes. Its
-   arguments are its clockIdentity, its manager, and two interfaces; two_ports.c is the text of that host:
+/* A simulated device, for the host of two_ports.c: it observes nothing, and prints what its manager changes. Its arguments are its
+   clockIdentity, its manager, and two interfaces:
        cc two_ports.c device.c $(pkg-config --cflags --libs ptpm) -o two_ports
        sudo ./two_ports aabbccfffeddee01 020000fffe000010/1 eth0 eth1 */
 #include <ptpm.h>

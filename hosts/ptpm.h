@@ -62,7 +62,7 @@ enum {
 #define PTPM_TO_EIGHT uint32_t rest; PTPM_AT_EIGHT
 #endif
 
-/* A clock: 2,608 octets at one pointer with one manager, and 34,648 with sixteen. All zeros hold no clock: struct ptpm_clock
+/* A clock: 2,800 octets at one pointer with one manager, and 34,840 with sixteen. All zeros hold no clock: struct ptpm_clock
    clock = { 0 }; */
 struct ptpm_clock { void *at; PTPM_TO_EIGHT bool live; bool restored; };
 
@@ -332,7 +332,7 @@ struct ptpm_asker { void *at; PTPM_TO_EIGHT bool live; bool restored; };
 /* The session of an asker, and how long it waits. Times are in milliseconds, from any moment on, and never go back. */
 struct ptpm_asker_settings {
     struct ptpm_session_settings session;   /* `first` is drawn, for a session without a file. `domain` is not read */
-    uint16_t nobody;                    /* a portNumber of the manager's clock at which nobody manages, from 61440 on */
+    uint16_t nobody;                    /* a portNumber of the manager's clock at which nobody manages, from 61440 on; not the manager's */
     uint32_t timeout;                   /* how long an answer is waited for before a request is sent again */
     uint32_t wait;                      /* how long a new session waits: longer than any copy of a message is on its way */
 };
@@ -357,6 +357,62 @@ enum {
     PTPM_WAIT = 5,
     PTPM_NOTE_ANSWER = 6,               /* note what the report says, and then call ptpm_asker_noted */
     PTPM_FAILED = 7                     /* there is no answer */
+};
+
+/* The journal of a change of several clocks: its steps, and what became of each, some 50 octets a step. All zeros hold no journal. */
+struct ptpm_journal { void *at; PTPM_TO_EIGHT bool live; bool restored; };
+
+/* A record of a journal. A member that its kind lacks is not read, and is written as 0. Steps count from 0. */
+struct ptpm_journal_record {
+    PTPM_AT_EIGHT uint64_t time;        /* of PTPM_RECORD_BEGUN to PTPM_RECORD_END: in seconds since 1970 */
+    uint32_t first;                     /* of the first group of octets, its place among those that ptpm_journal_next was given */
+    uint32_t second;                    /* that of the second group; ptpm_journal_add reads neither place, and no size */
+    uint16_t first_size;
+    uint16_t second_size;
+    uint16_t count;                     /* PTPM_RECORD_HEAD: of the steps */
+    uint16_t port;                      /* PTPM_RECORD_HEAD: of the manager; PTPM_RECORD_STEP: as the host says */
+    uint16_t id;                        /* PTPM_RECORD_STEP: the managementId that is set */
+    uint16_t step;                      /* PTPM_RECORD_BEGUN to PTPM_RECORD_TOLD; PTPM_RECORD_END: at which it ended, or PTPM_NO_STEP */
+    uint16_t number;                    /* PTPM_RECORD_BEGUN: the sequenceId */
+    uint16_t error;                     /* PTPM_RECORD_TOLD: the managementErrorId of a refusal */
+    uint8_t clock[8];                   /* PTPM_RECORD_HEAD: of the manager; PTPM_RECORD_STEP: which is changed */
+    uint8_t kind;                       /* one of the names below */
+    uint8_t flags;                      /* PTPM_RECORD_HEAD and PTPM_RECORD_POLICY: the sum of flags */
+    uint8_t together;                   /* the same: how many clocks are asked side by side */
+    uint8_t domain;                     /* PTPM_RECORD_STEP */
+    uint8_t group;                      /* PTPM_RECORD_STEP: the group of the plan, from 1 to 6 */
+    uint8_t what;                       /* PTPM_RECORD_TOLD: the outcome; PTPM_RECORD_END: the ending; PTPM_RECORD_TEXT: as the host says */
+    uint8_t zero[2];
+};
+
+/* The kinds of records. Two of them have two groups of octets, and two have one. */
+enum {
+    PTPM_RECORD_HEAD = 1,               /* comes first; its name, and that of the change that it rolls back: 255 octets each at most */
+    PTPM_RECORD_STEP = 2,               /* these come next; the dataField before, and the one that is set: 4,096 octets each at most */
+    PTPM_RECORD_BEGUN = 3,              /* a message of the step may leave from now on */
+    PTPM_RECORD_NOT_BEGUN = 4,          /* none left after all */
+    PTPM_RECORD_LET_GO = 5,             /* it is given up: no run sends it again */
+    PTPM_RECORD_TOLD = 6,               /* it is answered; the dataField of the answer: 4,096 octets at most */
+    PTPM_RECORD_POLICY = 7,             /* other flags and another `together` from here on */
+    PTPM_RECORD_END = 8,                /* nothing comes after it */
+    PTPM_RECORD_TEXT = 9                /* a text of the host: 4,096 octets at most */
+};
+
+/* The flags of a journal: the change goes on at other clocks if one fails; and each step comes after all those before it. */
+enum { PTPM_KEEPS_GOING = 1, PTPM_IN_ONE_ROW = 2 };
+
+/* What the answer to a step says; how a change ends; and the step of an ending that is at none. */
+enum { PTPM_STEP_DONE = 1, PTPM_STEP_REFUSED = 2, PTPM_STEP_ANSWERED = 3 };
+enum {
+    PTPM_END_COMPLETE = 1, PTPM_END_REFUSED = 2, PTPM_END_ANSWERED = 3, PTPM_END_CHANGED = 4, PTPM_END_GIVEN_UP = 5,
+    PTPM_END_ROLLED_BACK = 6, PTPM_END_STOPPED = 7, PTPM_END_IN_PART = 8
+};
+enum { PTPM_NO_STEP = 65535 };
+
+/* What a journal says of a step. */
+enum {
+    PTPM_MARK_UNTOUCHED = 0, PTPM_MARK_BEGUN = 1, PTPM_MARK_DONE = 2, PTPM_MARK_REFUSED = 3, PTPM_MARK_ANSWERED = 4, PTPM_MARK_LET_GO = 5,
+    PTPM_MARK_NONE = 6                  /* there is no such step */
 };
 
 /* What an earlier run left under way. */
@@ -424,15 +480,20 @@ PTPM_HAS_SIZE(ptpm_rate, 24);
 PTPM_HAS_SIZE(ptpm_asker, 16);
 PTPM_HAS_SIZE(ptpm_asker_settings, 36);
 PTPM_HAS_SIZE(ptpm_handed, 24);
+PTPM_HAS_SIZE(ptpm_journal, 16);
+PTPM_HAS_SIZE(ptpm_journal_record, 48);
 #undef PTPM_HAS_SIZE
 
 /* The most messages that a clock sends for a datagram. The most octets of a dataField of its own. The most octets of a message, its
    dataField included. The most octets of a session's image, and of a clock's. */
 enum { PTPM_MOST_SENT = 15, PTPM_MOST_READ = 130, PTPM_MOST_OCTETS = 1472, PTPM_SESSION_IMAGE_OCTETS = 1478 };
-enum { PTPM_CLOCK_IMAGE_OCTETS = 27185 };
+enum { PTPM_CLOCK_IMAGE_OCTETS = 27385 };
 
 /* The most octets of the image of a clock with this number of ports, and this of managers. */
-#define PTPM_CLOCK_IMAGE_BOUND(ports, managers) (217 + 15 * (ports) + 1678 * (managers))
+#define PTPM_CLOCK_IMAGE_BOUND(ports, managers) (417 + 15 * (ports) + 1678 * (managers))
+
+/* The most octets of a record of a journal. */
+enum { PTPM_RECORD_OCTETS = 8221 };
 
 /* How many octets a seal has. It comes after an image. */
 enum { PTPM_SEAL_OCTETS = 16 };
@@ -444,7 +505,8 @@ enum { PTPM_MOST_ANSWERS = 512, PTPM_SURVEY_PORT = 65534 };
    refused (ptpm_is_refusal). 48 to 63 say why nothing starts, or an observation is refused. 64 to 101 say which member is out of
    its range. 104 to 110 say why a restore is refused. 112 says that a request can't be given up. 113 to 117 say why words are no
    dataField. 118 and 119 say that something is not saved. 120 says that a handle holds no asker. 121 and 122 say
-   that what a device says is not taken.
+   that what a device says is not taken. 123 and 124 say that a change of the device is under way, or none. 126 to 129 say why a
+   record of a journal is not taken.
 
    Each kind of call has a type for its answers. With -Wenum-compare gcc, g++ and clang++ warn if an answer is compared with a
    name of another kind. A name that several kinds of calls return is a plain number, and compares with each type. Each type has
@@ -483,12 +545,14 @@ enum { PTPM_MOST_ANSWERS = 512, PTPM_SURVEY_PORT = 65534 };
 #define PTPM_IDLE 43                    /* no request is unanswered */
 #define PTPM_NO_SURVEY 46               /* the handle holds none */
 #define PTPM_NO_ASKER 120               /* the handle holds none */
+#define PTPM_NO_JOURNAL 126             /* the handle holds none */
 #define PTPM_OTHER_SIZES 47             /* a struct of the caller has another size than the library's */
 #define PTPM_GRANDMASTER_DIFFERS 50     /* a clock is its own grandmaster, with another priority or quality */
 #define PTPM_TOO_MANY_MANAGERS 51       /* over sixteen */
-#define PTPM_MANAGER_TWICE 52
+#define PTPM_MANAGER_TWICE 52           /* or nobody of an asker is its manager */
 #define PTPM_IDENTITY_IS_ZERO 56        /* the clock's identity is all zeros */
 #define PTPM_UNSAVED 118                /* a clock or a session was changed and not saved, and this comes only after a save */
+#define PTPM_UNDER_WAY 123              /* a change of the device is under way, and this comes only after ptpm_clock_decide */
 #define PTPM_BAD_CLOCK_ACCURACY 70
 #define PTPM_BAD_LEAP59 88              /* both leaps */
 #define PTPM_BAD_STATE 94
@@ -503,8 +567,8 @@ enum { PTPM_MOST_ANSWERS = 512, PTPM_SURVEY_PORT = 65534 };
 
 /* The starts. A session is refused with PTPM_MANAGER_IS_EVERY, PTPM_TARGET_IS_EVERY, PTPM_SAME_CLOCK, PTPM_NO_PORTS,
    PTPM_TOO_MANY_PORTS, PTPM_TARGET_IS_ZERO or PTPM_NO_MEMORY, in this order. A survey of every clock is refused with the first
-   or the last of these. A survey of one clock is refused with any of them except the two about ports. A clock is refused with
-   all others, PTPM_IDENTITY_IS_ZERO last, and with PTPM_NO_PORTS, PTPM_TOO_MANY_PORTS and PTPM_NO_MEMORY. PTPM_OTHER_SIZES
+   or the last of these. A survey of one clock is refused with any of them except the two about ports. An asker is refused as a session
+   is, and with PTPM_MANAGER_TWICE before PTPM_NO_MEMORY if `nobody` is the manager's port. A clock is refused with all others, PTPM_IDENTITY_IS_ZERO last, and with PTPM_NO_PORTS, PTPM_TOO_MANY_PORTS and PTPM_NO_MEMORY. PTPM_OTHER_SIZES
    comes before all of them, and only for ptpm_clock_start_sized and the like. */
 __extension__ enum PTPM_FOUR_OCTETS(ptpm_started) {
     PTPM_STARTED = 0,
@@ -544,8 +608,8 @@ enum {
     PTPM_BAD_PEER_DELAY
 };
 
-/* ptpm_clock_handle, ptpm_clock_take and ptpm_clock_saving. The last returns only PTPM_SAVING, PTPM_NO_CLOCK, PTPM_NO_ROOM and
-   PTPM_NO_MEMORY, and the others never PTPM_SAVING or PTPM_NO_MEMORY. */
+/* ptpm_clock_handle, _take, _decide and _saving. The last returns only PTPM_SAVING, PTPM_NO_CLOCK, PTPM_NO_ROOM and PTPM_NO_MEMORY,
+   and the others never PTPM_SAVING or PTPM_NO_MEMORY. */
 __extension__ enum PTPM_FOUR_OCTETS(ptpm_handled) {
     PTPM_HANDLE_OTHER_DOMAIN = PTPM_OTHER_DOMAIN,
     PTPM_OWN_MESSAGE = 2,               /* the clock sent it */
@@ -570,16 +634,20 @@ __extension__ enum PTPM_FOUR_OCTETS(ptpm_handled) {
                                            ptpm_clock_most_sent at the others */
     PTPM_HANDLE_NO_MEMORY = PTPM_NO_MEMORY,
     PTPM_HANDLE_UNSAVED = PTPM_UNSAVED,
-    PTPM_BAD_SAY = 121                  /* it is of another kind, has an error that no device gives, or gives what is no dataField */
+    PTPM_BAD_SAY = 121,                 /* it is of another kind, has an error that no device gives, or gives what is no dataField */
+    PTPM_HANDLE_UNDER_WAY = PTPM_UNDER_WAY, /* ptpm_clock_take */
+    PTPM_NOTHING_UNDER_WAY = 124        /* ptpm_clock_decide */
 };
 
-/* ptpm_clock_ask. */
+/* ptpm_clock_ask, _undertake and _under_way. Only the second returns the last two. */
 __extension__ enum PTPM_FOUR_OCTETS(ptpm_asking) {
     PTPM_ASKED_NOTHING = 0,
     PTPM_ASKED_CHANGE = 29,             /* a new SET or COMMAND of a manager, which the clock itself does not refuse */
     PTPM_ASKED_VALUE = 30,              /* a GET that would be answered, of an id that the clock lacks */
     PTPM_ASKING_NO_CLOCK = PTPM_NO_CLOCK,
-    PTPM_ASKING_NO_PORT = PTPM_NO_PORT
+    PTPM_ASKING_NO_PORT = PTPM_NO_PORT,
+    PTPM_ASKING_UNSAVED = PTPM_UNSAVED,
+    PTPM_ASKING_UNDER_WAY = PTPM_UNDER_WAY
 };
 
 /* ptpm_clock_set. */
@@ -717,6 +785,7 @@ __extension__ enum PTPM_FOUR_OCTETS(ptpm_reported) {
 /* ptpm_session_image, _image_of and _saved, ptpm_clock_image, _image_of and _saved, and ptpm_image_seal. */
 __extension__ enum PTPM_FOUR_OCTETS(ptpm_saved) {
     PTPM_SAVED = 0,
+    PTPM_ACT_NOW = 31,                  /* ptpm_clock_saved: saved, and now the device is asked for what is under way */
     PTPM_SAVE_NO_CLOCK = PTPM_NO_CLOCK,
     PTPM_SAVE_NO_ROOM = PTPM_NO_ROOM,   /* for fewer octets than the image has, or than both have with its seal */
     PTPM_SAVE_NO_SESSION = PTPM_NO_SESSION,
@@ -756,6 +825,7 @@ __extension__ enum PTPM_FOUR_OCTETS(ptpm_asker_restored) {
     PTPM_ASKER_RESTORE_NO_MEMORY = PTPM_NO_MEMORY,
     PTPM_ASKER_RESTORE_NO_PORTS = PTPM_NO_PORTS,
     PTPM_ASKER_RESTORE_TOO_MANY_PORTS = PTPM_TOO_MANY_PORTS,
+    PTPM_ASKER_RESTORE_MANAGER_TWICE = PTPM_MANAGER_TWICE,
     PTPM_ASKER_RESTORE_MANAGER_IS_EVERY = PTPM_MANAGER_IS_EVERY,
     PTPM_ASKER_RESTORE_TARGET_IS_EVERY = PTPM_TARGET_IS_EVERY,
     PTPM_ASKER_RESTORE_SAME_CLOCK = PTPM_SAME_CLOCK,
@@ -782,6 +852,19 @@ __extension__ enum PTPM_FOUR_OCTETS(ptpm_asked) {
     PTPM_ASK_NO_ASKER = PTPM_NO_ASKER
 };
 
+/* The calls of a journal. */
+__extension__ enum PTPM_FOUR_OCTETS(ptpm_journaled) {
+    PTPM_JOURNALED = 0,
+    PTPM_JOURNAL_NO_ROOM = PTPM_NO_ROOM,
+    PTPM_JOURNAL_NO_MEMORY = PTPM_NO_MEMORY,
+    PTPM_JOURNAL_OTHER_VERSION = PTPM_OTHER_VERSION,    /* ptpm_journal_next */
+    PTPM_JOURNAL_DAMAGED = PTPM_DAMAGED,                /* ptpm_journal_next: these octets are no record that may come here */
+    PTPM_JOURNAL_NO_JOURNAL = PTPM_NO_JOURNAL,
+    PTPM_NO_RECORD = 127,               /* ptpm_journal_add: it has no such kind, outcome or ending, or too many octets */
+    PTPM_NOT_ALLOWED = 128,             /* ptpm_journal_add: no run makes this record here */
+    PTPM_JOURNAL_WHOLE = 129            /* ptpm_journal_next: there is no further record; octets that are left were torn */
+};
+
 /* So the header refuses a compiler that does not take these forms. */
 #define PTPM_IS_WIDE(name) typedef char name##_has_not_four_octets[sizeof(enum name) == 4 ? 1 : -1]
 PTPM_IS_WIDE(ptpm_started);
@@ -801,6 +884,7 @@ PTPM_IS_WIDE(ptpm_restored);
 PTPM_IS_WIDE(ptpm_parsed);
 PTPM_IS_WIDE(ptpm_asker_restored);
 PTPM_IS_WIDE(ptpm_asked);
+PTPM_IS_WIDE(ptpm_journaled);
 PTPM_IS_WIDE(ptpm_asking);
 PTPM_IS_WIDE(ptpm_set_here);
 #undef PTPM_IS_WIDE
@@ -831,7 +915,8 @@ static inline enum ptpm_started ptpm_header_agrees(void) {
         sizeof(struct ptpm_sent), sizeof(struct ptpm_changed), sizeof(struct ptpm_session), sizeof(struct ptpm_session_settings),
         sizeof(struct ptpm_survey), sizeof(struct ptpm_survey_settings), sizeof(struct ptpm_source), sizeof(struct ptpm_passed_on),
         sizeof(struct ptpm_rate), sizeof(struct ptpm_asker), sizeof(struct ptpm_asker_settings), sizeof(struct ptpm_handed),
-        sizeof(struct ptpm_question), sizeof(struct ptpm_say), sizeof(struct ptpm_limit), sizeof(struct ptpm_taken)
+        sizeof(struct ptpm_question), sizeof(struct ptpm_say), sizeof(struct ptpm_limit), sizeof(struct ptpm_taken),
+        sizeof(struct ptpm_journal), sizeof(struct ptpm_journal_record)
     };
     return ptpm_sizes_agree(sizes, sizeof sizes / sizeof *sizes);
 }
@@ -850,7 +935,7 @@ void ptpm_port_defaults(struct ptpm_port_settings *settings);
    Takes:   one to eight ports, and at most sixteen managers. Eight is the library's limit, and no setting (docs/embedding.md, "Eight
             ports"). The first port is port 1. All port_count settings are read, even if they are too many.
    Returns: PTPM_STARTED; or why not, and then the handle holds nothing.
-   Memory:  the clock, 472 octets and 2,136 for each manager, until it is stopped, and a copy of the ports until the call returns.
+   Memory:  the clock, 664 octets and 2,136 for each manager, until it is stopped, and a copy of the ports until the call returns.
    Caller:  stops the clock. */
 enum ptpm_started ptpm_clock_start(struct ptpm_clock *clock, const struct ptpm_clock_settings *settings,
                                    const struct ptpm_port_settings *ports, size_t port_count,
@@ -881,7 +966,8 @@ enum ptpm_handled ptpm_clock_handle(struct ptpm_clock *clock, uint16_t port, con
    Returns: PTPM_ASKED_CHANGE or PTPM_ASKED_VALUE; PTPM_ASKED_NOTHING for any other datagram; or PTPM_NO_CLOCK or PTPM_NO_PORT.
    Writes:  *asked; all zeros unless one of the first two is returned.
    Caller:  writes a change to its hardware, if that can do it. It does so in a way that may be done twice. If power fails before
-            the clock is saved, the request comes again, and is new. It looks a value up in a list of its own. */
+            the clock is saved, the request comes again, and is new. A device that is to be asked once has ptpm_clock_undertake. It
+            looks a value up in a list of its own. */
 enum ptpm_asking ptpm_clock_ask(const struct ptpm_clock *clock, uint16_t port, const uint8_t *datagram, size_t size,
                                 struct ptpm_question *asked);
 
@@ -897,7 +983,7 @@ enum ptpm_asking ptpm_clock_ask(const struct ptpm_clock *clock, uint16_t port, c
    Takes:   what ptpm_clock_handle takes, but room places, ptpm_clock_most_sent or more: one for a clock of one port. And *say; and
             of_owner: 1 for a datagram of the owner, and 0 for any other.
    Returns: what became of the datagram; or why it was not judged, the first of these: PTPM_NO_CLOCK, PTPM_NO_PORT, PTPM_NO_ROOM,
-            PTPM_BAD_SAY and PTPM_UNSAVED. A datagram that is not judged counts as lost.
+            PTPM_BAD_SAY, PTPM_UNDER_WAY (ptpm_clock_undertake) and PTPM_UNSAVED. A datagram that is not judged counts as lost.
    Writes:  all of *taken: zeros if the datagram was not judged. And the first taken->count places of sent, as ptpm_clock_handle
             does. If messages wait, taken->count is 0, and as many places have zeros. No member changed unless the answer is
             PTPM_ANSWERED_NEW, nor after a GET or a request that was refused.
@@ -908,6 +994,38 @@ enum ptpm_asking ptpm_clock_ask(const struct ptpm_clock *clock, uint16_t port, c
 enum ptpm_handled ptpm_clock_take(struct ptpm_clock *clock, uint16_t port, const uint8_t *datagram, size_t size,
                                   const struct ptpm_say *say, uint8_t of_owner, struct ptpm_sent *sent, size_t room,
                                   struct ptpm_taken *taken);
+
+/* Keeps a change as under way, so that the device is asked for it once, whatever happens to the power. It is for a clock that saves
+   (ptpm_clock_saving). If ptpm_clock_ask, by the clock as it is, would return PTPM_ASKED_CHANGE, the change is under way, and in each
+   image from now on. Then the clock is unsaved. The host saves it, ptpm_clock_saved returns PTPM_ACT_NOW once, and the host asks its
+   device. ptpm_clock_decide then says what the device did. After a restart the host only looks whether its device has the change.
+   While it is under way, ptpm_clock_take returns PTPM_UNDER_WAY for two kinds of datagrams, except those of the owner. The first is
+   what the same manager asks of only this clock. The second is any for which ptpm_clock_ask would return PTPM_ASKED_CHANGE.
+   Takes:   what ptpm_clock_ask takes.
+   Returns: PTPM_ASKED_CHANGE. PTPM_ASKED_VALUE and PTPM_ASKED_NOTHING as ptpm_clock_ask does, and nothing is kept. Or why not, the
+            first of these: PTPM_NO_CLOCK, also for a clock that does not save, PTPM_NO_PORT, PTPM_UNSAVED and PTPM_UNDER_WAY. It
+            is PTPM_UNSAVED if the clock was never saved, or ptpm_clock_next has a message to give. It is PTPM_UNDER_WAY if this
+            would be a second change.
+   Writes:  *asked, as ptpm_clock_ask does. */
+enum ptpm_asking ptpm_clock_undertake(struct ptpm_clock *clock, uint16_t port, const uint8_t *datagram, size_t size,
+                                      struct ptpm_question *asked);
+
+/* Says which change is under way. After a restore that is one whose device may have been asked.
+   Returns: PTPM_ASKED_CHANGE; PTPM_ASKED_NOTHING if none is; or PTPM_NO_CLOCK.
+   Writes:  *asked, as ptpm_clock_undertake did; all zeros unless PTPM_ASKED_CHANGE is returned.
+   Caller:  after a restore of its image looks whether its device has the change, and calls ptpm_clock_decide. */
+enum ptpm_asking ptpm_clock_under_way(const struct ptpm_clock *clock, struct ptpm_question *asked);
+
+/* Does what ptpm_clock_take does with the datagram that is under way, at its port. Then nothing is under way, and the clock is unsaved:
+   its messages wait for a save.
+   Takes:   what the device says; and room places, as ptpm_clock_take.
+   Returns: what ptpm_clock_take returns; or why not, and then the change stays under way. The first of these: PTPM_NO_CLOCK, also for
+            a clock that does not save, PTPM_NOTHING_UNDER_WAY, PTPM_NO_ROOM, PTPM_BAD_SAY, and PTPM_UNSAVED as at ptpm_clock_take.
+   Writes:  what ptpm_clock_take writes.
+   Caller:  after PTPM_UNSAVED takes the messages that were released or saves the clock, and calls it again. If the device has the change
+            and the answer is not PTPM_ANSWERED_NEW, it takes that back: another change of the clock came in between. */
+enum ptpm_handled ptpm_clock_decide(struct ptpm_clock *clock, const struct ptpm_say *say, struct ptpm_sent *sent, size_t room,
+                                    struct ptpm_taken *taken);
 
 /* Writes exactly the values of a range to a limit.
    Takes:   the least and the most, each from -128 to 255. A number under 0 has the octet of an Integer8. Any other range has no value.
@@ -953,13 +1071,24 @@ enum ptpm_read ptpm_clock_read(const struct ptpm_clock *clock, uint16_t id, uint
                                size_t *size);
 
 /* Makes the clock's image: what a host saves before it sends the messages of an answer PTPM_ANSWERED_NEW. From it the clock
-   continues after a restart. It has the clock's data sets, the latest request of each manager and the reply to it. The managers
-   and what each of them may change are not in it.
+   continues after a restart. It has the clock's data sets, the latest request of each manager and the reply to it. It has the change
+   that is under way (ptpm_clock_undertake). The managers and what each of them may change are not in it.
    Takes:   room octets; PTPM_CLOCK_IMAGE_OCTETS are enough for every clock, and PTPM_CLOCK_IMAGE_BOUND for one whose ports and
             managers are known.
    Returns: PTPM_SAVED, or why not.
    Writes:  *size, and that number of octets from octets on: the image. If the call is refused, *size is 0 and no octet is written. */
 enum ptpm_saved ptpm_clock_image(const struct ptpm_clock *clock, uint8_t *octets, size_t room, size_t *size);
+
+/* Writes the copies that a boundary clock forwards of a management message that this library does not read. Such a message is refused
+   only for its actionField, its TLV or its displayData: PTPM_BAD_ACTION to PTPM_BAD_TEXT. It is forwarded like any other message of
+   sdoId 0 and the clock's domain. It has a hop left, is not for exactly this clock, and goes between ports that may forward. Each
+   copy has octet 45, boundaryHops, less by one. Every other octet is as it came. Nothing is answered, and nothing changes. A host
+   that wants such messages to pass calls it after ptpm_clock_take.
+   Takes:   the port it came in at, and the datagram, of size octets; PTPM_MOST_SENT places.
+   Returns: how many copies there are: 0 for any other datagram, without a clock, for a port that it lacks, and for fewer places.
+   Writes:  that many places of sent, each with its port. */
+size_t ptpm_clock_transit(const struct ptpm_clock *clock, uint16_t port, const uint8_t *datagram, size_t size, struct ptpm_sent *sent,
+                          size_t room);
 
 /* Has a clock show no change before it is saved. Without it a host has to see to that itself, for each message that it sends. Such a
    clock takes datagrams by ptpm_clock_take, also during a save. What a manager or the owner asks of it, and not of every clock, is carried
@@ -993,9 +1122,10 @@ enum ptpm_saved ptpm_clock_image_of(struct ptpm_clock *clock, uint8_t *octets, s
    waited when it was made can be had (ptpm_clock_next).
    Takes:   the token of the latest ptpm_clock_image_of, which counts once. If no change waited when it was made, it does not count
             after an observation either.
-   Returns: PTPM_SAVED; or PTPM_NO_CLOCK, also for a clock that does not save, or PTPM_OTHER_IMAGE for any other token, and then
+   Returns: PTPM_SAVED. PTPM_ACT_NOW if the image has a change that is still under way, once for each change and never for one that a
+            restore found. Or PTPM_NO_CLOCK, also for a clock that does not save, or PTPM_OTHER_IMAGE for any other token, and then
             nothing changes.
-   Caller:  calls ptpm_clock_next until that gives no message. */
+   Caller:  calls ptpm_clock_next until that gives no message. After PTPM_ACT_NOW it asks its device (ptpm_clock_undertake). */
 enum ptpm_saved ptpm_clock_saved(struct ptpm_clock *clock, uint64_t token);
 
 /* Gives the first message that no longer waits for a save, in the order in which their datagrams came in.
@@ -1018,8 +1148,9 @@ uint32_t ptpm_clock_unsaved(const struct ptpm_clock *clock);
             given and has no request in the image begins afresh.
    Returns: PTPM_RESTORED; or why not, and then the handle holds what it held. The first of these that holds: PTPM_TOO_MANY_MANAGERS,
             PTPM_MANAGER_TWICE, PTPM_IDENTITY_IS_ZERO, PTPM_NOT_AN_IMAGE, PTPM_OTHER_VERSION, PTPM_OTHER_KIND, PTPM_DAMAGED,
-            PTPM_OTHER_CLOCK, PTPM_OTHER_PORTS and PTPM_NO_MEMORY. A restore that is refused is no reason to start a fresh
-            clock. It would carry out requests again that were carried out before.
+            PTPM_OTHER_CLOCK, PTPM_OTHER_PORTS and PTPM_NO_MEMORY. A change under way at a port over port_count is PTPM_DAMAGED
+            too. A restore that is refused is no reason to start a fresh clock. It would carry out requests again that were
+            carried out before.
    Writes:  *gone: the number of requests of the image whose managers are not among those that are given. They are forgotten. If
             the call is refused it is 0.
    Memory:  the clock, until it is stopped, as much as for a start.
@@ -1321,7 +1452,7 @@ enum ptpm_asked ptpm_asker_unsent(struct ptpm_asker *asker, struct ptpm_handed *
 enum ptpm_asked ptpm_asker_saved(struct ptpm_asker *asker, uint64_t now, struct ptpm_handed *handed);
 
 /* Says that what was handed out to be noted is noted, after PTPM_NOTE_BEGUN and PTPM_NOTE_ANSWER.
-   Returns: PTPM_ASKED; or PTPM_NO_MEMORY, and then nothing changes.
+   Returns: PTPM_ASKED; or PTPM_COUNT_AT_MAXIMUM or PTPM_NO_MEMORY, and then nothing changes.
    Writes:  all of *handed.
    Memory:  a copy of the dataField of the request, until it is answered. */
 enum ptpm_asked ptpm_asker_noted(struct ptpm_asker *asker, struct ptpm_handed *handed);
@@ -1363,6 +1494,49 @@ static inline void ptpm_asker_stop_any(struct ptpm_asker *asker) {
 
 #define ptpm_asker_stop(asker) ptpm_asker_stop_any(asker)
 
+/* Starts a journal without a record, instead of what the handle holds, which is freed first. A journal takes only a record that a run may
+   make. A step is begun once all that have to be done before it are done. Of a clock one at a time is begun. It has one answer.
+   Returns: PTPM_JOURNALED or PTPM_NO_MEMORY, and then the handle holds nothing.
+   Memory:  the journal, until it is stopped.
+   Caller:  stops the journal. */
+enum ptpm_journaled ptpm_journal_start(struct ptpm_journal *journal);
+
+/* Takes a record, and gives the octets that the host appends to the journal's file. The head and all steps are written whole before the
+   file has its name. A step that the host goes on with is on the disk first.
+   Takes:   the octets of the record, in the two groups that its kind has; none of a group that it lacks. PTPM_RECORD_OCTETS of room are
+            always enough.
+   Returns: PTPM_JOURNALED; or why not, and then nothing changes.
+   Writes:  *size, and as many octets from octets on. *size is 0 if it is refused.
+   Memory:  for the head and its steps, until the journal is stopped. */
+enum ptpm_journaled ptpm_journal_add(struct ptpm_journal *journal, const struct ptpm_journal_record *record,
+                                     const uint8_t *first, size_t first_size, const uint8_t *second, size_t second_size,
+                                     uint8_t *octets, size_t room, size_t *size);
+
+/* Takes the next record of a journal's file. A host begins with all octets of the file, and then gives those after the *size before,
+   until PTPM_JOURNAL_WHOLE. It cuts off what is left then. The journal goes on from there with ptpm_journal_add.
+   Returns: PTPM_JOURNALED; PTPM_JOURNAL_WHOLE; or why not. PTPM_JOURNAL_DAMAGED is also the end of a file that lacks its head or a step.
+            PTPM_JOURNAL_OTHER_VERSION is only of the first record.
+   Writes:  *record, all 0 unless one was taken. *size: how many octets it had, or 0.
+   Memory:  as ptpm_journal_add. */
+enum ptpm_journaled ptpm_journal_next(struct ptpm_journal *journal, const uint8_t *octets, size_t octet_count,
+                                      struct ptpm_journal_record *record, size_t *size);
+
+/* Returns: what the journal says of a step, PTPM_MARK_UNTOUCHED and on. */
+uint32_t ptpm_journal_mark(const struct ptpm_journal *journal, uint16_t step);
+
+/* Returns: the first step that may be begun now, or PTPM_NO_STEP. */
+uint16_t ptpm_journal_next_step(const struct ptpm_journal *journal);
+
+/* Ends what the handle holds, if it holds anything. The handle then holds nothing, and may be started again. NULL as for
+   ptpm_clock_stop. */
+void ptpm_journal_stop(struct ptpm_journal *journal);
+
+static inline void ptpm_journal_stop_any(struct ptpm_journal *journal) {
+    if (journal) ptpm_journal_stop(journal);
+}
+
+#define ptpm_journal_stop(journal) ptpm_journal_stop_any(journal)
+
 /* Says what became of the step that a change of several clocks began last in a session, after a crash too. A step is a SET. A journal notes
    when it is begun, and what is answered.
    Takes:   the number with which the journal has a step as begun without an answer. The step's managementId, port or 0, and the size
@@ -1392,7 +1566,7 @@ static inline enum ptpm_saved ptpm_image_seal(uint8_t *octets, size_t size, size
 enum ptpm_restored ptpm_image_unseal(const uint8_t *octets, size_t size, uint64_t *count, size_t *image);
 
 /* Finds the newest image of several places, each of as many octets. A host that writes only the oldest place has one image at any
-   moment, whenever its power fails (docs/flash.md).
+   moment, whenever its power fails (docs/image.md).
    Takes:   the octets of all places, one after the other; how many octets a place has, and how many places there are. Of a place
             of a medium its head is enough: as many octets as the largest image and its seal.
    Returns: the place of the image with the highest count, counted from 0; of as many, the first. The number of places if no place
@@ -1409,7 +1583,7 @@ static inline size_t ptpm_newest_image(const uint8_t *octets, size_t place, size
    sourcePortIdentity, sequenceId, targetPortIdentity, actionField and managementId, and there is a place to record it. So a
    message that circulates is forwarded once. One that keeps coming is forwarded once in each such time.
    Takes:   the message, of size octets; a time; and for how long it is recorded, in the unit of that time. Both are the host's.
-   Returns: whether it is to be forwarded; false too for what is no management message.
+   Returns: whether it is to be forwarded; false too for what is no management message, read or not (ptpm_clock_transit).
    Writes:  one of the places of *table, if it returns true. */
 bool ptpm_passed_on_is_first(struct ptpm_passed_on *table, const uint8_t *message, size_t size, uint64_t now, uint64_t time);
 

@@ -21,8 +21,8 @@ extern "C" {
 /* What a clock takes that has this many managers, 0 to 16, and any ports, from its start or its restore on. PTPM_CLOCK_MEMORY is
    enough for any clock. A block that holds only clocks needs no more than the sum, if all have the same number of managers. They
    may start and stop in any order. A restore in a live handle has both clocks for a moment. */
-#define PTPM_CLOCK_MEMORY_OF(managers) ((size_t)528 + ((managers) > 0 ? ((size_t)(managers) * 2136 + 31) / 16 * 16 : 0))
-#define PTPM_CLOCK_MEMORY 34720
+#define PTPM_CLOCK_MEMORY_OF(managers) ((size_t)720 + ((managers) > 0 ? ((size_t)(managers) * 2136 + 31) / 16 * 16 : 0))
+#define PTPM_CLOCK_MEMORY 34912
 
 /* What a clock takes besides once it is saved while it takes datagrams (ptpm_clock_saving), with places for this many messages. */
 #define PTPM_SAVING_MEMORY(places) ((size_t)1024 + ((size_t)(places) * 1476 + 31) / 16 * 16)

@@ -20,21 +20,31 @@ PTPM_CLOCK_SET = 1; PTPM_PORT_SET = 2; PTPM_PORT_COMMAND = 4
 PTPM_AGREES = 0; PTPM_OBJECTS = 1; PTPM_GIVES = 2
 PTPM_NOTHING = 0; PTPM_NOTE_BEGUN = 1; PTPM_SAVE_IT = 2; PTPM_SEND_IT = 3; PTPM_SEND_READ = 4; PTPM_WAIT = 5
 PTPM_NOTE_ANSWER = 6; PTPM_FAILED = 7
+PTPM_RECORD_HEAD = 1; PTPM_RECORD_STEP = 2; PTPM_RECORD_BEGUN = 3; PTPM_RECORD_NOT_BEGUN = 4; PTPM_RECORD_LET_GO = 5
+PTPM_RECORD_TOLD = 6; PTPM_RECORD_POLICY = 7; PTPM_RECORD_END = 8; PTPM_RECORD_TEXT = 9
+PTPM_KEEPS_GOING = 1; PTPM_IN_ONE_ROW = 2
+PTPM_STEP_DONE = 1; PTPM_STEP_REFUSED = 2; PTPM_STEP_ANSWERED = 3
+PTPM_END_COMPLETE = 1; PTPM_END_REFUSED = 2; PTPM_END_ANSWERED = 3; PTPM_END_CHANGED = 4; PTPM_END_GIVEN_UP = 5
+PTPM_END_ROLLED_BACK = 6; PTPM_END_STOPPED = 7; PTPM_END_IN_PART = 8
+PTPM_NO_STEP = 65535
+PTPM_MARK_UNTOUCHED = 0; PTPM_MARK_BEGUN = 1; PTPM_MARK_DONE = 2; PTPM_MARK_REFUSED = 3; PTPM_MARK_ANSWERED = 4
+PTPM_MARK_LET_GO = 5; PTPM_MARK_NONE = 6
 PTPM_NOTHING_LEFT = 0; PTPM_QUESTION_LEFT = 1; PTPM_GET_LEFT = 2; PTPM_CHANGE_LEFT = 3
 PTPM_STEP_NONE_LEFT = 0; PTPM_STEP_UNDER_WAY = 1; PTPM_STEP_NEVER_BEGUN = 2; PTPM_STEP_NUMBER_TAKEN = 3; PTPM_STEP_UNKNOWN = 4
 PTPM_STEP_TOLD = 5; PTPM_STEP_OF_ANOTHER = 6
 PTPM_NO_NUMBER = 65536
 PTPM_MOST_SENT = 15; PTPM_MOST_READ = 130; PTPM_MOST_OCTETS = 1472; PTPM_SESSION_IMAGE_OCTETS = 1478
-PTPM_CLOCK_IMAGE_OCTETS = 27185
+PTPM_CLOCK_IMAGE_OCTETS = 27385
+PTPM_RECORD_OCTETS = 8221
 PTPM_SEAL_OCTETS = 16
 PTPM_MOST_ANSWERS = 512; PTPM_SURVEY_PORT = 65534
 PTPM_SAVING = 0; PTPM_OTHER_DOMAIN = 1; PTPM_NOT_A_REPLY = 10; PTPM_OTHER_TARGET = 11; PTPM_OTHER_SOURCE = 12
 PTPM_OTHER_NUMBER = 14; PTPM_OTHER_CONTENT = 15; PTPM_TOO_SHORT = 16; PTPM_NOT_MANAGEMENT = 17; PTPM_BAD_VERSION = 18
 PTPM_BAD_LENGTH = 19; PTPM_BAD_ACTION = 20; PTPM_BAD_TLV_TYPE = 21; PTPM_BAD_TLV_LENGTH = 22; PTPM_BAD_TEXT = 23
 PTPM_NO_CLOCK = 32; PTPM_NO_PORT = 33; PTPM_NO_ROOM = 34; PTPM_NO_MEMORY = 35; PTPM_NO_SESSION = 37; PTPM_IDLE = 43
-PTPM_NO_SURVEY = 46; PTPM_NO_ASKER = 120; PTPM_OTHER_SIZES = 47; PTPM_GRANDMASTER_DIFFERS = 50; PTPM_TOO_MANY_MANAGERS = 51
-PTPM_MANAGER_TWICE = 52; PTPM_IDENTITY_IS_ZERO = 56; PTPM_UNSAVED = 118; PTPM_BAD_CLOCK_ACCURACY = 70; PTPM_BAD_LEAP59 = 88
-PTPM_BAD_STATE = 94
+PTPM_NO_SURVEY = 46; PTPM_NO_ASKER = 120; PTPM_NO_JOURNAL = 126; PTPM_OTHER_SIZES = 47; PTPM_GRANDMASTER_DIFFERS = 50
+PTPM_TOO_MANY_MANAGERS = 51; PTPM_MANAGER_TWICE = 52; PTPM_IDENTITY_IS_ZERO = 56; PTPM_UNSAVED = 118; PTPM_UNDER_WAY = 123
+PTPM_BAD_CLOCK_ACCURACY = 70; PTPM_BAD_LEAP59 = 88; PTPM_BAD_STATE = 94
 PTPM_STARTED = 0; PTPM_START_NO_MEMORY = 35; PTPM_START_OTHER_SIZES = 47; PTPM_NO_PORTS = 48; PTPM_TOO_MANY_PORTS = 49
 PTPM_START_GRANDMASTER_DIFFERS = 50; PTPM_START_TOO_MANY_MANAGERS = 51; PTPM_START_MANAGER_TWICE = 52; PTPM_MANAGER_IS_EVERY = 53
 PTPM_TARGET_IS_EVERY = 54; PTPM_SAME_CLOCK = 55; PTPM_START_IDENTITY_IS_ZERO = 56; PTPM_TARGET_IS_ZERO = 57
@@ -53,8 +63,9 @@ PTPM_ANSWERED_REPEAT = 6; PTPM_DROPPED_OLD = 7; PTPM_DROPPED_CONFLICT = 8; PTPM_
 PTPM_HANDLE_TOO_SHORT = 16; PTPM_HANDLE_NOT_MANAGEMENT = 17; PTPM_HANDLE_BAD_VERSION = 18; PTPM_HANDLE_BAD_LENGTH = 19
 PTPM_HANDLE_BAD_ACTION = 20; PTPM_HANDLE_BAD_TLV_TYPE = 21; PTPM_HANDLE_BAD_TLV_LENGTH = 22; PTPM_HANDLE_BAD_TEXT = 23
 PTPM_HANDLE_NO_CLOCK = 32; PTPM_HANDLE_NO_PORT = 33; PTPM_HANDLE_NO_ROOM = 34; PTPM_HANDLE_NO_MEMORY = 35
-PTPM_HANDLE_UNSAVED = 118; PTPM_BAD_SAY = 121
+PTPM_HANDLE_UNSAVED = 118; PTPM_BAD_SAY = 121; PTPM_HANDLE_UNDER_WAY = 123; PTPM_NOTHING_UNDER_WAY = 124
 PTPM_ASKED_NOTHING = 0; PTPM_ASKED_CHANGE = 29; PTPM_ASKED_VALUE = 30; PTPM_ASKING_NO_CLOCK = 32; PTPM_ASKING_NO_PORT = 33
+PTPM_ASKING_UNSAVED = 118; PTPM_ASKING_UNDER_WAY = 123
 PTPM_SET_HERE = 0; PTPM_SET_REFUSED = 26; PTPM_SET_NO_CLOCK = 32; PTPM_SET_NO_PORT = 33; PTPM_SET_NOT_PERMITTED = 40
 PTPM_SET_BAD_VALUE = 41
 PTPM_OBSERVED = 0; PTPM_OBSERVE_NO_CLOCK = 32; PTPM_OBSERVE_NO_PORT = 33; PTPM_OBSERVE_GRANDMASTER_DIFFERS = 50
@@ -79,20 +90,23 @@ PTPM_SURVEY_BAD_TLV_TYPE = 21; PTPM_SURVEY_BAD_TLV_LENGTH = 22; PTPM_SURVEY_BAD_
 PTPM_SURVEY_NO_MEMORY = 35; PTPM_SURVEY_NO_SURVEY = 46
 PTPM_VALUE = 0; PTPM_DONE = 25; PTPM_REFUSED = 26; PTPM_REPORT_NO_ROOM = 34; PTPM_REPORT_NO_SESSION = 37; PTPM_NO_REPORT = 45
 PTPM_REPORT_NO_SURVEY = 46; PTPM_REPORT_NO_ASKER = 120
-PTPM_SAVED = 0; PTPM_SAVE_NO_CLOCK = 32; PTPM_SAVE_NO_ROOM = 34; PTPM_SAVE_NO_SESSION = 37; PTPM_OTHER_IMAGE = 119
+PTPM_SAVED = 0; PTPM_ACT_NOW = 31; PTPM_SAVE_NO_CLOCK = 32; PTPM_SAVE_NO_ROOM = 34; PTPM_SAVE_NO_SESSION = 37
+PTPM_OTHER_IMAGE = 119
 PTPM_RESTORED = 0; PTPM_RESTORE_NO_MEMORY = 35; PTPM_RESTORE_TOO_MANY_MANAGERS = 51; PTPM_RESTORE_MANAGER_TWICE = 52
 PTPM_RESTORE_IDENTITY_IS_ZERO = 56; PTPM_NOT_AN_IMAGE = 104; PTPM_OTHER_VERSION = 105; PTPM_OTHER_KIND = 106; PTPM_DAMAGED = 107
 PTPM_OTHER_CLOCK = 108; PTPM_OTHER_PORTS = 109; PTPM_OTHER_SESSION = 110
 PTPM_PARSED = 0; PTPM_PARSE_NO_ROOM = 34; PTPM_NOT_WORDS = 113; PTPM_UNKNOWN_ID = 114; PTPM_WORD_COUNT = 115
 PTPM_OTHER_NAME = 116; PTPM_NO_VALUE = 117
 PTPM_ASKER_RESTORED = 0; PTPM_ASKER_RESTORE_NO_MEMORY = 35; PTPM_ASKER_RESTORE_NO_PORTS = 48
-PTPM_ASKER_RESTORE_TOO_MANY_PORTS = 49; PTPM_ASKER_RESTORE_MANAGER_IS_EVERY = 53; PTPM_ASKER_RESTORE_TARGET_IS_EVERY = 54
-PTPM_ASKER_RESTORE_SAME_CLOCK = 55; PTPM_ASKER_RESTORE_TARGET_IS_ZERO = 57; PTPM_ASKER_RESTORE_NOT_AN_IMAGE = 104
-PTPM_ASKER_RESTORE_OTHER_VERSION = 105; PTPM_ASKER_RESTORE_OTHER_KIND = 106; PTPM_ASKER_RESTORE_DAMAGED = 107
-PTPM_ASKER_RESTORE_OTHER_SESSION = 110
+PTPM_ASKER_RESTORE_TOO_MANY_PORTS = 49; PTPM_ASKER_RESTORE_MANAGER_TWICE = 52; PTPM_ASKER_RESTORE_MANAGER_IS_EVERY = 53
+PTPM_ASKER_RESTORE_TARGET_IS_EVERY = 54; PTPM_ASKER_RESTORE_SAME_CLOCK = 55; PTPM_ASKER_RESTORE_TARGET_IS_ZERO = 57
+PTPM_ASKER_RESTORE_NOT_AN_IMAGE = 104; PTPM_ASKER_RESTORE_OTHER_VERSION = 105; PTPM_ASKER_RESTORE_OTHER_KIND = 106
+PTPM_ASKER_RESTORE_DAMAGED = 107; PTPM_ASKER_RESTORE_OTHER_SESSION = 110
 PTPM_ASKED = 0; PTPM_ASK_NO_ROOM = 34; PTPM_ASK_NO_MEMORY = 35; PTPM_ASK_BUSY = 38; PTPM_ASK_NEEDS_PORT = 39
 PTPM_ASK_NOT_PERMITTED = 40; PTPM_ASK_BAD_VALUE = 41; PTPM_ASK_COUNT_AT_MAXIMUM = 42; PTPM_ASK_IDLE = 43
 PTPM_ASK_OUT_OF_REACH = 112; PTPM_ASK_NO_ASKER = 120
+PTPM_JOURNALED = 0; PTPM_JOURNAL_NO_ROOM = 34; PTPM_JOURNAL_NO_MEMORY = 35; PTPM_JOURNAL_OTHER_VERSION = 105
+PTPM_JOURNAL_DAMAGED = 107; PTPM_JOURNAL_NO_JOURNAL = 126; PTPM_NO_RECORD = 127; PTPM_NOT_ALLOWED = 128; PTPM_JOURNAL_WHOLE = 129
 PTPM_NO_ID = 65536; PTPM_MOST_NAME = 27
 PTPM_PORT_STATES = 1; PTPM_DELAY_MECHANISMS = 2; PTPM_TIME_SOURCES = 3
 PTPM_MOST_FIELD_TEXT = 5034
@@ -277,6 +291,17 @@ class ptpm_handed(Structure):
         ("is_read_answered", c_bool)]
 
 
+class ptpm_journal(Structure):
+    _fields_ = [("at", c_void_p), ("live", c_bool), ("restored", c_bool)]
+
+
+class ptpm_journal_record(Structure):
+    _fields_ = [("time", c_uint64), ("first", c_uint32), ("second", c_uint32), ("first_size", c_uint16),
+        ("second_size", c_uint16), ("count", c_uint16), ("port", c_uint16), ("id", c_uint16), ("step", c_uint16),
+        ("number", c_uint16), ("error", c_uint16), ("clock", c_uint8 * 8), ("kind", c_uint8), ("flags", c_uint8),
+        ("together", c_uint8), ("domain", c_uint8), ("group", c_uint8), ("what", c_uint8), ("zero", c_uint8 * 2)]
+
+
 class ptpm_source(Structure):
     _fields_ = [("clock", c_uint8 * 8), ("port", c_uint16)]
 
@@ -301,6 +326,9 @@ CALLS: Dict[str, Tuple[Any, List[Any]]] = {
     "ptpm_clock_ask": (c_uint32, [POINTER(ptpm_clock), c_uint16, c_char_p, c_size_t, POINTER(ptpm_question)]),
     "ptpm_clock_take": (c_uint32, [POINTER(ptpm_clock), c_uint16, c_char_p, c_size_t, POINTER(ptpm_say), c_uint8,
         POINTER(ptpm_sent), c_size_t, POINTER(ptpm_taken)]),
+    "ptpm_clock_undertake": (c_uint32, [POINTER(ptpm_clock), c_uint16, c_char_p, c_size_t, POINTER(ptpm_question)]),
+    "ptpm_clock_under_way": (c_uint32, [POINTER(ptpm_clock), POINTER(ptpm_question)]),
+    "ptpm_clock_decide": (c_uint32, [POINTER(ptpm_clock), POINTER(ptpm_say), POINTER(ptpm_sent), c_size_t, POINTER(ptpm_taken)]),
     "ptpm_limit_range": (None, [POINTER(ptpm_limit), c_int32, c_int32]),
     "ptpm_limits_say": (c_uint16, [POINTER(ptpm_limit), c_size_t, POINTER(ptpm_question)]),
     "ptpm_clock_set": (c_uint32, [POINTER(ptpm_clock), c_uint8, c_uint16, c_uint16, c_char_p, c_size_t, POINTER(ptpm_changed),
@@ -309,6 +337,7 @@ CALLS: Dict[str, Tuple[Any, List[Any]]] = {
         POINTER(c_uint8)]),
     "ptpm_clock_read": (c_uint32, [POINTER(ptpm_clock), c_uint16, c_uint16, POINTER(c_uint8), c_size_t, POINTER(c_size_t)]),
     "ptpm_clock_image": (c_uint32, [POINTER(ptpm_clock), POINTER(c_uint8), c_size_t, POINTER(c_size_t)]),
+    "ptpm_clock_transit": (c_size_t, [POINTER(ptpm_clock), c_uint16, c_char_p, c_size_t, POINTER(ptpm_sent), c_size_t]),
     "ptpm_clock_saving": (c_uint32, [POINTER(ptpm_clock), c_size_t]),
     "ptpm_clock_image_of": (c_uint32, [POINTER(ptpm_clock), POINTER(c_uint8), c_size_t, POINTER(c_size_t), POINTER(c_uint64)]),
     "ptpm_clock_saved": (c_uint32, [POINTER(ptpm_clock), c_uint64]),
@@ -360,6 +389,13 @@ CALLS: Dict[str, Tuple[Any, List[Any]]] = {
     "ptpm_asker_earlier": (c_uint32, [POINTER(ptpm_asker), c_uint8, POINTER(c_uint8)]),
     "ptpm_asker_report": (c_uint32, [POINTER(ptpm_asker), POINTER(c_uint8), c_size_t, POINTER(c_size_t), POINTER(c_uint16)]),
     "ptpm_asker_stop": (None, [POINTER(ptpm_asker)]),
+    "ptpm_journal_start": (c_uint32, [POINTER(ptpm_journal)]),
+    "ptpm_journal_add": (c_uint32, [POINTER(ptpm_journal), POINTER(ptpm_journal_record), c_char_p, c_size_t, c_char_p, c_size_t,
+        POINTER(c_uint8), c_size_t, POINTER(c_size_t)]),
+    "ptpm_journal_next": (c_uint32, [POINTER(ptpm_journal), c_char_p, c_size_t, POINTER(ptpm_journal_record), POINTER(c_size_t)]),
+    "ptpm_journal_mark": (c_uint32, [POINTER(ptpm_journal), c_uint16]),
+    "ptpm_journal_next_step": (c_uint16, [POINTER(ptpm_journal)]),
+    "ptpm_journal_stop": (None, [POINTER(ptpm_journal)]),
     "ptpm_step_standing": (c_uint32, [c_uint32, c_uint16, c_uint16, c_char_p, c_size_t, c_uint32, c_char_p, c_size_t]),
     "ptpm_image_seal_in": (c_uint32, [POINTER(c_uint8), c_size_t, c_size_t, c_uint64, POINTER(c_size_t)]),
     "ptpm_image_unseal": (c_uint32, [c_char_p, c_size_t, POINTER(c_uint64), POINTER(c_size_t)]),
@@ -390,5 +426,6 @@ CALLS: Dict[str, Tuple[Any, List[Any]]] = {
 STRUCTS: List[Type[Structure]] = [
     ptpm_clock, ptpm_clock_settings, ptpm_port_settings, ptpm_observed_clock, ptpm_observed_port, ptpm_manager_settings,
     ptpm_sent, ptpm_changed, ptpm_session, ptpm_session_settings, ptpm_survey, ptpm_survey_settings, ptpm_source, ptpm_passed_on,
-    ptpm_rate, ptpm_asker, ptpm_asker_settings, ptpm_handed, ptpm_question, ptpm_say, ptpm_limit, ptpm_taken
+    ptpm_rate, ptpm_asker, ptpm_asker_settings, ptpm_handed, ptpm_question, ptpm_say, ptpm_limit, ptpm_taken, ptpm_journal,
+    ptpm_journal_record
 ]

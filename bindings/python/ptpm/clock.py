@@ -57,6 +57,12 @@ def port_number(port: int) -> int:
     return port
 
 
+def came_in(port: int, octets: bytes) -> Tuple[Any, ...]:
+    """A datagram and its port, as a call takes them."""
+    datagram = octets_of(octets)
+    return port_number(port), datagram, len(datagram)
+
+
 class Clock(Handle):
     """The data sets of one clock, and what becomes of each management message that comes in at its ports.
 
@@ -107,10 +113,12 @@ class Clock(Handle):
         """What a datagram would have the device do, if it came in now at this port. It is to carry out a new SET or COMMAND of a
         manager, which the clock itself does not refuse. Or it is to give the value of an id that the clock lacks, to a GET that would
         be answered. It is nothing for any other datagram. Nothing changes."""
+        return self._asked(library.ptpm_clock_ask, *came_in(port, octets))
+
+    def _asked(self, call: Any, *words: Any) -> Optional[Asked]:
+        """What a call would have the device do."""
         question = header.ptpm_question()
-        datagram = octets_of(octets)
-        came_in = (port_number(port), datagram, len(datagram))
-        asked = judged(self._call(library.ptpm_clock_ask, *came_in, ctypes.byref(question)))
+        asked = judged(self._call(call, *words, ctypes.byref(question)))
         return Asked.of_library(question) if asked in (header.PTPM_ASKED_CHANGE, header.PTPM_ASKED_VALUE) else None
 
     def handle(self, port: int, octets: bytes, say: Optional[Say] = None, of_owner: bool = False) -> Handled:
@@ -119,11 +127,13 @@ class Clock(Handle):
         error, and no member changes. If it gives a value where it is asked for one, this is the answer. To the GET of a manager it
         has 130 octets at most, since it is kept. A longer one is answered with RESPONSE_TOO_BIG, and that is kept. A request of the
         device's owner is judged as one of a manager with every right, and nothing of it is kept."""
+        return self._handled(library.ptpm_clock_take, *came_in(port, octets), ctypes.byref(say_of(say)), of_owner)
+
+    def _handled(self, call: Any, *words: Any) -> Handled:
+        """What a call makes of a datagram."""
         taken = header.ptpm_taken()
-        datagram = octets_of(octets)
-        came_in = (port_number(port), datagram, len(datagram), ctypes.byref(say_of(say)), of_owner)
         with self._room() as sent:
-            answer = judged(library.ptpm_clock_take(self._at, *came_in, sent, len(sent), ctypes.byref(taken)))
+            answer = judged(call(self._at, *words, sent, len(sent), ctypes.byref(taken)))
             messages = [_message(place) for place in sent[: taken.count]]
         return Handled(HandleAnswer(answer), messages, Changed.of_library(taken.changed), taken.waiting)
 

@@ -2,30 +2,26 @@
 
 from __future__ import annotations
 
-import json
+import ctypes
 import os
-import zlib
-from typing import Optional
 
-_CRC = 8  # hexadecimal digits, and a space after them
-
-
-def _text_of(line: bytes) -> Optional[bytes]:
-    """The text of a line without its checksum; None if that is wrong."""
-    text = line[_CRC + 1 :]
-    return text if line[: _CRC + 1] == f"{zlib.crc32(text):08x} ".encode() else None
+from . import _header as header
+from ._library import Handle, library
+from .answers import done
 
 
-def _has_end(octets: bytes) -> bool:
-    """Whether the last of the whole lines is an end, and all are right. What follows the last line feed was torn by a crash."""
-    texts = [_text_of(line) for line in octets.split(b"\n")[:-1]]
-    if len(texts) < 2 or None in texts:
-        return False
-    try:
-        note = json.loads(texts[-1] or b"")
-    except ValueError:
-        return False
-    return isinstance(note, dict) and "end" in note
+class _Journal(Handle):
+    def __init__(self) -> None:
+        super().__init__(header.ptpm_journal, library.ptpm_journal_stop)
+        done(self._call(library.ptpm_journal_start))
+
+    def has_end(self, octets: bytes) -> bool:
+        """Whether the last record of a file is an end, and no octet was lost or changed."""
+        record, size, answer, kind = header.ptpm_journal_record(), ctypes.c_size_t(), header.PTPM_JOURNALED, 0
+        while answer == header.PTPM_JOURNALED:
+            octets, kind = octets[size.value :], record.kind
+            answer = self._call(library.ptpm_journal_next, octets, len(octets), ctypes.byref(record), ctypes.byref(size))
+        return answer == header.PTPM_JOURNAL_WHOLE and kind == header.PTPM_RECORD_END
 
 
 def may_be_open(path: str) -> bool:
@@ -38,6 +34,6 @@ def may_be_open(path: str) -> bool:
         return True
     try:
         with open(opened, "rb") as file:
-            return not _has_end(file.read())
+            return not _Journal().has_end(file.read())
     except OSError:
         return True

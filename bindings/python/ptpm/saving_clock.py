@@ -3,17 +3,25 @@
 from __future__ import annotations
 
 import ctypes
-from typing import List, Optional, Sequence, Set, Tuple, Type
+from typing import List, NamedTuple, Optional, Sequence, Set, Tuple, Type
 
 from . import _header as header
 from ._library import library
-from .answers import done
+from .answers import done, judged
 from .changed import Changed
-from .clock import Clock, Handled
+from .clock import Clock, Handled, came_in
 from .data_sets import AnyDataSet
-from .device import Asked, Say
+from .device import Asked, Say, say_of
 from .ids import Action, IdLike
 from .observation import ObservedClock, ObservedPort
+
+
+class Saved(NamedTuple):
+    """What is to be sent once an image is saved: the port and the octets of each message. And whether the device is to be asked now for
+    the change that is under way."""
+
+    messages: List[Tuple[int, bytes]]
+    act_now: bool
 
 
 class SavingClock:
@@ -28,7 +36,7 @@ class SavingClock:
     >>> def save():
     ...     image, token = clock.image()
     ...     stored.append(image)
-    ...     return clock.saved(token)
+    ...     return clock.saved(token).messages
     >>> save()  # a clock that was started is not saved yet
     []
     >>> request = bytes.fromhex("0d1200380000" + 14 * "00" + "00112233445566770001" "0007047f" "aabbccfffeddee01ffff"
@@ -61,6 +69,39 @@ class SavingClock:
         place (free), and before the first save."""
         return self._clock.handle(port, octets, say, of_owner)
 
+    def undertake(self, port: int, octets: bytes) -> Optional[Asked]:
+        """Keeps a change as under way, so that the device is asked for it once, whatever happens to the power. A change is what `ask` would
+        ask of the device, by the clock as it is. It is in each image from now on. A save then says `act_now` once, and the host asks
+        its device. What else a datagram asks is returned as by `ask`, and nothing is kept. It is refused (UNSAVED) before the first
+        save. A second change is refused (UNDER_WAY). Until `decide`, so is what else the manager asks of this clock.
+
+        >>> from ptpm import Clock, ClockSettings, Manager, Objection, PortSettings
+        >>> clock = SavingClock(Clock(ClockSettings("aabbccfffeddee01"), [PortSettings()], [Manager("0011223344556677/1")]))
+        >>> def save():
+        ...     return clock.saved(clock.image()[1])
+        >>> save().act_now
+        False
+        >>> request = bytes.fromhex("0d1200380000" + 14 * "00" + "00112233445566770001" "0007047f" "aabbccfffeddee01ffff"
+        ...                         "010101000001000420056400")
+        >>> clock.undertake(1, request).octets.hex(), save().act_now, save().act_now
+        ('6400', True, False)
+        >>> clock.decide(Objection.GENERAL_ERROR).waiting, clock.under_way()
+        (1, None)
+        >>> [octets[-8:].hex() for _, octets in save().messages]
+        ['fffe200500000000']
+        """
+        return self._clock._asked(library.ptpm_clock_undertake, *came_in(port, octets))
+
+    def under_way(self) -> Optional[Asked]:
+        """The change that is under way. After a restore of its image the device may have been asked. The host then looks whether it has the
+        change, and says so (decide)."""
+        return self._clock._asked(library.ptpm_clock_under_way)
+
+    def decide(self, say: Optional[Say] = None) -> Handled:
+        """Does what `take` does with the datagram that is under way, at its port. Then nothing is under way, and its messages wait for a
+        save. It is refused if nothing is under way (NOTHING_UNDER_WAY). If there is no place (UNSAVED), the change stays under way."""
+        return self._clock._handled(library.ptpm_clock_decide, ctypes.byref(say_of(say)))
+
     def image(self) -> Tuple[bytes, int]:
         """The clock's image, and its token. An earlier image can't be confirmed any more."""
         size, token = ctypes.c_size_t(), ctypes.c_uint64()
@@ -68,12 +109,12 @@ class SavingClock:
         done(self._clock._call(library.ptpm_clock_image_of, room, len(room), ctypes.byref(size), ctypes.byref(token)))
         return bytes(room[: size.value]), token.value
 
-    def saved(self, token: int) -> List[Tuple[int, bytes]]:
-        """Says once that a restart would find the latest image, whatever happens to the power. Returns what is to be sent: the port and the
-        octets of each message that waited when it was made."""
+    def saved(self, token: int) -> Saved:
+        """Says once that a restart would find the latest image, whatever happens to the power. Returns what is to be sent: what waited when
+        it was made. And whether it has a change that is still under way: once for each change, and never of one that a restore found."""
         with self._clock._turn:
-            done(self._clock._call(library.ptpm_clock_saved, token))
-            return list(self._clock._released())
+            answer = judged(self._clock._call(library.ptpm_clock_saved, token))
+            return Saved(list(self._clock._released()), answer == header.PTPM_ACT_NOW)
 
     def is_unsaved(self) -> bool:
         """Whether the clock has a change that is not saved, or was never saved."""

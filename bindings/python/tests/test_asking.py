@@ -26,12 +26,21 @@ from ptpm.session_file import usual_path
 from . import CLOCK, MANAGER, TOP, Folder
 
 
-HEAD = '{"version":1,"name":"n","manager":"000000fffe000010/1","steps":[]}'
+HEAD = bytes.fromhex("01 02 02 01 000000fffe000010 0001 0001 01 6e 00")
+STEP = bytes.fromhex("02 aabbccfffeddee01 00 06 0000 2005 0002 8000 0002 0a00")
+BEGUN = bytes.fromhex("03 0000 0007 0000000069559b00")
+LET_GO = bytes.fromhex("05 0000 0000000069559b00")
+END = bytes.fromhex("08 05 0000 0000000069559b00")
 
 
-def journal_line(text: str) -> str:
-    """A line of the journal of an apply."""
-    return f"{zlib.crc32(text.encode()):08x} {text}\n"
+def journal_of(*records: bytes) -> bytes:
+    """The octets of the journal of an apply (docs/changing-a-site.md)."""
+    octets, crc = b"PTPJ", bytes(4)
+    for record in records:
+        record = len(record).to_bytes(2, "big") + record
+        crc = zlib.crc32(crc + record).to_bytes(4, "big")
+        octets += record + crc
+    return octets
 
 
 class Both(ptpm.Transport):
@@ -431,8 +440,8 @@ class Asking(Folder):
     def test_a_file_that_an_apply_has_marked_is_refused(self) -> None:
         path, journal = f"{self.folder}/session", f"{self.folder}/apply/20261127T170000.journal"
         os.mkdir(f"{self.folder}/apply")
-        with open(journal, "w", encoding="utf-8") as file:
-            file.write(journal_line(HEAD))
+        with open(journal, "wb") as file:
+            file.write(journal_of(HEAD, STEP))
         with open(f"{path}.apply", "w", encoding="utf-8") as mark:
             mark.write(f"{journal}\n")
         for _ in range(2):
@@ -457,8 +466,8 @@ class Asking(Folder):
 
     def test_another_file_is_refused_too_while_an_apply_is_open(self) -> None:
         journal = f"{self.folder}/one.journal"
-        with open(journal, "w", encoding="utf-8") as file:
-            file.write(journal_line(HEAD))
+        with open(journal, "wb") as file:
+            file.write(journal_of(HEAD, STEP))
         with unittest.mock.patch.dict(os.environ, {"XDG_STATE_HOME": self.folder}):
             os.mkdir(f"{self.folder}/ptpm")
             with open(f"{usual_path(MANAGER, CLOCK)}.apply", "w", encoding="utf-8") as mark:
@@ -477,13 +486,14 @@ class Asking(Folder):
 
     def test_the_mark_of_an_apply_that_has_ended_is_removed(self) -> None:
         path, journal, mark = (f"{self.folder}/{name}" for name in ("session", "the.journal", "session.apply"))
-        head, begun, end = (journal_line(text) for text in (HEAD, '{"begun":0,"number":7}', '{"end":"complete","step":null}'))
-        cases = [(None, False), (head, True), (head + begun + end, False), (head + end[:-1], True), (head + "00" + end, True)]
-        for lines, is_open in cases:
-            for name, text in ((journal, lines), (mark, f"{journal}\n")):
-                if text is not None:
-                    with open(name, "w", encoding="utf-8") as file:
-                        file.write(text)
+        given_up = journal_of(HEAD, STEP, BEGUN, LET_GO, END)
+        cases = [(None, False), (journal_of(HEAD, STEP), True), (given_up, False), (given_up + b"\0\x10\6", False), (given_up[:-1], True),
+                 (given_up[:20] + b"x" + given_up[21:], True), (b'00 {"version":1}\n', True)]
+        for octets, is_open in cases:
+            for name, content in ((journal, octets), (mark, f"{journal}\n".encode())):
+                if content is not None:
+                    with open(name, "wb") as file:
+                        file.write(content)
             if is_open:
                 self.assertRaises(ptpm.OpenApplyError, ptpm.SessionFile, MANAGER, CLOCK, path)
             else:

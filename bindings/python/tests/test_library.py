@@ -249,7 +249,7 @@ class Clocks(unittest.TestCase):
         with ptpm.SavingClock(clock(), 6) as saving:
             self.refused("UNSAVED", lambda: saving.take(1, stranger))
             image, token = saving.image()
-            self.assertEqual((saving.saved(token), saving.is_unsaved(), saving.free()), ([], False, 6))
+            self.assertEqual((saving.saved(token), saving.is_unsaved(), saving.free()), (([], False), False, 6))
             asked = saving.ask(1, set_priority1)
             assert asked is not None
             self.assertEqual(asked.octets, b"d\0")
@@ -262,20 +262,48 @@ class Clocks(unittest.TestCase):
             _, token = saving.image()
             _, later = saving.image()
             saving.set(ptpm.Action.SET, "PRIORITY2", octets=b"e\0")
-            [(port, octets)] = saving.saved(later)
+            [(port, octets)] = saving.saved(later).messages
             self.assertEqual((port, octets[-2:].hex(), saving.read("PRIORITY1").hex()), (1, "6400", "6400"))
             self.assertEqual((saving.is_unsaved(), saving.read("PRIORITY2").hex()), (True, "8000"))
             owners = saving.take(2, stranger, of_owner=True)
             self.assertEqual((owners.answer, owners.messages, owners.waiting), (HandleAnswer.ANSWERED_UNNUMBERED, [], 1))
             image, token = saving.image()
             self.refused("OTHER_IMAGE", lambda: saving.saved(later))
-            self.assertEqual(len(saving.saved(token)), 1)
+            self.assertEqual(len(saving.saved(token).messages), 1)
             objected = saving.take(1, request(8, f"{CLOCK}0001", 0, 1, "200b0000"), say=ptpm.Objection.WRONG_VALUE)
             self.assertEqual((objected.answer, objected.waiting), (HandleAnswer.ANSWERED_NEW, 1))
         back, _ = ptpm.Clock.restore(CLOCK, 2, [ptpm.Manager(MANAGER)], image)
         with ptpm.SavingClock(back) as saving:
             [(_, octets)] = saving.take(1, set_priority1).messages
             self.assertEqual(octets[-2:].hex(), "6400")
+
+    def test_a_change_is_under_way_until_the_device_says(self) -> None:
+        set_priority1 = request(7, f"{CLOCK}0001", 0, 1, "20056400")
+        with ptpm.SavingClock(clock(), 6) as saving:
+            self.refused("UNSAVED", lambda: saving.undertake(1, set_priority1))
+            saving.saved(saving.image()[1])
+            self.refused("NO_PORT", lambda: saving.undertake(3, set_priority1))
+            self.assertIsNone(saving.undertake(1, request(7, f"{CLOCK}0001", 0, 0, "2005")))
+            self.refused("NOTHING_UNDER_WAY", saving.decide)
+            self.assertEqual(saving.undertake(1, set_priority1), saving.under_way())
+            self.refused("UNDER_WAY", lambda: saving.undertake(1, set_priority1))
+            self.refused("UNDER_WAY", lambda: saving.take(1, set_priority1))
+            image, token = saving.image()
+            self.assertEqual(saving.saved(token), ([], True))
+            self.refused("BAD_SAY", lambda: saving.decide(ptpm.Gives(b"d")))
+            decided = saving.decide()
+            self.assertEqual((decided.answer, decided.messages, decided.waiting), (HandleAnswer.ANSWERED_NEW, [], 1))
+            self.assertIn(ptpm.ClockMembers.PRIORITY1, decided.changed.clock)
+            self.assertIsNone(saving.under_way())
+        back, _ = ptpm.Clock.restore(CLOCK, 2, [ptpm.Manager(MANAGER)], image)
+        with ptpm.SavingClock(back) as saving:
+            found = saving.under_way()
+            assert found is not None
+            self.assertEqual((found.number, found.octets), (7, b"d\0"))
+            self.assertEqual(saving.saved(saving.image()[1]), ([], False))
+            saving.decide(ptpm.Objection.GENERAL_ERROR)
+            [(_, octets)] = saving.saved(saving.image()[1]).messages
+            self.assertEqual(octets[-8:].hex(), "fffe200500000000")
 
     def test_places_of_a_medium(self) -> None:
         with clock() as asked:

@@ -22,7 +22,7 @@ pub const CLOCK_IMAGE_OCTETS: usize = sys::PTPM_CLOCK_IMAGE_OCTETS;
 /// More ports than a clock has.
 const MORE_PORTS: usize = 9;
 
-/// The data sets of a clock, and what becomes of each management message that comes in at its ports. It has about 500 octets on
+/// The data sets of a clock, and what becomes of each management message that comes in at its ports. It has about 700 octets on
 /// the heap, and 2,136 for each manager, and is stopped when it is dropped.
 pub struct Clock {
     handle: sys::ptpm_clock,

@@ -58,6 +58,24 @@ impl Asked {
     }
 }
 
+impl Asked {
+    /// What this call would have the device do.
+    pub(crate) fn by(call: impl FnOnce(&mut sys::ptpm_question) -> u32) -> Result<Option<Self>, Error> {
+        let mut question = sys::ptpm_question {
+            manager: [0; 8],
+            manager_port: 0,
+            number: 0,
+            id: 0,
+            port: 0,
+            size: 0,
+            action: 0,
+            octets: [0; MOST_ASKED],
+        };
+        let number = judged(call(&mut question))?;
+        Ok(matches!(number, sys::PTPM_ASKED_CHANGE | sys::PTPM_ASKED_VALUE).then_some(Self { question }))
+    }
+}
+
 impl fmt::Debug for Asked {
     fn fmt(&self, to: &mut fmt::Formatter<'_>) -> fmt::Result {
         to.debug_struct("Asked")
@@ -178,7 +196,7 @@ impl From<Option<Objection>> for Say<'_> {
 
 impl Say<'_> {
     /// What it says, as the library takes it.
-    fn as_in_c(self) -> sys::ptpm_say {
+    pub(crate) fn as_in_c(self) -> sys::ptpm_say {
         let mut say = sys::ptpm_say { error: 0, size: 0, kind: sys::PTPM_AGREES, octets: [0; 1418] };
         match self {
             Self::Agrees => {}
@@ -210,6 +228,26 @@ pub struct Taken<'a> {
     pub changed: Changed,
 }
 
+impl<'a> Taken<'a> {
+    /// What came of the datagram by this call, with what it sends in the outbox.
+    ///
+    /// # Safety
+    ///
+    /// The call writes what is taken unless it is refused, and as many places as that counts.
+    pub(crate) unsafe fn by(
+        outbox: &'a mut Outbox,
+        call: impl FnOnce(*mut sys::ptpm_sent, usize, *mut sys::ptpm_taken) -> u32,
+    ) -> Result<Self, Error> {
+        let mut taken = MaybeUninit::uninit();
+        let (sent, room) = outbox.room();
+        let number = judged(call(sent, room, taken.as_mut_ptr()))?;
+        // SAFETY: as the caller says.
+        let taken: sys::ptpm_taken = unsafe { taken.assume_init() };
+        let messages = unsafe { outbox.messages(taken.count as usize) };
+        Ok(Self { turn: Turn::of(number, messages), waiting: taken.waiting as usize, changed: taken.changed.into() })
+    }
+}
+
 impl Clock {
     /// What a datagram would have the device do, if it came in now at this port. It is to carry out a new SET or COMMAND of a manager,
     /// which the clock itself does not refuse. Or it is to give the value of an id that the clock lacks, to a GET that would be
@@ -219,20 +257,8 @@ impl Clock {
     ///
     /// [`Error::NoPort`]: the clock lacks the port.
     pub fn ask(&self, port: u16, datagram: &[u8]) -> Result<Option<Asked>, Error> {
-        let mut question = sys::ptpm_question {
-            manager: [0; 8],
-            manager_port: 0,
-            number: 0,
-            id: 0,
-            port: 0,
-            size: 0,
-            action: 0,
-            octets: [0; MOST_ASKED],
-        };
         // SAFETY: the datagram may be read, and the question may be written.
-        let number =
-            judged(unsafe { sys::ptpm_clock_ask(self.handle_ref(), port, datagram.as_ptr(), datagram.len(), &mut question) })?;
-        Ok(matches!(number, sys::PTPM_ASKED_CHANGE | sys::PTPM_ASKED_VALUE).then_some(Asked { question }))
+        Asked::by(|question| unsafe { sys::ptpm_clock_ask(self.handle_ref(), port, datagram.as_ptr(), datagram.len(), question) })
     }
 
     /// Does what [`Clock::handle`] does, with what the device says, and reports which members of the data sets have another value
@@ -273,18 +299,14 @@ impl Clock {
         of_owner: u8,
         outbox: &'a mut Outbox,
     ) -> Result<Taken<'a>, Error> {
-        let mut taken = MaybeUninit::uninit();
-        let (sent, room) = outbox.room();
         let (octets, size, say) = (datagram.as_ptr(), datagram.len(), say.as_in_c());
         // SAFETY: the datagram and what is said may be read, and the places and what is taken may be written; the places are borrowed
-        // mutably, so they lie apart from the rest.
-        let number = judged(unsafe {
-            sys::ptpm_clock_take(self.handle_mut(), port, octets, size, &say, of_owner, sent, room, taken.as_mut_ptr())
-        })?;
-        // SAFETY: the call has written what is taken, and as many places as that counts.
-        let taken: sys::ptpm_taken = unsafe { taken.assume_init() };
-        let messages = unsafe { outbox.messages(taken.count as usize) };
-        Ok(Taken { turn: Turn::of(number, messages), waiting: taken.waiting as usize, changed: taken.changed.into() })
+        // mutably, so they lie apart from the rest. The call writes them as it says.
+        unsafe {
+            Taken::by(outbox, |sent, room, taken| {
+                sys::ptpm_clock_take(self.handle_mut(), port, octets, size, &say, of_owner, sent, room, taken)
+            })
+        }
     }
 
     /// Carries out a SET or a COMMAND of the device's owner, as one of a manager with every right. It is for a command line of the

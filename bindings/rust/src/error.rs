@@ -66,7 +66,7 @@ errors! {
     TooManyPorts = PTPM_TOO_MANY_PORTS, "a clock has eight ports at most";
     GrandmasterDiffers = PTPM_GRANDMASTER_DIFFERS, "the clock is its own grandmaster, with another priority or quality";
     TooManyManagers = PTPM_TOO_MANY_MANAGERS, "a clock has sixteen managers at most";
-    ManagerTwice = PTPM_MANAGER_TWICE, "a manager is named twice";
+    ManagerTwice = PTPM_MANAGER_TWICE, "a manager is named twice, or nobody of an asker is its manager";
     ManagerIsEvery = PTPM_MANAGER_IS_EVERY, "the manager's identity is all ones, which means every clock";
     TargetIsEvery = PTPM_TARGET_IS_EVERY, "the managed clock's identity is all ones, which means every clock";
     SameClock = PTPM_SAME_CLOCK, "the managed clock has the manager's identity";
@@ -98,6 +98,12 @@ errors! {
     Unsaved = PTPM_UNSAVED, "something is not saved, and this comes only after a save";
     OtherImage = PTPM_OTHER_IMAGE, "not the latest image, or it counted; or the session was changed since";
     NoAsker = PTPM_NO_ASKER, "the handle holds no asker";
+    UnderWay = PTPM_UNDER_WAY, "a change of the device is under way, and this comes only after it";
+    NothingUnderWay = PTPM_NOTHING_UNDER_WAY, "no change of the device is under way";
+    NoJournal = PTPM_NO_JOURNAL, "the handle holds no journal";
+    NoRecord = PTPM_NO_RECORD, "a record has no such kind, outcome or ending, or too many octets";
+    NotAllowed = PTPM_NOT_ALLOWED, "no run makes this record here";
+    JournalWhole = PTPM_JOURNAL_WHOLE, "there is no further record";
     BadSay = PTPM_BAD_SAY, "what a device says is of no kind, has an error that no device gives, or gives what is no dataField";
 }
 

@@ -103,13 +103,14 @@ pub use observation::{ObservedClock, ObservedGrandmaster, ObservedPort};
 pub use outbox::{Messages, Outbox};
 pub use passing::{PassedOn, Rate};
 pub use refusals::{
-    AskError, AskerRestoreError, BeginError, GiveUpError, HandleError, ObserveError, ParseError, QuestionError, ReadError,
-    ReceiveError, ReportError, RestoreError, ResumeError, RetuneError, SaveError, SendError, SetError, StartError, SurveyError,
+    AskError, AskerRestoreError, BeginError, GiveUpError, HandleError, JournalError, ObserveError, ParseError, QuestionError,
+    ReadError, ReceiveError, ReportError, RestoreError, ResumeError, RetuneError, SaveError, SendError, SetError, StartError,
+    SurveyError,
 };
 #[cfg(feature = "alloc")]
 pub use report::Answer;
 pub use report::{Report, MOST_DATA, MOST_OCTETS};
-pub use saving_clock::{ImageToken, SavingClock};
+pub use saving_clock::{ImageToken, Saved, SavingClock};
 pub use saving_session::{SavingSession, UnsavedSession};
 pub use seal::{newest_image, seal, unseal, Sealed, SEAL_OCTETS};
 pub use session::{Action, Session, SessionSettings, SESSION_IMAGE_OCTETS};

@@ -34,7 +34,7 @@ mod block {
 
     /// What a clock takes that has this many managers, 0 to 16, and any ports.
     pub const fn clock_memory(managers: usize) -> usize {
-        528 + if managers > 0 { (managers * 2136 + 31) / 16 * 16 } else { 0 }
+        720 + if managers > 0 { (managers * 2136 + 31) / 16 * 16 } else { 0 }
     }
 
     /// The most that a session takes.

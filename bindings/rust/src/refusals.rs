@@ -61,9 +61,9 @@ refusals! {
         BadReceiptTimeout BadLogSync BadDelayMechanism BadLogMinPdelay
     }
     /// Why a datagram is not judged by a clock, or why a clock does not save (`enum ptpm_handled`).
-    HandleError { NoClock NoPort NoRoom NoMemory Unsaved BadSay }
+    HandleError { NoClock NoPort NoRoom NoMemory Unsaved BadSay UnderWay NothingUnderWay }
     /// Why a device is not asked (`enum ptpm_asking`).
-    QuestionError { NoClock NoPort }
+    QuestionError { NoClock NoPort Unsaved UnderWay }
     /// Why nothing is set at the device itself (`enum ptpm_set_here`).
     SetError { NoClock NoPort NotPermitted BadValue }
     /// Why nothing is observed (`enum ptpm_observed`).
@@ -94,11 +94,13 @@ refusals! {
     }
     /// Why an asker does not go on from an image (`enum ptpm_asker_restored`).
     AskerRestoreError {
-        NoMemory OtherSizes NoPorts TooManyPorts ManagerIsEvery TargetIsEvery SameClock TargetIsZero NotAnImage OtherVersion OtherKind Damaged
+        NoMemory OtherSizes NoPorts TooManyPorts ManagerTwice ManagerIsEvery TargetIsEvery SameClock TargetIsZero NotAnImage OtherVersion OtherKind Damaged
         OtherSession
     }
     /// Why a call of an asker is refused (`enum ptpm_asked`).
     AskError { NoRoom NoMemory Busy NeedsPort NotPermitted BadValue CountAtMaximum Idle OutOfReach NoAsker }
+    /// Why a call of a journal is refused (`enum ptpm_journaled`).
+    JournalError { NoRoom NoMemory OtherVersion Damaged NoJournal NoRecord NotAllowed JournalWhole }
     /// Why words are no dataField (`enum ptpm_parsed`).
     ParseError { NoRoom NotWords UnknownId WordCount OtherName NoValue }
 }

@@ -3,7 +3,7 @@
 use crate::changed::Changed;
 use crate::clock::{Clock, Ports, CLOCK_IMAGE_OCTETS, MOST_READ};
 use crate::device::{Asked, Say, Taken};
-use crate::error::{done, Error};
+use crate::error::{done, judged, Error};
 use crate::id::{ManagementErrorId, ManagementId};
 use crate::identity::Identity;
 use crate::memory::alone;
@@ -56,6 +56,15 @@ pub struct SavingClock {
 #[derive(Clone, Copy, Debug, PartialEq, Eq)]
 pub struct ImageToken(u64);
 
+/// What the host does once an image is saved.
+#[derive(Clone, Copy, Debug, PartialEq, Eq)]
+pub enum Saved {
+    /// Nothing more than to send what was released.
+    Saved,
+    /// It asks its device for the change that is under way ([`SavingClock::undertake`]).
+    ActNow,
+}
+
 impl SavingClock {
     /// This clock, in which this many messages may wait: [`Clock::most_sent`] or more, each with 1,476 octets. One that was just
     /// restored is saved. Any other is not: it takes no datagram before its first save.
@@ -74,7 +83,8 @@ impl SavingClock {
     /// # Errors
     ///
     /// Those of [`Clock::take`]. [`Error::Unsaved`]: the clock was never saved, or there is a next message to be taken first, or what
-    /// this makes would have no place ([`SavingClock::free`]). Nothing was judged.
+    /// this makes would have no place ([`SavingClock::free`]). [`Error::UnderWay`]: it comes only after the change that is under way
+    /// ([`SavingClock::undertake`]). Nothing was judged.
     pub fn take<'o>(&mut self, port: u16, datagram: &[u8], say: Say<'_>, outbox: &'o mut Outbox) -> Result<Taken<'o>, Error> {
         self.clock.take(port, datagram, say, outbox)
     }
@@ -94,6 +104,66 @@ impl SavingClock {
         self.clock.take_of_owner(port, datagram, say, outbox)
     }
 
+    /// Keeps a change as under way, so that the device is asked for it once, whatever happens to the power. A change is what
+    /// [`SavingClock::ask`] would ask of the device, by the clock as it is. It is in each image from now on. A save then says
+    /// [`Saved::ActNow`] once, and the host asks its device. What else a datagram asks is returned as by `ask`, and nothing is kept.
+    ///
+    /// ```
+    /// # use ptpm::{Clock, ClockSettings, Error, Manager, Outbox, PortSettings, Rights, SavingClock, Saved, Say, CLOCK_IMAGE_OCTETS};
+    /// # fn store(_image: &[u8]) {}
+    /// # fn write_to_device(_asked: &ptpm::Asked) -> Say<'static> { Say::Agrees }
+    /// # let settings = ClockSettings::new("aabbccfffeddee01".parse()?);
+    /// # let manager = Manager::new("0011223344556677/1".parse()?, Rights::ALL);
+    /// # let mut clock = SavingClock::new(Clock::start(&settings, &[PortSettings::new()], &[manager])?, 4)?;
+    /// # let (mut outbox, mut room) = (Outbox::boxed(), Box::new([0; CLOCK_IMAGE_OCTETS]));
+    /// # let (_, token) = clock.image(&mut room)?;
+    /// # clock.saved(token)?;
+    /// # let datagram = b"\x0d\x12\0\x38\0\0\0\0\0\0\0\0\0\0\0\0\0\0\0\0\x00\x11\x22\x33\x44\x55\x66\x77\0\x01\0\x07\x04\x7f\
+    /// #     \xaa\xbb\xcc\xff\xfe\xdd\xee\x01\xff\xff\x01\x01\x01\0\0\x01\0\x04\x20\x05\x64\0";
+    /// # assert!(clock.under_way().is_none());
+    /// if let Some(asked) = clock.undertake(1, datagram)? {
+    ///     let (image, token) = clock.image(&mut room)?;
+    ///     store(image);
+    ///     if clock.saved(token)? == Saved::ActNow {
+    ///         let said = write_to_device(&asked);
+    ///         let taken = clock.decide(said, &mut outbox)?; // its answer waits for the next save
+    /// #       assert_eq!(taken.waiting, 1);
+    ///     }
+    /// }
+    /// # assert_eq!(clock.decide(Say::Agrees, &mut outbox).map(|_| ()), Err(Error::NothingUnderWay));
+    /// # Ok::<(), Box<dyn std::error::Error>>(())
+    /// ```
+    ///
+    /// # Errors
+    ///
+    /// [`Error::NoPort`]. [`Error::Unsaved`]: the clock was never saved, or there is a next message to be taken first.
+    /// [`Error::UnderWay`]: it would be a second change. Nothing changes.
+    pub fn undertake(&mut self, port: u16, datagram: &[u8]) -> Result<Option<Asked>, Error> {
+        let (octets, size) = (datagram.as_ptr(), datagram.len());
+        // SAFETY: the datagram may be read, and the question may be written.
+        Asked::by(|question| unsafe { sys::ptpm_clock_undertake(self.clock.handle_mut(), port, octets, size, question) })
+    }
+
+    /// The change that is under way. After a restore of its image the device may have been asked. The host then looks whether it has the
+    /// change, and says so ([`SavingClock::decide`]).
+    pub fn under_way(&self) -> Option<Asked> {
+        // SAFETY: the question may be written.
+        Asked::by(|question| unsafe { sys::ptpm_clock_under_way(self.clock.handle_ref(), question) }).unwrap_or(None)
+    }
+
+    /// Does what [`SavingClock::take`] does with the datagram that is under way, at its port. Then nothing is under way, and its messages
+    /// wait for a save.
+    ///
+    /// # Errors
+    ///
+    /// [`Error::NothingUnderWay`], [`Error::BadSay`], and [`Error::Unsaved`] as of [`SavingClock::take`]. The change stays under way.
+    pub fn decide<'o>(&mut self, say: Say<'_>, outbox: &'o mut Outbox) -> Result<Taken<'o>, Error> {
+        let say = say.as_in_c();
+        // SAFETY: what is said may be read, and the places and what is taken may be written; the places are borrowed mutably, so they
+        // lie apart from the rest. The call writes them as it says.
+        unsafe { Taken::by(outbox, |sent, room, taken| sys::ptpm_clock_decide(self.clock.handle_mut(), &say, sent, room, taken)) }
+    }
+
     /// Makes the clock's image in the room that it is given. An earlier image can't be confirmed any more.
     ///
     /// # Errors
@@ -108,15 +178,17 @@ impl SavingClock {
     }
 
     /// Says once that a restart would find the latest image, whatever happens to the power. What waited when it was made can be had now
-    /// ([`SavingClock::next_message`]).
+    /// ([`SavingClock::next_message`]). It is [`Saved::ActNow`] if the image has a change that is still under way. Each change has this
+    /// once, and one that a restore found never.
     ///
     /// # Errors
     ///
     /// [`Error::OtherImage`]: it is not the latest image, or was said already. Or nothing was unsaved when it was made, and something
     /// was observed since. Nothing changes.
-    pub fn saved(&mut self, token: ImageToken) -> Result<(), Error> {
+    pub fn saved(&mut self, token: ImageToken) -> Result<Saved, Error> {
         // SAFETY: the handle holds a clock.
-        done(unsafe { sys::ptpm_clock_saved(self.clock.handle_mut(), token.0) })
+        let number = judged(unsafe { sys::ptpm_clock_saved(self.clock.handle_mut(), token.0) })?;
+        Ok(if number == sys::PTPM_ACT_NOW { Saved::ActNow } else { Saved::Saved })
     }
 
     /// The first message that no longer waits for a save: the port that it is to be sent at, and its octets. The host takes all of

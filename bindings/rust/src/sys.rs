@@ -66,6 +66,18 @@ pub const PTPM_GET: u8 = 0; pub const PTPM_SET: u8 = 1; pub const PTPM_COMMAND: 
 pub const PTPM_NOTHING: u32 = 0; pub const PTPM_NOTE_BEGUN: u32 = 1; pub const PTPM_SAVE_IT: u32 = 2;
 pub const PTPM_SEND_IT: u32 = 3; pub const PTPM_SEND_READ: u32 = 4; pub const PTPM_WAIT: u32 = 5;
 pub const PTPM_NOTE_ANSWER: u32 = 6; pub const PTPM_FAILED: u32 = 7;
+pub const PTPM_RECORD_HEAD: u32 = 1; pub const PTPM_RECORD_STEP: u32 = 2; pub const PTPM_RECORD_BEGUN: u32 = 3;
+pub const PTPM_RECORD_NOT_BEGUN: u32 = 4; pub const PTPM_RECORD_LET_GO: u32 = 5; pub const PTPM_RECORD_TOLD: u32 = 6;
+pub const PTPM_RECORD_POLICY: u32 = 7; pub const PTPM_RECORD_END: u32 = 8; pub const PTPM_RECORD_TEXT: u32 = 9;
+pub const PTPM_KEEPS_GOING: u32 = 1; pub const PTPM_IN_ONE_ROW: u32 = 2;
+pub const PTPM_STEP_DONE: u32 = 1; pub const PTPM_STEP_REFUSED: u32 = 2; pub const PTPM_STEP_ANSWERED: u32 = 3;
+pub const PTPM_END_COMPLETE: u32 = 1; pub const PTPM_END_REFUSED: u32 = 2; pub const PTPM_END_ANSWERED: u32 = 3;
+pub const PTPM_END_CHANGED: u32 = 4; pub const PTPM_END_GIVEN_UP: u32 = 5; pub const PTPM_END_ROLLED_BACK: u32 = 6;
+pub const PTPM_END_STOPPED: u32 = 7; pub const PTPM_END_IN_PART: u32 = 8;
+pub const PTPM_NO_STEP: u32 = 65535;
+pub const PTPM_MARK_UNTOUCHED: u32 = 0; pub const PTPM_MARK_BEGUN: u32 = 1; pub const PTPM_MARK_DONE: u32 = 2;
+pub const PTPM_MARK_REFUSED: u32 = 3; pub const PTPM_MARK_ANSWERED: u32 = 4; pub const PTPM_MARK_LET_GO: u32 = 5;
+pub const PTPM_MARK_NONE: u32 = 6;
 pub const PTPM_NOTHING_LEFT: u32 = 0; pub const PTPM_QUESTION_LEFT: u32 = 1; pub const PTPM_GET_LEFT: u32 = 2;
 pub const PTPM_CHANGE_LEFT: u32 = 3;
 pub const PTPM_STEP_NONE_LEFT: u32 = 0; pub const PTPM_STEP_UNDER_WAY: u32 = 1; pub const PTPM_STEP_NEVER_BEGUN: u32 = 2;
@@ -74,7 +86,8 @@ pub const PTPM_STEP_OF_ANOTHER: u32 = 6;
 pub const PTPM_NO_NUMBER: u32 = 65536;
 pub const PTPM_MOST_SENT: usize = 15; pub const PTPM_MOST_READ: usize = 130; pub const PTPM_MOST_OCTETS: usize = 1472;
 pub const PTPM_SESSION_IMAGE_OCTETS: usize = 1478;
-pub const PTPM_CLOCK_IMAGE_OCTETS: usize = 27185;
+pub const PTPM_CLOCK_IMAGE_OCTETS: usize = 27385;
+pub const PTPM_RECORD_OCTETS: u32 = 8221;
 pub const PTPM_SEAL_OCTETS: usize = 16;
 pub const PTPM_MOST_ANSWERS: usize = 512; pub const PTPM_SURVEY_PORT: u16 = 65534;
 pub const PTPM_SAVING: u32 = 0; pub const PTPM_OTHER_DOMAIN: u32 = 1; pub const PTPM_NOT_A_REPLY: u32 = 10;
@@ -84,10 +97,11 @@ pub const PTPM_BAD_VERSION: u32 = 18; pub const PTPM_BAD_LENGTH: u32 = 19; pub c
 pub const PTPM_BAD_TLV_TYPE: u32 = 21; pub const PTPM_BAD_TLV_LENGTH: u32 = 22; pub const PTPM_BAD_TEXT: u32 = 23;
 pub const PTPM_NO_CLOCK: u32 = 32; pub const PTPM_NO_PORT: u32 = 33; pub const PTPM_NO_ROOM: u32 = 34;
 pub const PTPM_NO_MEMORY: u32 = 35; pub const PTPM_NO_SESSION: u32 = 37; pub const PTPM_IDLE: u32 = 43;
-pub const PTPM_NO_SURVEY: u32 = 46; pub const PTPM_NO_ASKER: u32 = 120; pub const PTPM_OTHER_SIZES: u32 = 47;
-pub const PTPM_GRANDMASTER_DIFFERS: u32 = 50; pub const PTPM_TOO_MANY_MANAGERS: u32 = 51; pub const PTPM_MANAGER_TWICE: u32 = 52;
-pub const PTPM_IDENTITY_IS_ZERO: u32 = 56; pub const PTPM_UNSAVED: u32 = 118; pub const PTPM_BAD_CLOCK_ACCURACY: u32 = 70;
-pub const PTPM_BAD_LEAP59: u32 = 88; pub const PTPM_BAD_STATE: u32 = 94;
+pub const PTPM_NO_SURVEY: u32 = 46; pub const PTPM_NO_ASKER: u32 = 120; pub const PTPM_NO_JOURNAL: u32 = 126;
+pub const PTPM_OTHER_SIZES: u32 = 47; pub const PTPM_GRANDMASTER_DIFFERS: u32 = 50; pub const PTPM_TOO_MANY_MANAGERS: u32 = 51;
+pub const PTPM_MANAGER_TWICE: u32 = 52; pub const PTPM_IDENTITY_IS_ZERO: u32 = 56; pub const PTPM_UNSAVED: u32 = 118;
+pub const PTPM_UNDER_WAY: u32 = 123; pub const PTPM_BAD_CLOCK_ACCURACY: u32 = 70; pub const PTPM_BAD_LEAP59: u32 = 88;
+pub const PTPM_BAD_STATE: u32 = 94;
 pub type ptpm_started = u32; pub const PTPM_STARTED: u32 = 0; pub const PTPM_START_NO_MEMORY: u32 = 35;
 pub const PTPM_START_OTHER_SIZES: u32 = 47; pub const PTPM_NO_PORTS: u32 = 48; pub const PTPM_TOO_MANY_PORTS: u32 = 49;
 pub const PTPM_START_GRANDMASTER_DIFFERS: u32 = 50; pub const PTPM_START_TOO_MANY_MANAGERS: u32 = 51;
@@ -119,9 +133,10 @@ pub const PTPM_HANDLE_BAD_LENGTH: u32 = 19; pub const PTPM_HANDLE_BAD_ACTION: u3
 pub const PTPM_HANDLE_BAD_TLV_TYPE: u32 = 21; pub const PTPM_HANDLE_BAD_TLV_LENGTH: u32 = 22;
 pub const PTPM_HANDLE_BAD_TEXT: u32 = 23; pub const PTPM_HANDLE_NO_CLOCK: u32 = 32; pub const PTPM_HANDLE_NO_PORT: u32 = 33;
 pub const PTPM_HANDLE_NO_ROOM: u32 = 34; pub const PTPM_HANDLE_NO_MEMORY: u32 = 35; pub const PTPM_HANDLE_UNSAVED: u32 = 118;
-pub const PTPM_BAD_SAY: u32 = 121;
+pub const PTPM_BAD_SAY: u32 = 121; pub const PTPM_HANDLE_UNDER_WAY: u32 = 123; pub const PTPM_NOTHING_UNDER_WAY: u32 = 124;
 pub type ptpm_asking = u32; pub const PTPM_ASKED_NOTHING: u32 = 0; pub const PTPM_ASKED_CHANGE: u32 = 29;
 pub const PTPM_ASKED_VALUE: u32 = 30; pub const PTPM_ASKING_NO_CLOCK: u32 = 32; pub const PTPM_ASKING_NO_PORT: u32 = 33;
+pub const PTPM_ASKING_UNSAVED: u32 = 118; pub const PTPM_ASKING_UNDER_WAY: u32 = 123;
 pub type ptpm_set_here = u32; pub const PTPM_SET_HERE: u32 = 0; pub const PTPM_SET_REFUSED: u32 = 26;
 pub const PTPM_SET_NO_CLOCK: u32 = 32; pub const PTPM_SET_NO_PORT: u32 = 33; pub const PTPM_SET_NOT_PERMITTED: u32 = 40;
 pub const PTPM_SET_BAD_VALUE: u32 = 41;
@@ -163,8 +178,9 @@ pub const PTPM_SURVEY_NO_MEMORY: u32 = 35; pub const PTPM_SURVEY_NO_SURVEY: u32 
 pub type ptpm_reported = u32; pub const PTPM_VALUE: u32 = 0; pub const PTPM_DONE: u32 = 25; pub const PTPM_REFUSED: u32 = 26;
 pub const PTPM_REPORT_NO_ROOM: u32 = 34; pub const PTPM_REPORT_NO_SESSION: u32 = 37; pub const PTPM_NO_REPORT: u32 = 45;
 pub const PTPM_REPORT_NO_SURVEY: u32 = 46; pub const PTPM_REPORT_NO_ASKER: u32 = 120;
-pub type ptpm_saved = u32; pub const PTPM_SAVED: u32 = 0; pub const PTPM_SAVE_NO_CLOCK: u32 = 32;
-pub const PTPM_SAVE_NO_ROOM: u32 = 34; pub const PTPM_SAVE_NO_SESSION: u32 = 37; pub const PTPM_OTHER_IMAGE: u32 = 119;
+pub type ptpm_saved = u32; pub const PTPM_SAVED: u32 = 0; pub const PTPM_ACT_NOW: u32 = 31;
+pub const PTPM_SAVE_NO_CLOCK: u32 = 32; pub const PTPM_SAVE_NO_ROOM: u32 = 34; pub const PTPM_SAVE_NO_SESSION: u32 = 37;
+pub const PTPM_OTHER_IMAGE: u32 = 119;
 pub type ptpm_restored = u32; pub const PTPM_RESTORED: u32 = 0; pub const PTPM_RESTORE_NO_MEMORY: u32 = 35;
 pub const PTPM_RESTORE_TOO_MANY_MANAGERS: u32 = 51; pub const PTPM_RESTORE_MANAGER_TWICE: u32 = 52;
 pub const PTPM_RESTORE_IDENTITY_IS_ZERO: u32 = 56; pub const PTPM_NOT_AN_IMAGE: u32 = 104;
@@ -175,15 +191,19 @@ pub const PTPM_NOT_WORDS: u32 = 113; pub const PTPM_UNKNOWN_ID: u32 = 114; pub c
 pub const PTPM_OTHER_NAME: u32 = 116; pub const PTPM_NO_VALUE: u32 = 117;
 pub type ptpm_asker_restored = u32; pub const PTPM_ASKER_RESTORED: u32 = 0; pub const PTPM_ASKER_RESTORE_NO_MEMORY: u32 = 35;
 pub const PTPM_ASKER_RESTORE_NO_PORTS: u32 = 48; pub const PTPM_ASKER_RESTORE_TOO_MANY_PORTS: u32 = 49;
-pub const PTPM_ASKER_RESTORE_MANAGER_IS_EVERY: u32 = 53; pub const PTPM_ASKER_RESTORE_TARGET_IS_EVERY: u32 = 54;
-pub const PTPM_ASKER_RESTORE_SAME_CLOCK: u32 = 55; pub const PTPM_ASKER_RESTORE_TARGET_IS_ZERO: u32 = 57;
-pub const PTPM_ASKER_RESTORE_NOT_AN_IMAGE: u32 = 104; pub const PTPM_ASKER_RESTORE_OTHER_VERSION: u32 = 105;
-pub const PTPM_ASKER_RESTORE_OTHER_KIND: u32 = 106; pub const PTPM_ASKER_RESTORE_DAMAGED: u32 = 107;
-pub const PTPM_ASKER_RESTORE_OTHER_SESSION: u32 = 110;
+pub const PTPM_ASKER_RESTORE_MANAGER_TWICE: u32 = 52; pub const PTPM_ASKER_RESTORE_MANAGER_IS_EVERY: u32 = 53;
+pub const PTPM_ASKER_RESTORE_TARGET_IS_EVERY: u32 = 54; pub const PTPM_ASKER_RESTORE_SAME_CLOCK: u32 = 55;
+pub const PTPM_ASKER_RESTORE_TARGET_IS_ZERO: u32 = 57; pub const PTPM_ASKER_RESTORE_NOT_AN_IMAGE: u32 = 104;
+pub const PTPM_ASKER_RESTORE_OTHER_VERSION: u32 = 105; pub const PTPM_ASKER_RESTORE_OTHER_KIND: u32 = 106;
+pub const PTPM_ASKER_RESTORE_DAMAGED: u32 = 107; pub const PTPM_ASKER_RESTORE_OTHER_SESSION: u32 = 110;
 pub type ptpm_asked = u32; pub const PTPM_ASKED: u32 = 0; pub const PTPM_ASK_NO_ROOM: u32 = 34;
 pub const PTPM_ASK_NO_MEMORY: u32 = 35; pub const PTPM_ASK_BUSY: u32 = 38; pub const PTPM_ASK_NEEDS_PORT: u32 = 39;
 pub const PTPM_ASK_NOT_PERMITTED: u32 = 40; pub const PTPM_ASK_BAD_VALUE: u32 = 41; pub const PTPM_ASK_COUNT_AT_MAXIMUM: u32 = 42;
 pub const PTPM_ASK_IDLE: u32 = 43; pub const PTPM_ASK_OUT_OF_REACH: u32 = 112; pub const PTPM_ASK_NO_ASKER: u32 = 120;
+pub type ptpm_journaled = u32; pub const PTPM_JOURNALED: u32 = 0; pub const PTPM_JOURNAL_NO_ROOM: u32 = 34;
+pub const PTPM_JOURNAL_NO_MEMORY: u32 = 35; pub const PTPM_JOURNAL_OTHER_VERSION: u32 = 105;
+pub const PTPM_JOURNAL_DAMAGED: u32 = 107; pub const PTPM_JOURNAL_NO_JOURNAL: u32 = 126; pub const PTPM_NO_RECORD: u32 = 127;
+pub const PTPM_NOT_ALLOWED: u32 = 128; pub const PTPM_JOURNAL_WHOLE: u32 = 129;
 pub const PTPM_NO_ID: u32 = 65536; pub const PTPM_MOST_NAME: usize = 27;
 pub const PTPM_PORT_STATES: u32 = 1; pub const PTPM_DELAY_MECHANISMS: u32 = 2; pub const PTPM_TIME_SOURCES: u32 = 3;
 pub const PTPM_MOST_FIELD_TEXT: usize = 5034;
@@ -255,6 +275,12 @@ pub struct ptpm_asker_settings { pub session: ptpm_session_settings, pub nobody:
 #[repr(C)] #[derive(Clone, Copy)]
 pub struct ptpm_handed { pub tag: u64, pub time: u64, pub what: u32, pub number: u16, pub was_sent: bool,
         pub is_read_answered: bool }
+#[repr(C)]
+pub struct ptpm_journal { pub at: *mut c_void, pub live: bool, pub restored: bool }
+#[repr(C)] #[derive(Clone, Copy)]
+pub struct ptpm_journal_record { pub time: u64, pub first: u32, pub second: u32, pub first_size: u16, pub second_size: u16,
+        pub count: u16, pub port: u16, pub id: u16, pub step: u16, pub number: u16, pub error: u16, pub clock: [u8; 8],
+        pub kind: u8, pub flags: u8, pub together: u8, pub domain: u8, pub group: u8, pub what: u8, pub zero: [u8; 2] }
 #[repr(C)] #[derive(Clone, Copy)]
 pub struct ptpm_source { pub clock: [u8; 8], pub port: u16 }
 #[repr(C)] #[derive(Clone, Copy)]
@@ -311,6 +337,11 @@ extern "C" {
         asked: *mut ptpm_question) -> ptpm_asking;
     pub fn ptpm_clock_take(clock: *mut ptpm_clock, port: u16, datagram: *const u8, size: usize, say: *const ptpm_say,
         of_owner: u8, sent: *mut ptpm_sent, room: usize, taken: *mut ptpm_taken) -> ptpm_handled;
+    pub fn ptpm_clock_undertake(clock: *mut ptpm_clock, port: u16, datagram: *const u8, size: usize,
+        asked: *mut ptpm_question) -> ptpm_asking;
+    pub fn ptpm_clock_under_way(clock: *const ptpm_clock, asked: *mut ptpm_question) -> ptpm_asking;
+    pub fn ptpm_clock_decide(clock: *mut ptpm_clock, say: *const ptpm_say, sent: *mut ptpm_sent, room: usize,
+        taken: *mut ptpm_taken) -> ptpm_handled;
     pub fn ptpm_limit_range(limit: *mut ptpm_limit, least: i32, most: i32);
     pub fn ptpm_limits_say(limits: *const ptpm_limit, limit_count: usize, asked: *const ptpm_question) -> u16;
     pub fn ptpm_clock_set(clock: *mut ptpm_clock, action: u8, id: u16, port: u16, octets: *const u8, size: usize,
@@ -320,6 +351,8 @@ extern "C" {
     pub fn ptpm_clock_read(clock: *const ptpm_clock, id: u16, port: u16, octets: *mut u8, room: usize,
         size: *mut usize) -> ptpm_read;
     pub fn ptpm_clock_image(clock: *const ptpm_clock, octets: *mut u8, room: usize, size: *mut usize) -> ptpm_saved;
+    pub fn ptpm_clock_transit(clock: *const ptpm_clock, port: u16, datagram: *const u8, size: usize, sent: *mut ptpm_sent,
+        room: usize) -> usize;
     pub fn ptpm_clock_saving(clock: *mut ptpm_clock, places: usize) -> ptpm_handled;
     pub fn ptpm_clock_image_of(clock: *mut ptpm_clock, octets: *mut u8, room: usize, size: *mut usize,
         token: *mut u64) -> ptpm_saved;
@@ -380,6 +413,14 @@ extern "C" {
     pub fn ptpm_asker_report(asker: *const ptpm_asker, octets: *mut u8, room: usize, size: *mut usize,
         error: *mut u16) -> ptpm_reported;
     pub fn ptpm_asker_stop(asker: *mut ptpm_asker);
+    pub fn ptpm_journal_start(journal: *mut ptpm_journal) -> ptpm_journaled;
+    pub fn ptpm_journal_add(journal: *mut ptpm_journal, record: *const ptpm_journal_record, first: *const u8, first_size: usize,
+        second: *const u8, second_size: usize, octets: *mut u8, room: usize, size: *mut usize) -> ptpm_journaled;
+    pub fn ptpm_journal_next(journal: *mut ptpm_journal, octets: *const u8, octet_count: usize, record: *mut ptpm_journal_record,
+        size: *mut usize) -> ptpm_journaled;
+    pub fn ptpm_journal_mark(journal: *const ptpm_journal, step: u16) -> u32;
+    pub fn ptpm_journal_next_step(journal: *const ptpm_journal) -> u16;
+    pub fn ptpm_journal_stop(journal: *mut ptpm_journal);
     pub fn ptpm_step_standing(begun: u32, id: u16, port: u16, octets: *const u8, size: usize, told: u32, image: *const u8,
         image_size: usize) -> u32;
     pub fn ptpm_image_seal_in(octets: *mut u8, room: usize, size: usize, count: u64, sealed: *mut usize) -> ptpm_saved;
@@ -409,11 +450,11 @@ extern "C" {
     pub fn ptpm_field_takes(id: u16, place: usize, text: *mut c_char, room: usize) -> usize;
 }
 
-const SIZES: [usize; 22] = [
+const SIZES: [usize; 24] = [
     size_of::<ptpm_clock>(), size_of::<ptpm_clock_settings>(), size_of::<ptpm_port_settings>(), size_of::<ptpm_observed_clock>(),
     size_of::<ptpm_observed_port>(), size_of::<ptpm_manager_settings>(), size_of::<ptpm_sent>(), size_of::<ptpm_changed>(),
     size_of::<ptpm_session>(), size_of::<ptpm_session_settings>(), size_of::<ptpm_survey>(), size_of::<ptpm_survey_settings>(),
     size_of::<ptpm_source>(), size_of::<ptpm_passed_on>(), size_of::<ptpm_rate>(), size_of::<ptpm_asker>(),
     size_of::<ptpm_asker_settings>(), size_of::<ptpm_handed>(), size_of::<ptpm_question>(), size_of::<ptpm_say>(),
-    size_of::<ptpm_limit>(), size_of::<ptpm_taken>()
+    size_of::<ptpm_limit>(), size_of::<ptpm_taken>(), size_of::<ptpm_journal>(), size_of::<ptpm_journal_record>()
 ];

@@ -2,6 +2,7 @@
 use Rattle.std.proofs.Common.{rules, ◌≡◌, ◌≤◌, ◌+◌, ℕ, All, List, ap, arith, drop, length, refl, subst, sym, take}
 use Rattle.std.specs.List.{AllZip}
 use Rattle.ptpm_host.specs.declared.sent.Sent.{Sent}
+use Rattle.ptpm_host.specs.Blanks.{AreBlanked}
 use Rattle.ptpm_host.specs.Clock.{IsWhole, KeepsBehind}
 use Rattle.ptpm_host.specs.OutboxLaws.{kept_by_none}
 use Rattle.ptpm_c.specs.declared.device.Taken.{Taken}
@@ -23,6 +24,23 @@ placed taken before after none within whole places behind =
       places = subst (λ (n : ℕ). drop n after ≡ drop n before) same places;
       behind = λ zero. behind;
       blanked = λ some. absurd (some none);
+    }
+
+-- no message at once, and as many blank places as messages wait
+pub blanked_places : (taken : Taken) (before after : List Sent)
+    → taken.count ≡ 0
+    → AreBlanked taken.waiting before after
+    → ArePlaced taken before after
+blanked_places taken before after none blanked =
+    let same : taken.waiting ≡ taken.count + taken.waiting = omega (arith, none) in
+    record {
+      within = omega (arith, none);
+      whole = subst (λ (n : ℕ). All IsWhole (take n after)) (sym none) (search rules);
+      places = subst (λ (n : ℕ). drop n after ≡ drop n before) same blanked.others;
+      behind = λ zero.
+          let all : after ≡ before = subst (λ (n : ℕ). drop n after ≡ drop n before) zero blanked.others in
+          subst (λ (a : List Sent). AllZip KeepsBehind before a) (sym all) (kept_by_none before);
+      blanked = λ some. (none, blanked);
     }
 
 placed_none : (places : List Sent) → ArePlaced nothing_taken places places

@@ -12,3 +12,4 @@ pub mod Typed
 pub mod Said
 pub mod Batching
 pub mod Changing
+pub mod JournalHeld

@@ -12,9 +12,10 @@ use ptpm_host::{
     ObservedPort, PassedOn, PortSettings, Question, Rate, Say, Sent, SessionSettings, Source,
     SurveySettings, VERSION_NUMBER,
 };
+use ptpm_journal::PlainRecord;
 
 /// The sizes of the structs of the header, in its order.
-const SIZES: [usize; 22] = [
+const SIZES: [usize; 24] = [
     size_of::<Handle>(),
     size_of::<ClockSettings>(),
     size_of::<PortSettings>(),
@@ -37,6 +38,8 @@ const SIZES: [usize; 22] = [
     size_of::<Say>(),
     size_of::<Limit>(),
     size_of::<Taken>(),
+    size_of::<Handle>(),
+    size_of::<PlainRecord>(),
 ];
 
 /// The version of this library, as a number.

@@ -1,21 +1,20 @@
 //! The calls of an asker for hosts in C, each one of `ptpm_host`.
 
-ghost use Rattle.std.specs.Prelude.{◌≡◌, ◌≢◌, ◌≤◌, ◌<◌, ◌⊎◌, ◌++◌, false, true, IfNone, IfSome, IsSomeAnd, None, Some, drop, length, take};
-ghost use Rattle.ptpm_manager.specs.declared.error.BeginError.{BeginError};
+ghost use Rattle.std.specs.Prelude.{◌≡◌, ◌≢◌, ◌≤◌, ◌<◌, ◌⊎◌, ◌++◌, false, true, IfNone, IfSome, IsSome, IsSomeAnd, None, Some, drop, length, take};
 ghost use Rattle.ptpm_manager.specs.declared.error.GiveUpRefusal.{GiveUpRefusal};
 ghost use Rattle.ptpm_manager.specs.declared.report.Outcome.{Outcome};
 ghost use Rattle.ptpm_manager.specs.Image.{session_image};
 ghost use Rattle.ptpm_manager.specs.ImageReading.{session_at};
 ghost use Rattle.ptpm_manager.specs.Receiving.{NeedsMemory, received_of};
+ghost use Rattle.ptpm_asker.specs.declared.stage.Stage.{Stage};
 ghost use Rattle.ptpm_asker.specs.Asker.{opened, opened_new};
-ghost use Rattle.ptpm_asker.specs.Turns.{asks, asks_refusal, can_settle, hears, lets_go, lets_go_refusal, noted, saved, settles, settling_domain, unsents, wakes};
+ghost use Rattle.ptpm_asker.specs.Turns.{asks, asks_refusal, begins_waking, can_settle, hears, lets_go, lets_go_refusal, noted, noted_refusal, saved, settles, settling_domain, unsents, wakes};
 ghost use Rattle.ptpm_host.specs.declared.asker.HostedAsker.{HostedAsker};
 ghost use Rattle.ptpm_host.specs.declared.refusal.ReportRefusal.{ReportRefusal};
 ghost use Rattle.ptpm_host.specs.declared.refusal.SessionRefusal.{SessionRefusal};
-ghost use Rattle.ptpm_host.specs.Asker.{HasTurned, HasTurnedWith, IsAskerAt, asker_settings, earlier_number, handed, restore_asker_refusal, told_refusal, wanted_of};
+ghost use Rattle.ptpm_host.specs.Asker.{HasTurned, HasTurnedWith, IsAskerAt, asker_refusal, asker_settings, earlier_number, handed, restore_asker_refusal, told_refusal, wanted_of};
 ghost use Rattle.ptpm_host.specs.Numbers.{asker_number, begin_number, give_up_number, no_asker, no_memory, no_room, outcome_number, report_number, session_number};
 ghost use Rattle.ptpm_host.specs.ReportedOutcome.{outcome_octets, reported_error, reported_of};
-ghost use Rattle.ptpm_host.specs.SessionSettings.{session_refusal};
 ghost use Rattle.ptpm_c.specs.declared.kept.Hosted.TheVariants.{Nothing};
 ghost use Rattle.ptpm_c.specs.Held.{FindsNoAsker, HandsOutNothing, asker_held, held};
 ghost use Rattle.ptpm_c.specs.Numbered.{IsNumberedBy};
@@ -45,9 +44,9 @@ pub extern "C" fn ptpm_asker_start(
     ensures refused { IfNone (asker_held handle.new.keeping)
         ((1 ≤ result) × (held handle.new.keeping ≡ Nothing)) }
     ensures number { (e : SessionRefusal)
-        → session_refusal settings.now.session ≡ Some e
+        → asker_refusal settings.now ≡ Some e
         → result ≡ session_number e }
-    ensures memory { session_refusal settings.now.session ≡ None → result ≢ 0 → result ≡ no_memory }
+    ensures memory { asker_refusal settings.now ≡ None → result ≢ 0 → result ≡ no_memory }
 {
     handle.end(alloc);
     let asker = match HostedAsker::start(alloc, settings, *drawn) {
@@ -240,8 +239,8 @@ pub extern "C" fn ptpm_asker_hear(handle: &mut Handle, datagram: &[u8], out: &mu
     }
 }
 
-/// Time has come, in milliseconds: 0, or the number of the refusal. Earlier than the time that was handed out, nothing is to be
-/// done.
+/// Time has come, in milliseconds: 0. Earlier than the time that was handed out, nothing is to be done. Only memory for a question or
+/// a read by nobody is ever refused.
 #[unsafe(no_mangle)]
 pub extern "C" fn ptpm_asker_wake(handle: &mut Handle, now: u64, out: &mut Handed) -> u32
     ensures turned { (s : HostedAsker)
@@ -249,10 +248,10 @@ pub extern "C" fn ptpm_asker_wake(handle: &mut Handle, now: u64, out: &mut Hande
         → result ≡ 0
         → IsSomeAnd (asker_held handle.new.keeping)
         (λ t. HasTurnedWith s (wakes s.asker now) out.new t) }
-    ensures number { (s : HostedAsker)
+    ensures memory { (s : HostedAsker)
         → asker_held handle.old.keeping ≡ Some s
         → result ≢ 0
-        → (e : BeginError) × (result ≡ begin_number e) }
+        → (result ≡ no_memory) × (begins_waking s.asker now ≡ true) }
     ensures unchanged { (s : HostedAsker)
         → asker_held handle.old.keeping ≡ Some s
         → result ≢ 0
@@ -267,7 +266,7 @@ pub extern "C" fn ptpm_asker_wake(handle: &mut Handle, now: u64, out: &mut Hande
             *out = handed;
             0
         }
-        Err(refusal) => begin_number(refusal),
+        Err(_) => NO_MEMORY,
     }
 }
 
@@ -306,6 +305,7 @@ pub extern "C" fn ptpm_asker_saved(handle: &mut Handle, now: u64, out: &mut Hand
 }
 
 /// What was handed out to be noted is written: 0, or the number of the refusal.
+#[tactic(auto, using(crate::proofs::Numbers::memory_of_refusal))]
 #[unsafe(no_mangle)]
 pub extern "C" fn ptpm_asker_noted(handle: &mut Handle, out: &mut Handed) -> u32
     ensures turned { (s : HostedAsker)
@@ -315,8 +315,11 @@ pub extern "C" fn ptpm_asker_noted(handle: &mut Handle, out: &mut Handed) -> u32
         (λ t. HasTurned s (noted s.asker) out.new t) }
     ensures number { (s : HostedAsker)
         → asker_held handle.old.keeping ≡ Some s
+        → IsNumberedBy begin_number (noted_refusal s.asker) result }
+    ensures begins { (s : HostedAsker)
+        → asker_held handle.old.keeping ≡ Some s
         → result ≢ 0
-        → (e : BeginError) × (result ≡ begin_number e) }
+        → (s.asker.stage ≡ Stage.Noting) × IsSome s.asker.wanted }
     ensures unchanged { (s : HostedAsker)
         → asker_held handle.old.keeping ≡ Some s
         → result ≢ 0

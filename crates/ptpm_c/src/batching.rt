@@ -10,7 +10,7 @@ ghost use Rattle.ptpm_host.specs.Clock.{IsWhole, KeepsBehind, state_in};
 ghost use Rattle.ptpm_host.specs.MostSent.{most_sent};
 ghost use Rattle.ptpm_host.specs.Numbers.{no_clock, no_memory, no_room, saved_number, verdict_number};
 ghost use Rattle.ptpm_host.specs.SavingClock.{free_places, is_unsaved};
-ghost use Rattle.ptpm_c.specs.Batching.{BeginsSaved, GivesMessage, IsSaved, MakesImage, RefusesCall, RefusesImage, ReportsCall, TakesCall};
+ghost use Rattle.ptpm_c.specs.Batching.{BeginsSaved, DecidesCall, GivesMessage, IsSaved, MakesImage, RefusesCall, RefusesDecision, RefusesImage, ReportsCall, TakesCall, done_number};
 ghost use Rattle.ptpm_c.specs.Held.{any_clock_held, clock_held, clock_of, held, saving_clock_held, saving_clock_of};
 ghost use Rattle.ptpm_c.specs.Said.{ArePlaced};
 
@@ -18,8 +18,8 @@ use crate::device::Taken;
 use crate::handle::{Handle, held};
 use crate::kept::Hosted;
 use ptpm_host::{
-    HostedClock, NO_CLOCK, NO_MEMORY, NO_ROOM, SavingClock, SavingRefusal, Say, Sent, saved_number,
-    take_number, verdict_number,
+    ACT_NOW, HostedClock, NO_CLOCK, NO_MEMORY, NO_ROOM, Saved, SavingClock, SavingRefusal, Say,
+    Sent, decide_number, saved_number, take_number, verdict_number,
 };
 use std::alloc::Global;
 use std::mem;
@@ -142,6 +142,32 @@ pub(crate) fn hand_in(
     }
 }
 
+/// What becomes of what is under way at such a clock.
+pub(crate) fn decide(
+    clock: &mut SavingClock,
+    say: &Say,
+    sent: &mut [Sent],
+    taken: &mut Taken,
+) -> u32
+    ensures decided { DecidesCall clock.old say.now sent.old result taken.new (Some clock.new) }
+    ensures refused { RefusesDecision clock.old say.now sent.old result taken.new sent.new
+        (Some clock.new) }
+    ensures places { ArePlaced taken.new sent.old sent.new }
+{
+    *taken = Taken::nothing();
+    match clock.decide(say, sent) {
+        Ok(outcome) => {
+            *taken = Taken {
+                count: outcome.count as u64,
+                waiting: outcome.waiting as u64,
+                changed: outcome.changed,
+            };
+            verdict_number(outcome.verdict)
+        }
+        Err(refusal) => decide_number(refusal),
+    }
+}
+
 /// Does what `ptpm_clock_image` does, for such a clock. Also leaves in `token` how many images were made of it; 0 if it is refused.
 /// No earlier image can be said to be saved then. Takes no memory.
 #[unsafe(no_mangle)]
@@ -193,14 +219,14 @@ fn make_image(clock: &mut SavingClock, octets: &mut [u8], size: &mut usize, toke
     }
 }
 
-/// Takes the host's word that a restart would find the image of this token: 0. What waited for it is released. Otherwise it answers
-/// the number of the refusal, and nothing changes. Takes no memory.
+/// Takes the host's word that a restart would find the image of this token. What waited for it is released. Answers 0, or that the host
+/// asks its device now for what is under way. Otherwise it answers the number of the refusal, and nothing changes. Takes no memory.
 #[unsafe(no_mangle)]
 pub extern "C" fn ptpm_clock_saved(handle: &mut Handle, token: u64) -> u32
     ensures saved { (w : SavingClock)
         → saving_clock_held handle.old.keeping ≡ Some w
         → (w.is_imaged && token == w.images) ≡ true
-        → (result ≡ 0) × IsSomeAnd (saving_clock_held handle.new.keeping) (IsSaved w) }
+        → IsSomeAnd (saving_clock_held handle.new.keeping) (IsSaved w result) }
     ensures other { (w : SavingClock)
         → saving_clock_held handle.old.keeping ≡ Some w
         → (w.is_imaged && token == w.images) ≡ false
@@ -211,8 +237,18 @@ pub extern "C" fn ptpm_clock_saved(handle: &mut Handle, token: u64) -> u32
 {
     held!(handle, Hosted::SavingClock(clock), NO_CLOCK);
     match clock.saved(token) {
-        Ok(()) => 0,
+        Ok(done) => done_number(done),
         Err(refusal) => saved_number(refusal),
+    }
+}
+
+/// Answers 0, or that the host asks its device now.
+fn done_number(done: Saved) -> u32
+    ensures { result ≡ done_number done }
+{
+    match done {
+        Saved::Saved => 0,
+        Saved::ActNow => ACT_NOW,
     }
 }
 

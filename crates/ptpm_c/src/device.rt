@@ -10,18 +10,19 @@ ghost use Rattle.ptpm_host.specs.Clock.{clock_in, state_in};
 ghost use Rattle.ptpm_agent.specs.Turn.{NumberedRequest};
 ghost use Rattle.ptpm_host.specs.Device.{Answers, AsksNothing};
 ghost use Rattle.ptpm_host.specs.Numbers.{handle_number, no_clock, verdict_number};
-ghost use Rattle.ptpm_host.specs.SavingClock.{state_asked};
-ghost use Rattle.ptpm_c.specs.Batching.{RefusesCall, ReportsCall, TakesCall};
+ghost use Rattle.ptpm_host.specs.SavingClock.{request_under_way, state_asked};
+ghost use Rattle.ptpm_host.specs.UnderWay.{AnswersAsked, asked_of};
+ghost use Rattle.ptpm_c.specs.Batching.{DecidesCall, RefusesCall, RefusesDecision, RefusesUndertaking, ReportsCall, TakesCall, UndertakesCall};
 ghost use Rattle.ptpm_c.specs.Held.{any_clock_held, clock_held, held, saving_clock_held};
 ghost use Rattle.ptpm_c.specs.Said.{ArePlaced, AsksBy, AsksIn, RefusesSaid, ReportsSaid, TakesSaid, nothing_taken};
 
 use crate::batching;
-use crate::handle::Handle;
+use crate::handle::{Handle, held};
 use crate::kept::Hosted;
 use ptpm_data::ChangedMembers;
 use ptpm_host::{
-    ASKED_CHANGE, ASKED_VALUE, Asking, HandleRefusal, HostedClock, NO_CLOCK, Question, Say, Sent,
-    handle_number, said_number, verdict_number,
+    ASKED_CHANGE, ASKED_VALUE, Asking, HandleRefusal, HostedClock, NO_CLOCK, Question, SavingClock,
+    Say, Sent, handle_number, said_number, undertake_number, verdict_number,
 };
 
 /// What came of a datagram, as C has it.
@@ -88,24 +89,142 @@ pub extern "C" fn ptpm_clock_ask(
     }
 }
 
+/// Does what `ptpm_clock_ask` does, of a clock that is saved while it takes datagrams, and by the clock as it is. A change is under way
+/// from now on, and the clock is unsaved. Takes no memory.
+#[unsafe(no_mangle)]
+pub extern "C" fn ptpm_clock_undertake(
+    handle: &mut Handle,
+    port: u16,
+    datagram: &[u8],
+    asked: &mut Question,
+) -> u32
+    ensures undertaken { (w : SavingClock)
+        → saving_clock_held handle.old.keeping ≡ Some w
+        → UndertakesCall w port datagram.now result asked.new
+        (saving_clock_held handle.new.keeping) }
+    ensures refused { (w : SavingClock)
+        → saving_clock_held handle.old.keeping ≡ Some w
+        → RefusesUndertaking w port datagram.now result asked.new
+        (saving_clock_held handle.new.keeping) }
+    ensures empty { saving_clock_held handle.old.keeping ≡ None
+        → (result ≡ no_clock)
+        × (AsksNothing asked.new × (held handle.new.keeping ≡ held handle.old.keeping)) }
+    ensures restored { handle.new.restored ≡ handle.old.restored }
+{
+    *asked = Question::nothing();
+    held!(handle, Hosted::SavingClock(clock), NO_CLOCK);
+    undertake(clock, port, datagram, asked)
+}
+
+/// The number of what the device is to be asked, which `asked` gets; or that of the refusal.
+fn undertake(clock: &mut SavingClock, port: u16, datagram: &[u8], asked: &mut Question) -> u32
+    ensures undertaken { UndertakesCall clock.old port datagram.now result asked.new (Some clock.new) }
+    ensures refused { RefusesUndertaking clock.old port datagram.now result asked.new
+        (Some clock.new) }
+{
+    match clock.undertake(port, datagram) {
+        Ok(asking) => say_asking(asking, asked),
+        Err(refusal) => {
+            *asked = Question::nothing();
+            undertake_number(refusal)
+        }
+    }
+}
+
+/// Says which change is under way at a clock of either kind: the number of a change, or 0 for none. Nothing changes. Takes no memory.
+#[unsafe(no_mangle)]
+pub extern "C" fn ptpm_clock_under_way(handle: &mut Handle, asked: &mut Question) -> u32
+    ensures kept { held handle.new.keeping ≡ held handle.old.keeping }
+    ensures restored { handle.new.restored ≡ handle.old.restored }
+    ensures asks { (c : HostedClock)
+        → any_clock_held handle.old.keeping ≡ Some c
+        → AsksIn (asked_of (request_under_way c.under_way)) None result asked.new }
+    ensures empty { any_clock_held handle.old.keeping ≡ None
+        → (result ≡ no_clock) × AsksNothing asked.new }
+{
+    *asked = Question::nothing();
+    let Some(hosted) = handle.hosted() else {
+        return NO_CLOCK;
+    };
+    let Some(clock) = hosted.clock() else {
+        return NO_CLOCK;
+    };
+    tell_under_way(clock.under_way(), asked)
+}
+
+/// The number of a change, which `asked` gets; or 0 if there is none.
+fn tell_under_way(change: Option<Question>, asked: &mut Question) -> u32
+    ensures { (r : Option NumberedRequest) → AnswersAsked r change → AsksIn r None result asked.new }
+{
+    *asked = Question::nothing();
+    match change {
+        Some(change) => {
+            *asked = change;
+            ASKED_CHANGE
+        }
+        None => 0,
+    }
+}
+
+/// Does what `ptpm_clock_take` does with the datagram that is under way, at its port, with what the device says of it. Nothing is under
+/// way then, and its messages wait. Takes no memory.
+#[unsafe(no_mangle)]
+pub extern "C" fn ptpm_clock_decide(
+    handle: &mut Handle,
+    say: &Say,
+    sent: &mut [Sent],
+    taken: &mut Taken,
+) -> u32
+    ensures decided { (w : SavingClock)
+        → saving_clock_held handle.old.keeping ≡ Some w
+        → DecidesCall w say.now sent.old result taken.new (saving_clock_held handle.new.keeping) }
+    ensures refused { (w : SavingClock)
+        → saving_clock_held handle.old.keeping ≡ Some w
+        → RefusesDecision w say.now sent.old result taken.new sent.new
+        (saving_clock_held handle.new.keeping) }
+    ensures places { ArePlaced taken.new sent.old sent.new }
+    ensures empty { saving_clock_held handle.old.keeping ≡ None
+        → (result ≡ no_clock)
+        × ((taken.new ≡ nothing_taken)
+        × ((sent.new ≡ sent.old) × (held handle.new.keeping ≡ held handle.old.keeping))) }
+    ensures restored { handle.new.restored ≡ handle.old.restored }
+{
+    *taken = Taken::nothing();
+    held!(handle, Hosted::SavingClock(clock), NO_CLOCK);
+    batching::decide(clock, say, sent, taken)
+}
+
 /// The number of what the device is asked, which `asked` gets; or that of the refusal.
 fn tell(asking: Result<Asking, HandleRefusal>, asked: &mut Question) -> u32
     ensures { (change value : Option NumberedRequest) → MatchResult asking
         (λ a. Answers change value a → AsksIn change value result asked.new)
         (λ e. (result ≡ handle_number e) × AsksNothing asked.new) }
 {
+    match asking {
+        Ok(asking) => say_asking(asking, asked),
+        Err(refusal) => {
+            *asked = Question::nothing();
+            handle_number(refusal)
+        }
+    }
+}
+
+/// The number of what the device is asked, which `asked` gets.
+fn say_asking(asking: Asking, asked: &mut Question) -> u32
+    ensures { (change value : Option NumberedRequest) → Answers change value asking
+        → AsksIn change value result asked.new }
+{
     *asked = Question::nothing();
     match asking {
-        Ok(Asking::Change(change)) => {
+        Asking::Change(change) => {
             *asked = change;
             ASKED_CHANGE
         }
-        Ok(Asking::Value(get)) => {
+        Asking::Value(get) => {
             *asked = get;
             ASKED_VALUE
         }
-        Ok(Asking::Nothing) => 0,
-        Err(refusal) => handle_number(refusal),
+        Asking::Nothing => 0,
     }
 }
 

@@ -4,6 +4,7 @@ ghost use Rattle.std.specs.Prelude.{◌≡◌};
 
 use ptpm_data::DataSets;
 use ptpm_host::{HostedAsker, HostedClock, HostedSession, HostedSurvey, SavingClock};
+use ptpm_journal::Journal;
 use std::mem::ManuallyDrop;
 
 /// One of the things that a handle can hold, each in a block of its own.
@@ -17,6 +18,7 @@ pub enum Hosted {
     /// A clock that is saved while it takes datagrams.
     SavingClock(Box<SavingClock>),
     Asker(Box<HostedAsker>),
+    Journal(Box<Journal>),
 }
 
 impl Hosted {

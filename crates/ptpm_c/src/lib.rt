@@ -1,4 +1,4 @@
-//! A clock, and a manager's session, asker or survey, for hosts in C: a static library of calls over `ptpm_host`. `hosts/ptpm.h` is
+//! A clock, and a manager's session, asker or survey, and a journal, for hosts in C: a static library of calls over `ptpm_host`. `hosts/ptpm.h` is
 //! its header.
 #![tactic(auto)]
 
@@ -29,6 +29,7 @@ mod changing;
 mod device;
 mod fields;
 mod handle;
+mod journal;
 mod keeping;
 mod kept;
 mod limits;
@@ -40,6 +41,7 @@ mod sealing;
 mod session;
 mod standing;
 mod survey;
+mod transit;
 mod withholding_session;
 
 use crate::handle::{Handle, held};

@@ -1,8 +1,8 @@
 //! The calls for what a host keeps from its network, each one of `ptpm_host`. No call here takes a handle or memory.
 
-ghost use Rattle.std.specs.Prelude.{◌≡◌, MatchResult, false, length};
-ghost use Rattle.ptpm_codec.specs.Reading.{reading};
-ghost use Rattle.ptpm_host.specs.PassedOn.{IsAsked, IsTableSize, key_of, table_of};
+ghost use Rattle.std.specs.Prelude.{◌≡◌, MatchOption, false, length};
+ghost use Rattle.ptpm_host.specs.PassedOn.{IsAsked, IsTableSize, table_of};
+ghost use Rattle.ptpm_host.specs.Transit.{key_in};
 ghost use Rattle.ptpm_host.specs.Rate.{full, has_token, taken};
 
 use ptpm_host::{PassedOn, PassedOnPlace, Rate, is_first_of};
@@ -16,9 +16,9 @@ pub extern "C" fn ptpm_passed_on_is_first(
     now: u64,
     time: u64,
 ) -> bool
-    ensures { MatchResult (reading message.now)
-        (λ v. IsAsked table.old (key_of v) now time result table.new)
-        (λ _. (result ≡ false) × (table.new ≡ table.old)) }
+    ensures { MatchOption (key_in message.now)
+        ((result ≡ false) × (table.new ≡ table.old))
+        (λ key. IsAsked table.old key now time result table.new) }
 {
     table.is_first(message, now, time)
 }
@@ -33,9 +33,9 @@ pub extern "C" fn ptpm_passed_on_is_first_of(
     now: u64,
     time: u64,
 ) -> bool
-    ensures asked { IsTableSize (length places.old) → MatchResult (reading message.now)
-        (λ v. IsAsked (table_of seed places.old) (key_of v) now time result (table_of seed places.new))
-        (λ _. (result ≡ false) × (places.new ≡ places.old)) }
+    ensures asked { IsTableSize (length places.old) → MatchOption (key_in message.now)
+        ((result ≡ false) × (places.new ≡ places.old))
+        (λ key. IsAsked (table_of seed places.old) key now time result (table_of seed places.new)) }
     ensures no_table { (IsTableSize (length places.old) → ⊥)
         → (result ≡ false) × (places.new ≡ places.old) }
 {

@@ -1,6 +1,8 @@
 -- The clock that takes what comes in, and what its owner asks, is a sound process; what it holds may change it, and nothing else may.
-use Rattle.std.proofs.Common.{◌≡◌, ◌∙◌, ◌&&◌, ◌||◌, ◌==◌, Bool, true, false, not, ap, refl, sym, subst, List, [], ◌∷◌, ◌++◌, ℕ, length, Option, Some, None, Result, Ok, Err, if◌then◌else◌}
+use Rattle.std.proofs.Common.{◌≡◌, ◌∙◌, ◌&&◌, ◌||◌, ◌==◌, Bool, true, false, not, ap, refl, sym, subst, List, [], ◌∷◌, ℕ, length, Option, Some, None, Result, Ok, Err, if◌then◌else◌}
 use Rattle.std.specs.FinMap.{empty, get}
+use Rattle.std.specs.Prelude.{is_some}
+use Rattle.ptpm_codec.specs.Layout.{message_octets}
 use Rattle.std.proofs.lemmas.Bool.{false≢true}
 use Rattle.ptpm_codec.specs.declared.error.DecodeError.{DecodeError}
 use Rattle.ptpm_codec.specs.declared.message.Action.{Action}
@@ -13,7 +15,7 @@ use Rattle.ptpm_data.specs.ObservationBack.{Observation}
 use Rattle.ptpm_data.specs.Reply.{ReplyValue}
 use Rattle.ptpm_data.specs.Rights.{all_rights}
 use Rattle.ptpm_data.proofs.Consistency.{changed_by-consistent}
-use Rattle.ptpm_data.proofs.Keeping.{changed_by-get, changed_by-ports}
+use Rattle.ptpm_data.proofs.Keeping.{changed_by-get}
 use Rattle.ptpm_table.specs.declared.reply_table.Look.{Look}
 use Rattle.ptpm_table.specs.declared.reply_table.Look.TheVariants as looks
 use Rattle.ptpm_table.specs.Entries.{Entries}
@@ -31,11 +33,11 @@ use Rattle.ptpm_device.proofs.Steps.{turn_said-at, turn_said-each, turn_said-unr
 use Rattle.ptpm_saved.specs.Batching.{HoldsChanges}
 use Rattle.ptpm_saved.specs.BatchingClock.{is_numbered_in, is_of_manager}
 use Rattle.ptpm_saved.specs.Saving.{IsSound, noted_each}
-use Rattle.ptpm_saved.specs.SavingClock.{CanBe, clock_process, is_new}
+use Rattle.ptpm_saved.specs.SavingClock.{CanBe, Datagram, clock_process, is_new}
 use Rattle.ptpm_saved.proofs.BatchingClockLaws as clocks
 use Rattle.ptpm_saved.proofs.SavingClockLaws.{clock_sound}
 use Rattle.ptpm_host.specs.Changing.{owner_by, owner_clock, owner_turn, owner_turned, owner_verdict}
-use Rattle.ptpm_host.specs.Coming.{Changed, Coming, Heard, OfOwner, after_coming, coming_process, datagram_in, is_change_of, is_held_by, messages_for, turn_of}
+use Rattle.ptpm_host.specs.Coming.{Changed, ClockState, Coming, Decides, Heard, OfOwner, Undertakes, after_coming, coming_process, datagram_in, decided, is_change_of, is_held_by, messages_for, turn_of, undertakes}
 
 -- ---- what the owner asks
 
@@ -127,27 +129,53 @@ module _ (c : Clock) where
 
   -- ---- it is sound
 
-  unchanged : (s : State) (x : Coming) → is_change_of c s x ≡ false → after_coming c s x ≡ s
-  unchanged s (Heard port datagram say) same = said_unchanged s port datagram say same
-  unchanged s (OfOwner port datagram) same = owner_unchanged s port datagram same
+  unchanged_if : (s t : ClockState) (b : Bool) → b ≡ false → (if b then t else s) ≡ s
+  unchanged_if s t true same = absurd (false≢true (sym same))
+  unchanged_if s t false same = refl
+
+  undecided : (s : State) (o : Option Datagram) (say : Say)
+      → is_some o ≡ false
+      → ◌≡◌ {A = ClockState} (record { state = decided c s say o; under_way = None }) (record { state = s; under_way = o })
+  undecided s None say same = refl
+  undecided s (Some x) say same = absurd (false≢true (sym same))
+
+  unchanged : (s : ClockState) (x : Coming) → is_change_of c s x ≡ false → after_coming c s x ≡ s
+  unchanged s (Heard port datagram say) same = λ i. record s { state = said_unchanged s.state port datagram say same i }
+  unchanged s (OfOwner port datagram) same = λ i. record s { state = owner_unchanged s.state port datagram same i }
   unchanged s (Changed request) same = absurd (false≢true (sym same))
+  unchanged s (Undertakes port datagram) same =
+      unchanged_if s (record s { under_way = Some (port, message_octets datagram) }) (undertakes c s datagram) same
+  unchanged s (Decides say) same = undecided s.state s.under_way say same
 
-  after_can_be : (s : State) (x : Coming) → CanBe s → CanBe (after_coming c s x)
-  after_can_be s (Heard port datagram say) can = said_can_be s port datagram say can
-  after_can_be s (OfOwner port datagram) can = owner_can_be s port datagram can
-  after_can_be s (Changed request) can = changed_by-consistent request all_rights s.sets can
+  undertaken_can_be : (s t : ClockState) (b : Bool) → CanBe s.state → CanBe t.state → CanBe (if b then t else s).state
+  undertaken_can_be s t true can next = next
+  undertaken_can_be s t false can next = can
 
-  noted_same : (notes : List Observation) (s : State) → noted_each (coming_process c) notes s ≡ noted_each (clock_process c) notes s
+  decided_can_be : (s : State) (say : Say) (o : Option Datagram) → CanBe s → CanBe (decided c s say o)
+  decided_can_be s say None can = can
+  decided_can_be s say (Some x) can = said_can_be s x.0 x.1 say can
+
+  after_can_be : (s : ClockState) (x : Coming) → CanBe s.state → CanBe (after_coming c s x).state
+  after_can_be s (Heard port datagram say) can = said_can_be s.state port datagram say can
+  after_can_be s (OfOwner port datagram) can = owner_can_be s.state port datagram can
+  after_can_be s (Changed request) can = changed_by-consistent request all_rights s.state.sets can
+  after_can_be s (Undertakes port datagram) can =
+      undertaken_can_be s (record s { under_way = Some (port, message_octets datagram) }) (undertakes c s datagram) can can
+  after_can_be s (Decides say) can = decided_can_be s.state say s.under_way can
+
+  noted_same : (notes : List Observation) (s : ClockState)
+      → noted_each (coming_process c) notes s ≡ record s { state = noted_each (clock_process c) notes s.state }
   noted_same [] s = refl
-  noted_same (n ∷ notes) s = noted_same notes ((clock_process c).noted s n)
+  noted_same (n ∷ notes) s = noted_same notes (record s { state = (clock_process c).noted s.state n })
 
-  pub coming_sound : IsSound (coming_process c) CanBe
+  pub coming_sound : IsSound (coming_process c) (λ s. CanBe s.state)
   coming_sound = record {
     unchanged = unchanged;
     goes_back = λ s notes can.
-        ap (λ t. (clock_process c).noted t ((clock_process c).back s)) (noted_same notes s) ∙ (clock_sound c).goes_back s notes can;
+        ap (λ t. (coming_process c).noted t ((coming_process c).back s)) (noted_same notes s)
+        ∙ (λ i. record s { state = (clock_sound c).goes_back s.state notes can i });
     after_can_be = after_can_be;
-    noted_can_be = (clock_sound c).noted_can_be;
+    noted_can_be = λ s n can. (clock_sound c).noted_can_be s.state n can;
   }
 
   -- ---- what is held
@@ -159,9 +187,8 @@ module _ (c : Clock) where
       ap is_new (turn_said-verdict c s say port datagram) ∙ clocks.holds_changes c s (port, datagram) other
 
   pub coming_holds : HoldsChanges (coming_process c) (is_held_by c)
-  coming_holds s (Heard port datagram say) other = said_old s port datagram say other
-  coming_holds s (OfOwner port datagram) other = absurd (false≢true (sym other))
-  coming_holds s (Changed request) other = absurd (false≢true (sym other))
+  coming_holds s (Heard port datagram say) other = said_old s.state port datagram say other
+  coming_holds s _ other = absurd (false≢true (sym other))
 
   -- ---- by the data sets alone
 
@@ -220,27 +247,29 @@ module _ (c : Clock) where
   said_alone s e port datagram say is =
       said_by_alone s e port datagram say (clocks.by_sets_alone c s e (port, datagram) is) (message_of datagram) refl is
 
-  pub coming_alone : (s : State) (e : Entries) (x : Coming)
+  pub coming_alone : (s t : ClockState) (x : Coming)
       → is_held_by c x ≡ false
-      → messages_for c s x ≡ messages_for c (record { sets = s.sets; entries = e }) x
-  coming_alone s e (Heard port datagram say) is = said_alone s e port datagram say is
-  coming_alone s e (OfOwner port datagram) is = absurd (false≢true (sym is))
-  coming_alone s e (Changed request) is = refl
+      → s.state.sets ≡ t.state.sets
+      → messages_for c s x ≡ messages_for c t x
+  coming_alone s t (Heard port datagram say) is same =
+      said_alone s.state t.state.entries port datagram say is
+      ∙ ap (λ (d : DataSetsValue). outbox_of (turn_said c (record { sets = d; entries = t.state.entries }) say port datagram)) same
+  coming_alone s t _ is same = absurd (false≢true (sym is))
 
   -- ---- a datagram, of the owner or not
 
-  pub after_datagram : (s : State) (port : ℕ) (datagram : List ℕ) (say : Say) (of_owner : Bool)
-      → after_coming c s (datagram_in port datagram say of_owner) ≡ (turn_of c s port datagram say of_owner).next
+  pub after_datagram : (s : ClockState) (port : ℕ) (datagram : List ℕ) (say : Say) (of_owner : Bool)
+      → after_coming c s (datagram_in port datagram say of_owner) ≡ record s { state = (turn_of c s.state port datagram say of_owner).next }
   after_datagram s port datagram say true = refl
   after_datagram s port datagram say false = refl
 
-  pub messages_of_datagram : (s : State) (port : ℕ) (datagram : List ℕ) (say : Say) (of_owner : Bool)
-      → messages_for c s (datagram_in port datagram say of_owner) ≡ outbox_of (turn_of c s port datagram say of_owner)
+  pub messages_of_datagram : (s : ClockState) (port : ℕ) (datagram : List ℕ) (say : Say) (of_owner : Bool)
+      → messages_for c s (datagram_in port datagram say of_owner) ≡ outbox_of (turn_of c s.state port datagram say of_owner)
   messages_of_datagram s port datagram say true = refl
   messages_of_datagram s port datagram say false = refl
 
-  pub change_of_datagram : (s : State) (port : ℕ) (datagram : List ℕ) (say : Say) (of_owner : Bool)
-      → is_change_of c s (datagram_in port datagram say of_owner) ≡ is_new (turn_of c s port datagram say of_owner).verdict
+  pub change_of_datagram : (s : ClockState) (port : ℕ) (datagram : List ℕ) (say : Say) (of_owner : Bool)
+      → is_change_of c s (datagram_in port datagram say of_owner) ≡ is_new (turn_of c s.state port datagram say of_owner).verdict
   change_of_datagram s port datagram say true = refl
   change_of_datagram s port datagram say false = refl
 

@@ -24,7 +24,7 @@ datagram_names =
     ∷ (17, codes "NOT_MANAGEMENT") ∷ (18, codes "BAD_VERSION") ∷ (19, codes "BAD_LENGTH") ∷ (20, codes "BAD_ACTION")
     ∷ (21, codes "BAD_TLV_TYPE") ∷ (22, codes "BAD_TLV_LENGTH") ∷ (23, codes "BAD_TEXT") ∷ (25, codes "DONE")
     ∷ (26, codes "REFUSED") ∷ (27, codes "AGAIN") ∷ (28, codes "FULL") ∷ (29, codes "ASKED_CHANGE")
-    ∷ (30, codes "ASKED_VALUE") ∷ []
+    ∷ (30, codes "ASKED_VALUE") ∷ (31, codes "ACT_NOW") ∷ []
 
 -- why a call changed nothing
 abbrev pub refusal_names : List (ℕ × List ℕ)
@@ -40,7 +40,8 @@ refusal_names =
     ∷ (108, codes "OTHER_CLOCK") ∷ (109, codes "OTHER_PORTS") ∷ (110, codes "OTHER_SESSION") ∷ (112, codes "OUT_OF_REACH")
     ∷ (113, codes "NOT_WORDS") ∷ (114, codes "UNKNOWN_ID") ∷ (115, codes "WORD_COUNT") ∷ (116, codes "OTHER_NAME")
     ∷ (117, codes "NO_VALUE") ∷ (118, codes "UNSAVED") ∷ (119, codes "OTHER_IMAGE") ∷ (120, codes "NO_ASKER")
-    ∷ (121, codes "BAD_SAY") ∷ []
+    ∷ (121, codes "BAD_SAY") ∷ (123, codes "UNDER_WAY") ∷ (124, codes "NOTHING_UNDER_WAY") ∷ (126, codes "NO_JOURNAL")
+    ∷ (127, codes "NO_RECORD") ∷ (128, codes "NOT_ALLOWED") ∷ (129, codes "JOURNAL_WHOLE") ∷ []
 
 -- which member of a clock is out of its range
 abbrev pub clock_member_names : List (ℕ × List ℕ)

@@ -1,7 +1,8 @@
 -- An asker that a host keeps: what it is set up with, what is asked of it in plain numbers, and what it hands out.
-use Rattle.std.specs.Prelude.{◌≡◌, ℕ, ◌==◌, ◌||◌, false, List, Option, None, Some, option_map, if◌then◌else◌}
+use Rattle.std.specs.Prelude.{◌≡◌, ℕ, ◌==◌, ◌||◌, false, List, [], ◌∷◌, Option, None, Some, option_map, if◌then◌else◌}
 use Rattle.std.specs.Option.{option_or}
 use Rattle.ptpm_codec.specs.Identity.{every_port}
+use Rattle.ptpm_codec.specs.Ordered.{first_of}
 use Rattle.ptpm_manager.specs.declared.ask.Ask.{Ask}
 use Rattle.ptpm_manager.specs.declared.report.Outcome.{Outcome}
 use Rattle.ptpm_manager.specs.Restoring.{restore_refusal}
@@ -19,6 +20,8 @@ use Rattle.ptpm_host.specs.declared.refusal.AskerRefusal.{AskerRefusal}
 use Rattle.ptpm_host.specs.declared.refusal.AskerRefusal.TheVariants as refusals
 use Rattle.ptpm_host.specs.declared.refusal.ReportRefusal.{ReportRefusal}
 use Rattle.ptpm_host.specs.declared.refusal.ReportRefusal.TheVariants as reports
+use Rattle.ptpm_host.specs.declared.refusal.SessionRefusal.{SessionRefusal}
+use Rattle.ptpm_host.specs.declared.refusal.SessionRefusal.TheVariants as sessions
 use Rattle.ptpm_host.specs.ReportedOutcome.{room_refusal}
 use Rattle.ptpm_host.specs.Session.{asked_action}
 use Rattle.ptpm_host.specs.SessionSettings.{manager_port, session_refusal, target_clock}
@@ -37,10 +40,15 @@ asker_settings s = record {
   wait = s.wait;
 }
 
+-- A question is asked by the manager, and a read by nobody: so these are two ports (this project's profile).
+abbrev pub asker_refusal : AskerSettings → Option SessionRefusal
+asker_refusal s =
+    option_or (session_refusal s.session) (first_of ((s.nobody == s.session.port, sessions.NobodyIsManager) ∷ []))
+
 -- why an image gives no asker: the settings first, and then the image, whose first number is its own
 abbrev pub restore_asker_refusal : AskerSettings → List ℕ → Option AskerRefusal
 restore_asker_refusal s image =
-    option_or (option_map refusals.Settings (session_refusal s.session))
+    option_or (option_map refusals.Settings (asker_refusal s))
     (option_map refusals.Image
     (restore_refusal (manager_port s.session) (target_clock s.session) s.session.target_ports (first_in image) image))
 

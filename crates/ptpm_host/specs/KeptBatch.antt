@@ -1,5 +1,5 @@
 -- What is kept of a process that is saved in batches: its state, what of it is shown, and the messages.
-use Rattle.std.specs.Prelude.{◌≡◌, ◌≤◌, ◌+◌, ◌-◌, ℕ, Bool, true, false, ◌&&◌, ◌||◌, if◌then◌else◌, List, [], ◌∷◌, ◌++◌, drop, length, replicate, take}
+use Rattle.std.specs.Prelude.{◌≡◌, ◌≤◌, ◌+◌, ◌-◌, ℕ, Bool, true, false, ◌&&◌, ◌||◌, if◌then◌else◌, List, [], ◌++◌, drop, length, replicate, take}
 use Rattle.ptpm_saved.specs.Saving.{Process, after_all, all_messages}
 use Rattle.ptpm_saved.specs.Batching.{Batch, GivesOut, calls_each, changes_in, live, shown, shown_from, waits}
 

@@ -19,6 +19,7 @@ pub mod AnswerNames
 pub mod ErrorNames
 pub mod Observing
 pub mod PassedOn
+pub mod Transit
 pub mod PassedOnLaw
 pub mod Rate
 pub mod RateLaw
@@ -28,6 +29,8 @@ pub mod Parsing
 pub mod Blanks
 pub mod Queue
 pub mod Coming
+pub mod Undertaking
+pub mod UnderWay
 pub mod KeptBatch
 pub mod SavingClock
 pub mod MostSent
@@ -36,3 +39,4 @@ pub mod SavingSession
 pub mod Device
 pub mod Changing
 pub mod Limits
+pub mod JournalNumbers

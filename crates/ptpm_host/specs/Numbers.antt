@@ -35,6 +35,8 @@ use Rattle.ptpm_host.specs.declared.refusal.ChangeRefusal.{ChangeRefusal}
 use Rattle.ptpm_host.specs.declared.refusal.ChangeRefusal.TheVariants as changes
 use Rattle.ptpm_host.specs.declared.refusal.ClockRestoreRefusal.{ClockRestoreRefusal}
 use Rattle.ptpm_host.specs.declared.refusal.ClockRestoreRefusal.TheVariants as clock_restores
+use Rattle.ptpm_host.specs.declared.refusal.DecideRefusal.{DecideRefusal}
+use Rattle.ptpm_host.specs.declared.refusal.DecideRefusal.TheVariants as decides
 use Rattle.ptpm_host.specs.declared.refusal.HandleRefusal.{HandleRefusal}
 use Rattle.ptpm_host.specs.declared.refusal.HandleRefusal.TheVariants as handles
 use Rattle.ptpm_host.specs.declared.refusal.ParseRefusal.{ParseRefusal}
@@ -51,6 +53,8 @@ use Rattle.ptpm_host.specs.declared.refusal.SaidRefusal.{SaidRefusal}
 use Rattle.ptpm_host.specs.declared.refusal.SaidRefusal.TheVariants as said
 use Rattle.ptpm_host.specs.declared.refusal.TakeRefusal.{TakeRefusal}
 use Rattle.ptpm_host.specs.declared.refusal.TakeRefusal.TheVariants as takes
+use Rattle.ptpm_host.specs.declared.refusal.UndertakeRefusal.{UndertakeRefusal}
+use Rattle.ptpm_host.specs.declared.refusal.UndertakeRefusal.TheVariants as undertakes
 use Rattle.ptpm_host.specs.declared.refusal.SendRefusal.{SendRefusal}
 use Rattle.ptpm_host.specs.declared.refusal.SendRefusal.TheVariants as sends
 use Rattle.ptpm_host.specs.declared.refusal.SessionRefusal.{SessionRefusal}
@@ -153,9 +157,17 @@ asked_change = 29
 abbrev pub asked_value : ℕ
 asked_value = 30
 
+-- what is under way is saved, and now the device is asked
+abbrev pub act_now : ℕ
+act_now = 31
+
 -- a change is not saved yet
 abbrev pub unsaved : ℕ
 unsaved = 118
+
+-- a change is under way at the device
+abbrev pub under_way : ℕ
+under_way = 123
 
 abbrev pub handle_number : HandleRefusal → ℕ
 handle_number handles.NoPort = 33
@@ -169,7 +181,20 @@ said_number said.BadSay = 121
 -- why a clock that is saved while it goes on takes nothing
 abbrev pub take_number : TakeRefusal → ℕ
 take_number (takes.Said refusal) = said_number refusal
+take_number takes.UnderWay = under_way
 take_number takes.Unsaved = unsaved
+
+-- why no change is under way after a call that would begin one
+abbrev pub undertake_number : UndertakeRefusal → ℕ
+undertake_number undertakes.NoPort = 33
+undertake_number undertakes.Unsaved = unsaved
+undertake_number undertakes.UnderWay = under_way
+
+-- why what is under way is not decided
+abbrev pub decide_number : DecideRefusal → ℕ
+decide_number decides.NothingUnderWay = 124
+decide_number (decides.Said refusal) = said_number refusal
+decide_number decides.Unsaved = unsaved
 
 -- why a change at the device itself is not carried out
 abbrev pub change_number : ChangeRefusal → ℕ
@@ -247,6 +272,7 @@ session_number sessions.ManagerIsEvery = 53
 session_number sessions.TargetIsEvery = 54
 session_number sessions.SameClock = 55
 session_number sessions.TargetIsZero = 57
+session_number sessions.NobodyIsManager = 52
 
 -- why a session is not restored, 35, 104 to 107 or 110
 abbrev pub restore_number : RestoreError → ℕ

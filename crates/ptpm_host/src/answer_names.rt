@@ -14,7 +14,7 @@ pub fn answer_name(number: u32) -> Option<&'static str>
         .or(port_member_name(number))
 }
 
-/// What became of a datagram or of a request, 1 to 28.
+/// What became of a datagram or of a request, 1 to 31.
 #[tactic(auto, unfolding(crate::specs::AnswerNames::name_in))]
 fn datagram_name(number: u32) -> Option<&'static str>
     ensures { option_map (λ name. name.now) result ≡ name_in datagram_names number }
@@ -49,11 +49,12 @@ fn datagram_name(number: u32) -> Option<&'static str>
         28 => Some("FULL"),
         29 => Some("ASKED_CHANGE"),
         30 => Some("ASKED_VALUE"),
+        31 => Some("ACT_NOW"),
         _ => None,
     }
 }
 
-/// Why a call changed nothing, 32 to 57 and 104 to 121.
+/// Why a call changed nothing, 32 to 57 and 104 to 129.
 #[tactic(auto, unfolding(crate::specs::AnswerNames::name_in))]
 fn refusal_name(number: u32) -> Option<&'static str>
     ensures { option_map (λ name. name.now) result ≡ name_in refusal_names number }
@@ -102,6 +103,12 @@ fn refusal_name(number: u32) -> Option<&'static str>
         119 => Some("OTHER_IMAGE"),
         120 => Some("NO_ASKER"),
         121 => Some("BAD_SAY"),
+        123 => Some("UNDER_WAY"),
+        124 => Some("NOTHING_UNDER_WAY"),
+        126 => Some("NO_JOURNAL"),
+        127 => Some("NO_RECORD"),
+        128 => Some("NOT_ALLOWED"),
+        129 => Some("JOURNAL_WHOLE"),
         _ => None,
     }
 }

@@ -7,13 +7,13 @@ ghost use Rattle.ptpm_manager.specs.declared.report.Outcome.{Outcome};
 ghost use Rattle.ptpm_manager.specs.Image.{session_image};
 ghost use Rattle.ptpm_manager.specs.ImageReading.{session_at};
 ghost use Rattle.ptpm_manager.specs.Receiving.{NeedsMemory, received_of};
+ghost use Rattle.ptpm_asker.specs.declared.stage.Stage.{Stage};
 ghost use Rattle.ptpm_asker.specs.Asker.{opened, opened_new};
-ghost use Rattle.ptpm_asker.specs.Turns.{asks, asks_refusal, can_settle, hears, lets_go, lets_go_refusal, noted, saved, settles, settling_domain, unsents, wakes};
+ghost use Rattle.ptpm_asker.specs.Turns.{asks, asks_refusal, begins_waking, can_settle, hears, lets_go, lets_go_refusal, noted, noted_refusal, saved, settles, settling_domain, unsents, wakes};
 ghost use Rattle.ptpm_host.specs.declared.refusal.AskerRefusal.{AskerRefusal};
-ghost use Rattle.ptpm_host.specs.Asker.{HasTurned, HasTurnedWith, IsAskerAt, asked_port, asker_settings, handed_of, restore_asker_refusal, told_after, told_refusal, wanted_of};
+ghost use Rattle.ptpm_host.specs.Asker.{HasTurned, HasTurnedWith, IsAskerAt, asked_port, asker_refusal, asker_settings, handed_of, restore_asker_refusal, told_after, told_refusal, wanted_of};
 ghost use Rattle.ptpm_host.specs.Session.{IsJudgedBy};
 ghost use Rattle.ptpm_host.specs.ReportedOutcome.{outcome_octets, reported_of, reported_size};
-ghost use Rattle.ptpm_host.specs.SessionSettings.{session_refusal};
 
 use crate::asker_settings::AskerSettings;
 use crate::handed::Handed;
@@ -47,10 +47,10 @@ impl HostedAsker {
     ) -> Result<HostedAsker, SessionRefusal>
         ensures asker { IfOk result (λ a. IsAskerAt a
             (opened_new (asker_settings settings.now) drawn settings.now.session.first) None) }
-        ensures refusal { MatchResult result (λ _. session_refusal settings.now.session ≡ None)
-            (λ e. session_refusal settings.now.session ≡ Some e) }
+        ensures refusal { MatchResult result (λ _. asker_refusal settings.now ≡ None)
+            (λ e. asker_refusal settings.now ≡ Some e) }
     {
-        settings.session.judge()?;
+        settings.judge()?;
         let first = settings.session.first;
         Ok(HostedAsker::of(Asker::open_new(alloc, settings.settings(), first, drawn)))
     }
@@ -67,8 +67,12 @@ impl HostedAsker {
             (opened (asker_settings settings.now) drawn (session_at image.now)) None) }
         ensures judged { IsJudgedBy (restore_asker_refusal settings.now image.now)
             (AskerRefusal.Image RestoreError.OutOfMemory) result }
+        ensures memory { IfErr result
+            (λ e.
+            e ≡ AskerRefusal.Image RestoreError.OutOfMemory
+            → IsSome (session_at image.now).unanswered) }
     {
-        if let Err(refusal) = settings.session.judge() {
+        if let Err(refusal) = settings.judge() {
             return Err(AskerRefusal::Settings(refusal));
         }
         match Asker::open(alloc, settings.settings(), drawn, image) {
@@ -140,23 +144,27 @@ impl HostedAsker {
         Ok(self.hand(output))
     }
 
-    /// Hears a datagram. Memory is asked for the dataField of an answer alone; if it is refused, nothing changes.
+    /// Hears a datagram. Memory is asked for the dataField of an answer alone, while one is waited for. If it is refused, nothing
+    /// changes.
     pub fn hear(&mut self, datagram: &[u8]) -> Result<Handed, OutOfMemory>
         ensures turned { IfOk result
             (λ out. HasTurned self.old (hears self.old.asker datagram.now) out self.new) }
         ensures memory { OnErr result
             (NeedsMemory (received_of self.old.asker.session datagram.now)
             ⊎ NeedsMemory (received_of self.old.asker.reader datagram.now)) }
+        ensures asking { OnErr result (self.old.asker.stage ≡ Stage.Asking) }
         ensures unchanged { OnErr result (IsAskerAt self.new self.old.asker self.old.told) }
     {
         let output = self.asker.hear(datagram)?;
         Ok(self.hand(output))
     }
 
-    /// Time has come.
+    /// Time has come. Only memory for a question or a read by nobody is ever refused. Then nothing changes.
     pub fn wake(&mut self, now: u64) -> Result<Handed, BeginError>
         ensures turned { IfOk result
             (λ out. HasTurnedWith self.old (wakes self.old.asker now) out self.new) }
+        ensures begins { OnErr result (begins_waking self.old.asker now ≡ true) }
+        ensures memory { IfErr result (λ e. e ≡ BeginError.OutOfMemory) }
         ensures unchanged { OnErr result (IsAskerAt self.new self.old.asker self.old.told) }
     {
         let output = self.asker.wake(&mut self.buffer, now)?;
@@ -179,9 +187,13 @@ impl HostedAsker {
         self.hand(output)
     }
 
-    /// What was handed out to be noted is written where the owner keeps it. Memory is asked for the dataField of a request.
+    /// What was handed out to be noted is written where the owner keeps it. A request that is then begun is refused for what its
+    /// session refuses, and memory is asked for its dataField alone. If it is refused, nothing changes.
     pub fn noted(&mut self) -> Result<Handed, BeginError>
         ensures turned { IfOk result (λ out. HasTurned self.old (noted self.old.asker) out self.new) }
+        ensures begins { OnErr result
+            ((self.old.asker.stage ≡ Stage.Noting) × IsSome self.old.asker.wanted) }
+        ensures judged { IsJudgedBy (noted_refusal self.old.asker) BeginError.OutOfMemory result }
         ensures unchanged { OnErr result (IsAskerAt self.new self.old.asker self.old.told) }
     {
         let output = self.asker.noted()?;

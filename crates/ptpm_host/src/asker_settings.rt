@@ -1,8 +1,8 @@
 //! What an asker is set up with, as a host in C lays it out.
 
-ghost use Rattle.std.specs.Prelude.{◌≡◌, MatchResult, None, Some};
-ghost use Rattle.ptpm_host.specs.Asker.{asker_settings};
-ghost use Rattle.ptpm_host.specs.SessionSettings.{session_refusal};
+ghost use Rattle.std.specs.Prelude.{◌≡◌, MatchResult, None, OnOk, Some};
+ghost use Rattle.ptpm_asker.specs.Asker.{AreSettings};
+ghost use Rattle.ptpm_host.specs.Asker.{asker_refusal, asker_settings};
 
 use crate::refusal::SessionRefusal;
 use crate::session_settings::SessionSettings;
@@ -14,7 +14,7 @@ use ptpm_asker::Settings;
 pub struct AskerSettings {
     /// `first` is the number that a session without a file tries first, drawn at random. The domain is not read.
     pub session: SessionSettings,
-    /// The portNumber of the manager's clock at which nobody manages.
+    /// The portNumber of the manager's clock at which nobody manages, another one than the manager's.
     pub nobody: u16,
     /// How long an answer is waited for before a request is sent again.
     pub timeout: u32,
@@ -25,6 +25,19 @@ pub struct AskerSettings {
 const _: () = prove!(size_of::<AskerSettings>() == 36);
 
 impl AskerSettings {
+    /// Why no asker has these settings, if none has.
+    pub(crate) fn judge(&self) -> Result<(), SessionRefusal>
+        ensures refusal { MatchResult result (λ _. asker_refusal self.now ≡ None)
+            (λ e. asker_refusal self.now ≡ Some e) }
+        ensures settings { OnOk result (AreSettings (asker_settings self.now)) }
+    {
+        self.session.judge()?;
+        if self.nobody == self.session.port {
+            return Err(SessionRefusal::NobodyIsManager);
+        }
+        Ok(())
+    }
+
     /// What the asker is set up with.
     pub(crate) fn settings(&self) -> Settings
         ensures { result ≡ asker_settings self.now }

@@ -11,12 +11,14 @@ ghost use Rattle.ptpm_host.specs.Observing.{IsObserved, observe_refusal, ports_l
 ghost use Rattle.ptpm_host.specs.Settings.{configured};
 ghost use Rattle.ptpm_data.specs.Start.{unless};
 
+use crate::device::Question;
 use crate::judged::JudgedStart;
 use crate::observing::{ObservedClock, ObservedPort, port_observations};
 use crate::outbox::Outbox;
 use crate::refusal::{HandleRefusal, StartRefusal};
 use crate::sent::Sent;
 use crate::settings::{ClockSettings, ManagerSettings, PortSettings};
+use crate::under_way::UnderWay;
 use ptpm_agent::{Agent, Verdict};
 use ptpm_codec::OutOfMemory;
 use ptpm_data::{DataSets, ObservationError, PortsLeftDisabled};
@@ -31,9 +33,11 @@ pub const MOST_SENT: usize = 15;
 #[derive(Drop)]
 pub struct HostedClock {
     pub(crate) agent: Agent<HeapTable>,
+    /// The change that its device makes.
+    pub(crate) under_way: Option<UnderWay>,
 }
 
-const _: () = prove!(size_of::<HostedClock>() == 472);
+const _: () = prove!(size_of::<HostedClock>() == 664);
 
 /// What became of a datagram.
 #[derive(Clone, Copy, Debug)]
@@ -44,6 +48,9 @@ pub struct Handled {
 }
 
 impl HostedClock {
+    ghost use Rattle.ptpm_host.specs.SavingClock.{request_under_way};
+    ghost use Rattle.ptpm_host.specs.UnderWay.{AnswersAsked, asked_of};
+
     /// A clock that has heard nothing yet, with these values and these managers. It keeps the block of its managers' slots; other
     /// memory is taken only for the call.
     pub fn start(
@@ -99,9 +106,11 @@ impl HostedClock {
         requires { sets.now.default.identity ≡ (⟦<HeapTable as ReplyTable>⟧.owner table).identity }
         ensures sets { result.agent.sets ≡ sets.now }
         ensures table { result.agent.table ≡ table }
+        ensures nothing { result.under_way ≡ None }
     {
         HostedClock {
             agent: Agent::new(sets.copy(), table),
+            under_way: None,
         }
     }
 
@@ -115,6 +124,7 @@ impl HostedClock {
         requires { sets.now.default.identity ≡ (⟦<HeapTable as ReplyTable>⟧.owner table).identity }
         ensures sets { IfOk result (λ c. c.value.agent.sets ≡ sets.now) }
         ensures table { IfOk result (λ c. c.value.agent.table ≡ table) }
+        ensures nothing { IfOk result (λ c. c.value.under_way ≡ None) }
     {
         match Box::new(alloc, HostedClock::over(sets, table)) {
             Ok(clock) => Ok(clock),
@@ -127,6 +137,16 @@ impl HostedClock {
         ensures { result.now ≡ self.now.agent.sets }
     {
         self.agent.sets()
+    }
+
+    /// What its device was asked to carry out, or will be.
+    pub fn under_way(&self) -> Option<Question>
+        ensures { AnswersAsked (asked_of (request_under_way self.now.under_way)) result }
+    {
+        match &self.under_way {
+            Some(under_way) => Some(under_way.question()),
+            None => None,
+        }
     }
 
     /// What becomes of a datagram that comes in at a port: one turn of the clock. What it sends is written into the first places
@@ -157,6 +177,7 @@ impl HostedClock {
         ensures unchanged { OnErr result (self.new ≡ self.old) }
         ensures untouched { OnErr result (room.new ≡ room.old) }
         ensures clock { clock_in self.new ≡ clock_in self.old }
+        ensures under_way { self.new.under_way ≡ self.old.under_way }
     {
         if !self.agent.sets().has_port(port) {
             return Err(HandleRefusal::NoPort);
@@ -190,6 +211,7 @@ impl HostedClock {
         ensures new_alone { result.verdict ≢ Verdict.AnsweredNew →
             self.new.agent.sets ≡ self.old.agent.sets }
         ensures clock { clock_in self.new ≡ clock_in self.old }
+        ensures under_way { self.new.under_way ≡ self.old.under_way }
     {
         let mut outbox = Outbox::new(room);
         let verdict = self.agent.handle_into(port, datagram, &mut outbox);
@@ -211,6 +233,7 @@ impl HostedClock {
         ensures answer { result
             ≡ unless (observe_refusal clock.now ports.now self.old) (ports_left ports.now self.old) }
         ensures observed { IsObserved clock.now ports.now self.old self.new }
+        ensures under_way { self.new.under_way ≡ self.old.under_way }
         ensures unchanged { OnErr result (self.new ≡ self.old) }
     {
         if ports.len() > self.agent.sets().port_count() as usize {

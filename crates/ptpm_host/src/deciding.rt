@@ -47,6 +47,13 @@ impl HostedClock {
         }
     }
 
+    /// Whether a datagram would have the device carry something out.
+    pub(crate) fn asks_change(&self, datagram: &[u8]) -> bool
+        ensures { result ≡ is_some (asked (clock_in self.now) (state_in self.now) datagram.now) }
+    {
+        ask(&self.agent, datagram).is_some()
+    }
+
     /// Does what `handle` does, with what the clock's device says. What it says counts where `ask` says that the device is asked.
     /// If it objects, the request is kept and answered with its error, and the data sets stay. If it gives a value, this is the
     /// answer. It is kept for a manager's new GET. If it is too big for that, RESPONSE_TOO_BIG is. `of_owner` says that the device's
@@ -79,6 +86,7 @@ impl HostedClock {
         ensures unchanged { OnErr result (self.new ≡ self.old) }
         ensures untouched { OnErr result (room.new ≡ room.old) }
         ensures clock { clock_in self.new ≡ clock_in self.old }
+        ensures under_way { self.new.under_way ≡ self.old.under_way }
     {
         let said = self.said(port, say, room.len())?;
         Ok(self.carry_out(port, datagram, said, of_owner, room))
@@ -109,6 +117,7 @@ impl HostedClock {
             self.new.agent.sets ≡ self.old.agent.sets }
         ensures ports { length self.new.agent.sets.ports ≡ length self.old.agent.sets.ports }
         ensures clock { clock_in self.new ≡ clock_in self.old }
+        ensures under_way { self.new.under_way ≡ self.old.under_way }
     {
         self.sent_law();
         if of_owner {
@@ -166,6 +175,7 @@ impl HostedClock {
         ensures new_alone { result.verdict ≢ Verdict.AnsweredNew →
             self.new.agent.sets ≡ self.old.agent.sets }
         ensures clock { clock_in self.new ≡ clock_in self.old }
+        ensures under_way { self.new.under_way ≡ self.old.under_way }
     {
         self.sent_law();
         match said {
@@ -196,6 +206,7 @@ impl HostedClock {
         ensures new_alone { result.verdict ≢ Verdict.AnsweredNew →
             self.new.agent.sets ≡ self.old.agent.sets }
         ensures clock { clock_in self.new ≡ clock_in self.old }
+        ensures under_way { self.new.under_way ≡ self.old.under_way }
     {
         let objected = object(&mut self.agent, datagram, error);
         let handled = self.take_turn(port, datagram, room);
@@ -230,6 +241,7 @@ impl HostedClock {
         ensures new_alone { result.verdict ≢ Verdict.AnsweredNew →
             self.new.agent.sets ≡ self.old.agent.sets }
         ensures clock { clock_in self.new ≡ clock_in self.old }
+        ensures under_way { self.new.under_way ≡ self.old.under_way }
     {
         if let Some(count) = self.answer_value(port, datagram, octets, room) {
             return Handled {

@@ -4,7 +4,7 @@ ghost use Rattle.std.specs.Prelude.{◌≡◌, ◌≢◌, IfErr, IfOk, IsOkAnd, 
 ghost use Rattle.ptpm_table.specs.Managers.{IsFresh, identities, table_refusal};
 ghost use Rattle.ptpm_saved.specs.Image.{SavedClock};
 ghost use Rattle.ptpm_host.specs.Clock.{start_by, start_refusal};
-ghost use Rattle.ptpm_host.specs.Restoring.{CanRestore, IsRestoreRefused};
+ghost use Rattle.ptpm_host.specs.Restoring.{CanRestore, HasOwner, IsOwnerRefused, IsRestoreRefused};
 ghost use Rattle.ptpm_host.specs.Settings.{configured};
 
 use crate::managers::ConfiguredManagers;
@@ -103,17 +103,29 @@ pub(crate) fn judge_image(
         → CanRestore (record { 0 = identity.now }) ports managers.now image.now c
         → IsOkAnd result (λ _. sets.new ≡ c.sets) }
 {
-    if let Err(fault) = judge_managers(managers) {
-        return Err(ClockRestoreRefusal::Managers(fault));
-    }
-    let identity = ClockIdentity(*identity);
-    if identity == NO_IDENTITY {
-        return Err(ClockRestoreRefusal::IdentityIsZero);
-    }
-    match judge_into(image, &identity, ports, sets) {
+    judge_owner(identity, managers)?;
+    match judge_into(image, &ClockIdentity(*identity), ports, sets) {
         Ok(()) => Ok(()),
         Err(fault) => Err(ClockRestoreRefusal::Image(fault)),
     }
+}
+
+/// Whether a clock can have these managers and this identity.
+pub(crate) fn judge_owner(
+    identity: &[u8; 8],
+    managers: &[ManagerSettings],
+) -> Result<(), ClockRestoreRefusal>
+    ensures { MatchResult result
+        (λ _. HasOwner (record { 0 = identity.now }) managers.now)
+        (λ e. IsOwnerRefused (record { 0 = identity.now }) managers.now e) }
+{
+    if let Err(fault) = judge_managers(managers) {
+        return Err(ClockRestoreRefusal::Managers(fault));
+    }
+    if ClockIdentity(*identity) == NO_IDENTITY {
+        return Err(ClockRestoreRefusal::IdentityIsZero);
+    }
+    Ok(())
 }
 
 /// Whether these managers can be a clock's. Never inlined: so the stack has no room for them while the image is judged.

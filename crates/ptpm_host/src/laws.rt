@@ -1,8 +1,11 @@
 //! What holds for names, rates, what a clock sends, what is passed on, and a clock that is saved while it goes on. Each law is the contract of a function that does nothing.
 
-ghost use Rattle.std.specs.Prelude.{◌≡◌, ◌≢◌, ◌≤◌, ◌++◌, ℕ, List, Some, codes, false, length};
+ghost use Rattle.std.specs.FinMap.{get};
+ghost use Rattle.std.specs.Prelude.{◌≡◌, ◌≢◌, ◌≤◌, ◌++◌, ℕ, IsSomeAnd, List, Some, codes, false, length, true};
 ghost use Rattle.ptpm_codec.specs.declared.error.ErrorId.{ErrorId};
+ghost use Rattle.ptpm_codec.specs.declared.message.Message.{Message};
 ghost use Rattle.ptpm_codec.specs.Message.{error_number};
+ghost use Rattle.ptpm_codec.specs.Reading.{message_of};
 ghost use Rattle.ptpm_codec.specs.Message as codec;
 ghost use Rattle.ptpm_agent.specs.declared.verdict.Verdict.{Verdict};
 ghost use Rattle.ptpm_data.specs.declared.members.Member.{Member};
@@ -24,14 +27,19 @@ ghost use Rattle.ptpm_host.specs.Numbers.{begin_number, give_up_number, image_nu
 ghost use Rattle.ptpm_host.specs.MostSent.{SendsNoMore, SendsNoMoreAlone, SendsNoMoreHere};
 ghost use Rattle.ptpm_data.specs.Members.{IsConsistent};
 ghost use Rattle.ptpm_data.specs.ObservationBack.{Observation};
-ghost use Rattle.ptpm_table.specs.Entries.{Entries};
-ghost use Rattle.ptpm_agent.specs.Turn.{Clock, State};
+ghost use Rattle.ptpm_table.specs.declared.serial.Serial.TheVariants.{Newer};
+ghost use Rattle.ptpm_table.specs.Entries.{Entry};
+ghost use Rattle.ptpm_table.specs.Serial.{serial_of};
+ghost use Rattle.ptpm_agent.specs.Turn.{Clock, judged};
+ghost use Rattle.ptpm_device.specs.Saying.{Say};
 ghost use Rattle.ptpm_saved.specs.Batching.{Call, IsDevice, all_events, as_device, begun, calls_each};
 ghost use Rattle.ptpm_saved.specs.Saving.{IsAsIfPowered};
-ghost use Rattle.ptpm_host.specs.Coming.{ClockBatch, Coming, coming_process, is_held_by, messages_for};
+ghost use Rattle.ptpm_saved.specs.SavingClock.{Datagram};
+ghost use Rattle.ptpm_host.specs.Coming.{ClockBatch, ClockState, Coming, Decides, Undertakes, after_coming, coming_process, is_held_by, messages_for, undertakes};
 ghost use Rattle.ptpm_host.specs.KeptBatch.{IsGivenOut};
 ghost use Rattle.ptpm_host.specs.PassedOnLaw.{NotTwice};
 ghost use Rattle.ptpm_host.specs.RateLaw.{WithinRate};
+ghost use Rattle.ptpm_host.specs.Undertaking.{AsksAtMostOnce};
 
 /// The number of a verdict, of a reason and of a refusal has its name, in words of capitals: `ANSWERED_NEW` for `AnsweredNew`.
 /// A malformed datagram has the name of its cause. The number of a member has its name after `BAD_`. A managementErrorId that
@@ -82,21 +90,49 @@ pub fn rate_law()
     ensures { WithinRate }
 {}
 
-/// A clock may take datagrams while it is saved, with what its device says and what its owner asks. It is one that saves before it
-/// answers, at other events: what waits comes in late, at its save. So that clock's law holds for it, whatever is called, in
-/// whatever order, and whenever power fails. Anybody else's datagram is judged and answered by the data sets alone.
+/// A clock may take datagrams while it is saved, with what its device says and what its owner asks. A change may be under way at
+/// the device meanwhile. It is one that saves before it answers, at other events: what waits comes in late, at its save. So that
+/// clock's law holds for it, whatever is called, in whatever order, and whenever power fails. Anybody else's datagram is judged
+/// and answered by the data sets alone.
 pub fn coming_clock_law()
-    ensures device { (c : Clock) (s : State) (calls : List (Call Coming Observation))
-        → IsConsistent s.sets
+    ensures device { (c : Clock) (s : ClockState) (calls : List (Call Coming Observation))
+        → IsConsistent s.state.sets
         → IsDevice (coming_process c) (is_held_by c) s calls }
-    ensures powered { (c : Clock) (s : State) (calls : List (Call Coming Observation))
-        → IsConsistent s.sets
+    ensures powered { (c : Clock) (s : ClockState) (calls : List (Call Coming Observation))
+        → IsConsistent s.state.sets
         → IsAsIfPowered (coming_process c) s
         (all_events (coming_process c) (is_held_by c) (begun s) calls)
         (as_device (coming_process c) (calls_each (coming_process c) (is_held_by c) (begun s) calls)) }
-    ensures alone { (c : Clock) (s : State) (e : Entries) (x : Coming)
+    ensures alone { (c : Clock) (s t : ClockState) (x : Coming)
         → is_held_by c x ≡ false
-        → messages_for c s x ≡ messages_for c (record { sets = s.sets; entries = e }) x }
+        → s.state.sets ≡ t.state.sets
+        → messages_for c s x ≡ messages_for c t x }
     ensures given { (c : Clock) (b : ClockBatch)
         → IsGivenOut (coming_process c) (is_held_by c) b }
+{}
+
+/// A clock's device is asked for each change at most once, at the first save that has it. It is asked only for changes that the clock
+/// undertook. So it is whatever is called, in whatever order, and whenever power fails. What is undertaken is newer than what the
+/// clock keeps of its manager. It is under way as it was sent. If the decision is its new answer, the clock keeps its number. So no
+/// copy of it is undertaken again while that is kept.
+pub fn undertaken_at_most_once()
+    ensures once { (c : Clock) (s : ClockState) (calls : List (Call Coming Observation))
+        → IsConsistent s.state.sets
+        → AsksAtMostOnce c s calls }
+    ensures newer { (c : Clock) (s : ClockState) (datagram : List ℕ) (v : Message) (e : Entry)
+        → undertakes c s datagram ≡ true
+        → message_of datagram ≡ Some v
+        → get s.state.entries v.source ≡ Some e
+        → serial_of e.number v.number ≡ Newer }
+    ensures same { (c : Clock) (s : ClockState) (port : ℕ) (datagram : List ℕ) (v : Message)
+        → undertakes c s datagram ≡ true
+        → message_of datagram ≡ Some v
+        → IsSomeAnd (after_coming c s (Undertakes port datagram)).under_way
+        (λ x. message_of x.1 ≡ Some v) }
+    ensures kept { (c : Clock) (s : ClockState) (x : Datagram) (say : Say) (v : Message)
+        → s.under_way ≡ Some x
+        → message_of x.1 ≡ Some v
+        → judged c s.state v ≡ Verdict.AnsweredNew
+        → IsSomeAnd (get (after_coming c s (Decides say)).state.entries v.source)
+        (λ e. e.number ≡ v.number) }
 {}

@@ -2,17 +2,17 @@
 //! and those from 32 on why a call changed nothing.
 //!
 //! 1 to 9 are verdicts. 10 to 15 say why a session or a survey ignores a datagram, and 16 to 24 why it holds no message. 25 and
-//! 26 say what became of a request, and 27 and 28 what a survey makes of an answer. 29 to 31 are free. 32 to 47 are refusals of
-//! a call, and 48 to 57 those of a start. 64 to 101 are the members that may be out of range, in their order. 104 to 110 are
-//! refusals of a restore, and those from 112 on are further refusals of a call.
+//! 26 say what became of a request, and 27 and 28 what a survey makes of an answer. 29 and 30 say what a device is asked, and 31
+//! that it is asked now. 32 to 47 are refusals of a call, and 48 to 57 those of a start. 64 to 101 are the members that may be
+//! out of range, in their order. 104 to 110 are refusals of a restore, and those from 112 on are further refusals of a call.
 
 ghost use Rattle.std.specs.Prelude.{◌≡◌, ◌≤◌};
-ghost use Rattle.ptpm_host.specs.Numbers.{asker_number, begin_number, cause_number, change_number, clock_restore_number, give_up_number, handle_number, heard_number, image_number, managers_number, member_number, observe_number, parse_number, read_number, reason_number, report_number, restore_number, resume_number, said_number, saved_number, send_number, session_number, start_number, surveyed_number, take_number, outcome_number, unseal_number, values_number, verdict_number};
+ghost use Rattle.ptpm_host.specs.Numbers.{asker_number, begin_number, cause_number, change_number, clock_restore_number, decide_number, give_up_number, handle_number, heard_number, image_number, managers_number, member_number, observe_number, parse_number, read_number, reason_number, report_number, restore_number, resume_number, said_number, saved_number, send_number, session_number, start_number, surveyed_number, take_number, undertake_number, outcome_number, unseal_number, values_number, verdict_number};
 
 use crate::refusal::{
-    AskerRefusal, ChangeRefusal, ClockRestoreRefusal, HandleRefusal, ParseRefusal, ReadRefusal,
-    ReportRefusal, SaidRefusal, SavedRefusal, SendRefusal, SessionRefusal, StartRefusal,
-    TakeRefusal,
+    AskerRefusal, ChangeRefusal, ClockRestoreRefusal, DecideRefusal, HandleRefusal, ParseRefusal,
+    ReadRefusal, ReportRefusal, SaidRefusal, SavedRefusal, SendRefusal, SessionRefusal,
+    StartRefusal, TakeRefusal, UndertakeRefusal,
 };
 use crate::reported_outcome::ReportedOutcome;
 use crate::session::Heard;
@@ -47,8 +47,14 @@ pub const ASKED_CHANGE: u32 = 29;
 /// A device is asked for the value of an id that the clock lacks.
 pub const ASKED_VALUE: u32 = 30;
 
+/// What is under way is saved, and now the device is asked.
+pub const ACT_NOW: u32 = 31;
+
 /// A change is not saved yet.
 const UNSAVED: u32 = 118;
+
+/// A change is under way at the device.
+const UNDER_WAY: u32 = 123;
 
 /// A handle holds no asker.
 pub const NO_ASKER: u32 = 120;
@@ -162,14 +168,39 @@ pub fn said_number(refusal: SaidRefusal) -> u32
     }
 }
 
-/// Why a clock that is saved while it goes on takes nothing, 33, 34, 118 or 121.
+/// Why a clock that is saved while it goes on takes nothing, 33, 34, 118, 121 or 123.
 pub fn take_number(refusal: TakeRefusal) -> u32
     ensures number { result ≡ take_number refusal }
     ensures some { 1 ≤ result }
 {
     match refusal {
         TakeRefusal::Said(refusal) => said_number(refusal),
+        TakeRefusal::UnderWay => UNDER_WAY,
         TakeRefusal::Unsaved => UNSAVED,
+    }
+}
+
+/// Why no change is under way after a call that would begin one, 33, 118 or 123.
+pub fn undertake_number(refusal: UndertakeRefusal) -> u32
+    ensures number { result ≡ undertake_number refusal }
+    ensures some { 1 ≤ result }
+{
+    match refusal {
+        UndertakeRefusal::NoPort => 33,
+        UndertakeRefusal::Unsaved => UNSAVED,
+        UndertakeRefusal::UnderWay => UNDER_WAY,
+    }
+}
+
+/// Why what is under way is not decided, 33, 34, 118, 121 or 124.
+pub fn decide_number(refusal: DecideRefusal) -> u32
+    ensures number { result ≡ decide_number refusal }
+    ensures some { 1 ≤ result }
+{
+    match refusal {
+        DecideRefusal::NothingUnderWay => 124,
+        DecideRefusal::Said(refusal) => said_number(refusal),
+        DecideRefusal::Unsaved => UNSAVED,
     }
 }
 
@@ -320,7 +351,7 @@ pub fn report_number(refusal: ReportRefusal) -> u32
     }
 }
 
-/// Why a session does not start, 48, 49, 53 to 55 or 57.
+/// Why a session does not start, 48, 49, 52 to 55 or 57.
 pub fn session_number(refusal: SessionRefusal) -> u32
     ensures number { result ≡ session_number refusal }
     ensures some { 1 ≤ result }
@@ -332,6 +363,7 @@ pub fn session_number(refusal: SessionRefusal) -> u32
         SessionRefusal::TargetIsEvery => 54,
         SessionRefusal::SameClock => 55,
         SessionRefusal::TargetIsZero => 57,
+        SessionRefusal::NobodyIsManager => 52,
     }
 }
 

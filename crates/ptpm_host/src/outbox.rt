@@ -18,6 +18,11 @@ pub(crate) struct Outbox<'a> {
 }
 
 impl<'a> Outbox<'a> {
+    ghost use Rattle.std.specs.Prelude.{◌<◌, ◌-◌, ◌∷◌, ◌++◌, [], slice_set};
+    ghost use Rattle.ptpm_codec.specs.Layout.{boundary_hops};
+    ghost use Rattle.ptpm_host.specs.Clock.{messages_in};
+    ghost use Rattle.ptpm_host.specs.Outbox.{HasGrown};
+
     /// These places, without messages.
     #[inline(always)]
     pub(crate) fn new(room: &'a mut [Sent]) -> Outbox<'a>
@@ -26,6 +31,23 @@ impl<'a> Outbox<'a> {
         ensures count { result.count ≡ 0 }
     {
         Outbox { room, count: 0 }
+    }
+
+    /// Writes the first octets of a datagram, with one hop less, into the next place.
+    pub(crate) fn push_lowered(&mut self, port: u16, datagram: &[u8], size: usize)
+        requires room { self.old.count < length self.old.room.now }
+        requires long { 54 ≤ size }
+        requires small { size ≤ 1472 }
+        requires inside { size ≤ length datagram.now }
+        requires hops { 0 < boundary_hops datagram.now }
+        ensures messages { messages_in (take self.new.count self.new.room.now)
+            ≡ messages_in (take self.old.count self.old.room.now)
+            ++ (port, slice_set (take size datagram.now) 45 (boundary_hops datagram.now - 1)) ∷ [] }
+        ensures grown { HasGrown self.old self.new }
+    {
+        let room = &mut *self.room;
+        room[self.count].put_lowered(port, datagram, size);
+        self.count += 1;
     }
 }
 

@@ -39,6 +39,7 @@ impl HostedClock {
         ensures members { IfOk result
             (λ members. members ≡ changed self.old.agent.sets self.new.agent.sets) }
         ensures table { self.new.agent.table ≡ self.old.agent.table }
+        ensures under_way { self.new.under_way ≡ self.old.under_way }
         ensures refusal { MatchResult result
             (λ _. change_refusal (request_here action id port octets.now) self.old.agent.sets ≡ None)
             (λ e. change_refusal (request_here action id port octets.now) self.old.agent.sets
@@ -87,6 +88,7 @@ impl HostedClock {
         ensures places { drop result.count room.new ≡ drop result.count room.old }
         ensures behind { AllZip KeepsBehind room.old room.new }
         ensures clock { clock_in self.new ≡ clock_in self.old }
+        ensures under_way { self.new.under_way ≡ self.old.under_way }
     {
         self.sent_law();
         let Ok(message) = view(datagram) else {

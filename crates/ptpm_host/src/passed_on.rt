@@ -1,12 +1,13 @@
 //! Which messages were passed on last, in a table of fixed size. A message that comes round again is recognized by it (this
 //! project's profile).
 
-ghost use Rattle.std.specs.Prelude.{◌≡◌, ◌<◌, ◌≤◌, IfSome, MatchBool, MatchOption, MatchResult, false, length};
+ghost use Rattle.std.specs.Prelude.{◌≡◌, ◌<◌, ◌≤◌, IfSome, MatchBool, MatchOption, false, length};
 ghost use Rattle.ptpm_codec.specs.declared.message.Message.{Message};
-ghost use Rattle.ptpm_codec.specs.Reading.{reading};
+ghost use Rattle.ptpm_host.specs.Transit.{header_key, key_in};
 ghost use Rattle.ptpm_host.specs.PassedOn.{FreeFrom, HasFrom, IsAsked, IsTableSize, LacksFrom, NotesNothing, TakenFrom, first_place, free, is_live, is_noted, key_of, nth_from, place_from, same_key, stirred, table_of};
 
-use ptpm_codec::{View, view};
+use crate::transit::unread;
+use ptpm_codec::{View, port_identity_at, u16_at, view};
 
 /// How many places a message may be noted in. A table has as many at least.
 const TRIED: usize = 16;
@@ -63,6 +64,24 @@ impl MessageKey {
             target_port: message.target().port,
             id: message.id(),
             action: message.action().code(),
+        }
+    }
+
+    /// The key of one that is passed on unread.
+    fn of_header(message: &[u8]) -> MessageKey
+        requires { 54 ≤ length message.now }
+        ensures { result ≡ header_key message.now }
+    {
+        let source = port_identity_at(message, 20);
+        let target = port_identity_at(message, 34);
+        MessageKey {
+            source_clock: u64::from_be_bytes(source.clock.0),
+            target_clock: u64::from_be_bytes(target.clock.0),
+            source_port: source.port,
+            number: u16_at(message, 30),
+            target_port: target.port,
+            id: u16_at(message, 52),
+            action: message[46] % 16,
         }
     }
 
@@ -142,9 +161,9 @@ impl PassedOn {
     /// Whether a message is to be passed on: if none with its key is noted, and a place is free. It is noted there from now on
     /// for `time`. Octets that are no management message are not passed on.
     pub fn is_first(&mut self, message: &[u8], now: u64, time: u64) -> bool
-        ensures asked { MatchResult (reading message.now)
-            (λ v. IsAsked self.old (key_of v) now time result self.new)
-            (λ _. (result ≡ false) × (self.new ≡ self.old)) }
+        ensures asked { MatchOption (key_in message.now)
+            ((result ≡ false) × (self.new ≡ self.old))
+            (λ key. IsAsked self.old key now time result self.new) }
     {
         is_first_of(self.seed, &mut self.places, message, now, time)
     }
@@ -160,18 +179,28 @@ pub fn is_first_of(
     now: u64,
     time: u64,
 ) -> bool
-    ensures asked { IsTableSize (length places.old) → MatchResult (reading message.now)
-        (λ v. IsAsked (table_of seed places.old) (key_of v) now time result (table_of seed places.new))
-        (λ _. (result ≡ false) × (places.new ≡ places.old)) }
+    ensures asked { IsTableSize (length places.old) → MatchOption (key_in message.now)
+        ((result ≡ false) × (places.new ≡ places.old))
+        (λ key. IsAsked (table_of seed places.old) key now time result (table_of seed places.new)) }
     ensures no_table { (IsTableSize (length places.old) → ⊥)
         → (result ≡ false) × (places.new ≡ places.old) }
 {
     if places.len() < TRIED || places.len() > MOST_PLACES {
         return false;
     }
-    match view(message) {
-        Ok(message) => notes(seed, places, &MessageKey::of(&message), now, time),
-        Err(_) => false,
+    match key_in(message) {
+        Some(key) => notes(seed, places, &key, now, time),
+        None => false,
+    }
+}
+
+/// The key of a datagram that is a management message, read or not.
+fn key_in(datagram: &[u8]) -> Option<MessageKey>
+    ensures { result ≡ key_in datagram.now }
+{
+    match view(datagram) {
+        Ok(message) => Some(MessageKey::of(&message)),
+        Err(_) => unread(datagram).map(MessageKey::of_header),
     }
 }
 

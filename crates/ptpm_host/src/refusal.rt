@@ -65,8 +65,30 @@ pub enum ChangeRefusal {
 #[derive(Clone, Copy, Debug, PartialEq, Eq)]
 pub enum TakeRefusal {
     Said(SaidRefusal),
+    /// A change is under way. It is of the same manager, or this would be another one.
+    UnderWay,
     /// It was never saved, or messages that were released were not taken out, or there are too few free places for those
     /// that may wait.
+    Unsaved,
+}
+
+/// Why no change is under way after a call that would begin one, in the order in which the reasons are judged.
+#[derive(Clone, Copy, Debug, PartialEq, Eq)]
+pub enum UndertakeRefusal {
+    /// The clock lacks the port.
+    NoPort,
+    /// It was never saved, or messages that were released were not taken out.
+    Unsaved,
+    /// It is a change, and another one is under way.
+    UnderWay,
+}
+
+/// Why what is under way is not decided, in the order in which the reasons are judged.
+#[derive(Clone, Copy, Debug, PartialEq, Eq)]
+pub enum DecideRefusal {
+    NothingUnderWay,
+    Said(SaidRefusal),
+    /// As of `TakeRefusal`.
     Unsaved,
 }
 
@@ -99,14 +121,14 @@ pub enum ReadRefusal {
 /// Why an asker does not go on from an image, in the order in which the reasons are judged.
 #[derive(Clone, Copy, Debug, PartialEq, Eq)]
 pub enum AskerRefusal {
-    /// No session has these settings.
+    /// No asker has these settings.
     Settings(SessionRefusal),
     /// It is no image of this session.
     Image(ptpm_manager::RestoreError),
 }
 
 /// Why a session does not start, in the order in which the reasons are judged. A survey of every clock has only the first, and
-/// one of one clock has each except the two about ports.
+/// one of one clock has each except the two about ports. The last is an asker's alone.
 #[derive(Clone, Copy, Debug, PartialEq, Eq)]
 pub enum SessionRefusal {
     /// The manager's clockIdentity means every clock.
@@ -121,6 +143,8 @@ pub enum SessionRefusal {
     TooManyPorts,
     /// The managed clock's clockIdentity is all zeros.
     TargetIsZero,
+    /// The port at which nobody manages is the manager's own.
+    NobodyIsManager,
 }
 
 /// Why no request is handed out, in the order in which the reasons are judged. A survey's GET is refused only for the first.

@@ -4,11 +4,15 @@ ghost use Rattle.std.specs.Prelude.{◌≡◌, ◌+◌, ◌≤◌, length};
 ghost use Rattle.ptpm_host.specs.Queue.{queued};
 
 use crate::clock::{Handled, HostedClock};
-use crate::device::{Asking, Said, Say};
+use crate::device::{Asking, Question, Said, Say};
 use crate::observing::{ObservedClock, ObservedPort, port_observations};
 use crate::queue::Queue;
-use crate::refusal::{ChangeRefusal, HandleRefusal, SavedRefusal, SavingRefusal, TakeRefusal};
+use crate::refusal::{
+    ChangeRefusal, DecideRefusal, HandleRefusal, SavedRefusal, SavingRefusal, TakeRefusal,
+    UndertakeRefusal,
+};
 use crate::sent::Sent;
+use crate::under_way::{UnderWay, first_message};
 use ptpm_agent::Verdict;
 use ptpm_codec::view;
 use ptpm_data::{ChangedMembers, DataSets, ObservationError, PortsLeftDisabled};
@@ -41,9 +45,31 @@ pub struct SavingClock {
     is_changed: bool,
     /// Whether a restart would find the clock: it was restored, or it was saved once.
     is_begun: bool,
+    /// What comes before the host acts.
+    acting: Acting,
     ghost shown_ports: { length shown.ports ≡ length clock.value.agent.sets.ports },
     ghost copied_ports: { length copied.ports ≡ length clock.value.agent.sets.ports },
     ghost inside: { ready + first ≤ length (queued queue) },
+}
+
+/// What comes before the host asks its device for what is under way.
+#[derive(Clone, Copy, Debug, PartialEq, Eq)]
+enum Acting {
+    /// It did, or a restart found this, or nothing is under way.
+    Nothing,
+    /// An image that has it, and the save of this.
+    AnImage,
+    /// The save of the latest image.
+    ItsSave,
+}
+
+/// What the host does once an image is saved.
+#[derive(Clone, Copy, Debug, PartialEq, Eq)]
+pub enum Saved {
+    /// Nothing more.
+    Saved,
+    /// It asks its device for what is under way.
+    ActNow,
 }
 
 /// What became of a datagram.
@@ -59,8 +85,9 @@ pub struct Taken {
 }
 
 impl SavingClock {
-    ghost use Rattle.std.specs.Prelude.{◌≢◌, ◌==◌, ◌++◌, ◌∷◌, ◌↔◌, ◌||◌, ◌&&◌, if◌then◌else◌, ℕ, All, IfErr, IfNone, IfOk, IfSome, IsSome, IsTrue, MatchResult, None, Ok, OnErr, OnOk, Some, [], drop, false, is_ok, not, take, true};
+    ghost use Rattle.std.specs.Prelude.{◌≢◌, ◌==◌, ◌++◌, ◌∷◌, ◌↔◌, ◌||◌, ◌&&◌, if◌then◌else◌, ℕ, All, IfErr, IfNone, IfOk, IfSome, IsSome, IsTrue, MatchResult, None, Ok, OnErr, OnOk, Some, [], drop, false, is_ok, is_some, not, take, true};
     ghost use Rattle.std.specs.List.{AllZip};
+    ghost use Rattle.ptpm_codec.specs.Layout.{message_octets};
     ghost use Rattle.ptpm_data.specs.Changed.{changed, no_members};
     ghost use Rattle.ptpm_data.specs.Members.{HasPort, has_port};
     ghost use Rattle.ptpm_device.specs.Asking.{asked, wanted};
@@ -70,15 +97,17 @@ impl SavingClock {
     ghost use Rattle.ptpm_saved.specs.Batching.{Confirms, GivesOut, Handles, Observes, begun};
     ghost use Rattle.ptpm_saved.specs.BatchingClock.{is_of_manager};
     ghost use Rattle.ptpm_saved.specs.Image.{clock_image};
-    ghost use Rattle.ptpm_saved.specs.SavingClock.{is_new};
+    ghost use Rattle.ptpm_saved.specs.SavingClock.{Datagram, is_new};
     ghost use Rattle.ptpm_host.specs.Blanks.{AreBlanked};
     ghost use Rattle.ptpm_host.specs.Changing.{IsChangedHere, change_refusal, request_here};
     ghost use Rattle.ptpm_host.specs.Clock.{IsWhole, KeepsBehind, clock_in, message_in, messages_in, state_in};
-    ghost use Rattle.ptpm_host.specs.Coming.{Changed, ClockBatch, Heard, datagram_in, turn_of};
+    ghost use Rattle.ptpm_host.specs.Coming.{Changed, ClockBatch, Decides, Heard, Undertakes, datagram_in, turn_of, undertaken};
     ghost use Rattle.ptpm_host.specs.Device.{Answers, IsGiven, said_value, say_in};
     ghost use Rattle.ptpm_host.specs.MostSent.{most_sent};
     ghost use Rattle.ptpm_host.specs.Observing.{IsObserved, clock_observation, observe_refusal, port_observations, ports_left};
-    ghost use Rattle.ptpm_host.specs.SavingClock.{IsAsBatch, IsCalled, IsCalledAt, IsNotSaving, called_at, free_places, is_for_live, is_full, is_unsaved, shown_state, state_asked, take_refusal};
+    ghost use Rattle.ptpm_host.specs.SavingClock.{IsAsBatch, IsCalled, IsCalledAt, IsNotSaving, acting_once_imaged, acts_once_saved, called_at, clock_state_in, decide_refusal, free_places, is_behind, is_for_live, is_full, is_stopped, is_unsaved, request_under_way, shown_state, state_asked, take_refusal, undertake_refusal};
+    ghost use Rattle.ptpm_host.specs.UnderWay.{AnswersAsked, asked_of, image_with};
+    ghost use Rattle.ptpm_host.specs.Undertaking.{asked_once_saved};
 
     /// This clock, and how many messages may wait. `saved` says whether a restart would find it as it is. So it is
     /// right after it was restored. Otherwise it takes nothing before it is saved for the first time. The places are asked for
@@ -90,7 +119,7 @@ impl SavingClock {
         places: usize,
     ) -> Result<SavingClock, SavingRefusal>
         ensures as_batch { IfOk result
-            (λ c. (count : ℕ) → IsAsBatch c (begun (state_in clock.value)) count) }
+            (λ c. (count : ℕ) → IsAsBatch c (begun (clock_state_in clock.value)) count) }
         ensures clock { IfOk result (λ c. c.clock ≡ clock) }
         ensures begun { IfOk result (λ c. c.is_begun ≡ saved) }
         ensures free { IfOk result (λ c. free_places c ≡ places) }
@@ -117,6 +146,7 @@ impl SavingClock {
             waits: false,
             is_changed: false,
             is_begun: saved,
+            acting: Acting::Nothing,
         })
     }
 
@@ -231,12 +261,16 @@ impl SavingClock {
         ensures unchanged { OnErr result (self.new ≡ self.old) }
         ensures untouched { OnErr result (room.new ≡ room.old) }
         ensures clock { clock_in self.new.clock.value ≡ clock_in self.old.clock.value }
+        ensures under_way { self.new.clock.value.under_way ≡ self.old.clock.value.under_way }
         ensures begun { self.new.is_begun ≡ self.old.is_begun }
     {
         let said = match self.clock.said(port, say, room.len()) {
             Ok(said) => said,
             Err(refusal) => return Err(TakeRefusal::Said(refusal)),
         };
+        if !of_owner && self.is_behind(port, datagram) {
+            return Err(TakeRefusal::UnderWay);
+        }
         let is_for_live = self.is_for_live(port, datagram, of_owner);
         if self.is_full(is_for_live) {
             return Err(TakeRefusal::Unsaved);
@@ -249,6 +283,171 @@ impl SavingClock {
         } else {
             Ok(self.take_first(port, datagram, said, of_owner, room))
         }
+    }
+
+    /// Whether a datagram of a manager comes after what is under way: it is of the same manager for this clock alone, or another
+    /// change.
+    fn is_behind(&self, port: u16, datagram: &[u8]) -> bool
+        ensures { result ≡ is_behind self.now port datagram.now }
+    {
+        let Some(under_way) = &self.clock.under_way else {
+            return false;
+        };
+        under_way.is_of_source(datagram) && self.is_of_manager(port, datagram)
+            || self.clock.asks_change(datagram)
+    }
+
+    /// Does what `ask` does. If it is a change, it is under way from now on, and in each image. Then something waits to be saved.
+    /// Takes no memory.
+    pub fn undertake(&mut self, port: u16, datagram: &[u8]) -> Result<Asking, UndertakeRefusal>
+        ensures called { OnOk result
+            (IsCalledAt self.old (Handles (Undertakes port datagram.now)) self.new) }
+        ensures asked { IfOk result (Answers
+            (asked (clock_in self.old.clock.value)
+            (state_asked self.old port datagram.now false) datagram.now)
+            (wanted (clock_in self.old.clock.value)
+            (state_asked self.old port datagram.now false) datagram.now)) }
+        ensures under_way { OnOk result (request_under_way self.new.clock.value.under_way
+            ≡ (undertaken (clock_in self.old.clock.value) (clock_state_in self.old.clock.value)
+            port datagram.now).under_way) }
+        ensures waits { OnOk result (self.new.waits
+            ≡ (self.old.waits || is_some (asked (clock_in self.old.clock.value)
+            (state_in self.old.clock.value) datagram.now))) }
+        ensures others { OnOk result (asked (clock_in self.old.clock.value)
+            (state_in self.old.clock.value) datagram.now ≡ None → self.new ≡ self.old) }
+        ensures agent { self.new.clock.value.agent ≡ self.old.clock.value.agent }
+        ensures free { free_places self.new ≡ free_places self.old }
+        ensures begun { self.new.is_begun ≡ self.old.is_begun }
+        ensures refusal { MatchResult result
+            (λ _. undertake_refusal self.old port datagram.now ≡ None)
+            (λ e. undertake_refusal self.old port datagram.now ≡ Some e) }
+        ensures unchanged { OnErr result (self.new ≡ self.old) }
+    {
+        if !self.clock.sets().has_port(port) {
+            return Err(UndertakeRefusal::NoPort);
+        }
+        if self.is_stopped() {
+            return Err(UndertakeRefusal::Unsaved);
+        }
+        let Ok(asking) = self.ask(port, datagram) else {
+            unreachable!()
+        };
+        if !self.clock.asks_change(datagram) {
+            return Ok(asking);
+        }
+        if self.clock.under_way.is_some() {
+            return Err(UndertakeRefusal::UnderWay);
+        }
+        self.begin_change(port, datagram);
+        Ok(asking)
+    }
+
+    /// Has a change under way, while nothing is.
+    fn begin_change(&mut self, port: u16, datagram: &[u8])
+        requires asks { is_some (asked (clock_in self.old.clock.value) (state_in self.old.clock.value) datagram.now) ≡ true }
+        requires nothing { self.old.clock.value.under_way ≡ None }
+        ensures called { IsCalledAt self.old (Handles (Undertakes port datagram.now)) self.new }
+        ensures under_way { request_under_way self.new.clock.value.under_way
+            ≡ Some (port, message_octets datagram.now) }
+        ensures waits { self.new.waits ≡ true }
+        ensures agent { self.new.clock.value.agent ≡ self.old.clock.value.agent }
+        ensures free { free_places self.new ≡ free_places self.old }
+        ensures begun { self.new.is_begun ≡ self.old.is_begun }
+    {
+        self.clock.under_way = Some(UnderWay::of(port, first_message(datagram)));
+        self.waits = true;
+        self.is_changed = true;
+        self.acting = Acting::AnImage;
+    }
+
+    /// What its device was asked to carry out, or will be.
+    pub fn under_way(&self) -> Option<Question>
+        ensures { AnswersAsked (asked_of (request_under_way self.now.clock.value.under_way)) result }
+    {
+        self.clock.under_way()
+    }
+
+    /// The turn of what is under way, with what the device says of it. Nothing is under way then. Its messages wait, and the places
+    /// of `room` that were used for them are blank. If it is refused, nothing changes. Takes no memory.
+    pub fn decide(&mut self, say: &Say, room: &mut [Sent]) -> Result<Taken, DecideRefusal>
+        ensures called { OnOk result ((o : says.Say) → say_in say.now ≡ Ok o →
+            IsCalled self.old (Handles (Decides o)) [] self.new) }
+        ensures verdict { IfOk result (λ t. (o : says.Say) (x : Datagram) → say_in say.now ≡ Ok o
+            → request_under_way self.old.clock.value.under_way ≡ Some x
+            → t.verdict ≡ (turn_said (clock_in self.old.clock.value)
+            (state_in self.old.clock.value) o x.0 x.1).verdict) }
+        ensures members { IfOk result (λ t. t.changed
+            ≡ changed self.old.clock.value.agent.sets self.new.clock.value.agent.sets) }
+        ensures nothing { OnOk result (self.new.clock.value.under_way ≡ None) }
+        ensures waits { OnOk result (self.new.waits ≡ true) }
+        ensures free { IfOk result (λ t. free_places self.new + t.waiting ≡ free_places self.old) }
+        ensures count { IfOk result (λ t. t.count ≡ 0) }
+        ensures blanked { IfOk result (λ t. AreBlanked t.waiting room.old room.new) }
+        ensures refusal { MatchResult result
+            (λ _. decide_refusal self.old self.old.clock.value.under_way say.now (length room.old) ≡ None)
+            (λ e. decide_refusal self.old self.old.clock.value.under_way say.now (length room.old) ≡ Some e) }
+        ensures unchanged { OnErr result (self.new ≡ self.old) }
+        ensures untouched { OnErr result (room.new ≡ room.old) }
+        ensures clock { clock_in self.new.clock.value ≡ clock_in self.old.clock.value }
+        ensures begun { self.new.is_begun ≡ self.old.is_begun }
+    {
+        let Some(under_way) = self.clock.under_way else {
+            return Err(DecideRefusal::NothingUnderWay);
+        };
+        let said = match self.clock.said(under_way.port, say, room.len()) {
+            Ok(said) => said,
+            Err(refusal) => return Err(DecideRefusal::Said(refusal)),
+        };
+        if self.is_full(true) {
+            return Err(DecideRefusal::Unsaved);
+        }
+        Ok(self.take_decided(&under_way, said, room))
+    }
+
+    /// Carries out what is under way.
+    fn take_decided(&mut self, under_way: &UnderWay, said: Said<'_>, room: &mut [Sent]) -> Taken
+        requires under_way { self.old.clock.value.under_way ≡ Some under_way.now }
+        requires port { HasPort under_way.now.port self.old.clock.value.agent.sets }
+        requires room { most_sent (state_in self.old.clock.value) ≤ length room.old }
+        requires free { most_sent (state_in self.old.clock.value) ≤ free_places self.old }
+        requires given { IsGiven said }
+        requires ready { self.old.ready ≡ 0 }
+        ensures called { IsCalled self.old (Handles (Decides (said_value said.entry))) [] self.new }
+        ensures verdict { result.verdict ≡ (turn_said (clock_in self.old.clock.value)
+            (state_in self.old.clock.value) (said_value said.entry) under_way.now.port
+            (take under_way.now.size under_way.now.octets)).verdict }
+        ensures members { result.changed
+            ≡ changed self.old.clock.value.agent.sets self.new.clock.value.agent.sets }
+        ensures nothing { self.new.clock.value.under_way ≡ None }
+        ensures still { self.new.waits ≡ true }
+        ensures free { free_places self.new + result.waiting ≡ free_places self.old }
+        ensures begun { self.new.is_begun ≡ self.old.is_begun }
+        ensures count { result.count ≡ 0 }
+        ensures blanked { AreBlanked result.waiting room.old room.new }
+        ensures clock { clock_in self.new.clock.value ≡ clock_in self.old.clock.value }
+    {
+        let before = self.clock.sets().copy();
+        let handled = self
+            .clock
+            .carry_out(under_way.port, under_way.message(), said, false, room);
+        self.queue.take_over(room, handled.count);
+        self.clock.under_way = None;
+        self.waits = true;
+        self.is_changed = true;
+        self.acting = Acting::Nothing;
+        Taken {
+            verdict: handled.verdict,
+            count: 0,
+            waiting: handled.count,
+            changed: self.clock.sets().changed_since(&before),
+        }
+    }
+
+    /// Whether it was never saved, or released messages were not taken out.
+    fn is_stopped(&self) -> bool
+        ensures { result ≡ is_stopped self.now }
+    {
+        !self.is_begun || self.ready > 0
     }
 
     /// Whether the clock takes nothing now: it was never saved, released messages were not taken out, or what may wait has no
@@ -283,6 +482,7 @@ impl SavingClock {
         ensures places { drop result.count room.new ≡ drop result.count room.old }
         ensures behind { AllZip KeepsBehind room.old room.new }
         ensures clock { clock_in self.new.clock.value ≡ clock_in self.old.clock.value }
+        ensures under_way { self.new.clock.value.under_way ≡ self.old.clock.value.under_way }
     {
         self.clock.agent.swap_sets(&mut self.shown);
         let handled = self.clock.carry_out(port, datagram, said, false, room);
@@ -324,6 +524,7 @@ impl SavingClock {
         ensures blanked { result.waiting ≢ 0
             → (result.count ≡ 0) × AreBlanked result.waiting room.old room.new }
         ensures clock { clock_in self.new.clock.value ≡ clock_in self.old.clock.value }
+        ensures under_way { self.new.clock.value.under_way ≡ self.old.clock.value.under_way }
     {
         let handled = self.clock.carry_out(port, datagram, said, of_owner, room);
         if handled.verdict != Verdict::AnsweredNew {
@@ -370,6 +571,7 @@ impl SavingClock {
         ensures blanked { AreBlanked result.waiting room.old room.new }
         ensures same { result.waiting ≡ 0 → room.new ≡ room.old }
         ensures clock { clock_in self.new.clock.value ≡ clock_in self.old.clock.value }
+        ensures under_way { self.new.clock.value.under_way ≡ self.old.clock.value.under_way }
     {
         let before = self.clock.sets().copy();
         let handled = self.clock.carry_out(port, datagram, said, of_owner, room);
@@ -410,6 +612,7 @@ impl SavingClock {
             (ports_left ports.now self.old.clock.value) }
         ensures observed { IsObserved clock.now ports.now self.old.clock.value
             self.new.clock.value }
+        ensures under_way { self.new.clock.value.under_way ≡ self.old.clock.value.under_way }
         ensures waits { self.new.waits ≡ self.old.waits }
         ensures free { free_places self.new ≡ free_places self.old }
         ensures begun { self.new.is_begun ≡ self.old.is_begun }
@@ -447,6 +650,7 @@ impl SavingClock {
         ensures changed { OnOk result
             (IsChangedHere (request_here action id port octets.now) self.old.clock.value
             self.new.clock.value) }
+        ensures under_way { self.new.clock.value.under_way ≡ self.old.clock.value.under_way }
         ensures members { IfOk result
             (λ members.
             members
@@ -477,14 +681,12 @@ impl SavingClock {
         ensures called { IfSome result (λ _. (b : ClockBatch) (count : ℕ)
             → IsAsBatch self.old b count → IsAsBatch self.new b (length b.since)) }
         ensures room { IsSome result
-            ↔ (length (clock_image (state_in self.old.clock.value)) ≤ length octets.old) }
-        ensures size { IfSome result
-            (λ r. r.0 ≡ length (clock_image (state_in self.old.clock.value))) }
+            ↔ (length (image_with (request_under_way self.old.clock.value.under_way) (clock_image (state_in self.old.clock.value))) ≤ length octets.old) }
+        ensures size { IfSome result (λ r. r.0 ≡ length (image_with (request_under_way self.old.clock.value.under_way) (clock_image (state_in self.old.clock.value)))) }
         ensures token { IfSome result
             (λ r. (r.1 ≡ self.new.images) × (self.new.is_imaged ≡ true)) }
         ensures octets { IfSome result
-            (λ r.
-            octets.new ≡ clock_image (state_in self.old.clock.value) ++ drop r.0 octets.old) }
+            (λ r. octets.new ≡ image_with (request_under_way self.old.clock.value.under_way) (clock_image (state_in self.old.clock.value)) ++ drop r.0 octets.old) }
         ensures clock { self.new.clock ≡ self.old.clock }
         ensures waits { self.new.waits ≡ self.old.waits }
         ensures free { free_places self.new ≡ free_places self.old }
@@ -498,16 +700,22 @@ impl SavingClock {
         self.images = self.images.wrapping_add(1);
         self.is_imaged = true;
         self.is_changed = false;
+        self.acting = self.acting_once_imaged();
         Some((size, self.images))
     }
 
     /// Takes its host's word that a restart would find the image of this token. It must be the latest, and counts once. What
     /// waited when it was made is released. What came since goes on waiting; if nothing has changed since, it is released too.
-    /// If it is refused, nothing changes. Takes no memory.
-    pub fn saved(&mut self, token: u64) -> Result<(), SavedRefusal>
+    /// Answers `ActNow` at the first save that has what was undertaken since the clock was made, unless that was decided. If it is
+    /// refused, nothing changes. Takes no memory.
+    pub fn saved(&mut self, token: u64) -> Result<Saved, SavedRefusal>
         ensures called { OnOk result ((b : ClockBatch) (count later : ℕ)
             → IsAsBatch self.old b count
             → IsAsBatch self.new (called_at self.old b (Confirms count)) later) }
+        ensures acts { IfOk result (λ r. r ≡ (if acts_once_saved self.old then Saved.ActNow else Saved.Saved)) }
+        ensures asked { IfOk result (λ r. (b : ClockBatch) (count : ℕ) → IsAsBatch self.old b count
+            → acts_once_saved self.old ≡ is_some (asked_once_saved (clock_in self.old.clock.value) b count)) }
+        ensures told { OnOk result (acts_once_saved self.new ≡ false) }
         ensures waits { OnOk result (self.new.waits ≡ self.old.is_changed) }
         ensures begun { OnOk result (self.new.is_begun ≡ true) }
         ensures once { OnOk result (self.new.is_imaged ≡ false) }
@@ -528,7 +736,28 @@ impl SavingClock {
         self.waits = self.is_changed;
         self.is_imaged = false;
         self.is_begun = true;
-        Ok(())
+        if !self.acts_once_saved() {
+            return Ok(Saved::Saved);
+        }
+        self.acting = Acting::Nothing;
+        Ok(Saved::ActNow)
+    }
+
+    /// Whether the host acts once the latest image is saved.
+    fn acts_once_saved(&self) -> bool
+        ensures { result ≡ acts_once_saved self.now }
+    {
+        self.acting == Acting::ItsSave && self.clock.under_way.is_some()
+    }
+
+    /// What comes before the host acts, now that there is an image of the clock.
+    fn acting_once_imaged(&self) -> Acting
+        ensures { result ≡ acting_once_imaged self.now.acting }
+    {
+        match self.acting {
+            Acting::Nothing => Acting::Nothing,
+            _ => Acting::ItsSave,
+        }
     }
 
     /// How many messages are released once the latest image is saved, those that are already among them: all of them if nothing

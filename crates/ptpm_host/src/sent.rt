@@ -1,6 +1,6 @@
 //! Messages as a host in C takes them over, each written in place.
 
-ghost use Rattle.std.specs.Prelude.{◌≡◌, ◌-◌, ◌<◌, ◌≤◌, ℕ, [], length, slice_set};
+ghost use Rattle.std.specs.Prelude.{◌≡◌, ◌-◌, ◌<◌, ◌≤◌, ℕ, [], length, slice_set, take};
 ghost use Rattle.ptpm_codec.specs.Canonical.{canonical};
 ghost use Rattle.ptpm_codec.specs.Layout.{boundary_hops, message_octets};
 ghost use Rattle.ptpm_codec.specs.declared.message.Action.{Action};
@@ -118,6 +118,24 @@ impl Sent {
         self.port = port;
         self.size = size as u16;
         less_hop_in(datagram, &mut self.octets[..size]);
+    }
+
+    /// Writes the first octets of a datagram, with octet 45, boundaryHops, less by one, in place of the message that is here.
+    pub(crate) fn put_lowered(&mut self, port: u16, datagram: &[u8], size: usize)
+        requires long { 54 ≤ size }
+        requires small { size ≤ 1472 }
+        requires inside { size ≤ length datagram.now }
+        requires hops { 0 < boundary_hops datagram.now }
+        ensures message { message_in self.new
+            ≡ (port, slice_set (take size datagram.now) 45 (boundary_hops datagram.now - 1)) }
+        ensures whole { IsWhole self.new }
+        ensures behind { KeepsBehind self.old self.new }
+    {
+        self.port = port;
+        self.size = size as u16;
+        let octets = &mut self.octets[..size];
+        copy_message(octets, &datagram[..size]);
+        octets[45] = datagram[45] - 1;
     }
 
     /// Writes a copy of a kept message in place of the one that is here. What depends on the copy of the request that is

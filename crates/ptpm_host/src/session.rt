@@ -1,6 +1,6 @@
 //! A session with the request that it sends and the answer that it heard, as a host keeps it.
 
-ghost use Rattle.std.specs.Prelude.{◌≡◌, ◌≢◌, ◌≤◌, ◌++◌, ◌∷◌, ◌↔◌, [], false, true, None, Some, IfNone, IfOk, IfSome, IsSome, MatchResult, OnErr, OnOk, drop, length, take};
+ghost use Rattle.std.specs.Prelude.{◌≡◌, ◌≢◌, ◌≤◌, ◌++◌, ◌∷◌, ◌↔◌, [], false, true, None, Some, IfErr, IfNone, IfOk, IfSome, IsSome, MatchResult, OnErr, OnOk, drop, length, take};
 ghost use Rattle.ptpm_codec.specs.declared.message.Message.{Message};
 ghost use Rattle.ptpm_codec.specs.Canonical.{canonical};
 ghost use Rattle.ptpm_manager.specs.declared.error.BeginError.{BeginError};
@@ -93,6 +93,8 @@ impl HostedSession {
         ensures standing { IfOk result (λ s. s.standing ≡ restored_standing) }
         ensures judged { IsJudgedBy (settings_refusal settings.now image.now)
             RestoreError.OutOfMemory result }
+        ensures memory { IfErr result
+            (λ e. e ≡ RestoreError.OutOfMemory → IsSome (session_at image.now).unanswered) }
     {
         let session = Session::restored(
             alloc,

@@ -73,16 +73,17 @@ static void check_places(size_t written, size_t waiting) {
     if (octets < end) say("it writes to a place that has no message\n");
 }
 
-/* A datagram, with what the device says of it, and whether it is its owner's. */
-struct coming { uint16_t port; struct octets datagram; struct ptpm_say said; bool is_of_owner; };
+/* A datagram, with what the device says of it, and whether it is its owner's. Or what the device says of the change under way. */
+struct coming { uint16_t port; struct octets datagram; struct ptpm_say said; bool is_of_owner, is_under_way; };
 
 static uint32_t take(struct ptpm_clock *clock, const struct coming *in, struct turn *into, size_t places) {
+    if (in->is_under_way) return ptpm_clock_decide(clock, &in->said, into->sent, places, &into->taken);
     return ptpm_clock_take(clock, in->port, in->datagram.at, in->datagram.size, &in->said, in->is_of_owner, into->sent, places, &into->taken);
 }
 
 /* Hands a datagram in at the second clock. One that sends at once gets it by ptpm_clock_handle, if it says no more than that takes. */
 static void take_again(struct ptpm_clock *second, const struct coming *in, struct turn *into, size_t places) {
-    bool is_simple = places_to_wait == 0 && places == PTPM_MOST_SENT && in->said.kind == PTPM_AGREES && !in->is_of_owner;
+    bool is_simple = places_to_wait == 0 && places == PTPM_MOST_SENT && in->said.kind == PTPM_AGREES && !in->is_of_owner && !in->is_under_way;
     size_t count = 1;
     if (!is_simple) {
         into->answer = take(second, in, into, places);
@@ -114,14 +115,19 @@ static void say_sent(const struct ptpm_sent *sent) {
     note_message(sent->octets, sent->size);
 }
 
-/* Hands in the datagram of these words, and says what comes of it: what is sent, a line each, and how many messages wait. */
+/* What came of it: what is sent, a line each, and how many messages wait. */
+static void say_turn(void) {
+    say_outcome(turn.answer, "0");
+    for (size_t i = 0; i < turn.taken.count; i++) say_sent(&turn.sent[i]);
+    if (turn.taken.waiting > 0) say("waiting: %llu\n", (unsigned long long)turn.taken.waiting);
+}
+
+/* Hands in the datagram of these words. */
 static void run_datagram(char *words, struct coming *in, size_t places) {
     read_octets(&words, &in->datagram);
     handle(in, places);
     note_message(in->datagram.at, in->datagram.size);
-    say_outcome(turn.answer, "0");
-    for (size_t i = 0; i < turn.taken.count; i++) say_sent(&turn.sent[i]);
-    if (turn.taken.waiting > 0) say("waiting: %llu\n", (unsigned long long)turn.taken.waiting);
+    say_turn();
 }
 
 static void run_in(char *words) {
@@ -129,6 +135,19 @@ static void run_in(char *words) {
     size_t places = next_room(&words, PTPM_MOST_SENT);
     in.port = (uint16_t)next_number(&words, 0);
     run_datagram(words, &in, places);
+}
+
+/* `transit PORT OCTETS`: the copies that are passed on of what the library does not read, or `nothing`. */
+static void run_transit(char *words) {
+    static struct octets datagram;
+    size_t places = next_room(&words, PTPM_MOST_SENT);
+    uint16_t port = (uint16_t)next_number(&words, 0);
+    read_octets(&words, &datagram);
+    memset(&turn, 0xee, sizeof turn);
+    size_t count = ptpm_clock_transit(&clock_of_page, port, datagram.at, datagram.size, turn.sent, places);
+    check_places(count, 0);
+    if (count == 0) say("nothing\n");
+    for (size_t i = 0; i < count; i++) say_sent(&turn.sent[i]);
 }
 
 /* `in-owner PORT OCTETS`. */
@@ -149,18 +168,40 @@ static void run_in_said(char *words) {
     run_datagram(words, &in, places);
 }
 
+static void read_given(char **words, struct ptpm_say *said) {
+    static struct octets value;
+    read_octets(words, &value);
+    *said = (struct ptpm_say){ .kind = PTPM_GIVES, .size = (uint16_t)value.size };
+    memcpy(said->octets, value.at, value.size < sizeof said->octets ? value.size : sizeof said->octets);
+}
+
 /* `in-given PORT VALUE, OCTETS`: the device gives the octets of a value. */
 static void run_in_given(char *words) {
     static struct coming in;
-    static struct octets value;
     size_t places = next_room(&words, PTPM_MOST_SENT);
     in.port = (uint16_t)next_number(&words, 0);
     char *given = strsep(&words, ",");
-    read_octets(&given, &value);
+    read_given(&given, &in.said);
     if (words == NULL) say_misspelt("in-given");
-    in.said = (struct ptpm_say){ .kind = PTPM_GIVES, .size = (uint16_t)value.size };
-    memcpy(in.said.octets, value.at, value.size < sizeof in.said.octets ? value.size : sizeof in.said.octets);
-    if (words != NULL) run_datagram(words, &in, places);
+    else run_datagram(words, &in, places);
+}
+
+/* `decide KIND ERROR`. */
+static void run_decide(char *words) {
+    static struct coming in = { .is_under_way = true };
+    size_t places = next_room(&words, PTPM_MOST_SENT);
+    in.said.kind = (uint8_t)next_number(&words, 0);
+    in.said.error = (uint16_t)next_number(&words, 0);
+    handle(&in, places);
+    say_turn();
+}
+
+/* `decide-given VALUE`: the device gives the octets of a value. */
+static void run_decide_given(char *words) {
+    static struct coming in = { .is_under_way = true };
+    read_given(&words, &in.said);
+    handle(&in, PTPM_MOST_SENT);
+    say_turn();
 }
 
 /* The members whose bits are set, by the names that the refusals of a start give them after BAD_. */
@@ -317,7 +358,7 @@ static void run_stop(char *words) {
 }
 
 const struct command clock_commands[] = {
-    { "clock", run_start }, { "in", run_in }, { "in-owner", run_in_owner }, { "in-said", run_in_said }, { "in-given", run_in_given }, { "changed", run_changed }, { "observe", run_observe },
+    { "clock", run_start }, { "in", run_in }, { "transit", run_transit }, { "in-owner", run_in_owner }, { "in-said", run_in_said }, { "in-given", run_in_given }, { "decide", run_decide }, { "decide-given", run_decide_given }, { "changed", run_changed }, { "observe", run_observe },
     { "set-here", run_set_here }, { "read", run_read }, { "image", run_image }, { "restore", run_restore }, { "saving", run_saving }, { "image-of", run_image_of },
     { "saved", run_saved }, { "next", run_next }, { "free", run_free }, { "unsaved", run_unsaved }, { "most-sent", run_most_sent }, { "stop", run_stop }, { NULL, NULL },
 };

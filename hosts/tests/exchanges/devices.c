@@ -9,14 +9,9 @@ enum { MOST_LIMITS = 8 };
 /* What the device was asked last. */
 static struct ptpm_question asked;
 
-/* `ask-device PORT OCTETS`. What the device is asked is said as the fields of its request. */
-static void run_ask_device(char *words) {
+/* What the device is asked is said as the fields of its request. */
+static void say_asked(uint32_t answer) {
     static const struct ptpm_question nothing;
-    static struct octets datagram;
-    uint16_t port = (uint16_t)next_number(&words, 0);
-    read_octets(&words, &datagram);
-    memset(&asked, 0xee, sizeof asked);
-    uint32_t answer = ptpm_clock_ask(&clock_of_page, port, datagram.at, datagram.size, &asked);
     say_outcome(answer, "ASKED_NOTHING");
     if (answer != PTPM_ASKED_CHANGE && answer != PTPM_ASKED_VALUE) {
         if (memcmp(&asked, &nothing, offsetof(struct ptpm_question, octets) + sizeof asked.octets) != 0) say("it writes what is not asked\n");
@@ -26,6 +21,30 @@ static void run_ask_device(char *words) {
     say(" %04x %04x %02x %04x %04x ", asked.manager_port, asked.number, asked.action, asked.port, asked.id);
     say_octets(asked.octets, asked.size);
     say("\n");
+}
+
+static void run_question(char *words, enum ptpm_asking (*call)(struct ptpm_clock *, uint16_t, const uint8_t *, size_t, struct ptpm_question *)) {
+    static struct octets datagram;
+    uint16_t port = (uint16_t)next_number(&words, 0);
+    read_octets(&words, &datagram);
+    memset(&asked, 0xee, sizeof asked);
+    say_asked(call(&clock_of_page, port, datagram.at, datagram.size, &asked));
+}
+
+static enum ptpm_asking ask(struct ptpm_clock *clock, uint16_t port, const uint8_t *datagram, size_t size, struct ptpm_question *question) {
+    return ptpm_clock_ask(clock, port, datagram, size, question);
+}
+
+/* `ask-device PORT OCTETS`. */
+static void run_ask_device(char *words) { run_question(words, ask); }
+
+/* `undertake PORT OCTETS`. */
+static void run_undertake(char *words) { run_question(words, ptpm_clock_undertake); }
+
+static void run_under_way(char *words) {
+    (void)words;
+    memset(&asked, 0xee, sizeof asked);
+    say_asked(ptpm_clock_under_way(&clock_of_page, &asked));
 }
 
 /* `range LEAST MOST`. The values are said as octets. */
@@ -61,5 +80,5 @@ static void run_limits(char *words) {
 }
 
 const struct command device_commands[] = {
-    { "ask-device", run_ask_device }, { "range", run_range }, { "limits", run_limits }, { NULL, NULL },
+    { "ask-device", run_ask_device }, { "undertake", run_undertake }, { "under-way", run_under_way }, { "range", run_range }, { "limits", run_limits }, { NULL, NULL },
 };

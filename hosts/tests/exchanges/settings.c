@@ -60,6 +60,12 @@ static const struct member of_asker[] = {
     ASKER_SESSION(hops), ASKER_SESSION(attempts), ASKER(nobody), ASKER(timeout), ASKER(wait), { 0 },
 };
 
+#define RECORD(name) NUMBER_OF(ptpm_journal_record, name)
+static const struct member of_record[] = {
+    RECORD(time), RECORD(count), RECORD(port), RECORD(id), RECORD(step), RECORD(number), RECORD(error), RECORD(kind), RECORD(flags),
+    RECORD(together), RECORD(domain), RECORD(group), RECORD(what), OCTETS_OF(ptpm_journal_record, clock), { 0 },
+};
+
 #define SURVEY(name) NUMBER_OF(ptpm_survey_settings, name)
 static const struct member of_survey[] = {
     SURVEY(port), SURVEY(number), SURVEY(id), OCTETS_OF(ptpm_survey_settings, clock), SURVEY(domain), SURVEY(hops), { 0 },
@@ -157,6 +163,11 @@ void read_session(char **words, struct ptpm_session_settings *settings) {
 void read_asker(char **words, struct ptpm_asker_settings *settings) {
     memset(settings, 0, sizeof *settings);
     read_members(words, of_asker, settings);
+}
+
+void read_record(char **words, struct ptpm_journal_record *record) {
+    memset(record, 0, sizeof *record);
+    read_members(words, of_record, record);
 }
 
 bool read_survey(char **words, struct ptpm_survey_settings *settings, uint8_t target[8]) {

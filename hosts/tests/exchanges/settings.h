@@ -40,6 +40,8 @@ void read_session(char **words, struct ptpm_session_settings *settings);
 /* The members of its session, and its own. */
 void read_asker(char **words, struct ptpm_asker_settings *settings);
 
+void read_record(char **words, struct ptpm_journal_record *record);
+
 /* Takes `target=K` too; whether it is there. */
 bool read_survey(char **words, struct ptpm_survey_settings *settings, uint8_t target[8]);
 

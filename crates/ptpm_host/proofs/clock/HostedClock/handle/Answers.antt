@@ -8,7 +8,7 @@ use Rattle.ptpm_host.proofs.clock.HostedClock.handle.Goals as goal
 
 pub returns-clause-new_alone : goal.returns-clause-new_alone
 returns-clause-new_alone c =
-    sets_stay c.args.self.now (record { agent = c.handle_into-verdict.new.self }) c.args.port c.args.datagram.now c.handle_into-verdict.result _ c.handle_into-verdict.ensures.turned
+    sets_stay c.args.self.now (record c.args.self.now { agent = c.handle_into-verdict.new.self }) c.args.port c.args.datagram.now c.handle_into-verdict.result _ c.handle_into-verdict.ensures.turned
 
 pub handle_into-verdict-requires-clause-room : goal.handle_into-verdict-requires-clause-room
 handle_into-verdict-requires-clause-room c =

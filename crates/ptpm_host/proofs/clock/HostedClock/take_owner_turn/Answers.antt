@@ -36,7 +36,7 @@ returns-clause-turned c =
     let left : c.swap_sets-2.new.self.sets ≡ c.take_owned-handled.new.owned.sets = first_of (search rules, cc) in
     let read : message_of c.args.datagram.now ≡ Some c.in-Ok.message =
     message_of-reading c.args.datagram.now c.in-Ok.message (sym c.view.ensures.exact ∙ c.in-Ok.is) in
-    owner_turned_is (clock_in c.args.self.now) _ (state_in c.args.self.now) _ _ (state_in (record { agent = c.swap_sets-2.new.self })) c.args.port
+    owner_turned_is (clock_in c.args.self.now) _ (state_in c.args.self.now) _ _ (state_in (record c.args.self.now { agent = c.swap_sets-2.new.self })) c.args.port
     c.args.datagram.now c.in-Ok.message c.take_owned-handled.result.verdict c.owner_verdict.result
     (messages_in (take c.take_owned-handled.result.count c.take_owned-handled.new.room)) read
     (c.admit.ensures.table.owner_is

@@ -23,7 +23,7 @@ pub take_turn-handled-requires-clause-room : goal.take_turn-handled-requires-cla
 take_turn-handled-requires-clause-room c =
     let once : wanted_once (clock_in c.args.self.now) (state_in c.args.self.now) c.args.datagram.now ≡ false = grind arith in
     let same : c.answer_value.new.room ≡ c.args.room.now = grind arith in
-    subst (λ places. length (outbox_of (turn (clock_in (record { agent = c.keep_value-is_kept.new.agent })) (state_in (record { agent = c.keep_value-is_kept.new.agent })) c.args.port c.args.datagram.now)) ≤ length places)
+    subst (λ places. length (outbox_of (turn (clock_in (record c.args.self.now { agent = c.keep_value-is_kept.new.agent })) (state_in (record c.args.self.now { agent = c.keep_value-is_kept.new.agent })) c.args.port c.args.datagram.now)) ≤ length places)
     (sym same)
     (given_fits (clock_in c.args.self.now) (state_in c.args.self.now) c.args.octets.now c.args.port c.args.datagram.now _ _ (length c.args.room.now)
     c.keep_value-is_kept.ensures.number once c.keep_value-is_kept.ensures.clock c.keep_value-is_kept.ensures.kept c.requires.room)

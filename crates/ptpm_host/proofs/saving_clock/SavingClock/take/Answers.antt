@@ -4,13 +4,11 @@ use Rattle.ptpm_data.specs.Changed.{changed}
 use Rattle.ptpm_data.proofs.Differing.{nothing_changed}
 use Rattle.ptpm_device.specs.Saying as says
 use Rattle.ptpm_saved.specs.Batching.{Handles}
-use Rattle.ptpm_host.specs.Clock.{KeepsBehind, clock_in, messages_in}
-use Rattle.ptpm_host.specs.Coming.{coming_process, datagram_in}
+use Rattle.ptpm_host.specs.Clock.{KeepsBehind, messages_in}
+use Rattle.ptpm_host.specs.Coming.{datagram_in}
 use Rattle.ptpm_host.specs.Device.{said_value, say_in}
-use Rattle.ptpm_host.specs.KeptBatch.{LeadsTo}
 use Rattle.ptpm_host.specs.OutboxLaws.{kept_by_none}
-use Rattle.ptpm_host.specs.SavingClock.{called_at, kept_of}
-use Rattle.ptpm_host.proofs.SavingCalls.{sets_of}
+use Rattle.ptpm_host.specs.SavingClock.{LeadsTo, called_at}
 use Rattle.ptpm_host.proofs.saving_clock.SavingClock.take.Goals as goal
 
 pub returns-then-not-is_for_live-clause-members : goal.returns-then-not-is_for_live-clause-members
@@ -24,11 +22,9 @@ returns-then-self-clause-called c = λ o is b count as_batch.
     let same : said_value c.in-Ok.said ≡ o = cc in
     let none : messages_in (take c.take_more.result.count c.take_more.new.room) ≡ [] =
     ap (λ n. messages_in (take n c.take_more.new.room)) c.take_more.ensures.count in
-    subst (λ (p : says.Say). LeadsTo (coming_process (clock_in c.take_more.new.self.clock.value)) sets_of
-    (messages_in (take c.take_more.result.count c.take_more.new.room)) (kept_of c.take_more.new.self)
+    subst (λ (p : says.Say). LeadsTo (messages_in (take c.take_more.result.count c.take_more.new.room)) c.take_more.new.self
     (called_at c.args.self.now b (Handles (datagram_in c.args.port c.args.datagram.now p c.args.of_owner))) count) same
-    (subst (λ (given : List (ℕ × List ℕ)). LeadsTo (coming_process (clock_in c.take_more.new.self.clock.value)) sets_of
-    given (kept_of c.take_more.new.self)
+    (subst (λ (given : List (ℕ × List ℕ)). LeadsTo given c.take_more.new.self
     (called_at c.args.self.now b (Handles (datagram_in c.args.port c.args.datagram.now (said_value c.in-Ok.said) c.args.of_owner))) count) (sym none)
     (c.take_more.ensures.called b count as_batch))
 
@@ -45,7 +41,6 @@ pub returns-else-self-clause-called : goal.returns-else-self-clause-called
 returns-else-self-clause-called c = λ o is b count as_batch.
     let said : say_in c.args.say.now ≡ Ok (said_value c.in-Ok.said) = c.in-Ok.ensures.said in
     let same : said_value c.in-Ok.said ≡ o = cc in
-    subst (λ (p : says.Say). LeadsTo (coming_process (clock_in c.take_first.new.self.clock.value)) sets_of
-    (messages_in (take c.take_first.result.count c.take_first.new.room)) (kept_of c.take_first.new.self)
+    subst (λ (p : says.Say). LeadsTo (messages_in (take c.take_first.result.count c.take_first.new.room)) c.take_first.new.self
     (called_at c.args.self.now b (Handles (datagram_in c.args.port c.args.datagram.now p c.args.of_owner))) count) same
     (c.take_first.ensures.called b count as_batch)
