@@ -4,13 +4,13 @@
 #include "counts.h"
 #include "device.h"
 #include "field_text.h"
+#include "message_places.h"
 #include "names.h"
 #include "network_limits.h"
 #include "observation.h"
 #include "output.h"
 #include "peers.h"
 #include "ptp4l.h"
-#include "ptp4l_change.h"
 #include "ptp4l_values.h"
 #include "saving.h"
 #include "unicast.h"
@@ -53,24 +53,14 @@ static uint8_t domain(void) {
     return ptpm_clock_read(&clock_held, PTPM_ID_DOMAIN, 0, octets, sizeof octets, &size) == PTPM_READ ? *octets : 0;
 }
 
-/* What became of a change that an earlier run asked the ptp4l for is decided now. The answer is kept, and a copy gets it. */
-static void settle_earlier(void) {
-    static uint8_t octets[MOST_HEARD];
-    struct heard earlier = { .octets = octets };
-    struct ptpm_question asked;
-    struct ptpm_taken taken;
-    uint16_t port;
-    if (!earlier_change(&port, octets, &earlier.size)) return;
-    if (ptpm_clock_ask(&clock_held, port, octets, earlier.size, &asked) != PTPM_ASKED_CHANGE) return;
-    lower_hops(&earlier);
-    ptpm_clock_take(&clock_held, port, octets, earlier.size, settle_change(&asked), false, places_to_send(), PTPM_MOST_SENT, &taken);
-}
+static struct ptpm_question under_way;     /* as it was found last */
+
+static bool is_under_way(void) { return ptpm_clock_under_way(&clock_held, &under_way) == PTPM_ASKED_CHANGE; }
 
 void save_clock(void) {
     start_ptp4l(options, domain());
-    if (has_ptp4l) settle_earlier();
     save_at_start(&clock_held);
-    if (has_ptp4l) end_change(true);
+    if (is_under_way()) settle_earlier(&under_way);
 }
 
 /* Another clock with this identity and domain may have been started before this one, and still run. From then on one that is started
@@ -146,9 +136,10 @@ static struct ptpm_sent *free_places(void) {
 /* The port at which a datagram is handed in. A GET of a port's value is handed in at that port, whose answer it then has. */
 static inline uint16_t handed_in_at(const struct heard *heard) { return has_values ? port_asked(heard) : ingress_of(heard); }
 
-/* A message to a program that asked on the Unix socket goes back there. Any other goes out with the round. How many messages were
-   not taken. */
+/* A message to a program that asked on the Unix socket goes back there. Any other goes out with the round. Who asked an earlier run asks
+   again. How many messages were not taken. */
 static unsigned long send_out(const struct ptpm_sent *message, const struct heard *heard) {
+    if (heard->is_of_earlier_run) return 0;
     if (message->port != ingress_of(heard)) send_later(message, NULL);
     else if (heard->port == NULL) return !answer_peer(message, heard);
     else send_later(message, heard->is_unicast ? heard : NULL);
@@ -186,6 +177,10 @@ static bool is_judged_as_owner(const struct heard *heard, const struct ptpm_say 
     return heard->is_of_owner && !is_given;
 }
 
+static void tell_not_made(enum ptpm_handled answer) {
+    if (answer != PTPM_ANSWERED_NEW) say_at_times("a change that the device has decided is not made: %s", answer_name(answer));
+}
+
 /* What becomes of a datagram, with what the device says of it, or NULL. How many messages were not taken. */
 static unsigned long take_turn(struct heard *heard, const struct ptpm_say *say) {
     static const struct ptpm_say nothing;
@@ -197,14 +192,25 @@ static unsigned long take_turn(struct heard *heard, const struct ptpm_say *say) 
     if (has_ptp4l && say == NULL) say = learned_to_give(&clock_held, heard);
     enum ptpm_handled answer = ptpm_clock_take(&clock_held, handed_in_at(heard), heard->octets, heard->size, say != NULL ? say : &nothing,
                                                is_judged_as_owner(heard, say), places, PTPM_MOST_SENT, &taken);
-    if (answer == PTPM_HANDLE_UNSAVED) {
+    if (answer == PTPM_HANDLE_UNSAVED || answer == PTPM_HANDLE_UNDER_WAY) {
         count_manager_dropped();
         return 0;
     }
-    if (say != NULL && say->kind == PTPM_GIVES) taken.count = answer_from_ports(&clock_held, heard, places, (size_t)taken.count);
-    else if (say != NULL && answer != PTPM_ANSWERED_NEW) {
-        say_at_times("a change that the device has decided is not made: %s", answer_name(answer));
+    if (options->limits.is_passed_on_unread && taken.count == 0) {
+        taken.count = ptpm_clock_transit(&clock_held, ingress_of(heard), heard->octets, heard->size, places, PTPM_MOST_SENT);
     }
+    if (say != NULL && say->kind == PTPM_GIVES) taken.count = answer_from_ports(&clock_held, heard, places, (size_t)taken.count);
+    else if (say != NULL) tell_not_made(answer);
+    return hand_on(heard, answer, places, &taken);
+}
+
+/* What becomes of the change under way, which the clock has already, with what the device says of it. */
+static unsigned long end_change(struct heard *heard, const struct ptpm_say *say) {
+    struct ptpm_taken taken;
+    struct ptpm_sent *places = free_places();
+    if (has_ptp4l) learn_value(heard);
+    enum ptpm_handled answer = ptpm_clock_decide(&clock_held, say, places, PTPM_MOST_SENT, &taken);
+    tell_not_made(answer);
     return hand_on(heard, answer, places, &taken);
 }
 
@@ -212,15 +218,22 @@ static bool is_asked(const struct heard *held, struct ptpm_question *asked) {
     return ptpm_clock_ask(&clock_held, ingress_of(held), held->octets, held->size, asked) == PTPM_ASKED_CHANGE;
 }
 
+/* In another domain what is under way would get no answer, whatever the device did. */
+static bool moves_domain(const struct heard *heard) {
+    if (heard->size < LEAST_MESSAGE || (heard->octets[ACTION_AT] & LOWER_HALF) != PTPM_SET) return false;
+    return (heard->octets[ID_AT] << 8 | heard->octets[ID_AT + 1]) == PTPM_ID_DOMAIN;
+}
+
 /* A manager's request. The device is asked about a change, which waits if its program is to be asked. Nothing else of its manager
-   is taken then, so that no later request overtakes it. How many messages were not taken. */
+   is taken then, so that no later request overtakes it. While another change is under way the clock takes none. How many messages were
+   not taken. */
 static unsigned long take_request(struct heard *held) {
     struct ptpm_question asked;
-    if (held->is_of_owner) return take_turn(held, NULL);
-    if (has_device && is_passed_over(held)) return 0;
+    if (held->is_of_owner && !(moves_domain(held) && is_under_way())) return take_turn(held, NULL);
+    if (held->is_of_owner || (has_device && is_passed_over(held))) return 0;
     if (!has_device || !is_asked(held, &asked)) return take_turn(held, NULL);
     const struct ptpm_say *objection = objection_of_limits(&asked);
-    if (objection != NULL || !has_program()) return take_turn(held, objection);
+    if (!has_program() || (objection != NULL && !is_under_way())) return take_turn(held, objection);
     wait_for_program(held);
     return 0;
 }
@@ -268,29 +281,26 @@ static bool take_decided(void) {
     const struct ptpm_say *say;
     if (ptpm_clock_free(&clock_held) < ptpm_clock_most_sent(&clock_held)) return false;
     struct heard *change = take_change(&say);
-    if (change != NULL) count_dropped(take_turn(change, say) + send_round());
+    if (change != NULL) count_dropped((is_under_way() ? end_change(change, say) : take_turn(change, say)) + send_round());
     return change != NULL;
 }
 
-/* Lets go of the change that was taken, once it is saved. One that the clock did not take would be asked for again. */
-static void end_taken(void) {
-    struct ptpm_question asked;
-    const struct heard *taken = taken_change();
-    if (taken == NULL || is_asking(taken)) return;
-    if (has_ptp4l) end_change(!is_asked(taken, &asked));
-    let_go_of_change();
+/* The device is asked for this change once a save has it as under way. Without saves it is asked at once. */
+static void ask_for(struct heard *change, struct ptpm_question *asked) {
+    if (!may_ask(asked)) return;
+    lower_hops(change);
+    if (options->state == NULL) ask_program(asked);
+    else ptpm_clock_undertake(&clock_held, ingress_of(change), change->octets, change->size, asked);
 }
 
-/* Asks the device's program about the change that is next, once the one before is saved. So it has never done more than one that may be
-   lost. By now the clock, or a limit, may refuse it. */
+/* Sees to the change that is next, if none is under way. By now the clock, or a limit, may refuse it. */
 static void ask_about_next(void) {
     struct ptpm_question asked;
-    end_taken();
-    const struct heard *held = change_to_ask();
-    if (held == NULL) return;
+    struct heard *held = change_to_ask();
+    if (held == NULL || is_under_way()) return;
     bool is_change = is_asked(held, &asked);
     const struct ptpm_say *objection = is_change ? objection_of_limits(&asked) : NULL;
-    if (is_change && objection == NULL) ask_program(&asked);
+    if (is_change && objection == NULL) ask_for(held, &asked);
     else decide_change(objection);
 }
 
@@ -300,7 +310,7 @@ long take_waiting(void) {
     if (is_saving || !ptpm_clock_unsaved(&clock_held)) return -1;
     long left = until_save();
     if (left > 0) return left;
-    if (peers_asking() > 0 || may_save()) begin_save(&clock_held);
+    if (peers_asking() > 0 || is_next_of_peer() || may_save()) begin_save(&clock_held);
     return is_saving ? -1 : NEXT_SAVE;
 }
 
@@ -319,8 +329,15 @@ static void send_released(void) {
     count_dropped(lost + send_round());
 }
 
+/* Ends a save, and sends what waited for it; whether the device is to be asked now. */
+static bool give_out(void) {
+    enum ptpm_saved answer = end_save(&clock_held);
+    if (!ptpm_is_refusal(answer)) send_released();
+    return answer == PTPM_ACT_NOW;
+}
+
 void take_saved(void) {
-    if (end_save(&clock_held)) send_released();
+    if (give_out() && is_under_way()) ask_program(&under_way);
 }
 
 static void tell_left(uint8_t left) {
@@ -346,7 +363,7 @@ void observe(char *text) {
 }
 
 void stop_clock(void) {
-    if (is_saving) take_saved();
-    if (ptpm_clock_unsaved(&clock_held) && begin_save(&clock_held)) take_saved();
+    if (is_saving) give_out();
+    if (ptpm_clock_unsaved(&clock_held) && begin_save(&clock_held)) give_out();
     ptpm_clock_stop(&clock_held);
 }

@@ -9,7 +9,7 @@
    why, if the library does not start it. */
 void start_clock(const struct options *given);
 
-/* It is saved, if it has a file of its state. Beside a ptp4l what an earlier run asked for is decided first. */
+/* It is saved, if it has a file of its state. What an earlier run may have asked its device for is looked for. */
 void save_clock(void);
 
 /* A line on standard error if another clock of this machine has its identity. */
@@ -37,7 +37,7 @@ size_t room_for_peers(void);
    one; -1 if there is nothing to save, or a save is under way. */
 long take_waiting(void);
 
-/* The save that is under way is done: sends what waited for it. */
+/* The save that was begun is done: sends what waited for it. Asks the device for the change that is under way, if it is time for that. */
 void take_saved(void);
 
 /* The clock observes what a text says, all of it or nothing. */

@@ -21,8 +21,9 @@ static struct device_counts counts;
 /* Changes that wait. The program is asked about the first, which is then decided and taken. A manager has one of them at most. */
 static struct { struct heard heard; uint8_t octets[MOST_HEARD], station[STATION]; } waiting[MANAGERS];
 static size_t first, count;
-enum state { WAITS, IS_ASKED, IS_DECIDED, IS_TAKEN };
+enum state { WAITS, IS_ASKED, IS_LOOKED_FOR, IS_DECIDED };
 static enum state state;                /* of the first */
+static struct ptpm_question question;   /* that the program is asked about it */
 static struct ptpm_say said;            /* and what the device says of it, if it was asked */
 static bool is_said;
 
@@ -82,7 +83,7 @@ const struct ptpm_say *objection_of_limits(const struct ptpm_question *asked) {
 bool has_program(void) { return options->device_program != NULL || options->ptp4l != NULL; }
 
 bool is_passed_over(const struct heard *heard) {
-    for (size_t i = state == IS_TAKEN ? 1 : 0; i < count; i++) {
+    for (size_t i = 0; i < count; i++) {
         const uint8_t *octets = waiting[(first + i) % MANAGERS].heard.octets;
         if (memcmp(octets + SOURCE_AT, heard->octets + SOURCE_AT, SEQUENCE_AT - SOURCE_AT) != 0) continue;
         counts.passed_over++;
@@ -92,7 +93,7 @@ bool is_passed_over(const struct heard *heard) {
 }
 
 void wait_for_program(const struct heard *change) {
-    if (count == MANAGERS) {            /* the first is taken, and its manager has sent another */
+    if (count == MANAGERS) {            /* the first is of an earlier run */
         counts.passed_over++;
         return;
     }
@@ -105,7 +106,9 @@ void wait_for_program(const struct heard *change) {
 
 static struct heard *first_in(enum state wanted) { return count > 0 && state == wanted ? &waiting[first].heard : NULL; }
 
-const struct heard *change_to_ask(void) { return first_in(WAITS); }
+struct heard *change_to_ask(void) { return first_in(WAITS); }
+
+bool is_next_of_peer(void) { return count > 0 && waiting[first].heard.port == NULL; }
 
 void decide_change(const struct ptpm_say *say) {
     is_said = say != NULL;
@@ -121,48 +124,91 @@ static uint16_t error_of(int status) {
     }
 }
 
-void let_go_of_change(void) {
+static void let_go_of_change(void) {
     first = (first + 1) % MANAGERS;
     count--;
     state = WAITS;
 }
 
+static const char *asked_program(void) { return options->ptp4l != NULL ? options->ptp4l : options->device_program; }
+
 /* It said nothing, so the change counts as lost, and its manager sends it again. */
 static void drop_change(const char *why) {
-    say_at_times("%s %s, and the change counts as lost", options->ptp4l != NULL ? options->ptp4l : options->device_program, why);
+    say_at_times("%s %s, and the change counts as lost", asked_program(), why);
     counts.silent++;
     let_go_of_change();
 }
 
-static void ask_ptp4l_for(const struct ptpm_question *asked) {
+static void agree(void) {
+    static const struct ptpm_say agreement = { .kind = PTPM_AGREES };
+    counts.agreed++;
+    decide_change(&agreement);
+}
+
+static void refuse(uint16_t error) {
+    struct ptpm_say say = { 0 };
+    object(&say, error);
+    decide_change(&say);
+}
+
+bool may_ask(const struct ptpm_question *asked) {
     const struct ptpm_say *say;
-    switch (undertake(&waiting[first].heard, asked, &say)) {
-    case IS_UNDERTAKEN: state = IS_ASKED; break;
+    if (options->ptp4l == NULL) return true;
+    switch (judge_change(asked, &say)) {
+    case MAY_BE_ASKED: return true;
     case IS_SAID: take_word(say); break;
     case IS_TOO_EARLY: break;
     case IS_LOST: drop_change("could not be asked");
     }
+    return false;
 }
 
 void ask_program(const struct ptpm_question *asked) {
-    if (options->ptp4l != NULL) ask_ptp4l_for(asked);
-    else if (start_run(asked)) state = IS_ASKED;
-    else drop_change("could not be asked");
+    question = *asked;
+    if (options->ptp4l != NULL ? ask_for_change(asked) : start_run(asked, false)) state = IS_ASKED;
+    else if (options->state == NULL) drop_change("could not be asked");
+    else {
+        say_at_times("%s could not be asked: GENERAL_ERROR", asked_program());
+        counts.silent++;
+        refuse(PTPM_ERROR_GENERAL_ERROR);
+    }
 }
 
 void take_word(const struct ptpm_say *say) {
-    if (say->kind == PTPM_AGREES) counts.agreed++;
-    else counts.objected++;
-    decide_change(say);
+    if (say->kind == PTPM_AGREES) agree();
+    else refuse(say->error);
     if (options->is_verbose) print_line("the ptp4l %s", say->kind == PTPM_AGREES ? "has done it" : error_name(say->error));
 }
 
-/* It was asked, and could not answer. Nothing was done. */
+/* What a look finds: the status of a run of the program. By any other than the first two it does not know. */
+enum { HAS_CHANGE = 0, LACKS_CHANGE = 1, DOES_NOT_KNOW = 2 };
+
+static void take_look(int found) {
+    if (found == HAS_CHANGE) agree();
+    else refuse(PTPM_ERROR_GENERAL_ERROR);
+    say_at_times("a change was under way: the device %s", found == HAS_CHANGE ? "has it"
+                 : found == LACKS_CHANGE ? "lacks it, and it is answered with GENERAL_ERROR"
+                                         : "does not know, and it is answered with GENERAL_ERROR");
+}
+
+static void look(void) {
+    state = IS_LOOKED_FOR;
+    if (!start_run(&question, true)) take_look(DOES_NOT_KNOW);
+}
+
+/* It is the first of those that wait, and nobody's. A copy of it waits like another change, and gets the answer. */
+void settle_earlier(const struct ptpm_question *asked) {
+    static uint8_t octets[LEAST_MESSAGE];
+    question = *asked;
+    wait_for_program(&(struct heard){ .octets = octets, .size = sizeof octets, .is_of_earlier_run = true });
+    if (options->ptp4l != NULL) take_look(has_ptp4l_changed(asked) ? HAS_CHANGE : LACKS_CHANGE);
+    else look();
+}
+
+/* Nothing was done. */
 static void refuse_change(const struct run *run) {
-    struct ptpm_say say = { 0 };
     uint16_t error = run->end == RUN_NOT_STARTED ? PTPM_ERROR_GENERAL_ERROR : error_of(run->number);
-    object(&say, error);
-    decide_change(&say);
+    refuse(error);
     if (run->end == RUN_NOT_STARTED) say_at_times("%s: %s", options->device_program, strerror(run->number));
     else if (error == PTPM_ERROR_GENERAL_ERROR) {
         say_at_times("%s ended with status %d: GENERAL_ERROR", options->device_program, run->number);
@@ -170,16 +216,27 @@ static void refuse_change(const struct run *run) {
     if (options->is_verbose) print_line("the device objects: %s", error_name(error));
 }
 
+/* Nobody knows what was done. */
+static void take_silence(const char *why) {
+    if (options->state == NULL) {
+        drop_change(why);
+        return;
+    }
+    say_at_times("%s %s, and is asked whether the device has the change", options->device_program, why);
+    counts.silent++;
+    look();
+}
+
 void hear_program(void) {
-    static const struct ptpm_say agreement = { .kind = PTPM_AGREES };
     struct run run;
-    if (!end_run(&run) || state != IS_ASKED) return;
-    if (run.end == RUN_TOOK_TOO_LONG) drop_change("took too long");
-    else if (run.end == RUN_KILLED) drop_change("was ended by a signal");
+    if (!end_run(&run)) return;
+    if (state == IS_LOOKED_FOR) take_look(run.end == RUN_EXITED ? run.number : DOES_NOT_KNOW);
+    else if (state != IS_ASKED) return;
+    else if (run.end == RUN_TOOK_TOO_LONG) take_silence("took too long");
+    else if (run.end == RUN_KILLED) take_silence("was ended by a signal");
     else if (run.end == RUN_NOT_STARTED || run.number != 0) refuse_change(&run);
     else {
-        counts.agreed++;
-        decide_change(&agreement);
+        agree();
         if (options->is_verbose) print_line("the device agrees");
     }
 }
@@ -188,10 +245,8 @@ struct heard *take_change(const struct ptpm_say **say) {
     struct heard *change = first_in(IS_DECIDED);
     if (change == NULL) return NULL;
     *say = is_said ? &said : NULL;
-    state = IS_TAKEN;
+    let_go_of_change();
     return change;
 }
-
-const struct heard *taken_change(void) { return first_in(IS_TAKEN); }
 
 const struct device_counts *device_counts_so_far(void) { return &counts; }

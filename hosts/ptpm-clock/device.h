@@ -1,5 +1,6 @@
 /* The device's say: whether it can do what a manager asks. The limits of its hardware (--limits) say that, and then a program of its
-   own (--ask). The program is asked about one change at a time. Other changes wait for it meanwhile, one of each manager. */
+   own (--ask). The program is asked about one change at a time. Other changes wait for it meanwhile, one of each manager. With -s it is
+   asked for each once. If what it did is not known, it is asked whether it has the change, and never for the change again. */
 #ifndef DEVICE_H
 #define DEVICE_H
 
@@ -36,10 +37,20 @@ bool is_passed_over(const struct heard *heard);
 void wait_for_program(const struct heard *change);
 
 /* The change that the program is to be asked about; NULL if there is none, or one is being asked or decided. */
-const struct heard *change_to_ask(void);
+struct heard *change_to_ask(void);
 
-/* Asks the program about it, or drops it if that can't be done. A ptp4l is asked to carry it out, and may have to be asked later. */
+/* Whether the next change is of a program of this host. */
+bool is_next_of_peer(void);
+
+/* Whether the program may be asked about it. A ptp4l may have to be asked later. If it can't be asked, or need not be, the change is
+   dropped or decided. */
+bool may_ask(const struct ptpm_question *asked);
+
+/* Asks the program about it, or a ptp4l to carry it out. If that can't be done the change is refused, or dropped without -s. */
 void ask_program(const struct ptpm_question *asked);
+
+/* An earlier run may have asked for this change: it is decided by whether the device has it. Beside a ptp4l it waits for that. */
+void settle_earlier(const struct ptpm_question *asked);
 
 /* What the ptp4l says of it. */
 void take_word(const struct ptpm_say *say);
@@ -47,16 +58,13 @@ void take_word(const struct ptpm_say *say);
 /* Or it is decided without the program, by what the device says; NULL if the device is not asked. */
 void decide_change(const struct ptpm_say *say);
 
-/* A run of the program has ended: the change is decided, or dropped if the program said nothing. */
+/* A run of the program has ended, and the change is decided by what it said. If it said nothing, the change is looked for, or dropped
+   without -s. */
 void hear_program(void);
 
-/* Takes the change that is decided, with what the device says; that is NULL if it was not asked. The change stays until it is let go of,
-   and nothing is asked meanwhile. NULL if none is decided. */
+/* Takes the change that is decided, with what the device says; that is NULL if it was not asked. Its octets stay until another change
+   waits. NULL if none is decided. */
 struct heard *take_change(const struct ptpm_say **say);
-
-/* The change that was taken, NULL if none was; it is let go of. */
-const struct heard *taken_change(void);
-void let_go_of_change(void);
 
 /* How often the program agreed; how often it or the limits objected; how often it said nothing; what was dropped meanwhile. */
 struct device_counts { unsigned long long agreed, objected, silent, passed_over; };

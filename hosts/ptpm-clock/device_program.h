@@ -24,8 +24,8 @@ void check_device_program(void);
 /* What is to be polled: it can be read once a run has ended. -1 if there is no program. */
 int device_program_event(void);
 
-/* Starts a run about a change; whether it could. */
-bool start_run(const struct ptpm_question *asked);
+/* Starts a run about a change, or one that looks whether the device has it; whether it could. */
+bool start_run(const struct ptpm_question *asked, bool is_look);
 
 /* How a run has ended; whether one has. Ends the clock with status 2 if the process beside it is gone. */
 bool end_run(struct run *run);

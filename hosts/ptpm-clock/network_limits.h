@@ -15,6 +15,7 @@ struct limits {
     long manager_rate;                  /* how many requests of managers a port takes per second */
     bool is_passed_on;                  /* messages are forwarded between the ports */
     bool is_passed_on_from_host;        /* and those of programs of this host */
+    bool is_passed_on_unread;           /* and those that the library refuses for their TLVs */
     bool is_any_source;                 /* also from addresses that are not on the link */
     bool is_near;                       /* of unicast only what no router has passed on (RFC 5082) */
     const struct ptpm_manager_settings *managers;

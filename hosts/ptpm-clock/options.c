@@ -22,14 +22,14 @@ enum { SECOND = 1000, HOPS_AT_FIRST = 8, RATE_AT_FIRST = 1000, MANAGER_RATE_AT_F
 
 /* Options without a letter of their own. */
 enum {
-    VERSION = 256, HOPS, RATE, MANAGER_RATE, NO_FORWARD, ANY_SOURCE, TTL_SECURITY, USER, UNIX_GROUP, UNIX_MODE, OWNER, NO_FILTER, LIMITS,
+    VERSION = 256, HOPS, RATE, MANAGER_RATE, NO_FORWARD, TRANSIT, ANY_SOURCE, TTL_SECURITY, USER, UNIX_GROUP, UNIX_MODE, OWNER, NO_FILTER, LIMITS,
     ASK, ASK_TIME, GIVE, PTP4L, DIVERTED, PTP4L_RULES
 };
 
 static const struct option names[] = {
     { "ipv6", no_argument, NULL, '6' }, { "ethernet", no_argument, NULL, '2' }, { "hops", required_argument, NULL, HOPS },
     { "rate", required_argument, NULL, RATE }, { "manager-rate", required_argument, NULL, MANAGER_RATE },
-    { "no-forward", no_argument, NULL, NO_FORWARD },
+    { "no-forward", no_argument, NULL, NO_FORWARD }, { "transit", no_argument, NULL, TRANSIT },
     { "any-source", no_argument, NULL, ANY_SOURCE }, { "ttl-security", no_argument, NULL, TTL_SECURITY },
     { "user", required_argument, NULL, USER },
     { "unix-group", required_argument, NULL, UNIX_GROUP }, { "unix-mode", required_argument, NULL, UNIX_MODE },
@@ -64,6 +64,7 @@ static const char help[] =
     "\n"
     "  --hops N            by how many clocks a message is passed on at most, this one included (8)\n"
     "  --no-forward        nothing is passed on between the ports\n"
+    "  --transit           management messages whose TLVs the clock does not read are passed on too\n"
     "  --rate N            how many messages a port passes on a second, and how many answers it sends to others than\n"
     "                      managers (1000). Each address has a few more\n"
     "  --manager-rate N    how many requests of managers a port takes a second (100). Each address has a few more\n"
@@ -77,7 +78,7 @@ static const char help[] =
     "                      Lines are for example: LOG_SYNC_INTERVAL -4..1, or: port 2 DELAY_MECHANISM E2E, or: DOMAIN never\n"
     "  --ask PROGRAM       a program of the device, which is run for each change that a manager asks for, and agrees by\n"
     "                      status 0. Its words are MANAGER NUMBER set|command ID NAME PORT|all OCTETS [MEMBER VALUE]..\n"
-    "  --ask-time SECONDS  how long it may take (10); then the change counts as lost\n"
+    "  --ask-time SECONDS  how long it may take (10); then it is ended\n"
     "  --give ID FILE      the octets of FILE are the answer to a GET of ID, which the clock itself lacks. ID is for example\n"
     "                      CLOCK_DESCRIPTION, or 2014/2, which is that of port 2. FILE is read at each GET\n"
     "  --ptp4l PATH        it answers for the ptp4l whose Unix socket is PATH, and asks it for each change once at most\n"
@@ -216,6 +217,7 @@ static void take_limit(struct options *options, int option) {
     case RATE: options->limits.rate = number("--rate", 1, MOST_RATE); break;
     case MANAGER_RATE: options->limits.manager_rate = number("--manager-rate", 1, MOST_RATE); break;
     case NO_FORWARD: options->limits.is_passed_on = false; break;
+    case TRANSIT: options->limits.is_passed_on_unread = true; break;
     case ANY_SOURCE: options->limits.is_any_source = true; break;
     case TTL_SECURITY: options->limits.is_near = true; break;
     case USER: take_user(&options->privileges); break;

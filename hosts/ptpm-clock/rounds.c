@@ -55,7 +55,7 @@ static void take_head(struct heard *heard, const struct port *port, struct mmsgh
     if (heard->sender_size == 0) heard->sender.any.sa_family = AF_UNSPEC;       /* it has no address, and that of another is there */
     heard->station = NULL;
     heard->port = port;
-    heard->is_of_owner = false;
+    heard->is_of_owner = heard->is_of_earlier_run = false;
     heard->is_unicast = port == NULL;
     heard->is_passed_on = false;
     heard->ttl = 0;

@@ -31,6 +31,7 @@ struct heard {
     const uint8_t *station;             /* its sender over Ethernet */
     const struct port *port;            /* that of the interface; NULL on the Unix socket */
     bool is_of_owner;                   /* it came in at the socket of the device's owner */
+    bool is_of_earlier_run;             /* it came in at an earlier run of the program */
     bool is_unicast;                    /* it was sent only to this host, and the answer goes only to its sender */
     bool is_passed_on;                  /* such a datagram came from another neighbour than the one who has its sender's address */
     int ttl;                            /* 0 if it isn't known */

@@ -8,12 +8,17 @@
 #include "replacing.h"
 #include "words.h"
 #include <errno.h>
+#include <libgen.h>
+#include <limits.h>
+#include <stdio.h>
 #include <stdlib.h>
 #include <string.h>
 #include <unistd.h>
 
-/* Statuses of the program, and the place of a clockIdentity in the image of a clock. */
+/* Statuses of the program, and the place of a clockIdentity in the image of a clock. If a change is under way, that image comes after the
+   change (docs/image.md). */
 enum { NOT_STARTED = 1, NOT_OPENED = 2, IDENTITY = 12 };
+enum { KIND_AT = 4, WITH_CHANGE = 3, CHANGE_SIZE_AT = 14, CHANGE_AT = 16 };
 
 /* Octets of a file, and of one that has more than that. */
 enum { ROOM = PTPM_CLOCK_IMAGE_OCTETS + PTPM_SEAL_OCTETS, MOST_STATE_OCTETS = ROOM + 1, LOCK_TRIES = 100 };
@@ -42,6 +47,15 @@ _Noreturn static void refuse_file(const char *why) {
     say("%s%s: %s", options->state, why != NULL ? "" : kept_fault(), why != NULL ? why : strerror(errno));
     if (is_right) say("it is user %s here: --user names another, and --user root stays root", options->privileges.user_name);
     end_with(NOT_OPENED);
+}
+
+/* The folder of the file is made if it is missing, and what is above it is not. */
+_Noreturn static void refuse_folder(void) {
+    char path[PATH_MAX], why[PATH_MAX + 64];
+    if (errno != ENOENT) refuse_file(errno == EINVAL ? "no name of a file" : NULL);
+    snprintf(path, sizeof path, "%s", options->state);
+    snprintf(why, sizeof why, "its folder can't be made: mkdir -p %s makes the one above it", dirname(dirname(path)));
+    refuse_file(why);
 }
 
 static void leave_nothing(void) { leave_no_lock(&file); }
@@ -103,9 +117,11 @@ static const char *reason(enum ptpm_restored refusal) {
 _Noreturn static void refuse_octets(enum ptpm_restored refusal) {
     char identity[IDENTITY_TEXT];
     const char *name = answer_name(refusal);
-    write_identity(identity, octets + IDENTITY);
-    if (refusal == PTPM_OTHER_CLOCK) say("it does not start: %s: %s: it has the state of clock %s", name, options->state, identity);
-    else say("it does not start: %s: %s: %s", name, options->state, reason(refusal));
+    if (refusal == PTPM_OTHER_CLOCK) {
+        int further = octets[KIND_AT] == WITH_CHANGE ? CHANGE_AT + (octets[CHANGE_SIZE_AT] << 8) + octets[CHANGE_SIZE_AT + 1] : 0;
+        write_identity(identity, octets + IDENTITY + further);
+        say("it does not start: %s: %s: it has the state of clock %s", name, options->state, identity);
+    } else say("it does not start: %s: %s: %s", name, options->state, reason(refusal));
     end_with(refusal == PTPM_RESTORE_NO_MEMORY ? NOT_OPENED : NOT_STARTED);
 }
 
@@ -139,7 +155,7 @@ bool restore_clock(struct ptpm_clock *clock, const struct options *given) {
     size_t size;
     options = given;
     if (options->state == NULL) return false;
-    if (!open_kept_folder(&file, options->state)) refuse_file(errno == EINVAL ? "no name of a file" : NULL);
+    if (!open_kept_folder(&file, options->state)) refuse_folder();
     take_file();
     if (file.is_folder_made) hand_over(file.folder);
     if (atexit(leave_nothing) || !open_replacing()) refuse_file(NULL);
@@ -173,22 +189,22 @@ static bool fill_octets(struct ptpm_clock *clock) {
 }
 
 /* A save was made: the clock gives out what waited for it. */
-static bool succeed(struct ptpm_clock *clock) {
+static enum ptpm_saved succeed(struct ptpm_clock *clock) {
     unsigned long took = microseconds() - begun, pause = (took / 1000 + PAUSE_PART / 2) / PAUSE_PART;
     saves_of_file++;
     is_failing = false;
     count_save(size_of_file, took);
     next_save = milliseconds() + (int64_t)(pause < MOST_PAUSE ? pause : MOST_PAUSE);
-    return ptpm_clock_saved(clock, token) == PTPM_SAVED;
+    return ptpm_clock_saved(clock, token);
 }
 
 /* A save was not made, or nobody knows. What waited goes on waiting, for the next one. */
-static bool fail(void) {
+static enum ptpm_saved fail(void) {
     saves.failed++;
     is_failing = true;
     next_save = milliseconds() + SECOND;
     say_at_times("%s%s: no change is answered: %s", options->state, kept_fault(), strerror(errno));
-    return false;
+    return PTPM_OTHER_IMAGE;
 }
 
 void save_at_start(struct ptpm_clock *clock) {
@@ -209,12 +225,13 @@ long until_save(void) { return (long)(next_save - milliseconds()); }
 
 bool begin_save(struct ptpm_clock *clock) {
     is_saving = fill_octets(clock) && begin_replacing(&file, octets, size_of_file);
-    return is_saving || fail();
+    if (!is_saving) fail();
+    return is_saving;
 }
 
 int saving_event(void) { return replacing_event(); }
 
-bool end_save(struct ptpm_clock *clock) {
+enum ptpm_saved end_save(struct ptpm_clock *clock) {
     enum replaced answer = end_replacing();
     is_saving = false;
     if (answer == REPLACED) return succeed(clock);

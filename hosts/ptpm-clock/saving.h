@@ -24,9 +24,9 @@ bool begin_save(struct ptpm_clock *clock);
 extern bool is_saving, is_failing;
 int saving_event(void);
 
-/* Ends the save, after a wait for the disk if it is not done. Whether the clock is saved, and gives out what waited for that. If not,
-   standard error says why. */
-bool end_save(struct ptpm_clock *clock);
+/* Ends the save, after a wait for the disk if it is not done. What ptpm_clock_saved returns, and then the clock gives out what waited. Or
+   PTPM_OTHER_IMAGE if the clock is not saved, and standard error says why. */
+enum ptpm_saved end_save(struct ptpm_clock *clock);
 
 /* In how many milliseconds the next save may begin; 0 or less if it may now. It is tried again a second after one that failed. After
    another one there is a pause of a twentieth of its time. Those who were answered ask again in it, and share the next save. */

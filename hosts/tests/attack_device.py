@@ -3,12 +3,13 @@ answered meanwhile, and what becomes of a change if the clock, the program or th
 import ast
 import os
 import signal
+import subprocess
 import time
 
 from attack_saves import FAILING, SLOWLY, Calls, Disk
 from attack_wire import Wire
-from attacking import (HAS_STRACE, LIBC, MANAGER, ME, SLOW, STRANGER, TRACED, Clock, Peer, check, field_set, get, manage, message, pause, path, read,
-                       set_of, wait_until, work, write)
+from attacking import (CLOCK, HAS_STRACE, LIBC, MANAGER, ME, SLOW, STRANGER, TRACED, Clock, Peer, check, field_set, get, manage, message, pause,
+                       path, read, set_of, started, wait_until, work, write)
 
 SECOND_MANAGER = "0011223344556688"
 PROGRAM = os.path.join(work, "program")
@@ -260,28 +261,45 @@ def floods_while_a_program_runs():
     peer.close()
 
 
+# A device that writes down what it was asked for, and looks there whether it has a change.
+JOURNAL = """case $1 in look) shift; grep -qx "$*" WORK/journal; exit;; esac
+echo "$*" >> WORK/journal; """
+
+
+def journal(says="exit 0"):
+    """Such a device, which after it has written does what is said."""
+    write("journal", "")
+    return program(JOURNAL.replace("WORK", work) + says + "\n")
+
+
+def changes():
+    """The sequenceIds of what the device was asked for."""
+    return [int(line.split()[1]) for line in read("journal").splitlines()]
+
+
+def looks():
+    return sum(one.startswith("look|") for one in runs())
+
+
 def kills_while_a_program_runs():
-    """The change comes again, and is made once; the program of the run before is gone by then. A kill between its end and the save is
-    as one before."""
-    saved = os.path.join(work, "saved")
-    words = ("-s", saved, "--ask", program(f"sleep {LONG}\n"))
+    """The program of the run before is gone by the next start. That one looks, and never asks for the change again."""
+    words = ("-s", os.path.join(work, "saved"), "--ask", journal(f"sleep {LONG}"))
     clock, peer = device_clock(*words), Peer("peer")
-    for number in [signal.SIGKILL, signal.SIGTERM]:
-        peer.ask(set_of(7, 100))
+    for change, number in enumerate([signal.SIGKILL, signal.SIGTERM], 7):
+        peer.ask(set_of(change, 100 + change))
         check("it runs", wait_until(lambda: processes_with(LONG) == 1))
         status, took = clock.end(number)
         check(f"the clock ends at once by {number.name}: {status}", took < 2 * SLOW and status == (0 if number == signal.SIGTERM else -number))
         check("and its program with it", wait_until(lambda: processes_with(LONG) == 0, 1) and processes_with(PROGRAM) == 0)
         clock = device_clock(*words)
-    write("says", "exit 0\n")
-    check("the change was not made", asked(peer, message(1, STRANGER, ME)) == (1, "value", 128))
-    check("it comes again and is made", asked(peer, set_of(7, 100)) == (7, "value", 100) and len(runs()) == 3)
+        check("the next start finds that the device has the change", wait_until(lambda: "a change was under way: the device has it\n" in clock.text()))
+        check("its copy is answered so", asked(peer, set_of(change, 100 + change)) == (change, "value", 100 + change))
+        check("and the device was asked once for it", changes() == list(range(7, change + 1)) and looks() == change - 6)
     clock.end(signal.SIGKILL)
     clock = device_clock(*words)
-    check("and its next copy is none", asked(peer, set_of(7, 100)) == (7, "value", 100) and len(runs()) == 3)
+    check("that answer is kept", asked(peer, set_of(8, 108)) == (8, "value", 108) and looks() == 2)
     beside = [one for one in filter(str.isdigit, os.listdir("/proc")) if is_child(one, clock.process.pid)]
-    write("says", f"sleep {LONG}; exit 0\n")
-    peer.ask(set_of(8, 50))
+    peer.ask(set_of(9, 50))
     check("it runs", len(beside) == 1 and wait_until(lambda: processes_with(LONG) == 1))
     os.kill(int(beside[0]), signal.SIGKILL)
     check("without the process between, the clock ends, and says so", clock.end(None)[0] == 2 and "the process that runs it is gone\n" in clock.text())
@@ -353,26 +371,179 @@ def values_of_ports():
 
 
 def changes_that_are_not_saved():
-    """A change to which the program agreed is lost if the clock is killed before it is saved: it comes again, the program is run again,
-    and it is made once. One that can't be saved waits until it can."""
-    words = ("-s", os.path.join(work, "saved"), "-u", path, "-m", MANAGER + "/1", "--ask", program("exit 0\n"), ME)
-    clock, peer = Clock(*words, env=TRACED), Peer("peer")
+    """A change is saved as under way before the device is asked for it. If the clock is killed after that and before the decision is
+    saved, it looks. One that can't be saved waits until it can."""
+    words = ("-s", os.path.join(work, "saved"), "-u", path, "-m", MANAGER + "/1", "-m", SECOND_MANAGER + "/1", "--ask", journal(), ME)
+    clock, peer, other = Clock(*words, env=TRACED), Peer("peer"), Peer("other")
     disk = Disk(clock, SLOWLY)
     peer.ask(set_of(7, 100))
-    check("it runs", wait_until(lambda: len(runs()) == 1))
-    check("nothing is answered before it is saved", answer_at(peer, 0.1 / SLOW) is None)     # the disk is no slower for a slow clock
+    check("nothing is asked before it is saved", not wait_until(runs, 0.1 / SLOW))        # the disk is no slower for a slow clock
+    check("and then it is", wait_until(lambda: changes() == [7]))
+    check("nothing is answered before that is saved", answer_at(peer, 0.1 / SLOW) is None)
     clock.end(signal.SIGKILL)
     disk.mend()
     clock = Clock(*words, env=TRACED)
-    check("a change that was not saved was not made", asked(peer, message(1, STRANGER, ME)) == (1, "value", 128))
-    check("it comes again and is made", asked(peer, set_of(7, 100)) == (7, "value", 100) and len(runs()) == 2)
+    check("its copy is answered", asked(peer, set_of(7, 100)) == (7, "value", 100) and asked(peer, message(1, STRANGER, ME)) == (1, "value", 100))
+    check("and the device was asked once, and then whether it has it", changes() == [7] and looks() == 1)
     disk = Disk(clock, FAILING)
-    check("one that can't be saved is not answered", asked(peer, set_of(8, 60), 0.7) is None and len(runs()) == 3)
-    check("nor is its copy, and nobody sees it", asked(peer, set_of(8, 60), 0.7) is None and asked(peer, message(2, STRANGER, ME)) == (2, "value", 100))
+    check("for one that can't be saved it is not asked", asked(peer, set_of(8, 60), 0.7) is None and changes() == [7])
+    check("nor for its copy, and nobody sees it", asked(peer, set_of(8, 60), 0.7) is None and asked(peer, message(2, STRANGER, ME)) == (2, "value", 100))
+    other.ask(message(3, SECOND_MANAGER, ME))
     disk.mend()
-    check("it is answered once it can, and was asked about once", answer_at(peer) == (8, "value", 60) and len(runs()) == 3)
+    check("it is asked and answered once it can", answer_at(peer) == (8, "value", 60) and changes() == [7, 8])
+    check("so is another manager", answer_at(other) == (3, "value", 100))
     check("it ends in order", clock.end()[0] == 0)
+    peer.close(), other.close()
+
+
+def what_a_look_says():
+    """By a status of 0 the device has the change that was under way as the clock was killed. By any other it is refused, and that is kept."""
+    lacks, unknown = "lacks it", "does not know"
+    for status, found in [("exit 0", "has it\n"), ("exit 1", lacks), ("exit 2", unknown), ("exit 4", unknown), ("kill -9 $$", unknown), (f"sleep {LONG}", unknown)]:
+        words = ("-s", os.path.join(work, "saved"), "--ask-time", "1", "--ask", program("kill -9 $(cat WORK/clock); sleep 9\n".replace("WORK", work)))
+        clock, peer = device_clock(*words), Peer("peer")
+        write("clock", str(clock.process.pid))
+        peer.ask(set_of(7, 100))
+        check("the clock is killed", clock.end(None)[0] == -signal.SIGKILL)
+        write("says", f"[ $1 = look ] || exit 0; {status}\n")
+        clock = device_clock(*words)
+        wanted = (7, "value", 100) if status == "exit 0" else (7, "error", GENERAL_ERROR)
+        check(f"after {status} it is said: {found}", wait_until(lambda: "a change was under way: the device " + found in clock.text()))
+        write("says", "exit 0\n")
+        check(f"and answered: {wanted}", asked(peer, set_of(7, 100)) == wanted and asked(peer, set_of(7, 100)) == wanted)
+        check("and shown so", asked(peer, message(1, STRANGER, ME)) == (1, "value", 100 if status == "exit 0" else 128))
+        check("the words of a look are those of the change behind it", runs() == [runs()[0], "look|" + runs()[0]])
+        check("the next change is asked for", asked(peer, set_of(8, 60)) == (8, "value", 60))
+        check("it ends in order", clock.end()[0] == 0)
+        peer.close()
+        os.unlink(os.path.join(work, "saved"))
+
+
+def looks_while_a_clock_runs():
+    """A program that a signal ended, or that took too long, is not run for the change again: it is asked whether the device has it."""
+    words = ("-s", os.path.join(work, "saved"), "--ask-time", "1", "--ask")
+    clock, peer, other = device_clock(*words, journal("kill -SEGV $$")), Peer("peer"), Peer("other")
+    check("a program that dies after its write has made the change", asked(peer, set_of(1, 100)) == (1, "value", 100) and changes() == [1])
+    check("which is said", f"{PROGRAM} was ended by a signal, and is asked whether the device has the change\n" in clock.text())
+    write("says", JOURNAL.replace("WORK", work).replace("echo", f"sleep {LONG}; echo"))
+    peer.ask(set_of(2, 50))
+    check("it runs", wait_until(lambda: processes_with(LONG) == 1))
+    other.ask(field_set(5, "2006", b"\7\0", SECOND_MANAGER))
+    check("others are answered meanwhile", asked(other, message(1, STRANGER, ME)) == (1, "value", 100))
+    check("one that takes too long before its write has not made it", answer_at(peer, 4) == (2, "error", GENERAL_ERROR) and changes() == [1])
+    write("says", JOURNAL.replace("WORK", work) + "exit 0\n")
+    check("it ends in order", clock.end()[0] == 0 and "the device said nothing: 2\n" in clock.text())
+    peer.close(), other.close()
+
+
+def devices_that_are_gone():
+    """A change was under way, and the next start has no program: nobody can tell. Nor is its manager there any more."""
+    saved = os.path.join(work, "saved")
+    for managers in [("-m", MANAGER + "/1"), ("-m", SECOND_MANAGER + "/1")]:
+        clock, peer = device_clock("-s", saved, "--ask", journal(f"sleep {LONG}")), Peer("peer")
+        peer.ask(set_of(7, 100))
+        check("it runs", wait_until(lambda: processes_with(LONG) == 1))
+        clock.end(signal.SIGKILL)
+        clock = Clock("-s", saved, "-u", path, *managers, ME)
+        is_there = MANAGER + "/1" in managers
+        wanted = (7, "error", GENERAL_ERROR if is_there else NOT_SUPPORTED)
+        check("it is decided without a device", asked(peer, set_of(7, 100))[:2] == wanted[:2] and asked(peer, message(1, STRANGER, ME)) == (1, "value", 128))
+        check("the next change is made", asked(peer, set_of(8, 60, managers[1][:16])) == (8, "value", 60))
+        check("it ends in order", clock.end()[0] == 0)
+        peer.close()
+        os.unlink(saved)
+
+
+def owners_that_move_the_domain():
+    """A change that is under way is decided in its domain. The owner's SET of DOMAIN is not taken meanwhile, and is taken after it."""
+    owner = os.path.join(work, "owner")
+    words = ("--owner", owner, "-s", os.path.join(work, "saved"), "--ask", program("sleep 2"))
+    clock, peer, other = device_clock(*words), Peer("peer"), Peer("other")
+    peer.ask(set_of(7, 100))
+    check("it runs", wait_until(lambda: len(runs()) == 1))
+    for domain, taken in [(5, None), (None, (2, "value", 60)), (5, (3, "value", 5))]:
+        number = taken[0] if taken else 1
+        field = ("2005", b"\x3c\0") if domain is None else ("2007", bytes([domain, 0]))
+        if number == 3:
+            check("the change is made", answer_at(peer, 4) == (7, "value", 100))
+        other.socket.sendto(field_set(number, *field, STRANGER), owner)
+        check(f"the owner's SET of {field[0]} is answered {taken}", answer_at(other, 4 if taken else 0.5) == taken)
+    check("it ends in order", clock.end()[0] == 0)
+    peer.close(), other.close()
+    os.unlink(os.path.join(work, "saved"))
+
+
+def states_of_another_clock():
+    """A file with a change under way is named by its clock too."""
+    saved = os.path.join(work, "saved")
+    clock, peer = device_clock("-s", saved, "--ask", journal(f"sleep {LONG}")), Peer("peer")
+    peer.ask(set_of(7, 100))
+    check("it runs", wait_until(lambda: processes_with(LONG) == 1))
+    clock.end(signal.SIGKILL)
+    clock = Clock("-s", saved, "-u", path, "aabbccfffeddee02")
+    check("another clock does not start", clock.end(None)[0] == 1 and f"it has the state of clock {ME}\n" in clock.text())
     peer.close()
+
+
+# Where a clock is killed in a SET: at each of four fsync, of two saves, and as it or the process beside it sends. Its device kills it too, and
+# it is killed once it has answered. Its start has three fsync, in another thread.
+POINTS = [*(("fsync", 4, at) for at in (1, 2, 3, 4)), ("sendto", 2, 1), ("sendto", 2, 2), "before", "after", "answered"]
+ROUNDS = int(os.environ.get("ROUNDS", "1"))
+
+
+class Cut:
+    """SETs to a clock that is killed at such a point of one of them, and started again; what each was answered at last."""
+
+    def __init__(self, *words):
+        self.words, self.peer, self.number, self.answers = words, Peer("peer"), 0, {}
+
+    def ask(self):
+        """Sends the SET that is not answered yet, or the next one, once; whether it is answered."""
+        try:
+            found = asked(self.peer, set_of(self.number, self.number % 251), 0.1)
+        except OSError:
+            time.sleep(0.02)                # the clock is not there yet
+            return False
+        self.answers.update({found[0]: found[1:]} if found else {})
+        return self.number in self.answers
+
+    def live(self, point, sets):
+        """A life that is to end after this many SETs; whether a kill ended it."""
+        traced = ["strace", "-D", "-f", "-q", "-o", "/dev/null", "-e", f"trace={point[0]}",
+                  "-e", f"inject={point[0]}:signal=KILL:when={point[1] * sets + point[2]}"] if isinstance(point, tuple) else []
+        clock = subprocess.Popen([*traced, CLOCK, "--user", "root", *self.words], stderr=subprocess.DEVNULL, env=TRACED)
+        started.append(clock)
+        write("clock", str(clock.pid))
+        for done in range(1, 10):
+            if done == sets and point in ("before", "after"):
+                write(point, "")
+            self.number += self.number in self.answers or self.number == 0
+            while clock.poll() is None and not self.ask():
+                pass
+            if done == sets and point == "answered":
+                clock.kill()
+            if clock.poll() is not None or point == "answered" and done == sets:
+                break
+        return clock.wait(10 * SLOW) in (-signal.SIGKILL, 2)            # 2 without the process beside it
+
+
+def kills_at_each_point():
+    """Further SETs after each kill. None is asked of the device twice, each answer is so, and a refused one was not asked."""
+    dies = "dies() { [ ! -e WORK/$1 ] || { rm WORK/$1; kill -9 $(cat WORK/clock); sleep 60; }; }\n"
+    name = program((dies + JOURNAL.replace("echo", "dies before\necho") + "\ndies after\nexit 0\n").replace("WORK", work))
+    write("journal", "")
+    cut = Cut("-s", os.path.join(work, "saved"), "-u", path, "-m", MANAGER + "/1", "--ask", name, ME)
+    kills = sum(cut.live(POINTS[turn % len(POINTS)], turn // len(POINTS) % 5 + 1) for turn in range(ROUNDS * len(POINTS)))
+    clock = device_clock(*cut.words[:2], "--ask", name)
+    wait_until(cut.ask)
+    done = [one for one, answer in cut.answers.items() if answer == ("value", one % 251)]
+    refused = [one for one, answer in cut.answers.items() if answer == ("error", GENERAL_ERROR)]
+    print(f"{cut.number} SETs and {kills} kills: {len(changes())} were asked for, {len(refused)} refused")
+    check(f"each life was ended by a kill: {kills}", kills == ROUNDS * len(POINTS))
+    check("the device was asked for no change twice", len(set(changes())) == len(changes()))
+    check("it was asked for each that was done, and for none that was refused", changes() == done and len(done) + len(refused) == cut.number)
+    check("it ends in order", clock.end()[0] == 0)
+    cut.peer.close()
 
 
 def questions_that_are_not_taken():
@@ -398,7 +569,7 @@ def is_child(process, parent):
 
 
 ATTACKS = [limits_of_hardware, limits_that_are_wrong, what_a_program_says, what_a_program_inherits, programs_that_say_nothing,
-           changes_that_wait, floods_while_a_program_runs, kills_while_a_program_runs, values_over_the_rate,
-           values_of_ports]
+           changes_that_wait, floods_while_a_program_runs, kills_while_a_program_runs, what_a_look_says, looks_while_a_clock_runs,
+           devices_that_are_gone, owners_that_move_the_domain, states_of_another_clock, values_over_the_rate, values_of_ports]
 if HAS_STRACE:
-    ATTACKS += [changes_that_are_not_saved, questions_that_are_not_taken]
+    ATTACKS += [changes_that_are_not_saved, kills_at_each_point, questions_that_are_not_taken]

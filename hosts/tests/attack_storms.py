@@ -1,6 +1,5 @@
 """One message where clocks are joined by more than one way: ptpm-clock, and the hosts that the documents give as examples."""
 import os
-import re
 import select
 import socket
 import subprocess
@@ -108,15 +107,11 @@ def storms():
         site.remove()
 
 
-def host_of_the_document():
-    """The host in C of docs/embedding.md, built over examples/device.c."""
-    with open(os.path.join(TOP, "docs/embedding.md"), encoding="utf-8") as page:
-        text = re.search(r"^    #define _DEFAULT_SOURCE\n.*?(?=^\S)", page.read(), re.M | re.S)[0]
-    source, program = os.path.join(work, "two_ports.c"), os.path.join(work, "two_ports")
-    with open(source, "w", encoding="utf-8") as file:
-        file.write(re.sub(r"^    ", "", text, flags=re.M))
-    run(os.environ.get("CC", "cc"), "-std=c99", "-Wall", "-Wextra", "-Wpedantic", "-Werror", "-I", HOME, source,
-        os.path.join(TOP, "examples/device.c"), os.path.join(HOME, "libptpm.a"), "-o", program)
+def host_of_two_ports():
+    """The host of examples/two_ports.c, built over examples/device.c."""
+    program = os.path.join(work, "two_ports")
+    run(os.environ.get("CC", "cc"), "-std=c99", "-Wall", "-Wextra", "-Wpedantic", "-Werror", "-I", HOME,
+        os.path.join(TOP, "examples/two_ports.c"), os.path.join(TOP, "examples/device.c"), os.path.join(HOME, "libptpm.a"), "-o", program)
     return program
 
 
@@ -137,9 +132,9 @@ def what_a_host_passes_on(what, called):
 
 
 def examples():
-    """The hosts in C of the documents."""
-    two_ports, block_host = host_of_the_document(), os.path.join(HOME, "block_host")
-    what_a_host_passes_on("the host of embedding.md", lambda identity, interfaces: [two_ports, identity, MANAGER + "/1", *interfaces])
+    """The hosts in C."""
+    two_ports, block_host = host_of_two_ports(), os.path.join(HOME, "block_host")
+    what_a_host_passes_on("two_ports", lambda identity, interfaces: [two_ports, identity, MANAGER + "/1", *interfaces])
     what_a_host_passes_on("block_host", lambda identity, interfaces: [block_host, *interfaces])
 
 

@@ -11,10 +11,9 @@ import subprocess
 import sys
 import tempfile
 import time
-import zlib
 
 import trying
-from trying import CLOCK, HOME, MANAGE, check, print_checks
+from trying import CLOCK, HOME, MANAGE, check, print_checks, sealed
 
 ME, OTHER, MANAGER = "aabbccfffeddee01", "aabbccfffeddee99", "0011223344556677"
 STRANGER, EVERY = "0a0b0c0d0e0f1011", "ff" * 8
@@ -92,12 +91,6 @@ def response(request, tlv, kind=1, clock=bytes.fromhex(ME), port=1):
     head[2:4] = (52 + len(tlv)).to_bytes(2, "big")
     head[20:30], head[34:44], head[46] = clock + port.to_bytes(2, "big"), request[20:30], 2
     return bytes(head) + kind.to_bytes(2, "big") + len(tlv).to_bytes(2, "big") + tlv
-
-
-def sealed(image, saves=1):
-    """What a file has that was saved so often."""
-    octets = image + b"ptps" + saves.to_bytes(8, "big")
-    return octets + zlib.crc32(octets).to_bytes(4, "big")
 
 
 def saves_in(octets):

@@ -19,8 +19,8 @@
 #include <sys/syscall.h>
 #include <unistd.h>
 
-/* Octets of an answer with PRIORITY1, of a datagram, and of a portIdentity; and an actionField. */
-enum { ANSWER = 56, MOST = 2048, PORT_IDENTITY = 10, GET = 0, ROUND = 64 };
+/* Octets of an answer with PRIORITY1, and of a datagram; and an actionField. */
+enum { ANSWER = 56, MOST = 2048, GET = 0, ROUND = 64 };
 
 const char program[] = "bare";
 

@@ -1,7 +1,8 @@
 """A clock that saves (clock.c -s) and loses its power, under the runs of three managers whose sessions are kept. It is killed as it
 makes a call of the system, most often one of a save, or at any moment, also after a call of a save that failed. What it had not
 synchronized may be lost with it. Then it is started again from its file. Each run sets USER_DESCRIPTION to a greater number, or reads it; between them copies of earlier requests come in again.
-What the clock has is compared with what was reported, and every reply with those before it."""
+What the clock has is compared with what was reported, and every reply with those before it. Then the same of a clock that asks a device
+(--ask), which may also kill it before it writes, or after. What the device was asked for is compared too: nothing twice."""
 import ctypes
 import os
 import random
@@ -23,6 +24,15 @@ CALLS = {**OF_SAVES, "close": 12, "recvmmsg": 1, "epoll_wait": 1, "fcntl": 1, "s
 state, log = (os.path.join(work, name) for name in ("state", "clock_log"))
 NEW_NETWORK, ALL_FRAMES, OUTGOING = 0x40000000, 3, 4
 RUN = ["ip", "netns", "exec"]
+# A device that writes down what it was asked for, and looks there whether it has a change. It kills the clock where a file says so.
+DEVICE = """#!/bin/sh
+case $1 in look) shift; echo >> WORK/looks; exec grep -qxF "$*" WORK/journal;; esac
+dies() { [ ! -e WORK/$1 ] || { rm WORK/$1; kill -9 $(cat WORK/clock); sleep 60; }; }
+dies before
+echo "$*" >> WORK/journal
+dies after
+""".replace("WORK", work)
+device, journal, looks, pid = (os.path.join(work, name) for name in ("device", "journal", "looks", "clock"))
 seen = Seen()
 
 
@@ -86,8 +96,9 @@ def traced(name, what, number):
 class Clock:
     """The clock, started again whenever it was killed, until it is to end."""
 
-    def __init__(self, chance):
+    def __init__(self, chance, has_device):
         self.chance, self.kills, self.is_ending, self.status = chance, 0, False, None
+        self.asks = ["--ask", device] if has_device else []
         self.told = open(os.path.join(work, "clock_told"), "w+")
         self.process, self.is_to_live, self.lives_on = None, False, threading.Event()
         self.thread = threading.Thread(target=self.live)
@@ -95,8 +106,11 @@ class Clock:
 
     def start(self, *before):
         managers = [word for manager in MANAGERS for word in ("-m", manager)]
-        return subprocess.Popen([*RUN, FAR, *before, CLOCK, "--user", "root", "-v", "-s", state, *managers, "-u", socket_path, ME, "far0"],
-                                stdout=self.told, stderr=subprocess.STDOUT)
+        process = subprocess.Popen([*RUN, FAR, *before, CLOCK, "--user", "root", "-v", "-s", state, *self.asks, *managers, "-u", socket_path, ME,
+                                    "far0"], stdout=self.told, stderr=subprocess.STDOUT)
+        with open(pid, "w") as file:
+            file.write(str(process.pid))
+        return process
 
     def live(self):
         while not self.is_ending:
@@ -106,14 +120,21 @@ class Clock:
                 self.status = self.process.wait()
             else:
                 self.life()
-            if self.status != -signal.SIGKILL and not self.is_ending:
+            is_killed = self.status == -signal.SIGKILL or self.asks and self.status == 2      # the process that runs the device's program
+            if not is_killed and not self.is_ending:
                 return
 
     def life(self):
         """A life that is cut short: at any moment, also after a call that failed, or at a call."""
         kind, before = self.chance.random(), read(state)
         is_told = kind >= 0.25
-        if kind < 0.25:
+        if self.asks and self.chance.random() < 0.3:
+            is_told, place = False, self.chance.choice(["before", "after"])
+            self.process = self.start()
+            time.sleep(self.chance.random())
+            open(os.path.join(work, place), "w").close()
+            seen.counts[f"killed by its device {place} that wrote"] += self.end_of(2)
+        elif kind < 0.25:
             self.process = self.start()
             self.end_of(0.05 + self.chance.random() * 0.4)
             seen.counts["killed at any moment"] += 1
@@ -125,13 +146,13 @@ class Clock:
         else:
             name = self.chance.choice(["fsync", *OF_SAVES] if kind < 0.8 else list(CALLS))
             is_at_start = CALLS[name] > 0 and self.chance.random() < 0.2
-            number = self.chance.randint(1, CALLS[name]) if is_at_start else CALLS[name] + self.chance.randint(1, 6)
+            number = self.chance.randint(1, CALLS[name]) if is_at_start else CALLS[name] + self.chance.randint(1, 24 if self.asks else 6)
             self.process = self.start(*traced(name, "signal=KILL", number))
             if self.end_of(2):
                 seen.counts[f"killed at {name}"] += 1
         if is_told and self.has_log() and self.chance.random() < 0.8:
             seen.counts["saves that were lost"] += lose(state, log, before)
-        self.kills += self.status == -signal.SIGKILL
+        self.kills += self.status in (-signal.SIGKILL, 2)
 
     def end_of(self, most):
         """Kills it where it has not ended by then; whether it had."""
@@ -164,11 +185,11 @@ class Clock:
 class Trial:
     """What the managers asked, and what the clock had."""
 
-    def __init__(self, seed):
+    def __init__(self, seed, has_device):
         self.chance = random.Random(seed)
         self.wire = Wire(self.chance)
-        self.clock = Clock(random.Random(seed + 1))
-        self.asked, self.last, self.left = 0, 0, {}
+        self.clock = Clock(random.Random(seed + 1), has_device)
+        self.asked, self.last, self.reported, self.refused = 0, 0, [], []
 
     def value(self):
         """What the clock has, as soon as it lives."""
@@ -191,9 +212,12 @@ class Trial:
         self.wire.hear()
         own = [int(number) for number in re.findall(r"^userDescription (\d+)$", done.stdout, re.M)]
         has = f"run {self.asked}, {words} by {manager}: it printed {done.stdout!r} and said {done.stderr!r}; the clock had {self.last}"
-        seen.note(done.returncode == 0, f"a run is answered: {has}, and it ends with {done.returncode}")
-        wanted = self.asked if is_set else self.last
-        seen.note(own == [wanted] or (not is_set and wanted == 0), f"what is reported is so: {has}")
+        is_refused = bool(self.clock.asks) and is_set and done.stdout.startswith("refused GENERAL_ERROR")
+        seen.note(done.returncode == 0 or is_refused, f"a run is answered: {has}, and it ends with {done.returncode}")
+        wanted = self.asked if is_set and not is_refused else self.last
+        seen.note(own == [wanted] or is_refused or (not is_set and wanted == 0), f"what is reported is so: {has}")
+        if is_set:
+            (self.refused if is_refused else self.reported).append(self.asked)
         self.wire.send_again()
         now = self.value()
         seen.note(now == wanted, f"what is reported stays: {has}, and then {now}")
@@ -201,10 +225,33 @@ class Trial:
         self.last = now
 
 
-def cut_clocks(kills, seed):
+def judge_device(trial):
+    """Each change that was reported is one for which the device was asked once, and none that was refused is."""
+    with open(journal) as file:
+        asked = [int(line.split()[-1]) for line in file]
+    seen.counts["SETs for which the device was asked"] = len(asked)
+    seen.counts["SETs that were refused, since the device lacks them"] = len(trial.refused)
+    seen.counts["looks"] = os.path.getsize(looks) if os.path.exists(looks) else 0
+    seen.note(asked == trial.reported, f"the device was asked for {sorted(set(asked) ^ set(trial.reported))[:5]}, and {len(asked) - len(set(asked))} twice")
+
+
+def forget():
+    """A clock, sessions and a device that begin afresh."""
+    for name in [state, looks, *(os.path.join(work, manager[:16]) for manager in MANAGERS)]:
+        if os.path.exists(name):
+            os.unlink(name)
+    open(journal, "w").close()
+    with open(device, "w") as file:
+        file.write(DEVICE)
+    os.chmod(device, 0o755)
+    seen.counts.clear()
+
+
+def cut_clocks(kills, seed, has_device=False):
     """Whether all holds of that many kills of a clock."""
+    forget()
     link = Cut(seed)
-    trial = Trial(seed)
+    trial = Trial(seed, has_device)
     clock = trial.clock
     try:
         while clock.kills < kills and not seen.wrong and clock.thread.is_alive():
@@ -219,9 +266,12 @@ def cut_clocks(kills, seed):
         clock.told.seek(0)
         told = clock.told.read()
     seen.note(status == 0, f"the clock ends in order, and with {status}: {told[-500:]}")
+    if has_device:
+        judge_device(trial)
     for number, what in ((5, "requests that were new"), (6, "repeats that it answered"), (7, "old copies that it dropped")):
         seen.counts[what] = len(re.findall(rf"^port 1, .* octets: {number} ", told, re.M))
     seen.tell()
     print(frames, end="")
-    print(f"power: {clock.kills} kills of a clock in {trial.asked} runs, seed {seed}: {len(seen.wrong)} things do not hold")
+    print(f"power: {clock.kills} kills of a clock{' that asks a device' if has_device else ''} in {trial.asked} runs, seed {seed}: "
+          f"{len(seen.wrong)} things do not hold")
     return not seen.wrong and clock.kills >= kills

@@ -4,6 +4,7 @@ import os
 import subprocess
 import threading
 import time
+import zlib
 
 HOME = os.path.dirname(os.path.dirname(os.path.abspath(__file__)))
 CLOCK, MANAGE = (os.path.join(HOME, name) for name in ("clock", "manage"))
@@ -35,6 +36,12 @@ def wait_until(holds, most=30):
     while not holds() and time.monotonic() < end:
         time.sleep(0.05)
     return holds()
+
+
+def sealed(image, saves=1):
+    """What a file has that was saved so often."""
+    octets = image + b"ptps" + saves.to_bytes(8, "big")
+    return octets + zlib.crc32(octets).to_bytes(4, "big")
 
 
 def bring_up(name, device, station, address):
