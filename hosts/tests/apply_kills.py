@@ -2,7 +2,6 @@
 loses 30, repeats 20 and swaps 10 of a hundred frames each way, or at each call by which they save and send. `resume` ends each apply.
 After each kill what the clocks took as new is set beside the journal, and what was reported too."""
 import glob
-import json
 import os
 import signal
 import subprocess
@@ -10,7 +9,7 @@ import time
 
 from apply_link import SET, Troubles
 from apply_network import ANSWERED_NEW, MANAGER, Clock, Network
-from apply_runs import Broken, Journal, Runs, chained
+from apply_runs import Broken, Journal, Runs, beginning, chained
 from trying import HOME
 
 IDENTITIES = [f"02c0fffffe00010{number}" for number in (1, 2, 3)]
@@ -24,7 +23,24 @@ KILLS, LOSES, FAILS = ENDS = ("KILLS", "LOSES", "FAILS")     # what may become o
 MOST_CALLS, FEW_CALLS = 25, 12                      # of a step and what comes before it; of what comes before it
 GIVE_UPS = 0.15                                     # of the runs after the first
 SETTLED = 0.1                                       # by then what was on its way has come in,
-MOST_SAVING = 10                                    # and a clock has saved, and judged it
+MOST_SAVING, COPIES = 10, 1                         # and a clock has saved, and judged it; and copies, if it judges them
+
+
+def judged(asked, answers):
+    """Each request beside its answer, and the copies that got none: a clock judges no copy of a request that waits for a save. None if
+    others got none."""
+    pairs, copies, seen, rest = [], [], set(), iter(asked)
+    for answer, size in answers:
+        request = next(rest, None)
+        while request is not None and request.content() in seen and (answer == ANSWERED_NEW or request.whole != size):
+            copies.append(request)
+            request = next(rest, None)
+        if request is None:
+            return None
+        seen.add(request.content())
+        pairs.append((request, answer, size))
+    copies += rest
+    return (pairs, copies) if all(copy.content() in seen for copy in copies) else None
 
 
 class Observed:
@@ -39,15 +55,17 @@ class Observed:
 
     def sets(self):
         """The SETs that it took as new since the last `count`: the id and the dataField."""
-        end = time.monotonic() + MOST_SAVING
-        asked, answers = self.asked(), self.clock.answers()
-        while len(asked) != len(answers) and time.monotonic() < end:
+        began = time.monotonic()
+        while True:
+            asked, answers, passed = self.asked(), self.clock.answers(), time.monotonic() - began
+            pairs, copies = judged(asked, answers) or (None, [])
+            if (pairs is not None and (not copies or passed > COPIES)) or passed > MOST_SAVING:
+                break
             time.sleep(0.05)
-            asked, answers = self.asked(), self.clock.answers()
-        if len(asked) != len(answers):
+        if pairs is None:
             raise Broken(f"{self.clock.name}: {len(asked)} requests came in, and {len(answers)} were judged")
         found = []
-        for request, (answer, size) in zip(asked, answers):
+        for request, answer, size in pairs:
             if request.whole != size:
                 raise Broken(f"{self.clock.name}: a request of {request.whole} octets beside one of {size}")
             if answer == ANSWERED_NEW and request.action == SET:
@@ -213,7 +231,9 @@ class Points(Changes):
         return {"clock": IDENTITIES[place], "domain": 0, "port": port, "id": number, "before": before, "after": after}
 
     def make(self, call):
-        """The path of a new journal."""
+        """The path of a new journal, the only one: each that a run reads is a call more."""
+        for path in glob.glob(os.path.join(self.folder, "*.journal")):
+            os.remove(path)
         for path in glob.glob(os.path.join(self.work, "state/ptpm/*-1.*")) if call % 2 == 0 else []:
             os.remove(path)
         value = f"{call % 100:02x}00"
@@ -221,10 +241,9 @@ class Points(Changes):
         if call % 4 == 0:
             steps.append(self.step(1, 1, REFUSED_ID, REFUSED_FIELD))
         name = f"20260101-000000-{call:08x}-0000"
-        text = json.dumps({"version": 2, "name": name, "manager": MANAGER, "steps": steps}, separators=(",", ":"))
         path = os.path.join(self.folder, name + ".journal")
-        with open(path, "w") as file:
-            file.write(f"{next(chained([text.encode()])).decode()}\n")
+        with open(path, "wb") as file:
+            file.write(chained(beginning(name, MANAGER, steps)))
         return path
 
     def is_killed_at(self, call, by, *more):

@@ -29,6 +29,10 @@ class Request:
         self.id = int.from_bytes(message[52:54], "big")
         self.field = message[54:]
 
+    def content(self):
+        """What copies of it have in common."""
+        return self.number, self.action, self.id, self.field
+
 
 def request_of(frame):
     """The request in a frame, or None."""
@@ -87,7 +91,8 @@ class Middle(threading.Thread):
         self.near, self.far = near, far
         self.to_clocks, self.to_manager = (Way(end, troubles or NO_TROUBLES, 2 * seed + way) for way, end in enumerate((far, near)))
         self.is_mute = self.is_cut = False  # answers are lost; all is
-        self.hushed = None                  # the identity of a clock whose answers are lost, and for how many seconds from the next request on
+        self.hushed = None                  # the identity of a clock whose answers are lost, to one id or (empty) to all,
+        self.hushed_for = 0.0               # and for how many seconds from the next request on
         self.hushed_until = 0.0
         self.before = None                  # called with each request before it passes on
         self.is_over = False
@@ -97,15 +102,16 @@ class Middle(threading.Thread):
         if request is not None and self.before is not None:
             self.before(request)
         if request is not None and self.hushed is not None and not self.hushed_until:
-            self.hushed_until = time.monotonic() + self.hushed[1]
+            self.hushed_until = time.monotonic() + self.hushed_for
         if not self.is_cut:
             self.to_clocks.pass_on(frame)
 
-    def hush(self, identity, seconds):
-        self.hushed, self.hushed_until = (bytes.fromhex(identity), seconds), 0.0
+    def hush(self, identity, seconds, id):
+        self.hushed, self.hushed_for, self.hushed_until = (bytes.fromhex(identity), bytes.fromhex(id)), seconds, 0.0
 
     def is_hushed(self, frame):
-        return time.monotonic() < self.hushed_until and frame[HEADERS + 20:HEADERS + 28] == self.hushed[0]
+        is_of_id = time.monotonic() < self.hushed_until and frame[HEADERS + 52:HEADERS + 54].startswith(self.hushed[1])
+        return is_of_id and frame[HEADERS + 20:HEADERS + 28] == self.hushed[0]
 
     def run(self):
         while not self.is_over:

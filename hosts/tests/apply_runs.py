@@ -1,9 +1,10 @@
-"""Runs of ptpm-manage that are killed while they change a site, and their journals, for apply_kills.py and apply_ptp4l.py."""
+"""Runs of ptpm-manage that are killed while they change a site, and their journals, for apply, apply_kills.py and apply_ptp4l.py. What a
+journal's octets are is in docs/changing-a-site.md."""
 import glob
-import json
 import os
 import random
 import re
+import struct
 import subprocess
 import time
 import zlib
@@ -15,42 +16,99 @@ from apply_network import environment
 STRANGER = "another program has used its session"
 
 
-def chained(texts):
-    """The lines of a journal that has these texts: before each is the CRC-32 of it and of those before."""
-    crc = 0
-    for text in texts:
-        crc = zlib.crc32(text, crc)
-        yield b"%08x %s" % (crc, text)
+KINDS = HEAD, STEP, BEGUN, NOT_BEGUN, LET_GO, TOLD, POLICY, END, TEXT = range(1, 10)
+NAMES = {"begun": BEGUN, "not_begun": NOT_BEGUN, "let_go": LET_GO, "told": TOLD, "end": END}
+OUTCOMES = ["", "done", "refused", "answered"]
+ENDINGS = ["", "complete", "refused", "answered", "changed", "given up", "rolled back", "stopped"]
+ERRORS = {0: "", 4: " WRONG_VALUE", 6: " NOT_SUPPORTED"}
+IN_ONE_ROW, LAST_GROUP, NO_STEP, TIME = 2, 6, 65535, 1767225600
+MAGIC = b"PTPJ"
 
 
 class Broken(Exception):
     """What was promised does not hold."""
 
 
+def chained(records):
+    """The file of a journal that has these records, each a kind and a body. After each is the CRC-32 of that of the one before and of it."""
+    crc, file = 0, MAGIC
+    for kind, body in records:
+        record = struct.pack(">HB", len(body) + 1, kind) + body
+        crc = zlib.crc32(record, zlib.crc32(struct.pack(">I", crc)))
+        file += record + struct.pack(">I", crc)
+    return file
+
+
+def split(file):
+    """The octets of each whole record of a file."""
+    at, records = len(MAGIC), []
+    while at + 2 <= len(file) and (end := at + 6 + struct.unpack_from(">H", file, at)[0]) <= len(file) and any(file[at:end]):
+        records.append(file[at:end])
+        at = end
+    return records
+
+
+def records_of(path):
+    """The whole records of a journal: the kind and the body of each."""
+    with open(path, "rb") as opened:
+        file = opened.read()
+    records = [(record[2], record[3:-4]) for record in split(file)]
+    if not file.startswith(chained(records)):
+        raise Broken(f"{path} has a wrong record")
+    return records
+
+
+def beginning(name, manager, steps):
+    """The records of a journal without notes. A step has its clock, domain, port and id, and what was there before and after."""
+    identity, port = manager.split("/")
+    head = struct.pack(">BBB8sHHB", 2, IN_ONE_ROW, 1, bytes.fromhex(identity), int(port), len(steps), len(name)) + name.encode() + b"\0"
+    yield HEAD, head
+    for step in steps:
+        before, after = bytes.fromhex(step["before"]), bytes.fromhex(step["after"])
+        body = struct.pack(">8sBBHH", bytes.fromhex(step["clock"]), step["domain"], LAST_GROUP, step["port"], step["id"])
+        yield STEP, body + struct.pack(">H", len(before)) + before + struct.pack(">H", len(after)) + after
+
+
+def note_of(words):
+    """A note, of its words: `begun 0 7`, `told 0 done 3200`, `end changed 1`, `end complete -`."""
+    kind, first, *more = words
+    if kind == "end":
+        body = struct.pack(">BHQ", ENDINGS.index(first.replace("_", " ")), NO_STEP if more[0] == "-" else int(more[0]), TIME)
+    elif kind == "told":
+        answer = bytes.fromhex(more[1])
+        body = struct.pack(">HBHQH", int(first), OUTCOMES.index(more[0]), 0, TIME, len(answer)) + answer
+    elif kind == "begun":
+        body = struct.pack(">HHQ", int(first), int(more[0]), TIME)
+    else:
+        body = struct.pack(">HQ", int(first), TIME)
+    return NAMES[kind], body
+
+
 class Journal:
-    """What a journal's whole lines say."""
+    """What a journal's whole records say."""
 
     def __init__(self, path):
-        with open(path, "rb") as file:
-            lines = file.read().split(b"\n")[:-1]
-        notes = [json.loads(line[9:]) for line, whole in zip(lines, chained(line[9:] for line in lines)) if line == whole]
-        if len(notes) != len(lines):
-            raise Broken(f"{path} has a wrong line")
-        self.steps, self.told, self.begun, self.end, self.is_let_go = notes[0]["steps"], {}, None, None, False
-        for note in notes[1:]:
-            self.take(note)
+        self.steps, self.told, self.begun, self.end, self.is_let_go = [], {}, None, None, False
+        for kind, body in records_of(path):
+            self.take(kind, body)
 
-    def take(self, note):
-        if "begun" in note:
-            self.begun = note["begun"]
-        elif "not_begun" in note:
-            self.begun = None
-        elif "told" in note:
-            self.told[note["told"]], self.begun = note, None
-        elif "let_go" in note:
+    def take(self, kind, body):
+        if kind == STEP:
+            self.take_step(body)
+        elif kind == END:
+            self.end = ENDINGS[body[0]]
+        elif kind == LET_GO:
             self.is_let_go = True
-        else:
-            self.end = note["end"]
+        elif kind == TOLD:
+            place, outcome, error = struct.unpack_from(">HBH", body)
+            self.told[place], self.begun = {"outcome": OUTCOMES[outcome] + ERRORS[error], "octets": body[15:].hex()}, None
+        elif kind in (BEGUN, NOT_BEGUN):
+            self.begun = struct.unpack_from(">H", body)[0] if kind == BEGUN else None
+
+    def take_step(self, body):
+        clock, domain, _, port, id, size = struct.unpack_from(">8sBBHHH", body)
+        before, after = body[16:16 + size], body[18 + size:]
+        self.steps.append({"clock": clock.hex(), "domain": domain, "port": port, "id": id, "before": before.hex(), "after": after.hex()})
 
     def state(self, step):
         """As a report has it."""

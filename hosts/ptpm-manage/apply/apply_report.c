@@ -10,6 +10,7 @@
 #include "words.h"
 #include <stdlib.h>
 #include <string.h>
+#include <time.h>
 
 /* At this place the name of an apply has its plan: after the time. */
 enum { PLAN_AT = sizeof "20260101-000000" };
@@ -116,6 +117,15 @@ static size_t count_lines(const char *lines) {
     return count;
 }
 
+/* In UTC; nothing of 0. */
+static void print_time(uint64_t seconds) {
+    char text[sizeof "2026-01-01T00:00:00Z"];
+    struct tm parts;
+    time_t time = (time_t)seconds;
+    bool is_time = seconds != 0 && gmtime_r(&time, &parts) != NULL && strftime(text, sizeof text, "%Y-%m-%dT%H:%M:%SZ", &parts) > 0;
+    if (is_time) fputs(text, stdout);
+}
+
 static void print_text_of(const struct journal *journal, const char *end) {
     const char *what = *journal->rolls_back != '\0' ? "rollback" : "apply";
     printf("%s %s: %s", what, journal->name, end);
@@ -124,7 +134,7 @@ static void print_text_of(const struct journal *journal, const char *end) {
     for (size_t i = 0; i < journal->count; i++) {
         fputs("  ", stdout);
         write_step_line(stdout, journal, i);
-        if (journal->shows_times && *journal->told[i].time != '\0') printf(", %s", journal->told[i].time);
+        if (journal->shows_times && journal->told[i].time != 0) fputs(", ", stdout), print_time(journal->told[i].time);
         putchar('\n');
     }
     if (journal->skipped == NULL) return;
@@ -147,7 +157,7 @@ static void print_state_as_json(const struct journal *journal, size_t place) {
     const struct told *told = &journal->told[place];
     const char *error = error_name(told->error);
     printf(",\"state\":\"%s\"", is_uncertain(journal, place) ? "mayBe" : names[told->outcome]);
-    if (*told->time != '\0') printf(",\"time\":\"%s\"", told->time);
+    if (told->time != 0) fputs(",\"time\":\"", stdout), print_time(told->time), putchar('"');
     if (told->outcome == OTHER_VALUE) print_value_as_json("answer", journal->steps[place].id, &told->answer);
     if (told->outcome != IS_REFUSED) return;
     if (error != NULL) printf(",\"managementErrorId\":\"%s\"", error);
@@ -266,26 +276,28 @@ static void write_plan(FILE *to, const struct journal *journal) {
     fprintf(to, "%.*s", (int)strcspn(plan, "-"), plan);
 }
 
-static void print_listed_json(const struct journal *journal, const char *file, bool is_read) {
+static void print_listed_json(const struct journal *journal, const char *file, bool is_read, const char *end) {
     fputs("{\"apply\":", stdout);
     print_json_text(stdout, (const uint8_t *)file, strlen(file) - strlen(".journal"));
     if (is_read) {
         fputs(",\"begun\":\"", stdout);
         write_begin(stdout, journal);
-        printf("\",\"latest\":\"%s\",\"plan\":\"", journal->latest);
+        fputs("\",\"latest\":\"", stdout);
+        print_time(journal->latest);
+        fputs("\",\"plan\":\"", stdout);
         write_plan(stdout, journal);
         printf("\",\"done\":%zu,\"steps\":%zu", count_done(journal), journal->count);
     }
-    printf(",\"end\":\"%s\"}", is_read ? ending_name(journal->ending) : "damaged");
+    printf(",\"end\":\"%s\"}", end);
 }
 
-static void print_listed(const struct journal *journal, const char *file, bool is_read) {
+static void print_listed(const struct journal *journal, const char *file, bool is_read, const char *end) {
     if (is_read) {
         write_begin(stdout, journal);
         putchar(' ');
         write_plan(stdout, journal);
-        printf(" %s, %zu of %zu done: ", ending_name(journal->ending), count_done(journal), journal->count);
-    } else fputs("damaged: ", stdout);
+        printf(" %s, %zu of %zu done: ", end, count_done(journal), journal->count);
+    } else printf("%s: ", end);
     print_text(stdout, (const uint8_t *)file, strlen(file) - strlen(".journal"));
     putchar('\n');
 }
@@ -293,10 +305,11 @@ static void print_listed(const struct journal *journal, const char *file, bool i
 static void list_one(struct journal *journal, enum found_journal found) {
     const char *file = strrchr(journal->path, '/') + 1;
     bool is_read = found == FOUND_JOURNAL && strlen(journal->name) > PLAN_AT;
+    const char *end = is_read ? ending_name(journal->ending) : found == OTHER_JOURNAL ? "other version" : "damaged";
     if (is_list_json && !is_first_listed) putchar(',');
     is_first_listed = false;
-    if (is_list_json) print_listed_json(journal, file, is_read);
-    else print_listed(journal, file, is_read);
+    if (is_list_json) print_listed_json(journal, file, is_read, end);
+    else print_listed(journal, file, is_read, end);
 }
 
 void print_applies(bool is_json) {

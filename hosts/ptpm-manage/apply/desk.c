@@ -27,8 +27,7 @@ void leave_desk(struct desk *desk) { ptpm_asker_stop(&desk->session.asker); }
 /* ---- what is noted */
 
 static int not_noted(const struct journal *journal) {
-    const char *why = strerror(errno);
-    complain("%s: %s: %s", journal->path, why, journal_rest(journal));
+    say_not_noted(journal);
     return NOT_WRITTEN;
 }
 

@@ -1,6 +1,8 @@
 #define _GNU_SOURCE
 #include "journal.h"
 #include "kept_file.h"
+#include "names.h"
+#include "notices.h"
 #include "program.h"
 #include <errno.h>
 #include <fcntl.h>
@@ -8,30 +10,25 @@
 #include <stdlib.h>
 #include <string.h>
 #include <sys/stat.h>
+#include <time.h>
 #include <unistd.h>
 
-/* The CRC-32 (IEEE 802.3) of a text after others, whose CRC-32 is given; 0 is that of none. The library has none of a text: that in its seal is
-   of an image, a mark and a count. */
-static uint32_t crc_of(uint32_t before, const char *text, size_t size) {
-    static const uint32_t rests[] = {               /* of four bits each */
-        0x00000000, 0x1db71064, 0x3b6e20c8, 0x26d930ac, 0x76dc4190, 0x6b6b51f4, 0x4db26158, 0x5005713c,
-        0xedb88320, 0xf00f9344, 0xd6d6a3e8, 0xcb61b38c, 0x9b64c2b0, 0x86d3d2d4, 0xa00ae278, 0xbdbdf21c,
-    };
-    uint32_t crc = ~before;
-    for (size_t place = 0; place < size; place++) {
-        crc ^= (uint8_t)text[place];
-        crc = (crc >> 4) ^ rests[crc & 15];
-        crc = (crc >> 4) ^ rests[crc & 15];
-    }
-    return ~crc;
-}
+/* What a text in a journal is. */
+enum { TEXT_OF_CHECK = 1, SKIPPED_LINE = 2 };
 
-/* Of a line: its CRC-32 in hexadecimal and a space. */
-enum { CRC_DIGITS = 8, LEAD = CRC_DIGITS + 1 };
+/* No group is known of a step here. Each comes after all before it. */
+enum { LAST_GROUP = 6 };
+
+const char *ending_name(enum ending ending) {
+    static const char *const endings[] = {
+        "open", "complete", "refused", "answered", "changed", "given up", "rolled back", "stopped", "in part",
+    };
+    return endings[ending];
+}
 
 void give_steps(struct journal *journal, const struct step *steps, size_t count) {
     journal->count = count;
-    journal->begun = journal->end_step = NO_STEP;
+    journal->begun = NO_STEP;
     journal->steps = calloc(count + 1, sizeof *journal->steps);
     journal->told = calloc(count + 1, sizeof *journal->told);
     journal->numbers = calloc(count + 1, sizeof *journal->numbers);
@@ -48,7 +45,15 @@ const struct step *next_clock(const struct step *steps, size_t count, const stru
     return next;
 }
 
+long failed_step(const struct journal *journal) {
+    for (size_t i = 0; i < journal->count; i++) {
+        if (journal->told[i].outcome > DONE) return (long)i;
+    }
+    return NO_STEP;
+}
+
 void leave_journal(struct journal *journal) {
+    ptpm_journal_stop(&journal->kept);
     if (journal->file > 0) close(journal->file);
     free(journal->steps);
     free(journal->told);
@@ -57,37 +62,127 @@ void leave_journal(struct journal *journal) {
     *journal = (struct journal){ 0 };
 }
 
-/* ---- lines */
+/* ---- records */
 
-/* A line of a text that is being written; it is freed by its caller. */
-struct line { FILE *to; char *text; size_t size; uint32_t crc; };
+/* The octets of the latest record that was added. */
+static uint8_t added[PTPM_RECORD_OCTETS];
+static size_t added_size;
 
-static FILE *begin_line(struct line *line) {
-    *line = (struct line){ 0 };
-    line->to = open_memstream(&line->text, &line->size);
-    if (line->to == NULL) give_up("the journal");
-    fprintf(line->to, "%0*d ", CRC_DIGITS, 0);
-    return line->to;
+_Noreturn static void end_without_memory(void) {
+    errno = ENOMEM;
+    give_up("the journal");
 }
 
-/* Ends it, and puts the checksum of it and of the lines before in its place. */
-static void end_line(struct line *line, const struct journal *journal) {
-    char crc[CRC_DIGITS + 1];
-    if (fflush(line->to)) give_up("the journal");
-    line->crc = crc_of(journal->crc, line->text + LEAD, line->size - LEAD);
-    snprintf(crc, sizeof crc, "%08x", line->crc);
-    putc('\n', line->to);
-    if (fclose(line->to)) give_up("the journal");
-    memcpy(line->text, crc, CRC_DIGITS);
+static void start_records(struct journal *journal) {
+    if (ptpm_journal_start(&journal->kept) != PTPM_JOURNALED) end_without_memory();
 }
 
-/* The text of a line without its checksum; NULL if that is wrong. The line feed is the end of a text already. */
-static const char *text_of(struct journal *journal, const char *line, size_t size) {
-    char crc[LEAD + 1];
-    if (size < LEAD || strlen(line) != size) return NULL;
-    journal->crc = crc_of(journal->crc, line + LEAD, size - LEAD);
-    snprintf(crc, sizeof crc, "%08x ", journal->crc);
-    return strncmp(line, crc, LEAD) == 0 ? line + LEAD : NULL;
+/* Adds a record. One that the library refuses ends the program. */
+static void add(struct journal *journal, const struct ptpm_journal_record *record, const void *first, const void *second) {
+    enum ptpm_journaled answer = ptpm_journal_add(&journal->kept, record, first, record->first_size, second, record->second_size,
+                                                  added, sizeof added, &added_size);
+    if (answer == PTPM_JOURNAL_NO_MEMORY) end_without_memory();
+    if (answer != PTPM_JOURNALED) refuse_storage("%s: %s: no run notes that here", journal->path, answer_name(answer));
+}
+
+static void write_text(FILE *to, struct journal *journal, uint8_t what, const char *text, size_t size) {
+    add(journal, &(struct ptpm_journal_record){ .kind = PTPM_RECORD_TEXT, .what = what, .first_size = (uint16_t)size }, text, text);
+    fwrite(added, 1, added_size, to);
+}
+
+static void write_step(FILE *to, struct journal *journal, const struct step *step) {
+    struct ptpm_journal_record record = {
+        .kind = PTPM_RECORD_STEP, .domain = step->domain, .group = LAST_GROUP, .port = step->port, .id = step->id,
+        .first_size = (uint16_t)step->before.size, .second_size = (uint16_t)step->after.size,
+    };
+    memcpy(record.clock, step->clock, 8);
+    add(journal, &record, step->before.octets, step->after.octets);
+    fwrite(added, 1, added_size, to);
+}
+
+/* The head, the steps, and the texts. */
+static void write_beginning(FILE *to, struct journal *journal) {
+    struct ptpm_journal_record head = {
+        .kind = PTPM_RECORD_HEAD, .flags = PTPM_IN_ONE_ROW, .together = 1, .port = journal->manager_port, .count = (uint16_t)journal->count,
+        .first_size = (uint16_t)strlen(journal->name), .second_size = (uint16_t)strlen(journal->rolls_back),
+    };
+    memcpy(head.clock, journal->manager, 8);
+    add(journal, &head, journal->name, journal->rolls_back);
+    fwrite(added, 1, added_size, to);
+    for (size_t i = 0; i < journal->count; i++) write_step(to, journal, &journal->steps[i]);
+    if (*journal->check != '\0') write_text(to, journal, TEXT_OF_CHECK, journal->check, strlen(journal->check));
+    for (const char *at = journal->skipped, *end; at != NULL && (end = strchr(at, '\n')) != NULL; at = end + 1) {
+        write_text(to, journal, SKIPPED_LINE, at, (size_t)(end - at));
+    }
+}
+
+/* Each takes octets of a record; whether there is room for them. */
+static bool take_name(char *name, size_t room, const uint8_t *octets, size_t size) {
+    if (size >= room) return false;
+    memcpy(name, octets, size);
+    name[size] = '\0';
+    return true;
+}
+
+static bool take_value(struct value *value, const uint8_t *octets, size_t size) {
+    if (size > sizeof value->octets) return false;
+    value->size = size;
+    memcpy(value->octets, octets, size);
+    return true;
+}
+
+static bool take_text(struct journal *journal, const struct ptpm_journal_record *record, const uint8_t *octets) {
+    char *more = NULL;
+    const char *before = journal->skipped == NULL ? "" : journal->skipped;
+    if (record->what == TEXT_OF_CHECK) return take_name(journal->check, sizeof journal->check, octets + record->first, record->first_size);
+    if (asprintf(&more, "%s%.*s\n", before, record->first_size, (const char *)octets + record->first) < 0) give_up("the journal");
+    free(journal->skipped);
+    journal->skipped = more;
+    return true;
+}
+
+static bool take_head(struct journal *journal, const struct ptpm_journal_record *head, const uint8_t *octets) {
+    memcpy(journal->manager, head->clock, 8);
+    journal->manager_port = head->port;
+    give_steps(journal, NULL, head->count);
+    journal->count = 0;
+    return take_name(journal->name, sizeof journal->name, octets + head->first, head->first_size)
+           && take_name(journal->rolls_back, sizeof journal->rolls_back, octets + head->second, head->second_size);
+}
+
+static bool take_step(struct journal *journal, const struct ptpm_journal_record *record, const uint8_t *octets) {
+    struct step *step = &journal->steps[journal->count++];
+    *step = (struct step){ .domain = record->domain, .port = record->port, .id = record->id };
+    memcpy(step->clock, record->clock, 8);
+    return take_value(&step->before, octets + record->first, record->first_size)
+           && take_value(&step->after, octets + record->second, record->second_size);
+}
+
+static bool take_told(struct journal *journal, const struct ptpm_journal_record *record, const uint8_t *octets) {
+    struct told *told = &journal->told[record->step];
+    *told = (struct told){ .outcome = record->what, .error = record->error, .time = record->time };
+    journal->begun = NO_STEP;
+    return take_value(&told->answer, octets + record->first, record->first_size);
+}
+
+/* Takes a record that the library has taken; whether it is one of this program. */
+static bool take_record(struct journal *journal, const struct ptpm_journal_record *record, const uint8_t *octets) {
+    if (record->time != 0) journal->latest = record->time;
+    switch (record->kind) {
+    case PTPM_RECORD_HEAD: return take_head(journal, record, octets);
+    case PTPM_RECORD_STEP: return take_step(journal, record, octets);
+    case PTPM_RECORD_TEXT: return take_text(journal, record, octets);
+    case PTPM_RECORD_TOLD: return take_told(journal, record, octets);
+    case PTPM_RECORD_BEGUN:
+        journal->begun = record->step;
+        journal->numbers[record->step] = record->number;
+        break;
+    case PTPM_RECORD_NOT_BEGUN: journal->begun = NO_STEP; break;
+    case PTPM_RECORD_LET_GO: journal->is_let_go = true; break;
+    case PTPM_RECORD_END: journal->ending = record->what; break;
+    default: break;
+    }
+    return true;
 }
 
 /* ---- its file */
@@ -100,14 +195,15 @@ static bool open_notes(struct journal *journal) {
 
 bool make_journal(struct journal *journal) {
     struct kept_file file = { .folder = -1, .mode = 0666 };
-    struct line line;
-    write_journal_head(begin_line(&line), journal);
-    end_line(&line, journal);
-    bool is_made = open_kept_folder(&file, journal->path) && replace_kept(&file, (const uint8_t *)line.text, line.size) == REPLACED;
+    char *octets = NULL;
+    start_records(journal);
+    FILE *to = open_memstream(&octets, &journal->size);
+    if (to == NULL) give_up("the journal");
+    write_beginning(to, journal);
+    if (fclose(to)) give_up("the journal");
+    bool is_made = open_kept_folder(&file, journal->path) && replace_kept(&file, (const uint8_t *)octets, journal->size) == REPLACED;
     int failure = errno;
-    journal->size = line.size;
-    journal->crc = line.crc;
-    free(line.text);
+    free(octets);
     if (file.folder >= 0) close(file.folder);
     errno = failure;
     return is_made && open_notes(journal);
@@ -119,12 +215,12 @@ bool continue_journal(struct journal *journal) {
     return found.st_size == (off_t)journal->size || (ftruncate(journal->file, (off_t)journal->size) == 0 && fsync(journal->file) == 0);
 }
 
-/* All of a file and an end of text, synchronized; NULL if it can't be, and then errno says why. */
-static char *read_file(const char *path, size_t *size) {
+/* All of a file, synchronized; NULL if it can't be read, and then errno says why. */
+static uint8_t *read_file(const char *path, size_t *size) {
     struct stat found;
     int file = open(path, O_RDONLY | O_CLOEXEC | O_NOFOLLOW | O_NONBLOCK);
     bool is_kept = file >= 0 && fsync(file) == 0 && fstat(file, &found) == 0;
-    char *octets = is_kept ? malloc((size_t)found.st_size + 1) : NULL;
+    uint8_t *octets = is_kept ? malloc((size_t)found.st_size + 1) : NULL;
     *size = 0;
     for (ssize_t count = 1; octets != NULL && count > 0 && *size < (size_t)found.st_size; *size += (size_t)count) {
         count = read(file, octets + *size, (size_t)found.st_size - *size);
@@ -132,34 +228,36 @@ static char *read_file(const char *path, size_t *size) {
         free(octets);
         octets = NULL;
     }
-    if (octets != NULL) octets[*size] = '\0';
     int failure = errno;
     if (file >= 0) close(file);
     errno = failure;
     return octets;
 }
 
-/* Takes each whole line. */
-static enum found_journal take_lines(struct journal *journal, char *octets, size_t size) {
-    bool is_head = true;
-    char *at = octets;
-    for (char *end; (end = memchr(at, '\n', size - (size_t)(at - octets))) != NULL; at = end + 1, is_head = false) {
-        *end = '\0';
-        const char *text = text_of(journal, at, (size_t)(end - at));
-        if (text != NULL && is_head && is_head_of_other_version(text)) return OTHER_JOURNAL;
-        if (text == NULL || !(is_head ? take_head(journal, text) : take_note(journal, text))) return DAMAGED_JOURNAL;
+/* Takes each whole record. */
+static enum found_journal take_records(struct journal *journal, const uint8_t *octets, size_t size) {
+    struct ptpm_journal_record record;
+    size_t taken;
+    start_records(journal);
+    for (journal->size = 0;; journal->size += taken) {
+        const uint8_t *at = octets + journal->size;
+        switch (ptpm_journal_next(&journal->kept, at, size - journal->size, &record, &taken)) {
+        case PTPM_JOURNALED: if (!take_record(journal, &record, at)) return DAMAGED_JOURNAL; break;
+        case PTPM_JOURNAL_WHOLE: return FOUND_JOURNAL;
+        case PTPM_JOURNAL_OTHER_VERSION: return OTHER_JOURNAL;
+        case PTPM_JOURNAL_NO_MEMORY: end_without_memory();
+        default: return DAMAGED_JOURNAL;
+        }
     }
-    journal->size = (size_t)(at - octets);
-    return is_head ? DAMAGED_JOURNAL : FOUND_JOURNAL;
 }
 
 enum found_journal read_journal(struct journal *journal, const char *path) {
     size_t size;
     *journal = (struct journal){ 0 };
     snprintf(journal->path, sizeof journal->path, "%s", path);
-    char *octets = read_file(path, &size);
+    uint8_t *octets = read_file(path, &size);
     if (octets == NULL) return errno == ENOENT ? NO_JOURNAL : UNREADABLE_JOURNAL;
-    enum found_journal found = take_lines(journal, octets, size);
+    enum found_journal found = take_records(journal, octets, size);
     free(octets);
     return found;
 }
@@ -186,71 +284,51 @@ const char *journal_rest(const struct journal *journal) {
     return is_there(journal) ? "the apply stays open" : "the journal is gone, and no resume finds this apply";
 }
 
-/* Appends a line, and synchronizes it. If it can't be, what there is of it is cut off. */
-static bool append(struct journal *journal, struct line *line) {
-    end_line(line, journal);
-    ssize_t written = write(journal->file, line->text, line->size);
-    if (written >= 0 && (size_t)written < line->size) errno = ENOSPC;
-    bool is_noted = written == (ssize_t)line->size && fsync(journal->file) == 0 && is_there(journal);
+void say_not_noted(const struct journal *journal) {
+    const char *why = strerror(errno);
+    complain("%s: %s: %s", journal->path, why, journal_rest(journal));
+}
+
+/* Appends the record that was added, and synchronizes it. If it can't be, what there is of it is cut off. */
+static bool append(struct journal *journal) {
+    ssize_t written = write(journal->file, added, added_size);
+    if (written >= 0 && (size_t)written < added_size) errno = ENOSPC;
+    bool is_noted = written == (ssize_t)added_size && fsync(journal->file) == 0 && is_there(journal);
     int failure = errno;
-    if (is_noted) journal->size += line->size, journal->crc = line->crc;
+    if (is_noted) journal->size += added_size;
     else if (ftruncate(journal->file, (off_t)journal->size)) failure = errno;
-    free(line->text);
     errno = failure;
     return is_noted;
 }
 
-bool note_begun(struct journal *journal, long step, uint16_t number) {
-    struct line line;
-    write_begun(begin_line(&line), step, number);
-    if (!append(journal, &line)) return false;
-    journal->begun = step;
-    journal->numbers[step] = number;
-    return true;
+/* After a note that could not be written the run ends: the library has that already. */
+static bool note(struct journal *journal, struct ptpm_journal_record record, const struct value *answer) {
+    record.time = (uint64_t)time(NULL);
+    record.first_size = (uint16_t)answer->size;
+    add(journal, &record, answer->octets, answer->octets);
+    return append(journal) && take_record(journal, &record, answer->octets);
 }
 
-bool note_not_begun(struct journal *journal) {
-    struct line line;
-    write_not_begun(begin_line(&line), journal->begun);
-    if (!append(journal, &line)) return false;
-    journal->begun = NO_STEP;
-    return true;
+static bool note_step(struct journal *journal, uint8_t kind, long step, uint16_t number) {
+    static const struct value none;
+    return note(journal, (struct ptpm_journal_record){ .kind = kind, .step = (uint16_t)step, .number = number }, &none);
 }
+
+bool note_begun(struct journal *journal, long step, uint16_t number) { return note_step(journal, PTPM_RECORD_BEGUN, step, number); }
+
+bool note_not_begun(struct journal *journal) { return note_step(journal, PTPM_RECORD_NOT_BEGUN, journal->begun, 0); }
+
+bool note_let_go(struct journal *journal) { return note_step(journal, PTPM_RECORD_LET_GO, journal->begun, 0); }
 
 bool note_told(struct journal *journal, long step, const struct told *told) {
-    struct line line;
-    write_told(begin_line(&line), step, told);
-    if (!append(journal, &line)) return false;
-    journal->told[step] = *told;
-    write_time(journal->told[step].time);
-    journal->told_count++;
-    journal->begun = NO_STEP;
-    return true;
-}
-
-bool note_let_go(struct journal *journal) {
-    struct line line;
-    write_let_go(begin_line(&line), journal->begun);
-    if (!append(journal, &line)) return false;
-    journal->is_let_go = true;
-    return true;
+    struct ptpm_journal_record record = {
+        .kind = PTPM_RECORD_TOLD, .step = (uint16_t)step, .what = (uint8_t)told->outcome, .error = told->error,
+    };
+    return note(journal, record, &told->answer);
 }
 
 bool note_end(struct journal *journal, enum ending ending, long step) {
-    struct line line;
-    write_end(begin_line(&line), ending, step);
-    if (!append(journal, &line)) return false;
-    journal->ending = ending;
-    journal->end_step = step;
-    return true;
-}
-
-long failed_step(const struct journal *journal) {
-    long last = (long)journal->told_count - 1;
-    return last >= 0 && journal->told[last].outcome != DONE ? last : NO_STEP;
-}
-
-long next_step(const struct journal *journal) {
-    if (failed_step(journal) != NO_STEP) return NO_STEP;
-    return journal->told_count < journal->count ? (long)journal->told_count : NO_STEP;
+    static const struct value none;
+    struct ptpm_journal_record record = { .kind = PTPM_RECORD_END, .what = (uint8_t)ending, .step = (uint16_t)step };
+    return note(journal, record, &none);
 }

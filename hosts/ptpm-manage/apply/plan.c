@@ -233,6 +233,7 @@ int make_plan(struct plan *plan, const struct task *task) {
             plan->has_reached = plan->count > 0 || strstr(plan->text.text, "\nstays:\n") != NULL;
         }
         if (!is_refused && task->is_json) take_json(plan, task, &lines);
+        if (!is_refused && status == NOT_ANSWERED) tell_lacking();
     }
     free(answers.text);
     return stopped ? BY_SIGNAL + stopped : status;

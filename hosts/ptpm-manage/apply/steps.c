@@ -70,8 +70,7 @@ void leave_sessions(void) {
 
 bool end_journal(struct journal *journal, enum ending ending, long step) {
     if (!note_end(journal, ending, step)) {
-        const char *why = strerror(errno);
-        complain("%s: %s: %s", journal->path, why, journal_rest(journal));
+        say_not_noted(journal);
         return false;
     }
     for (size_t i = 0; i < desk_count; i++) remove_mark(desks[i]->session.file->path);
@@ -307,7 +306,7 @@ static int check_before(struct journal *journal, long place) {
 
 int carry_out_steps(const struct task *task, struct journal *journal) {
     int status = see_to_sessions(journal);
-    for (long place; status == ANSWERED && journal->ending == IS_OPEN && (place = next_step(journal)) != NO_STEP;) {
+    for (long place; status == ANSWERED && journal->ending == IS_OPEN && (place = ptpm_journal_next_step(&journal->kept)) != NO_STEP;) {
         status = check_before(journal, place);
         if (status == ANSWERED && journal->ending == IS_OPEN) status = take_step(task, journal, place);
     }

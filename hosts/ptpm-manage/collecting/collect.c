@@ -11,6 +11,7 @@
 #include "transport.h"
 #include "unanswered.h"
 #include "untaken.h"
+#include "words.h"
 #include <errno.h>
 #include <stdbool.h>
 #include <stdlib.h>
@@ -539,6 +540,27 @@ static void tell_sureness(void) {
     if (!known->is_sure && !stopped && sent > 0) {
         complain("%zu clocks answered in %zu rounds, and more may be there: %zu answers came only after the first one", known->clocks,
                  known->rounds, known->late);
+    }
+}
+
+/* Writes the names of what a clock lacks; whether it lacks something. */
+static bool write_lacking(char *names, size_t room, const struct seen_clock *clock) {
+    size_t size = 0;
+    for (unsigned id = 0; id < collected->count; id++) {
+        if (!is_lacking(clock, id, is_of_port(id))) continue;
+        size += (size_t)snprintf(names + size, room - size, "%s%s", size > 0 ? ", " : "", id_name(collected->ids[id]));
+    }
+    return size > 0;
+}
+
+void tell_lacking(void) {
+    char identity[IDENTITY_TEXT], domain[DOMAIN_TEXT], names[MOST_COLLECTED * sizeof ", LOG_MIN_PDELAY_REQ_INTERVAL"];
+    for (size_t place = 0; place < seen_count(); place++) {
+        const struct seen_clock *clock = seen_clock(place);
+        if (!write_lacking(names, sizeof names, clock)) continue;
+        write_identity(identity, clock->identity);
+        write_domain(domain, clock->domain);
+        complain("no answer of %s in domain %s to a read of %s", identity, domain, names);
     }
 }
 

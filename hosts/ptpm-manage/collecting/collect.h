@@ -26,6 +26,9 @@ void add_answering_domains(struct domains *domains, const struct task *task);
    of the latest. */
 int collect_answers(const struct task *task, const struct collected *what, const struct domains *domains, FILE *to);
 
+/* Says of the latest collection which clocks gave some answers, and not all. */
+void tell_lacking(void);
+
 /* What is known of the latest collection. It is there until the next one. */
 const struct sureness *sureness_of_collection(void);
 
