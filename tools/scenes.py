@@ -134,6 +134,8 @@ class Scene:
     def end(self):
         """Ends what runs, so that the next page finds none of it."""
         self.stop(self.running)
+        for host in ("manager", "neighbour"):
+            shell("nft flush ruleset", host)
         shell("rm -rf /var/lib/ptpm /run/ptp4l*")
         self.clocks, self.running, self.programs = None, [], []
 
