@@ -7,6 +7,7 @@
 #undef ptpm_session_stop
 #undef ptpm_survey_stop
 #undef ptpm_asker_stop
+#undef ptpm_journal_stop
 
 u64 portable_ptpm_answer_name(u32 a0, address a1, u64 a2);
 u32 portable_ptpm_asker_ask(address a0, u64 a1, u64 a2, u8 a3, u16 a4, u16 a5, address a6, u64 a7, u8 a8, address a9);
@@ -22,6 +23,7 @@ u32 portable_ptpm_asker_settle(address a0, u64 a1, u64 a2, u8 a3, address a4);
 void portable_ptpm_asker_stop(address a0);
 u32 portable_ptpm_asker_unsent(address a0, address a1);
 u32 portable_ptpm_asker_wake(address a0, u64 a1, address a2);
+u32 portable_ptpm_clock_decide(address a0, address a1, address a2, u64 a3, address a4);
 void portable_ptpm_clock_defaults(address a0);
 u64 portable_ptpm_clock_free(address a0);
 u32 portable_ptpm_clock_handle(address a0, u16 a1, address a2, u64 a3, address a4, u64 a5, address a6);
@@ -45,6 +47,11 @@ u32 portable_ptpm_id_parse(address a0, u64 a1);
 u8 portable_ptpm_identity_parse(address a0, u64 a1, address a2);
 u32 portable_ptpm_image_seal_in(address a0, u64 a1, u64 a2, u64 a3, address a4);
 u32 portable_ptpm_image_unseal(address a0, u64 a1, address a2, address a3);
+u32 portable_ptpm_journal_add(address a0, address a1, address a2, u64 a3, address a4, u64 a5, address a6, u64 a7, address a8);
+u32 portable_ptpm_journal_mark(address a0, u16 a1);
+u32 portable_ptpm_journal_next(address a0, address a1, u64 a2, address a3, address a4);
+u16 portable_ptpm_journal_next_step(address a0);
+void portable_ptpm_journal_stop(address a0);
 void portable_ptpm_limit_range(address a0, u32 a1, u32 a2);
 u16 portable_ptpm_limits_say(address a0, u64 a1, address a2);
 u32 portable_ptpm_member_kind(u16 a0, address a1, u64 a2, u64 a3);
@@ -85,14 +92,18 @@ u32 portable_ptpm_asker_restore(address a0, address a1, address a2, address a3, 
 u32 portable_ptpm_asker_start(address a0, address a1, address a2);
 u32 portable_ptpm_clock_restore(address a0, address a1, u64 a2, address a3, u64 a4, address a5, u64 a6, address a7);
 u32 portable_ptpm_clock_start(address a0, address a1, address a2, u64 a3, address a4, u64 a5);
+u32 portable_ptpm_journal_start(address a0);
 u32 portable_ptpm_session_restore(address a0, address a1, address a2, u64 a3);
 u32 portable_ptpm_session_start(address a0, address a1);
 u32 portable_ptpm_survey_start(address a0, address a1);
 u32 portable_ptpm_survey_start_at(address a0, address a1, address a2);
 u32 portable_ptpm_clock_observe(address a0, address a1, address a2, u64 a3, address a4);
 u32 portable_ptpm_clock_read(address a0, u16 a1, u16 a2, address a3, u64 a4, address a5);
+u64 portable_ptpm_clock_transit(address a0, u16 a1, address a2, u64 a3, address a4, u64 a5);
 u32 portable_ptpm_clock_set(address a0, u8 a1, u16 a2, u16 a3, address a4, u64 a5, address a6, address a7);
 u32 portable_ptpm_clock_ask(address a0, u16 a1, address a2, u64 a3, address a4);
+u32 portable_ptpm_clock_under_way(address a0, address a1);
+u32 portable_ptpm_clock_undertake(address a0, u16 a1, address a2, u64 a3, address a4);
 
 #if IS_LITTLE_ENDIAN
 #define fill() ((void)0)
@@ -128,6 +139,7 @@ static void fill(void) {
 #define swap_ptpm_survey_settings(at) ((void)0)
 #define swap_ptpm_asker_settings(at) ((void)0)
 #define swap_ptpm_handed(at) ((void)0)
+#define swap_ptpm_journal_record(at) ((void)0)
 #define swap_ptpm_source(at) ((void)0)
 #define swap_ptpm_rate(at) ((void)0)
 #else
@@ -210,6 +222,19 @@ static void swap_ptpm_handed(struct ptpm_handed *at) {
     at->time = (uint64_t)swap64((u64)at->time);
     at->what = (uint32_t)swap32((u32)at->what);
     at->number = (uint16_t)swap16((u16)at->number);
+}
+static void swap_ptpm_journal_record(struct ptpm_journal_record *at) {
+    at->time = (uint64_t)swap64((u64)at->time);
+    at->first = (uint32_t)swap32((u32)at->first);
+    at->second = (uint32_t)swap32((u32)at->second);
+    at->first_size = (uint16_t)swap16((u16)at->first_size);
+    at->second_size = (uint16_t)swap16((u16)at->second_size);
+    at->count = (uint16_t)swap16((u16)at->count);
+    at->port = (uint16_t)swap16((u16)at->port);
+    at->id = (uint16_t)swap16((u16)at->id);
+    at->step = (uint16_t)swap16((u16)at->step);
+    at->number = (uint16_t)swap16((u16)at->number);
+    at->error = (uint16_t)swap16((u16)at->error);
 }
 static void swap_ptpm_source(struct ptpm_source *at) {
     at->port = (uint16_t)swap16((u16)at->port);
@@ -303,6 +328,36 @@ enum ptpm_handled ptpm_clock_take(struct ptpm_clock *clock, uint16_t port, const
     return answer;
 }
 
+enum ptpm_asking ptpm_clock_undertake(struct ptpm_clock *clock, uint16_t port, const uint8_t *datagram, size_t size, struct ptpm_question *asked) {
+    fill();
+    swap_ptpm_question(asked);
+    enum ptpm_asking answer = (enum ptpm_asking)portable_ptpm_clock_undertake(ADDRESS(clock), port, ADDRESS(datagram), size, ADDRESS(asked));
+    swap_ptpm_question(asked);
+    return answer;
+}
+
+enum ptpm_asking ptpm_clock_under_way(const struct ptpm_clock *clock, struct ptpm_question *asked) {
+    fill();
+    swap_ptpm_question(asked);
+    enum ptpm_asking answer = (enum ptpm_asking)portable_ptpm_clock_under_way(ADDRESS(clock), ADDRESS(asked));
+    swap_ptpm_question(asked);
+    return answer;
+}
+
+enum ptpm_handled ptpm_clock_decide(struct ptpm_clock *clock, const struct ptpm_say *say, struct ptpm_sent *sent, size_t room, struct ptpm_taken *taken) {
+    fill();
+#if !IS_LITTLE_ENDIAN
+    struct ptpm_say say_in = *say;
+    swap_ptpm_say(&say_in);
+    say = &say_in;
+#endif
+    swap_ptpm_taken(taken);
+    enum ptpm_handled answer = (enum ptpm_handled)portable_ptpm_clock_decide(ADDRESS(clock), ADDRESS(say), ADDRESS(sent), room, ADDRESS(taken));
+    swap_ptpm_taken(taken);
+    for (size_t i = 0; i < taken->count; i++) swap_ptpm_sent(&sent[i]);
+    return answer;
+}
+
 void ptpm_limit_range(struct ptpm_limit *limit, int32_t least, int32_t most) {
     fill();
     swap_ptpm_limit(limit);
@@ -368,6 +423,13 @@ enum ptpm_saved ptpm_clock_image(const struct ptpm_clock *clock, uint8_t *octets
     u64 size_out = 0;
     enum ptpm_saved answer = (enum ptpm_saved)portable_ptpm_clock_image(ADDRESS(clock), ADDRESS(octets), room, ADDRESS(&size_out));
     *size = (size_t)load64(ADDRESS(&size_out));
+    return answer;
+}
+
+size_t ptpm_clock_transit(const struct ptpm_clock *clock, uint16_t port, const uint8_t *datagram, size_t size, struct ptpm_sent *sent, size_t room) {
+    fill();
+    size_t answer = (size_t)portable_ptpm_clock_transit(ADDRESS(clock), port, ADDRESS(datagram), size, ADDRESS(sent), room);
+    for (size_t i = 0; i < *count; i++) swap_ptpm_sent(&sent[i]);
     return answer;
 }
 
@@ -718,6 +780,49 @@ enum ptpm_reported ptpm_asker_report(const struct ptpm_asker *asker, uint8_t *oc
 void ptpm_asker_stop(struct ptpm_asker *asker) {
     fill();
     portable_ptpm_asker_stop(ADDRESS(asker));
+}
+
+enum ptpm_journaled ptpm_journal_start(struct ptpm_journal *journal) {
+    fill();
+    return (enum ptpm_journaled)portable_ptpm_journal_start(ADDRESS(journal));
+}
+
+enum ptpm_journaled ptpm_journal_add(struct ptpm_journal *journal, const struct ptpm_journal_record *record, const uint8_t *first, size_t first_size, const uint8_t *second, size_t second_size, uint8_t *octets, size_t room, size_t *size) {
+    fill();
+#if !IS_LITTLE_ENDIAN
+    struct ptpm_journal_record record_in = *record;
+    swap_ptpm_journal_record(&record_in);
+    record = &record_in;
+#endif
+    u64 size_out = 0;
+    enum ptpm_journaled answer = (enum ptpm_journaled)portable_ptpm_journal_add(ADDRESS(journal), ADDRESS(record), ADDRESS(first), first_size, ADDRESS(second), second_size, ADDRESS(octets), room, ADDRESS(&size_out));
+    *size = (size_t)load64(ADDRESS(&size_out));
+    return answer;
+}
+
+enum ptpm_journaled ptpm_journal_next(struct ptpm_journal *journal, const uint8_t *octets, size_t octet_count, struct ptpm_journal_record *record, size_t *size) {
+    fill();
+    swap_ptpm_journal_record(record);
+    u64 size_out = 0;
+    enum ptpm_journaled answer = (enum ptpm_journaled)portable_ptpm_journal_next(ADDRESS(journal), ADDRESS(octets), octet_count, ADDRESS(record), ADDRESS(&size_out));
+    swap_ptpm_journal_record(record);
+    *size = (size_t)load64(ADDRESS(&size_out));
+    return answer;
+}
+
+uint32_t ptpm_journal_mark(const struct ptpm_journal *journal, uint16_t step) {
+    fill();
+    return (uint32_t)portable_ptpm_journal_mark(ADDRESS(journal), step);
+}
+
+uint16_t ptpm_journal_next_step(const struct ptpm_journal *journal) {
+    fill();
+    return (uint16_t)portable_ptpm_journal_next_step(ADDRESS(journal));
+}
+
+void ptpm_journal_stop(struct ptpm_journal *journal) {
+    fill();
+    portable_ptpm_journal_stop(ADDRESS(journal));
 }
 
 uint32_t ptpm_step_standing(uint32_t begun, uint16_t id, uint16_t port, const uint8_t *octets, size_t size, uint32_t told, const uint8_t *image, size_t image_size) {

@@ -71,825 +71,843 @@ static const union { u8 octets[12]; u64 aligned; } octets_of_c27 = { { 65,83,75,
 #define c28 (octets_of_c28.octets)
 static const union { u8 octets[11]; u64 aligned; } octets_of_c28 = { { 65,83,75,69,68,95,86,65,76,85,69 } };
 #define c29 (octets_of_c29.octets)
-static const union { u8 octets[8]; u64 aligned; } octets_of_c29 = { { 78,79,95,67,76,79,67,75 } };
+static const union { u8 octets[7]; u64 aligned; } octets_of_c29 = { { 65,67,84,95,78,79,87 } };
 #define c30 (octets_of_c30.octets)
-static const union { u8 octets[7]; u64 aligned; } octets_of_c30 = { { 78,79,95,80,79,82,84 } };
+static const union { u8 octets[8]; u64 aligned; } octets_of_c30 = { { 78,79,95,67,76,79,67,75 } };
 #define c31 (octets_of_c31.octets)
-static const union { u8 octets[7]; u64 aligned; } octets_of_c31 = { { 78,79,95,82,79,79,77 } };
+static const union { u8 octets[7]; u64 aligned; } octets_of_c31 = { { 78,79,95,80,79,82,84 } };
 #define c32 (octets_of_c32.octets)
-static const union { u8 octets[9]; u64 aligned; } octets_of_c32 = { { 78,79,95,77,69,77,79,82,89 } };
+static const union { u8 octets[7]; u64 aligned; } octets_of_c32 = { { 78,79,95,82,79,79,77 } };
 #define c33 (octets_of_c33.octets)
-static const union { u8 octets[12]; u64 aligned; } octets_of_c33 = { { 78,79,84,95,82,69,65,68,65,66,76,69 } };
+static const union { u8 octets[9]; u64 aligned; } octets_of_c33 = { { 78,79,95,77,69,77,79,82,89 } };
 #define c34 (octets_of_c34.octets)
-static const union { u8 octets[10]; u64 aligned; } octets_of_c34 = { { 78,79,95,83,69,83,83,73,79,78 } };
+static const union { u8 octets[12]; u64 aligned; } octets_of_c34 = { { 78,79,84,95,82,69,65,68,65,66,76,69 } };
 #define c35 (octets_of_c35.octets)
-static const union { u8 octets[4]; u64 aligned; } octets_of_c35 = { { 66,85,83,89 } };
+static const union { u8 octets[10]; u64 aligned; } octets_of_c35 = { { 78,79,95,83,69,83,83,73,79,78 } };
 #define c36 (octets_of_c36.octets)
-static const union { u8 octets[10]; u64 aligned; } octets_of_c36 = { { 78,69,69,68,83,95,80,79,82,84 } };
+static const union { u8 octets[4]; u64 aligned; } octets_of_c36 = { { 66,85,83,89 } };
 #define c37 (octets_of_c37.octets)
-static const union { u8 octets[13]; u64 aligned; } octets_of_c37 = { { 78,79,84,95,80,69,82,77,73,84,84,69,68 } };
+static const union { u8 octets[10]; u64 aligned; } octets_of_c37 = { { 78,69,69,68,83,95,80,79,82,84 } };
 #define c38 (octets_of_c38.octets)
-static const union { u8 octets[9]; u64 aligned; } octets_of_c38 = { { 66,65,68,95,86,65,76,85,69 } };
+static const union { u8 octets[13]; u64 aligned; } octets_of_c38 = { { 78,79,84,95,80,69,82,77,73,84,84,69,68 } };
 #define c39 (octets_of_c39.octets)
-static const union { u8 octets[16]; u64 aligned; } octets_of_c39 = { { 67,79,85,78,84,95,65,84,95,77,65,88,73,77,85,77 } };
+static const union { u8 octets[9]; u64 aligned; } octets_of_c39 = { { 66,65,68,95,86,65,76,85,69 } };
 #define c40 (octets_of_c40.octets)
-static const union { u8 octets[4]; u64 aligned; } octets_of_c40 = { { 73,68,76,69 } };
+static const union { u8 octets[16]; u64 aligned; } octets_of_c40 = { { 67,79,85,78,84,95,65,84,95,77,65,88,73,77,85,77 } };
 #define c41 (octets_of_c41.octets)
-static const union { u8 octets[7]; u64 aligned; } octets_of_c41 = { { 71,65,86,69,95,85,80 } };
+static const union { u8 octets[4]; u64 aligned; } octets_of_c41 = { { 73,68,76,69 } };
 #define c42 (octets_of_c42.octets)
-static const union { u8 octets[9]; u64 aligned; } octets_of_c42 = { { 78,79,95,82,69,80,79,82,84 } };
+static const union { u8 octets[7]; u64 aligned; } octets_of_c42 = { { 71,65,86,69,95,85,80 } };
 #define c43 (octets_of_c43.octets)
-static const union { u8 octets[9]; u64 aligned; } octets_of_c43 = { { 78,79,95,83,85,82,86,69,89 } };
+static const union { u8 octets[9]; u64 aligned; } octets_of_c43 = { { 78,79,95,82,69,80,79,82,84 } };
 #define c44 (octets_of_c44.octets)
-static const union { u8 octets[11]; u64 aligned; } octets_of_c44 = { { 79,84,72,69,82,95,83,73,90,69,83 } };
+static const union { u8 octets[9]; u64 aligned; } octets_of_c44 = { { 78,79,95,83,85,82,86,69,89 } };
 #define c45 (octets_of_c45.octets)
-static const union { u8 octets[8]; u64 aligned; } octets_of_c45 = { { 78,79,95,80,79,82,84,83 } };
+static const union { u8 octets[11]; u64 aligned; } octets_of_c45 = { { 79,84,72,69,82,95,83,73,90,69,83 } };
 #define c46 (octets_of_c46.octets)
-static const union { u8 octets[14]; u64 aligned; } octets_of_c46 = { { 84,79,79,95,77,65,78,89,95,80,79,82,84,83 } };
+static const union { u8 octets[8]; u64 aligned; } octets_of_c46 = { { 78,79,95,80,79,82,84,83 } };
 #define c47 (octets_of_c47.octets)
-static const union { u8 octets[19]; u64 aligned; } octets_of_c47 = { { 71,82,65,78,68,77,65,83,84,69,82,95,68,73,70,70,69,82,83 } };
+static const union { u8 octets[14]; u64 aligned; } octets_of_c47 = { { 84,79,79,95,77,65,78,89,95,80,79,82,84,83 } };
 #define c48 (octets_of_c48.octets)
-static const union { u8 octets[17]; u64 aligned; } octets_of_c48 = { { 84,79,79,95,77,65,78,89,95,77,65,78,65,71,69,82,83 } };
+static const union { u8 octets[19]; u64 aligned; } octets_of_c48 = { { 71,82,65,78,68,77,65,83,84,69,82,95,68,73,70,70,69,82,83 } };
 #define c49 (octets_of_c49.octets)
-static const union { u8 octets[13]; u64 aligned; } octets_of_c49 = { { 77,65,78,65,71,69,82,95,84,87,73,67,69 } };
+static const union { u8 octets[17]; u64 aligned; } octets_of_c49 = { { 84,79,79,95,77,65,78,89,95,77,65,78,65,71,69,82,83 } };
 #define c50 (octets_of_c50.octets)
-static const union { u8 octets[16]; u64 aligned; } octets_of_c50 = { { 77,65,78,65,71,69,82,95,73,83,95,69,86,69,82,89 } };
+static const union { u8 octets[13]; u64 aligned; } octets_of_c50 = { { 77,65,78,65,71,69,82,95,84,87,73,67,69 } };
 #define c51 (octets_of_c51.octets)
-static const union { u8 octets[15]; u64 aligned; } octets_of_c51 = { { 84,65,82,71,69,84,95,73,83,95,69,86,69,82,89 } };
+static const union { u8 octets[16]; u64 aligned; } octets_of_c51 = { { 77,65,78,65,71,69,82,95,73,83,95,69,86,69,82,89 } };
 #define c52 (octets_of_c52.octets)
-static const union { u8 octets[10]; u64 aligned; } octets_of_c52 = { { 83,65,77,69,95,67,76,79,67,75 } };
+static const union { u8 octets[15]; u64 aligned; } octets_of_c52 = { { 84,65,82,71,69,84,95,73,83,95,69,86,69,82,89 } };
 #define c53 (octets_of_c53.octets)
-static const union { u8 octets[16]; u64 aligned; } octets_of_c53 = { { 73,68,69,78,84,73,84,89,95,73,83,95,90,69,82,79 } };
+static const union { u8 octets[10]; u64 aligned; } octets_of_c53 = { { 83,65,77,69,95,67,76,79,67,75 } };
 #define c54 (octets_of_c54.octets)
-static const union { u8 octets[14]; u64 aligned; } octets_of_c54 = { { 84,65,82,71,69,84,95,73,83,95,90,69,82,79 } };
+static const union { u8 octets[16]; u64 aligned; } octets_of_c54 = { { 73,68,69,78,84,73,84,89,95,73,83,95,90,69,82,79 } };
 #define c55 (octets_of_c55.octets)
-static const union { u8 octets[12]; u64 aligned; } octets_of_c55 = { { 78,79,84,95,65,78,95,73,77,65,71,69 } };
+static const union { u8 octets[14]; u64 aligned; } octets_of_c55 = { { 84,65,82,71,69,84,95,73,83,95,90,69,82,79 } };
 #define c56 (octets_of_c56.octets)
-static const union { u8 octets[13]; u64 aligned; } octets_of_c56 = { { 79,84,72,69,82,95,86,69,82,83,73,79,78 } };
+static const union { u8 octets[12]; u64 aligned; } octets_of_c56 = { { 78,79,84,95,65,78,95,73,77,65,71,69 } };
 #define c57 (octets_of_c57.octets)
-static const union { u8 octets[10]; u64 aligned; } octets_of_c57 = { { 79,84,72,69,82,95,75,73,78,68 } };
+static const union { u8 octets[13]; u64 aligned; } octets_of_c57 = { { 79,84,72,69,82,95,86,69,82,83,73,79,78 } };
 #define c58 (octets_of_c58.octets)
-static const union { u8 octets[7]; u64 aligned; } octets_of_c58 = { { 68,65,77,65,71,69,68 } };
+static const union { u8 octets[10]; u64 aligned; } octets_of_c58 = { { 79,84,72,69,82,95,75,73,78,68 } };
 #define c59 (octets_of_c59.octets)
-static const union { u8 octets[11]; u64 aligned; } octets_of_c59 = { { 79,84,72,69,82,95,67,76,79,67,75 } };
+static const union { u8 octets[7]; u64 aligned; } octets_of_c59 = { { 68,65,77,65,71,69,68 } };
 #define c60 (octets_of_c60.octets)
-static const union { u8 octets[11]; u64 aligned; } octets_of_c60 = { { 79,84,72,69,82,95,80,79,82,84,83 } };
+static const union { u8 octets[11]; u64 aligned; } octets_of_c60 = { { 79,84,72,69,82,95,67,76,79,67,75 } };
 #define c61 (octets_of_c61.octets)
-static const union { u8 octets[13]; u64 aligned; } octets_of_c61 = { { 79,84,72,69,82,95,83,69,83,83,73,79,78 } };
+static const union { u8 octets[11]; u64 aligned; } octets_of_c61 = { { 79,84,72,69,82,95,80,79,82,84,83 } };
 #define c62 (octets_of_c62.octets)
-static const union { u8 octets[12]; u64 aligned; } octets_of_c62 = { { 79,85,84,95,79,70,95,82,69,65,67,72 } };
+static const union { u8 octets[13]; u64 aligned; } octets_of_c62 = { { 79,84,72,69,82,95,83,69,83,83,73,79,78 } };
 #define c63 (octets_of_c63.octets)
-static const union { u8 octets[9]; u64 aligned; } octets_of_c63 = { { 78,79,84,95,87,79,82,68,83 } };
+static const union { u8 octets[12]; u64 aligned; } octets_of_c63 = { { 79,85,84,95,79,70,95,82,69,65,67,72 } };
 #define c64 (octets_of_c64.octets)
-static const union { u8 octets[10]; u64 aligned; } octets_of_c64 = { { 85,78,75,78,79,87,78,95,73,68 } };
+static const union { u8 octets[9]; u64 aligned; } octets_of_c64 = { { 78,79,84,95,87,79,82,68,83 } };
 #define c65 (octets_of_c65.octets)
-static const union { u8 octets[10]; u64 aligned; } octets_of_c65 = { { 87,79,82,68,95,67,79,85,78,84 } };
+static const union { u8 octets[10]; u64 aligned; } octets_of_c65 = { { 85,78,75,78,79,87,78,95,73,68 } };
 #define c66 (octets_of_c66.octets)
-static const union { u8 octets[10]; u64 aligned; } octets_of_c66 = { { 79,84,72,69,82,95,78,65,77,69 } };
+static const union { u8 octets[10]; u64 aligned; } octets_of_c66 = { { 87,79,82,68,95,67,79,85,78,84 } };
 #define c67 (octets_of_c67.octets)
-static const union { u8 octets[8]; u64 aligned; } octets_of_c67 = { { 78,79,95,86,65,76,85,69 } };
+static const union { u8 octets[10]; u64 aligned; } octets_of_c67 = { { 79,84,72,69,82,95,78,65,77,69 } };
 #define c68 (octets_of_c68.octets)
-static const union { u8 octets[7]; u64 aligned; } octets_of_c68 = { { 85,78,83,65,86,69,68 } };
+static const union { u8 octets[8]; u64 aligned; } octets_of_c68 = { { 78,79,95,86,65,76,85,69 } };
 #define c69 (octets_of_c69.octets)
-static const union { u8 octets[11]; u64 aligned; } octets_of_c69 = { { 79,84,72,69,82,95,73,77,65,71,69 } };
+static const union { u8 octets[7]; u64 aligned; } octets_of_c69 = { { 85,78,83,65,86,69,68 } };
 #define c70 (octets_of_c70.octets)
-static const union { u8 octets[8]; u64 aligned; } octets_of_c70 = { { 78,79,95,65,83,75,69,82 } };
+static const union { u8 octets[11]; u64 aligned; } octets_of_c70 = { { 79,84,72,69,82,95,73,77,65,71,69 } };
 #define c71 (octets_of_c71.octets)
-static const union { u8 octets[7]; u64 aligned; } octets_of_c71 = { { 66,65,68,95,83,65,89 } };
+static const union { u8 octets[8]; u64 aligned; } octets_of_c71 = { { 78,79,95,65,83,75,69,82 } };
 #define c72 (octets_of_c72.octets)
-static const union { u8 octets[12]; u64 aligned; } octets_of_c72 = { { 66,65,68,95,73,68,69,78,84,73,84,89 } };
+static const union { u8 octets[7]; u64 aligned; } octets_of_c72 = { { 66,65,68,95,83,65,89 } };
 #define c73 (octets_of_c73.octets)
-static const union { u8 octets[10]; u64 aligned; } octets_of_c73 = { { 66,65,68,95,68,79,77,65,73,78 } };
+static const union { u8 octets[9]; u64 aligned; } octets_of_c73 = { { 85,78,68,69,82,95,87,65,89 } };
 #define c74 (octets_of_c74.octets)
-static const union { u8 octets[20]; u64 aligned; } octets_of_c74 = { { 66,65,68,95,85,83,69,82,95,68,69,83,67,82,73,80,84,73,79,78 } };
+static const union { u8 octets[17]; u64 aligned; } octets_of_c74 = { { 78,79,84,72,73,78,71,95,85,78,68,69,82,95,87,65,89 } };
 #define c75 (octets_of_c75.octets)
-static const union { u8 octets[12]; u64 aligned; } octets_of_c75 = { { 66,65,68,95,84,87,79,95,83,84,69,80 } };
+static const union { u8 octets[10]; u64 aligned; } octets_of_c75 = { { 78,79,95,74,79,85,82,78,65,76 } };
 #define c76 (octets_of_c76.octets)
-static const union { u8 octets[13]; u64 aligned; } octets_of_c76 = { { 66,65,68,95,80,82,73,79,82,73,84,89,49 } };
+static const union { u8 octets[9]; u64 aligned; } octets_of_c76 = { { 78,79,95,82,69,67,79,82,68 } };
 #define c77 (octets_of_c77.octets)
-static const union { u8 octets[15]; u64 aligned; } octets_of_c77 = { { 66,65,68,95,67,76,79,67,75,95,67,76,65,83,83 } };
+static const union { u8 octets[11]; u64 aligned; } octets_of_c77 = { { 78,79,84,95,65,76,76,79,87,69,68 } };
 #define c78 (octets_of_c78.octets)
-static const union { u8 octets[18]; u64 aligned; } octets_of_c78 = { { 66,65,68,95,67,76,79,67,75,95,65,67,67,85,82,65,67,89 } };
+static const union { u8 octets[13]; u64 aligned; } octets_of_c78 = { { 74,79,85,82,78,65,76,95,87,72,79,76,69 } };
 #define c79 (octets_of_c79.octets)
-static const union { u8 octets[12]; u64 aligned; } octets_of_c79 = { { 66,65,68,95,86,65,82,73,65,78,67,69 } };
+static const union { u8 octets[12]; u64 aligned; } octets_of_c79 = { { 66,65,68,95,73,68,69,78,84,73,84,89 } };
 #define c80 (octets_of_c80.octets)
-static const union { u8 octets[13]; u64 aligned; } octets_of_c80 = { { 66,65,68,95,80,82,73,79,82,73,84,89,50 } };
+static const union { u8 octets[10]; u64 aligned; } octets_of_c80 = { { 66,65,68,95,68,79,77,65,73,78 } };
 #define c81 (octets_of_c81.octets)
-static const union { u8 octets[17]; u64 aligned; } octets_of_c81 = { { 66,65,68,95,83,84,69,80,83,95,82,69,77,79,86,69,68 } };
+static const union { u8 octets[20]; u64 aligned; } octets_of_c81 = { { 66,65,68,95,85,83,69,82,95,68,69,83,67,82,73,80,84,73,79,78 } };
 #define c82 (octets_of_c82.octets)
-static const union { u8 octets[22]; u64 aligned; } octets_of_c82 = { { 66,65,68,95,79,70,70,83,69,84,95,70,82,79,77,95,77,65,83,84,69,82 } };
+static const union { u8 octets[12]; u64 aligned; } octets_of_c82 = { { 66,65,68,95,84,87,79,95,83,84,69,80 } };
 #define c83 (octets_of_c83.octets)
-static const union { u8 octets[19]; u64 aligned; } octets_of_c83 = { { 66,65,68,95,77,69,65,78,95,80,65,84,72,95,68,69,76,65,89 } };
+static const union { u8 octets[13]; u64 aligned; } octets_of_c83 = { { 66,65,68,95,80,82,73,79,82,73,84,89,49 } };
 #define c84 (octets_of_c84.octets)
-static const union { u8 octets[15]; u64 aligned; } octets_of_c84 = { { 66,65,68,95,80,65,82,69,78,84,95,80,79,82,84 } };
+static const union { u8 octets[15]; u64 aligned; } octets_of_c84 = { { 66,65,68,95,67,76,79,67,75,95,67,76,65,83,83 } };
 #define c85 (octets_of_c85.octets)
-static const union { u8 octets[16]; u64 aligned; } octets_of_c85 = { { 66,65,68,95,80,65,82,69,78,84,95,83,84,65,84,83 } };
+static const union { u8 octets[18]; u64 aligned; } octets_of_c85 = { { 66,65,68,95,67,76,79,67,75,95,65,67,67,85,82,65,67,89 } };
 #define c86 (octets_of_c86.octets)
-static const union { u8 octets[21]; u64 aligned; } octets_of_c86 = { { 66,65,68,95,79,66,83,69,82,86,69,68,95,86,65,82,73,65,78,67,69 } };
+static const union { u8 octets[12]; u64 aligned; } octets_of_c86 = { { 66,65,68,95,86,65,82,73,65,78,67,69 } };
 #define c87 (octets_of_c87.octets)
-static const union { u8 octets[17]; u64 aligned; } octets_of_c87 = { { 66,65,68,95,79,66,83,69,82,86,69,68,95,82,65,84,69 } };
+static const union { u8 octets[13]; u64 aligned; } octets_of_c87 = { { 66,65,68,95,80,82,73,79,82,73,84,89,50 } };
 #define c88 (octets_of_c88.octets)
-static const union { u8 octets[25]; u64 aligned; } octets_of_c88 = { { 66,65,68,95,71,82,65,78,68,77,65,83,84,69,82,95,80,82,73,79,82,73,84,89,49 } };
+static const union { u8 octets[17]; u64 aligned; } octets_of_c88 = { { 66,65,68,95,83,84,69,80,83,95,82,69,77,79,86,69,68 } };
 #define c89 (octets_of_c89.octets)
-static const union { u8 octets[21]; u64 aligned; } octets_of_c89 = { { 66,65,68,95,71,82,65,78,68,77,65,83,84,69,82,95,67,76,65,83,83 } };
+static const union { u8 octets[22]; u64 aligned; } octets_of_c89 = { { 66,65,68,95,79,70,70,83,69,84,95,70,82,79,77,95,77,65,83,84,69,82 } };
 #define c90 (octets_of_c90.octets)
-static const union { u8 octets[24]; u64 aligned; } octets_of_c90 = { { 66,65,68,95,71,82,65,78,68,77,65,83,84,69,82,95,65,67,67,85,82,65,67,89 } };
+static const union { u8 octets[19]; u64 aligned; } octets_of_c90 = { { 66,65,68,95,77,69,65,78,95,80,65,84,72,95,68,69,76,65,89 } };
 #define c91 (octets_of_c91.octets)
-static const union { u8 octets[24]; u64 aligned; } octets_of_c91 = { { 66,65,68,95,71,82,65,78,68,77,65,83,84,69,82,95,86,65,82,73,65,78,67,69 } };
+static const union { u8 octets[15]; u64 aligned; } octets_of_c91 = { { 66,65,68,95,80,65,82,69,78,84,95,80,79,82,84 } };
 #define c92 (octets_of_c92.octets)
-static const union { u8 octets[25]; u64 aligned; } octets_of_c92 = { { 66,65,68,95,71,82,65,78,68,77,65,83,84,69,82,95,80,82,73,79,82,73,84,89,50 } };
+static const union { u8 octets[16]; u64 aligned; } octets_of_c92 = { { 66,65,68,95,80,65,82,69,78,84,95,83,84,65,84,83 } };
 #define c93 (octets_of_c93.octets)
-static const union { u8 octets[15]; u64 aligned; } octets_of_c93 = { { 66,65,68,95,71,82,65,78,68,77,65,83,84,69,82 } };
+static const union { u8 octets[21]; u64 aligned; } octets_of_c93 = { { 66,65,68,95,79,66,83,69,82,86,69,68,95,86,65,82,73,65,78,67,69 } };
 #define c94 (octets_of_c94.octets)
-static const union { u8 octets[14]; u64 aligned; } octets_of_c94 = { { 66,65,68,95,85,84,67,95,79,70,70,83,69,84 } };
+static const union { u8 octets[17]; u64 aligned; } octets_of_c94 = { { 66,65,68,95,79,66,83,69,82,86,69,68,95,82,65,84,69 } };
 #define c95 (octets_of_c95.octets)
-static const union { u8 octets[10]; u64 aligned; } octets_of_c95 = { { 66,65,68,95,76,69,65,80,54,49 } };
+static const union { u8 octets[25]; u64 aligned; } octets_of_c95 = { { 66,65,68,95,71,82,65,78,68,77,65,83,84,69,82,95,80,82,73,79,82,73,84,89,49 } };
 #define c96 (octets_of_c96.octets)
-static const union { u8 octets[10]; u64 aligned; } octets_of_c96 = { { 66,65,68,95,76,69,65,80,53,57 } };
+static const union { u8 octets[21]; u64 aligned; } octets_of_c96 = { { 66,65,68,95,71,82,65,78,68,77,65,83,84,69,82,95,67,76,65,83,83 } };
 #define c97 (octets_of_c97.octets)
-static const union { u8 octets[13]; u64 aligned; } octets_of_c97 = { { 66,65,68,95,85,84,67,95,86,65,76,73,68 } };
+static const union { u8 octets[24]; u64 aligned; } octets_of_c97 = { { 66,65,68,95,71,82,65,78,68,77,65,83,84,69,82,95,65,67,67,85,82,65,67,89 } };
 #define c98 (octets_of_c98.octets)
-static const union { u8 octets[17]; u64 aligned; } octets_of_c98 = { { 66,65,68,95,80,84,80,95,84,73,77,69,83,67,65,76,69 } };
+static const union { u8 octets[24]; u64 aligned; } octets_of_c98 = { { 66,65,68,95,71,82,65,78,68,77,65,83,84,69,82,95,86,65,82,73,65,78,67,69 } };
 #define c99 (octets_of_c99.octets)
-static const union { u8 octets[18]; u64 aligned; } octets_of_c99 = { { 66,65,68,95,84,73,77,69,95,84,82,65,67,69,65,66,76,69 } };
+static const union { u8 octets[25]; u64 aligned; } octets_of_c99 = { { 66,65,68,95,71,82,65,78,68,77,65,83,84,69,82,95,80,82,73,79,82,73,84,89,50 } };
 #define c100 (octets_of_c100.octets)
-static const union { u8 octets[23]; u64 aligned; } octets_of_c100 = { { 66,65,68,95,70,82,69,81,85,69,78,67,89,95,84,82,65,67,69,65,66,76,69 } };
+static const union { u8 octets[15]; u64 aligned; } octets_of_c100 = { { 66,65,68,95,71,82,65,78,68,77,65,83,84,69,82 } };
 #define c101 (octets_of_c101.octets)
-static const union { u8 octets[15]; u64 aligned; } octets_of_c101 = { { 66,65,68,95,84,73,77,69,95,83,79,85,82,67,69 } };
+static const union { u8 octets[14]; u64 aligned; } octets_of_c101 = { { 66,65,68,95,85,84,67,95,79,70,70,83,69,84 } };
 #define c102 (octets_of_c102.octets)
-static const union { u8 octets[9]; u64 aligned; } octets_of_c102 = { { 66,65,68,95,83,84,65,84,69 } };
+static const union { u8 octets[10]; u64 aligned; } octets_of_c102 = { { 66,65,68,95,76,69,65,80,54,49 } };
 #define c103 (octets_of_c103.octets)
-static const union { u8 octets[21]; u64 aligned; } octets_of_c103 = { { 66,65,68,95,76,79,71,95,77,73,78,95,68,69,76,65,89,95,82,69,81 } };
+static const union { u8 octets[10]; u64 aligned; } octets_of_c103 = { { 66,65,68,95,76,69,65,80,53,57 } };
 #define c104 (octets_of_c104.octets)
-static const union { u8 octets[14]; u64 aligned; } octets_of_c104 = { { 66,65,68,95,80,69,69,82,95,68,69,76,65,89 } };
+static const union { u8 octets[13]; u64 aligned; } octets_of_c104 = { { 66,65,68,95,85,84,67,95,86,65,76,73,68 } };
 #define c105 (octets_of_c105.octets)
-static const union { u8 octets[16]; u64 aligned; } octets_of_c105 = { { 66,65,68,95,76,79,71,95,65,78,78,79,85,78,67,69 } };
+static const union { u8 octets[17]; u64 aligned; } octets_of_c105 = { { 66,65,68,95,80,84,80,95,84,73,77,69,83,67,65,76,69 } };
 #define c106 (octets_of_c106.octets)
-static const union { u8 octets[19]; u64 aligned; } octets_of_c106 = { { 66,65,68,95,82,69,67,69,73,80,84,95,84,73,77,69,79,85,84 } };
+static const union { u8 octets[18]; u64 aligned; } octets_of_c106 = { { 66,65,68,95,84,73,77,69,95,84,82,65,67,69,65,66,76,69 } };
 #define c107 (octets_of_c107.octets)
-static const union { u8 octets[12]; u64 aligned; } octets_of_c107 = { { 66,65,68,95,76,79,71,95,83,89,78,67 } };
+static const union { u8 octets[23]; u64 aligned; } octets_of_c107 = { { 66,65,68,95,70,82,69,81,85,69,78,67,89,95,84,82,65,67,69,65,66,76,69 } };
 #define c108 (octets_of_c108.octets)
-static const union { u8 octets[19]; u64 aligned; } octets_of_c108 = { { 66,65,68,95,68,69,76,65,89,95,77,69,67,72,65,78,73,83,77 } };
+static const union { u8 octets[15]; u64 aligned; } octets_of_c108 = { { 66,65,68,95,84,73,77,69,95,83,79,85,82,67,69 } };
 #define c109 (octets_of_c109.octets)
-static const union { u8 octets[18]; u64 aligned; } octets_of_c109 = { { 66,65,68,95,76,79,71,95,77,73,78,95,80,68,69,76,65,89 } };
+static const union { u8 octets[9]; u64 aligned; } octets_of_c109 = { { 66,65,68,95,83,84,65,84,69 } };
 #define c110 (octets_of_c110.octets)
-static const union { u8 octets[19]; u64 aligned; } octets_of_c110 = { { 78,85,76,76,95,80,84,80,95,77,65,78,65,71,69,77,69,78,84 } };
+static const union { u8 octets[21]; u64 aligned; } octets_of_c110 = { { 66,65,68,95,76,79,71,95,77,73,78,95,68,69,76,65,89,95,82,69,81 } };
 #define c111 (octets_of_c111.octets)
-static const union { u8 octets[16]; u64 aligned; } octets_of_c111 = { { 85,83,69,82,95,68,69,83,67,82,73,80,84,73,79,78 } };
+static const union { u8 octets[14]; u64 aligned; } octets_of_c111 = { { 66,65,68,95,80,69,69,82,95,68,69,76,65,89 } };
 #define c112 (octets_of_c112.octets)
-static const union { u8 octets[16]; u64 aligned; } octets_of_c112 = { { 68,69,70,65,85,76,84,95,68,65,84,65,95,83,69,84 } };
+static const union { u8 octets[16]; u64 aligned; } octets_of_c112 = { { 66,65,68,95,76,79,71,95,65,78,78,79,85,78,67,69 } };
 #define c113 (octets_of_c113.octets)
-static const union { u8 octets[16]; u64 aligned; } octets_of_c113 = { { 67,85,82,82,69,78,84,95,68,65,84,65,95,83,69,84 } };
+static const union { u8 octets[19]; u64 aligned; } octets_of_c113 = { { 66,65,68,95,82,69,67,69,73,80,84,95,84,73,77,69,79,85,84 } };
 #define c114 (octets_of_c114.octets)
-static const union { u8 octets[15]; u64 aligned; } octets_of_c114 = { { 80,65,82,69,78,84,95,68,65,84,65,95,83,69,84 } };
+static const union { u8 octets[12]; u64 aligned; } octets_of_c114 = { { 66,65,68,95,76,79,71,95,83,89,78,67 } };
 #define c115 (octets_of_c115.octets)
-static const union { u8 octets[24]; u64 aligned; } octets_of_c115 = { { 84,73,77,69,95,80,82,79,80,69,82,84,73,69,83,95,68,65,84,65,95,83,69,84 } };
+static const union { u8 octets[19]; u64 aligned; } octets_of_c115 = { { 66,65,68,95,68,69,76,65,89,95,77,69,67,72,65,78,73,83,77 } };
 #define c116 (octets_of_c116.octets)
-static const union { u8 octets[13]; u64 aligned; } octets_of_c116 = { { 80,79,82,84,95,68,65,84,65,95,83,69,84 } };
+static const union { u8 octets[18]; u64 aligned; } octets_of_c116 = { { 66,65,68,95,76,79,71,95,77,73,78,95,80,68,69,76,65,89 } };
 #define c117 (octets_of_c117.octets)
-static const union { u8 octets[9]; u64 aligned; } octets_of_c117 = { { 80,82,73,79,82,73,84,89,49 } };
+static const union { u8 octets[19]; u64 aligned; } octets_of_c117 = { { 78,85,76,76,95,80,84,80,95,77,65,78,65,71,69,77,69,78,84 } };
 #define c118 (octets_of_c118.octets)
-static const union { u8 octets[9]; u64 aligned; } octets_of_c118 = { { 80,82,73,79,82,73,84,89,50 } };
+static const union { u8 octets[16]; u64 aligned; } octets_of_c118 = { { 85,83,69,82,95,68,69,83,67,82,73,80,84,73,79,78 } };
 #define c119 (octets_of_c119.octets)
-static const union { u8 octets[6]; u64 aligned; } octets_of_c119 = { { 68,79,77,65,73,78 } };
+static const union { u8 octets[16]; u64 aligned; } octets_of_c119 = { { 68,69,70,65,85,76,84,95,68,65,84,65,95,83,69,84 } };
 #define c120 (octets_of_c120.octets)
-static const union { u8 octets[10]; u64 aligned; } octets_of_c120 = { { 83,76,65,86,69,95,79,78,76,89 } };
+static const union { u8 octets[16]; u64 aligned; } octets_of_c120 = { { 67,85,82,82,69,78,84,95,68,65,84,65,95,83,69,84 } };
 #define c121 (octets_of_c121.octets)
-static const union { u8 octets[14]; u64 aligned; } octets_of_c121 = { { 86,69,82,83,73,79,78,95,78,85,77,66,69,82 } };
+static const union { u8 octets[15]; u64 aligned; } octets_of_c121 = { { 80,65,82,69,78,84,95,68,65,84,65,95,83,69,84 } };
 #define c122 (octets_of_c122.octets)
-static const union { u8 octets[11]; u64 aligned; } octets_of_c122 = { { 69,78,65,66,76,69,95,80,79,82,84 } };
+static const union { u8 octets[24]; u64 aligned; } octets_of_c122 = { { 84,73,77,69,95,80,82,79,80,69,82,84,73,69,83,95,68,65,84,65,95,83,69,84 } };
 #define c123 (octets_of_c123.octets)
-static const union { u8 octets[12]; u64 aligned; } octets_of_c123 = { { 68,73,83,65,66,76,69,95,80,79,82,84 } };
+static const union { u8 octets[13]; u64 aligned; } octets_of_c123 = { { 80,79,82,84,95,68,65,84,65,95,83,69,84 } };
 #define c124 (octets_of_c124.octets)
-static const union { u8 octets[14]; u64 aligned; } octets_of_c124 = { { 67,76,79,67,75,95,65,67,67,85,82,65,67,89 } };
+static const union { u8 octets[9]; u64 aligned; } octets_of_c124 = { { 80,82,73,79,82,73,84,89,49 } };
 #define c125 (octets_of_c125.octets)
-static const union { u8 octets[14]; u64 aligned; } octets_of_c125 = { { 85,84,67,95,80,82,79,80,69,82,84,73,69,83 } };
+static const union { u8 octets[9]; u64 aligned; } octets_of_c125 = { { 80,82,73,79,82,73,84,89,50 } };
 #define c126 (octets_of_c126.octets)
-static const union { u8 octets[21]; u64 aligned; } octets_of_c126 = { { 76,79,71,95,65,78,78,79,85,78,67,69,95,73,78,84,69,82,86,65,76 } };
+static const union { u8 octets[6]; u64 aligned; } octets_of_c126 = { { 68,79,77,65,73,78 } };
 #define c127 (octets_of_c127.octets)
-static const union { u8 octets[19]; u64 aligned; } octets_of_c127 = { { 108,111,103,65,110,110,111,117,110,99,101,73,110,116,101,114,118,97,108 } };
+static const union { u8 octets[10]; u64 aligned; } octets_of_c127 = { { 83,76,65,86,69,95,79,78,76,89 } };
 #define c128 (octets_of_c128.octets)
-static const union { u8 octets[24]; u64 aligned; } octets_of_c128 = { { 65,78,78,79,85,78,67,69,95,82,69,67,69,73,80,84,95,84,73,77,69,79,85,84 } };
+static const union { u8 octets[14]; u64 aligned; } octets_of_c128 = { { 86,69,82,83,73,79,78,95,78,85,77,66,69,82 } };
 #define c129 (octets_of_c129.octets)
-static const union { u8 octets[22]; u64 aligned; } octets_of_c129 = { { 97,110,110,111,117,110,99,101,82,101,99,101,105,112,116,84,105,109,101,111,117,116 } };
+static const union { u8 octets[11]; u64 aligned; } octets_of_c129 = { { 69,78,65,66,76,69,95,80,79,82,84 } };
 #define c130 (octets_of_c130.octets)
-static const union { u8 octets[17]; u64 aligned; } octets_of_c130 = { { 76,79,71,95,83,89,78,67,95,73,78,84,69,82,86,65,76 } };
+static const union { u8 octets[12]; u64 aligned; } octets_of_c130 = { { 68,73,83,65,66,76,69,95,80,79,82,84 } };
 #define c131 (octets_of_c131.octets)
-static const union { u8 octets[15]; u64 aligned; } octets_of_c131 = { { 108,111,103,83,121,110,99,73,110,116,101,114,118,97,108 } };
+static const union { u8 octets[14]; u64 aligned; } octets_of_c131 = { { 67,76,79,67,75,95,65,67,67,85,82,65,67,89 } };
 #define c132 (octets_of_c132.octets)
-static const union { u8 octets[15]; u64 aligned; } octets_of_c132 = { { 68,69,76,65,89,95,77,69,67,72,65,78,73,83,77 } };
+static const union { u8 octets[14]; u64 aligned; } octets_of_c132 = { { 85,84,67,95,80,82,79,80,69,82,84,73,69,83 } };
 #define c133 (octets_of_c133.octets)
-static const union { u8 octets[14]; u64 aligned; } octets_of_c133 = { { 100,101,108,97,121,77,101,99,104,97,110,105,115,109 } };
+static const union { u8 octets[21]; u64 aligned; } octets_of_c133 = { { 76,79,71,95,65,78,78,79,85,78,67,69,95,73,78,84,69,82,86,65,76 } };
 #define c134 (octets_of_c134.octets)
-static const union { u8 octets[27]; u64 aligned; } octets_of_c134 = { { 76,79,71,95,77,73,78,95,80,68,69,76,65,89,95,82,69,81,95,73,78,84,69,82,86,65,76 } };
+static const union { u8 octets[19]; u64 aligned; } octets_of_c134 = { { 108,111,103,65,110,110,111,117,110,99,101,73,110,116,101,114,118,97,108 } };
 #define c135 (octets_of_c135.octets)
-static const union { u8 octets[23]; u64 aligned; } octets_of_c135 = { { 108,111,103,77,105,110,80,100,101,108,97,121,82,101,113,73,110,116,101,114,118,97,108 } };
-#if IS_LITTLE_ENDIAN
-static const struct form_of_c136 { slot slot0; u8 octets8[1472]; } octets_of_c136;
-#define c136 ((const u8 *)&octets_of_c136)
-#else
-static union form_of_c136 { u8 octets[1480]; u64 aligned; } octets_of_c136;
+static const union { u8 octets[24]; u64 aligned; } octets_of_c135 = { { 65,78,78,79,85,78,67,69,95,82,69,67,69,73,80,84,95,84,73,77,69,79,85,84 } };
 #define c136 (octets_of_c136.octets)
-#endif
+static const union { u8 octets[22]; u64 aligned; } octets_of_c136 = { { 97,110,110,111,117,110,99,101,82,101,99,101,105,112,116,84,105,109,101,111,117,116 } };
 #define c137 (octets_of_c137.octets)
-static const union { u8 octets[12]; u64 aligned; } octets_of_c137 = { { 0,2,0,0,0,0,0,0,0,0,0,0 } };
+static const union { u8 octets[17]; u64 aligned; } octets_of_c137 = { { 76,79,71,95,83,89,78,67,95,73,78,84,69,82,86,65,76 } };
 #define c138 (octets_of_c138.octets)
-static const union { u8 octets[1]; u64 aligned; } octets_of_c138 = { { 0 } };
+static const union { u8 octets[15]; u64 aligned; } octets_of_c138 = { { 108,111,103,83,121,110,99,73,110,116,101,114,118,97,108 } };
 #define c139 (octets_of_c139.octets)
-static const union { u8 octets[8]; u64 aligned; } octets_of_c139 = { { 112,116,112,109,2,1,0,0 } };
+static const union { u8 octets[15]; u64 aligned; } octets_of_c139 = { { 68,69,76,65,89,95,77,69,67,72,65,78,73,83,77 } };
 #define c140 (octets_of_c140.octets)
-static const union { u8 octets[16]; u64 aligned; } octets_of_c140 = { { 82,69,83,80,79,78,83,69,95,84,79,79,95,66,73,71 } };
+static const union { u8 octets[14]; u64 aligned; } octets_of_c140 = { { 100,101,108,97,121,77,101,99,104,97,110,105,115,109 } };
 #define c141 (octets_of_c141.octets)
-static const union { u8 octets[10]; u64 aligned; } octets_of_c141 = { { 78,79,95,83,85,67,72,95,73,68 } };
+static const union { u8 octets[27]; u64 aligned; } octets_of_c141 = { { 76,79,71,95,77,73,78,95,80,68,69,76,65,89,95,82,69,81,95,73,78,84,69,82,86,65,76 } };
 #define c142 (octets_of_c142.octets)
-static const union { u8 octets[12]; u64 aligned; } octets_of_c142 = { { 87,82,79,78,71,95,76,69,78,71,84,72 } };
+static const union { u8 octets[23]; u64 aligned; } octets_of_c142 = { { 108,111,103,77,105,110,80,100,101,108,97,121,82,101,113,73,110,116,101,114,118,97,108 } };
+#if IS_LITTLE_ENDIAN
+static const struct form_of_c143 { slot slot0; u8 octets8[1472]; } octets_of_c143;
+#define c143 ((const u8 *)&octets_of_c143)
+#else
+static union form_of_c143 { u8 octets[1480]; u64 aligned; } octets_of_c143;
 #define c143 (octets_of_c143.octets)
-static const union { u8 octets[11]; u64 aligned; } octets_of_c143 = { { 87,82,79,78,71,95,86,65,76,85,69 } };
+#endif
 #define c144 (octets_of_c144.octets)
-static const union { u8 octets[11]; u64 aligned; } octets_of_c144 = { { 78,79,84,95,83,69,84,65,66,76,69 } };
+static const union { u8 octets[12]; u64 aligned; } octets_of_c144 = { { 0,2,0,0,0,0,0,0,0,0,0,0 } };
 #define c145 (octets_of_c145.octets)
-static const union { u8 octets[13]; u64 aligned; } octets_of_c145 = { { 78,79,84,95,83,85,80,80,79,82,84,69,68 } };
+static const union { u8 octets[1]; u64 aligned; } octets_of_c145 = { { 0 } };
 #define c146 (octets_of_c146.octets)
-static const union { u8 octets[13]; u64 aligned; } octets_of_c146 = { { 71,69,78,69,82,65,76,95,69,82,82,79,82 } };
+static const union { u8 octets[8]; u64 aligned; } octets_of_c146 = { { 112,116,112,109,2,1,0,0 } };
 #define c147 (octets_of_c147.octets)
-static const union { u8 octets[6]; u64 aligned; } octets_of_c147 = { { 0,2,0,0,10,0 } };
+static const union { u8 octets[16]; u64 aligned; } octets_of_c147 = { { 82,69,83,80,79,78,83,69,95,84,79,79,95,66,73,71 } };
 #define c148 (octets_of_c148.octets)
-static const union { u8 octets[60]; u64 aligned; } octets_of_c148 = { { 0,3,0,0,3,1,2,0,0,0,3,2,1,0,0,2,0,2,0,4,0,4,0,1,0,5,0,5,0,1,0,6,0,6,1,1,0,7,0,7,1,2,0,8,0,9,0,1,0,0,0,10,7,0,0,1,0,18,0,1 } };
+static const union { u8 octets[10]; u64 aligned; } octets_of_c148 = { { 78,79,95,83,85,67,72,95,73,68 } };
 #define c149 (octets_of_c149.octets)
-static const union { u8 octets[18]; u64 aligned; } octets_of_c149 = { { 0,9,0,0,0,2,0,10,0,2,6,0,0,11,0,10,6,0 } };
+static const union { u8 octets[12]; u64 aligned; } octets_of_c149 = { { 87,82,79,78,71,95,76,69,78,71,84,72 } };
 #define c150 (octets_of_c150.octets)
-static const union { u8 octets[60]; u64 aligned; } octets_of_c150 = { { 0,12,0,0,8,0,0,13,0,10,3,1,0,14,0,12,1,2,0,15,0,14,2,4,0,16,0,18,0,1,0,17,0,19,0,1,0,18,0,20,1,1,0,19,0,21,1,2,0,20,0,23,0,1,0,21,0,24,7,0 } };
+static const union { u8 octets[11]; u64 aligned; } octets_of_c150 = { { 87,82,79,78,71,95,86,65,76,85,69 } };
 #define c151 (octets_of_c151.octets)
-static const union { u8 octets[48]; u64 aligned; } octets_of_c151 = { { 0,22,0,0,2,2,0,23,0,2,3,1,0,24,0,2,3,2,0,25,0,2,3,4,0,26,0,2,3,8,0,27,0,2,3,16,0,28,0,2,3,32,0,29,0,3,9,2 } };
+static const union { u8 octets[11]; u64 aligned; } octets_of_c151 = { { 78,79,84,95,83,69,84,65,66,76,69 } };
 #define c152 (octets_of_c152.octets)
-static const union { u8 octets[60]; u64 aligned; } octets_of_c152 = { { 3,0,0,0,8,0,0,30,0,10,9,0,0,31,0,11,2,1,0,32,0,12,6,0,0,33,0,20,2,1,0,33,1,21,0,1,0,33,2,22,2,1,0,33,3,23,9,1,0,33,4,24,2,1,4,0,0,25,5,0 } };
+static const union { u8 octets[13]; u64 aligned; } octets_of_c152 = { { 78,79,84,95,83,85,80,80,79,82,84,69,68 } };
 #define c153 (octets_of_c153.octets)
-static const union { u8 octets[6]; u64 aligned; } octets_of_c153 = { { 0,4,0,0,0,1 } };
+static const union { u8 octets[13]; u64 aligned; } octets_of_c153 = { { 71,69,78,69,82,65,76,95,69,82,82,79,82 } };
 #define c154 (octets_of_c154.octets)
-static const union { u8 octets[6]; u64 aligned; } octets_of_c154 = { { 0,8,0,0,0,1 } };
+static const union { u8 octets[6]; u64 aligned; } octets_of_c154 = { { 0,2,0,0,10,0 } };
 #define c155 (octets_of_c155.octets)
-static const union { u8 octets[6]; u64 aligned; } octets_of_c155 = { { 0,1,0,0,0,1 } };
+static const union { u8 octets[60]; u64 aligned; } octets_of_c155 = { { 0,3,0,0,3,1,2,0,0,0,3,2,1,0,0,2,0,2,0,4,0,4,0,1,0,5,0,5,0,1,0,6,0,6,1,1,0,7,0,7,1,2,0,8,0,9,0,1,0,0,0,10,7,0,0,1,0,18,0,1 } };
 #define c156 (octets_of_c156.octets)
-static const union { u8 octets[6]; u64 aligned; } octets_of_c156 = { { 2,0,0,0,4,0 } };
+static const union { u8 octets[18]; u64 aligned; } octets_of_c156 = { { 0,9,0,0,0,2,0,10,0,2,6,0,0,11,0,10,6,0 } };
 #define c157 (octets_of_c157.octets)
-static const union { u8 octets[6]; u64 aligned; } octets_of_c157 = { { 0,33,0,0,2,1 } };
+static const union { u8 octets[60]; u64 aligned; } octets_of_c157 = { { 0,12,0,0,8,0,0,13,0,10,3,1,0,14,0,12,1,2,0,15,0,14,2,4,0,16,0,18,0,1,0,17,0,19,0,1,0,18,0,20,1,1,0,19,0,21,1,2,0,20,0,23,0,1,0,21,0,24,7,0 } };
 #define c158 (octets_of_c158.octets)
-static const union { u8 octets[6]; u64 aligned; } octets_of_c158 = { { 0,33,1,0,0,1 } };
+static const union { u8 octets[48]; u64 aligned; } octets_of_c158 = { { 0,22,0,0,2,2,0,23,0,2,3,1,0,24,0,2,3,2,0,25,0,2,3,4,0,26,0,2,3,8,0,27,0,2,3,16,0,28,0,2,3,32,0,29,0,3,9,2 } };
 #define c159 (octets_of_c159.octets)
-static const union { u8 octets[6]; u64 aligned; } octets_of_c159 = { { 0,33,2,0,2,1 } };
+static const union { u8 octets[60]; u64 aligned; } octets_of_c159 = { { 3,0,0,0,8,0,0,30,0,10,9,0,0,31,0,11,2,1,0,32,0,12,6,0,0,33,0,20,2,1,0,33,1,21,0,1,0,33,2,22,2,1,0,33,3,23,9,1,0,33,4,24,2,1,4,0,0,25,5,0 } };
 #define c160 (octets_of_c160.octets)
-static const union { u8 octets[6]; u64 aligned; } octets_of_c160 = { { 0,33,3,0,9,1 } };
+static const union { u8 octets[6]; u64 aligned; } octets_of_c160 = { { 0,4,0,0,0,1 } };
 #define c161 (octets_of_c161.octets)
-static const union { u8 octets[6]; u64 aligned; } octets_of_c161 = { { 0,33,4,0,2,1 } };
+static const union { u8 octets[6]; u64 aligned; } octets_of_c161 = { { 0,8,0,0,0,1 } };
 #define c162 (octets_of_c162.octets)
-static const union { u8 octets[6]; u64 aligned; } octets_of_c162 = { { 4,0,0,0,5,0 } };
+static const union { u8 octets[6]; u64 aligned; } octets_of_c162 = { { 0,1,0,0,0,1 } };
 #define c163 (octets_of_c163.octets)
-static const union { u8 octets[6]; u64 aligned; } octets_of_c163 = { { 5,0,0,0,1,1 } };
+static const union { u8 octets[6]; u64 aligned; } octets_of_c163 = { { 2,0,0,0,4,0 } };
 #define c164 (octets_of_c164.octets)
-static const union { u8 octets[24]; u64 aligned; } octets_of_c164 = { { 0,22,0,0,2,2,0,23,0,2,3,1,0,24,0,2,3,2,0,25,0,2,3,4 } };
+static const union { u8 octets[6]; u64 aligned; } octets_of_c164 = { { 0,33,0,0,2,1 } };
 #define c165 (octets_of_c165.octets)
-static const union { u8 octets[4]; u64 aligned; } octets_of_c165 = { { 116,114,117,101 } };
+static const union { u8 octets[6]; u64 aligned; } octets_of_c165 = { { 0,33,1,0,0,1 } };
 #define c166 (octets_of_c166.octets)
-static const union { u8 octets[5]; u64 aligned; } octets_of_c166 = { { 102,97,108,115,101 } };
+static const union { u8 octets[6]; u64 aligned; } octets_of_c166 = { { 0,33,2,0,2,1 } };
 #define c167 (octets_of_c167.octets)
-static const union { u8 octets[9]; u64 aligned; } octets_of_c167 = { { 1,2,3,4,5,6,7,8,9 } };
+static const union { u8 octets[6]; u64 aligned; } octets_of_c167 = { { 0,33,3,0,9,1 } };
 #define c168 (octets_of_c168.octets)
-static const union { u8 octets[5]; u64 aligned; } octets_of_c168 = { { 1,2,3,4,254 } };
+static const union { u8 octets[6]; u64 aligned; } octets_of_c168 = { { 0,33,4,0,2,1 } };
 #define c169 (octets_of_c169.octets)
-static const union { u8 octets[9]; u64 aligned; } octets_of_c169 = { { 16,32,48,57,64,80,96,144,160 } };
+static const union { u8 octets[6]; u64 aligned; } octets_of_c169 = { { 4,0,0,0,5,0 } };
 #define c170 (octets_of_c170.octets)
-static const union { u8 octets[12]; u64 aligned; } octets_of_c170 = { { 73,78,73,84,73,65,76,73,90,73,78,71 } };
+static const union { u8 octets[6]; u64 aligned; } octets_of_c170 = { { 5,0,0,0,1,1 } };
 #define c171 (octets_of_c171.octets)
-static const union { u8 octets[6]; u64 aligned; } octets_of_c171 = { { 70,65,85,76,84,89 } };
+static const union { u8 octets[24]; u64 aligned; } octets_of_c171 = { { 0,22,0,0,2,2,0,23,0,2,3,1,0,24,0,2,3,2,0,25,0,2,3,4 } };
 #define c172 (octets_of_c172.octets)
-static const union { u8 octets[8]; u64 aligned; } octets_of_c172 = { { 68,73,83,65,66,76,69,68 } };
+static const union { u8 octets[4]; u64 aligned; } octets_of_c172 = { { 116,114,117,101 } };
 #define c173 (octets_of_c173.octets)
-static const union { u8 octets[9]; u64 aligned; } octets_of_c173 = { { 76,73,83,84,69,78,73,78,71 } };
+static const union { u8 octets[5]; u64 aligned; } octets_of_c173 = { { 102,97,108,115,101 } };
 #define c174 (octets_of_c174.octets)
-static const union { u8 octets[10]; u64 aligned; } octets_of_c174 = { { 80,82,69,95,77,65,83,84,69,82 } };
+static const union { u8 octets[9]; u64 aligned; } octets_of_c174 = { { 1,2,3,4,5,6,7,8,9 } };
 #define c175 (octets_of_c175.octets)
-static const union { u8 octets[6]; u64 aligned; } octets_of_c175 = { { 77,65,83,84,69,82 } };
+static const union { u8 octets[5]; u64 aligned; } octets_of_c175 = { { 1,2,3,4,254 } };
 #define c176 (octets_of_c176.octets)
-static const union { u8 octets[7]; u64 aligned; } octets_of_c176 = { { 80,65,83,83,73,86,69 } };
+static const union { u8 octets[9]; u64 aligned; } octets_of_c176 = { { 16,32,48,57,64,80,96,144,160 } };
 #define c177 (octets_of_c177.octets)
-static const union { u8 octets[12]; u64 aligned; } octets_of_c177 = { { 85,78,67,65,76,73,66,82,65,84,69,68 } };
+static const union { u8 octets[12]; u64 aligned; } octets_of_c177 = { { 73,78,73,84,73,65,76,73,90,73,78,71 } };
 #define c178 (octets_of_c178.octets)
-static const union { u8 octets[5]; u64 aligned; } octets_of_c178 = { { 83,76,65,86,69 } };
+static const union { u8 octets[6]; u64 aligned; } octets_of_c178 = { { 70,65,85,76,84,89 } };
 #define c179 (octets_of_c179.octets)
-static const union { u8 octets[10]; u64 aligned; } octets_of_c179 = { { 67,79,77,77,79,78,95,80,50,80 } };
+static const union { u8 octets[8]; u64 aligned; } octets_of_c179 = { { 68,73,83,65,66,76,69,68 } };
 #define c180 (octets_of_c180.octets)
-static const union { u8 octets[7]; u64 aligned; } octets_of_c180 = { { 83,80,69,67,73,65,76 } };
+static const union { u8 octets[9]; u64 aligned; } octets_of_c180 = { { 76,73,83,84,69,78,73,78,71 } };
 #define c181 (octets_of_c181.octets)
-static const union { u8 octets[3]; u64 aligned; } octets_of_c181 = { { 69,50,69 } };
+static const union { u8 octets[10]; u64 aligned; } octets_of_c181 = { { 80,82,69,95,77,65,83,84,69,82 } };
 #define c182 (octets_of_c182.octets)
-static const union { u8 octets[3]; u64 aligned; } octets_of_c182 = { { 80,50,80 } };
+static const union { u8 octets[6]; u64 aligned; } octets_of_c182 = { { 77,65,83,84,69,82 } };
 #define c183 (octets_of_c183.octets)
-static const union { u8 octets[12]; u64 aligned; } octets_of_c183 = { { 78,79,95,77,69,67,72,65,78,73,83,77 } };
+static const union { u8 octets[7]; u64 aligned; } octets_of_c183 = { { 80,65,83,83,73,86,69 } };
 #define c184 (octets_of_c184.octets)
-static const union { u8 octets[12]; u64 aligned; } octets_of_c184 = { { 65,84,79,77,73,67,95,67,76,79,67,75 } };
+static const union { u8 octets[12]; u64 aligned; } octets_of_c184 = { { 85,78,67,65,76,73,66,82,65,84,69,68 } };
 #define c185 (octets_of_c185.octets)
-static const union { u8 octets[4]; u64 aligned; } octets_of_c185 = { { 71,78,83,83 } };
+static const union { u8 octets[5]; u64 aligned; } octets_of_c185 = { { 83,76,65,86,69 } };
 #define c186 (octets_of_c186.octets)
-static const union { u8 octets[17]; u64 aligned; } octets_of_c186 = { { 84,69,82,82,69,83,84,82,73,65,76,95,82,65,68,73,79 } };
+static const union { u8 octets[10]; u64 aligned; } octets_of_c186 = { { 67,79,77,77,79,78,95,80,50,80 } };
 #define c187 (octets_of_c187.octets)
-static const union { u8 octets[16]; u64 aligned; } octets_of_c187 = { { 83,69,82,73,65,76,95,84,73,77,69,95,67,79,68,69 } };
+static const union { u8 octets[7]; u64 aligned; } octets_of_c187 = { { 83,80,69,67,73,65,76 } };
 #define c188 (octets_of_c188.octets)
-static const union { u8 octets[3]; u64 aligned; } octets_of_c188 = { { 80,84,80 } };
+static const union { u8 octets[3]; u64 aligned; } octets_of_c188 = { { 69,50,69 } };
 #define c189 (octets_of_c189.octets)
-static const union { u8 octets[3]; u64 aligned; } octets_of_c189 = { { 78,84,80 } };
+static const union { u8 octets[3]; u64 aligned; } octets_of_c189 = { { 80,50,80 } };
 #define c190 (octets_of_c190.octets)
-static const union { u8 octets[8]; u64 aligned; } octets_of_c190 = { { 72,65,78,68,95,83,69,84 } };
+static const union { u8 octets[12]; u64 aligned; } octets_of_c190 = { { 78,79,95,77,69,67,72,65,78,73,83,77 } };
 #define c191 (octets_of_c191.octets)
-static const union { u8 octets[5]; u64 aligned; } octets_of_c191 = { { 79,84,72,69,82 } };
+static const union { u8 octets[12]; u64 aligned; } octets_of_c191 = { { 65,84,79,77,73,67,95,67,76,79,67,75 } };
 #define c192 (octets_of_c192.octets)
-static const union { u8 octets[19]; u64 aligned; } octets_of_c192 = { { 73,78,84,69,82,78,65,76,95,79,83,67,73,76,76,65,84,79,82 } };
+static const union { u8 octets[4]; u64 aligned; } octets_of_c192 = { { 71,78,83,83 } };
 #define c193 (octets_of_c193.octets)
-static const union { u8 octets[8]; u64 aligned; } octets_of_c193 = { { 83,79,70,84,87,65,82,69 } };
+static const union { u8 octets[17]; u64 aligned; } octets_of_c193 = { { 84,69,82,82,69,83,84,82,73,65,76,95,82,65,68,73,79 } };
 #define c194 (octets_of_c194.octets)
-static const union { u8 octets[8]; u64 aligned; } octets_of_c194 = { { 72,65,82,68,87,65,82,69 } };
+static const union { u8 octets[16]; u64 aligned; } octets_of_c194 = { { 83,69,82,73,65,76,95,84,73,77,69,95,67,79,68,69 } };
 #define c195 (octets_of_c195.octets)
-static const union { u8 octets[9]; u64 aligned; } octets_of_c195 = { { 76,69,71,65,67,89,95,72,87 } };
+static const union { u8 octets[3]; u64 aligned; } octets_of_c195 = { { 80,84,80 } };
 #define c196 (octets_of_c196.octets)
-static const union { u8 octets[7]; u64 aligned; } octets_of_c196 = { { 79,78,69,83,84,69,80 } };
+static const union { u8 octets[3]; u64 aligned; } octets_of_c196 = { { 78,84,80 } };
 #define c197 (octets_of_c197.octets)
-static const union { u8 octets[8]; u64 aligned; } octets_of_c197 = { { 80,50,80,49,83,84,69,80 } };
+static const union { u8 octets[8]; u64 aligned; } octets_of_c197 = { { 72,65,78,68,95,83,69,84 } };
 #define c198 (octets_of_c198.octets)
-static const union { u8 octets[11]; u64 aligned; } octets_of_c198 = { { 110,117,109,98,101,114,80,111,114,116,115 } };
+static const union { u8 octets[5]; u64 aligned; } octets_of_c198 = { { 79,84,72,69,82 } };
 #define c199 (octets_of_c199.octets)
-static const union { u8 octets[9]; u64 aligned; } octets_of_c199 = { { 115,108,97,118,101,79,110,108,121 } };
+static const union { u8 octets[19]; u64 aligned; } octets_of_c199 = { { 73,78,84,69,82,78,65,76,95,79,83,67,73,76,76,65,84,79,82 } };
 #define c200 (octets_of_c200.octets)
-static const union { u8 octets[12]; u64 aligned; } octets_of_c200 = { { 112,111,114,116,73,100,101,110,116,105,116,121 } };
+static const union { u8 octets[8]; u64 aligned; } octets_of_c200 = { { 83,79,70,84,87,65,82,69 } };
 #define c201 (octets_of_c201.octets)
-static const union { u8 octets[13]; u64 aligned; } octets_of_c201 = { { 118,101,114,115,105,111,110,78,117,109,98,101,114 } };
+static const union { u8 octets[8]; u64 aligned; } octets_of_c201 = { { 72,65,82,68,87,65,82,69 } };
 #define c202 (octets_of_c202.octets)
-static const union { u8 octets[13]; u64 aligned; } octets_of_c202 = { { 99,108,111,99,107,65,99,99,117,114,97,99,121 } };
+static const union { u8 octets[9]; u64 aligned; } octets_of_c202 = { { 76,69,71,65,67,89,95,72,87 } };
 #define c203 (octets_of_c203.octets)
-static const union { u8 octets[12]; u64 aligned; } octets_of_c203 = { { 99,108,111,99,107,81,117,97,108,105,116,121 } };
+static const union { u8 octets[7]; u64 aligned; } octets_of_c203 = { { 79,78,69,83,84,69,80 } };
 #define c204 (octets_of_c204.octets)
-static const union { u8 octets[23]; u64 aligned; } octets_of_c204 = { { 103,114,97,110,100,109,97,115,116,101,114,67,108,111,99,107,81,117,97,108,105,116,121 } };
+static const union { u8 octets[8]; u64 aligned; } octets_of_c204 = { { 80,50,80,49,83,84,69,80 } };
 #define c205 (octets_of_c205.octets)
-static const union { u8 octets[5]; u64 aligned; } octets_of_c205 = { { 115,100,111,73,100 } };
+static const union { u8 octets[11]; u64 aligned; } octets_of_c205 = { { 110,117,109,98,101,114,80,111,114,116,115 } };
 #define c206 (octets_of_c206.octets)
-static const union { u8 octets[9]; u64 aligned; } octets_of_c206 = { { 99,108,111,99,107,84,121,112,101 } };
+static const union { u8 octets[9]; u64 aligned; } octets_of_c206 = { { 115,108,97,118,101,79,110,108,121 } };
 #define c207 (octets_of_c207.octets)
-static const union { u8 octets[21]; u64 aligned; } octets_of_c207 = { { 112,104,121,115,105,99,97,108,76,97,121,101,114,80,114,111,116,111,99,111,108 } };
+static const union { u8 octets[12]; u64 aligned; } octets_of_c207 = { { 112,111,114,116,73,100,101,110,116,105,116,121 } };
 #define c208 (octets_of_c208.octets)
-static const union { u8 octets[15]; u64 aligned; } octets_of_c208 = { { 112,104,121,115,105,99,97,108,65,100,100,114,101,115,115 } };
+static const union { u8 octets[13]; u64 aligned; } octets_of_c208 = { { 118,101,114,115,105,111,110,78,117,109,98,101,114 } };
 #define c209 (octets_of_c209.octets)
-static const union { u8 octets[15]; u64 aligned; } octets_of_c209 = { { 110,101,116,119,111,114,107,80,114,111,116,111,99,111,108 } };
+static const union { u8 octets[13]; u64 aligned; } octets_of_c209 = { { 99,108,111,99,107,65,99,99,117,114,97,99,121 } };
 #define c210 (octets_of_c210.octets)
-static const union { u8 octets[12]; u64 aligned; } octets_of_c210 = { { 97,100,100,114,101,115,115,70,105,101,108,100 } };
+static const union { u8 octets[12]; u64 aligned; } octets_of_c210 = { { 99,108,111,99,107,81,117,97,108,105,116,121 } };
 #define c211 (octets_of_c211.octets)
-static const union { u8 octets[20]; u64 aligned; } octets_of_c211 = { { 109,97,110,117,102,97,99,116,117,114,101,114,73,100,101,110,116,105,116,121 } };
+static const union { u8 octets[23]; u64 aligned; } octets_of_c211 = { { 103,114,97,110,100,109,97,115,116,101,114,67,108,111,99,107,81,117,97,108,105,116,121 } };
 #define c212 (octets_of_c212.octets)
-static const union { u8 octets[18]; u64 aligned; } octets_of_c212 = { { 112,114,111,100,117,99,116,68,101,115,99,114,105,112,116,105,111,110 } };
+static const union { u8 octets[5]; u64 aligned; } octets_of_c212 = { { 115,100,111,73,100 } };
 #define c213 (octets_of_c213.octets)
-static const union { u8 octets[12]; u64 aligned; } octets_of_c213 = { { 114,101,118,105,115,105,111,110,68,97,116,97 } };
+static const union { u8 octets[9]; u64 aligned; } octets_of_c213 = { { 99,108,111,99,107,84,121,112,101 } };
 #define c214 (octets_of_c214.octets)
-static const union { u8 octets[15]; u64 aligned; } octets_of_c214 = { { 112,114,111,102,105,108,101,73,100,101,110,116,105,116,121 } };
+static const union { u8 octets[21]; u64 aligned; } octets_of_c214 = { { 112,104,121,115,105,99,97,108,76,97,121,101,114,80,114,111,116,111,99,111,108 } };
 #define c215 (octets_of_c215.octets)
-static const union { u8 octets[12]; u64 aligned; } octets_of_c215 = { { 115,101,99,111,110,100,115,70,105,101,108,100 } };
+static const union { u8 octets[15]; u64 aligned; } octets_of_c215 = { { 112,104,121,115,105,99,97,108,65,100,100,114,101,115,115 } };
 #define c216 (octets_of_c216.octets)
-static const union { u8 octets[16]; u64 aligned; } octets_of_c216 = { { 110,97,110,111,115,101,99,111,110,100,115,70,105,101,108,100 } };
+static const union { u8 octets[15]; u64 aligned; } octets_of_c216 = { { 110,101,116,119,111,114,107,80,114,111,116,111,99,111,108 } };
 #define c217 (octets_of_c217.octets)
-static const union { u8 octets[12]; u64 aligned; } octets_of_c217 = { { 112,97,116,104,83,101,113,117,101,110,99,101 } };
+static const union { u8 octets[12]; u64 aligned; } octets_of_c217 = { { 97,100,100,114,101,115,115,70,105,101,108,100 } };
 #define c218 (octets_of_c218.octets)
-static const union { u8 octets[13]; u64 aligned; } octets_of_c218 = { { 109,97,115,116,101,114,95,111,102,102,115,101,116 } };
+static const union { u8 octets[20]; u64 aligned; } octets_of_c218 = { { 109,97,110,117,102,97,99,116,117,114,101,114,73,100,101,110,116,105,116,121 } };
 #define c219 (octets_of_c219.octets)
-static const union { u8 octets[12]; u64 aligned; } octets_of_c219 = { { 105,110,103,114,101,115,115,95,116,105,109,101 } };
+static const union { u8 octets[18]; u64 aligned; } octets_of_c219 = { { 112,114,111,100,117,99,116,68,101,115,99,114,105,112,116,105,111,110 } };
 #define c220 (octets_of_c220.octets)
-static const union { u8 octets[26]; u64 aligned; } octets_of_c220 = { { 99,117,109,117,108,97,116,105,118,101,83,99,97,108,101,100,82,97,116,101,79,102,102,115,101,116 } };
+static const union { u8 octets[12]; u64 aligned; } octets_of_c220 = { { 114,101,118,105,115,105,111,110,68,97,116,97 } };
 #define c221 (octets_of_c221.octets)
-static const union { u8 octets[23]; u64 aligned; } octets_of_c221 = { { 115,99,97,108,101,100,76,97,115,116,71,109,80,104,97,115,101,67,104,97,110,103,101 } };
+static const union { u8 octets[15]; u64 aligned; } octets_of_c221 = { { 112,114,111,102,105,108,101,73,100,101,110,116,105,116,121 } };
 #define c222 (octets_of_c222.octets)
-static const union { u8 octets[19]; u64 aligned; } octets_of_c222 = { { 103,109,84,105,109,101,66,97,115,101,73,110,100,105,99,97,116,111,114 } };
+static const union { u8 octets[12]; u64 aligned; } octets_of_c222 = { { 115,101,99,111,110,100,115,70,105,101,108,100 } };
 #define c223 (octets_of_c223.octets)
-static const union { u8 octets[17]; u64 aligned; } octets_of_c223 = { { 108,97,115,116,71,109,80,104,97,115,101,67,104,97,110,103,101 } };
+static const union { u8 octets[16]; u64 aligned; } octets_of_c223 = { { 110,97,110,111,115,101,99,111,110,100,115,70,105,101,108,100 } };
 #define c224 (octets_of_c224.octets)
-static const union { u8 octets[9]; u64 aligned; } octets_of_c224 = { { 103,109,80,114,101,115,101,110,116 } };
+static const union { u8 octets[12]; u64 aligned; } octets_of_c224 = { { 112,97,116,104,83,101,113,117,101,110,99,101 } };
 #define c225 (octets_of_c225.octets)
-static const union { u8 octets[10]; u64 aligned; } octets_of_c225 = { { 103,109,73,100,101,110,116,105,116,121 } };
+static const union { u8 octets[13]; u64 aligned; } octets_of_c225 = { { 109,97,115,116,101,114,95,111,102,102,115,101,116 } };
 #define c226 (octets_of_c226.octets)
-static const union { u8 octets[23]; u64 aligned; } octets_of_c226 = { { 110,101,105,103,104,98,111,114,80,114,111,112,68,101,108,97,121,84,104,114,101,115,104 } };
+static const union { u8 octets[12]; u64 aligned; } octets_of_c226 = { { 105,110,103,114,101,115,115,95,116,105,109,101 } };
 #define c227 (octets_of_c227.octets)
-static const union { u8 octets[9]; u64 aligned; } octets_of_c227 = { { 97,115,67,97,112,97,98,108,101 } };
+static const union { u8 octets[26]; u64 aligned; } octets_of_c227 = { { 99,117,109,117,108,97,116,105,118,101,83,99,97,108,101,100,82,97,116,101,79,102,102,115,101,116 } };
 #define c228 (octets_of_c228.octets)
-static const union { u8 octets[12]; u64 aligned; } octets_of_c228 = { { 116,105,109,101,115,116,97,109,112,105,110,103 } };
+static const union { u8 octets[23]; u64 aligned; } octets_of_c228 = { { 115,99,97,108,101,100,76,97,115,116,71,109,80,104,97,115,101,67,104,97,110,103,101 } };
 #define c229 (octets_of_c229.octets)
-static const union { u8 octets[9]; u64 aligned; } octets_of_c229 = { { 105,110,116,101,114,102,97,99,101 } };
+static const union { u8 octets[19]; u64 aligned; } octets_of_c229 = { { 103,109,84,105,109,101,66,97,115,101,73,110,100,105,99,97,116,111,114 } };
 #define c230 (octets_of_c230.octets)
-static const union { u8 octets[7]; u64 aligned; } octets_of_c230 = { { 114,120,95,83,121,110,99 } };
+static const union { u8 octets[17]; u64 aligned; } octets_of_c230 = { { 108,97,115,116,71,109,80,104,97,115,101,67,104,97,110,103,101 } };
 #define c231 (octets_of_c231.octets)
-static const union { u8 octets[12]; u64 aligned; } octets_of_c231 = { { 114,120,95,68,101,108,97,121,95,82,101,113 } };
+static const union { u8 octets[9]; u64 aligned; } octets_of_c231 = { { 103,109,80,114,101,115,101,110,116 } };
 #define c232 (octets_of_c232.octets)
-static const union { u8 octets[13]; u64 aligned; } octets_of_c232 = { { 114,120,95,80,100,101,108,97,121,95,82,101,113 } };
+static const union { u8 octets[10]; u64 aligned; } octets_of_c232 = { { 103,109,73,100,101,110,116,105,116,121 } };
 #define c233 (octets_of_c233.octets)
-static const union { u8 octets[14]; u64 aligned; } octets_of_c233 = { { 114,120,95,80,100,101,108,97,121,95,82,101,115,112 } };
+static const union { u8 octets[23]; u64 aligned; } octets_of_c233 = { { 110,101,105,103,104,98,111,114,80,114,111,112,68,101,108,97,121,84,104,114,101,115,104 } };
 #define c234 (octets_of_c234.octets)
-static const union { u8 octets[12]; u64 aligned; } octets_of_c234 = { { 114,120,95,70,111,108,108,111,119,95,85,112 } };
+static const union { u8 octets[9]; u64 aligned; } octets_of_c234 = { { 97,115,67,97,112,97,98,108,101 } };
 #define c235 (octets_of_c235.octets)
-static const union { u8 octets[13]; u64 aligned; } octets_of_c235 = { { 114,120,95,68,101,108,97,121,95,82,101,115,112 } };
+static const union { u8 octets[12]; u64 aligned; } octets_of_c235 = { { 116,105,109,101,115,116,97,109,112,105,110,103 } };
 #define c236 (octets_of_c236.octets)
-static const union { u8 octets[24]; u64 aligned; } octets_of_c236 = { { 114,120,95,80,100,101,108,97,121,95,82,101,115,112,95,70,111,108,108,111,119,95,85,112 } };
+static const union { u8 octets[9]; u64 aligned; } octets_of_c236 = { { 105,110,116,101,114,102,97,99,101 } };
 #define c237 (octets_of_c237.octets)
-static const union { u8 octets[11]; u64 aligned; } octets_of_c237 = { { 114,120,95,65,110,110,111,117,110,99,101 } };
+static const union { u8 octets[7]; u64 aligned; } octets_of_c237 = { { 114,120,95,83,121,110,99 } };
 #define c238 (octets_of_c238.octets)
-static const union { u8 octets[12]; u64 aligned; } octets_of_c238 = { { 114,120,95,83,105,103,110,97,108,105,110,103 } };
+static const union { u8 octets[12]; u64 aligned; } octets_of_c238 = { { 114,120,95,68,101,108,97,121,95,82,101,113 } };
 #define c239 (octets_of_c239.octets)
-static const union { u8 octets[13]; u64 aligned; } octets_of_c239 = { { 114,120,95,77,97,110,97,103,101,109,101,110,116 } };
+static const union { u8 octets[13]; u64 aligned; } octets_of_c239 = { { 114,120,95,80,100,101,108,97,121,95,82,101,113 } };
 #define c240 (octets_of_c240.octets)
-static const union { u8 octets[7]; u64 aligned; } octets_of_c240 = { { 116,120,95,83,121,110,99 } };
+static const union { u8 octets[14]; u64 aligned; } octets_of_c240 = { { 114,120,95,80,100,101,108,97,121,95,82,101,115,112 } };
 #define c241 (octets_of_c241.octets)
-static const union { u8 octets[12]; u64 aligned; } octets_of_c241 = { { 116,120,95,68,101,108,97,121,95,82,101,113 } };
+static const union { u8 octets[12]; u64 aligned; } octets_of_c241 = { { 114,120,95,70,111,108,108,111,119,95,85,112 } };
 #define c242 (octets_of_c242.octets)
-static const union { u8 octets[13]; u64 aligned; } octets_of_c242 = { { 116,120,95,80,100,101,108,97,121,95,82,101,113 } };
+static const union { u8 octets[13]; u64 aligned; } octets_of_c242 = { { 114,120,95,68,101,108,97,121,95,82,101,115,112 } };
 #define c243 (octets_of_c243.octets)
-static const union { u8 octets[14]; u64 aligned; } octets_of_c243 = { { 116,120,95,80,100,101,108,97,121,95,82,101,115,112 } };
+static const union { u8 octets[24]; u64 aligned; } octets_of_c243 = { { 114,120,95,80,100,101,108,97,121,95,82,101,115,112,95,70,111,108,108,111,119,95,85,112 } };
 #define c244 (octets_of_c244.octets)
-static const union { u8 octets[12]; u64 aligned; } octets_of_c244 = { { 116,120,95,70,111,108,108,111,119,95,85,112 } };
+static const union { u8 octets[11]; u64 aligned; } octets_of_c244 = { { 114,120,95,65,110,110,111,117,110,99,101 } };
 #define c245 (octets_of_c245.octets)
-static const union { u8 octets[13]; u64 aligned; } octets_of_c245 = { { 116,120,95,68,101,108,97,121,95,82,101,115,112 } };
+static const union { u8 octets[12]; u64 aligned; } octets_of_c245 = { { 114,120,95,83,105,103,110,97,108,105,110,103 } };
 #define c246 (octets_of_c246.octets)
-static const union { u8 octets[24]; u64 aligned; } octets_of_c246 = { { 116,120,95,80,100,101,108,97,121,95,82,101,115,112,95,70,111,108,108,111,119,95,85,112 } };
+static const union { u8 octets[13]; u64 aligned; } octets_of_c246 = { { 114,120,95,77,97,110,97,103,101,109,101,110,116 } };
 #define c247 (octets_of_c247.octets)
-static const union { u8 octets[11]; u64 aligned; } octets_of_c247 = { { 116,120,95,65,110,110,111,117,110,99,101 } };
+static const union { u8 octets[7]; u64 aligned; } octets_of_c247 = { { 116,120,95,83,121,110,99 } };
 #define c248 (octets_of_c248.octets)
-static const union { u8 octets[12]; u64 aligned; } octets_of_c248 = { { 116,120,95,83,105,103,110,97,108,105,110,103 } };
+static const union { u8 octets[12]; u64 aligned; } octets_of_c248 = { { 116,120,95,68,101,108,97,121,95,82,101,113 } };
 #define c249 (octets_of_c249.octets)
-static const union { u8 octets[13]; u64 aligned; } octets_of_c249 = { { 116,120,95,77,97,110,97,103,101,109,101,110,116 } };
+static const union { u8 octets[13]; u64 aligned; } octets_of_c249 = { { 116,120,95,80,100,101,108,97,121,95,82,101,113 } };
 #define c250 (octets_of_c250.octets)
-static const union { u8 octets[13]; u64 aligned; } octets_of_c250 = { { 99,108,111,99,107,73,100,101,110,116,105,116,121 } };
+static const union { u8 octets[14]; u64 aligned; } octets_of_c250 = { { 116,120,95,80,100,101,108,97,121,95,82,101,115,112 } };
 #define c251 (octets_of_c251.octets)
-static const union { u8 octets[12]; u64 aligned; } octets_of_c251 = { { 100,111,109,97,105,110,78,117,109,98,101,114 } };
+static const union { u8 octets[12]; u64 aligned; } octets_of_c251 = { { 116,120,95,70,111,108,108,111,119,95,85,112 } };
 #define c252 (octets_of_c252.octets)
-static const union { u8 octets[15]; u64 aligned; } octets_of_c252 = { { 117,115,101,114,68,101,115,99,114,105,112,116,105,111,110 } };
+static const union { u8 octets[13]; u64 aligned; } octets_of_c252 = { { 116,120,95,68,101,108,97,121,95,82,101,115,112 } };
 #define c253 (octets_of_c253.octets)
-static const union { u8 octets[11]; u64 aligned; } octets_of_c253 = { { 116,119,111,83,116,101,112,70,108,97,103 } };
+static const union { u8 octets[24]; u64 aligned; } octets_of_c253 = { { 116,120,95,80,100,101,108,97,121,95,82,101,115,112,95,70,111,108,108,111,119,95,85,112 } };
 #define c254 (octets_of_c254.octets)
-static const union { u8 octets[9]; u64 aligned; } octets_of_c254 = { { 112,114,105,111,114,105,116,121,49 } };
+static const union { u8 octets[11]; u64 aligned; } octets_of_c254 = { { 116,120,95,65,110,110,111,117,110,99,101 } };
 #define c255 (octets_of_c255.octets)
-static const union { u8 octets[23]; u64 aligned; } octets_of_c255 = { { 99,108,111,99,107,81,117,97,108,105,116,121,46,99,108,111,99,107,67,108,97,115,115 } };
+static const union { u8 octets[12]; u64 aligned; } octets_of_c255 = { { 116,120,95,83,105,103,110,97,108,105,110,103 } };
 #define c256 (octets_of_c256.octets)
-static const union { u8 octets[26]; u64 aligned; } octets_of_c256 = { { 99,108,111,99,107,81,117,97,108,105,116,121,46,99,108,111,99,107,65,99,99,117,114,97,99,121 } };
+static const union { u8 octets[13]; u64 aligned; } octets_of_c256 = { { 116,120,95,77,97,110,97,103,101,109,101,110,116 } };
 #define c257 (octets_of_c257.octets)
-static const union { u8 octets[36]; u64 aligned; } octets_of_c257 = { { 99,108,111,99,107,81,117,97,108,105,116,121,46,111,102,102,115,101,116,83,99,97,108,101,100,76,111,103,86,97,114,105,97,110,99,101 } };
+static const union { u8 octets[13]; u64 aligned; } octets_of_c257 = { { 99,108,111,99,107,73,100,101,110,116,105,116,121 } };
 #define c258 (octets_of_c258.octets)
-static const union { u8 octets[9]; u64 aligned; } octets_of_c258 = { { 112,114,105,111,114,105,116,121,50 } };
+static const union { u8 octets[12]; u64 aligned; } octets_of_c258 = { { 100,111,109,97,105,110,78,117,109,98,101,114 } };
 #define c259 (octets_of_c259.octets)
-static const union { u8 octets[12]; u64 aligned; } octets_of_c259 = { { 115,116,101,112,115,82,101,109,111,118,101,100 } };
+static const union { u8 octets[15]; u64 aligned; } octets_of_c259 = { { 117,115,101,114,68,101,115,99,114,105,112,116,105,111,110 } };
 #define c260 (octets_of_c260.octets)
-static const union { u8 octets[16]; u64 aligned; } octets_of_c260 = { { 111,102,102,115,101,116,70,114,111,109,77,97,115,116,101,114 } };
+static const union { u8 octets[11]; u64 aligned; } octets_of_c260 = { { 116,119,111,83,116,101,112,70,108,97,103 } };
 #define c261 (octets_of_c261.octets)
-static const union { u8 octets[9]; u64 aligned; } octets_of_c261 = { { 109,101,97,110,68,101,108,97,121 } };
+static const union { u8 octets[9]; u64 aligned; } octets_of_c261 = { { 112,114,105,111,114,105,116,121,49 } };
 #define c262 (octets_of_c262.octets)
-static const union { u8 octets[18]; u64 aligned; } octets_of_c262 = { { 112,97,114,101,110,116,80,111,114,116,73,100,101,110,116,105,116,121 } };
+static const union { u8 octets[23]; u64 aligned; } octets_of_c262 = { { 99,108,111,99,107,81,117,97,108,105,116,121,46,99,108,111,99,107,67,108,97,115,115 } };
 #define c263 (octets_of_c263.octets)
-static const union { u8 octets[11]; u64 aligned; } octets_of_c263 = { { 112,97,114,101,110,116,83,116,97,116,115 } };
+static const union { u8 octets[26]; u64 aligned; } octets_of_c263 = { { 99,108,111,99,107,81,117,97,108,105,116,121,46,99,108,111,99,107,65,99,99,117,114,97,99,121 } };
 #define c264 (octets_of_c264.octets)
-static const union { u8 octets[37]; u64 aligned; } octets_of_c264 = { { 111,98,115,101,114,118,101,100,80,97,114,101,110,116,79,102,102,115,101,116,83,99,97,108,101,100,76,111,103,86,97,114,105,97,110,99,101 } };
+static const union { u8 octets[36]; u64 aligned; } octets_of_c264 = { { 99,108,111,99,107,81,117,97,108,105,116,121,46,111,102,102,115,101,116,83,99,97,108,101,100,76,111,103,86,97,114,105,97,110,99,101 } };
 #define c265 (octets_of_c265.octets)
-static const union { u8 octets[34]; u64 aligned; } octets_of_c265 = { { 111,98,115,101,114,118,101,100,80,97,114,101,110,116,67,108,111,99,107,80,104,97,115,101,67,104,97,110,103,101,82,97,116,101 } };
+static const union { u8 octets[9]; u64 aligned; } octets_of_c265 = { { 112,114,105,111,114,105,116,121,50 } };
 #define c266 (octets_of_c266.octets)
-static const union { u8 octets[20]; u64 aligned; } octets_of_c266 = { { 103,114,97,110,100,109,97,115,116,101,114,80,114,105,111,114,105,116,121,49 } };
+static const union { u8 octets[12]; u64 aligned; } octets_of_c266 = { { 115,116,101,112,115,82,101,109,111,118,101,100 } };
 #define c267 (octets_of_c267.octets)
-static const union { u8 octets[34]; u64 aligned; } octets_of_c267 = { { 103,114,97,110,100,109,97,115,116,101,114,67,108,111,99,107,81,117,97,108,105,116,121,46,99,108,111,99,107,67,108,97,115,115 } };
+static const union { u8 octets[16]; u64 aligned; } octets_of_c267 = { { 111,102,102,115,101,116,70,114,111,109,77,97,115,116,101,114 } };
 #define c268 (octets_of_c268.octets)
-static const union { u8 octets[37]; u64 aligned; } octets_of_c268 = { { 103,114,97,110,100,109,97,115,116,101,114,67,108,111,99,107,81,117,97,108,105,116,121,46,99,108,111,99,107,65,99,99,117,114,97,99,121 } };
+static const union { u8 octets[9]; u64 aligned; } octets_of_c268 = { { 109,101,97,110,68,101,108,97,121 } };
 #define c269 (octets_of_c269.octets)
-static const union { u8 octets[47]; u64 aligned; } octets_of_c269 = { { 103,114,97,110,100,109,97,115,116,101,114,67,108,111,99,107,81,117,97,108,105,116,121,46,111,102,102,115,101,116,83,99,97,108,101,100,76,111,103,86,97,114,105,97,110,99,101 } };
+static const union { u8 octets[18]; u64 aligned; } octets_of_c269 = { { 112,97,114,101,110,116,80,111,114,116,73,100,101,110,116,105,116,121 } };
 #define c270 (octets_of_c270.octets)
-static const union { u8 octets[20]; u64 aligned; } octets_of_c270 = { { 103,114,97,110,100,109,97,115,116,101,114,80,114,105,111,114,105,116,121,50 } };
+static const union { u8 octets[11]; u64 aligned; } octets_of_c270 = { { 112,97,114,101,110,116,83,116,97,116,115 } };
 #define c271 (octets_of_c271.octets)
-static const union { u8 octets[19]; u64 aligned; } octets_of_c271 = { { 103,114,97,110,100,109,97,115,116,101,114,73,100,101,110,116,105,116,121 } };
+static const union { u8 octets[37]; u64 aligned; } octets_of_c271 = { { 111,98,115,101,114,118,101,100,80,97,114,101,110,116,79,102,102,115,101,116,83,99,97,108,101,100,76,111,103,86,97,114,105,97,110,99,101 } };
 #define c272 (octets_of_c272.octets)
-static const union { u8 octets[16]; u64 aligned; } octets_of_c272 = { { 99,117,114,114,101,110,116,85,116,99,79,102,102,115,101,116 } };
+static const union { u8 octets[34]; u64 aligned; } octets_of_c272 = { { 111,98,115,101,114,118,101,100,80,97,114,101,110,116,67,108,111,99,107,80,104,97,115,101,67,104,97,110,103,101,82,97,116,101 } };
 #define c273 (octets_of_c273.octets)
-static const union { u8 octets[6]; u64 aligned; } octets_of_c273 = { { 108,101,97,112,54,49 } };
+static const union { u8 octets[20]; u64 aligned; } octets_of_c273 = { { 103,114,97,110,100,109,97,115,116,101,114,80,114,105,111,114,105,116,121,49 } };
 #define c274 (octets_of_c274.octets)
-static const union { u8 octets[6]; u64 aligned; } octets_of_c274 = { { 108,101,97,112,53,57 } };
+static const union { u8 octets[34]; u64 aligned; } octets_of_c274 = { { 103,114,97,110,100,109,97,115,116,101,114,67,108,111,99,107,81,117,97,108,105,116,121,46,99,108,111,99,107,67,108,97,115,115 } };
 #define c275 (octets_of_c275.octets)
-static const union { u8 octets[21]; u64 aligned; } octets_of_c275 = { { 99,117,114,114,101,110,116,85,116,99,79,102,102,115,101,116,86,97,108,105,100 } };
+static const union { u8 octets[37]; u64 aligned; } octets_of_c275 = { { 103,114,97,110,100,109,97,115,116,101,114,67,108,111,99,107,81,117,97,108,105,116,121,46,99,108,111,99,107,65,99,99,117,114,97,99,121 } };
 #define c276 (octets_of_c276.octets)
-static const union { u8 octets[12]; u64 aligned; } octets_of_c276 = { { 112,116,112,84,105,109,101,115,99,97,108,101 } };
+static const union { u8 octets[47]; u64 aligned; } octets_of_c276 = { { 103,114,97,110,100,109,97,115,116,101,114,67,108,111,99,107,81,117,97,108,105,116,121,46,111,102,102,115,101,116,83,99,97,108,101,100,76,111,103,86,97,114,105,97,110,99,101 } };
 #define c277 (octets_of_c277.octets)
-static const union { u8 octets[13]; u64 aligned; } octets_of_c277 = { { 116,105,109,101,84,114,97,99,101,97,98,108,101 } };
+static const union { u8 octets[20]; u64 aligned; } octets_of_c277 = { { 103,114,97,110,100,109,97,115,116,101,114,80,114,105,111,114,105,116,121,50 } };
 #define c278 (octets_of_c278.octets)
-static const union { u8 octets[18]; u64 aligned; } octets_of_c278 = { { 102,114,101,113,117,101,110,99,121,84,114,97,99,101,97,98,108,101 } };
+static const union { u8 octets[19]; u64 aligned; } octets_of_c278 = { { 103,114,97,110,100,109,97,115,116,101,114,73,100,101,110,116,105,116,121 } };
 #define c279 (octets_of_c279.octets)
-static const union { u8 octets[10]; u64 aligned; } octets_of_c279 = { { 116,105,109,101,83,111,117,114,99,101 } };
+static const union { u8 octets[16]; u64 aligned; } octets_of_c279 = { { 99,117,114,114,101,110,116,85,116,99,79,102,102,115,101,116 } };
 #define c280 (octets_of_c280.octets)
-static const union { u8 octets[9]; u64 aligned; } octets_of_c280 = { { 112,111,114,116,83,116,97,116,101 } };
+static const union { u8 octets[6]; u64 aligned; } octets_of_c280 = { { 108,101,97,112,54,49 } };
 #define c281 (octets_of_c281.octets)
-static const union { u8 octets[22]; u64 aligned; } octets_of_c281 = { { 108,111,103,77,105,110,68,101,108,97,121,82,101,113,73,110,116,101,114,118,97,108 } };
+static const union { u8 octets[6]; u64 aligned; } octets_of_c281 = { { 108,101,97,112,53,57 } };
 #define c282 (octets_of_c282.octets)
-static const union { u8 octets[13]; u64 aligned; } octets_of_c282 = { { 109,101,97,110,76,105,110,107,68,101,108,97,121 } };
+static const union { u8 octets[21]; u64 aligned; } octets_of_c282 = { { 99,117,114,114,101,110,116,85,116,99,79,102,102,115,101,116,86,97,108,105,100 } };
 #define c283 (octets_of_c283.octets)
-static const union { u8 octets[26]; u64 aligned; } octets_of_c283 = { { 32,111,114,32,97,32,110,117,109,98,101,114,32,102,114,111,109,32,48,32,116,111,32,50,53,53 } };
+static const union { u8 octets[12]; u64 aligned; } octets_of_c283 = { { 112,116,112,84,105,109,101,115,99,97,108,101 } };
 #define c284 (octets_of_c284.octets)
-static const union { u8 octets[2]; u64 aligned; } octets_of_c284 = { { 48,120 } };
+static const union { u8 octets[13]; u64 aligned; } octets_of_c284 = { { 116,105,109,101,84,114,97,99,101,97,98,108,101 } };
 #define c285 (octets_of_c285.octets)
-static const union { u8 octets[2]; u64 aligned; } octets_of_c285 = { { 44,32 } };
+static const union { u8 octets[18]; u64 aligned; } octets_of_c285 = { { 102,114,101,113,117,101,110,99,121,84,114,97,99,101,97,98,108,101 } };
 #define c286 (octets_of_c286.octets)
-static const union { u8 octets[25]; u64 aligned; } octets_of_c286 = { { 97,32,110,117,109,98,101,114,32,102,114,111,109,32,45,49,50,56,32,116,111,32,49,50,55 } };
+static const union { u8 octets[10]; u64 aligned; } octets_of_c286 = { { 116,105,109,101,83,111,117,114,99,101 } };
 #define c287 (octets_of_c287.octets)
-static const union { u8 octets[29]; u64 aligned; } octets_of_c287 = { { 97,32,110,117,109,98,101,114,32,102,114,111,109,32,45,51,50,55,54,56,32,116,111,32,51,50,55,54,55 } };
+static const union { u8 octets[9]; u64 aligned; } octets_of_c287 = { { 112,111,114,116,83,116,97,116,101 } };
 #define c288 (octets_of_c288.octets)
-static const union { u8 octets[13]; u64 aligned; } octets_of_c288 = { { 116,114,117,101,32,111,114,32,102,97,108,115,101 } };
+static const union { u8 octets[22]; u64 aligned; } octets_of_c288 = { { 108,111,103,77,105,110,68,101,108,97,121,82,101,113,73,110,116,101,114,118,97,108 } };
 #define c289 (octets_of_c289.octets)
-static const union { u8 octets[55]; u64 aligned; } octets_of_c289 = { { 97,32,110,117,109,98,101,114,32,102,114,111,109,32,48,32,116,111,32,49,53,44,32,111,114,32,48,120,32,97,110,100,32,116,119,111,32,104,101,120,97,100,101,99,105,109,97,108,32,100,105,103,105,116,115 } };
+static const union { u8 octets[13]; u64 aligned; } octets_of_c289 = { { 109,101,97,110,76,105,110,107,68,101,108,97,121 } };
 #define c290 (octets_of_c290.octets)
-static const union { u8 octets[37]; u64 aligned; } octets_of_c290 = { { 97,32,116,101,120,116,32,111,102,32,97,116,32,109,111,115,116,32,49,50,56,32,111,99,116,101,116,115,32,105,110,32,85,84,70,45,56 } };
+static const union { u8 octets[26]; u64 aligned; } octets_of_c290 = { { 32,111,114,32,97,32,110,117,109,98,101,114,32,102,114,111,109,32,48,32,116,111,32,50,53,53 } };
 #define c291 (octets_of_c291.octets)
-static const union { u8 octets[56]; u64 aligned; } octets_of_c291 = { { 97,32,110,117,109,98,101,114,32,102,114,111,109,32,48,32,116,111,32,50,53,53,44,32,111,114,32,48,120,32,97,110,100,32,116,119,111,32,104,101,120,97,100,101,99,105,109,97,108,32,100,105,103,105,116,115 } };
+static const union { u8 octets[2]; u64 aligned; } octets_of_c291 = { { 48,120 } };
 #define c292 (octets_of_c292.octets)
-static const union { u8 octets[8]; u64 aligned; } octets_of_c292 = { { 110,111,32,118,97,108,117,101 } };
+static const union { u8 octets[2]; u64 aligned; } octets_of_c292 = { { 44,32 } };
 #define c293 (octets_of_c293.octets)
-static const union { u8 octets[60]; u64 aligned; } octets_of_c293 = { { 9,0,0,0,1,2,10,0,0,0,14,0,11,0,0,0,14,1,12,0,0,0,14,2,13,0,0,0,14,3,14,0,0,0,14,4,15,0,0,0,14,5,16,0,0,0,14,6,0,2,0,0,14,7,17,0,0,0,14,8 } };
+static const union { u8 octets[25]; u64 aligned; } octets_of_c293 = { { 97,32,110,117,109,98,101,114,32,102,114,111,109,32,45,49,50,56,32,116,111,32,49,50,55 } };
 #define c294 (octets_of_c294.octets)
-static const union { u8 octets[12]; u64 aligned; } octets_of_c294 = { { 18,0,0,0,0,6,19,0,0,6,0,4 } };
+static const union { u8 octets[29]; u64 aligned; } octets_of_c294 = { { 97,32,110,117,109,98,101,114,32,102,114,111,109,32,45,51,50,55,54,56,32,116,111,32,51,50,55,54,55 } };
 #define c295 (octets_of_c295.octets)
-static const union { u8 octets[12]; u64 aligned; } octets_of_c295 = { { 0,27,0,0,3,16,0,28,0,0,3,32 } };
+static const union { u8 octets[13]; u64 aligned; } octets_of_c295 = { { 116,114,117,101,32,111,114,32,102,97,108,115,101 } };
 #define c296 (octets_of_c296.octets)
-static const union { u8 octets[12]; u64 aligned; } octets_of_c296 = { { 0,26,0,0,3,8,0,29,0,1,9,2 } };
+static const union { u8 octets[55]; u64 aligned; } octets_of_c296 = { { 97,32,110,117,109,98,101,114,32,102,114,111,109,32,48,32,116,111,32,49,53,44,32,111,114,32,48,120,32,97,110,100,32,116,119,111,32,104,101,120,97,100,101,99,105,109,97,108,32,100,105,103,105,116,115 } };
 #define c297 (octets_of_c297.octets)
-static const union { u8 octets[6]; u64 aligned; } octets_of_c297 = { { 20,0,0,0,13,0 } };
+static const union { u8 octets[37]; u64 aligned; } octets_of_c297 = { { 97,32,116,101,120,116,32,111,102,32,97,116,32,109,111,115,116,32,49,50,56,32,111,99,116,101,116,115,32,105,110,32,85,84,70,45,56 } };
 #define c298 (octets_of_c298.octets)
-static const union { u8 octets[48]; u64 aligned; } octets_of_c298 = { { 21,0,0,0,2,8,22,0,0,8,2,8,23,0,0,16,2,4,24,0,0,20,2,4,25,0,0,24,0,2,26,0,0,26,12,12,27,0,0,41,3,1,28,0,0,42,7,0 } };
+static const union { u8 octets[56]; u64 aligned; } octets_of_c298 = { { 97,32,110,117,109,98,101,114,32,102,114,111,109,32,48,32,116,111,32,50,53,53,44,32,111,114,32,48,120,32,97,110,100,32,116,119,111,32,104,101,120,97,100,101,99,105,109,97,108,32,100,105,103,105,116,115 } };
 #define c299 (octets_of_c299.octets)
-static const union { u8 octets[66]; u64 aligned; } octets_of_c299 = { { 0,5,0,0,0,1,0,6,0,1,1,1,0,7,0,2,1,2,0,22,0,4,2,2,0,23,0,6,3,1,0,24,0,6,3,2,0,25,0,6,3,4,0,26,0,6,3,8,0,27,0,6,3,16,0,28,0,6,3,32,0,29,0,7,9,2 } };
+static const union { u8 octets[8]; u64 aligned; } octets_of_c299 = { { 110,111,32,118,97,108,117,101 } };
 #define c300 (octets_of_c300.octets)
-static const union { u8 octets[12]; u64 aligned; } octets_of_c300 = { { 29,0,0,0,0,4,30,0,0,4,2,4 } };
+static const union { u8 octets[60]; u64 aligned; } octets_of_c300 = { { 9,0,0,0,1,2,10,0,0,0,14,0,11,0,0,0,14,1,12,0,0,0,14,2,13,0,0,0,14,3,14,0,0,0,14,4,15,0,0,0,14,5,16,0,0,0,14,6,0,2,0,0,14,7,17,0,0,0,14,8 } };
 #define c301 (octets_of_c301.octets)
-static const union { u8 octets[24]; u64 aligned; } octets_of_c301 = { { 3,0,0,0,8,0,0,30,0,10,9,0,31,0,0,11,9,3,32,0,0,12,10,0 } };
+static const union { u8 octets[12]; u64 aligned; } octets_of_c301 = { { 18,0,0,0,0,6,19,0,0,6,0,4 } };
 #define c302 (octets_of_c302.octets)
-static const union { u8 octets[126]; u64 aligned; } octets_of_c302 = { { 3,0,0,0,8,0,33,0,0,10,11,8,34,0,0,18,11,8,35,0,0,26,11,8,36,0,0,34,11,8,37,0,0,74,11,8,38,0,0,82,11,8,39,0,0,90,11,8,40,0,0,98,11,8,41,0,0,106,11,8,42,0,0,114,11,8,43,0,0,138,11,8,44,0,0,146,11,8,45,0,0,154,11,8,46,0,0,162,11,8,47,0,0,202,11,8,48,0,0,210,11,8,49,0,0,218,11,8,50,0,0,226,11,8,51,0,0,234,11,8,52,0,0,242,11,8 } };
+static const union { u8 octets[12]; u64 aligned; } octets_of_c302 = { { 0,27,0,0,3,16,0,28,0,0,3,32 } };
 #define c303 (octets_of_c303.octets)
-static const union { u8 octets[6]; u64 aligned; } octets_of_c303 = { { 118,97,108,117,101,32 } };
+static const union { u8 octets[12]; u64 aligned; } octets_of_c303 = { { 0,26,0,0,3,8,0,29,0,1,9,2 } };
 #define c304 (octets_of_c304.octets)
-static const union { u8 octets[200]; u64 aligned; } octets_of_c304 = { { 48,48,48,49,48,50,48,51,48,52,48,53,48,54,48,55,48,56,48,57,49,48,49,49,49,50,49,51,49,52,49,53,49,54,49,55,49,56,49,57,50,48,50,49,50,50,50,51,50,52,50,53,50,54,50,55,50,56,50,57,51,48,51,49,51,50,51,51,51,52,51,53,51,54,51,55,51,56,51,57,52,48,52,49,52,50,52,51,52,52,52,53,52,54,52,55,52,56,52,57,53,48,53,49,53,50,53,51,53,52,53,53,53,54,53,55,53,56,53,57,54,48,54,49,54,50,54,51,54,52,54,53,54,54,54,55,54,56,54,57,55,48,55,49,55,50,55,51,55,52,55,53,55,54,55,55,55,56,55,57,56,48,56,49,56,50,56,51,56,52,56,53,56,54,56,55,56,56,56,57,57,48,57,49,57,50,57,51,57,52,57,53,57,54,57,55,57,56,57,57 } };
+static const union { u8 octets[6]; u64 aligned; } octets_of_c304 = { { 20,0,0,0,13,0 } };
 #define c305 (octets_of_c305.octets)
-static const union { u8 octets[6]; u64 aligned; } octets_of_c305 = { { 99,108,97,115,115,32 } };
+static const union { u8 octets[48]; u64 aligned; } octets_of_c305 = { { 21,0,0,0,2,8,22,0,0,8,2,8,23,0,0,16,2,4,24,0,0,20,2,4,25,0,0,24,0,2,26,0,0,26,12,12,27,0,0,41,3,1,28,0,0,42,7,0 } };
 #define c306 (octets_of_c306.octets)
-static const union { u8 octets[12]; u64 aligned; } octets_of_c306 = { { 32,97,99,99,117,114,97,99,121,32,48,120 } };
+static const union { u8 octets[66]; u64 aligned; } octets_of_c306 = { { 0,5,0,0,0,1,0,6,0,1,1,1,0,7,0,2,1,2,0,22,0,4,2,2,0,23,0,6,3,1,0,24,0,6,3,2,0,25,0,6,3,4,0,26,0,6,3,8,0,27,0,6,3,16,0,28,0,6,3,32,0,29,0,7,9,2 } };
 #define c307 (octets_of_c307.octets)
-static const union { u8 octets[12]; u64 aligned; } octets_of_c307 = { { 32,118,97,114,105,97,110,99,101,32,48,120 } };
+static const union { u8 octets[12]; u64 aligned; } octets_of_c307 = { { 29,0,0,0,0,4,30,0,0,4,2,4 } };
 #define c308 (octets_of_c308.octets)
-static const union { u8 octets[2]; u64 aligned; } octets_of_c308 = { { 92,120 } };
+static const union { u8 octets[24]; u64 aligned; } octets_of_c308 = { { 3,0,0,0,8,0,0,30,0,10,9,0,31,0,0,11,9,3,32,0,0,12,10,0 } };
 #define c309 (octets_of_c309.octets)
-static const union { u8 octets[42]; u64 aligned; } octets_of_c309 = { { 0,0,2,0,0,32,1,32,2,32,3,32,4,32,5,32,6,32,7,32,8,32,9,32,10,32,11,32,12,32,13,32,14,32,16,32,17,32,0,96,1,96 } };
+static const union { u8 octets[126]; u64 aligned; } octets_of_c309 = { { 3,0,0,0,8,0,33,0,0,10,11,8,34,0,0,18,11,8,35,0,0,26,11,8,36,0,0,34,11,8,37,0,0,74,11,8,38,0,0,82,11,8,39,0,0,90,11,8,40,0,0,98,11,8,41,0,0,106,11,8,42,0,0,114,11,8,43,0,0,138,11,8,44,0,0,146,11,8,45,0,0,154,11,8,46,0,0,162,11,8,47,0,0,202,11,8,48,0,0,210,11,8,49,0,0,218,11,8,50,0,0,226,11,8,51,0,0,234,11,8,52,0,0,242,11,8 } };
 #define c310 (octets_of_c310.octets)
-static const union { u8 octets[4]; u64 aligned; } octets_of_c310 = { { 112,116,112,115 } };
+static const union { u8 octets[6]; u64 aligned; } octets_of_c310 = { { 118,97,108,117,101,32 } };
 #define c311 (octets_of_c311.octets)
-static const union { u8 octets[4]; u64 aligned; } octets_of_c311 = { { 112,116,112,109 } };
+static const union { u8 octets[200]; u64 aligned; } octets_of_c311 = { { 48,48,48,49,48,50,48,51,48,52,48,53,48,54,48,55,48,56,48,57,49,48,49,49,49,50,49,51,49,52,49,53,49,54,49,55,49,56,49,57,50,48,50,49,50,50,50,51,50,52,50,53,50,54,50,55,50,56,50,57,51,48,51,49,51,50,51,51,51,52,51,53,51,54,51,55,51,56,51,57,52,48,52,49,52,50,52,51,52,52,52,53,52,54,52,55,52,56,52,57,53,48,53,49,53,50,53,51,53,52,53,53,53,54,53,55,53,56,53,57,54,48,54,49,54,50,54,51,54,52,54,53,54,54,54,55,54,56,54,57,55,48,55,49,55,50,55,51,55,52,55,53,55,54,55,55,55,56,55,57,56,48,56,49,56,50,56,51,56,52,56,53,56,54,56,55,56,56,56,57,57,48,57,49,57,50,57,51,57,52,57,53,57,54,57,55,57,56,57,57 } };
 #define c312 (octets_of_c312.octets)
-static const union { u8 octets[10]; u64 aligned; } octets_of_c312 = { { 0,1,2,3,4,5,6,7,8,9 } };
+static const union { u8 octets[6]; u64 aligned; } octets_of_c312 = { { 99,108,97,115,115,32 } };
 #define c313 (octets_of_c313.octets)
-static const union { u8 octets[17]; u64 aligned; } octets_of_c313 = { { 67,76,79,67,75,95,68,69,83,67,82,73,80,84,73,79,78 } };
+static const union { u8 octets[12]; u64 aligned; } octets_of_c313 = { { 32,97,99,99,117,114,97,99,121,32,48,120 } };
 #define c314 (octets_of_c314.octets)
-static const union { u8 octets[4]; u64 aligned; } octets_of_c314 = { { 84,73,77,69 } };
+static const union { u8 octets[12]; u64 aligned; } octets_of_c314 = { { 32,118,97,114,105,97,110,99,101,32,48,120 } };
 #define c315 (octets_of_c315.octets)
-static const union { u8 octets[23]; u64 aligned; } octets_of_c315 = { { 84,82,65,67,69,65,66,73,76,73,84,89,95,80,82,79,80,69,82,84,73,69,83 } };
+static const union { u8 octets[2]; u64 aligned; } octets_of_c315 = { { 92,120 } };
 #define c316 (octets_of_c316.octets)
-static const union { u8 octets[20]; u64 aligned; } octets_of_c316 = { { 84,73,77,69,83,67,65,76,69,95,80,82,79,80,69,82,84,73,69,83 } };
+static const union { u8 octets[42]; u64 aligned; } octets_of_c316 = { { 0,0,2,0,0,32,1,32,2,32,3,32,4,32,5,32,6,32,7,32,8,32,9,32,10,32,11,32,12,32,13,32,14,32,16,32,17,32,0,96,1,96 } };
 #define c317 (octets_of_c317.octets)
-static const union { u8 octets[15]; u64 aligned; } octets_of_c317 = { { 80,65,84,72,95,84,82,65,67,69,95,76,73,83,84 } };
+static const union { u8 octets[4]; u64 aligned; } octets_of_c317 = { { 112,116,112,115 } };
 #define c318 (octets_of_c318.octets)
-static const union { u8 octets[14]; u64 aligned; } octets_of_c318 = { { 84,73,77,69,95,83,84,65,84,85,83,95,78,80 } };
+static const union { u8 octets[4]; u64 aligned; } octets_of_c318 = { { 112,116,112,109 } };
 #define c319 (octets_of_c319.octets)
-static const union { u8 octets[23]; u64 aligned; } octets_of_c319 = { { 71,82,65,78,68,77,65,83,84,69,82,95,83,69,84,84,73,78,71,83,95,78,80 } };
+static const union { u8 octets[4]; u64 aligned; } octets_of_c319 = { { 80,84,80,74 } };
 #define c320 (octets_of_c320.octets)
-static const union { u8 octets[16]; u64 aligned; } octets_of_c320 = { { 80,79,82,84,95,68,65,84,65,95,83,69,84,95,78,80 } };
+static const union { u8 octets[10]; u64 aligned; } octets_of_c320 = { { 0,1,2,3,4,5,6,7,8,9 } };
 #define c321 (octets_of_c321.octets)
-static const union { u8 octets[18]; u64 aligned; } octets_of_c321 = { { 80,79,82,84,95,80,82,79,80,69,82,84,73,69,83,95,78,80 } };
+static const union { u8 octets[17]; u64 aligned; } octets_of_c321 = { { 67,76,79,67,75,95,68,69,83,67,82,73,80,84,73,79,78 } };
 #define c322 (octets_of_c322.octets)
-static const union { u8 octets[13]; u64 aligned; } octets_of_c322 = { { 80,79,82,84,95,83,84,65,84,83,95,78,80 } };
+static const union { u8 octets[4]; u64 aligned; } octets_of_c322 = { { 84,73,77,69 } };
 #define c323 (octets_of_c323.octets)
-static const union { u8 octets[176]; u64 aligned; } octets_of_c323 = { { 16,0,0,0,0,0,0,0,216,0,0,0,0,0,0,0,16,0,0,0,0,0,0,0,88,0,0,0,0,0,0,0,16,0,0,0,0,0,0,0,12,0,0,0,0,0,0,0,196,5,0,0,0,0,0,0,12,0,0,0,0,0,0,0,16,0,0,0,0,0,0,0,26,0,0,0,0,0,0,0,16,0,0,0,0,0,0,0,16,0,0,0,0,0,0,0,10,0,0,0,0,0,0,0,8,0,3,0,0,0,0,0,24,0,0,0,0,0,0,0,16,0,0,0,0,0,0,0,36,0,0,0,0,0,0,0,24,0,0,0,0,0,0,0,150,0,0,0,0,0,0,0,144,5,0,0,0,0,0,0,36,0,0,0,0,0,0,0,32,0,0,0,0,0,0,0 } };
-#if IS_LITTLE_ENDIAN
-static const struct form_of_c324 { slot slot0; u8 octets8[8]; } octets_of_c324;
-#define c324 ((const u8 *)&octets_of_c324)
-#else
-static union form_of_c324 { u8 octets[16]; u64 aligned; } octets_of_c324;
+static const union { u8 octets[23]; u64 aligned; } octets_of_c323 = { { 84,82,65,67,69,65,66,73,76,73,84,89,95,80,82,79,80,69,82,84,73,69,83 } };
 #define c324 (octets_of_c324.octets)
-#endif
+static const union { u8 octets[20]; u64 aligned; } octets_of_c324 = { { 84,73,77,69,83,67,65,76,69,95,80,82,79,80,69,82,84,73,69,83 } };
 #define c325 (octets_of_c325.octets)
-static const union { u8 octets[9]; u64 aligned; } octets_of_c325 = { { 0,1,1,1,1,1,0,0,0 } };
+static const union { u8 octets[15]; u64 aligned; } octets_of_c325 = { { 80,65,84,72,95,84,82,65,67,69,95,76,73,83,84 } };
 #define c326 (octets_of_c326.octets)
-static const union { u8 octets[9]; u64 aligned; } octets_of_c326 = { { 1,0,0,0,0,0,1,1,1 } };
+static const union { u8 octets[14]; u64 aligned; } octets_of_c326 = { { 84,73,77,69,95,83,84,65,84,85,83,95,78,80 } };
 #define c327 (octets_of_c327.octets)
-static const union { u8 octets[9]; u64 aligned; } octets_of_c327 = { { 6,0,0,0,0,0,3,4,5 } };
-#if IS_LITTLE_ENDIAN
-static const struct form_of_c328 { slot slot0; slot slot8; slot slot16; slot slot24; slot slot32; slot slot40; slot slot48; slot slot56; slot slot64; } octets_of_c328;
-#define c328 ((const u8 *)&octets_of_c328)
-#else
-static union form_of_c328 { u8 octets[72]; u64 aligned; } octets_of_c328;
+static const union { u8 octets[23]; u64 aligned; } octets_of_c327 = { { 71,82,65,78,68,77,65,83,84,69,82,95,83,69,84,84,73,78,71,83,95,78,80 } };
 #define c328 (octets_of_c328.octets)
-#endif
+static const union { u8 octets[16]; u64 aligned; } octets_of_c328 = { { 80,79,82,84,95,68,65,84,65,95,83,69,84,95,78,80 } };
 #define c329 (octets_of_c329.octets)
-static const union { u8 octets[72]; u64 aligned; } octets_of_c329 = { { 12,0,0,0,0,0,0,0,6,0,0,0,0,0,0,0,8,0,0,0,0,0,0,0,9,0,0,0,0,0,0,0,10,0,0,0,0,0,0,0,6,0,0,0,0,0,0,0,7,0,0,0,0,0,0,0,12,0,0,0,0,0,0,0,5,0,0,0,0,0,0,0 } };
+static const union { u8 octets[18]; u64 aligned; } octets_of_c329 = { { 80,79,82,84,95,80,82,79,80,69,82,84,73,69,83,95,78,80 } };
 #define c330 (octets_of_c330.octets)
-static const union { u8 octets[56]; u64 aligned; } octets_of_c330 = { { 1,0,0,0,0,0,0,0,0,0,0,0,0,0,0,0,0,0,0,0,0,0,0,0,1,0,0,0,0,0,0,0,1,0,0,0,0,0,0,0,1,0,0,0,0,0,0,0,1,0,0,0,0,0,0,0 } };
-#if IS_LITTLE_ENDIAN
-static const struct form_of_c331 { slot slot0; u8 octets8[16]; slot slot24; slot slot32; slot slot40; slot slot48; } octets_of_c331;
-#define c331 ((const u8 *)&octets_of_c331)
-#else
-static union form_of_c331 { u8 octets[56]; u64 aligned; } octets_of_c331;
+static const union { u8 octets[13]; u64 aligned; } octets_of_c330 = { { 80,79,82,84,95,83,84,65,84,83,95,78,80 } };
 #define c331 (octets_of_c331.octets)
-#endif
-#define c332 (octets_of_c332.octets)
-static const union { u8 octets[56]; u64 aligned; } octets_of_c332 = { { 12,0,0,0,0,0,0,0,0,0,0,0,0,0,0,0,0,0,0,0,0,0,0,0,3,0,0,0,0,0,0,0,3,0,0,0,0,0,0,0,10,0,0,0,0,0,0,0,7,0,0,0,0,0,0,0 } };
+static const union { u8 octets[192]; u64 aligned; } octets_of_c331 = { { 16,0,0,0,0,0,0,0,216,0,0,0,0,0,0,0,16,0,0,0,0,0,0,0,88,0,0,0,0,0,0,0,16,0,0,0,0,0,0,0,12,0,0,0,0,0,0,0,196,5,0,0,0,0,0,0,12,0,0,0,0,0,0,0,16,0,0,0,0,0,0,0,26,0,0,0,0,0,0,0,16,0,0,0,0,0,0,0,16,0,0,0,0,0,0,0,10,0,0,0,0,0,0,0,8,0,3,0,0,0,0,0,24,0,0,0,0,0,0,0,16,0,0,0,0,0,0,0,36,0,0,0,0,0,0,0,24,0,0,0,0,0,0,0,150,0,0,0,0,0,0,0,144,5,0,0,0,0,0,0,36,0,0,0,0,0,0,0,32,0,0,0,0,0,0,0,16,0,0,0,0,0,0,0,48,0,0,0,0,0,0,0 } };
 #if IS_LITTLE_ENDIAN
-static const struct form_of_c333 { slot slot0; slot slot8; slot slot16; slot slot24; slot slot32; } octets_of_c333;
-#define c333 ((const u8 *)&octets_of_c333)
+static const struct form_of_c332 { slot slot0; u8 octets8[8]; } octets_of_c332;
+#define c332 ((const u8 *)&octets_of_c332)
 #else
-static union form_of_c333 { u8 octets[40]; u64 aligned; } octets_of_c333;
-#define c333 (octets_of_c333.octets)
+static union form_of_c332 { u8 octets[16]; u64 aligned; } octets_of_c332;
+#define c332 (octets_of_c332.octets)
 #endif
+#define c333 (octets_of_c333.octets)
+static const union { u8 octets[9]; u64 aligned; } octets_of_c333 = { { 0,1,1,1,1,1,0,0,0 } };
 #define c334 (octets_of_c334.octets)
-static const union { u8 octets[40]; u64 aligned; } octets_of_c334 = { { 8,0,0,0,0,0,0,0,8,0,0,0,0,0,0,0,9,0,0,0,0,0,0,0,7,0,0,0,0,0,0,0,8,0,0,0,0,0,0,0 } };
+static const union { u8 octets[9]; u64 aligned; } octets_of_c334 = { { 1,0,0,0,0,0,1,1,1 } };
 #define c335 (octets_of_c335.octets)
-static const union { u8 octets[40]; u64 aligned; } octets_of_c335 = { { 19,0,0,0,0,0,0,0,22,0,0,0,0,0,0,0,15,0,0,0,0,0,0,0,14,0,0,0,0,0,0,0,23,0,0,0,0,0,0,0 } };
+static const union { u8 octets[9]; u64 aligned; } octets_of_c335 = { { 6,0,0,0,0,0,3,4,5 } };
 #if IS_LITTLE_ENDIAN
-static const struct form_of_c336 { slot slot0; slot slot8; slot slot16; slot slot24; slot slot32; } octets_of_c336;
+static const struct form_of_c336 { slot slot0; slot slot8; slot slot16; slot slot24; slot slot32; slot slot40; slot slot48; slot slot56; slot slot64; } octets_of_c336;
 #define c336 ((const u8 *)&octets_of_c336)
 #else
-static union form_of_c336 { u8 octets[40]; u64 aligned; } octets_of_c336;
+static union form_of_c336 { u8 octets[72]; u64 aligned; } octets_of_c336;
 #define c336 (octets_of_c336.octets)
 #endif
-#if IS_LITTLE_ENDIAN
-static const struct form_of_c337 { slot slot0; slot slot8; slot slot16; slot slot24; slot slot32; slot slot40; slot slot48; slot slot56; slot slot64; } octets_of_c337;
-#define c337 ((const u8 *)&octets_of_c337)
-#else
-static union form_of_c337 { u8 octets[72]; u64 aligned; } octets_of_c337;
 #define c337 (octets_of_c337.octets)
-#endif
+static const union { u8 octets[72]; u64 aligned; } octets_of_c337 = { { 12,0,0,0,0,0,0,0,6,0,0,0,0,0,0,0,8,0,0,0,0,0,0,0,9,0,0,0,0,0,0,0,10,0,0,0,0,0,0,0,6,0,0,0,0,0,0,0,7,0,0,0,0,0,0,0,12,0,0,0,0,0,0,0,5,0,0,0,0,0,0,0 } };
 #define c338 (octets_of_c338.octets)
-static const union { u8 octets[72]; u64 aligned; } octets_of_c338 = { { 2,0,0,0,0,0,0,0,2,0,0,0,0,0,0,0,2,0,0,0,0,0,0,0,1,0,0,0,0,0,0,0,8,0,0,0,0,0,0,0,11,0,0,0,0,0,0,0,2,0,0,0,0,0,0,0,4,0,0,0,0,0,0,0,21,0,0,0,0,0,0,0 } };
-#define c339 (octets_of_c339.octets)
-static const union { u8 octets[20]; u64 aligned; } octets_of_c339 = { { 0,0,0,0,1,0,0,0,2,0,0,0,3,0,0,0,3,0,0,0 } };
-#define c340 (octets_of_c340.octets)
-static const union { u8 octets[72]; u64 aligned; } octets_of_c340 = { { 13,0,0,0,0,0,0,0,0,0,0,0,0,0,0,0,0,0,0,0,0,0,0,0,16,0,0,0,0,0,0,0,10,0,0,0,0,0,0,0,12,0,0,0,0,0,0,0,11,0,0,0,0,0,0,0,11,0,0,0,0,0,0,0,13,0,0,0,0,0,0,0 } };
+static const union { u8 octets[56]; u64 aligned; } octets_of_c338 = { { 1,0,0,0,0,0,0,0,0,0,0,0,0,0,0,0,0,0,0,0,0,0,0,0,1,0,0,0,0,0,0,0,1,0,0,0,0,0,0,0,1,0,0,0,0,0,0,0,1,0,0,0,0,0,0,0 } };
 #if IS_LITTLE_ENDIAN
-static const struct form_of_c341 { slot slot0; u8 octets8[16]; slot slot24; slot slot32; slot slot40; slot slot48; slot slot56; slot slot64; } octets_of_c341;
+static const struct form_of_c339 { slot slot0; u8 octets8[16]; slot slot24; slot slot32; slot slot40; slot slot48; } octets_of_c339;
+#define c339 ((const u8 *)&octets_of_c339)
+#else
+static union form_of_c339 { u8 octets[56]; u64 aligned; } octets_of_c339;
+#define c339 (octets_of_c339.octets)
+#endif
+#define c340 (octets_of_c340.octets)
+static const union { u8 octets[56]; u64 aligned; } octets_of_c340 = { { 12,0,0,0,0,0,0,0,0,0,0,0,0,0,0,0,0,0,0,0,0,0,0,0,3,0,0,0,0,0,0,0,3,0,0,0,0,0,0,0,10,0,0,0,0,0,0,0,7,0,0,0,0,0,0,0 } };
+#if IS_LITTLE_ENDIAN
+static const struct form_of_c341 { slot slot0; slot slot8; slot slot16; slot slot24; slot slot32; } octets_of_c341;
 #define c341 ((const u8 *)&octets_of_c341)
 #else
-static union form_of_c341 { u8 octets[72]; u64 aligned; } octets_of_c341;
+static union form_of_c341 { u8 octets[40]; u64 aligned; } octets_of_c341;
 #define c341 (octets_of_c341.octets)
 #endif
-#if IS_LITTLE_ENDIAN
-static const struct form_of_c342 { slot slot0; slot slot8; slot slot16; slot slot24; slot slot32; } octets_of_c342;
-#define c342 ((const u8 *)&octets_of_c342)
-#else
-static union form_of_c342 { u8 octets[40]; u64 aligned; } octets_of_c342;
 #define c342 (octets_of_c342.octets)
-#endif
+static const union { u8 octets[40]; u64 aligned; } octets_of_c342 = { { 8,0,0,0,0,0,0,0,8,0,0,0,0,0,0,0,9,0,0,0,0,0,0,0,7,0,0,0,0,0,0,0,8,0,0,0,0,0,0,0 } };
 #define c343 (octets_of_c343.octets)
-static const union { u8 octets[24]; u64 aligned; } octets_of_c343 = { { 9,0,0,0,0,0,0,0,5,0,0,0,0,0,0,0,9,0,0,0,0,0,0,0 } };
+static const union { u8 octets[40]; u64 aligned; } octets_of_c343 = { { 19,0,0,0,0,0,0,0,22,0,0,0,0,0,0,0,15,0,0,0,0,0,0,0,14,0,0,0,0,0,0,0,23,0,0,0,0,0,0,0 } };
 #if IS_LITTLE_ENDIAN
-static const struct form_of_c344 { slot slot0; slot slot8; slot slot16; } octets_of_c344;
+static const struct form_of_c344 { slot slot0; slot slot8; slot slot16; slot slot24; slot slot32; } octets_of_c344;
 #define c344 ((const u8 *)&octets_of_c344)
 #else
-static union form_of_c344 { u8 octets[24]; u64 aligned; } octets_of_c344;
+static union form_of_c344 { u8 octets[40]; u64 aligned; } octets_of_c344;
 #define c344 (octets_of_c344.octets)
 #endif
+#if IS_LITTLE_ENDIAN
+static const struct form_of_c345 { slot slot0; slot slot8; slot slot16; slot slot24; slot slot32; slot slot40; slot slot48; slot slot56; slot slot64; } octets_of_c345;
+#define c345 ((const u8 *)&octets_of_c345)
+#else
+static union form_of_c345 { u8 octets[72]; u64 aligned; } octets_of_c345;
 #define c345 (octets_of_c345.octets)
-static const union { u8 octets[80]; u64 aligned; } octets_of_c345 = { { 17,0,0,0,0,0,0,0,4,0,0,0,0,0,0,0,23,0,0,0,0,0,0,0,20,0,0,0,0,0,0,0,15,0,0,0,0,0,0,0,14,0,0,0,0,0,0,0,23,0,0,0,0,0,0,0,16,0,0,0,0,0,0,0,18,0,0,0,0,0,0,0,13,0,0,0,0,0,0,0 } };
-#if IS_LITTLE_ENDIAN
-static const struct form_of_c346 { slot slot0; slot slot8; slot slot16; slot slot24; slot slot32; slot slot40; slot slot48; slot slot56; slot slot64; slot slot72; } octets_of_c346;
-#define c346 ((const u8 *)&octets_of_c346)
-#else
-static union form_of_c346 { u8 octets[80]; u64 aligned; } octets_of_c346;
+#endif
 #define c346 (octets_of_c346.octets)
-#endif
+static const union { u8 octets[72]; u64 aligned; } octets_of_c346 = { { 2,0,0,0,0,0,0,0,2,0,0,0,0,0,0,0,2,0,0,0,0,0,0,0,1,0,0,0,0,0,0,0,8,0,0,0,0,0,0,0,11,0,0,0,0,0,0,0,2,0,0,0,0,0,0,0,4,0,0,0,0,0,0,0,21,0,0,0,0,0,0,0 } };
 #define c347 (octets_of_c347.octets)
-static const union { u8 octets[40]; u64 aligned; } octets_of_c347 = { { 1,0,0,0,15,32,0,0,18,32,0,0,19,32,0,0,21,32,0,0,0,192,0,0,1,192,0,0,2,192,0,0,4,192,0,0,5,192,0,0 } };
+static const union { u8 octets[20]; u64 aligned; } octets_of_c347 = { { 0,0,0,0,1,0,0,0,2,0,0,0,3,0,0,0,3,0,0,0 } };
 #define c348 (octets_of_c348.octets)
-static const union { u8 octets[24]; u64 aligned; } octets_of_c348 = { { 38,0,0,0,39,0,0,0,40,0,0,0,41,0,0,0,42,0,0,0,35,0,0,0 } };
+static const union { u8 octets[72]; u64 aligned; } octets_of_c348 = { { 13,0,0,0,0,0,0,0,0,0,0,0,0,0,0,0,0,0,0,0,0,0,0,0,16,0,0,0,0,0,0,0,10,0,0,0,0,0,0,0,12,0,0,0,0,0,0,0,11,0,0,0,0,0,0,0,11,0,0,0,0,0,0,0,13,0,0,0,0,0,0,0 } };
+#if IS_LITTLE_ENDIAN
+static const struct form_of_c349 { slot slot0; u8 octets8[16]; slot slot24; slot slot32; slot slot40; slot slot48; slot slot56; slot slot64; } octets_of_c349;
+#define c349 ((const u8 *)&octets_of_c349)
+#else
+static union form_of_c349 { u8 octets[72]; u64 aligned; } octets_of_c349;
 #define c349 (octets_of_c349.octets)
-static const union { u8 octets[12]; u64 aligned; } octets_of_c349 = { { 51,0,0,0,52,0,0,0,35,0,0,0 } };
+#endif
+#if IS_LITTLE_ENDIAN
+static const struct form_of_c350 { slot slot0; slot slot8; slot slot16; slot slot24; slot slot32; } octets_of_c350;
+#define c350 ((const u8 *)&octets_of_c350)
+#else
+static union form_of_c350 { u8 octets[40]; u64 aligned; } octets_of_c350;
 #define c350 (octets_of_c350.octets)
-static const union { u8 octets[24]; u64 aligned; } octets_of_c350 = { { 104,0,0,0,105,0,0,0,106,0,0,0,107,0,0,0,110,0,0,0,35,0,0,0 } };
+#endif
 #define c351 (octets_of_c351.octets)
-static const union { u8 octets[14]; u64 aligned; } octets_of_c351 = { { 1,0,2,0,3,0,4,0,5,0,6,0,254,255 } };
+static const union { u8 octets[72]; u64 aligned; } octets_of_c351 = { { 255,0,0,0,0,0,0,0,0,16,0,0,0,0,0,0,0,0,0,0,0,0,0,0,0,0,0,0,0,0,0,0,0,0,0,0,0,0,0,0,0,16,0,0,0,0,0,0,0,0,0,0,0,0,0,0,0,0,0,0,0,0,0,0,0,16,0,0,0,0,0,0 } };
+#define c352 (octets_of_c352.octets)
+static const union { u8 octets[24]; u64 aligned; } octets_of_c352 = { { 9,0,0,0,0,0,0,0,5,0,0,0,0,0,0,0,9,0,0,0,0,0,0,0 } };
 #if IS_LITTLE_ENDIAN
-static const struct form_of_c136 octets_of_c136 = { SLOT(c136 + 8), { 0 } };
+static const struct form_of_c353 { slot slot0; slot slot8; slot slot16; } octets_of_c353;
+#define c353 ((const u8 *)&octets_of_c353)
 #else
-static union form_of_c136 octets_of_c136 = { { 0 } };
+static union form_of_c353 { u8 octets[24]; u64 aligned; } octets_of_c353;
+#define c353 (octets_of_c353.octets)
+#endif
+#define c354 (octets_of_c354.octets)
+static const union { u8 octets[80]; u64 aligned; } octets_of_c354 = { { 17,0,0,0,0,0,0,0,4,0,0,0,0,0,0,0,23,0,0,0,0,0,0,0,20,0,0,0,0,0,0,0,15,0,0,0,0,0,0,0,14,0,0,0,0,0,0,0,23,0,0,0,0,0,0,0,16,0,0,0,0,0,0,0,18,0,0,0,0,0,0,0,13,0,0,0,0,0,0,0 } };
+#if IS_LITTLE_ENDIAN
+static const struct form_of_c355 { slot slot0; slot slot8; slot slot16; slot slot24; slot slot32; slot slot40; slot slot48; slot slot56; slot slot64; slot slot72; } octets_of_c355;
+#define c355 ((const u8 *)&octets_of_c355)
+#else
+static union form_of_c355 { u8 octets[80]; u64 aligned; } octets_of_c355;
+#define c355 (octets_of_c355.octets)
+#endif
+#define c356 (octets_of_c356.octets)
+static const union { u8 octets[40]; u64 aligned; } octets_of_c356 = { { 1,0,0,0,15,32,0,0,18,32,0,0,19,32,0,0,21,32,0,0,0,192,0,0,1,192,0,0,2,192,0,0,4,192,0,0,5,192,0,0 } };
+#define c357 (octets_of_c357.octets)
+static const union { u8 octets[24]; u64 aligned; } octets_of_c357 = { { 38,0,0,0,39,0,0,0,40,0,0,0,41,0,0,0,42,0,0,0,35,0,0,0 } };
+#define c358 (octets_of_c358.octets)
+static const union { u8 octets[12]; u64 aligned; } octets_of_c358 = { { 51,0,0,0,52,0,0,0,35,0,0,0 } };
+#define c359 (octets_of_c359.octets)
+static const union { u8 octets[24]; u64 aligned; } octets_of_c359 = { { 104,0,0,0,105,0,0,0,106,0,0,0,107,0,0,0,110,0,0,0,35,0,0,0 } };
+#define c360 (octets_of_c360.octets)
+static const union { u8 octets[14]; u64 aligned; } octets_of_c360 = { { 1,0,2,0,3,0,4,0,5,0,6,0,254,255 } };
+#if IS_LITTLE_ENDIAN
+static const struct form_of_c143 octets_of_c143 = { SLOT(c143 + 8), { 0 } };
+#else
+static union form_of_c143 octets_of_c143 = { { 0 } };
 #endif
 #if IS_LITTLE_ENDIAN
-static const struct form_of_c324 octets_of_c324 = { SLOT(c324 + 8), { 112,116,112,109,0,0,0,0 } };
+static const struct form_of_c332 octets_of_c332 = { SLOT(c332 + 8), { 112,116,112,109,0,0,0,0 } };
 #else
-static union form_of_c324 octets_of_c324 = { { 0,0,0,0,0,0,0,0,112,116,112,109,0,0,0,0 } };
+static union form_of_c332 octets_of_c332 = { { 0,0,0,0,0,0,0,0,112,116,112,109,0,0,0,0 } };
 #endif
 #if IS_LITTLE_ENDIAN
-static const struct form_of_c328 octets_of_c328 = { SLOT(c170 + 0), SLOT(c171 + 0), SLOT(c172 + 0), SLOT(c173 + 0), SLOT(c174 + 0), SLOT(c175 + 0), SLOT(c176 + 0), SLOT(c177 + 0), SLOT(c178 + 0) };
-#else
-static union form_of_c328 octets_of_c328 = { { 0 } };
-#endif
-#if IS_LITTLE_ENDIAN
-static const struct form_of_c331 octets_of_c331 = { SLOT(c183 + 0), { 0 }, SLOT(c181 + 0), SLOT(c182 + 0), SLOT(c179 + 0), SLOT(c180 + 0) };
-#else
-static union form_of_c331 octets_of_c331 = { { 0 } };
-#endif
-#if IS_LITTLE_ENDIAN
-static const struct form_of_c333 octets_of_c333 = { SLOT(c193 + 0), SLOT(c194 + 0), SLOT(c195 + 0), SLOT(c196 + 0), SLOT(c197 + 0) };
-#else
-static union form_of_c333 octets_of_c333 = { { 0 } };
-#endif
-#if IS_LITTLE_ENDIAN
-static const struct form_of_c336 octets_of_c336 = { SLOT(c127 + 0), SLOT(c129 + 0), SLOT(c131 + 0), SLOT(c133 + 0), SLOT(c135 + 0) };
+static const struct form_of_c336 octets_of_c336 = { SLOT(c177 + 0), SLOT(c178 + 0), SLOT(c179 + 0), SLOT(c180 + 0), SLOT(c181 + 0), SLOT(c182 + 0), SLOT(c183 + 0), SLOT(c184 + 0), SLOT(c185 + 0) };
 #else
 static union form_of_c336 octets_of_c336 = { { 0 } };
 #endif
 #if IS_LITTLE_ENDIAN
-static const struct form_of_c337 octets_of_c337 = { SLOT(c294 + 0), SLOT(c295 + 0), SLOT(c296 + 0), SLOT(c297 + 0), SLOT(c298 + 0), SLOT(c299 + 0), SLOT(c300 + 0), SLOT(c301 + 0), SLOT(c302 + 0) };
+static const struct form_of_c339 octets_of_c339 = { SLOT(c190 + 0), { 0 }, SLOT(c188 + 0), SLOT(c189 + 0), SLOT(c186 + 0), SLOT(c187 + 0) };
 #else
-static union form_of_c337 octets_of_c337 = { { 0 } };
+static union form_of_c339 octets_of_c339 = { { 0 } };
 #endif
 #if IS_LITTLE_ENDIAN
-static const struct form_of_c341 octets_of_c341 = { SLOT(c146 + 0), { 0 }, SLOT(c140 + 0), SLOT(c141 + 0), SLOT(c142 + 0), SLOT(c143 + 0), SLOT(c144 + 0), SLOT(c145 + 0) };
+static const struct form_of_c341 octets_of_c341 = { SLOT(c200 + 0), SLOT(c201 + 0), SLOT(c202 + 0), SLOT(c203 + 0), SLOT(c204 + 0) };
 #else
 static union form_of_c341 octets_of_c341 = { { 0 } };
 #endif
 #if IS_LITTLE_ENDIAN
-static const struct form_of_c342 octets_of_c342 = { SLOT(c157 + 0), SLOT(c158 + 0), SLOT(c159 + 0), SLOT(c160 + 0), SLOT(c161 + 0) };
-#else
-static union form_of_c342 octets_of_c342 = { { 0 } };
-#endif
-#if IS_LITTLE_ENDIAN
-static const struct form_of_c344 octets_of_c344 = { SLOT(c167 + 0), SLOT(c168 + 0), SLOT(c169 + 0) };
+static const struct form_of_c344 octets_of_c344 = { SLOT(c134 + 0), SLOT(c136 + 0), SLOT(c138 + 0), SLOT(c140 + 0), SLOT(c142 + 0) };
 #else
 static union form_of_c344 octets_of_c344 = { { 0 } };
 #endif
 #if IS_LITTLE_ENDIAN
-static const struct form_of_c346 octets_of_c346 = { SLOT(c313 + 0), SLOT(c314 + 0), SLOT(c315 + 0), SLOT(c316 + 0), SLOT(c317 + 0), SLOT(c318 + 0), SLOT(c319 + 0), SLOT(c320 + 0), SLOT(c321 + 0), SLOT(c322 + 0) };
+static const struct form_of_c345 octets_of_c345 = { SLOT(c301 + 0), SLOT(c302 + 0), SLOT(c303 + 0), SLOT(c304 + 0), SLOT(c305 + 0), SLOT(c306 + 0), SLOT(c307 + 0), SLOT(c308 + 0), SLOT(c309 + 0) };
 #else
-static union form_of_c346 octets_of_c346 = { { 0 } };
+static union form_of_c345 octets_of_c345 = { { 0 } };
+#endif
+#if IS_LITTLE_ENDIAN
+static const struct form_of_c349 octets_of_c349 = { SLOT(c153 + 0), { 0 }, SLOT(c147 + 0), SLOT(c148 + 0), SLOT(c149 + 0), SLOT(c150 + 0), SLOT(c151 + 0), SLOT(c152 + 0) };
+#else
+static union form_of_c349 octets_of_c349 = { { 0 } };
+#endif
+#if IS_LITTLE_ENDIAN
+static const struct form_of_c350 octets_of_c350 = { SLOT(c164 + 0), SLOT(c165 + 0), SLOT(c166 + 0), SLOT(c167 + 0), SLOT(c168 + 0) };
+#else
+static union form_of_c350 octets_of_c350 = { { 0 } };
+#endif
+#if IS_LITTLE_ENDIAN
+static const struct form_of_c353 octets_of_c353 = { SLOT(c174 + 0), SLOT(c175 + 0), SLOT(c176 + 0) };
+#else
+static union form_of_c353 octets_of_c353 = { { 0 } };
+#endif
+#if IS_LITTLE_ENDIAN
+static const struct form_of_c355 octets_of_c355 = { SLOT(c321 + 0), SLOT(c322 + 0), SLOT(c323 + 0), SLOT(c324 + 0), SLOT(c325 + 0), SLOT(c326 + 0), SLOT(c327 + 0), SLOT(c328 + 0), SLOT(c329 + 0), SLOT(c330 + 0) };
+#else
+static union form_of_c355 octets_of_c355 = { { 0 } };
 #endif
 
 #if !IS_LITTLE_ENDIAN
 void portable_fill(void);
 void portable_fill(void) {
-    store_address(ADDRESS(c136) + 0u, ADDRESS(c136) + 8u);
-    store_address(ADDRESS(c324) + 0u, ADDRESS(c324) + 8u);
-    store_address(ADDRESS(c328) + 0u, ADDRESS(c170) + 0u);
-    store_address(ADDRESS(c328) + 8u, ADDRESS(c171) + 0u);
-    store_address(ADDRESS(c328) + 16u, ADDRESS(c172) + 0u);
-    store_address(ADDRESS(c328) + 24u, ADDRESS(c173) + 0u);
-    store_address(ADDRESS(c328) + 32u, ADDRESS(c174) + 0u);
-    store_address(ADDRESS(c328) + 40u, ADDRESS(c175) + 0u);
-    store_address(ADDRESS(c328) + 48u, ADDRESS(c176) + 0u);
-    store_address(ADDRESS(c328) + 56u, ADDRESS(c177) + 0u);
-    store_address(ADDRESS(c328) + 64u, ADDRESS(c178) + 0u);
-    store_address(ADDRESS(c331) + 0u, ADDRESS(c183) + 0u);
-    store_address(ADDRESS(c331) + 24u, ADDRESS(c181) + 0u);
-    store_address(ADDRESS(c331) + 32u, ADDRESS(c182) + 0u);
-    store_address(ADDRESS(c331) + 40u, ADDRESS(c179) + 0u);
-    store_address(ADDRESS(c331) + 48u, ADDRESS(c180) + 0u);
-    store_address(ADDRESS(c333) + 0u, ADDRESS(c193) + 0u);
-    store_address(ADDRESS(c333) + 8u, ADDRESS(c194) + 0u);
-    store_address(ADDRESS(c333) + 16u, ADDRESS(c195) + 0u);
-    store_address(ADDRESS(c333) + 24u, ADDRESS(c196) + 0u);
-    store_address(ADDRESS(c333) + 32u, ADDRESS(c197) + 0u);
-    store_address(ADDRESS(c336) + 0u, ADDRESS(c127) + 0u);
-    store_address(ADDRESS(c336) + 8u, ADDRESS(c129) + 0u);
-    store_address(ADDRESS(c336) + 16u, ADDRESS(c131) + 0u);
-    store_address(ADDRESS(c336) + 24u, ADDRESS(c133) + 0u);
-    store_address(ADDRESS(c336) + 32u, ADDRESS(c135) + 0u);
-    store_address(ADDRESS(c337) + 0u, ADDRESS(c294) + 0u);
-    store_address(ADDRESS(c337) + 8u, ADDRESS(c295) + 0u);
-    store_address(ADDRESS(c337) + 16u, ADDRESS(c296) + 0u);
-    store_address(ADDRESS(c337) + 24u, ADDRESS(c297) + 0u);
-    store_address(ADDRESS(c337) + 32u, ADDRESS(c298) + 0u);
-    store_address(ADDRESS(c337) + 40u, ADDRESS(c299) + 0u);
-    store_address(ADDRESS(c337) + 48u, ADDRESS(c300) + 0u);
-    store_address(ADDRESS(c337) + 56u, ADDRESS(c301) + 0u);
-    store_address(ADDRESS(c337) + 64u, ADDRESS(c302) + 0u);
-    store_address(ADDRESS(c341) + 0u, ADDRESS(c146) + 0u);
-    store_address(ADDRESS(c341) + 24u, ADDRESS(c140) + 0u);
-    store_address(ADDRESS(c341) + 32u, ADDRESS(c141) + 0u);
-    store_address(ADDRESS(c341) + 40u, ADDRESS(c142) + 0u);
-    store_address(ADDRESS(c341) + 48u, ADDRESS(c143) + 0u);
-    store_address(ADDRESS(c341) + 56u, ADDRESS(c144) + 0u);
-    store_address(ADDRESS(c341) + 64u, ADDRESS(c145) + 0u);
-    store_address(ADDRESS(c342) + 0u, ADDRESS(c157) + 0u);
-    store_address(ADDRESS(c342) + 8u, ADDRESS(c158) + 0u);
-    store_address(ADDRESS(c342) + 16u, ADDRESS(c159) + 0u);
-    store_address(ADDRESS(c342) + 24u, ADDRESS(c160) + 0u);
-    store_address(ADDRESS(c342) + 32u, ADDRESS(c161) + 0u);
-    store_address(ADDRESS(c344) + 0u, ADDRESS(c167) + 0u);
-    store_address(ADDRESS(c344) + 8u, ADDRESS(c168) + 0u);
-    store_address(ADDRESS(c344) + 16u, ADDRESS(c169) + 0u);
-    store_address(ADDRESS(c346) + 0u, ADDRESS(c313) + 0u);
-    store_address(ADDRESS(c346) + 8u, ADDRESS(c314) + 0u);
-    store_address(ADDRESS(c346) + 16u, ADDRESS(c315) + 0u);
-    store_address(ADDRESS(c346) + 24u, ADDRESS(c316) + 0u);
-    store_address(ADDRESS(c346) + 32u, ADDRESS(c317) + 0u);
-    store_address(ADDRESS(c346) + 40u, ADDRESS(c318) + 0u);
-    store_address(ADDRESS(c346) + 48u, ADDRESS(c319) + 0u);
-    store_address(ADDRESS(c346) + 56u, ADDRESS(c320) + 0u);
-    store_address(ADDRESS(c346) + 64u, ADDRESS(c321) + 0u);
-    store_address(ADDRESS(c346) + 72u, ADDRESS(c322) + 0u);
+    store_address(ADDRESS(c143) + 0u, ADDRESS(c143) + 8u);
+    store_address(ADDRESS(c332) + 0u, ADDRESS(c332) + 8u);
+    store_address(ADDRESS(c336) + 0u, ADDRESS(c177) + 0u);
+    store_address(ADDRESS(c336) + 8u, ADDRESS(c178) + 0u);
+    store_address(ADDRESS(c336) + 16u, ADDRESS(c179) + 0u);
+    store_address(ADDRESS(c336) + 24u, ADDRESS(c180) + 0u);
+    store_address(ADDRESS(c336) + 32u, ADDRESS(c181) + 0u);
+    store_address(ADDRESS(c336) + 40u, ADDRESS(c182) + 0u);
+    store_address(ADDRESS(c336) + 48u, ADDRESS(c183) + 0u);
+    store_address(ADDRESS(c336) + 56u, ADDRESS(c184) + 0u);
+    store_address(ADDRESS(c336) + 64u, ADDRESS(c185) + 0u);
+    store_address(ADDRESS(c339) + 0u, ADDRESS(c190) + 0u);
+    store_address(ADDRESS(c339) + 24u, ADDRESS(c188) + 0u);
+    store_address(ADDRESS(c339) + 32u, ADDRESS(c189) + 0u);
+    store_address(ADDRESS(c339) + 40u, ADDRESS(c186) + 0u);
+    store_address(ADDRESS(c339) + 48u, ADDRESS(c187) + 0u);
+    store_address(ADDRESS(c341) + 0u, ADDRESS(c200) + 0u);
+    store_address(ADDRESS(c341) + 8u, ADDRESS(c201) + 0u);
+    store_address(ADDRESS(c341) + 16u, ADDRESS(c202) + 0u);
+    store_address(ADDRESS(c341) + 24u, ADDRESS(c203) + 0u);
+    store_address(ADDRESS(c341) + 32u, ADDRESS(c204) + 0u);
+    store_address(ADDRESS(c344) + 0u, ADDRESS(c134) + 0u);
+    store_address(ADDRESS(c344) + 8u, ADDRESS(c136) + 0u);
+    store_address(ADDRESS(c344) + 16u, ADDRESS(c138) + 0u);
+    store_address(ADDRESS(c344) + 24u, ADDRESS(c140) + 0u);
+    store_address(ADDRESS(c344) + 32u, ADDRESS(c142) + 0u);
+    store_address(ADDRESS(c345) + 0u, ADDRESS(c301) + 0u);
+    store_address(ADDRESS(c345) + 8u, ADDRESS(c302) + 0u);
+    store_address(ADDRESS(c345) + 16u, ADDRESS(c303) + 0u);
+    store_address(ADDRESS(c345) + 24u, ADDRESS(c304) + 0u);
+    store_address(ADDRESS(c345) + 32u, ADDRESS(c305) + 0u);
+    store_address(ADDRESS(c345) + 40u, ADDRESS(c306) + 0u);
+    store_address(ADDRESS(c345) + 48u, ADDRESS(c307) + 0u);
+    store_address(ADDRESS(c345) + 56u, ADDRESS(c308) + 0u);
+    store_address(ADDRESS(c345) + 64u, ADDRESS(c309) + 0u);
+    store_address(ADDRESS(c349) + 0u, ADDRESS(c153) + 0u);
+    store_address(ADDRESS(c349) + 24u, ADDRESS(c147) + 0u);
+    store_address(ADDRESS(c349) + 32u, ADDRESS(c148) + 0u);
+    store_address(ADDRESS(c349) + 40u, ADDRESS(c149) + 0u);
+    store_address(ADDRESS(c349) + 48u, ADDRESS(c150) + 0u);
+    store_address(ADDRESS(c349) + 56u, ADDRESS(c151) + 0u);
+    store_address(ADDRESS(c349) + 64u, ADDRESS(c152) + 0u);
+    store_address(ADDRESS(c350) + 0u, ADDRESS(c164) + 0u);
+    store_address(ADDRESS(c350) + 8u, ADDRESS(c165) + 0u);
+    store_address(ADDRESS(c350) + 16u, ADDRESS(c166) + 0u);
+    store_address(ADDRESS(c350) + 24u, ADDRESS(c167) + 0u);
+    store_address(ADDRESS(c350) + 32u, ADDRESS(c168) + 0u);
+    store_address(ADDRESS(c353) + 0u, ADDRESS(c174) + 0u);
+    store_address(ADDRESS(c353) + 8u, ADDRESS(c175) + 0u);
+    store_address(ADDRESS(c353) + 16u, ADDRESS(c176) + 0u);
+    store_address(ADDRESS(c355) + 0u, ADDRESS(c321) + 0u);
+    store_address(ADDRESS(c355) + 8u, ADDRESS(c322) + 0u);
+    store_address(ADDRESS(c355) + 16u, ADDRESS(c323) + 0u);
+    store_address(ADDRESS(c355) + 24u, ADDRESS(c324) + 0u);
+    store_address(ADDRESS(c355) + 32u, ADDRESS(c325) + 0u);
+    store_address(ADDRESS(c355) + 40u, ADDRESS(c326) + 0u);
+    store_address(ADDRESS(c355) + 48u, ADDRESS(c327) + 0u);
+    store_address(ADDRESS(c355) + 56u, ADDRESS(c328) + 0u);
+    store_address(ADDRESS(c355) + 64u, ADDRESS(c329) + 0u);
+    store_address(ADDRESS(c355) + 72u, ADDRESS(c330) + 0u);
 }
 #endif
 
@@ -909,108 +927,116 @@ static void f12(u8 a0, address a1);
 static void f13(address a0);
 static void f14(address a0);
 static void f15(address a0, address a1, address a2, u64 a3, u16 a4, u8 a5);
-static u8 f16(address a0, address a1);
-static u8 f17(address a0, address a1);
-static struct s1 f18(address a0, address a1, u16 a2, address a3);
-static u8 f19(u16 a0, address a1, u16 a2, address a3);
-static u8 f20(address a0, u64 a1);
-static u8 f21(address a0, u64 a1, address a2, u64 a3);
-static void f22(address a0, u16 a1, address a2, u8 a3, address a4);
-static void f23(address a0, address a1, u8 a2, address a3);
-static void f24(address a0, u16 a1, u16 a2, u16 a3, address a4);
-static u8 f25(address a0, address a1, u64 a2);
-static void f26(address a0, address a1, u64 a2);
-static u64 f27(address a0, u64 a1, u64 a2);
-static void f28(address a0, u8 a1, u8 a2, address a3);
-static void f29(address a0, u64 a1);
-static void f30(address a0, u8 a1, address a2);
-static void f31(address a0, u8 a1, address a2);
-static void f32(address a0, address a1, address a2, u8 a3, u8 a4, address a5);
-static void f33(address a0, address a1, u64 a2);
-static void f34(address a0, address a1, u64 a2);
-static void f35(address a0, address a1, u64 a2);
-static void f36(address a0, address a1, address a2);
-static void f37(address a0, u64 a1, address a2, address a3, u16 a4, address a5);
-static void f38(address a0, u8 a1, u16 a2, address a3, address a4, address a5);
-static void f39(address a0, u16 a1, address a2, address a3);
-static void f40(address a0, address a1, address a2);
-static struct s2 f41(address a0, address a1, u64 a2);
-static void f42(address a0, address a1);
-static void f43(address a0, address a1);
-static void f44(address a0, address a1);
-static void f45(address a0, address a1, u16 a2, address a3, u64 a4);
-static void f46(address a0, address a1, u16 a2, address a3, u64 a4, address a5, u8 a6, address a7, u64 a8);
+static void f16(address a0, address a1, u16 a2, address a3, u64 a4);
+static void f17(address a0, address a1);
+static void f18(address a0, address a1);
+static void f19(address a0, u64 a1);
+static void f20(address a0, address a1, u16 a2, address a3, u64 a4, address a5, u8 a6, address a7, u64 a8);
+static void f21(address a0, address a1, u16 a2, address a3, u64 a4, address a5, u64 a6);
+static u8 f22(address a0, address a1);
+static u8 f23(address a0, address a1);
+static struct s1 f24(address a0, address a1, u16 a2, address a3);
+static u8 f25(u16 a0, address a1, u16 a2, address a3);
+static u8 f26(address a0, u64 a1);
+static u8 f27(address a0, u64 a1, address a2, u64 a3);
+static void f28(address a0, u16 a1, address a2, u8 a3, address a4);
+static void f29(address a0, address a1, u8 a2, address a3);
+static void f30(address a0, u16 a1, u16 a2, u16 a3, address a4);
+static u8 f31(address a0, address a1, u64 a2);
+static void f32(address a0, address a1, u64 a2);
+static u64 f33(address a0, u64 a1, u64 a2);
+static void f34(address a0, u8 a1, u8 a2, address a3);
+static void f35(address a0, u8 a1, address a2);
+static void f36(address a0, u8 a1, address a2);
+static void f37(address a0, address a1, address a2, u8 a3, u8 a4, address a5);
+static void f38(address a0, address a1, u64 a2);
+static void f39(address a0, address a1, u64 a2);
+static void f40(address a0, address a1, u64 a2);
+static void f41(address a0, address a1, address a2);
+static void f42(address a0, u64 a1, address a2, address a3, u16 a4, address a5);
+static void f43(address a0, u8 a1, u16 a2, address a3, address a4, address a5);
+static void f44(address a0, u16 a1, address a2, address a3);
+static void f45(address a0, address a1, address a2);
+static void f46(address a0, address a1);
 static void f47(address a0, address a1, u16 a2, address a3, u64 a4, address a5, u64 a6);
-static void f48(address a0, address a1);
-static void f49(address a0, address a1, u16 a2, address a3, u64 a4, address a5, u64 a6);
-static struct s1 f50(address a0, address a1, u16 a2, address a3);
-static void f51(address a0, address a1, address a2, u64 a3);
-static void f52(address a0, address a1, u8 a2, address a3);
-static void f53(address a0, u8 a1, address a2);
-static void f54(address a0, address a1, address a2, u8 a3, u8 a4, address a5);
-static void f55(address a0, address a1, u8 a2);
-static void f56(address a0, address a1, address a2);
-static void f57(address a0, u8 a1, address a2);
-static void f58(address a0, address a1, address a2, u8 a3, address a4);
-static void f59(address a0, address a1, u16 a2, address a3, address a4);
-static u8 f60(address a0);
-static u8 f61(address a0, address a1);
-static void f62(address a0, address a1, address a2, u64 a3);
-static void f63(address a0, address a1, address a2);
-static u32 f64(address a0, u16 a1, address a2, u64 a3, address a4, u8 a5, address a6, u64 a7, address a8);
-static void f65(address a0, address a1, u64 a2);
-static u64 f66(u8 a0, u8 a1);
-static void f67(address a0, address a1, address a2, u64 a3, address a4);
-static struct s3 f68(u16 a0, address a1, u64 a2);
-static struct s1 f69(address a0, u64 a1);
-static void f70(address a0, u8 a1, u8 a2);
-static struct s1 f71(address a0, u64 a1);
-static struct s4 f72(address a0);
-static struct s4 f73(u8 a0, u8 a1);
-static u64 f74(u16 a0, address a1);
-static void f75(u8 a0, u8 a1, address a2);
-static struct s4 f76(u16 a0, address a1, u64 a2);
-static struct s4 f77(address a0, u64 a1);
-static void f78(address a0, u8 a1, u8 a2, address a3, u64 a4);
-static void f79(u64 a0, address a1);
-static struct s3 f80(address a0, u64 a1);
+static struct s1 f48(address a0, address a1, u16 a2, address a3);
+static void f49(address a0, address a1, address a2, u64 a3);
+static void f50(address a0, address a1, u8 a2, address a3);
+static void f51(address a0, u8 a1, address a2);
+static void f52(address a0, address a1, address a2, u8 a3, u8 a4, address a5);
+static void f53(address a0, address a1, u8 a2);
+static void f54(address a0, address a1, address a2);
+static void f55(address a0, u8 a1, address a2);
+static void f56(address a0, address a1, address a2, u8 a3, address a4);
+static void f57(address a0, address a1, u16 a2, address a3, address a4);
+static u8 f58(address a0);
+static u8 f59(address a0, address a1);
+static void f60(address a0, address a1, address a2, u64 a3);
+static void f61(address a0, address a1, u64 a2);
+static void f62(address a0, address a1, address a2);
+static struct s2 f63(address a0, address a1, u64 a2);
+static struct s2 f64(address a0, address a1, u64 a2);
+static void f65(address a0, address a1);
+static u32 f66(address a0, u16 a1, address a2, u64 a3, address a4, u8 a5, address a6, u64 a7, address a8);
+static u64 f67(u8 a0, u8 a1);
+static void f68(address a0, address a1, address a2, u64 a3, address a4);
+static struct s3 f69(u16 a0, address a1, u64 a2);
+static struct s1 f70(address a0, u64 a1);
+static void f71(address a0, u8 a1, u8 a2);
+static struct s1 f72(address a0, u64 a1);
+static struct s4 f73(address a0);
+static struct s4 f74(u8 a0, u8 a1);
+static u64 f75(u16 a0, address a1);
+static void f76(u8 a0, u8 a1, address a2);
+static struct s4 f77(u16 a0, address a1, u64 a2);
+static struct s4 f78(address a0, u64 a1);
+static void f79(address a0, u8 a1, u8 a2, address a3, u64 a4);
+static void f80(u64 a0, address a1);
 static struct s3 f81(address a0, u64 a1);
-static void f82(address a0, address a1, u64 a2);
-static u32 f83(address a0, u64 a1, address a2, u64 a3);
-static void f84(address a0, address a1, u64 a2);
-static u8 f85(address a0, u64 a1, address a2);
-static u8 f86(u64 a0, address a1, u64 a2, address a3, u64 a4, u64 a5);
-static void f87(address a0, u32 a1, address a2, u64 a3);
-static u64 f88(address a0, u64 a1, u64 a2);
+static struct s3 f82(address a0, u64 a1);
+static void f83(address a0, address a1, u64 a2);
+static u32 f84(address a0, u64 a1, address a2, u64 a3);
+static void f85(address a0, address a1, u64 a2);
+static u8 f86(address a0, address a1);
+static u8 f87(address a0, address a1);
+static u8 f88(address a0);
 static u8 f89(address a0);
-static u8 f90(address a0);
-static u8 f91(address a0, u64 a1);
-static void f92(address a0, address a1, u64 a2, address a3, address a4, u16 a5, u16 a6);
-static void f93(address a0, address a1, u64 a2, address a3, u64 a4, address a5, u64 a6);
-static void f94(address a0);
-static void f95(address a0, address a1, address a2, u64 a3);
-static void f96(address a0, address a1, address a2, u64 a3);
-static struct s1 f97(address a0, u64 a1);
-static void f98(address a0, address a1, u64 a2);
-static u8 f99(address a0, u64 a1, address a2);
-static u8 f100(address a0);
-static void f101(address a0, address a1, u64 a2, address a3);
-static u8 f102(address a0, u64 a1, address a2);
-static u8 f103(address a0, address a1, u64 a2);
+static void f90(address a0, address a1);
+static u8 f91(address a0, u64 a1, address a2);
+static void f92(address a0, address a1, u64 a2);
+static u8 f93(u64 a0, address a1, u64 a2, address a3, u64 a4, u64 a5);
+static void f94(address a0, u32 a1, address a2, u64 a3);
+static u64 f95(address a0, u64 a1, u64 a2);
+static u8 f96(address a0);
+static u8 f97(address a0);
+static u8 f98(address a0, u64 a1);
+static void f99(address a0, address a1, u64 a2, address a3, address a4, u16 a5, u16 a6);
+static struct s1 f100(address a0, u64 a1);
+static void f101(address a0, address a1, u64 a2);
+static void f102(address a0, address a1, u64 a2, address a3, u64 a4, address a5, u64 a6);
+static void f103(address a0);
 static void f104(address a0, address a1, address a2, u64 a3);
-static u8 f105(address a0, address a1, address a2, u64 a3);
-static u8 f106(address a0, address a1, u64 a2);
-static void f107(address a0, address a1, address a2, u64 a3);
-static struct s5 f108(address a0, address a1);
+static void f105(address a0, address a1, address a2, u64 a3);
+static u8 f106(address a0, u64 a1, address a2);
+static u8 f107(address a0);
+static void f108(address a0, address a1, u64 a2, address a3);
 static u8 f109(address a0, u64 a1, address a2);
-static u8 f110(address a0, address a1);
-static u8 f111(address a0);
-static u32 f112(address a0, address a1);
-static void f113(address a0, address a1);
-static void f114(address a0, address a1, address a2, address a3, u64 a4);
-static void f115(address a0, address a1, address a2, address a3);
-static void f116(address a0, address a1, u8 a2, u16 a3, u16 a4, address a5, u64 a6);
-static void f117(address a0, address a1, u16 a2, address a3, u64 a4);
+static u8 f110(address a0, address a1, u64 a2);
+static void f111(address a0, address a1, address a2, u64 a3);
+static u8 f112(address a0, address a1, address a2, u64 a3);
+static u8 f113(address a0, address a1, u64 a2);
+static void f114(address a0, address a1, address a2, u64 a3);
+static struct s5 f115(address a0, address a1);
+static u8 f116(address a0, u64 a1, address a2);
+static u8 f117(address a0, address a1);
+static u8 f118(address a0);
+static u32 f119(address a0, address a1);
+static void f120(address a0, address a1);
+static void f121(address a0, address a1, address a2, address a3, u64 a4);
+static void f122(address a0, address a1, address a2, address a3);
+static void f123(address a0, address a1, u8 a2, u16 a3, u16 a4, address a5, u64 a6);
+static void f124(address a0, address a1, u16 a2, address a3, u64 a4);
+static void f125(address a0, address a1, u16 a2, address a3, u64 a4);
 u64 portable_ptpm_answer_name(u32 a0, address a1, u64 a2);
 u32 portable_ptpm_asker_ask(address a0, u64 a1, u64 a2, u8 a3, u16 a4, u16 a5, address a6, u64 a7, u8 a8, address a9);
 u32 portable_ptpm_asker_earlier(address a0, u8 a1, address a2);
@@ -1025,6 +1051,7 @@ u32 portable_ptpm_asker_settle(address a0, u64 a1, u64 a2, u8 a3, address a4);
 void portable_ptpm_asker_stop(address a0);
 u32 portable_ptpm_asker_unsent(address a0, address a1);
 u32 portable_ptpm_asker_wake(address a0, u64 a1, address a2);
+u32 portable_ptpm_clock_decide(address a0, address a1, address a2, u64 a3, address a4);
 void portable_ptpm_clock_defaults(address a0);
 u64 portable_ptpm_clock_free(address a0);
 u32 portable_ptpm_clock_handle(address a0, u16 a1, address a2, u64 a3, address a4, u64 a5, address a6);
@@ -1048,6 +1075,11 @@ u32 portable_ptpm_id_parse(address a0, u64 a1);
 u8 portable_ptpm_identity_parse(address a0, u64 a1, address a2);
 u32 portable_ptpm_image_seal_in(address a0, u64 a1, u64 a2, u64 a3, address a4);
 u32 portable_ptpm_image_unseal(address a0, u64 a1, address a2, address a3);
+u32 portable_ptpm_journal_add(address a0, address a1, address a2, u64 a3, address a4, u64 a5, address a6, u64 a7, address a8);
+u32 portable_ptpm_journal_mark(address a0, u16 a1);
+u32 portable_ptpm_journal_next(address a0, address a1, u64 a2, address a3, address a4);
+u16 portable_ptpm_journal_next_step(address a0);
+void portable_ptpm_journal_stop(address a0);
 void portable_ptpm_limit_range(address a0, u32 a1, u32 a2);
 u16 portable_ptpm_limits_say(address a0, u64 a1, address a2);
 u32 portable_ptpm_member_kind(u16 a0, address a1, u64 a2, u64 a3);
@@ -1088,14 +1120,18 @@ u32 portable_ptpm_asker_restore(address a0, address a1, address a2, address a3, 
 u32 portable_ptpm_asker_start(address a0, address a1, address a2);
 u32 portable_ptpm_clock_restore(address a0, address a1, u64 a2, address a3, u64 a4, address a5, u64 a6, address a7);
 u32 portable_ptpm_clock_start(address a0, address a1, address a2, u64 a3, address a4, u64 a5);
+u32 portable_ptpm_journal_start(address a0);
 u32 portable_ptpm_session_restore(address a0, address a1, address a2, u64 a3);
 u32 portable_ptpm_session_start(address a0, address a1);
 u32 portable_ptpm_survey_start(address a0, address a1);
 u32 portable_ptpm_survey_start_at(address a0, address a1, address a2);
 u32 portable_ptpm_clock_observe(address a0, address a1, address a2, u64 a3, address a4);
 u32 portable_ptpm_clock_read(address a0, u16 a1, u16 a2, address a3, u64 a4, address a5);
+u64 portable_ptpm_clock_transit(address a0, u16 a1, address a2, u64 a3, address a4, u64 a5);
 u32 portable_ptpm_clock_set(address a0, u8 a1, u16 a2, u16 a3, address a4, u64 a5, address a6, address a7);
 u32 portable_ptpm_clock_ask(address a0, u16 a1, address a2, u64 a3, address a4);
+u32 portable_ptpm_clock_under_way(address a0, address a1);
+u32 portable_ptpm_clock_undertake(address a0, u16 a1, address a2, u64 a3, address a4);
 
 static struct s1 f0(address a0, address a1) {
     address v2, v6, v7, v11, v13, v15, v16, v17, v26, v31, v32, v38, v40, v41, v42, v43;
@@ -1782,16 +1818,16 @@ L2:;
 L3:;
     v12 = a0 + v2 * 1u;
     v13 = (u64)v12;
-    v14 = (u64)((u64)v13 - (u64)(ADDRESS(c136) + 8u * 1u));
+    v14 = (u64)((u64)v13 - (u64)(ADDRESS(c143) + 8u * 1u));
     v15 = v14 < v9;
     if (v15) { v3 = 0u; goto L5; }
     else { goto L4; }
 L4:;
-    memory_cpy(v12, (ADDRESS(c136) + 8u * 1u), v9);
+    memory_cpy(v12, (ADDRESS(c143) + 8u * 1u), v9);
     goto L6;
 L5:;
     v16 = v12 + v3 * 1u;
-    v17 = (ADDRESS(c136) + 8u * 1u) + v3 * 1u;
+    v17 = (ADDRESS(c143) + 8u * 1u) + v3 * 1u;
     v18 = load8(v17);
     store8(v16, v18);
     v19 = (u64)((u64)v3 + (u64)1u);
@@ -1818,7 +1854,7 @@ static void f5(address a0, u64 a1, u16 a2, u16 a3, address a4, u64 a5) {
     v12 = (u64)((u64)v11 + (u64)v10);
     v13 = (u16)(v12);
     v14 = (u64)a0;
-    v15 = (u64)((u64)v14 - (u64)ADDRESS(c137));
+    v15 = (u64)((u64)v14 - (u64)ADDRESS(c144));
     v16 = v15 < 12u;
     if (v16) { goto L1; }
     else { goto L2; }
@@ -1830,7 +1866,7 @@ L1:;
     store32(v18, 0u);
     goto L3;
 L2:;
-    memory_cpy(a0, ADDRESS(c137), 12u);
+    memory_cpy(a0, ADDRESS(c144), 12u);
     goto L3;
 L3:;
     v19 = (u16)((u32)v13 + (u32)8u);
@@ -2289,7 +2325,7 @@ L23:;
 L24:;
     v134 = v22 == 4u;
     if (v134) { v9 = 0u; v10 = 0u; v11 = 0u; v12 = 1u; goto L31; }
-    else { v5 = v13; v6 = ADDRESS(c138); v7 = 0u; goto L29; }
+    else { v5 = v13; v6 = ADDRESS(c145); v7 = 0u; goto L29; }
 L25:;
     v135 = v18 + 54u * 1u;
     v136 = (u64)((u64)v20 + (u64)UINT64_C(18446744073709551562));
@@ -2725,7 +2761,7 @@ L3:;
 L4:;
     memory_cpy(a1, v14, v58);
     v61 = a1 + v58 * 1u;
-    v8 = v61; v9 = 0u; v10 = ADDRESS(c138); goto L6;
+    v8 = v61; v9 = 0u; v10 = ADDRESS(c145); goto L6;
 L5:;
     v62 = load_address(v47);
     v63 = load64(v48);
@@ -2966,7 +3002,7 @@ L10:;
 L11:;
     v130 = v9 + v127 * 1u;
     v131 = (u64)v130;
-    v132 = (u64)((u64)v131 - (u64)ADDRESS(c139));
+    v132 = (u64)((u64)v131 - (u64)ADDRESS(c146));
     v133 = v132 < 8u;
     if (v133) { goto L12; }
     else { goto L13; }
@@ -3024,17 +3060,18 @@ L19:;
 
 static void f12(u8 a0, address a1) {
     address v2, v3, v4, v7, v9, v10, v11, v13, v15, v17, v18, v19, v28, v29, v30, v31;
-    address v33, v34, v35;
-    u64 v5, v12, v20, v32, v36;
-    u8 v6, v8, v14, v16, v21, v22, v23, v24, v25, v26, v27, v37, v38;
+    address v33, v34, v35, v39, v40, v41, v43, v44, v45;
+    u64 v5, v12, v20, v32, v36, v42, v46;
+    u8 v6, v8, v14, v16, v21, v22, v23, v24, v25, v26, v27, v37, v38, v47, v48;
     switch (a0) {
-    case 0u: goto L15;
+    case 0u: goto L19;
     case 1u: goto L1;
     case 2u: goto L3;
     case 3u: goto L8;
     case 4u: goto L9;
     case 5u: goto L13;
-    default: goto L14;
+    case 6u: goto L14;
+    default: goto L18;
     }
 L1:;
     v2 = a1 + 448u * 1u;
@@ -3043,11 +3080,11 @@ L1:;
     v5 = load64(v4);
     portable_rattle_dealloc(a1);
     v6 = v5 == 0u;
-    if (v6) { goto L15; }
+    if (v6) { goto L19; }
     else { goto L2; }
 L2:;
     portable_rattle_dealloc(v3);
-    goto L15;
+    goto L19;
 L3:;
     v7 = a1 + 48u * 1u;
     v8 = load8(v7);
@@ -3074,20 +3111,20 @@ L4:;
     goto L5;
 L5:;
     v24 = v14 == 0u;
-    if (v24) { goto L15; }
+    if (v24) { goto L19; }
     else { goto L6; }
 L6:;
     v25 = v16 != 0u;
     v26 = v20 == 0u;
     v27 = v25 ? 1u : v26;
-    if (v27) { goto L15; }
+    if (v27) { goto L19; }
     else { goto L7; }
 L7:;
     portable_rattle_dealloc(v18);
-    goto L15;
+    goto L19;
 L8:;
     f13(a1);
-    goto L15;
+    goto L19;
 L9:;
     v28 = load_address(a1);
     v29 = a1 + 888u * 1u;
@@ -3108,17 +3145,40 @@ L10:;
     goto L11;
 L11:;
     v38 = v32 == 0u;
-    if (v38) { goto L15; }
+    if (v38) { goto L19; }
     else { goto L12; }
 L12:;
     portable_rattle_dealloc(v30);
-    goto L15;
+    goto L19;
 L13:;
     f14(a1);
-    goto L15;
+    goto L19;
 L14:;
-    UNREACHABLE;
+    v39 = a1 + 32u * 1u;
+    v40 = load_address(v39);
+    v41 = a1 + 48u * 1u;
+    v42 = load64(v41);
+    v43 = a1 + 56u * 1u;
+    v44 = load_address(v43);
+    v45 = a1 + 72u * 1u;
+    v46 = load64(v45);
+    portable_rattle_dealloc(a1);
+    v47 = v42 == 0u;
+    if (v47) { goto L16; }
+    else { goto L15; }
 L15:;
+    portable_rattle_dealloc(v40);
+    goto L16;
+L16:;
+    v48 = v46 == 0u;
+    if (v48) { goto L19; }
+    else { goto L17; }
+L17:;
+    portable_rattle_dealloc(v44);
+    goto L19;
+L18:;
+    UNREACHABLE;
+L19:;
     return;
 }
 
@@ -3443,7 +3503,1711 @@ L9:;
     goto L2;
 }
 
-static u8 f16(address a0, address a1) {
+static void f16(address a0, address a1, u16 a2, address a3, u64 a4) {
+    u64 v5, v6, v7, v10, v16, v26, v27, v28, v30, v36, v37, v40, v41, v42, v61, v63;
+    u64 v66, v69;
+    u8 v8, v11, v12, v14, v18, v24, v31, v35, v43, v44, v51, v54, v58, v59, v60, v65;
+    u8 v68, v71;
+    address v9, v13, v15, v19, v20, v21, v22, v23, v25, v29, v32, v33, v34, v38, v39, v45;
+    address v46, v47, v48, v49, v50, v55, v62, v64, v67, v70, v72, v73, v74, v75, v76, v77;
+    u16 v17, v52, v53, v56, v57;
+    u64 block0[5];
+    v13 = ADDRESS(block0);
+    v14 = a2 == 0u;
+    if (v14) { goto L3; }
+    else { goto L1; }
+L1:;
+    v15 = a1 + 432u * 1u;
+    v16 = load64(v15);
+    v17 = (u16)(v16);
+    v18 = a2 > v17;
+    if (v18) { goto L3; }
+    else { goto L4; }
+L2:;
+    return;
+L3:;
+    store8(a0, 1u);
+    v19 = a0 + 1u * 1u;
+    store8(v19, 0u);
+    v20 = a0 + 2u * 1u;
+    store8(v20, 0u);
+    v21 = a0 + 8u * 1u;
+    store8(v21, 0u);
+    v22 = a0 + 9u * 1u;
+    store8(v22, 0u);
+    v23 = a0 + 16u * 1u;
+    memory_set(v23, 0u, 16u);
+    goto L2;
+L4:;
+    v24 = a4 > 14u;
+    if (v24) { goto L10; }
+    else { goto L5; }
+L5:;
+    memory_set(v13, 0u, 40u);
+    v25 = a1 + 440u * 1u;
+    f17(v13, v25);
+    v26 = (u64)((u64)v16 << (1u & 63u));
+    v27 = (u64)((u64)v26 & (u64)UINT64_C(131070));
+    v28 = (u64)((u64)v27 + (u64)UINT64_C(18446744073709551615));
+    v29 = v13 + 32u * 1u;
+    v30 = load64(v29);
+    v31 = v30 == 0u;
+    if (v31) { v7 = v28; goto L8; }
+    else { goto L6; }
+L6:;
+    v32 = v13 + 16u * 1u;
+    v33 = load_address(v13);
+    v5 = v28; v6 = 0u; goto L7;
+L7:;
+    v34 = v32 + v6 * 1u;
+    v35 = load8(v34);
+    v36 = (u64)v35;
+    v37 = (u64)((u64)v36 * (u64)2136u);
+    v38 = v33 + v37 * 1u;
+    v39 = v38 + 1440u * 1u;
+    v40 = load64(v39);
+    v41 = v5 > v40 ? v5 : v40;
+    v42 = (u64)((u64)v6 + (u64)1u);
+    v43 = v42 == v30;
+    if (v43) { v7 = v41; goto L8; }
+    else { v5 = v41; v6 = v42; goto L7; }
+L8:;
+    v44 = v7 > a4;
+    if (v44) { goto L9; }
+    else { goto L10; }
+L9:;
+    store8(a0, 1u);
+    v45 = a0 + 1u * 1u;
+    store8(v45, 0u);
+    v46 = a0 + 2u * 1u;
+    store8(v46, 1u);
+    v47 = a0 + 8u * 1u;
+    store8(v47, 0u);
+    v48 = a0 + 9u * 1u;
+    store8(v48, 0u);
+    v49 = a0 + 16u * 1u;
+    memory_set(v49, 0u, 16u);
+    goto L2;
+L10:;
+    v50 = a3 + 4u * 1u;
+    v51 = load8(v50);
+    switch (v51) {
+    case 0u: v8 = v51; v9 = 0u; v10 = 0u; v11 = v51; v12 = v51; goto L16;
+    case 1u: goto L11;
+    case 2u: goto L12;
+    default: goto L14;
+    }
+L11:;
+    v52 = load16(a3);
+    v53 = (u16)((u32)v52 + (u32)2u);
+    v54 = v53 < 9u;
+    if (v54) { goto L15; }
+    else { v8 = 1u; v9 = 0u; v10 = 0u; v11 = 0u; v12 = 0u; goto L16; }
+L12:;
+    v55 = a3 + 2u * 1u;
+    v56 = load16(v55);
+    v57 = (u16)((u32)v56 & (u32)1u);
+    v58 = v57 == 0u;
+    v59 = v56 < 1419u;
+    v60 = (u8)(((u32)v59 & (u32)v58) & UINT64_C(1));
+    if (v60) { goto L13; }
+    else { goto L14; }
+L13:;
+    v61 = (u64)v56;
+    v62 = a3 + 5u * 1u;
+    v8 = 0u; v9 = v62; v10 = v61; v11 = 2u; v12 = 0u; goto L16;
+L14:;
+    v8 = 1u; v9 = 0u; v10 = 0u; v11 = 0u; v12 = 0u; goto L16;
+L15:;
+    v63 = (u64)v53;
+    v64 = ADDRESS(c333) + v63 * 1u;
+    v65 = load8(v64);
+    v66 = (u64)v53;
+    v67 = ADDRESS(c334) + v66 * 1u;
+    v68 = load8(v67);
+    v69 = (u64)v53;
+    v70 = ADDRESS(c335) + v69 * 1u;
+    v71 = load8(v70);
+    v8 = v65; v9 = 0u; v10 = 0u; v11 = v68; v12 = v71; goto L16;
+L16:;
+    store8(a0, v8);
+    v72 = a0 + 1u * 1u;
+    store8(v72, v8);
+    v73 = a0 + 2u * 1u;
+    store8(v73, 0u);
+    v74 = a0 + 8u * 1u;
+    store8(v74, v11);
+    v75 = a0 + 9u * 1u;
+    store8(v75, v12);
+    v76 = a0 + 16u * 1u;
+    store_address(v76, v9);
+    v77 = a0 + 24u * 1u;
+    store64(v77, v10);
+    goto L2;
+}
+
+static void f17(address a0, address a1) {
+    u64 v2, v3, v5, v6, v12, v15, v16, v21, v25, v26, v28, v29, v32, v33, v40, v42;
+    u64 v46, v48, v52;
+    address v4, v7, v8, v9, v10, v11, v14, v17, v18, v22, v24, v30, v31, v37, v41, v45;
+    address v47, v50, v54, v56, v57;
+    u8 v13, v19, v20, v23, v27, v34, v35, v39, v43, v44, v49, v51, v53, v55;
+    u16 v36, v38;
+    u64 block0[3];
+    u64 block1[3];
+    v7 = ADDRESS(block0);
+    v8 = ADDRESS(block1);
+    v9 = a1 + 8u * 1u;
+    v10 = load_address(v9);
+    v11 = a1 + 16u * 1u;
+    v12 = load64(v11);
+    memory_set(v7, 0u, 24u);
+    v13 = v12 == 0u;
+    if (v13) { goto L13; }
+    else { goto L1; }
+L1:;
+    v14 = v7 + 16u * 1u;
+    v2 = v12; goto L2;
+L2:;
+    v15 = (u64)((u64)v2 + (u64)UINT64_C(18446744073709551615));
+    v16 = (u64)((u64)v15 * (u64)2136u);
+    v17 = v10 + v16 * 1u;
+    v18 = v17 + 2129u * 1u;
+    v19 = load8(v18);
+    v20 = (u8)((v19) & UINT64_C(1));
+    if (v20) { goto L3; }
+    else { goto L12; }
+L3:;
+    v21 = load64(v14);
+    v22 = v17 + 2112u * 1u;
+    v23 = v21 == 0u;
+    if (v23) { v6 = 0u; goto L9; }
+    else { goto L4; }
+L4:;
+    v24 = v17 + 2104u * 1u;
+    v25 = load64(v24);
+    v26 = swap64(v25);
+    v3 = v21; v4 = v7; v5 = 0u; goto L5;
+L5:;
+    v27 = load8(v4);
+    v28 = (u64)v27;
+    v29 = (u64)((u64)v28 * (u64)2136u);
+    v30 = v10 + v29 * 1u;
+    v31 = v30 + 2104u * 1u;
+    v32 = load64(v31);
+    v33 = swap64(v32);
+    v34 = v26 < v33;
+    if (v34) { v6 = v5; goto L9; }
+    else { goto L6; }
+L6:;
+    v35 = v25 == v32;
+    if (v35) { goto L7; }
+    else { goto L8; }
+L7:;
+    v36 = load16(v22);
+    v37 = v30 + 2112u * 1u;
+    v38 = load16(v37);
+    v39 = v36 < v38;
+    if (v39) { v6 = v5; goto L9; }
+    else { goto L8; }
+L8:;
+    v40 = (u64)((u64)v3 + (u64)UINT64_C(18446744073709551615));
+    v41 = v4 + 1u * 1u;
+    v42 = (u64)((u64)v5 + (u64)1u);
+    v43 = v40 == 0u;
+    if (v43) { v6 = v21; goto L9; }
+    else { v3 = v40; v4 = v41; v5 = v42; goto L5; }
+L9:;
+    v44 = (u8)(v15);
+    v45 = v7 + v21 * 1u;
+    store8(v45, v44);
+    v46 = (u64)((u64)v21 + (u64)1u);
+    store64(v14, v46);
+    v47 = v7 + v6 * 1u;
+    v48 = (u64)((u64)v46 - (u64)v6);
+    switch (v48) {
+    case 1u: goto L12;
+    case 2u: goto L10;
+    default: goto L11;
+    }
+L10:;
+    v49 = load8(v47);
+    v50 = v47 + 1u * 1u;
+    v51 = load8(v50);
+    store8(v47, v51);
+    store8(v45, v49);
+    goto L12;
+L11:;
+    v52 = (u64)((u64)v48 + (u64)UINT64_C(18446744073709551615));
+    v53 = load8(v45);
+    v54 = v47 + 1u * 1u;
+    memory_move(v54, v47, v52);
+    store8(v47, v53);
+    goto L12;
+L12:;
+    v55 = v15 == 0u;
+    if (v55) { goto L13; }
+    else { v2 = v15; goto L2; }
+L13:;
+    memory_cpy(v8, v7, 24u);
+    store_address(a0, v10);
+    v56 = a0 + 8u * 1u;
+    store64(v56, v12);
+    v57 = a0 + 16u * 1u;
+    memory_cpy(v57, v8, 24u);
+    return;
+}
+
+static void f18(address a0, address a1) {
+    u64 v2, v3, v4, v68, v70, v71, v72, v73, v75, v78, v82, v86, v87, v88, v89, v91;
+    u64 v94, v95, v98;
+    address v5, v6, v7, v8, v9, v10, v11, v12, v13, v14, v15, v16, v17, v18, v19, v20;
+    address v21, v22, v23, v24, v25, v26, v27, v28, v29, v30, v31, v32, v33, v34, v35, v36;
+    address v37, v38, v39, v40, v41, v42, v43, v44, v45, v46, v47, v48, v49, v50, v51, v52;
+    address v53, v54, v55, v56, v57, v58, v59, v60, v61, v62, v63, v64, v65, v66, v67, v76;
+    address v77, v80, v81, v84, v90, v92, v93, v100, v101, v102, v103, v152, v153, v154, v155, v156;
+    address v157, v158, v159, v160, v161, v162, v163, v164, v165, v166, v167, v168, v169, v170, v171, v172;
+    address v173, v174, v175, v176, v177, v178, v179, v180, v181, v182, v183, v184, v185, v186, v187, v188;
+    address v189, v190, v191, v192, v193, v194, v195, v196, v197, v198, v199, v200, v201, v202, v203, v204;
+    address v205, v206, v207, v208, v209, v210, v211, v212;
+    u8 v69, v74, v79, v83, v85, v96, v97, v99, v104, v105, v106, v107, v108, v110, v111, v112;
+    u8 v113, v114, v116, v117, v118, v119, v120, v122, v123, v124, v125, v126, v128, v129, v130, v131;
+    u8 v132, v134, v135, v136, v137, v138, v140, v141, v142, v143, v144, v146, v147, v148, v149, v150;
+    u32 v109, v115, v121, v127, v133, v139, v145, v151;
+    u64 block0[18];
+    u64 block1[30];
+    u64 block2[25];
+    u64 block3[18];
+    v6 = ADDRESS(block0);
+    v7 = ADDRESS(block1);
+    v8 = ADDRESS(block2);
+    v9 = ADDRESS(block3);
+    memory_set(v7, 0u, 240u);
+    memory_set(v9, 0u, 144u);
+    store8(v8, 5u);
+    v10 = v8 + 1u * 1u;
+    memory_set(v10, 0u, 15u);
+    v11 = v8 + 16u * 1u;
+    store8(v11, 1u);
+    v12 = v8 + 17u * 1u;
+    store8(v12, 3u);
+    v13 = v8 + 18u * 1u;
+    store8(v13, 0u);
+    v14 = v8 + 19u * 1u;
+    store8(v14, 1u);
+    v15 = v8 + 20u * 1u;
+    store32(v15, 0u);
+    v16 = v8 + 24u * 1u;
+    store8(v16, 5u);
+    v17 = v8 + 25u * 1u;
+    memory_set(v17, 0u, 15u);
+    v18 = v8 + 40u * 1u;
+    store8(v18, 1u);
+    v19 = v8 + 41u * 1u;
+    store8(v19, 3u);
+    v20 = v8 + 42u * 1u;
+    store8(v20, 0u);
+    v21 = v8 + 43u * 1u;
+    store8(v21, 1u);
+    v22 = v8 + 44u * 1u;
+    store32(v22, 0u);
+    v23 = v8 + 48u * 1u;
+    store8(v23, 5u);
+    v24 = v8 + 49u * 1u;
+    memory_set(v24, 0u, 15u);
+    v25 = v8 + 64u * 1u;
+    store8(v25, 1u);
+    v26 = v8 + 65u * 1u;
+    store8(v26, 3u);
+    v27 = v8 + 66u * 1u;
+    store8(v27, 0u);
+    v28 = v8 + 67u * 1u;
+    store8(v28, 1u);
+    v29 = v8 + 68u * 1u;
+    store32(v29, 0u);
+    v30 = v8 + 72u * 1u;
+    store8(v30, 5u);
+    v31 = v8 + 73u * 1u;
+    memory_set(v31, 0u, 15u);
+    v32 = v8 + 88u * 1u;
+    store8(v32, 1u);
+    v33 = v8 + 89u * 1u;
+    store8(v33, 3u);
+    v34 = v8 + 90u * 1u;
+    store8(v34, 0u);
+    v35 = v8 + 91u * 1u;
+    store8(v35, 1u);
+    v36 = v8 + 92u * 1u;
+    store32(v36, 0u);
+    v37 = v8 + 96u * 1u;
+    store8(v37, 5u);
+    v38 = v8 + 97u * 1u;
+    memory_set(v38, 0u, 15u);
+    v39 = v8 + 112u * 1u;
+    store8(v39, 1u);
+    v40 = v8 + 113u * 1u;
+    store8(v40, 3u);
+    v41 = v8 + 114u * 1u;
+    store8(v41, 0u);
+    v42 = v8 + 115u * 1u;
+    store8(v42, 1u);
+    v43 = v8 + 116u * 1u;
+    store32(v43, 0u);
+    v44 = v8 + 120u * 1u;
+    store8(v44, 5u);
+    v45 = v8 + 121u * 1u;
+    memory_set(v45, 0u, 15u);
+    v46 = v8 + 136u * 1u;
+    store8(v46, 1u);
+    v47 = v8 + 137u * 1u;
+    store8(v47, 3u);
+    v48 = v8 + 138u * 1u;
+    store8(v48, 0u);
+    v49 = v8 + 139u * 1u;
+    store8(v49, 1u);
+    v50 = v8 + 140u * 1u;
+    store32(v50, 0u);
+    v51 = v8 + 144u * 1u;
+    store8(v51, 5u);
+    v52 = v8 + 145u * 1u;
+    memory_set(v52, 0u, 15u);
+    v53 = v8 + 160u * 1u;
+    store8(v53, 1u);
+    v54 = v8 + 161u * 1u;
+    store8(v54, 3u);
+    v55 = v8 + 162u * 1u;
+    store8(v55, 0u);
+    v56 = v8 + 163u * 1u;
+    store8(v56, 1u);
+    v57 = v8 + 164u * 1u;
+    store32(v57, 0u);
+    v58 = v8 + 168u * 1u;
+    store8(v58, 5u);
+    v59 = v8 + 169u * 1u;
+    memory_set(v59, 0u, 15u);
+    v60 = v8 + 184u * 1u;
+    store8(v60, 1u);
+    v61 = v8 + 185u * 1u;
+    store8(v61, 3u);
+    v62 = v8 + 186u * 1u;
+    store8(v62, 0u);
+    v63 = v8 + 187u * 1u;
+    store8(v63, 1u);
+    v64 = v8 + 188u * 1u;
+    store32(v64, 0u);
+    v65 = v8 + 192u * 1u;
+    store64(v65, 0u);
+    v66 = a1 + 240u * 1u;
+    v67 = a1 + 432u * 1u;
+    v68 = load64(v67);
+    v69 = v68 > 8u;
+    if (v69) { v3 = 0u; goto L4; }
+    else { goto L1; }
+L1:;
+    v70 = (u64)((u64)v68 * (u64)24u);
+    v71 = (u64)v8;
+    v72 = (u64)v66;
+    v73 = (u64)((u64)v71 - (u64)v72);
+    v74 = v73 < v70;
+    if (v74) { v2 = 0u; goto L3; }
+    else { goto L2; }
+L2:;
+    memory_cpy(v8, v66, v70);
+    v3 = v68; goto L4;
+L3:;
+    v75 = (u64)((u64)v2 * (u64)24u);
+    v76 = v8 + v75 * 1u;
+    v77 = v66 + v75 * 1u;
+    memory_cpy(v76, v77, 24u);
+    v78 = (u64)((u64)v2 + (u64)1u);
+    v79 = v78 == v68;
+    if (v79) { v3 = v68; goto L4; }
+    else { v2 = v78; goto L3; }
+L4:;
+    v80 = a1 + 24u * 1u;
+    v81 = a1 + 160u * 1u;
+    v82 = load64(v81);
+    v83 = v82 == 0u;
+    if (v83) { v4 = 0u; v5 = v80; goto L6; }
+    else { goto L5; }
+L5:;
+    v84 = a1 + 25u * 1u;
+    v85 = load8(v80);
+    v86 = (u64)v85;
+    v4 = v86; v5 = v84; goto L6;
+L6:;
+    memory_set(v6, 0u, 144u);
+    v87 = (u64)((u64)v4 + (u64)1u);
+    v88 = (u64)((u64)v87 & (u64)1u);
+    v89 = (u64)((u64)v88 + (u64)v87);
+    v90 = v6 + 136u * 1u;
+    f19(v6, v89);
+    v91 = load64(v90);
+    v92 = v6 + 1u * 1u;
+    v93 = v92 + v4 * 1u;
+    v94 = (u64)((u64)v4 ^ (u64)UINT64_C(18446744073709551615));
+    v95 = (u64)((u64)v91 + (u64)v94);
+    v96 = (u8)(v4);
+    store8(v6, v96);
+    memory_cpy(v92, v5, v4);
+    v97 = v95 == 0u;
+    if (v97) { goto L10; }
+    else { goto L7; }
+L7:;
+    v98 = (u64)((u64)v95 + (u64)UINT64_C(18446744073709551615));
+    v99 = v98 == 0u;
+    if (v99) { goto L9; }
+    else { goto L8; }
+L8:;
+    memory_set(v93, 0u, v98);
+    goto L9;
+L9:;
+    v100 = v93 + v98 * 1u;
+    store8(v100, 0u);
+    goto L10;
+L10:;
+    memory_cpy(v9, v6, 144u);
+    v101 = a1 + 168u * 1u;
+    v102 = a1 + 192u * 1u;
+    v103 = a1 + 228u * 1u;
+    v104 = load8(v8);
+    v105 = load8(v11);
+    v106 = load8(v12);
+    v107 = load8(v13);
+    v108 = load8(v14);
+    v109 = load32(v15);
+    v110 = load8(v16);
+    v111 = load8(v18);
+    v112 = load8(v19);
+    v113 = load8(v20);
+    v114 = load8(v21);
+    v115 = load32(v22);
+    v116 = load8(v23);
+    v117 = load8(v25);
+    v118 = load8(v26);
+    v119 = load8(v27);
+    v120 = load8(v28);
+    v121 = load32(v29);
+    v122 = load8(v30);
+    v123 = load8(v32);
+    v124 = load8(v33);
+    v125 = load8(v34);
+    v126 = load8(v35);
+    v127 = load32(v36);
+    v128 = load8(v37);
+    v129 = load8(v39);
+    v130 = load8(v40);
+    v131 = load8(v41);
+    v132 = load8(v42);
+    v133 = load32(v43);
+    v134 = load8(v44);
+    v135 = load8(v46);
+    v136 = load8(v47);
+    v137 = load8(v48);
+    v138 = load8(v49);
+    v139 = load32(v50);
+    v140 = load8(v51);
+    v141 = load8(v53);
+    v142 = load8(v54);
+    v143 = load8(v55);
+    v144 = load8(v56);
+    v145 = load32(v57);
+    v146 = load8(v58);
+    v147 = load8(v60);
+    v148 = load8(v61);
+    v149 = load8(v62);
+    v150 = load8(v63);
+    v151 = load32(v64);
+    memory_cpy(v7, a1, 18u);
+    v152 = v7 + 24u * 1u;
+    memory_cpy(v152, v9, 144u);
+    v153 = v7 + 168u * 1u;
+    memory_cpy(v153, v101, 24u);
+    v154 = v7 + 192u * 1u;
+    memory_cpy(v154, v102, 36u);
+    v155 = v7 + 228u * 1u;
+    memory_cpy(v155, v103, 10u);
+    memory_cpy(a0, v7, 240u);
+    v156 = a0 + 240u * 1u;
+    store8(v156, v104);
+    v157 = a0 + 241u * 1u;
+    memory_cpy(v157, v10, 15u);
+    v158 = a0 + 256u * 1u;
+    store8(v158, v105);
+    v159 = a0 + 257u * 1u;
+    store8(v159, v106);
+    v160 = a0 + 258u * 1u;
+    store8(v160, v107);
+    v161 = a0 + 259u * 1u;
+    store8(v161, v108);
+    v162 = a0 + 260u * 1u;
+    store32(v162, v109);
+    v163 = a0 + 264u * 1u;
+    store8(v163, v110);
+    v164 = a0 + 265u * 1u;
+    memory_cpy(v164, v17, 15u);
+    v165 = a0 + 280u * 1u;
+    store8(v165, v111);
+    v166 = a0 + 281u * 1u;
+    store8(v166, v112);
+    v167 = a0 + 282u * 1u;
+    store8(v167, v113);
+    v168 = a0 + 283u * 1u;
+    store8(v168, v114);
+    v169 = a0 + 284u * 1u;
+    store32(v169, v115);
+    v170 = a0 + 288u * 1u;
+    store8(v170, v116);
+    v171 = a0 + 289u * 1u;
+    memory_cpy(v171, v24, 15u);
+    v172 = a0 + 304u * 1u;
+    store8(v172, v117);
+    v173 = a0 + 305u * 1u;
+    store8(v173, v118);
+    v174 = a0 + 306u * 1u;
+    store8(v174, v119);
+    v175 = a0 + 307u * 1u;
+    store8(v175, v120);
+    v176 = a0 + 308u * 1u;
+    store32(v176, v121);
+    v177 = a0 + 312u * 1u;
+    store8(v177, v122);
+    v178 = a0 + 313u * 1u;
+    memory_cpy(v178, v31, 15u);
+    v179 = a0 + 328u * 1u;
+    store8(v179, v123);
+    v180 = a0 + 329u * 1u;
+    store8(v180, v124);
+    v181 = a0 + 330u * 1u;
+    store8(v181, v125);
+    v182 = a0 + 331u * 1u;
+    store8(v182, v126);
+    v183 = a0 + 332u * 1u;
+    store32(v183, v127);
+    v184 = a0 + 336u * 1u;
+    store8(v184, v128);
+    v185 = a0 + 337u * 1u;
+    memory_cpy(v185, v38, 15u);
+    v186 = a0 + 352u * 1u;
+    store8(v186, v129);
+    v187 = a0 + 353u * 1u;
+    store8(v187, v130);
+    v188 = a0 + 354u * 1u;
+    store8(v188, v131);
+    v189 = a0 + 355u * 1u;
+    store8(v189, v132);
+    v190 = a0 + 356u * 1u;
+    store32(v190, v133);
+    v191 = a0 + 360u * 1u;
+    store8(v191, v134);
+    v192 = a0 + 361u * 1u;
+    memory_cpy(v192, v45, 15u);
+    v193 = a0 + 376u * 1u;
+    store8(v193, v135);
+    v194 = a0 + 377u * 1u;
+    store8(v194, v136);
+    v195 = a0 + 378u * 1u;
+    store8(v195, v137);
+    v196 = a0 + 379u * 1u;
+    store8(v196, v138);
+    v197 = a0 + 380u * 1u;
+    store32(v197, v139);
+    v198 = a0 + 384u * 1u;
+    store8(v198, v140);
+    v199 = a0 + 385u * 1u;
+    memory_cpy(v199, v52, 15u);
+    v200 = a0 + 400u * 1u;
+    store8(v200, v141);
+    v201 = a0 + 401u * 1u;
+    store8(v201, v142);
+    v202 = a0 + 402u * 1u;
+    store8(v202, v143);
+    v203 = a0 + 403u * 1u;
+    store8(v203, v144);
+    v204 = a0 + 404u * 1u;
+    store32(v204, v145);
+    v205 = a0 + 408u * 1u;
+    store8(v205, v146);
+    v206 = a0 + 409u * 1u;
+    memory_cpy(v206, v59, 15u);
+    v207 = a0 + 424u * 1u;
+    store8(v207, v147);
+    v208 = a0 + 425u * 1u;
+    store8(v208, v148);
+    v209 = a0 + 426u * 1u;
+    store8(v209, v149);
+    v210 = a0 + 427u * 1u;
+    store8(v210, v150);
+    v211 = a0 + 428u * 1u;
+    store32(v211, v151);
+    v212 = a0 + 432u * 1u;
+    store64(v212, v3);
+    return;
+}
+
+static void f19(address a0, u64 a1) {
+    u64 v2, v3, v5, v8, v9, v10, v13, v14, v19;
+    address v4, v7, v12, v16, v17;
+    u8 v6, v11, v15, v18, v20;
+    v4 = a0 + 136u * 1u;
+    v5 = load64(v4);
+    v6 = a1 < v5;
+    if (v6) { goto L1; }
+    else { v2 = v5; goto L2; }
+L1:;
+    v7 = a0 + a1 * 1u;
+    v8 = (u64)((u64)v5 - (u64)a1);
+    memory_set(v7, 0u, v8);
+    store64(v4, a1);
+    v2 = a1; goto L2;
+L2:;
+    v9 = (u64)((u64)a1 - (u64)v2);
+    v10 = (u64)((u64)130u - (u64)v2);
+    v11 = v10 < v9;
+    if (v11) { goto L7; }
+    else { goto L3; }
+L3:;
+    v12 = a0 + v2 * 1u;
+    v13 = (u64)v12;
+    v14 = (u64)((u64)v13 - (u64)(ADDRESS(c143) + 8u * 1u));
+    v15 = v14 < v9;
+    if (v15) { v3 = 0u; goto L5; }
+    else { goto L4; }
+L4:;
+    memory_cpy(v12, (ADDRESS(c143) + 8u * 1u), v9);
+    goto L6;
+L5:;
+    v16 = v12 + v3 * 1u;
+    v17 = (ADDRESS(c143) + 8u * 1u) + v3 * 1u;
+    v18 = load8(v17);
+    store8(v16, v18);
+    v19 = (u64)((u64)v3 + (u64)1u);
+    v20 = v19 == v9;
+    if (v20) { goto L6; }
+    else { v3 = v19; goto L5; }
+L6:;
+    store64(v4, a1);
+    goto L7;
+L7:;
+    return;
+}
+
+static void f20(address a0, address a1, u16 a2, address a3, u64 a4, address a5, u8 a6, address a7, u64 a8) {
+    address v9, v33, v34, v35, v36, v37, v38, v39, v40, v41, v42, v43, v44, v45, v46, v47;
+    address v48, v49, v51, v52, v53, v55, v56, v59, v60, v61, v63, v65, v67, v73, v75, v76;
+    address v79, v80, v81, v82, v83, v84, v85, v88, v97, v102, v104, v108, v110, v112, v116, v117;
+    address v119, v122, v125, v127, v129, v131, v133, v135, v137, v147, v148, v149, v150, v151, v152, v154;
+    address v156, v160, v164, v166, v169, v175, v181, v187, v191, v193, v198, v199, v208, v211, v220, v221;
+    address v225, v226, v230, v245, v247, v250, v252, v258, v260, v275, v278, v279, v280, v281, v282, v283;
+    address v284, v285, v286, v287, v288, v289, v290, v291, v292, v293, v298, v299, v309, v310, v312, v315;
+    address v318, v320, v322, v324, v326, v328, v330, v340, v341, v342, v343, v344, v345, v347, v349, v353;
+    address v357, v359, v362, v368, v374, v376, v378, v380, v390, v391, v392, v393, v394, v395, v396, v397;
+    address v398, v399, v400, v403, v405, v407, v408;
+    u8 v10, v11, v12, v13, v22, v24, v25, v28, v29, v30, v31, v50, v57, v58, v62, v66;
+    u8 v68, v87, v89, v90, v91, v92, v93, v94, v95, v96, v98, v100, v101, v103, v106, v107;
+    u8 v109, v111, v114, v115, v118, v120, v121, v126, v128, v130, v132, v153, v158, v159, v161, v162;
+    u8 v163, v165, v167, v168, v171, v172, v173, v174, v178, v179, v180, v182, v183, v184, v185, v190;
+    u8 v194, v197, v203, v206, v209, v212, v213, v224, v227, v229, v231, v232, v235, v236, v237, v238;
+    u8 v246, v248, v249, v251, v253, v259, v261, v297, v300, v302, v307, v308, v311, v313, v314, v319;
+    u8 v321, v323, v325, v346, v351, v352, v354, v355, v356, v358, v360, v361, v364, v365, v366, v367;
+    u8 v371, v372, v373, v375, v377, v379, v381, v402, v404;
+    u64 v14, v15, v16, v17, v18, v20, v21, v23, v26, v27, v32, v54, v64, v74, v77, v78;
+    u64 v86, v99, v105, v113, v123, v124, v134, v136, v138, v155, v157, v170, v176, v188, v189, v192;
+    u64 v200, v201, v202, v204, v205, v207, v210, v218, v222, v223, v228, v233, v234, v239, v240, v274;
+    u64 v294, v295, v296, v301, v306, v316, v317, v327, v329, v331, v348, v350, v363, v369, v401, v406;
+    u16 v19, v69, v70, v71, v72, v139, v140, v141, v142, v143, v144, v145, v146, v177, v186, v195;
+    u16 v196, v214, v215, v216, v217, v219, v241, v242, v243, v244, v254, v255, v256, v257, v262, v263;
+    u16 v264, v265, v266, v267, v268, v269, v273, v276, v277, v303, v304, v305, v332, v333, v334, v335;
+    u16 v336, v337, v338, v339, v370, v382, v383, v384, v385, v386, v387, v388, v389;
+    u32 v270, v271, v272;
+    u64 block0[3];
+    u64 block1[3];
+    u64 block2[4];
+    u64 block3[5];
+    u64 block4[3];
+    u64 block5[3];
+    u64 block6[4];
+    u64 block7[2];
+    u64 block8[6];
+    u64 block9[2];
+    u64 block10[2];
+    u64 block11[2];
+    u64 block12[324];
+    u64 block13[2];
+    u64 block14[4];
+    u64 block15[55];
+    v33 = ADDRESS(block0);
+    v34 = ADDRESS(block1);
+    v35 = ADDRESS(block2);
+    v36 = ADDRESS(block3);
+    v37 = ADDRESS(block4);
+    v38 = ADDRESS(block5);
+    v39 = ADDRESS(block6);
+    v40 = ADDRESS(block7);
+    v41 = ADDRESS(block8);
+    v42 = ADDRESS(block9);
+    v43 = ADDRESS(block10);
+    v44 = ADDRESS(block11);
+    v45 = ADDRESS(block12);
+    v46 = ADDRESS(block13);
+    v47 = ADDRESS(block14);
+    v48 = ADDRESS(block15);
+    v49 = a5 + 1u * 1u;
+    v50 = load8(v49);
+    v51 = a5 + 8u * 1u;
+    v52 = load_address(v51);
+    v53 = a5 + 16u * 1u;
+    v54 = load64(v53);
+    v55 = v46 + 8u * 1u;
+    v56 = v44 + 8u * 1u;
+    if (a6) { goto L1; }
+    else { goto L5; }
+L1:;
+    memory_set(v44, 0u, 16u);
+    memory_set(v46, 0u, 16u);
+    memory_set(v47, 0u, 32u);
+    memory_set(v48, 0u, 440u);
+    f8(v47, a3, a4);
+    v57 = load8(v47);
+    v58 = v57 == 0u;
+    if (v58) { goto L2; }
+    else { goto L3; }
+L2:;
+    v59 = v47 + 8u * 1u;
+    v60 = load_address(v59);
+    v61 = v47 + 24u * 1u;
+    v62 = load8(v61);
+    f18(v48, a1);
+    f46(v45, v48);
+    v63 = v60 + 20u * 1u;
+    v64 = load64(v63);
+    v65 = v60 + 28u * 1u;
+    v66 = load8(v65);
+    v67 = v60 + 29u * 1u;
+    v68 = load8(v67);
+    v69 = (u16)v66;
+    v70 = (u16)((u32)v69 << (8u & 15u));
+    v71 = (u16)v68;
+    v72 = (u16)((u32)v70 | (u32)v71);
+    v73 = v45 + 440u * 1u;
+    v74 = load64(v73);
+    v75 = v45 + 448u * 1u;
+    v76 = v45 + 2584u * 1u;
+    v77 = load64(v76);
+    v78 = (u64)((u64)v77 * (u64)2136u);
+    v79 = v75 + v78 * 1u;
+    memory_set(v79, 0u, 2096u);
+    v80 = v79 + 2096u * 1u;
+    store64(v80, v74);
+    v81 = v79 + 2104u * 1u;
+    store64(v81, v64);
+    v82 = v79 + 2112u * 1u;
+    store16(v82, v72);
+    v83 = v79 + 2114u * 1u;
+    memory_set(v83, 0u, 14u);
+    v84 = v79 + 2128u * 1u;
+    store8(v84, 7u);
+    v85 = v79 + 2129u * 1u;
+    v86 = (u64)((u64)v77 + (u64)1u);
+    memory_set(v85, 0u, 7u);
+    store64(v76, v86);
+    f47(v46, v45, a2, a3, a4, a7, a8);
+    f18(v48, a1);
+    memory_cpy(a1, v45, 440u);
+    v87 = load8(v46);
+    v88 = v46 + 1u * 1u;
+    v89 = load8(v88);
+    v90 = v87 != 5u;
+    v91 = (u8)((u32)v62 & (u32)253u);
+    v92 = v91 == 1u;
+    v93 = (u8)(((u32)v92 | (u32)v90) & UINT64_C(1));
+    v94 = v93 ? v89 : 0u;
+    v95 = v93 ? v87 : 9u;
+    v9 = v55; v10 = v95; v11 = v94; goto L4;
+L3:;
+    f21(v44, a1, a2, a3, a4, a7, a8);
+    v96 = load8(v44);
+    v97 = v44 + 1u * 1u;
+    v98 = load8(v97);
+    v9 = v56; v10 = v96; v11 = v98; goto L4;
+L4:;
+    v99 = load64(v9);
+    v30 = v10; v31 = v11; v32 = v99; goto L57;
+L5:;
+    v100 = load8(a5);
+    memory_set(v43, 0u, 16u);
+    switch (v100) {
+    case 0u: goto L6;
+    case 1u: goto L7;
+    case 2u: goto L11;
+    default: goto L55;
+    }
+L6:;
+    f21(v43, a1, a2, a3, a4, a7, a8);
+    v101 = load8(v43);
+    v102 = v43 + 1u * 1u;
+    v103 = load8(v102);
+    v104 = v43 + 8u * 1u;
+    v105 = load64(v104);
+    v27 = v105; v28 = v103; v29 = v101; goto L56;
+L7:;
+    memory_set(v42, 0u, 16u);
+    memory_set(v41, 0u, 48u);
+    f49(v41, a1, a3, a4);
+    v106 = load8(v41);
+    v107 = v106 == 1u;
+    if (v107) { goto L8; }
+    else { goto L9; }
+L8:;
+    v108 = v41 + 8u * 1u;
+    f53(a1, v108, v50);
+    f21(v42, a1, a2, a3, a4, a7, a8);
+    v12 = 5u; v13 = 0u; goto L10;
+L9:;
+    f21(v42, a1, a2, a3, a4, a7, a8);
+    v109 = load8(v42);
+    v110 = v42 + 1u * 1u;
+    v111 = load8(v110);
+    v12 = v109; v13 = v111; goto L10;
+L10:;
+    v112 = v42 + 8u * 1u;
+    v113 = load64(v112);
+    v27 = v113; v28 = v13; v29 = v12; goto L56;
+L11:;
+    memory_set(v40, 0u, 16u);
+    memory_set(v39, 0u, 32u);
+    f8(v39, a3, a4);
+    v114 = load8(v39);
+    v115 = v114 == 0u;
+    if (v115) { goto L12; }
+    else { goto L42; }
+L12:;
+    v116 = v39 + 8u * 1u;
+    memory_cpy(v38, v116, 24u);
+    v117 = v38 + 16u * 1u;
+    v118 = load8(v117);
+    v119 = v38 + 17u * 1u;
+    v120 = load8(v119);
+    v121 = v120 == 0u;
+    v122 = load_address(v38);
+    v123 = v121 ? 52u : 54u;
+    v124 = v121 ? 53u : 55u;
+    v125 = v122 + v123 * 1u;
+    v126 = load8(v125);
+    v127 = v122 + v124 * 1u;
+    v128 = load8(v127);
+    v129 = v122 + 42u * 1u;
+    v130 = load8(v129);
+    v131 = v122 + 43u * 1u;
+    v132 = load8(v131);
+    v133 = v38 + 8u * 1u;
+    v134 = load64(v133);
+    v135 = v122 + 54u * 1u;
+    v136 = (u64)((u64)v134 + (u64)UINT64_C(18446744073709551562));
+    v137 = v121 ? v135 : ADDRESS(c145);
+    v138 = v121 ? v136 : 0u;
+    v139 = (u16)v130;
+    v140 = (u16)((u32)v139 << (8u & 15u));
+    v141 = (u16)v132;
+    v142 = (u16)((u32)v140 | (u32)v141);
+    v143 = (u16)v126;
+    v144 = (u16)((u32)v143 << (8u & 15u));
+    v145 = (u16)v128;
+    v146 = (u16)((u32)v144 | (u32)v145);
+    store8(v37, v118);
+    v147 = v37 + 1u * 1u;
+    store8(v147, 0u);
+    v148 = v37 + 2u * 1u;
+    store16(v148, v146);
+    v149 = v37 + 4u * 1u;
+    store16(v149, v142);
+    v150 = v37 + 6u * 1u;
+    store16(v150, 0u);
+    v151 = v37 + 8u * 1u;
+    store_address(v151, v137);
+    v152 = v37 + 16u * 1u;
+    store64(v152, v138);
+    v153 = f58(v37);
+    if (v153) { goto L13; }
+    else { goto L19; }
+L13:;
+    v154 = v122 + 34u * 1u;
+    v155 = load64(v154);
+    v156 = a1 + 440u * 1u;
+    v157 = load64(v156);
+    v158 = load8(v122);
+    v159 = (u8)((u32)v158 >> (4u & 7u));
+    v160 = v122 + 5u * 1u;
+    v161 = load8(v160);
+    v162 = (u8)((u32)v159 | (u32)v161);
+    v163 = v162 == 0u;
+    if (v163) { goto L14; }
+    else { goto L19; }
+L14:;
+    v164 = v122 + 4u * 1u;
+    v165 = load8(v164);
+    v166 = a1 + 8u * 1u;
+    v167 = load8(v166);
+    v168 = v165 == v167;
+    if (v168) { goto L15; }
+    else { goto L19; }
+L15:;
+    v169 = v122 + 20u * 1u;
+    v170 = load64(v169);
+    v171 = v170 == v157;
+    if (v171) { goto L19; }
+    else { goto L16; }
+L16:;
+    v172 = v155 == v157;
+    v173 = v155 == UINT64_C(18446744073709551615);
+    v174 = (u8)(((u32)v173 | (u32)v172) & UINT64_C(1));
+    if (v174) { goto L17; }
+    else { goto L19; }
+L17:;
+    switch (v142) {
+    case 65535u: goto L20;
+    case 0u: goto L19;
+    default: goto L18;
+    }
+L18:;
+    v175 = a1 + 432u * 1u;
+    v176 = load64(v175);
+    v177 = (u16)(v176);
+    v178 = v142 > v177;
+    if (v178) { goto L19; }
+    else { goto L20; }
+L19:;
+    goto L42;
+L20:;
+    v179 = f59(a1, v38);
+    v180 = v179 == 0u;
+    if (v180) { goto L21; }
+    else { goto L42; }
+L21:;
+    if (v172) { v18 = 0u; v19 = v146; v20 = v170; v21 = v155; v22 = v165; goto L38; }
+    else { goto L22; }
+L22:;
+    v181 = v122 + 45u * 1u;
+    v182 = load8(v181);
+    v183 = v182 == 0u;
+    v184 = a2 == 0u;
+    v185 = (u8)(((u32)v184 | (u32)v183) & UINT64_C(1));
+    if (v185) { v18 = 0u; v19 = v146; v20 = v170; v21 = v157; v22 = v165; goto L38; }
+    else { goto L23; }
+L23:;
+    v186 = (u16)((u32)a2 + (u32)65535u);
+    v187 = a1 + 432u * 1u;
+    v188 = load64(v187);
+    v189 = (u64)v186;
+    v190 = v188 > v189;
+    if (v190) { goto L24; }
+    else { v18 = 0u; v19 = v146; v20 = v170; v21 = v157; v22 = v165; goto L38; }
+L24:;
+    v191 = a1 + 240u * 1u;
+    v192 = (u64)((u64)v189 * (u64)24u);
+    v193 = v191 + v192 * 1u;
+    v194 = load8(v193);
+    switch (v194) {
+    case 4u: goto L26;
+    case 5u: goto L26;
+    case 7u: goto L26;
+    case 8u: goto L26;
+    case 0u: v18 = 0u; v19 = v146; v20 = v170; v21 = v157; v22 = v165; goto L38;
+    case 1u: v18 = 0u; v19 = v146; v20 = v170; v21 = v157; v22 = v165; goto L38;
+    case 2u: v18 = 0u; v19 = v146; v20 = v170; v21 = v157; v22 = v165; goto L38;
+    case 3u: v18 = 0u; v19 = v146; v20 = v170; v21 = v157; v22 = v165; goto L38;
+    case 6u: v18 = 0u; v19 = v146; v20 = v170; v21 = v157; v22 = v165; goto L38;
+    default: goto L25;
+    }
+L25:;
+    UNREACHABLE;
+L26:;
+    v195 = (u16)(v188);
+    v196 = (u16)((u32)v195 + (u32)1u);
+    v197 = v196 > 1u;
+    if (v197) { goto L27; }
+    else { v18 = 0u; v19 = v146; v20 = v170; v21 = v157; v22 = v165; goto L38; }
+L27:;
+    v198 = a3 + 2u * 1u;
+    v199 = a3 + 3u * 1u;
+    v200 = (u64)a3;
+    v201 = (u64)a2;
+    v202 = (u64)v196;
+    v14 = 0u; v15 = 1u; goto L28;
+L28:;
+    v203 = v15 == v201;
+    if (v203) { v17 = v14; goto L36; }
+    else { goto L29; }
+L29:;
+    v204 = (u64)((u64)v15 + (u64)UINT64_C(18446744073709551615));
+    v205 = load64(v187);
+    v206 = v205 > v204;
+    if (v206) { goto L30; }
+    else { v17 = v14; goto L36; }
+L30:;
+    v207 = (u64)((u64)v204 * (u64)24u);
+    v208 = v191 + v207 * 1u;
+    v209 = load8(v208);
+    switch (v209) {
+    case 4u: goto L32;
+    case 5u: goto L32;
+    case 7u: goto L32;
+    case 8u: goto L32;
+    case 0u: v17 = v14; goto L36;
+    case 1u: v17 = v14; goto L36;
+    case 2u: v17 = v14; goto L36;
+    case 3u: v17 = v14; goto L36;
+    case 6u: v17 = v14; goto L36;
+    default: goto L31;
+    }
+L31:;
+    UNREACHABLE;
+L32:;
+    v210 = (u64)((u64)v14 * (u64)1476u);
+    v211 = a7 + v210 * 1u;
+    v212 = load8(v198);
+    v213 = load8(v199);
+    v214 = (u16)v212;
+    v215 = (u16)((u32)v214 << (8u & 15u));
+    v216 = (u16)v213;
+    v217 = (u16)((u32)v215 | (u32)v216);
+    v218 = (u64)v217;
+    v219 = (u16)(v15);
+    store16(v211, v219);
+    v220 = v211 + 2u * 1u;
+    store16(v220, v217);
+    v221 = v211 + 4u * 1u;
+    v222 = (u64)v221;
+    v223 = (u64)((u64)v222 - (u64)v200);
+    v224 = v223 < v218;
+    if (v224) { v16 = 0u; goto L34; }
+    else { goto L33; }
+L33:;
+    memory_move(v221, a3, v218);
+    goto L35;
+L34:;
+    v225 = v221 + v16 * 1u;
+    v226 = a3 + v16 * 1u;
+    v227 = load8(v226);
+    store8(v225, v227);
+    v228 = (u64)((u64)v16 + (u64)1u);
+    v229 = v228 == v218;
+    if (v229) { goto L35; }
+    else { v16 = v228; goto L34; }
+L35:;
+    v230 = v211 + 49u * 1u;
+    v231 = load8(v230);
+    v232 = (u8)((u32)v231 + (u32)255u);
+    store8(v230, v232);
+    v233 = (u64)((u64)v14 + (u64)1u);
+    v17 = v233; goto L36;
+L36:;
+    v234 = (u64)((u64)v15 + (u64)1u);
+    v235 = v234 == v202;
+    if (v235) { goto L37; }
+    else { v14 = v17; v15 = v234; goto L28; }
+L37:;
+    v236 = load8(v125);
+    v237 = load8(v127);
+    v238 = load8(v164);
+    v239 = load64(v156);
+    v240 = load64(v169);
+    v241 = (u16)v236;
+    v242 = (u16)((u32)v241 << (8u & 15u));
+    v243 = (u16)v237;
+    v244 = (u16)((u32)v242 | (u32)v243);
+    v18 = v17; v19 = v244; v20 = v240; v21 = v239; v22 = v238; goto L38;
+L38:;
+    v245 = v122 + 44u * 1u;
+    v246 = load8(v245);
+    v247 = v122 + 45u * 1u;
+    v248 = load8(v247);
+    v249 = v246 > v248 ? (u8)((u32)v246 - (u32)v248) : 0u;
+    v250 = v122 + 30u * 1u;
+    v251 = load8(v250);
+    v252 = v122 + 31u * 1u;
+    v253 = load8(v252);
+    v254 = (u16)v251;
+    v255 = (u16)((u32)v254 << (8u & 15u));
+    v256 = (u16)v253;
+    v257 = (u16)((u32)v255 | (u32)v256);
+    v258 = v122 + 28u * 1u;
+    v259 = load8(v258);
+    v260 = v122 + 29u * 1u;
+    v261 = load8(v260);
+    v262 = (u16)v259;
+    v263 = (u16)((u32)v262 << (8u & 15u));
+    v264 = (u16)v261;
+    v265 = (u16)((u32)v263 | (u32)v264);
+    v266 = (u16)v22;
+    v267 = swap16(a2);
+    v268 = swap16(v257);
+    v269 = swap16(v265);
+    v270 = (u32)v249;
+    v271 = (u32)((u32)v270 * (u32)257u);
+    v272 = (u32)((u32)v271 | (u32)UINT32_C(131072));
+    v273 = swap16(v19);
+    v274 = (u64)((u64)v18 * (u64)1476u);
+    v275 = a7 + v274 * 1u;
+    store16(v275, a2);
+    v276 = (u16)(v54);
+    v277 = (u16)((u32)v276 + (u32)54u);
+    v278 = v275 + 2u * 1u;
+    store16(v278, v277);
+    v279 = v275 + 4u * 1u;
+    v280 = v275 + 58u * 1u;
+    store16(v279, 4621u);
+    v281 = v275 + 6u * 1u;
+    store16(v281, 13824u);
+    v282 = v275 + 8u * 1u;
+    store16(v282, v266);
+    v283 = v275 + 10u * 1u;
+    memory_set(v283, 0u, 14u);
+    v284 = v275 + 24u * 1u;
+    store64(v284, v21);
+    v285 = v275 + 32u * 1u;
+    store16(v285, v267);
+    v286 = v275 + 34u * 1u;
+    store16(v286, v268);
+    v287 = v275 + 36u * 1u;
+    store16(v287, 32516u);
+    v288 = v275 + 38u * 1u;
+    store64(v288, v20);
+    v289 = v275 + 46u * 1u;
+    store16(v289, v269);
+    v290 = v275 + 48u * 1u;
+    store32(v290, v272);
+    v291 = v275 + 52u * 1u;
+    store16(v291, 256u);
+    v292 = v275 + 54u * 1u;
+    store16(v292, 512u);
+    v293 = v275 + 56u * 1u;
+    store16(v293, v273);
+    v294 = (u64)v280;
+    v295 = (u64)v52;
+    v296 = (u64)((u64)v294 - (u64)v295);
+    v297 = v296 < v54;
+    if (v297) { v23 = 0u; goto L40; }
+    else { goto L39; }
+L39:;
+    memory_move(v280, v52, v54);
+    goto L41;
+L40:;
+    v298 = v280 + v23 * 1u;
+    v299 = v52 + v23 * 1u;
+    v300 = load8(v299);
+    store8(v298, v300);
+    v301 = (u64)((u64)v23 + (u64)1u);
+    v302 = v301 == v54;
+    if (v302) { goto L41; }
+    else { v23 = v301; goto L40; }
+L41:;
+    v303 = swap16(v277);
+    store16(v281, v303);
+    store16(v285, v267);
+    v304 = (u16)((u32)v276 + (u32)2u);
+    v305 = swap16(v304);
+    store16(v292, v305);
+    v306 = (u64)((u64)v18 + (u64)1u);
+    v24 = 9u; v25 = 0u; v26 = v306; goto L54;
+L42:;
+    memory_set(v35, 0u, 32u);
+    f8(v35, a3, a4);
+    v307 = load8(v35);
+    v308 = v307 == 0u;
+    if (v308) { goto L43; }
+    else { goto L53; }
+L43:;
+    v309 = v35 + 8u * 1u;
+    memory_cpy(v34, v309, 24u);
+    v310 = v34 + 16u * 1u;
+    v311 = load8(v310);
+    v312 = v34 + 17u * 1u;
+    v313 = load8(v312);
+    v314 = v313 == 0u;
+    v315 = load_address(v34);
+    v316 = v314 ? 52u : 54u;
+    v317 = v314 ? 53u : 55u;
+    v318 = v315 + v316 * 1u;
+    v319 = load8(v318);
+    v320 = v315 + v317 * 1u;
+    v321 = load8(v320);
+    v322 = v315 + 42u * 1u;
+    v323 = load8(v322);
+    v324 = v315 + 43u * 1u;
+    v325 = load8(v324);
+    v326 = v34 + 8u * 1u;
+    v327 = load64(v326);
+    v328 = v315 + 54u * 1u;
+    v329 = (u64)((u64)v327 + (u64)UINT64_C(18446744073709551562));
+    v330 = v314 ? v328 : ADDRESS(c145);
+    v331 = v314 ? v329 : 0u;
+    v332 = (u16)v323;
+    v333 = (u16)((u32)v332 << (8u & 15u));
+    v334 = (u16)v325;
+    v335 = (u16)((u32)v333 | (u32)v334);
+    v336 = (u16)v319;
+    v337 = (u16)((u32)v336 << (8u & 15u));
+    v338 = (u16)v321;
+    v339 = (u16)((u32)v337 | (u32)v338);
+    store8(v33, v311);
+    v340 = v33 + 1u * 1u;
+    store8(v340, 0u);
+    v341 = v33 + 2u * 1u;
+    store16(v341, v339);
+    v342 = v33 + 4u * 1u;
+    store16(v342, v335);
+    v343 = v33 + 6u * 1u;
+    store16(v343, 0u);
+    v344 = v33 + 8u * 1u;
+    store_address(v344, v330);
+    v345 = v33 + 16u * 1u;
+    store64(v345, v331);
+    v346 = f58(v33);
+    if (v346) { goto L44; }
+    else { goto L50; }
+L44:;
+    v347 = v315 + 34u * 1u;
+    v348 = load64(v347);
+    v349 = a1 + 440u * 1u;
+    v350 = load64(v349);
+    v351 = load8(v315);
+    v352 = (u8)((u32)v351 >> (4u & 7u));
+    v353 = v315 + 5u * 1u;
+    v354 = load8(v353);
+    v355 = (u8)((u32)v352 | (u32)v354);
+    v356 = v355 == 0u;
+    if (v356) { goto L45; }
+    else { goto L50; }
+L45:;
+    v357 = v315 + 4u * 1u;
+    v358 = load8(v357);
+    v359 = a1 + 8u * 1u;
+    v360 = load8(v359);
+    v361 = v358 == v360;
+    if (v361) { goto L46; }
+    else { goto L50; }
+L46:;
+    v362 = v315 + 20u * 1u;
+    v363 = load64(v362);
+    v364 = v363 == v350;
+    if (v364) { goto L50; }
+    else { goto L47; }
+L47:;
+    v365 = v348 == v350;
+    v366 = v348 == UINT64_C(18446744073709551615);
+    v367 = (u8)(((u32)v366 | (u32)v365) & UINT64_C(1));
+    if (v367) { goto L48; }
+    else { goto L50; }
+L48:;
+    switch (v335) {
+    case 65535u: goto L51;
+    case 0u: goto L50;
+    default: goto L49;
+    }
+L49:;
+    v368 = a1 + 432u * 1u;
+    v369 = load64(v368);
+    v370 = (u16)(v369);
+    v371 = v335 > v370;
+    if (v371) { goto L50; }
+    else { goto L51; }
+L50:;
+    goto L53;
+L51:;
+    v372 = f59(a1, v34);
+    v373 = v372 == 1u;
+    if (v373) { goto L52; }
+    else { goto L53; }
+L52:;
+    v374 = v315 + 28u * 1u;
+    v375 = load8(v374);
+    v376 = v315 + 29u * 1u;
+    v377 = load8(v376);
+    v378 = v315 + 30u * 1u;
+    v379 = load8(v378);
+    v380 = v315 + 31u * 1u;
+    v381 = load8(v380);
+    v382 = (u16)v379;
+    v383 = (u16)((u32)v382 << (8u & 15u));
+    v384 = (u16)v381;
+    v385 = (u16)((u32)v383 | (u32)v384);
+    v386 = (u16)v375;
+    v387 = (u16)((u32)v386 << (8u & 15u));
+    v388 = (u16)v377;
+    v389 = (u16)((u32)v387 | (u32)v388);
+    store64(v36, v363);
+    v390 = v36 + 8u * 1u;
+    store16(v390, v389);
+    v391 = v36 + 10u * 1u;
+    store16(v391, v385);
+    v392 = v36 + 12u * 1u;
+    store32(v392, 0u);
+    v393 = v36 + 16u * 1u;
+    store8(v393, v311);
+    v394 = v36 + 17u * 1u;
+    store8(v394, 0u);
+    v395 = v36 + 18u * 1u;
+    store16(v395, v339);
+    v396 = v36 + 20u * 1u;
+    store16(v396, v335);
+    v397 = v36 + 22u * 1u;
+    store16(v397, 0u);
+    v398 = v36 + 24u * 1u;
+    store_address(v398, v330);
+    v399 = v36 + 32u * 1u;
+    store64(v399, v331);
+    f60(a1, v36, v52, v54);
+    f21(v40, a1, a2, a3, a4, a7, a8);
+    v400 = v40 + 8u * 1u;
+    v401 = load64(v400);
+    v24 = 5u; v25 = 0u; v26 = v401; goto L54;
+L53:;
+    f21(v40, a1, a2, a3, a4, a7, a8);
+    v402 = load8(v40);
+    v403 = v40 + 1u * 1u;
+    v404 = load8(v403);
+    v405 = v40 + 8u * 1u;
+    v406 = load64(v405);
+    v24 = v402; v25 = v404; v26 = v406; goto L54;
+L54:;
+    v27 = v26; v28 = v25; v29 = v24; goto L56;
+L55:;
+    UNREACHABLE;
+L56:;
+    v30 = v29; v31 = v28; v32 = v27; goto L57;
+L57:;
+    store8(a0, v30);
+    v407 = a0 + 1u * 1u;
+    store8(v407, v31);
+    v408 = a0 + 8u * 1u;
+    store64(v408, v32);
+    return;
+}
+
+static void f21(address a0, address a1, u16 a2, address a3, u64 a4, address a5, u64 a6) {
+    u16 v7, v47, v48, v49, v50, v57, v58, v59, v69, v70, v71, v72, v78, v82, v88, v89;
+    u16 v90, v91, v107, v108, v109, v110, v134, v149, v160;
+    u64 v8, v10, v11, v13, v42, v52, v61, v64, v77, v95, v96, v102, v104, v106, v127, v132;
+    u64 v137, v145, v153, v155, v158, v168, v169, v171;
+    address v9, v12, v14, v18, v19, v20, v21, v22, v23, v24, v27, v28, v31, v35, v37, v41;
+    address v43, v45, v51, v53, v55, v60, v63, v65, v67, v76, v80, v83, v84, v86, v92, v97;
+    address v99, v101, v103, v105, v111, v112, v113, v114, v115, v116, v119, v122, v124, v126, v129, v130;
+    address v131, v133, v136, v140, v144, v147, v148, v152, v156, v157, v159, v161, v162, v163, v164, v165;
+    address v166, v167, v172, v173;
+    u8 v15, v16, v17, v25, v26, v29, v30, v32, v33, v34, v36, v38, v39, v40, v44, v46;
+    u8 v54, v56, v62, v66, v68, v73, v74, v75, v79, v81, v85, v87, v93, v94, v98, v100;
+    u8 v118, v120, v121, v123, v125, v128, v135, v138, v139, v141, v142, v143, v146, v150, v151, v154;
+    u8 v170;
+    struct s1 v117;
+    u64 block0[2];
+    u64 block1[3];
+    u64 block2[3];
+    u64 block3[4];
+    u64 block4[3];
+    v18 = ADDRESS(block0);
+    v19 = ADDRESS(block1);
+    v20 = ADDRESS(block2);
+    v21 = ADDRESS(block3);
+    v22 = ADDRESS(block4);
+    store_address(v22, a5);
+    v23 = v22 + 8u * 1u;
+    store64(v23, a6);
+    v24 = v22 + 16u * 1u;
+    store64(v24, 0u);
+    memory_set(v21, 0u, 32u);
+    f8(v21, a3, a4);
+    v25 = load8(v21);
+    v26 = v25 == 0u;
+    if (v26) { goto L1; }
+    else { goto L17; }
+L1:;
+    v27 = v21 + 8u * 1u;
+    memory_cpy(v20, v27, 24u);
+    v28 = load_address(v20);
+    v29 = load8(v28);
+    v30 = (u8)((u32)v29 >> (4u & 7u));
+    v31 = v28 + 5u * 1u;
+    v32 = load8(v31);
+    v33 = (u8)((u32)v30 | (u32)v32);
+    v34 = v33 == 0u;
+    if (v34) { goto L2; }
+    else { v15 = 1u; goto L35; }
+L2:;
+    v35 = v28 + 4u * 1u;
+    v36 = load8(v35);
+    v37 = a1 + 8u * 1u;
+    v38 = load8(v37);
+    v39 = v36 == v38;
+    if (v39) { goto L5; }
+    else { goto L3; }
+L3:;
+    v40 = f22(a1, v20);
+    if (v40) { goto L4; }
+    else { v15 = 1u; goto L35; }
+L4:;
+    v41 = v28 + 20u * 1u;
+    v42 = load64(v41);
+    v43 = v28 + 28u * 1u;
+    v44 = load8(v43);
+    v45 = v28 + 29u * 1u;
+    v46 = load8(v45);
+    v47 = (u16)v44;
+    v48 = (u16)((u32)v47 << (8u & 15u));
+    v49 = (u16)v46;
+    v50 = (u16)((u32)v48 | (u32)v49);
+    v7 = v50; v8 = v42; goto L19;
+L5:;
+    v51 = v28 + 20u * 1u;
+    v52 = load64(v51);
+    v53 = v28 + 28u * 1u;
+    v54 = load8(v53);
+    v55 = v28 + 29u * 1u;
+    v56 = load8(v55);
+    v57 = (u16)v54;
+    v58 = (u16)((u32)v57 << (8u & 15u));
+    v59 = (u16)v56;
+    v60 = a1 + 440u * 1u;
+    v61 = load64(v60);
+    v62 = v52 == v61;
+    if (v62) { v15 = 2u; goto L35; }
+    else { goto L6; }
+L6:;
+    v63 = v28 + 34u * 1u;
+    v64 = load64(v63);
+    v65 = v28 + 42u * 1u;
+    v66 = load8(v65);
+    v67 = v28 + 43u * 1u;
+    v68 = load8(v67);
+    v69 = (u16)v66;
+    v70 = (u16)((u32)v69 << (8u & 15u));
+    v71 = (u16)v68;
+    v72 = (u16)((u32)v70 | (u32)v71);
+    v73 = v64 == v61;
+    v74 = v64 == UINT64_C(18446744073709551615);
+    v75 = (u8)(((u32)v74 | (u32)v73) & UINT64_C(1));
+    if (v75) { goto L7; }
+    else { v15 = 3u; goto L35; }
+L7:;
+    switch (v72) {
+    case 65535u: goto L9;
+    case 0u: v15 = 3u; goto L35;
+    default: goto L8;
+    }
+L8:;
+    v76 = a1 + 432u * 1u;
+    v77 = load64(v76);
+    v78 = (u16)(v77);
+    v79 = v72 > v78;
+    if (v79) { v15 = 3u; goto L35; }
+    else { goto L9; }
+L9:;
+    v80 = v20 + 16u * 1u;
+    v81 = load8(v80);
+    switch (v81) {
+    case 2u: v15 = 4u; goto L35;
+    case 4u: v15 = 4u; goto L35;
+    case 0u: goto L11;
+    case 1u: goto L11;
+    case 3u: goto L11;
+    default: goto L10;
+    }
+L10:;
+    UNREACHABLE;
+L11:;
+    if (v73) { goto L13; }
+    else { goto L12; }
+L12:;
+    v15 = 9u; goto L35;
+L13:;
+    v82 = (u16)((u32)v58 | (u32)v59);
+    store64(v18, v52);
+    v83 = v18 + 8u * 1u;
+    store16(v83, v82);
+    v84 = v28 + 30u * 1u;
+    v85 = load8(v84);
+    v86 = v28 + 31u * 1u;
+    v87 = load8(v86);
+    v88 = (u16)v85;
+    v89 = (u16)((u32)v88 << (8u & 15u));
+    v90 = (u16)v87;
+    v91 = (u16)((u32)v89 | (u32)v90);
+    v92 = v20 + 17u * 1u;
+    v93 = load8(v92);
+    v94 = v93 == 0u;
+    v95 = v94 ? 52u : 54u;
+    v96 = v94 ? 53u : 55u;
+    v97 = v28 + v95 * 1u;
+    v98 = load8(v97);
+    v99 = v28 + v96 * 1u;
+    v100 = load8(v99);
+    v101 = v20 + 8u * 1u;
+    v102 = load64(v101);
+    v103 = v28 + 54u * 1u;
+    v104 = (u64)((u64)v102 + (u64)UINT64_C(18446744073709551562));
+    v105 = v94 ? v103 : ADDRESS(c145);
+    v106 = v94 ? v104 : 0u;
+    v107 = (u16)v98;
+    v108 = (u16)((u32)v107 << (8u & 15u));
+    v109 = (u16)v100;
+    v110 = (u16)((u32)v108 | (u32)v109);
+    store8(v19, v81);
+    v111 = v19 + 1u * 1u;
+    store8(v111, 0u);
+    v112 = v19 + 2u * 1u;
+    store16(v112, v110);
+    v113 = v19 + 4u * 1u;
+    store16(v113, v72);
+    v114 = v19 + 6u * 1u;
+    store16(v114, 0u);
+    v115 = v19 + 8u * 1u;
+    store_address(v115, v105);
+    v116 = v19 + 16u * 1u;
+    store64(v116, v106);
+    v117 = f24(v60, v18, v91, v19);
+    v118 = v117.m0;
+    switch (v118) {
+    case 0u: v15 = 9u; goto L35;
+    case 1u: goto L18;
+    case 2u: v7 = v82; v8 = v52; goto L19;
+    case 3u: goto L14;
+    case 4u: goto L15;
+    default: goto L16;
+    }
+L14:;
+    v15 = 8u; goto L35;
+L15:;
+    v15 = 7u; goto L35;
+L16:;
+    UNREACHABLE;
+L17:;
+    v119 = v21 + 1u * 1u;
+    v120 = load8(v119);
+    v16 = v120; v17 = 0u; goto L36;
+L18:;
+    v121 = v117.m1;
+    f28(a1, a2, v27, v121, v22);
+    v16 = 0u; v17 = 5u; goto L36;
+L19:;
+    v122 = v28 + 44u * 1u;
+    v123 = load8(v122);
+    v124 = v28 + 45u * 1u;
+    v125 = load8(v124);
+    v126 = a1 + 456u * 1u;
+    v127 = load64(v126);
+    v128 = v127 == 0u;
+    if (v128) { goto L24; }
+    else { goto L20; }
+L20:;
+    v129 = a1 + 448u * 1u;
+    v130 = load_address(v129);
+    v9 = v130; v10 = v127; goto L21;
+L21:;
+    v131 = v9 + 2136u * 1u;
+    v132 = (u64)((u64)v10 + (u64)UINT64_C(18446744073709551615));
+    v133 = v9 + 2112u * 1u;
+    v134 = load16(v133);
+    v135 = v7 == v134;
+    if (v135) { goto L22; }
+    else { goto L23; }
+L22:;
+    v136 = v9 + 2104u * 1u;
+    v137 = load64(v136);
+    v138 = v8 == v137;
+    if (v138) { goto L25; }
+    else { goto L23; }
+L23:;
+    v139 = v132 == 0u;
+    if (v139) { goto L24; }
+    else { v9 = v131; v10 = v132; goto L21; }
+L24:;
+    TRAP;
+    UNREACHABLE;
+L25:;
+    v140 = v9 + 2121u * 1u;
+    v141 = load8(v140);
+    v142 = (u8)((v141) & UINT64_C(1));
+    v143 = v123 > v125 ? (u8)((u32)v123 - (u32)v125) : 0u;
+    v144 = v9 + 1440u * 1u;
+    v145 = load64(v144);
+    v146 = v145 == 0u;
+    if (v146) { v16 = 0u; v17 = 6u; goto L36; }
+    else { goto L26; }
+L26:;
+    v147 = v9 + 1448u * 1u;
+    v148 = v9 + 1432u * 1u;
+    v149 = (u16)((u32)a2 >> (8u & 15u));
+    v150 = (u8)(v149);
+    v151 = (u8)(a2);
+    v11 = 0u; v12 = v147; v13 = v145; v14 = v148; goto L27;
+L27:;
+    v152 = v14 + 1u * 1u;
+    v153 = (u64)((u64)v13 + (u64)UINT64_C(18446744073709551615));
+    v154 = load8(v14);
+    v155 = (u64)v154;
+    v156 = v12 + v155 * 1u;
+    v157 = load_address(v22);
+    v158 = (u64)((u64)v11 * (u64)1476u);
+    v159 = v157 + v158 * 1u;
+    store16(v159, a2);
+    v160 = (u16)v154;
+    v161 = v159 + 2u * 1u;
+    store16(v161, v160);
+    v162 = v159 + 4u * 1u;
+    switch (v154) {
+    case 54u: goto L28;
+    case 56u: goto L29;
+    case 80u: goto L30;
+    default: goto L31;
+    }
+L28:;
+    memory_move(v162, v12, 54u);
+    goto L32;
+L29:;
+    memory_move(v162, v12, 56u);
+    goto L32;
+L30:;
+    memory_move(v162, v12, 80u);
+    goto L32;
+L31:;
+    f39(v162, v12, v155);
+    goto L32;
+L32:;
+    v163 = v159 + 8u * 1u;
+    store8(v163, v36);
+    if (v142) { goto L34; }
+    else { goto L33; }
+L33:;
+    v164 = v159 + 32u * 1u;
+    store8(v164, v150);
+    v165 = v159 + 33u * 1u;
+    store8(v165, v151);
+    goto L34;
+L34:;
+    v166 = v159 + 48u * 1u;
+    store8(v166, v143);
+    v167 = v159 + 49u * 1u;
+    store8(v167, v143);
+    v168 = load64(v24);
+    v169 = (u64)((u64)v168 + (u64)1u);
+    store64(v24, v169);
+    v170 = v153 == 0u;
+    if (v170) { v16 = 0u; v17 = 6u; goto L36; }
+    else { v11 = v169; v12 = v156; v13 = v153; v14 = v152; goto L27; }
+L35:;
+    f43(a1, v15, a2, a3, v27, v22);
+    v16 = 0u; v17 = v15; goto L36;
+L36:;
+    v171 = load64(v24);
+    store8(a0, v17);
+    v172 = a0 + 1u * 1u;
+    store8(v172, v16);
+    v173 = a0 + 8u * 1u;
+    store64(v173, v171);
+    return;
+}
+
+static u8 f22(address a0, address a1) {
     address v2, v4, v9, v10, v11, v12, v14, v16, v21, v24, v26, v28, v37, v41, v44, v46;
     address v52, v57, v59, v61, v63, v69, v70, v71, v72, v73, v74, v75, v76, v77, v80, v82;
     address v85, v89, v92, v94, v96, v98, v100, v102, v103, v104, v105, v106, v107;
@@ -3536,7 +5300,7 @@ L7:;
     v59 = v11 + v56 * 1u;
     v60 = load8(v59);
     if (v54) { goto L8; }
-    else { v2 = ADDRESS(c138); v3 = 0u; goto L9; }
+    else { v2 = ADDRESS(c145); v3 = 0u; goto L9; }
 L8:;
     v61 = a1 + 8u * 1u;
     v62 = load64(v61);
@@ -3616,7 +5380,7 @@ L14:;
     store_address(v106, v4);
     v107 = v9 + 16u * 1u;
     store64(v107, v101);
-    v108 = f19(v93, v9, v51, v10);
+    v108 = f25(v93, v9, v51, v10);
     v109 = v108 == 2u;
     v6 = v109; goto L15;
 L15:;
@@ -3627,7 +5391,7 @@ L17:;
     return v8;
 }
 
-static u8 f17(address a0, address a1) {
+static u8 f23(address a0, address a1) {
     u8 v2, v7, v9, v16, v17, v18, v22;
     address v3, v4, v6, v8, v14, v19;
     u64 v5, v15, v20;
@@ -3668,7 +5432,7 @@ L4:;
     return v2;
 }
 
-static struct s1 f18(address a0, address a1, u16 a2, address a3) {
+static struct s1 f24(address a0, address a1, u16 a2, address a3) {
     address v4, v9, v10, v11, v12, v15, v17, v19, v22, v27, v30, v32, v34, v36, v38, v40;
     address v41, v42, v43, v44, v45, v47;
     u64 v5, v13, v18, v23, v24, v39;
@@ -3737,7 +5501,7 @@ L6:;
     store_address(v44, v4);
     v45 = v9 + 16u * 1u;
     store64(v45, v39);
-    v46 = f19(v31, v9, a2, a3);
+    v46 = f25(v31, v9, a2, a3);
     v6 = v46; goto L7;
 L7:;
     v47 = v4 + 2128u * 1u;
@@ -3751,7 +5515,7 @@ L8:;
     return v50;
 }
 
-static u8 f19(u16 a0, address a1, u16 a2, address a3) {
+static u8 f25(u16 a0, address a1, u16 a2, address a3) {
     u64 v4, v28, v31, v61;
     u8 v5, v6, v8, v9, v10, v11, v12, v13, v18, v23, v32, v33, v34, v35, v36, v39;
     u8 v40, v41, v42, v45, v46, v47, v48, v51, v52, v53, v54, v55, v58, v59, v60, v62;
@@ -3850,7 +5614,7 @@ L9:;
     if (v62) { goto L12; }
     else { v4 = v61; goto L8; }
 L10:;
-    v63 = f21(v26, v28, v29, v28);
+    v63 = f27(v26, v28, v29, v28);
     if (v63) { goto L12; }
     else { v5 = 3u; goto L14; }
 L11:;
@@ -3868,7 +5632,7 @@ L15:;
     UNREACHABLE;
 }
 
-static u8 f20(address a0, u64 a1) {
+static u8 f26(address a0, u64 a1) {
     address v2, v3, v4, v7, v8, v11, v12, v15, v16, v19, v20, v23, v24, v27, v28, v31;
     address v32, v37, v38, v42, v43, v47, v48, v52, v53, v57, v58, v62, v63, v67, v68, v72;
     address v73, v77, v78, v82, v83, v87, v88, v92, v93, v97, v98, v102, v103, v107, v108, v112;
@@ -4103,7 +5867,7 @@ static u8 f20(address a0, u64 a1) {
     return v217;
 }
 
-static u8 f21(address a0, u64 a1, address a2, u64 a3) {
+static u8 f27(address a0, u64 a1, address a2, u64 a3) {
     u8 v4, v6, v9, v13, v15, v17, v22, v23, v24, v27, v28, v31, v32, v35, v36, v40;
     u8 v41, v42, v46, v47, v48, v49, v53, v54, v55, v56, v60, v61, v62, v63, v64, v65;
     u8 v66, v67, v68, v69, v70, v71, v72, v73, v74, v78, v79, v80, v81, v83, v88, v89;
@@ -4181,7 +5945,7 @@ L2:;
     if (v72) { goto L3; }
     else { goto L4; }
 L3:;
-    v73 = f20(v18, a1);
+    v73 = f26(v18, a1);
     v17 = v73; goto L22;
 L4:;
     v74 = a1 < 65u;
@@ -4295,7 +6059,7 @@ L22:;
     return v133;
 }
 
-static void f22(address a0, u16 a1, address a2, u8 a3, address a4) {
+static void f28(address a0, u16 a1, address a2, u8 a3, address a4) {
     address v5, v7, v11, v12, v13, v14, v15, v17, v19, v21, v27, v29, v35, v37, v39, v41;
     address v46, v48, v50, v52, v54, v56, v66, v67, v68, v69, v70, v71, v72, v73, v74, v75;
     address v76, v81, v82, v83, v84, v86, v88, v90, v91, v92, v100, v101, v107, v109, v111, v112;
@@ -4356,7 +6120,7 @@ static void f22(address a0, u16 a1, address a2, u8 a3, address a4) {
     v52 = v14 + 43u * 1u;
     v53 = load8(v52);
     if (v43) { goto L1; }
-    else { v5 = ADDRESS(c138); v6 = 0u; goto L2; }
+    else { v5 = ADDRESS(c145); v6 = 0u; goto L2; }
 L1:;
     v54 = a2 + 8u * 1u;
     v55 = load64(v54);
@@ -4441,7 +6205,7 @@ L2:;
     v108 = swap16(v65);
     v109 = v13 + 52u * 1u;
     store16(v109, v108);
-    f23(a0, v12, a3, v13);
+    f29(a0, v12, a3, v13);
     v110 = load8(v74);
     v111 = a0 + 448u * 1u;
     v112 = load_address(v111);
@@ -4513,7 +6277,7 @@ L10:;
     if (v147) { goto L12; }
     else { v10 = v146; goto L10; }
 L11:;
-    f33(v127, v5, v6);
+    f38(v127, v5, v6);
     goto L12;
 L12:;
     v148 = v127 + 2121u * 1u;
@@ -4561,10 +6325,10 @@ L17:;
     memory_move(v150, v158, 80u);
     goto L23;
 L18:;
-    f34(v150, v158, v157);
+    f39(v150, v158, v157);
     goto L23;
 L19:;
-    f35(v150, v158, v157);
+    f40(v150, v158, v157);
     goto L23;
 L20:;
     v167 = v127 + 2088u * 1u;
@@ -4577,13 +6341,13 @@ L21:;
     store64(v167, 0u);
     goto L22;
 L22:;
-    f36(a4, v149, v150);
+    f41(a4, v149, v150);
     goto L23;
 L23:;
     return;
 }
 
-static void f23(address a0, address a1, u8 a2, address a3) {
+static void f29(address a0, address a1, u8 a2, address a3) {
     address v4, v27, v28, v29, v30, v31, v33, v34, v35, v36, v37, v38, v39, v40, v50, v51;
     address v52, v78, v79, v80, v82, v83, v85, v86, v90, v92, v93, v96, v97, v98, v103, v104;
     address v106, v107, v108, v109, v112, v113, v114, v119, v120, v124, v126, v127, v130, v132, v133, v135;
@@ -4608,7 +6372,7 @@ static void f23(address a0, address a1, u8 a2, address a3) {
     v31 = a1 + 2u * 1u;
     v32 = load16(v31);
     switch (v32) {
-    case 0u: v4 = ADDRESS(c110); v5 = 19u; v6 = 0u; v7 = 2u; v8 = 0u; v9 = 1u; v10 = 0u; v11 = 7u; v12 = 0u; v13 = 0u; goto L21;
+    case 0u: v4 = ADDRESS(c117); v5 = 19u; v6 = 0u; v7 = 2u; v8 = 0u; v9 = 1u; v10 = 0u; v11 = 7u; v12 = 0u; v13 = 0u; goto L21;
     case 2u: goto L1;
     case 8192u: goto L2;
     case 8193u: goto L3;
@@ -4632,45 +6396,45 @@ static void f23(address a0, address a1, u8 a2, address a3) {
     default: goto L70;
     }
 L1:;
-    v4 = ADDRESS(c111); v5 = 16u; v6 = 0u; v7 = 1u; v8 = 1u; v9 = 0u; v10 = 1u; v11 = 3u; v12 = 1u; v13 = 0u; goto L21;
+    v4 = ADDRESS(c118); v5 = 16u; v6 = 0u; v7 = 1u; v8 = 1u; v9 = 0u; v10 = 1u; v11 = 3u; v12 = 1u; v13 = 0u; goto L21;
 L2:;
-    v4 = ADDRESS(c112); v5 = 16u; v6 = 0u; v7 = 1u; v8 = 1u; v9 = 0u; v10 = 1u; v11 = 1u; v12 = 2u; v13 = 0u; goto L21;
+    v4 = ADDRESS(c119); v5 = 16u; v6 = 0u; v7 = 1u; v8 = 1u; v9 = 0u; v10 = 1u; v11 = 1u; v12 = 2u; v13 = 0u; goto L21;
 L3:;
-    v4 = ADDRESS(c113); v5 = 16u; v6 = 0u; v7 = 1u; v8 = 1u; v9 = 0u; v10 = 1u; v11 = 1u; v12 = 3u; v13 = 0u; goto L21;
+    v4 = ADDRESS(c120); v5 = 16u; v6 = 0u; v7 = 1u; v8 = 1u; v9 = 0u; v10 = 1u; v11 = 1u; v12 = 3u; v13 = 0u; goto L21;
 L4:;
-    v4 = ADDRESS(c114); v5 = 15u; v6 = 0u; v7 = 1u; v8 = 1u; v9 = 0u; v10 = 1u; v11 = 1u; v12 = 4u; v13 = 0u; goto L21;
+    v4 = ADDRESS(c121); v5 = 15u; v6 = 0u; v7 = 1u; v8 = 1u; v9 = 0u; v10 = 1u; v11 = 1u; v12 = 4u; v13 = 0u; goto L21;
 L5:;
-    v4 = ADDRESS(c115); v5 = 24u; v6 = 0u; v7 = 1u; v8 = 1u; v9 = 0u; v10 = 1u; v11 = 1u; v12 = 5u; v13 = 0u; goto L21;
+    v4 = ADDRESS(c122); v5 = 24u; v6 = 0u; v7 = 1u; v8 = 1u; v9 = 0u; v10 = 1u; v11 = 1u; v12 = 5u; v13 = 0u; goto L21;
 L6:;
-    v4 = ADDRESS(c116); v5 = 13u; v6 = 4u; v7 = 2u; v8 = 0u; v9 = 1u; v10 = 1u; v11 = 1u; v12 = 6u; v13 = 0u; goto L21;
+    v4 = ADDRESS(c123); v5 = 13u; v6 = 4u; v7 = 2u; v8 = 0u; v9 = 1u; v10 = 1u; v11 = 1u; v12 = 6u; v13 = 0u; goto L21;
 L7:;
-    v4 = ADDRESS(c117); v5 = 9u; v6 = 0u; v7 = 1u; v8 = 1u; v9 = 0u; v10 = 1u; v11 = 3u; v12 = 7u; v13 = 0u; goto L21;
+    v4 = ADDRESS(c124); v5 = 9u; v6 = 0u; v7 = 1u; v8 = 1u; v9 = 0u; v10 = 1u; v11 = 3u; v12 = 7u; v13 = 0u; goto L21;
 L8:;
-    v4 = ADDRESS(c118); v5 = 9u; v6 = 0u; v7 = 1u; v8 = 1u; v9 = 0u; v10 = 1u; v11 = 3u; v12 = 8u; v13 = 0u; goto L21;
+    v4 = ADDRESS(c125); v5 = 9u; v6 = 0u; v7 = 1u; v8 = 1u; v9 = 0u; v10 = 1u; v11 = 3u; v12 = 8u; v13 = 0u; goto L21;
 L9:;
-    v4 = ADDRESS(c119); v5 = 6u; v6 = 0u; v7 = 1u; v8 = 1u; v9 = 0u; v10 = 1u; v11 = 3u; v12 = 9u; v13 = 0u; goto L21;
+    v4 = ADDRESS(c126); v5 = 6u; v6 = 0u; v7 = 1u; v8 = 1u; v9 = 0u; v10 = 1u; v11 = 3u; v12 = 9u; v13 = 0u; goto L21;
 L10:;
-    v4 = ADDRESS(c120); v5 = 10u; v6 = 0u; v7 = 1u; v8 = 1u; v9 = 0u; v10 = 1u; v11 = 1u; v12 = 10u; v13 = 0u; goto L21;
+    v4 = ADDRESS(c127); v5 = 10u; v6 = 0u; v7 = 1u; v8 = 1u; v9 = 0u; v10 = 1u; v11 = 1u; v12 = 10u; v13 = 0u; goto L21;
 L11:;
-    v4 = ADDRESS(c126); v5 = 21u; v6 = 4u; v7 = 2u; v8 = 0u; v9 = 1u; v10 = 1u; v11 = 3u; v12 = 11u; v13 = 0u; goto L21;
+    v4 = ADDRESS(c133); v5 = 21u; v6 = 4u; v7 = 2u; v8 = 0u; v9 = 1u; v10 = 1u; v11 = 3u; v12 = 11u; v13 = 0u; goto L21;
 L12:;
-    v4 = ADDRESS(c128); v5 = 24u; v6 = 4u; v7 = 2u; v8 = 0u; v9 = 1u; v10 = 1u; v11 = 3u; v12 = 11u; v13 = 1u; goto L21;
+    v4 = ADDRESS(c135); v5 = 24u; v6 = 4u; v7 = 2u; v8 = 0u; v9 = 1u; v10 = 1u; v11 = 3u; v12 = 11u; v13 = 1u; goto L21;
 L13:;
-    v4 = ADDRESS(c130); v5 = 17u; v6 = 4u; v7 = 2u; v8 = 0u; v9 = 1u; v10 = 1u; v11 = 3u; v12 = 11u; v13 = 2u; goto L21;
+    v4 = ADDRESS(c137); v5 = 17u; v6 = 4u; v7 = 2u; v8 = 0u; v9 = 1u; v10 = 1u; v11 = 3u; v12 = 11u; v13 = 2u; goto L21;
 L14:;
-    v4 = ADDRESS(c121); v5 = 14u; v6 = 4u; v7 = 2u; v8 = 0u; v9 = 1u; v10 = 1u; v11 = 1u; v12 = 12u; v13 = 0u; goto L21;
+    v4 = ADDRESS(c128); v5 = 14u; v6 = 4u; v7 = 2u; v8 = 0u; v9 = 1u; v10 = 1u; v11 = 1u; v12 = 12u; v13 = 0u; goto L21;
 L15:;
-    v4 = ADDRESS(c122); v5 = 11u; v6 = 4u; v7 = 2u; v8 = 0u; v9 = 1u; v10 = 0u; v11 = 4u; v12 = 13u; v13 = 0u; goto L21;
+    v4 = ADDRESS(c129); v5 = 11u; v6 = 4u; v7 = 2u; v8 = 0u; v9 = 1u; v10 = 0u; v11 = 4u; v12 = 13u; v13 = 0u; goto L21;
 L16:;
-    v4 = ADDRESS(c123); v5 = 12u; v6 = 4u; v7 = 2u; v8 = 0u; v9 = 1u; v10 = 0u; v11 = 4u; v12 = 14u; v13 = 0u; goto L21;
+    v4 = ADDRESS(c130); v5 = 12u; v6 = 4u; v7 = 2u; v8 = 0u; v9 = 1u; v10 = 0u; v11 = 4u; v12 = 14u; v13 = 0u; goto L21;
 L17:;
-    v4 = ADDRESS(c124); v5 = 14u; v6 = 0u; v7 = 1u; v8 = 1u; v9 = 0u; v10 = 1u; v11 = 3u; v12 = 15u; v13 = 0u; goto L21;
+    v4 = ADDRESS(c131); v5 = 14u; v6 = 0u; v7 = 1u; v8 = 1u; v9 = 0u; v10 = 1u; v11 = 3u; v12 = 15u; v13 = 0u; goto L21;
 L18:;
-    v4 = ADDRESS(c125); v5 = 14u; v6 = 0u; v7 = 1u; v8 = 1u; v9 = 0u; v10 = 1u; v11 = 3u; v12 = 16u; v13 = 0u; goto L21;
+    v4 = ADDRESS(c132); v5 = 14u; v6 = 0u; v7 = 1u; v8 = 1u; v9 = 0u; v10 = 1u; v11 = 3u; v12 = 16u; v13 = 0u; goto L21;
 L19:;
-    v4 = ADDRESS(c132); v5 = 15u; v6 = 4u; v7 = 2u; v8 = 0u; v9 = 1u; v10 = 1u; v11 = 3u; v12 = 11u; v13 = 3u; goto L21;
+    v4 = ADDRESS(c139); v5 = 15u; v6 = 4u; v7 = 2u; v8 = 0u; v9 = 1u; v10 = 1u; v11 = 3u; v12 = 11u; v13 = 3u; goto L21;
 L20:;
-    v4 = ADDRESS(c134); v5 = 27u; v6 = 4u; v7 = 2u; v8 = 0u; v9 = 1u; v10 = 1u; v11 = 3u; v12 = 11u; v13 = 4u; goto L21;
+    v4 = ADDRESS(c141); v5 = 27u; v6 = 4u; v7 = 2u; v8 = 0u; v9 = 1u; v10 = 1u; v11 = 3u; v12 = 11u; v13 = 4u; goto L21;
 L21:;
     memory_set(v28, 0u, 6u);
     memory_cpy(v30, v28, 6u);
@@ -4852,7 +6616,7 @@ L48:;
     store8(v79, v17);
     v80 = v27 + 3u * 1u;
     store8(v80, v18);
-    v81 = f25(v27, v51, v53);
+    v81 = f31(v27, v51, v53);
     if (v81) { goto L51; }
     else { v19 = 3u; goto L49; }
 L49:;
@@ -4861,7 +6625,7 @@ L49:;
 L50:;
     goto L51;
 L51:;
-    f28(a0, v12, v13, a1);
+    f34(a0, v12, v13, a1);
     if (v8) { goto L53; }
     else { v25 = 0u; v26 = 0u; goto L68; }
 L52:;
@@ -4885,7 +6649,7 @@ L52:;
     v97 = v96 + 2u * 1u;
     store16(v97, 60u);
     v98 = v96 + 4u * 1u;
-    f24(a3, v84, v89, v91, v98);
+    f30(a3, v84, v89, v91, v98);
     v99 = load64(v93);
     v100 = (u64)((u64)v99 + (u64)1u);
     store64(v93, v100);
@@ -5022,10 +6786,10 @@ L66:;
     store64(v138, v160);
     goto L69;
 L67:;
-    f30(a0, v12, a3);
+    f35(a0, v12, a3);
     goto L69;
 L68:;
-    f32(a0, v29, a1, v26, v25, a3);
+    f37(a0, v29, a1, v26, v25, a3);
     goto L69;
 L69:;
     return;
@@ -5047,14 +6811,14 @@ L70:;
     v173 = v172 + 2u * 1u;
     store16(v173, 60u);
     v174 = v172 + 4u * 1u;
-    f24(a3, v163, 2u, v167, v174);
+    f30(a3, v163, 2u, v167, v174);
     v175 = load64(v169);
     v176 = (u64)((u64)v175 + (u64)1u);
     store64(v169, v176);
     goto L69;
 }
 
-static void f24(address a0, u16 a1, u16 a2, u16 a3, address a4) {
+static void f30(address a0, u16 a1, u16 a2, u16 a3, address a4) {
     u64 v5, v7, v8, v9, v14, v16, v17;
     address v6, v11, v12, v19, v20, v21, v23, v25, v26, v28;
     u8 v10, v13, v15, v18;
@@ -5080,7 +6844,7 @@ L2:;
     else { v5 = v14; goto L2; }
 L3:;
     v16 = (u64)v6;
-    v17 = (u64)((u64)v16 - (u64)ADDRESS(c137));
+    v17 = (u64)((u64)v16 - (u64)ADDRESS(c144));
     v18 = v17 < 12u;
     if (v18) { goto L4; }
     else { goto L5; }
@@ -5092,7 +6856,7 @@ L4:;
     store32(v20, 0u);
     goto L6;
 L5:;
-    memory_cpy(v6, ADDRESS(c137), 12u);
+    memory_cpy(v6, ADDRESS(c144), 12u);
     goto L6;
 L6:;
     v21 = a4 + 50u * 1u;
@@ -5111,7 +6875,7 @@ L6:;
     return;
 }
 
-static u8 f25(address a0, address a1, u64 a2) {
+static u8 f31(address a0, address a1, u64 a2) {
     address v3, v6, v8, v10, v12, v15, v29;
     u64 v4, v17;
     u8 v5, v7, v9, v11, v13, v14, v16, v18, v19, v20, v21, v25, v27, v28, v30, v31;
@@ -5153,7 +6917,7 @@ L3:;
     else { v3 = v15; v4 = v17; goto L4; }
 L4:;
     memory_set(v6, 0u, 24u);
-    f26(v6, v3, v4);
+    f32(v6, v3, v4);
     v19 = load8(v6);
     v20 = v19 == 0u;
     v5 = v20; goto L13;
@@ -5212,7 +6976,7 @@ L14:;
     UNREACHABLE;
 }
 
-static void f26(address a0, address a1, u64 a2) {
+static void f32(address a0, address a1, u64 a2) {
     u64 v3, v4, v5, v6, v7, v8, v9, v10, v11, v12, v13, v14, v15, v17, v21, v33;
     u64 v43, v57, v58, v59, v60, v61, v62, v63, v64, v65, v66, v67, v68, v69, v70, v71;
     u64 v72, v73, v74, v75, v76, v77, v78, v79, v81, v82, v83, v84, v85, v87, v105, v106;
@@ -5506,7 +7270,7 @@ L11:;
     else { v7 = v6; goto L13; }
 L12:;
     v246 = (u64)((u64)v6 + (u64)32u);
-    v247 = f27(v18, v246, a2);
+    v247 = f33(v18, v246, a2);
     v248 = (u64)((u64)a2 - (u64)v247);
     v249 = v248 > 31u;
     if (v249) { v6 = v247; goto L11; }
@@ -5760,7 +7524,7 @@ L45:;
     v13 = 0u; v14 = v403; v15 = a2; goto L36;
 }
 
-static u64 f27(address a0, u64 a1, u64 a2) {
+static u64 f33(address a0, u64 a1, u64 a2) {
     u64 v3, v4, v5, v24, v25, v26, v27, v28, v29, v30, v31, v32, v33, v34, v35, v36;
     u64 v37, v38, v55, v56, v57, v58, v59, v60, v61, v62, v63, v64, v65, v66, v67, v68;
     u64 v69, v86, v87, v88, v89, v90, v91, v92, v93, v94, v95, v96, v97, v98, v99, v100;
@@ -6116,7 +7880,7 @@ L4:;
     return v4;
 }
 
-static void f28(address a0, u8 a1, u8 a2, address a3) {
+static void f34(address a0, u8 a1, u8 a2, address a3) {
     u64 v4, v6, v7, v8, v9, v10, v17, v21, v23, v24, v25, v27, v29, v32, v33, v35;
     u64 v36, v37, v42, v45, v50, v51, v57, v58, v64, v65, v92, v95, v96, v100, v102, v103;
     u64 v106, v112, v115, v119, v121, v122, v129, v132, v134, v136, v137;
@@ -6183,7 +7947,7 @@ L4:;
     if (v28) { v6 = v25; goto L6; }
     else { goto L5; }
 L5:;
-    f29(v22, v25);
+    f19(v22, v25);
     v29 = load64(v26);
     v6 = v29; goto L6;
 L6:;
@@ -6435,54 +8199,7 @@ L44:;
     UNREACHABLE;
 }
 
-static void f29(address a0, u64 a1) {
-    u64 v2, v3, v5, v8, v9, v10, v13, v14, v19;
-    address v4, v7, v12, v16, v17;
-    u8 v6, v11, v15, v18, v20;
-    v4 = a0 + 136u * 1u;
-    v5 = load64(v4);
-    v6 = a1 < v5;
-    if (v6) { goto L1; }
-    else { v2 = v5; goto L2; }
-L1:;
-    v7 = a0 + a1 * 1u;
-    v8 = (u64)((u64)v5 - (u64)a1);
-    memory_set(v7, 0u, v8);
-    store64(v4, a1);
-    v2 = a1; goto L2;
-L2:;
-    v9 = (u64)((u64)a1 - (u64)v2);
-    v10 = (u64)((u64)130u - (u64)v2);
-    v11 = v10 < v9;
-    if (v11) { goto L7; }
-    else { goto L3; }
-L3:;
-    v12 = a0 + v2 * 1u;
-    v13 = (u64)v12;
-    v14 = (u64)((u64)v13 - (u64)(ADDRESS(c136) + 8u * 1u));
-    v15 = v14 < v9;
-    if (v15) { v3 = 0u; goto L5; }
-    else { goto L4; }
-L4:;
-    memory_cpy(v12, (ADDRESS(c136) + 8u * 1u), v9);
-    goto L6;
-L5:;
-    v16 = v12 + v3 * 1u;
-    v17 = (ADDRESS(c136) + 8u * 1u) + v3 * 1u;
-    v18 = load8(v17);
-    store8(v16, v18);
-    v19 = (u64)((u64)v3 + (u64)1u);
-    v20 = v19 == v9;
-    if (v20) { goto L6; }
-    else { v3 = v19; goto L5; }
-L6:;
-    store64(v4, a1);
-    goto L7;
-L7:;
-    return;
-}
-
-static void f30(address a0, u8 a1, address a2) {
+static void f35(address a0, u8 a1, address a2) {
     u64 v3, v4, v5, v6, v11, v19, v20, v27, v28, v29, v34, v36, v37, v38, v43, v52;
     u64 v53, v55, v63, v64, v71, v72, v73, v78, v80, v81, v82, v87, v96, v97;
     address v7, v9, v10, v12, v13, v15, v16, v17, v18, v21, v24, v25, v26, v31, v32, v40;
@@ -6571,7 +8288,7 @@ L7:;
     goto L15;
 L8:;
     memory_set(v7, 0u, 144u);
-    f31(a0, a1, v7);
+    f36(a0, a1, v7);
     v54 = v7 + 136u * 1u;
     v55 = load64(v54);
     v56 = a2 + 58u * 1u;
@@ -6648,7 +8365,7 @@ L15:;
     return;
 }
 
-static void f31(address a0, u8 a1, address a2) {
+static void f36(address a0, u8 a1, address a2) {
     u64 v3, v5, v6, v7, v8, v9, v10, v11, v12, v13, v14, v15, v19, v20, v24, v27;
     u64 v29, v30, v33, v34, v35, v40, v42, v44, v47, v48, v54, v55, v59, v60, v71, v72;
     u64 v78, v83, v84, v87, v88, v89, v113, v114, v115, v121, v123, v124, v130, v131, v134, v135;
@@ -7258,7 +8975,7 @@ L62:;
     UNREACHABLE;
 }
 
-static void f32(address a0, address a1, address a2, u8 a3, u8 a4, address a5) {
+static void f37(address a0, address a1, address a2, u8 a3, u8 a4, address a5) {
     u16 v6, v7, v17, v21, v22, v40, v42, v43, v51, v56, v74, v75, v88, v89, v94, v95;
     u16 v96, v97, v102, v126, v127, v132, v150, v151, v166, v184, v186, v187, v192, v210, v211;
     u64 v8, v9, v10, v11, v13, v14, v20, v31, v34, v35, v36, v46, v47, v52, v53, v60;
@@ -7305,7 +9022,7 @@ L3:;
     v34 = (u64)v7;
     v35 = (u64)v22;
     v36 = (u64)a4;
-    v37 = ADDRESS(c351) + v36 * 2u;
+    v37 = ADDRESS(c360) + v36 * 2u;
     v8 = v34; goto L4;
 L4:;
     v38 = load8(v24);
@@ -7328,7 +9045,7 @@ L5:;
     store16(v49, 60u);
     v50 = v48 + 4u * 1u;
     v51 = (u16)(v8);
-    f24(a5, v51, v42, v43, v50);
+    f30(a5, v51, v42, v43, v50);
     v52 = load64(v45);
     v53 = (u64)((u64)v52 + (u64)1u);
     store64(v45, v53);
@@ -7652,7 +9369,7 @@ L37:;
     return;
 }
 
-static void f33(address a0, address a1, u64 a2) {
+static void f38(address a0, address a1, u64 a2) {
     u64 v3, v4, v5, v7, v10, v12, v14, v15, v16, v21, v24, v25, v28, v29, v30, v35;
     u64 v37;
     address v6, v9, v11, v18, v19, v27, v32, v33;
@@ -7731,7 +9448,7 @@ L12:;
     return;
 }
 
-static void f34(address a0, address a1, u64 a2) {
+static void f39(address a0, address a1, u64 a2) {
     u64 v3, v4, v5, v6, v11;
     u8 v7, v10, v12;
     address v8, v9;
@@ -7757,7 +9474,7 @@ L3:;
     return;
 }
 
-static void f35(address a0, address a1, u64 a2) {
+static void f40(address a0, address a1, u64 a2) {
     u64 v3, v4, v5, v7, v10, v12, v14, v15, v16, v21, v24, v25, v28, v29, v30, v35;
     u64 v37;
     address v6, v9, v11, v18, v19, v27, v32, v33;
@@ -7836,7 +9553,7 @@ L12:;
     return;
 }
 
-static void f36(address a0, address a1, address a2) {
+static void f41(address a0, address a1, address a2) {
     u64 v3, v4, v5, v6, v7, v8, v10, v15, v19, v22, v24, v25, v26, v29, v30, v31;
     u64 v36, v38, v41, v42, v43, v48, v50, v53, v54, v55, v60, v62, v65, v66, v67, v72;
     u64 v74, v75;
@@ -7988,7 +9705,7 @@ L21:;
     return;
 }
 
-static void f37(address a0, u64 a1, address a2, address a3, u16 a4, address a5) {
+static void f42(address a0, u64 a1, address a2, address a3, u16 a4, address a5) {
     u64 v6, v8, v15, v17, v19, v22, v40, v41;
     address v7, v9, v11, v12, v13, v14, v16, v20, v21, v23, v25, v26, v28, v34, v36, v38;
     address v39;
@@ -8034,7 +9751,7 @@ L5:;
     memory_move(v26, v7, 80u);
     goto L7;
 L6:;
-    f34(v26, v7, v19);
+    f39(v26, v7, v19);
     goto L7;
 L7:;
     v27 = load8(a3);
@@ -8070,7 +9787,7 @@ L10:;
     return;
 }
 
-static void f38(address a0, u8 a1, u16 a2, address a3, address a4, address a5) {
+static void f43(address a0, u8 a1, u16 a2, address a3, address a4, address a5) {
     address v6, v8, v9, v10, v12, v13, v18, v22, v24, v27, v30, v36, v40, v42, v45, v47;
     address v50, v53, v55, v57, v59, v61, v63, v73, v74, v75, v76, v77, v78, v79, v81, v83;
     address v85, v91, v93, v99, v101, v103, v104, v105, v110, v111, v112, v114, v116, v118, v119, v120;
@@ -8153,7 +9870,7 @@ L6:;
 L7:;
     UNREACHABLE;
 L8:;
-    f39(a0, a2, a3, a5);
+    f44(a0, a2, a3, a5);
     goto L9;
 L9:;
     v44 = a1 == 9u;
@@ -8177,7 +9894,7 @@ L10:;
     v59 = v50 + 43u * 1u;
     v60 = load8(v59);
     if (v49) { goto L11; }
-    else { v6 = ADDRESS(c138); v7 = 0u; goto L12; }
+    else { v6 = ADDRESS(c145); v7 = 0u; goto L12; }
 L11:;
     v61 = a4 + 8u * 1u;
     v62 = load64(v61);
@@ -8275,13 +9992,13 @@ L12:;
     v129 = swap16(v72);
     v130 = v9 + 52u * 1u;
     store16(v130, v129);
-    f40(a0, v8, v9);
+    f45(a0, v8, v9);
     goto L13;
 L13:;
     return;
 }
 
-static void f39(address a0, u16 a1, address a2, address a3) {
+static void f44(address a0, u16 a1, address a2, address a3) {
     u64 v4, v5, v7, v15, v16, v17, v19, v20, v22, v26, v27, v35, v39, v40, v45, v50;
     u64 v51, v52;
     address v6, v11, v12, v13, v14, v23, v25, v28, v37, v38, v42, v43, v47;
@@ -8383,7 +10100,7 @@ L11:;
     return;
 }
 
-static void f40(address a0, address a1, address a2) {
+static void f45(address a0, address a1, address a2) {
     address v3, v15, v16, v17, v20, v22, v23, v24, v25, v26, v27, v28, v29, v30, v31, v33;
     address v34, v36, v38, v39, v42, v43, v44, v49, v50, v52, v53, v54, v56, v57, v60, v61;
     address v62, v65, v67, v68, v70, v71, v72, v73, v76, v77, v78, v79, v84, v85, v90, v92;
@@ -8403,7 +10120,7 @@ static void f40(address a0, address a1, address a2) {
     v20 = a1 + 2u * 1u;
     v21 = load16(v20);
     switch (v21) {
-    case 0u: v3 = ADDRESS(c110); v4 = 19u; v5 = 0u; v6 = 1u; v7 = 7u; v8 = 0u; v9 = 0u; goto L21;
+    case 0u: v3 = ADDRESS(c117); v4 = 19u; v5 = 0u; v6 = 1u; v7 = 7u; v8 = 0u; v9 = 0u; goto L21;
     case 2u: goto L1;
     case 8192u: goto L2;
     case 8193u: goto L3;
@@ -8427,45 +10144,45 @@ static void f40(address a0, address a1, address a2) {
     default: goto L22;
     }
 L1:;
-    v3 = ADDRESS(c111); v4 = 16u; v5 = 1u; v6 = 0u; v7 = 3u; v8 = 1u; v9 = 0u; goto L21;
+    v3 = ADDRESS(c118); v4 = 16u; v5 = 1u; v6 = 0u; v7 = 3u; v8 = 1u; v9 = 0u; goto L21;
 L2:;
-    v3 = ADDRESS(c112); v4 = 16u; v5 = 1u; v6 = 0u; v7 = 1u; v8 = 2u; v9 = 0u; goto L21;
+    v3 = ADDRESS(c119); v4 = 16u; v5 = 1u; v6 = 0u; v7 = 1u; v8 = 2u; v9 = 0u; goto L21;
 L3:;
-    v3 = ADDRESS(c113); v4 = 16u; v5 = 1u; v6 = 0u; v7 = 1u; v8 = 3u; v9 = 0u; goto L21;
+    v3 = ADDRESS(c120); v4 = 16u; v5 = 1u; v6 = 0u; v7 = 1u; v8 = 3u; v9 = 0u; goto L21;
 L4:;
-    v3 = ADDRESS(c114); v4 = 15u; v5 = 1u; v6 = 0u; v7 = 1u; v8 = 4u; v9 = 0u; goto L21;
+    v3 = ADDRESS(c121); v4 = 15u; v5 = 1u; v6 = 0u; v7 = 1u; v8 = 4u; v9 = 0u; goto L21;
 L5:;
-    v3 = ADDRESS(c115); v4 = 24u; v5 = 1u; v6 = 0u; v7 = 1u; v8 = 5u; v9 = 0u; goto L21;
+    v3 = ADDRESS(c122); v4 = 24u; v5 = 1u; v6 = 0u; v7 = 1u; v8 = 5u; v9 = 0u; goto L21;
 L6:;
-    v3 = ADDRESS(c116); v4 = 13u; v5 = 0u; v6 = 1u; v7 = 1u; v8 = 6u; v9 = 0u; goto L21;
+    v3 = ADDRESS(c123); v4 = 13u; v5 = 0u; v6 = 1u; v7 = 1u; v8 = 6u; v9 = 0u; goto L21;
 L7:;
-    v3 = ADDRESS(c117); v4 = 9u; v5 = 1u; v6 = 0u; v7 = 3u; v8 = 7u; v9 = 0u; goto L21;
+    v3 = ADDRESS(c124); v4 = 9u; v5 = 1u; v6 = 0u; v7 = 3u; v8 = 7u; v9 = 0u; goto L21;
 L8:;
-    v3 = ADDRESS(c118); v4 = 9u; v5 = 1u; v6 = 0u; v7 = 3u; v8 = 8u; v9 = 0u; goto L21;
+    v3 = ADDRESS(c125); v4 = 9u; v5 = 1u; v6 = 0u; v7 = 3u; v8 = 8u; v9 = 0u; goto L21;
 L9:;
-    v3 = ADDRESS(c119); v4 = 6u; v5 = 1u; v6 = 0u; v7 = 3u; v8 = 9u; v9 = 0u; goto L21;
+    v3 = ADDRESS(c126); v4 = 6u; v5 = 1u; v6 = 0u; v7 = 3u; v8 = 9u; v9 = 0u; goto L21;
 L10:;
-    v3 = ADDRESS(c120); v4 = 10u; v5 = 1u; v6 = 0u; v7 = 1u; v8 = 10u; v9 = 0u; goto L21;
+    v3 = ADDRESS(c127); v4 = 10u; v5 = 1u; v6 = 0u; v7 = 1u; v8 = 10u; v9 = 0u; goto L21;
 L11:;
-    v3 = ADDRESS(c126); v4 = 21u; v5 = 0u; v6 = 1u; v7 = 3u; v8 = 11u; v9 = 0u; goto L21;
+    v3 = ADDRESS(c133); v4 = 21u; v5 = 0u; v6 = 1u; v7 = 3u; v8 = 11u; v9 = 0u; goto L21;
 L12:;
-    v3 = ADDRESS(c128); v4 = 24u; v5 = 0u; v6 = 1u; v7 = 3u; v8 = 11u; v9 = 1u; goto L21;
+    v3 = ADDRESS(c135); v4 = 24u; v5 = 0u; v6 = 1u; v7 = 3u; v8 = 11u; v9 = 1u; goto L21;
 L13:;
-    v3 = ADDRESS(c130); v4 = 17u; v5 = 0u; v6 = 1u; v7 = 3u; v8 = 11u; v9 = 2u; goto L21;
+    v3 = ADDRESS(c137); v4 = 17u; v5 = 0u; v6 = 1u; v7 = 3u; v8 = 11u; v9 = 2u; goto L21;
 L14:;
-    v3 = ADDRESS(c121); v4 = 14u; v5 = 0u; v6 = 1u; v7 = 1u; v8 = 12u; v9 = 0u; goto L21;
+    v3 = ADDRESS(c128); v4 = 14u; v5 = 0u; v6 = 1u; v7 = 1u; v8 = 12u; v9 = 0u; goto L21;
 L15:;
-    v3 = ADDRESS(c122); v4 = 11u; v5 = 0u; v6 = 1u; v7 = 4u; v8 = 13u; v9 = 0u; goto L21;
+    v3 = ADDRESS(c129); v4 = 11u; v5 = 0u; v6 = 1u; v7 = 4u; v8 = 13u; v9 = 0u; goto L21;
 L16:;
-    v3 = ADDRESS(c123); v4 = 12u; v5 = 0u; v6 = 1u; v7 = 4u; v8 = 14u; v9 = 0u; goto L21;
+    v3 = ADDRESS(c130); v4 = 12u; v5 = 0u; v6 = 1u; v7 = 4u; v8 = 14u; v9 = 0u; goto L21;
 L17:;
-    v3 = ADDRESS(c124); v4 = 14u; v5 = 1u; v6 = 0u; v7 = 3u; v8 = 15u; v9 = 0u; goto L21;
+    v3 = ADDRESS(c131); v4 = 14u; v5 = 1u; v6 = 0u; v7 = 3u; v8 = 15u; v9 = 0u; goto L21;
 L18:;
-    v3 = ADDRESS(c125); v4 = 14u; v5 = 1u; v6 = 0u; v7 = 3u; v8 = 16u; v9 = 0u; goto L21;
+    v3 = ADDRESS(c132); v4 = 14u; v5 = 1u; v6 = 0u; v7 = 3u; v8 = 16u; v9 = 0u; goto L21;
 L19:;
-    v3 = ADDRESS(c132); v4 = 15u; v5 = 0u; v6 = 1u; v7 = 3u; v8 = 11u; v9 = 3u; goto L21;
+    v3 = ADDRESS(c139); v4 = 15u; v5 = 0u; v6 = 1u; v7 = 3u; v8 = 11u; v9 = 3u; goto L21;
 L20:;
-    v3 = ADDRESS(c134); v4 = 27u; v5 = 0u; v6 = 1u; v7 = 3u; v8 = 11u; v9 = 4u; goto L21;
+    v3 = ADDRESS(c141); v4 = 27u; v5 = 0u; v6 = 1u; v7 = 3u; v8 = 11u; v9 = 4u; goto L21;
 L21:;
     memory_set(v15, 0u, 6u);
     memory_cpy(v17, v15, 6u);
@@ -8507,7 +10224,7 @@ L22:;
     v43 = v42 + 2u * 1u;
     store16(v43, 60u);
     v44 = v42 + 4u * 1u;
-    f24(a2, v32, v35, v37, v44);
+    f30(a2, v32, v35, v37, v44);
     v45 = load64(v39);
     v46 = (u64)((u64)v45 + (u64)1u);
     store64(v39, v46);
@@ -8546,7 +10263,7 @@ L28:;
     v61 = v60 + 2u * 1u;
     store16(v61, 60u);
     v62 = v60 + 4u * 1u;
-    f24(a2, v51, 6u, v55, v62);
+    f30(a2, v51, 6u, v55, v62);
     v63 = load64(v57);
     v64 = (u64)((u64)v63 + (u64)1u);
     store64(v57, v64);
@@ -8634,2644 +10351,14 @@ L38:;
     store64(v73, v95);
     goto L23;
 L39:;
-    f30(a0, v8, a2);
+    f35(a0, v8, a2);
     goto L23;
 L40:;
-    f32(a0, v16, a1, v14, v13, a2);
+    f37(a0, v16, a1, v14, v13, a2);
     goto L23;
 }
 
-static struct s2 f41(address a0, address a1, u64 a2) {
-    u64 v3, v4, v5, v6, v7, v8, v9, v13, v14, v15, v16, v18, v19, v21, v22, v23;
-    u64 v24, v25, v27, v30, v34, v35, v36, v37, v38, v39, v48, v52, v53, v55, v58, v66;
-    u64 v67, v71, v73, v80, v84, v86, v90, v94, v96, v98, v99, v100, v101, v103, v104, v105;
-    u64 v106, v108, v109, v110, v113, v115, v121, v124, v128, v130, v134, v140, v141, v150, v152, v163;
-    u64 v172, v173, v174, v179, v181, v183, v185, v187, v195, v197, v233, v234, v236, v242, v243, v244;
-    u64 v245, v323, v328, v330, v332, v333, v334, v336, v337, v338, v340, v345, v347, v348, v350, v352;
-    address v10, v11, v12, v17, v20, v26, v28, v31, v41, v42, v43, v44, v45, v47, v50, v54;
-    address v56, v57, v60, v61, v62, v63, v64, v68, v69, v70, v72, v75, v76, v77, v82, v83;
-    address v112, v114, v117, v118, v119, v120, v123, v125, v131, v132, v133, v136, v137, v138, v142, v143;
-    address v145, v147, v149, v151, v153, v156, v164, v165, v166, v167, v168, v169, v170, v171, v176, v177;
-    address v182, v186, v189, v190, v191, v194, v198, v199, v201, v208, v210, v217, v219, v228, v232, v235;
-    address v237, v241, v248, v249, v251, v252, v254, v255, v257, v258, v260, v261, v263, v264, v266, v267;
-    address v269, v270, v272, v273, v275, v276, v278, v279, v281, v282, v284, v285, v287, v288, v290, v291;
-    address v293, v294, v296, v297, v299, v300, v302, v303, v305, v306, v308, v309, v311, v312, v314, v315;
-    address v317, v318, v320, v321, v325, v326, v331, v341, v342, v343, v355, v356, v357, v358, v359, v360;
-    address v361, v362, v363, v364, v365;
-    u16 v29, v146, v148, v154, v155, v157, v158, v159, v160, v161, v162, v203, v204, v205, v206, v207;
-    u16 v212, v213, v214, v215, v221, v222, v223, v224, v225, v226, v238, v239;
-    u8 v32, v33, v40, v46, v49, v51, v59, v65, v74, v78, v79, v81, v85, v87, v88, v89;
-    u8 v91, v92, v93, v95, v97, v102, v107, v111, v116, v122, v126, v127, v129, v135, v139, v144;
-    u8 v175, v178, v180, v184, v188, v192, v193, v196, v200, v202, v209, v211, v216, v218, v220, v227;
-    u8 v229, v230, v231, v240, v246, v247, v250, v253, v256, v259, v262, v265, v268, v271, v274, v277;
-    u8 v280, v283, v286, v289, v292, v295, v298, v301, v304, v307, v310, v313, v316, v319, v322, v324;
-    u8 v327, v329, v335, v339, v344, v346, v349, v351, v353, v354;
-    struct s2 v366, v367;
-    u64 block0[5];
-    u64 block1[5];
-    u64 block2[42];
-    u64 block3[4];
-    u64 block4[5];
-    v41 = ADDRESS(block0);
-    v42 = ADDRESS(block1);
-    v43 = ADDRESS(block2);
-    v44 = ADDRESS(block3);
-    v45 = ADDRESS(block4);
-    v46 = a2 > 27184u;
-    if (v46) { goto L19; }
-    else { goto L1; }
-L1:;
-    v47 = a0 + 160u * 1u;
-    v48 = load64(v47);
-    v49 = v48 == 0u;
-    if (v49) { v3 = 89u; goto L3; }
-    else { goto L2; }
-L2:;
-    v50 = a0 + 24u * 1u;
-    v51 = load8(v50);
-    v52 = (u64)v51;
-    v53 = (u64)((u64)v52 + (u64)89u);
-    v3 = v53; goto L3;
-L3:;
-    v54 = a0 + 432u * 1u;
-    v55 = load64(v54);
-    v56 = a0 + 440u * 1u;
-    memory_set(v45, 0u, 40u);
-    f42(v45, v56);
-    v57 = v45 + 32u * 1u;
-    v58 = load64(v57);
-    v59 = v58 == 0u;
-    if (v59) { v16 = 0u; goto L18; }
-    else { goto L4; }
-L4:;
-    v60 = v45 + 16u * 1u;
-    v61 = v44 + 16u * 1u;
-    v62 = v44 + 24u * 1u;
-    v63 = v44 + 25u * 1u;
-    v4 = 0u; v5 = 0u; goto L5;
-L5:;
-    v64 = v60 + v5 * 1u;
-    v65 = load8(v64);
-    v66 = (u64)v65;
-    v67 = (u64)((u64)v66 * (u64)2136u);
-    v68 = load_address(v45);
-    v69 = v68 + v67 * 1u;
-    v70 = v69 + 1424u * 1u;
-    v71 = load64(v70);
-    v72 = v69 + 1440u * 1u;
-    v73 = load64(v72);
-    v74 = v73 == 0u;
-    if (v74) { v15 = 0u; goto L17; }
-    else { goto L6; }
-L6:;
-    v75 = v69 + 1432u * 1u;
-    v76 = v69 + 1448u * 1u;
-    v77 = v69 + 2121u * 1u;
-    v6 = 0u; v7 = 0u; goto L7;
-L7:;
-    v78 = load8(v77);
-    v79 = load8(v75);
-    v80 = (u64)v79;
-    v81 = v7 == 0u;
-    if (v81) { v12 = v76; v13 = v80; goto L9; }
-    else { v8 = v80; v9 = v7; v10 = v76; v11 = v75; goto L8; }
-L8:;
-    v82 = v10 + v8 * 1u;
-    v83 = v11 + 1u * 1u;
-    v84 = (u64)((u64)v9 + (u64)UINT64_C(18446744073709551615));
-    v85 = load8(v83);
-    v86 = (u64)v85;
-    v87 = v84 == 0u;
-    if (v87) { v12 = v82; v13 = v86; goto L9; }
-    else { v8 = v86; v9 = v84; v10 = v82; v11 = v83; goto L8; }
-L9:;
-    memory_set(v44, 0u, 32u);
-    f8(v44, v12, v13);
-    v88 = load8(v44);
-    v89 = v88 == 1u;
-    if (v89) { goto L14; }
-    else { goto L10; }
-L10:;
-    v90 = load64(v61);
-    v91 = load8(v62);
-    v92 = load8(v63);
-    switch (v92) {
-    case 0u: goto L12;
-    case 1u: goto L11;
-    default: goto L15;
-    }
-L11:;
-    v14 = 3u; goto L16;
-L12:;
-    v93 = v91 == 2u;
-    if (v93) { goto L13; }
-    else { goto L14; }
-L13:;
-    v94 = (u64)((u64)v90 + (u64)UINT64_C(18446744073709551564));
-    v14 = v94; goto L16;
-L14:;
-    v14 = 1u; goto L16;
-L15:;
-    v95 = v91 == 2u;
-    v96 = v95 ? 2u : 1u;
-    v14 = v96; goto L16;
-L16:;
-    v97 = v78 == 0u;
-    v98 = v97 ? 0u : 2u;
-    v99 = (u64)((u64)v98 + (u64)v6);
-    v100 = (u64)((u64)v99 + (u64)v14);
-    v101 = (u64)((u64)v7 + (u64)1u);
-    v102 = v101 == v73;
-    if (v102) { v15 = v100; goto L17; }
-    else { v6 = v100; v7 = v101; goto L7; }
-L17:;
-    v103 = (u64)((u64)v4 + (u64)20u);
-    v104 = (u64)((u64)v103 + (u64)v71);
-    v105 = (u64)((u64)v104 + (u64)v15);
-    v106 = (u64)((u64)v5 + (u64)1u);
-    v107 = v106 == v58;
-    if (v107) { v16 = v105; goto L18; }
-    else { v4 = v105; v5 = v106; goto L5; }
-L18:;
-    v108 = (u64)((u64)v55 * (u64)15u);
-    v109 = (u64)((u64)v108 + (u64)v3);
-    v110 = (u64)((u64)v109 + (u64)v16);
-    v111 = v110 > a2;
-    if (v111) { v39 = 0u; v40 = 0u; goto L55; }
-    else { goto L19; }
-L19:;
-    v112 = a0 + 440u * 1u;
-    v113 = (u64)((u64)a2 + (u64)UINT64_C(18446744073709551604));
-    memory_set(v43, 0u, 336u);
-    f43(v43, a0);
-    v114 = v43 + 328u * 1u;
-    v115 = load64(v114);
-    v116 = v113 < v115;
-    if (v116) { goto L20; }
-    else { goto L21; }
-L20:;
-    TRAP;
-    UNREACHABLE;
-L21:;
-    v117 = a1 + 12u * 1u;
-    memory_cpy(v117, v43, v115);
-    v118 = a0 + 448u * 1u;
-    v119 = load_address(v118);
-    v120 = a0 + 456u * 1u;
-    v121 = load64(v120);
-    v17 = v119; v18 = v121; v19 = 0u; goto L22;
-L22:;
-    v20 = v17; v21 = v18; goto L23;
-L23:;
-    v122 = v21 == 0u;
-    if (v122) { goto L26; }
-    else { goto L24; }
-L24:;
-    v123 = v20 + 2136u * 1u;
-    v124 = (u64)((u64)v21 + (u64)UINT64_C(18446744073709551615));
-    v125 = v20 + 2129u * 1u;
-    v126 = load8(v125);
-    v127 = (u8)((v126) & UINT64_C(1));
-    if (v127) { goto L25; }
-    else { v20 = v123; v21 = v124; goto L23; }
-L25:;
-    v128 = (u64)((u64)v19 + (u64)1u);
-    v17 = v123; v18 = v124; v19 = v128; goto L22;
-L26:;
-    v129 = (u8)(v19);
-    v130 = (u64)((u64)v115 + (u64)13u);
-    v131 = a1 + v115 * 1u;
-    v132 = v131 + 12u * 1u;
-    store8(v132, v129);
-    memory_set(v42, 0u, 40u);
-    f42(v42, v112);
-    memory_cpy(v41, v42, 40u);
-    v133 = v41 + 32u * 1u;
-    v134 = load64(v133);
-    v135 = v134 == 0u;
-    if (v135) { v38 = v130; goto L54; }
-    else { goto L27; }
-L27:;
-    v136 = v41 + 16u * 1u;
-    v137 = load_address(v41);
-    v22 = v130; v23 = 0u; goto L28;
-L28:;
-    v138 = v136 + v23 * 1u;
-    v139 = load8(v138);
-    v140 = (u64)v139;
-    v141 = (u64)((u64)v140 * (u64)2136u);
-    v142 = v137 + v141 * 1u;
-    v143 = v142 + 2120u * 1u;
-    v144 = load8(v143);
-    v145 = v142 + 2116u * 1u;
-    v146 = load16(v145);
-    v147 = v142 + 2118u * 1u;
-    v148 = load16(v147);
-    v149 = v142 + 1424u * 1u;
-    v150 = load64(v149);
-    v151 = v142 + 2104u * 1u;
-    v152 = load64(v151);
-    v153 = v142 + 2112u * 1u;
-    v154 = load16(v153);
-    v155 = swap16(v154);
-    v156 = v142 + 2114u * 1u;
-    v157 = load16(v156);
-    v158 = swap16(v157);
-    v159 = swap16(v146);
-    v160 = swap16(v148);
-    v161 = (u16)(v150);
-    v162 = swap16(v161);
-    v163 = (u64)((u64)v22 + (u64)19u);
-    v164 = a1 + v22 * 1u;
-    store64(v164, v152);
-    v165 = v164 + 8u * 1u;
-    store16(v165, v155);
-    v166 = v164 + 10u * 1u;
-    store16(v166, v158);
-    v167 = v164 + 12u * 1u;
-    store8(v167, v144);
-    v168 = v164 + 13u * 1u;
-    store16(v168, v159);
-    v169 = v164 + 15u * 1u;
-    store16(v169, v160);
-    v170 = v164 + 17u * 1u;
-    store16(v170, v162);
-    v171 = a1 + v163 * 1u;
-    v172 = (u64)v171;
-    v173 = (u64)v142;
-    v174 = (u64)((u64)v172 - (u64)v173);
-    v175 = v174 < v150;
-    if (v175) { v24 = 0u; goto L30; }
-    else { goto L29; }
-L29:;
-    memory_move(v171, v142, v150);
-    goto L31;
-L30:;
-    v176 = v171 + v24 * 1u;
-    v177 = v142 + v24 * 1u;
-    v178 = load8(v177);
-    store8(v176, v178);
-    v179 = (u64)((u64)v24 + (u64)1u);
-    v180 = v179 == v150;
-    if (v180) { goto L31; }
-    else { v24 = v179; goto L30; }
-L31:;
-    v181 = (u64)((u64)v150 + (u64)v163);
-    v182 = v142 + 1440u * 1u;
-    v183 = load64(v182);
-    v184 = (u8)(v183);
-    v185 = (u64)((u64)v181 + (u64)1u);
-    v186 = a1 + v181 * 1u;
-    store8(v186, v184);
-    v187 = load64(v182);
-    v188 = v187 == 0u;
-    if (v188) { v37 = v185; goto L53; }
-    else { goto L32; }
-L32:;
-    v189 = v142 + 1448u * 1u;
-    v190 = v142 + 1432u * 1u;
-    v191 = v142 + 2121u * 1u;
-    v192 = load8(v191);
-    v193 = (u8)((v192) & UINT64_C(1));
-    v25 = v185; v26 = v189; v27 = v187; v28 = v190; goto L33;
-L33:;
-    v194 = v28 + 1u * 1u;
-    v195 = (u64)((u64)v27 + (u64)UINT64_C(18446744073709551615));
-    v196 = load8(v28);
-    v197 = (u64)v196;
-    v198 = v26 + v197 * 1u;
-    if (v193) { goto L34; }
-    else { v29 = 0u; goto L35; }
-L34:;
-    v199 = v26 + 28u * 1u;
-    v200 = load8(v199);
-    v201 = v26 + 29u * 1u;
-    v202 = load8(v201);
-    v203 = (u16)v200;
-    v204 = (u16)((u32)v203 << (8u & 15u));
-    v205 = (u16)v202;
-    v206 = (u16)((u32)v204 | (u32)v205);
-    v207 = swap16(v206);
-    v29 = v207; goto L35;
-L35:;
-    v208 = v26 + 48u * 1u;
-    v209 = load8(v208);
-    v210 = v26 + 49u * 1u;
-    v211 = load8(v210);
-    v212 = (u16)v209;
-    v213 = (u16)((u32)v212 << (8u & 15u));
-    v214 = (u16)v211;
-    v215 = (u16)((u32)v213 | (u32)v214);
-    v216 = v215 == 2u;
-    if (v216) { goto L36; }
-    else { goto L37; }
-L36:;
-    v217 = v26 + 52u * 1u;
-    v218 = load8(v217);
-    v219 = v26 + 53u * 1u;
-    v220 = load8(v219);
-    v221 = (u16)v218;
-    v222 = (u16)((u32)v221 << (8u & 15u));
-    v223 = (u16)v220;
-    v224 = (u16)((u32)v222 | (u32)v223);
-    v225 = (u16)((u32)v224 + (u32)65535u);
-    v226 = v225 < 6u ? v225 : 6u;
-    v227 = (u8)(v226);
-    v30 = 0u; v31 = 0u; v32 = 2u; v33 = v227; goto L39;
-L37:;
-    v228 = v26 + 46u * 1u;
-    v229 = load8(v228);
-    v230 = (u8)((u32)v229 & (u32)15u);
-    v231 = v230 == 2u;
-    if (v231) { goto L38; }
-    else { v30 = 0u; v31 = 0u; v32 = 1u; v33 = 0u; goto L39; }
-L38:;
-    v232 = v26 + 54u * 1u;
-    v233 = (u64)((u64)v197 + (u64)UINT64_C(18446744073709551562));
-    v30 = v233; v31 = v232; v32 = 0u; v33 = 0u; goto L39;
-L39:;
-    if (v193) { goto L40; }
-    else { v34 = v25; goto L41; }
-L40:;
-    v234 = (u64)((u64)v25 + (u64)2u);
-    v235 = a1 + v25 * 1u;
-    store16(v235, v29);
-    v34 = v234; goto L41;
-L41:;
-    switch (v32) {
-    case 0u: goto L42;
-    case 1u: goto L49;
-    case 2u: goto L50;
-    default: goto L51;
-    }
-L42:;
-    v236 = (u64)((u64)v34 + (u64)2u);
-    v237 = a1 + v34 * 1u;
-    v238 = (u16)(v30);
-    v239 = (u16)((u32)v238 << (8u & 15u));
-    store16(v237, v239);
-    v240 = v30 == 26u;
-    v241 = a1 + v236 * 1u;
-    v242 = (u64)v241;
-    v243 = (u64)v31;
-    v244 = (u64)((u64)v242 - (u64)v243);
-    if (v240) { goto L43; }
-    else { goto L46; }
-L43:;
-    v245 = (u64)((u64)v34 + (u64)28u);
-    v246 = v244 < 26u;
-    if (v246) { goto L44; }
-    else { goto L45; }
-L44:;
-    v247 = load8(v31);
-    store8(v241, v247);
-    v248 = v241 + 1u * 1u;
-    v249 = v31 + 1u * 1u;
-    v250 = load8(v249);
-    store8(v248, v250);
-    v251 = v241 + 2u * 1u;
-    v252 = v31 + 2u * 1u;
-    v253 = load8(v252);
-    store8(v251, v253);
-    v254 = v241 + 3u * 1u;
-    v255 = v31 + 3u * 1u;
-    v256 = load8(v255);
-    store8(v254, v256);
-    v257 = v241 + 4u * 1u;
-    v258 = v31 + 4u * 1u;
-    v259 = load8(v258);
-    store8(v257, v259);
-    v260 = v241 + 5u * 1u;
-    v261 = v31 + 5u * 1u;
-    v262 = load8(v261);
-    store8(v260, v262);
-    v263 = v241 + 6u * 1u;
-    v264 = v31 + 6u * 1u;
-    v265 = load8(v264);
-    store8(v263, v265);
-    v266 = v241 + 7u * 1u;
-    v267 = v31 + 7u * 1u;
-    v268 = load8(v267);
-    store8(v266, v268);
-    v269 = v241 + 8u * 1u;
-    v270 = v31 + 8u * 1u;
-    v271 = load8(v270);
-    store8(v269, v271);
-    v272 = v241 + 9u * 1u;
-    v273 = v31 + 9u * 1u;
-    v274 = load8(v273);
-    store8(v272, v274);
-    v275 = v241 + 10u * 1u;
-    v276 = v31 + 10u * 1u;
-    v277 = load8(v276);
-    store8(v275, v277);
-    v278 = v241 + 11u * 1u;
-    v279 = v31 + 11u * 1u;
-    v280 = load8(v279);
-    store8(v278, v280);
-    v281 = v241 + 12u * 1u;
-    v282 = v31 + 12u * 1u;
-    v283 = load8(v282);
-    store8(v281, v283);
-    v284 = v241 + 13u * 1u;
-    v285 = v31 + 13u * 1u;
-    v286 = load8(v285);
-    store8(v284, v286);
-    v287 = v241 + 14u * 1u;
-    v288 = v31 + 14u * 1u;
-    v289 = load8(v288);
-    store8(v287, v289);
-    v290 = v241 + 15u * 1u;
-    v291 = v31 + 15u * 1u;
-    v292 = load8(v291);
-    store8(v290, v292);
-    v293 = v241 + 16u * 1u;
-    v294 = v31 + 16u * 1u;
-    v295 = load8(v294);
-    store8(v293, v295);
-    v296 = v241 + 17u * 1u;
-    v297 = v31 + 17u * 1u;
-    v298 = load8(v297);
-    store8(v296, v298);
-    v299 = v241 + 18u * 1u;
-    v300 = v31 + 18u * 1u;
-    v301 = load8(v300);
-    store8(v299, v301);
-    v302 = v241 + 19u * 1u;
-    v303 = v31 + 19u * 1u;
-    v304 = load8(v303);
-    store8(v302, v304);
-    v305 = v241 + 20u * 1u;
-    v306 = v31 + 20u * 1u;
-    v307 = load8(v306);
-    store8(v305, v307);
-    v308 = v241 + 21u * 1u;
-    v309 = v31 + 21u * 1u;
-    v310 = load8(v309);
-    store8(v308, v310);
-    v311 = v241 + 22u * 1u;
-    v312 = v31 + 22u * 1u;
-    v313 = load8(v312);
-    store8(v311, v313);
-    v314 = v241 + 23u * 1u;
-    v315 = v31 + 23u * 1u;
-    v316 = load8(v315);
-    store8(v314, v316);
-    v317 = v241 + 24u * 1u;
-    v318 = v31 + 24u * 1u;
-    v319 = load8(v318);
-    store8(v317, v319);
-    v320 = v241 + 25u * 1u;
-    v321 = v31 + 25u * 1u;
-    v322 = load8(v321);
-    store8(v320, v322);
-    v36 = v245; goto L52;
-L45:;
-    memory_move(v241, v31, 26u);
-    v36 = v245; goto L52;
-L46:;
-    v323 = (u64)((u64)v236 + (u64)v30);
-    v324 = v244 < v30;
-    if (v324) { v35 = 0u; goto L48; }
-    else { goto L47; }
-L47:;
-    memory_move(v241, v31, v30);
-    v36 = v323; goto L52;
-L48:;
-    v325 = v241 + v35 * 1u;
-    v326 = v31 + v35 * 1u;
-    v327 = load8(v326);
-    store8(v325, v327);
-    v328 = (u64)((u64)v35 + (u64)1u);
-    v329 = v328 == v30;
-    if (v329) { v36 = v323; goto L52; }
-    else { v35 = v328; goto L48; }
-L49:;
-    v330 = (u64)((u64)v34 + (u64)1u);
-    v331 = a1 + v34 * 1u;
-    store8(v331, 1u);
-    v36 = v330; goto L52;
-L50:;
-    v332 = (u64)v33;
-    v333 = (u64)(((u64)v332 << (3u & 63u)) & UINT64_C(72057594037927935));
-    v334 = (u64)(((u64)UINT64_C(71501262696415745) >> (v333 & 63u)) & UINT64_C(72057594037927935));
-    v335 = (u8)(v334);
-    v336 = (u64)v33;
-    v337 = (u64)(((u64)v336 << (3u & 63u)) & UINT64_C(72057594037927935));
-    v338 = (u64)(((u64)UINT64_C(71776119061217280) >> (v337 & 63u)) & UINT64_C(72057594037927935));
-    v339 = (u8)(v338);
-    v340 = (u64)((u64)v34 + (u64)3u);
-    v341 = a1 + v34 * 1u;
-    store8(v341, 2u);
-    v342 = v341 + 1u * 1u;
-    store8(v342, v339);
-    v343 = v341 + 2u * 1u;
-    store8(v343, v335);
-    v36 = v340; goto L52;
-L51:;
-    UNREACHABLE;
-L52:;
-    v344 = v195 == 0u;
-    if (v344) { v37 = v36; goto L53; }
-    else { v25 = v36; v26 = v198; v27 = v195; v28 = v194; goto L33; }
-L53:;
-    v345 = (u64)((u64)v23 + (u64)1u);
-    v346 = v345 == v134;
-    if (v346) { v38 = v37; goto L54; }
-    else { v22 = v37; v23 = v345; goto L28; }
-L54:;
-    v347 = (u64)((u64)v38 + (u64)UINT64_C(18446744073709551604));
-    v348 = (u64)((u64)v347 >> (24u & 63u));
-    v349 = (u8)(v348);
-    v350 = (u64)((u64)v347 >> (16u & 63u));
-    v351 = (u8)(v350);
-    v352 = (u64)((u64)v347 >> (8u & 63u));
-    v353 = (u8)(v352);
-    v354 = (u8)(v347);
-    store8(a1, 112u);
-    v355 = a1 + 1u * 1u;
-    store8(v355, 116u);
-    v356 = a1 + 2u * 1u;
-    store8(v356, 112u);
-    v357 = a1 + 3u * 1u;
-    store8(v357, 109u);
-    v358 = a1 + 4u * 1u;
-    store8(v358, 1u);
-    v359 = a1 + 5u * 1u;
-    store8(v359, 1u);
-    v360 = a1 + 6u * 1u;
-    store8(v360, 0u);
-    v361 = a1 + 7u * 1u;
-    store8(v361, 0u);
-    v362 = a1 + 8u * 1u;
-    store8(v362, v349);
-    v363 = a1 + 9u * 1u;
-    store8(v363, v351);
-    v364 = a1 + 10u * 1u;
-    store8(v364, v353);
-    v365 = a1 + 11u * 1u;
-    store8(v365, v354);
-    v39 = v38; v40 = 1u; goto L55;
-L55:;
-    v366 = (struct s2){ 0 };
-    v366.m0 = v40;
-    v367 = v366;
-    v367.m1 = v39;
-    return v367;
-}
-
-static void f42(address a0, address a1) {
-    u64 v2, v3, v5, v6, v12, v15, v16, v21, v25, v26, v28, v29, v32, v33, v40, v42;
-    u64 v46, v48, v52;
-    address v4, v7, v8, v9, v10, v11, v14, v17, v18, v22, v24, v30, v31, v37, v41, v45;
-    address v47, v50, v54, v56, v57;
-    u8 v13, v19, v20, v23, v27, v34, v35, v39, v43, v44, v49, v51, v53, v55;
-    u16 v36, v38;
-    u64 block0[3];
-    u64 block1[3];
-    v7 = ADDRESS(block0);
-    v8 = ADDRESS(block1);
-    v9 = a1 + 8u * 1u;
-    v10 = load_address(v9);
-    v11 = a1 + 16u * 1u;
-    v12 = load64(v11);
-    memory_set(v7, 0u, 24u);
-    v13 = v12 == 0u;
-    if (v13) { goto L13; }
-    else { goto L1; }
-L1:;
-    v14 = v7 + 16u * 1u;
-    v2 = v12; goto L2;
-L2:;
-    v15 = (u64)((u64)v2 + (u64)UINT64_C(18446744073709551615));
-    v16 = (u64)((u64)v15 * (u64)2136u);
-    v17 = v10 + v16 * 1u;
-    v18 = v17 + 2129u * 1u;
-    v19 = load8(v18);
-    v20 = (u8)((v19) & UINT64_C(1));
-    if (v20) { goto L3; }
-    else { goto L12; }
-L3:;
-    v21 = load64(v14);
-    v22 = v17 + 2112u * 1u;
-    v23 = v21 == 0u;
-    if (v23) { v6 = 0u; goto L9; }
-    else { goto L4; }
-L4:;
-    v24 = v17 + 2104u * 1u;
-    v25 = load64(v24);
-    v26 = swap64(v25);
-    v3 = v21; v4 = v7; v5 = 0u; goto L5;
-L5:;
-    v27 = load8(v4);
-    v28 = (u64)v27;
-    v29 = (u64)((u64)v28 * (u64)2136u);
-    v30 = v10 + v29 * 1u;
-    v31 = v30 + 2104u * 1u;
-    v32 = load64(v31);
-    v33 = swap64(v32);
-    v34 = v26 < v33;
-    if (v34) { v6 = v5; goto L9; }
-    else { goto L6; }
-L6:;
-    v35 = v25 == v32;
-    if (v35) { goto L7; }
-    else { goto L8; }
-L7:;
-    v36 = load16(v22);
-    v37 = v30 + 2112u * 1u;
-    v38 = load16(v37);
-    v39 = v36 < v38;
-    if (v39) { v6 = v5; goto L9; }
-    else { goto L8; }
-L8:;
-    v40 = (u64)((u64)v3 + (u64)UINT64_C(18446744073709551615));
-    v41 = v4 + 1u * 1u;
-    v42 = (u64)((u64)v5 + (u64)1u);
-    v43 = v40 == 0u;
-    if (v43) { v6 = v21; goto L9; }
-    else { v3 = v40; v4 = v41; v5 = v42; goto L5; }
-L9:;
-    v44 = (u8)(v15);
-    v45 = v7 + v21 * 1u;
-    store8(v45, v44);
-    v46 = (u64)((u64)v21 + (u64)1u);
-    store64(v14, v46);
-    v47 = v7 + v6 * 1u;
-    v48 = (u64)((u64)v46 - (u64)v6);
-    switch (v48) {
-    case 1u: goto L12;
-    case 2u: goto L10;
-    default: goto L11;
-    }
-L10:;
-    v49 = load8(v47);
-    v50 = v47 + 1u * 1u;
-    v51 = load8(v50);
-    store8(v47, v51);
-    store8(v45, v49);
-    goto L12;
-L11:;
-    v52 = (u64)((u64)v48 + (u64)UINT64_C(18446744073709551615));
-    v53 = load8(v45);
-    v54 = v47 + 1u * 1u;
-    memory_move(v54, v47, v52);
-    store8(v47, v53);
-    goto L12;
-L12:;
-    v55 = v15 == 0u;
-    if (v55) { goto L13; }
-    else { v2 = v15; goto L2; }
-L13:;
-    memory_cpy(v8, v7, 24u);
-    store_address(a0, v10);
-    v56 = a0 + 8u * 1u;
-    store64(v56, v12);
-    v57 = a0 + 16u * 1u;
-    memory_cpy(v57, v8, 24u);
-    return;
-}
-
-static void f43(address a0, address a1) {
-    u64 v2, v4, v5, v6, v7, v8, v9, v10, v13, v14, v15, v39, v70, v71, v74, v75;
-    u64 v79, v80, v81, v105, v139, v140, v141, v165, v193, v197, v202, v205, v209, v211, v213, v224;
-    u64 v225, v228, v229, v231, v232, v236, v237;
-    address v3, v11, v12, v18, v19, v21, v22, v24, v25, v27, v28, v30, v31, v33, v34, v36;
-    address v37, v40, v42, v44, v49, v50, v52, v55, v56, v57, v58, v61, v62, v64, v65, v68;
-    address v69, v72, v73, v76, v77, v78, v84, v85, v87, v88, v90, v91, v93, v94, v96, v97;
-    address v99, v100, v102, v103, v106, v109, v110, v112, v113, v116, v117, v120, v121, v122, v124, v127;
-    address v128, v129, v130, v133, v134, v136, v137, v138, v144, v145, v147, v148, v150, v151, v153, v154;
-    address v156, v157, v159, v160, v162, v163, v166, v169, v170, v172, v174, v176, v178, v180, v182, v184;
-    address v185, v186, v187, v188, v189, v190, v191, v192, v195, v199, v201, v203, v204, v208, v212, v215;
-    address v219, v227, v230, v234, v235;
-    u8 v16, v17, v20, v23, v26, v29, v32, v35, v38, v41, v43, v51, v53, v54, v63, v82;
-    u8 v83, v86, v89, v92, v95, v98, v101, v104, v111, v123, v125, v126, v135, v142, v143, v146;
-    u8 v149, v152, v155, v158, v161, v164, v171, v173, v175, v177, v179, v181, v183, v194, v196, v198;
-    u8 v200, v206, v207, v210, v214, v216, v217, v218, v226, v233, v238;
-    u16 v45, v46, v47, v48, v59, v60, v66, v67, v107, v108, v114, v115, v131, v132, v167, v168;
-    u16 v220, v221, v222, v223;
-    u32 v118, v119;
-    u64 block0[42];
-    v11 = ADDRESS(block0);
-    memory_set(v11, 0u, 336u);
-    v12 = v11 + 328u * 1u;
-    v13 = (u64)v11;
-    v14 = (u64)a1;
-    v15 = (u64)((u64)v13 - (u64)v14);
-    v16 = v15 < 8u;
-    if (v16) { goto L1; }
-    else { goto L2; }
-L1:;
-    v17 = load8(a1);
-    store8(v11, v17);
-    v18 = v11 + 1u * 1u;
-    v19 = a1 + 1u * 1u;
-    v20 = load8(v19);
-    store8(v18, v20);
-    v21 = v11 + 2u * 1u;
-    v22 = a1 + 2u * 1u;
-    v23 = load8(v22);
-    store8(v21, v23);
-    v24 = v11 + 3u * 1u;
-    v25 = a1 + 3u * 1u;
-    v26 = load8(v25);
-    store8(v24, v26);
-    v27 = v11 + 4u * 1u;
-    v28 = a1 + 4u * 1u;
-    v29 = load8(v28);
-    store8(v27, v29);
-    v30 = v11 + 5u * 1u;
-    v31 = a1 + 5u * 1u;
-    v32 = load8(v31);
-    store8(v30, v32);
-    v33 = v11 + 6u * 1u;
-    v34 = a1 + 6u * 1u;
-    v35 = load8(v34);
-    store8(v33, v35);
-    v36 = v11 + 7u * 1u;
-    v37 = a1 + 7u * 1u;
-    v38 = load8(v37);
-    store8(v36, v38);
-    goto L3;
-L2:;
-    v39 = load64(a1);
-    store64(v11, v39);
-    goto L3;
-L3:;
-    store64(v12, 8u);
-    v40 = a1 + 9u * 1u;
-    v41 = load8(v40);
-    v42 = a1 + 8u * 1u;
-    v43 = load8(v42);
-    v44 = v11 + 8u * 1u;
-    v45 = (u16)v41;
-    v46 = (u16)((u32)v45 << (8u & 15u));
-    v47 = (u16)v43;
-    v48 = (u16)((u32)v46 | (u32)v47);
-    store16(v44, v48);
-    store64(v12, 10u);
-    v49 = a1 + 10u * 1u;
-    v50 = a1 + 12u * 1u;
-    v51 = load8(v50);
-    v52 = a1 + 11u * 1u;
-    v53 = load8(v52);
-    v54 = load8(v49);
-    v55 = v11 + 10u * 1u;
-    store8(v55, v54);
-    v56 = v11 + 11u * 1u;
-    store8(v56, v53);
-    v57 = v11 + 12u * 1u;
-    store8(v57, v51);
-    store64(v12, 13u);
-    v58 = a1 + 14u * 1u;
-    v59 = load16(v58);
-    v60 = swap16(v59);
-    v61 = v11 + 13u * 1u;
-    store16(v61, v60);
-    store64(v12, 15u);
-    v62 = a1 + 16u * 1u;
-    v63 = load8(v62);
-    v64 = v11 + 15u * 1u;
-    store8(v64, v63);
-    store64(v12, 16u);
-    v65 = a1 + 168u * 1u;
-    v66 = load16(v65);
-    v67 = swap16(v66);
-    v68 = v11 + 16u * 1u;
-    store16(v68, v67);
-    store64(v12, 18u);
-    v69 = a1 + 176u * 1u;
-    v70 = load64(v69);
-    v71 = swap64(v70);
-    v72 = v11 + 18u * 1u;
-    store64(v72, v71);
-    store64(v12, 26u);
-    v73 = a1 + 184u * 1u;
-    v74 = load64(v73);
-    v75 = swap64(v74);
-    v76 = v11 + 26u * 1u;
-    store64(v76, v75);
-    store64(v12, 34u);
-    v77 = a1 + 192u * 1u;
-    v78 = v11 + 34u * 1u;
-    v79 = (u64)v78;
-    v80 = (u64)v77;
-    v81 = (u64)((u64)v79 - (u64)v80);
-    v82 = v81 < 8u;
-    if (v82) { goto L4; }
-    else { goto L5; }
-L4:;
-    v83 = load8(v77);
-    store8(v78, v83);
-    v84 = v11 + 35u * 1u;
-    v85 = a1 + 193u * 1u;
-    v86 = load8(v85);
-    store8(v84, v86);
-    v87 = v11 + 36u * 1u;
-    v88 = a1 + 194u * 1u;
-    v89 = load8(v88);
-    store8(v87, v89);
-    v90 = v11 + 37u * 1u;
-    v91 = a1 + 195u * 1u;
-    v92 = load8(v91);
-    store8(v90, v92);
-    v93 = v11 + 38u * 1u;
-    v94 = a1 + 196u * 1u;
-    v95 = load8(v94);
-    store8(v93, v95);
-    v96 = v11 + 39u * 1u;
-    v97 = a1 + 197u * 1u;
-    v98 = load8(v97);
-    store8(v96, v98);
-    v99 = v11 + 40u * 1u;
-    v100 = a1 + 198u * 1u;
-    v101 = load8(v100);
-    store8(v99, v101);
-    v102 = v11 + 41u * 1u;
-    v103 = a1 + 199u * 1u;
-    v104 = load8(v103);
-    store8(v102, v104);
-    goto L6;
-L5:;
-    v105 = load64(v77);
-    store64(v78, v105);
-    goto L6;
-L6:;
-    store64(v12, 42u);
-    v106 = a1 + 200u * 1u;
-    v107 = load16(v106);
-    v108 = swap16(v107);
-    v109 = v11 + 42u * 1u;
-    store16(v109, v108);
-    store64(v12, 44u);
-    v110 = a1 + 202u * 1u;
-    v111 = load8(v110);
-    v112 = v11 + 44u * 1u;
-    store8(v112, v111);
-    store64(v12, 45u);
-    v113 = a1 + 204u * 1u;
-    v114 = load16(v113);
-    v115 = swap16(v114);
-    v116 = v11 + 45u * 1u;
-    store16(v116, v115);
-    store64(v12, 47u);
-    v117 = a1 + 208u * 1u;
-    v118 = load32(v117);
-    v119 = swap32(v118);
-    v120 = v11 + 47u * 1u;
-    store32(v120, v119);
-    store64(v12, 51u);
-    v121 = a1 + 220u * 1u;
-    v122 = a1 + 222u * 1u;
-    v123 = load8(v122);
-    v124 = a1 + 221u * 1u;
-    v125 = load8(v124);
-    v126 = load8(v121);
-    v127 = v11 + 51u * 1u;
-    store8(v127, v126);
-    v128 = v11 + 52u * 1u;
-    store8(v128, v125);
-    v129 = v11 + 53u * 1u;
-    store8(v129, v123);
-    store64(v12, 54u);
-    v130 = a1 + 224u * 1u;
-    v131 = load16(v130);
-    v132 = swap16(v131);
-    v133 = v11 + 54u * 1u;
-    store16(v133, v132);
-    store64(v12, 56u);
-    v134 = a1 + 226u * 1u;
-    v135 = load8(v134);
-    v136 = v11 + 56u * 1u;
-    store8(v136, v135);
-    store64(v12, 57u);
-    v137 = a1 + 212u * 1u;
-    v138 = v11 + 57u * 1u;
-    v139 = (u64)v138;
-    v140 = (u64)v137;
-    v141 = (u64)((u64)v139 - (u64)v140);
-    v142 = v141 < 8u;
-    if (v142) { goto L7; }
-    else { goto L8; }
-L7:;
-    v143 = load8(v137);
-    store8(v138, v143);
-    v144 = v11 + 58u * 1u;
-    v145 = a1 + 213u * 1u;
-    v146 = load8(v145);
-    store8(v144, v146);
-    v147 = v11 + 59u * 1u;
-    v148 = a1 + 214u * 1u;
-    v149 = load8(v148);
-    store8(v147, v149);
-    v150 = v11 + 60u * 1u;
-    v151 = a1 + 215u * 1u;
-    v152 = load8(v151);
-    store8(v150, v152);
-    v153 = v11 + 61u * 1u;
-    v154 = a1 + 216u * 1u;
-    v155 = load8(v154);
-    store8(v153, v155);
-    v156 = v11 + 62u * 1u;
-    v157 = a1 + 217u * 1u;
-    v158 = load8(v157);
-    store8(v156, v158);
-    v159 = v11 + 63u * 1u;
-    v160 = a1 + 218u * 1u;
-    v161 = load8(v160);
-    store8(v159, v161);
-    v162 = v11 + 64u * 1u;
-    v163 = a1 + 219u * 1u;
-    v164 = load8(v163);
-    store8(v162, v164);
-    goto L9;
-L8:;
-    v165 = load64(v137);
-    store64(v138, v165);
-    goto L9;
-L9:;
-    store64(v12, 65u);
-    v166 = a1 + 228u * 1u;
-    v167 = load16(v166);
-    v168 = swap16(v167);
-    v169 = v11 + 65u * 1u;
-    store16(v169, v168);
-    store64(v12, 67u);
-    v170 = a1 + 236u * 1u;
-    v171 = load8(v170);
-    v172 = a1 + 235u * 1u;
-    v173 = load8(v172);
-    v174 = a1 + 234u * 1u;
-    v175 = load8(v174);
-    v176 = a1 + 233u * 1u;
-    v177 = load8(v176);
-    v178 = a1 + 232u * 1u;
-    v179 = load8(v178);
-    v180 = a1 + 231u * 1u;
-    v181 = load8(v180);
-    v182 = a1 + 230u * 1u;
-    v183 = load8(v182);
-    v184 = v11 + 67u * 1u;
-    store8(v184, v183);
-    v185 = v11 + 68u * 1u;
-    store8(v185, v181);
-    v186 = v11 + 69u * 1u;
-    store8(v186, v179);
-    v187 = v11 + 70u * 1u;
-    store8(v187, v177);
-    v188 = v11 + 71u * 1u;
-    store8(v188, v175);
-    v189 = v11 + 72u * 1u;
-    store8(v189, v173);
-    v190 = v11 + 73u * 1u;
-    store8(v190, v171);
-    store64(v12, 74u);
-    v191 = a1 + 24u * 1u;
-    v192 = a1 + 160u * 1u;
-    v193 = load64(v192);
-    v194 = v193 == 0u;
-    if (v194) { v2 = 0u; v3 = v191; goto L11; }
-    else { goto L10; }
-L10:;
-    v195 = a1 + 25u * 1u;
-    v196 = load8(v191);
-    v197 = (u64)v196;
-    v2 = v197; v3 = v195; goto L11;
-L11:;
-    v198 = (u8)(v2);
-    v199 = v11 + 74u * 1u;
-    store8(v199, v198);
-    store64(v12, 75u);
-    v200 = v2 > 249u;
-    if (v200) { v4 = 75u; goto L13; }
-    else { goto L12; }
-L12:;
-    v201 = v11 + 75u * 1u;
-    memory_cpy(v201, v3, v2);
-    v202 = (u64)((u64)v2 + (u64)75u);
-    store64(v12, v202);
-    v4 = v202; goto L13;
-L13:;
-    v203 = a1 + 240u * 1u;
-    v204 = a1 + 432u * 1u;
-    v205 = load64(v204);
-    v206 = v4 == 324u;
-    if (v206) { v5 = 324u; goto L15; }
-    else { goto L14; }
-L14:;
-    v207 = (u8)(v205);
-    v208 = v11 + v4 * 1u;
-    store8(v208, v207);
-    v209 = (u64)((u64)v4 + (u64)1u);
-    store64(v12, v209);
-    v5 = v209; goto L15;
-L15:;
-    v210 = v205 == 0u;
-    if (v210) { goto L23; }
-    else { v6 = v5; v7 = 0u; goto L16; }
-L16:;
-    v211 = (u64)((u64)v7 * (u64)24u);
-    v212 = v203 + v211 * 1u;
-    v213 = (u64)((u64)v6 + (u64)UINT64_C(18446744073709551293));
-    v214 = v213 < 2u;
-    if (v214) { v8 = v6; goto L18; }
-    else { goto L17; }
-L17:;
-    v215 = v212 + 1u * 1u;
-    v216 = load8(v215);
-    v217 = load8(v212);
-    v218 = (u8)((u32)v217 + (u32)1u);
-    v219 = v11 + v6 * 1u;
-    v220 = (u16)v216;
-    v221 = (u16)((u32)v220 << (8u & 15u));
-    v222 = (u16)v218;
-    v223 = (u16)((u32)v221 | (u32)v222);
-    store16(v219, v223);
-    v224 = (u64)((u64)v6 + (u64)2u);
-    store64(v12, v224);
-    v8 = v224; goto L18;
-L18:;
-    v225 = (u64)((u64)v8 + (u64)UINT64_C(18446744073709551299));
-    v226 = v225 < 8u;
-    if (v226) { v9 = v8; goto L20; }
-    else { goto L19; }
-L19:;
-    v227 = v212 + 8u * 1u;
-    v228 = load64(v227);
-    v229 = swap64(v228);
-    v230 = v11 + v8 * 1u;
-    store64(v230, v229);
-    v231 = (u64)((u64)v8 + (u64)8u);
-    store64(v12, v231);
-    v9 = v231; goto L20;
-L20:;
-    v232 = (u64)((u64)v9 + (u64)UINT64_C(18446744073709551296));
-    v233 = v232 < 5u;
-    if (v233) { v10 = v9; goto L22; }
-    else { goto L21; }
-L21:;
-    v234 = v212 + 16u * 1u;
-    v235 = v11 + v9 * 1u;
-    memory_cpy(v235, v234, 5u);
-    v236 = (u64)((u64)v9 + (u64)5u);
-    store64(v12, v236);
-    v10 = v236; goto L22;
-L22:;
-    v237 = (u64)((u64)v7 + (u64)1u);
-    v238 = v237 == v205;
-    if (v238) { goto L23; }
-    else { v6 = v10; v7 = v237; goto L16; }
-L23:;
-    memory_cpy(a0, v11, 336u);
-    return;
-}
-
-static void f44(address a0, address a1) {
-    u64 v2, v3, v4, v68, v70, v71, v72, v73, v75, v78, v82, v86, v87, v88, v89, v91;
-    u64 v94, v95, v98;
-    address v5, v6, v7, v8, v9, v10, v11, v12, v13, v14, v15, v16, v17, v18, v19, v20;
-    address v21, v22, v23, v24, v25, v26, v27, v28, v29, v30, v31, v32, v33, v34, v35, v36;
-    address v37, v38, v39, v40, v41, v42, v43, v44, v45, v46, v47, v48, v49, v50, v51, v52;
-    address v53, v54, v55, v56, v57, v58, v59, v60, v61, v62, v63, v64, v65, v66, v67, v76;
-    address v77, v80, v81, v84, v90, v92, v93, v100, v101, v102, v103, v152, v153, v154, v155, v156;
-    address v157, v158, v159, v160, v161, v162, v163, v164, v165, v166, v167, v168, v169, v170, v171, v172;
-    address v173, v174, v175, v176, v177, v178, v179, v180, v181, v182, v183, v184, v185, v186, v187, v188;
-    address v189, v190, v191, v192, v193, v194, v195, v196, v197, v198, v199, v200, v201, v202, v203, v204;
-    address v205, v206, v207, v208, v209, v210, v211, v212;
-    u8 v69, v74, v79, v83, v85, v96, v97, v99, v104, v105, v106, v107, v108, v110, v111, v112;
-    u8 v113, v114, v116, v117, v118, v119, v120, v122, v123, v124, v125, v126, v128, v129, v130, v131;
-    u8 v132, v134, v135, v136, v137, v138, v140, v141, v142, v143, v144, v146, v147, v148, v149, v150;
-    u32 v109, v115, v121, v127, v133, v139, v145, v151;
-    u64 block0[18];
-    u64 block1[30];
-    u64 block2[25];
-    u64 block3[18];
-    v6 = ADDRESS(block0);
-    v7 = ADDRESS(block1);
-    v8 = ADDRESS(block2);
-    v9 = ADDRESS(block3);
-    memory_set(v7, 0u, 240u);
-    memory_set(v9, 0u, 144u);
-    store8(v8, 5u);
-    v10 = v8 + 1u * 1u;
-    memory_set(v10, 0u, 15u);
-    v11 = v8 + 16u * 1u;
-    store8(v11, 1u);
-    v12 = v8 + 17u * 1u;
-    store8(v12, 3u);
-    v13 = v8 + 18u * 1u;
-    store8(v13, 0u);
-    v14 = v8 + 19u * 1u;
-    store8(v14, 1u);
-    v15 = v8 + 20u * 1u;
-    store32(v15, 0u);
-    v16 = v8 + 24u * 1u;
-    store8(v16, 5u);
-    v17 = v8 + 25u * 1u;
-    memory_set(v17, 0u, 15u);
-    v18 = v8 + 40u * 1u;
-    store8(v18, 1u);
-    v19 = v8 + 41u * 1u;
-    store8(v19, 3u);
-    v20 = v8 + 42u * 1u;
-    store8(v20, 0u);
-    v21 = v8 + 43u * 1u;
-    store8(v21, 1u);
-    v22 = v8 + 44u * 1u;
-    store32(v22, 0u);
-    v23 = v8 + 48u * 1u;
-    store8(v23, 5u);
-    v24 = v8 + 49u * 1u;
-    memory_set(v24, 0u, 15u);
-    v25 = v8 + 64u * 1u;
-    store8(v25, 1u);
-    v26 = v8 + 65u * 1u;
-    store8(v26, 3u);
-    v27 = v8 + 66u * 1u;
-    store8(v27, 0u);
-    v28 = v8 + 67u * 1u;
-    store8(v28, 1u);
-    v29 = v8 + 68u * 1u;
-    store32(v29, 0u);
-    v30 = v8 + 72u * 1u;
-    store8(v30, 5u);
-    v31 = v8 + 73u * 1u;
-    memory_set(v31, 0u, 15u);
-    v32 = v8 + 88u * 1u;
-    store8(v32, 1u);
-    v33 = v8 + 89u * 1u;
-    store8(v33, 3u);
-    v34 = v8 + 90u * 1u;
-    store8(v34, 0u);
-    v35 = v8 + 91u * 1u;
-    store8(v35, 1u);
-    v36 = v8 + 92u * 1u;
-    store32(v36, 0u);
-    v37 = v8 + 96u * 1u;
-    store8(v37, 5u);
-    v38 = v8 + 97u * 1u;
-    memory_set(v38, 0u, 15u);
-    v39 = v8 + 112u * 1u;
-    store8(v39, 1u);
-    v40 = v8 + 113u * 1u;
-    store8(v40, 3u);
-    v41 = v8 + 114u * 1u;
-    store8(v41, 0u);
-    v42 = v8 + 115u * 1u;
-    store8(v42, 1u);
-    v43 = v8 + 116u * 1u;
-    store32(v43, 0u);
-    v44 = v8 + 120u * 1u;
-    store8(v44, 5u);
-    v45 = v8 + 121u * 1u;
-    memory_set(v45, 0u, 15u);
-    v46 = v8 + 136u * 1u;
-    store8(v46, 1u);
-    v47 = v8 + 137u * 1u;
-    store8(v47, 3u);
-    v48 = v8 + 138u * 1u;
-    store8(v48, 0u);
-    v49 = v8 + 139u * 1u;
-    store8(v49, 1u);
-    v50 = v8 + 140u * 1u;
-    store32(v50, 0u);
-    v51 = v8 + 144u * 1u;
-    store8(v51, 5u);
-    v52 = v8 + 145u * 1u;
-    memory_set(v52, 0u, 15u);
-    v53 = v8 + 160u * 1u;
-    store8(v53, 1u);
-    v54 = v8 + 161u * 1u;
-    store8(v54, 3u);
-    v55 = v8 + 162u * 1u;
-    store8(v55, 0u);
-    v56 = v8 + 163u * 1u;
-    store8(v56, 1u);
-    v57 = v8 + 164u * 1u;
-    store32(v57, 0u);
-    v58 = v8 + 168u * 1u;
-    store8(v58, 5u);
-    v59 = v8 + 169u * 1u;
-    memory_set(v59, 0u, 15u);
-    v60 = v8 + 184u * 1u;
-    store8(v60, 1u);
-    v61 = v8 + 185u * 1u;
-    store8(v61, 3u);
-    v62 = v8 + 186u * 1u;
-    store8(v62, 0u);
-    v63 = v8 + 187u * 1u;
-    store8(v63, 1u);
-    v64 = v8 + 188u * 1u;
-    store32(v64, 0u);
-    v65 = v8 + 192u * 1u;
-    store64(v65, 0u);
-    v66 = a1 + 240u * 1u;
-    v67 = a1 + 432u * 1u;
-    v68 = load64(v67);
-    v69 = v68 > 8u;
-    if (v69) { v3 = 0u; goto L4; }
-    else { goto L1; }
-L1:;
-    v70 = (u64)((u64)v68 * (u64)24u);
-    v71 = (u64)v8;
-    v72 = (u64)v66;
-    v73 = (u64)((u64)v71 - (u64)v72);
-    v74 = v73 < v70;
-    if (v74) { v2 = 0u; goto L3; }
-    else { goto L2; }
-L2:;
-    memory_cpy(v8, v66, v70);
-    v3 = v68; goto L4;
-L3:;
-    v75 = (u64)((u64)v2 * (u64)24u);
-    v76 = v8 + v75 * 1u;
-    v77 = v66 + v75 * 1u;
-    memory_cpy(v76, v77, 24u);
-    v78 = (u64)((u64)v2 + (u64)1u);
-    v79 = v78 == v68;
-    if (v79) { v3 = v68; goto L4; }
-    else { v2 = v78; goto L3; }
-L4:;
-    v80 = a1 + 24u * 1u;
-    v81 = a1 + 160u * 1u;
-    v82 = load64(v81);
-    v83 = v82 == 0u;
-    if (v83) { v4 = 0u; v5 = v80; goto L6; }
-    else { goto L5; }
-L5:;
-    v84 = a1 + 25u * 1u;
-    v85 = load8(v80);
-    v86 = (u64)v85;
-    v4 = v86; v5 = v84; goto L6;
-L6:;
-    memory_set(v6, 0u, 144u);
-    v87 = (u64)((u64)v4 + (u64)1u);
-    v88 = (u64)((u64)v87 & (u64)1u);
-    v89 = (u64)((u64)v88 + (u64)v87);
-    v90 = v6 + 136u * 1u;
-    f29(v6, v89);
-    v91 = load64(v90);
-    v92 = v6 + 1u * 1u;
-    v93 = v92 + v4 * 1u;
-    v94 = (u64)((u64)v4 ^ (u64)UINT64_C(18446744073709551615));
-    v95 = (u64)((u64)v91 + (u64)v94);
-    v96 = (u8)(v4);
-    store8(v6, v96);
-    memory_cpy(v92, v5, v4);
-    v97 = v95 == 0u;
-    if (v97) { goto L10; }
-    else { goto L7; }
-L7:;
-    v98 = (u64)((u64)v95 + (u64)UINT64_C(18446744073709551615));
-    v99 = v98 == 0u;
-    if (v99) { goto L9; }
-    else { goto L8; }
-L8:;
-    memory_set(v93, 0u, v98);
-    goto L9;
-L9:;
-    v100 = v93 + v98 * 1u;
-    store8(v100, 0u);
-    goto L10;
-L10:;
-    memory_cpy(v9, v6, 144u);
-    v101 = a1 + 168u * 1u;
-    v102 = a1 + 192u * 1u;
-    v103 = a1 + 228u * 1u;
-    v104 = load8(v8);
-    v105 = load8(v11);
-    v106 = load8(v12);
-    v107 = load8(v13);
-    v108 = load8(v14);
-    v109 = load32(v15);
-    v110 = load8(v16);
-    v111 = load8(v18);
-    v112 = load8(v19);
-    v113 = load8(v20);
-    v114 = load8(v21);
-    v115 = load32(v22);
-    v116 = load8(v23);
-    v117 = load8(v25);
-    v118 = load8(v26);
-    v119 = load8(v27);
-    v120 = load8(v28);
-    v121 = load32(v29);
-    v122 = load8(v30);
-    v123 = load8(v32);
-    v124 = load8(v33);
-    v125 = load8(v34);
-    v126 = load8(v35);
-    v127 = load32(v36);
-    v128 = load8(v37);
-    v129 = load8(v39);
-    v130 = load8(v40);
-    v131 = load8(v41);
-    v132 = load8(v42);
-    v133 = load32(v43);
-    v134 = load8(v44);
-    v135 = load8(v46);
-    v136 = load8(v47);
-    v137 = load8(v48);
-    v138 = load8(v49);
-    v139 = load32(v50);
-    v140 = load8(v51);
-    v141 = load8(v53);
-    v142 = load8(v54);
-    v143 = load8(v55);
-    v144 = load8(v56);
-    v145 = load32(v57);
-    v146 = load8(v58);
-    v147 = load8(v60);
-    v148 = load8(v61);
-    v149 = load8(v62);
-    v150 = load8(v63);
-    v151 = load32(v64);
-    memory_cpy(v7, a1, 18u);
-    v152 = v7 + 24u * 1u;
-    memory_cpy(v152, v9, 144u);
-    v153 = v7 + 168u * 1u;
-    memory_cpy(v153, v101, 24u);
-    v154 = v7 + 192u * 1u;
-    memory_cpy(v154, v102, 36u);
-    v155 = v7 + 228u * 1u;
-    memory_cpy(v155, v103, 10u);
-    memory_cpy(a0, v7, 240u);
-    v156 = a0 + 240u * 1u;
-    store8(v156, v104);
-    v157 = a0 + 241u * 1u;
-    memory_cpy(v157, v10, 15u);
-    v158 = a0 + 256u * 1u;
-    store8(v158, v105);
-    v159 = a0 + 257u * 1u;
-    store8(v159, v106);
-    v160 = a0 + 258u * 1u;
-    store8(v160, v107);
-    v161 = a0 + 259u * 1u;
-    store8(v161, v108);
-    v162 = a0 + 260u * 1u;
-    store32(v162, v109);
-    v163 = a0 + 264u * 1u;
-    store8(v163, v110);
-    v164 = a0 + 265u * 1u;
-    memory_cpy(v164, v17, 15u);
-    v165 = a0 + 280u * 1u;
-    store8(v165, v111);
-    v166 = a0 + 281u * 1u;
-    store8(v166, v112);
-    v167 = a0 + 282u * 1u;
-    store8(v167, v113);
-    v168 = a0 + 283u * 1u;
-    store8(v168, v114);
-    v169 = a0 + 284u * 1u;
-    store32(v169, v115);
-    v170 = a0 + 288u * 1u;
-    store8(v170, v116);
-    v171 = a0 + 289u * 1u;
-    memory_cpy(v171, v24, 15u);
-    v172 = a0 + 304u * 1u;
-    store8(v172, v117);
-    v173 = a0 + 305u * 1u;
-    store8(v173, v118);
-    v174 = a0 + 306u * 1u;
-    store8(v174, v119);
-    v175 = a0 + 307u * 1u;
-    store8(v175, v120);
-    v176 = a0 + 308u * 1u;
-    store32(v176, v121);
-    v177 = a0 + 312u * 1u;
-    store8(v177, v122);
-    v178 = a0 + 313u * 1u;
-    memory_cpy(v178, v31, 15u);
-    v179 = a0 + 328u * 1u;
-    store8(v179, v123);
-    v180 = a0 + 329u * 1u;
-    store8(v180, v124);
-    v181 = a0 + 330u * 1u;
-    store8(v181, v125);
-    v182 = a0 + 331u * 1u;
-    store8(v182, v126);
-    v183 = a0 + 332u * 1u;
-    store32(v183, v127);
-    v184 = a0 + 336u * 1u;
-    store8(v184, v128);
-    v185 = a0 + 337u * 1u;
-    memory_cpy(v185, v38, 15u);
-    v186 = a0 + 352u * 1u;
-    store8(v186, v129);
-    v187 = a0 + 353u * 1u;
-    store8(v187, v130);
-    v188 = a0 + 354u * 1u;
-    store8(v188, v131);
-    v189 = a0 + 355u * 1u;
-    store8(v189, v132);
-    v190 = a0 + 356u * 1u;
-    store32(v190, v133);
-    v191 = a0 + 360u * 1u;
-    store8(v191, v134);
-    v192 = a0 + 361u * 1u;
-    memory_cpy(v192, v45, 15u);
-    v193 = a0 + 376u * 1u;
-    store8(v193, v135);
-    v194 = a0 + 377u * 1u;
-    store8(v194, v136);
-    v195 = a0 + 378u * 1u;
-    store8(v195, v137);
-    v196 = a0 + 379u * 1u;
-    store8(v196, v138);
-    v197 = a0 + 380u * 1u;
-    store32(v197, v139);
-    v198 = a0 + 384u * 1u;
-    store8(v198, v140);
-    v199 = a0 + 385u * 1u;
-    memory_cpy(v199, v52, 15u);
-    v200 = a0 + 400u * 1u;
-    store8(v200, v141);
-    v201 = a0 + 401u * 1u;
-    store8(v201, v142);
-    v202 = a0 + 402u * 1u;
-    store8(v202, v143);
-    v203 = a0 + 403u * 1u;
-    store8(v203, v144);
-    v204 = a0 + 404u * 1u;
-    store32(v204, v145);
-    v205 = a0 + 408u * 1u;
-    store8(v205, v146);
-    v206 = a0 + 409u * 1u;
-    memory_cpy(v206, v59, 15u);
-    v207 = a0 + 424u * 1u;
-    store8(v207, v147);
-    v208 = a0 + 425u * 1u;
-    store8(v208, v148);
-    v209 = a0 + 426u * 1u;
-    store8(v209, v149);
-    v210 = a0 + 427u * 1u;
-    store8(v210, v150);
-    v211 = a0 + 428u * 1u;
-    store32(v211, v151);
-    v212 = a0 + 432u * 1u;
-    store64(v212, v3);
-    return;
-}
-
-static void f45(address a0, address a1, u16 a2, address a3, u64 a4) {
-    u64 v5, v6, v7, v10, v16, v26, v27, v28, v30, v36, v37, v40, v41, v42, v61, v63;
-    u64 v66, v69;
-    u8 v8, v11, v12, v14, v18, v24, v31, v35, v43, v44, v51, v54, v58, v59, v60, v65;
-    u8 v68, v71;
-    address v9, v13, v15, v19, v20, v21, v22, v23, v25, v29, v32, v33, v34, v38, v39, v45;
-    address v46, v47, v48, v49, v50, v55, v62, v64, v67, v70, v72, v73, v74, v75, v76, v77;
-    u16 v17, v52, v53, v56, v57;
-    u64 block0[5];
-    v13 = ADDRESS(block0);
-    v14 = a2 == 0u;
-    if (v14) { goto L3; }
-    else { goto L1; }
-L1:;
-    v15 = a1 + 432u * 1u;
-    v16 = load64(v15);
-    v17 = (u16)(v16);
-    v18 = a2 > v17;
-    if (v18) { goto L3; }
-    else { goto L4; }
-L2:;
-    return;
-L3:;
-    store8(a0, 1u);
-    v19 = a0 + 1u * 1u;
-    store8(v19, 0u);
-    v20 = a0 + 2u * 1u;
-    store8(v20, 0u);
-    v21 = a0 + 8u * 1u;
-    store8(v21, 0u);
-    v22 = a0 + 9u * 1u;
-    store8(v22, 0u);
-    v23 = a0 + 16u * 1u;
-    memory_set(v23, 0u, 16u);
-    goto L2;
-L4:;
-    v24 = a4 > 14u;
-    if (v24) { goto L10; }
-    else { goto L5; }
-L5:;
-    memory_set(v13, 0u, 40u);
-    v25 = a1 + 440u * 1u;
-    f42(v13, v25);
-    v26 = (u64)((u64)v16 << (1u & 63u));
-    v27 = (u64)((u64)v26 & (u64)UINT64_C(131070));
-    v28 = (u64)((u64)v27 + (u64)UINT64_C(18446744073709551615));
-    v29 = v13 + 32u * 1u;
-    v30 = load64(v29);
-    v31 = v30 == 0u;
-    if (v31) { v7 = v28; goto L8; }
-    else { goto L6; }
-L6:;
-    v32 = v13 + 16u * 1u;
-    v33 = load_address(v13);
-    v5 = v28; v6 = 0u; goto L7;
-L7:;
-    v34 = v32 + v6 * 1u;
-    v35 = load8(v34);
-    v36 = (u64)v35;
-    v37 = (u64)((u64)v36 * (u64)2136u);
-    v38 = v33 + v37 * 1u;
-    v39 = v38 + 1440u * 1u;
-    v40 = load64(v39);
-    v41 = v5 > v40 ? v5 : v40;
-    v42 = (u64)((u64)v6 + (u64)1u);
-    v43 = v42 == v30;
-    if (v43) { v7 = v41; goto L8; }
-    else { v5 = v41; v6 = v42; goto L7; }
-L8:;
-    v44 = v7 > a4;
-    if (v44) { goto L9; }
-    else { goto L10; }
-L9:;
-    store8(a0, 1u);
-    v45 = a0 + 1u * 1u;
-    store8(v45, 0u);
-    v46 = a0 + 2u * 1u;
-    store8(v46, 1u);
-    v47 = a0 + 8u * 1u;
-    store8(v47, 0u);
-    v48 = a0 + 9u * 1u;
-    store8(v48, 0u);
-    v49 = a0 + 16u * 1u;
-    memory_set(v49, 0u, 16u);
-    goto L2;
-L10:;
-    v50 = a3 + 4u * 1u;
-    v51 = load8(v50);
-    switch (v51) {
-    case 0u: v8 = v51; v9 = 0u; v10 = 0u; v11 = v51; v12 = v51; goto L16;
-    case 1u: goto L11;
-    case 2u: goto L12;
-    default: goto L14;
-    }
-L11:;
-    v52 = load16(a3);
-    v53 = (u16)((u32)v52 + (u32)2u);
-    v54 = v53 < 9u;
-    if (v54) { goto L15; }
-    else { v8 = 1u; v9 = 0u; v10 = 0u; v11 = 0u; v12 = 0u; goto L16; }
-L12:;
-    v55 = a3 + 2u * 1u;
-    v56 = load16(v55);
-    v57 = (u16)((u32)v56 & (u32)1u);
-    v58 = v57 == 0u;
-    v59 = v56 < 1419u;
-    v60 = (u8)(((u32)v59 & (u32)v58) & UINT64_C(1));
-    if (v60) { goto L13; }
-    else { goto L14; }
-L13:;
-    v61 = (u64)v56;
-    v62 = a3 + 5u * 1u;
-    v8 = 0u; v9 = v62; v10 = v61; v11 = 2u; v12 = 0u; goto L16;
-L14:;
-    v8 = 1u; v9 = 0u; v10 = 0u; v11 = 0u; v12 = 0u; goto L16;
-L15:;
-    v63 = (u64)v53;
-    v64 = ADDRESS(c325) + v63 * 1u;
-    v65 = load8(v64);
-    v66 = (u64)v53;
-    v67 = ADDRESS(c326) + v66 * 1u;
-    v68 = load8(v67);
-    v69 = (u64)v53;
-    v70 = ADDRESS(c327) + v69 * 1u;
-    v71 = load8(v70);
-    v8 = v65; v9 = 0u; v10 = 0u; v11 = v68; v12 = v71; goto L16;
-L16:;
-    store8(a0, v8);
-    v72 = a0 + 1u * 1u;
-    store8(v72, v8);
-    v73 = a0 + 2u * 1u;
-    store8(v73, 0u);
-    v74 = a0 + 8u * 1u;
-    store8(v74, v11);
-    v75 = a0 + 9u * 1u;
-    store8(v75, v12);
-    v76 = a0 + 16u * 1u;
-    store_address(v76, v9);
-    v77 = a0 + 24u * 1u;
-    store64(v77, v10);
-    goto L2;
-}
-
-static void f46(address a0, address a1, u16 a2, address a3, u64 a4, address a5, u8 a6, address a7, u64 a8) {
-    address v9, v33, v34, v35, v36, v37, v38, v39, v40, v41, v42, v43, v44, v45, v46, v47;
-    address v48, v49, v51, v52, v53, v55, v56, v59, v60, v61, v63, v65, v67, v73, v75, v76;
-    address v79, v80, v81, v82, v83, v84, v85, v88, v97, v102, v104, v108, v110, v112, v116, v117;
-    address v119, v122, v125, v127, v129, v131, v133, v135, v137, v147, v148, v149, v150, v151, v152, v154;
-    address v156, v160, v164, v166, v169, v175, v181, v187, v191, v193, v198, v199, v208, v211, v220, v221;
-    address v225, v226, v230, v245, v247, v250, v252, v258, v260, v275, v278, v279, v280, v281, v282, v283;
-    address v284, v285, v286, v287, v288, v289, v290, v291, v292, v293, v298, v299, v309, v310, v312, v315;
-    address v318, v320, v322, v324, v326, v328, v330, v340, v341, v342, v343, v344, v345, v347, v349, v353;
-    address v357, v359, v362, v368, v374, v376, v378, v380, v390, v391, v392, v393, v394, v395, v396, v397;
-    address v398, v399, v400, v403, v405, v407, v408;
-    u8 v10, v11, v12, v13, v22, v24, v25, v28, v29, v30, v31, v50, v57, v58, v62, v66;
-    u8 v68, v87, v89, v90, v91, v92, v93, v94, v95, v96, v98, v100, v101, v103, v106, v107;
-    u8 v109, v111, v114, v115, v118, v120, v121, v126, v128, v130, v132, v153, v158, v159, v161, v162;
-    u8 v163, v165, v167, v168, v171, v172, v173, v174, v178, v179, v180, v182, v183, v184, v185, v190;
-    u8 v194, v197, v203, v206, v209, v212, v213, v224, v227, v229, v231, v232, v235, v236, v237, v238;
-    u8 v246, v248, v249, v251, v253, v259, v261, v297, v300, v302, v307, v308, v311, v313, v314, v319;
-    u8 v321, v323, v325, v346, v351, v352, v354, v355, v356, v358, v360, v361, v364, v365, v366, v367;
-    u8 v371, v372, v373, v375, v377, v379, v381, v402, v404;
-    u64 v14, v15, v16, v17, v18, v20, v21, v23, v26, v27, v32, v54, v64, v74, v77, v78;
-    u64 v86, v99, v105, v113, v123, v124, v134, v136, v138, v155, v157, v170, v176, v188, v189, v192;
-    u64 v200, v201, v202, v204, v205, v207, v210, v218, v222, v223, v228, v233, v234, v239, v240, v274;
-    u64 v294, v295, v296, v301, v306, v316, v317, v327, v329, v331, v348, v350, v363, v369, v401, v406;
-    u16 v19, v69, v70, v71, v72, v139, v140, v141, v142, v143, v144, v145, v146, v177, v186, v195;
-    u16 v196, v214, v215, v216, v217, v219, v241, v242, v243, v244, v254, v255, v256, v257, v262, v263;
-    u16 v264, v265, v266, v267, v268, v269, v273, v276, v277, v303, v304, v305, v332, v333, v334, v335;
-    u16 v336, v337, v338, v339, v370, v382, v383, v384, v385, v386, v387, v388, v389;
-    u32 v270, v271, v272;
-    u64 block0[3];
-    u64 block1[3];
-    u64 block2[4];
-    u64 block3[5];
-    u64 block4[3];
-    u64 block5[3];
-    u64 block6[4];
-    u64 block7[2];
-    u64 block8[6];
-    u64 block9[2];
-    u64 block10[2];
-    u64 block11[2];
-    u64 block12[324];
-    u64 block13[2];
-    u64 block14[4];
-    u64 block15[55];
-    v33 = ADDRESS(block0);
-    v34 = ADDRESS(block1);
-    v35 = ADDRESS(block2);
-    v36 = ADDRESS(block3);
-    v37 = ADDRESS(block4);
-    v38 = ADDRESS(block5);
-    v39 = ADDRESS(block6);
-    v40 = ADDRESS(block7);
-    v41 = ADDRESS(block8);
-    v42 = ADDRESS(block9);
-    v43 = ADDRESS(block10);
-    v44 = ADDRESS(block11);
-    v45 = ADDRESS(block12);
-    v46 = ADDRESS(block13);
-    v47 = ADDRESS(block14);
-    v48 = ADDRESS(block15);
-    v49 = a5 + 1u * 1u;
-    v50 = load8(v49);
-    v51 = a5 + 8u * 1u;
-    v52 = load_address(v51);
-    v53 = a5 + 16u * 1u;
-    v54 = load64(v53);
-    v55 = v46 + 8u * 1u;
-    v56 = v44 + 8u * 1u;
-    if (a6) { goto L1; }
-    else { goto L5; }
-L1:;
-    memory_set(v44, 0u, 16u);
-    memory_set(v46, 0u, 16u);
-    memory_set(v47, 0u, 32u);
-    memory_set(v48, 0u, 440u);
-    f8(v47, a3, a4);
-    v57 = load8(v47);
-    v58 = v57 == 0u;
-    if (v58) { goto L2; }
-    else { goto L3; }
-L2:;
-    v59 = v47 + 8u * 1u;
-    v60 = load_address(v59);
-    v61 = v47 + 24u * 1u;
-    v62 = load8(v61);
-    f44(v48, a1);
-    f48(v45, v48);
-    v63 = v60 + 20u * 1u;
-    v64 = load64(v63);
-    v65 = v60 + 28u * 1u;
-    v66 = load8(v65);
-    v67 = v60 + 29u * 1u;
-    v68 = load8(v67);
-    v69 = (u16)v66;
-    v70 = (u16)((u32)v69 << (8u & 15u));
-    v71 = (u16)v68;
-    v72 = (u16)((u32)v70 | (u32)v71);
-    v73 = v45 + 440u * 1u;
-    v74 = load64(v73);
-    v75 = v45 + 448u * 1u;
-    v76 = v45 + 2584u * 1u;
-    v77 = load64(v76);
-    v78 = (u64)((u64)v77 * (u64)2136u);
-    v79 = v75 + v78 * 1u;
-    memory_set(v79, 0u, 2096u);
-    v80 = v79 + 2096u * 1u;
-    store64(v80, v74);
-    v81 = v79 + 2104u * 1u;
-    store64(v81, v64);
-    v82 = v79 + 2112u * 1u;
-    store16(v82, v72);
-    v83 = v79 + 2114u * 1u;
-    memory_set(v83, 0u, 14u);
-    v84 = v79 + 2128u * 1u;
-    store8(v84, 7u);
-    v85 = v79 + 2129u * 1u;
-    v86 = (u64)((u64)v77 + (u64)1u);
-    memory_set(v85, 0u, 7u);
-    store64(v76, v86);
-    f49(v46, v45, a2, a3, a4, a7, a8);
-    f44(v48, a1);
-    memory_cpy(a1, v45, 440u);
-    v87 = load8(v46);
-    v88 = v46 + 1u * 1u;
-    v89 = load8(v88);
-    v90 = v87 != 5u;
-    v91 = (u8)((u32)v62 & (u32)253u);
-    v92 = v91 == 1u;
-    v93 = (u8)(((u32)v92 | (u32)v90) & UINT64_C(1));
-    v94 = v93 ? v89 : 0u;
-    v95 = v93 ? v87 : 9u;
-    v9 = v55; v10 = v95; v11 = v94; goto L4;
-L3:;
-    f47(v44, a1, a2, a3, a4, a7, a8);
-    v96 = load8(v44);
-    v97 = v44 + 1u * 1u;
-    v98 = load8(v97);
-    v9 = v56; v10 = v96; v11 = v98; goto L4;
-L4:;
-    v99 = load64(v9);
-    v30 = v10; v31 = v11; v32 = v99; goto L57;
-L5:;
-    v100 = load8(a5);
-    memory_set(v43, 0u, 16u);
-    switch (v100) {
-    case 0u: goto L6;
-    case 1u: goto L7;
-    case 2u: goto L11;
-    default: goto L55;
-    }
-L6:;
-    f47(v43, a1, a2, a3, a4, a7, a8);
-    v101 = load8(v43);
-    v102 = v43 + 1u * 1u;
-    v103 = load8(v102);
-    v104 = v43 + 8u * 1u;
-    v105 = load64(v104);
-    v27 = v105; v28 = v103; v29 = v101; goto L56;
-L7:;
-    memory_set(v42, 0u, 16u);
-    memory_set(v41, 0u, 48u);
-    f51(v41, a1, a3, a4);
-    v106 = load8(v41);
-    v107 = v106 == 1u;
-    if (v107) { goto L8; }
-    else { goto L9; }
-L8:;
-    v108 = v41 + 8u * 1u;
-    f55(a1, v108, v50);
-    f47(v42, a1, a2, a3, a4, a7, a8);
-    v12 = 5u; v13 = 0u; goto L10;
-L9:;
-    f47(v42, a1, a2, a3, a4, a7, a8);
-    v109 = load8(v42);
-    v110 = v42 + 1u * 1u;
-    v111 = load8(v110);
-    v12 = v109; v13 = v111; goto L10;
-L10:;
-    v112 = v42 + 8u * 1u;
-    v113 = load64(v112);
-    v27 = v113; v28 = v13; v29 = v12; goto L56;
-L11:;
-    memory_set(v40, 0u, 16u);
-    memory_set(v39, 0u, 32u);
-    f8(v39, a3, a4);
-    v114 = load8(v39);
-    v115 = v114 == 0u;
-    if (v115) { goto L12; }
-    else { goto L42; }
-L12:;
-    v116 = v39 + 8u * 1u;
-    memory_cpy(v38, v116, 24u);
-    v117 = v38 + 16u * 1u;
-    v118 = load8(v117);
-    v119 = v38 + 17u * 1u;
-    v120 = load8(v119);
-    v121 = v120 == 0u;
-    v122 = load_address(v38);
-    v123 = v121 ? 52u : 54u;
-    v124 = v121 ? 53u : 55u;
-    v125 = v122 + v123 * 1u;
-    v126 = load8(v125);
-    v127 = v122 + v124 * 1u;
-    v128 = load8(v127);
-    v129 = v122 + 42u * 1u;
-    v130 = load8(v129);
-    v131 = v122 + 43u * 1u;
-    v132 = load8(v131);
-    v133 = v38 + 8u * 1u;
-    v134 = load64(v133);
-    v135 = v122 + 54u * 1u;
-    v136 = (u64)((u64)v134 + (u64)UINT64_C(18446744073709551562));
-    v137 = v121 ? v135 : ADDRESS(c138);
-    v138 = v121 ? v136 : 0u;
-    v139 = (u16)v130;
-    v140 = (u16)((u32)v139 << (8u & 15u));
-    v141 = (u16)v132;
-    v142 = (u16)((u32)v140 | (u32)v141);
-    v143 = (u16)v126;
-    v144 = (u16)((u32)v143 << (8u & 15u));
-    v145 = (u16)v128;
-    v146 = (u16)((u32)v144 | (u32)v145);
-    store8(v37, v118);
-    v147 = v37 + 1u * 1u;
-    store8(v147, 0u);
-    v148 = v37 + 2u * 1u;
-    store16(v148, v146);
-    v149 = v37 + 4u * 1u;
-    store16(v149, v142);
-    v150 = v37 + 6u * 1u;
-    store16(v150, 0u);
-    v151 = v37 + 8u * 1u;
-    store_address(v151, v137);
-    v152 = v37 + 16u * 1u;
-    store64(v152, v138);
-    v153 = f60(v37);
-    if (v153) { goto L13; }
-    else { goto L19; }
-L13:;
-    v154 = v122 + 34u * 1u;
-    v155 = load64(v154);
-    v156 = a1 + 440u * 1u;
-    v157 = load64(v156);
-    v158 = load8(v122);
-    v159 = (u8)((u32)v158 >> (4u & 7u));
-    v160 = v122 + 5u * 1u;
-    v161 = load8(v160);
-    v162 = (u8)((u32)v159 | (u32)v161);
-    v163 = v162 == 0u;
-    if (v163) { goto L14; }
-    else { goto L19; }
-L14:;
-    v164 = v122 + 4u * 1u;
-    v165 = load8(v164);
-    v166 = a1 + 8u * 1u;
-    v167 = load8(v166);
-    v168 = v165 == v167;
-    if (v168) { goto L15; }
-    else { goto L19; }
-L15:;
-    v169 = v122 + 20u * 1u;
-    v170 = load64(v169);
-    v171 = v170 == v157;
-    if (v171) { goto L19; }
-    else { goto L16; }
-L16:;
-    v172 = v155 == v157;
-    v173 = v155 == UINT64_C(18446744073709551615);
-    v174 = (u8)(((u32)v173 | (u32)v172) & UINT64_C(1));
-    if (v174) { goto L17; }
-    else { goto L19; }
-L17:;
-    switch (v142) {
-    case 65535u: goto L20;
-    case 0u: goto L19;
-    default: goto L18;
-    }
-L18:;
-    v175 = a1 + 432u * 1u;
-    v176 = load64(v175);
-    v177 = (u16)(v176);
-    v178 = v142 > v177;
-    if (v178) { goto L19; }
-    else { goto L20; }
-L19:;
-    goto L42;
-L20:;
-    v179 = f61(a1, v38);
-    v180 = v179 == 0u;
-    if (v180) { goto L21; }
-    else { goto L42; }
-L21:;
-    if (v172) { v18 = 0u; v19 = v146; v20 = v170; v21 = v155; v22 = v165; goto L38; }
-    else { goto L22; }
-L22:;
-    v181 = v122 + 45u * 1u;
-    v182 = load8(v181);
-    v183 = v182 == 0u;
-    v184 = a2 == 0u;
-    v185 = (u8)(((u32)v184 | (u32)v183) & UINT64_C(1));
-    if (v185) { v18 = 0u; v19 = v146; v20 = v170; v21 = v157; v22 = v165; goto L38; }
-    else { goto L23; }
-L23:;
-    v186 = (u16)((u32)a2 + (u32)65535u);
-    v187 = a1 + 432u * 1u;
-    v188 = load64(v187);
-    v189 = (u64)v186;
-    v190 = v188 > v189;
-    if (v190) { goto L24; }
-    else { v18 = 0u; v19 = v146; v20 = v170; v21 = v157; v22 = v165; goto L38; }
-L24:;
-    v191 = a1 + 240u * 1u;
-    v192 = (u64)((u64)v189 * (u64)24u);
-    v193 = v191 + v192 * 1u;
-    v194 = load8(v193);
-    switch (v194) {
-    case 4u: goto L26;
-    case 5u: goto L26;
-    case 7u: goto L26;
-    case 8u: goto L26;
-    case 0u: v18 = 0u; v19 = v146; v20 = v170; v21 = v157; v22 = v165; goto L38;
-    case 1u: v18 = 0u; v19 = v146; v20 = v170; v21 = v157; v22 = v165; goto L38;
-    case 2u: v18 = 0u; v19 = v146; v20 = v170; v21 = v157; v22 = v165; goto L38;
-    case 3u: v18 = 0u; v19 = v146; v20 = v170; v21 = v157; v22 = v165; goto L38;
-    case 6u: v18 = 0u; v19 = v146; v20 = v170; v21 = v157; v22 = v165; goto L38;
-    default: goto L25;
-    }
-L25:;
-    UNREACHABLE;
-L26:;
-    v195 = (u16)(v188);
-    v196 = (u16)((u32)v195 + (u32)1u);
-    v197 = v196 > 1u;
-    if (v197) { goto L27; }
-    else { v18 = 0u; v19 = v146; v20 = v170; v21 = v157; v22 = v165; goto L38; }
-L27:;
-    v198 = a3 + 2u * 1u;
-    v199 = a3 + 3u * 1u;
-    v200 = (u64)a3;
-    v201 = (u64)a2;
-    v202 = (u64)v196;
-    v14 = 0u; v15 = 1u; goto L28;
-L28:;
-    v203 = v15 == v201;
-    if (v203) { v17 = v14; goto L36; }
-    else { goto L29; }
-L29:;
-    v204 = (u64)((u64)v15 + (u64)UINT64_C(18446744073709551615));
-    v205 = load64(v187);
-    v206 = v205 > v204;
-    if (v206) { goto L30; }
-    else { v17 = v14; goto L36; }
-L30:;
-    v207 = (u64)((u64)v204 * (u64)24u);
-    v208 = v191 + v207 * 1u;
-    v209 = load8(v208);
-    switch (v209) {
-    case 4u: goto L32;
-    case 5u: goto L32;
-    case 7u: goto L32;
-    case 8u: goto L32;
-    case 0u: v17 = v14; goto L36;
-    case 1u: v17 = v14; goto L36;
-    case 2u: v17 = v14; goto L36;
-    case 3u: v17 = v14; goto L36;
-    case 6u: v17 = v14; goto L36;
-    default: goto L31;
-    }
-L31:;
-    UNREACHABLE;
-L32:;
-    v210 = (u64)((u64)v14 * (u64)1476u);
-    v211 = a7 + v210 * 1u;
-    v212 = load8(v198);
-    v213 = load8(v199);
-    v214 = (u16)v212;
-    v215 = (u16)((u32)v214 << (8u & 15u));
-    v216 = (u16)v213;
-    v217 = (u16)((u32)v215 | (u32)v216);
-    v218 = (u64)v217;
-    v219 = (u16)(v15);
-    store16(v211, v219);
-    v220 = v211 + 2u * 1u;
-    store16(v220, v217);
-    v221 = v211 + 4u * 1u;
-    v222 = (u64)v221;
-    v223 = (u64)((u64)v222 - (u64)v200);
-    v224 = v223 < v218;
-    if (v224) { v16 = 0u; goto L34; }
-    else { goto L33; }
-L33:;
-    memory_move(v221, a3, v218);
-    goto L35;
-L34:;
-    v225 = v221 + v16 * 1u;
-    v226 = a3 + v16 * 1u;
-    v227 = load8(v226);
-    store8(v225, v227);
-    v228 = (u64)((u64)v16 + (u64)1u);
-    v229 = v228 == v218;
-    if (v229) { goto L35; }
-    else { v16 = v228; goto L34; }
-L35:;
-    v230 = v211 + 49u * 1u;
-    v231 = load8(v230);
-    v232 = (u8)((u32)v231 + (u32)255u);
-    store8(v230, v232);
-    v233 = (u64)((u64)v14 + (u64)1u);
-    v17 = v233; goto L36;
-L36:;
-    v234 = (u64)((u64)v15 + (u64)1u);
-    v235 = v234 == v202;
-    if (v235) { goto L37; }
-    else { v14 = v17; v15 = v234; goto L28; }
-L37:;
-    v236 = load8(v125);
-    v237 = load8(v127);
-    v238 = load8(v164);
-    v239 = load64(v156);
-    v240 = load64(v169);
-    v241 = (u16)v236;
-    v242 = (u16)((u32)v241 << (8u & 15u));
-    v243 = (u16)v237;
-    v244 = (u16)((u32)v242 | (u32)v243);
-    v18 = v17; v19 = v244; v20 = v240; v21 = v239; v22 = v238; goto L38;
-L38:;
-    v245 = v122 + 44u * 1u;
-    v246 = load8(v245);
-    v247 = v122 + 45u * 1u;
-    v248 = load8(v247);
-    v249 = v246 > v248 ? (u8)((u32)v246 - (u32)v248) : 0u;
-    v250 = v122 + 30u * 1u;
-    v251 = load8(v250);
-    v252 = v122 + 31u * 1u;
-    v253 = load8(v252);
-    v254 = (u16)v251;
-    v255 = (u16)((u32)v254 << (8u & 15u));
-    v256 = (u16)v253;
-    v257 = (u16)((u32)v255 | (u32)v256);
-    v258 = v122 + 28u * 1u;
-    v259 = load8(v258);
-    v260 = v122 + 29u * 1u;
-    v261 = load8(v260);
-    v262 = (u16)v259;
-    v263 = (u16)((u32)v262 << (8u & 15u));
-    v264 = (u16)v261;
-    v265 = (u16)((u32)v263 | (u32)v264);
-    v266 = (u16)v22;
-    v267 = swap16(a2);
-    v268 = swap16(v257);
-    v269 = swap16(v265);
-    v270 = (u32)v249;
-    v271 = (u32)((u32)v270 * (u32)257u);
-    v272 = (u32)((u32)v271 | (u32)UINT32_C(131072));
-    v273 = swap16(v19);
-    v274 = (u64)((u64)v18 * (u64)1476u);
-    v275 = a7 + v274 * 1u;
-    store16(v275, a2);
-    v276 = (u16)(v54);
-    v277 = (u16)((u32)v276 + (u32)54u);
-    v278 = v275 + 2u * 1u;
-    store16(v278, v277);
-    v279 = v275 + 4u * 1u;
-    v280 = v275 + 58u * 1u;
-    store16(v279, 4621u);
-    v281 = v275 + 6u * 1u;
-    store16(v281, 13824u);
-    v282 = v275 + 8u * 1u;
-    store16(v282, v266);
-    v283 = v275 + 10u * 1u;
-    memory_set(v283, 0u, 14u);
-    v284 = v275 + 24u * 1u;
-    store64(v284, v21);
-    v285 = v275 + 32u * 1u;
-    store16(v285, v267);
-    v286 = v275 + 34u * 1u;
-    store16(v286, v268);
-    v287 = v275 + 36u * 1u;
-    store16(v287, 32516u);
-    v288 = v275 + 38u * 1u;
-    store64(v288, v20);
-    v289 = v275 + 46u * 1u;
-    store16(v289, v269);
-    v290 = v275 + 48u * 1u;
-    store32(v290, v272);
-    v291 = v275 + 52u * 1u;
-    store16(v291, 256u);
-    v292 = v275 + 54u * 1u;
-    store16(v292, 512u);
-    v293 = v275 + 56u * 1u;
-    store16(v293, v273);
-    v294 = (u64)v280;
-    v295 = (u64)v52;
-    v296 = (u64)((u64)v294 - (u64)v295);
-    v297 = v296 < v54;
-    if (v297) { v23 = 0u; goto L40; }
-    else { goto L39; }
-L39:;
-    memory_move(v280, v52, v54);
-    goto L41;
-L40:;
-    v298 = v280 + v23 * 1u;
-    v299 = v52 + v23 * 1u;
-    v300 = load8(v299);
-    store8(v298, v300);
-    v301 = (u64)((u64)v23 + (u64)1u);
-    v302 = v301 == v54;
-    if (v302) { goto L41; }
-    else { v23 = v301; goto L40; }
-L41:;
-    v303 = swap16(v277);
-    store16(v281, v303);
-    store16(v285, v267);
-    v304 = (u16)((u32)v276 + (u32)2u);
-    v305 = swap16(v304);
-    store16(v292, v305);
-    v306 = (u64)((u64)v18 + (u64)1u);
-    v24 = 9u; v25 = 0u; v26 = v306; goto L54;
-L42:;
-    memory_set(v35, 0u, 32u);
-    f8(v35, a3, a4);
-    v307 = load8(v35);
-    v308 = v307 == 0u;
-    if (v308) { goto L43; }
-    else { goto L53; }
-L43:;
-    v309 = v35 + 8u * 1u;
-    memory_cpy(v34, v309, 24u);
-    v310 = v34 + 16u * 1u;
-    v311 = load8(v310);
-    v312 = v34 + 17u * 1u;
-    v313 = load8(v312);
-    v314 = v313 == 0u;
-    v315 = load_address(v34);
-    v316 = v314 ? 52u : 54u;
-    v317 = v314 ? 53u : 55u;
-    v318 = v315 + v316 * 1u;
-    v319 = load8(v318);
-    v320 = v315 + v317 * 1u;
-    v321 = load8(v320);
-    v322 = v315 + 42u * 1u;
-    v323 = load8(v322);
-    v324 = v315 + 43u * 1u;
-    v325 = load8(v324);
-    v326 = v34 + 8u * 1u;
-    v327 = load64(v326);
-    v328 = v315 + 54u * 1u;
-    v329 = (u64)((u64)v327 + (u64)UINT64_C(18446744073709551562));
-    v330 = v314 ? v328 : ADDRESS(c138);
-    v331 = v314 ? v329 : 0u;
-    v332 = (u16)v323;
-    v333 = (u16)((u32)v332 << (8u & 15u));
-    v334 = (u16)v325;
-    v335 = (u16)((u32)v333 | (u32)v334);
-    v336 = (u16)v319;
-    v337 = (u16)((u32)v336 << (8u & 15u));
-    v338 = (u16)v321;
-    v339 = (u16)((u32)v337 | (u32)v338);
-    store8(v33, v311);
-    v340 = v33 + 1u * 1u;
-    store8(v340, 0u);
-    v341 = v33 + 2u * 1u;
-    store16(v341, v339);
-    v342 = v33 + 4u * 1u;
-    store16(v342, v335);
-    v343 = v33 + 6u * 1u;
-    store16(v343, 0u);
-    v344 = v33 + 8u * 1u;
-    store_address(v344, v330);
-    v345 = v33 + 16u * 1u;
-    store64(v345, v331);
-    v346 = f60(v33);
-    if (v346) { goto L44; }
-    else { goto L50; }
-L44:;
-    v347 = v315 + 34u * 1u;
-    v348 = load64(v347);
-    v349 = a1 + 440u * 1u;
-    v350 = load64(v349);
-    v351 = load8(v315);
-    v352 = (u8)((u32)v351 >> (4u & 7u));
-    v353 = v315 + 5u * 1u;
-    v354 = load8(v353);
-    v355 = (u8)((u32)v352 | (u32)v354);
-    v356 = v355 == 0u;
-    if (v356) { goto L45; }
-    else { goto L50; }
-L45:;
-    v357 = v315 + 4u * 1u;
-    v358 = load8(v357);
-    v359 = a1 + 8u * 1u;
-    v360 = load8(v359);
-    v361 = v358 == v360;
-    if (v361) { goto L46; }
-    else { goto L50; }
-L46:;
-    v362 = v315 + 20u * 1u;
-    v363 = load64(v362);
-    v364 = v363 == v350;
-    if (v364) { goto L50; }
-    else { goto L47; }
-L47:;
-    v365 = v348 == v350;
-    v366 = v348 == UINT64_C(18446744073709551615);
-    v367 = (u8)(((u32)v366 | (u32)v365) & UINT64_C(1));
-    if (v367) { goto L48; }
-    else { goto L50; }
-L48:;
-    switch (v335) {
-    case 65535u: goto L51;
-    case 0u: goto L50;
-    default: goto L49;
-    }
-L49:;
-    v368 = a1 + 432u * 1u;
-    v369 = load64(v368);
-    v370 = (u16)(v369);
-    v371 = v335 > v370;
-    if (v371) { goto L50; }
-    else { goto L51; }
-L50:;
-    goto L53;
-L51:;
-    v372 = f61(a1, v34);
-    v373 = v372 == 1u;
-    if (v373) { goto L52; }
-    else { goto L53; }
-L52:;
-    v374 = v315 + 28u * 1u;
-    v375 = load8(v374);
-    v376 = v315 + 29u * 1u;
-    v377 = load8(v376);
-    v378 = v315 + 30u * 1u;
-    v379 = load8(v378);
-    v380 = v315 + 31u * 1u;
-    v381 = load8(v380);
-    v382 = (u16)v379;
-    v383 = (u16)((u32)v382 << (8u & 15u));
-    v384 = (u16)v381;
-    v385 = (u16)((u32)v383 | (u32)v384);
-    v386 = (u16)v375;
-    v387 = (u16)((u32)v386 << (8u & 15u));
-    v388 = (u16)v377;
-    v389 = (u16)((u32)v387 | (u32)v388);
-    store64(v36, v363);
-    v390 = v36 + 8u * 1u;
-    store16(v390, v389);
-    v391 = v36 + 10u * 1u;
-    store16(v391, v385);
-    v392 = v36 + 12u * 1u;
-    store32(v392, 0u);
-    v393 = v36 + 16u * 1u;
-    store8(v393, v311);
-    v394 = v36 + 17u * 1u;
-    store8(v394, 0u);
-    v395 = v36 + 18u * 1u;
-    store16(v395, v339);
-    v396 = v36 + 20u * 1u;
-    store16(v396, v335);
-    v397 = v36 + 22u * 1u;
-    store16(v397, 0u);
-    v398 = v36 + 24u * 1u;
-    store_address(v398, v330);
-    v399 = v36 + 32u * 1u;
-    store64(v399, v331);
-    f62(a1, v36, v52, v54);
-    f47(v40, a1, a2, a3, a4, a7, a8);
-    v400 = v40 + 8u * 1u;
-    v401 = load64(v400);
-    v24 = 5u; v25 = 0u; v26 = v401; goto L54;
-L53:;
-    f47(v40, a1, a2, a3, a4, a7, a8);
-    v402 = load8(v40);
-    v403 = v40 + 1u * 1u;
-    v404 = load8(v403);
-    v405 = v40 + 8u * 1u;
-    v406 = load64(v405);
-    v24 = v402; v25 = v404; v26 = v406; goto L54;
-L54:;
-    v27 = v26; v28 = v25; v29 = v24; goto L56;
-L55:;
-    UNREACHABLE;
-L56:;
-    v30 = v29; v31 = v28; v32 = v27; goto L57;
-L57:;
-    store8(a0, v30);
-    v407 = a0 + 1u * 1u;
-    store8(v407, v31);
-    v408 = a0 + 8u * 1u;
-    store64(v408, v32);
-    return;
-}
-
-static void f47(address a0, address a1, u16 a2, address a3, u64 a4, address a5, u64 a6) {
-    u16 v7, v47, v48, v49, v50, v57, v58, v59, v69, v70, v71, v72, v78, v82, v88, v89;
-    u16 v90, v91, v107, v108, v109, v110, v134, v149, v160;
-    u64 v8, v10, v11, v13, v42, v52, v61, v64, v77, v95, v96, v102, v104, v106, v127, v132;
-    u64 v137, v145, v153, v155, v158, v168, v169, v171;
-    address v9, v12, v14, v18, v19, v20, v21, v22, v23, v24, v27, v28, v31, v35, v37, v41;
-    address v43, v45, v51, v53, v55, v60, v63, v65, v67, v76, v80, v83, v84, v86, v92, v97;
-    address v99, v101, v103, v105, v111, v112, v113, v114, v115, v116, v119, v122, v124, v126, v129, v130;
-    address v131, v133, v136, v140, v144, v147, v148, v152, v156, v157, v159, v161, v162, v163, v164, v165;
-    address v166, v167, v172, v173;
-    u8 v15, v16, v17, v25, v26, v29, v30, v32, v33, v34, v36, v38, v39, v40, v44, v46;
-    u8 v54, v56, v62, v66, v68, v73, v74, v75, v79, v81, v85, v87, v93, v94, v98, v100;
-    u8 v118, v120, v121, v123, v125, v128, v135, v138, v139, v141, v142, v143, v146, v150, v151, v154;
-    u8 v170;
-    struct s1 v117;
-    u64 block0[2];
-    u64 block1[3];
-    u64 block2[3];
-    u64 block3[4];
-    u64 block4[3];
-    v18 = ADDRESS(block0);
-    v19 = ADDRESS(block1);
-    v20 = ADDRESS(block2);
-    v21 = ADDRESS(block3);
-    v22 = ADDRESS(block4);
-    store_address(v22, a5);
-    v23 = v22 + 8u * 1u;
-    store64(v23, a6);
-    v24 = v22 + 16u * 1u;
-    store64(v24, 0u);
-    memory_set(v21, 0u, 32u);
-    f8(v21, a3, a4);
-    v25 = load8(v21);
-    v26 = v25 == 0u;
-    if (v26) { goto L1; }
-    else { goto L17; }
-L1:;
-    v27 = v21 + 8u * 1u;
-    memory_cpy(v20, v27, 24u);
-    v28 = load_address(v20);
-    v29 = load8(v28);
-    v30 = (u8)((u32)v29 >> (4u & 7u));
-    v31 = v28 + 5u * 1u;
-    v32 = load8(v31);
-    v33 = (u8)((u32)v30 | (u32)v32);
-    v34 = v33 == 0u;
-    if (v34) { goto L2; }
-    else { v15 = 1u; goto L35; }
-L2:;
-    v35 = v28 + 4u * 1u;
-    v36 = load8(v35);
-    v37 = a1 + 8u * 1u;
-    v38 = load8(v37);
-    v39 = v36 == v38;
-    if (v39) { goto L5; }
-    else { goto L3; }
-L3:;
-    v40 = f16(a1, v20);
-    if (v40) { goto L4; }
-    else { v15 = 1u; goto L35; }
-L4:;
-    v41 = v28 + 20u * 1u;
-    v42 = load64(v41);
-    v43 = v28 + 28u * 1u;
-    v44 = load8(v43);
-    v45 = v28 + 29u * 1u;
-    v46 = load8(v45);
-    v47 = (u16)v44;
-    v48 = (u16)((u32)v47 << (8u & 15u));
-    v49 = (u16)v46;
-    v50 = (u16)((u32)v48 | (u32)v49);
-    v7 = v50; v8 = v42; goto L19;
-L5:;
-    v51 = v28 + 20u * 1u;
-    v52 = load64(v51);
-    v53 = v28 + 28u * 1u;
-    v54 = load8(v53);
-    v55 = v28 + 29u * 1u;
-    v56 = load8(v55);
-    v57 = (u16)v54;
-    v58 = (u16)((u32)v57 << (8u & 15u));
-    v59 = (u16)v56;
-    v60 = a1 + 440u * 1u;
-    v61 = load64(v60);
-    v62 = v52 == v61;
-    if (v62) { v15 = 2u; goto L35; }
-    else { goto L6; }
-L6:;
-    v63 = v28 + 34u * 1u;
-    v64 = load64(v63);
-    v65 = v28 + 42u * 1u;
-    v66 = load8(v65);
-    v67 = v28 + 43u * 1u;
-    v68 = load8(v67);
-    v69 = (u16)v66;
-    v70 = (u16)((u32)v69 << (8u & 15u));
-    v71 = (u16)v68;
-    v72 = (u16)((u32)v70 | (u32)v71);
-    v73 = v64 == v61;
-    v74 = v64 == UINT64_C(18446744073709551615);
-    v75 = (u8)(((u32)v74 | (u32)v73) & UINT64_C(1));
-    if (v75) { goto L7; }
-    else { v15 = 3u; goto L35; }
-L7:;
-    switch (v72) {
-    case 65535u: goto L9;
-    case 0u: v15 = 3u; goto L35;
-    default: goto L8;
-    }
-L8:;
-    v76 = a1 + 432u * 1u;
-    v77 = load64(v76);
-    v78 = (u16)(v77);
-    v79 = v72 > v78;
-    if (v79) { v15 = 3u; goto L35; }
-    else { goto L9; }
-L9:;
-    v80 = v20 + 16u * 1u;
-    v81 = load8(v80);
-    switch (v81) {
-    case 2u: v15 = 4u; goto L35;
-    case 4u: v15 = 4u; goto L35;
-    case 0u: goto L11;
-    case 1u: goto L11;
-    case 3u: goto L11;
-    default: goto L10;
-    }
-L10:;
-    UNREACHABLE;
-L11:;
-    if (v73) { goto L13; }
-    else { goto L12; }
-L12:;
-    v15 = 9u; goto L35;
-L13:;
-    v82 = (u16)((u32)v58 | (u32)v59);
-    store64(v18, v52);
-    v83 = v18 + 8u * 1u;
-    store16(v83, v82);
-    v84 = v28 + 30u * 1u;
-    v85 = load8(v84);
-    v86 = v28 + 31u * 1u;
-    v87 = load8(v86);
-    v88 = (u16)v85;
-    v89 = (u16)((u32)v88 << (8u & 15u));
-    v90 = (u16)v87;
-    v91 = (u16)((u32)v89 | (u32)v90);
-    v92 = v20 + 17u * 1u;
-    v93 = load8(v92);
-    v94 = v93 == 0u;
-    v95 = v94 ? 52u : 54u;
-    v96 = v94 ? 53u : 55u;
-    v97 = v28 + v95 * 1u;
-    v98 = load8(v97);
-    v99 = v28 + v96 * 1u;
-    v100 = load8(v99);
-    v101 = v20 + 8u * 1u;
-    v102 = load64(v101);
-    v103 = v28 + 54u * 1u;
-    v104 = (u64)((u64)v102 + (u64)UINT64_C(18446744073709551562));
-    v105 = v94 ? v103 : ADDRESS(c138);
-    v106 = v94 ? v104 : 0u;
-    v107 = (u16)v98;
-    v108 = (u16)((u32)v107 << (8u & 15u));
-    v109 = (u16)v100;
-    v110 = (u16)((u32)v108 | (u32)v109);
-    store8(v19, v81);
-    v111 = v19 + 1u * 1u;
-    store8(v111, 0u);
-    v112 = v19 + 2u * 1u;
-    store16(v112, v110);
-    v113 = v19 + 4u * 1u;
-    store16(v113, v72);
-    v114 = v19 + 6u * 1u;
-    store16(v114, 0u);
-    v115 = v19 + 8u * 1u;
-    store_address(v115, v105);
-    v116 = v19 + 16u * 1u;
-    store64(v116, v106);
-    v117 = f18(v60, v18, v91, v19);
-    v118 = v117.m0;
-    switch (v118) {
-    case 0u: v15 = 9u; goto L35;
-    case 1u: goto L18;
-    case 2u: v7 = v82; v8 = v52; goto L19;
-    case 3u: goto L14;
-    case 4u: goto L15;
-    default: goto L16;
-    }
-L14:;
-    v15 = 8u; goto L35;
-L15:;
-    v15 = 7u; goto L35;
-L16:;
-    UNREACHABLE;
-L17:;
-    v119 = v21 + 1u * 1u;
-    v120 = load8(v119);
-    v16 = v120; v17 = 0u; goto L36;
-L18:;
-    v121 = v117.m1;
-    f22(a1, a2, v27, v121, v22);
-    v16 = 0u; v17 = 5u; goto L36;
-L19:;
-    v122 = v28 + 44u * 1u;
-    v123 = load8(v122);
-    v124 = v28 + 45u * 1u;
-    v125 = load8(v124);
-    v126 = a1 + 456u * 1u;
-    v127 = load64(v126);
-    v128 = v127 == 0u;
-    if (v128) { goto L24; }
-    else { goto L20; }
-L20:;
-    v129 = a1 + 448u * 1u;
-    v130 = load_address(v129);
-    v9 = v130; v10 = v127; goto L21;
-L21:;
-    v131 = v9 + 2136u * 1u;
-    v132 = (u64)((u64)v10 + (u64)UINT64_C(18446744073709551615));
-    v133 = v9 + 2112u * 1u;
-    v134 = load16(v133);
-    v135 = v7 == v134;
-    if (v135) { goto L22; }
-    else { goto L23; }
-L22:;
-    v136 = v9 + 2104u * 1u;
-    v137 = load64(v136);
-    v138 = v8 == v137;
-    if (v138) { goto L25; }
-    else { goto L23; }
-L23:;
-    v139 = v132 == 0u;
-    if (v139) { goto L24; }
-    else { v9 = v131; v10 = v132; goto L21; }
-L24:;
-    TRAP;
-    UNREACHABLE;
-L25:;
-    v140 = v9 + 2121u * 1u;
-    v141 = load8(v140);
-    v142 = (u8)((v141) & UINT64_C(1));
-    v143 = v123 > v125 ? (u8)((u32)v123 - (u32)v125) : 0u;
-    v144 = v9 + 1440u * 1u;
-    v145 = load64(v144);
-    v146 = v145 == 0u;
-    if (v146) { v16 = 0u; v17 = 6u; goto L36; }
-    else { goto L26; }
-L26:;
-    v147 = v9 + 1448u * 1u;
-    v148 = v9 + 1432u * 1u;
-    v149 = (u16)((u32)a2 >> (8u & 15u));
-    v150 = (u8)(v149);
-    v151 = (u8)(a2);
-    v11 = 0u; v12 = v147; v13 = v145; v14 = v148; goto L27;
-L27:;
-    v152 = v14 + 1u * 1u;
-    v153 = (u64)((u64)v13 + (u64)UINT64_C(18446744073709551615));
-    v154 = load8(v14);
-    v155 = (u64)v154;
-    v156 = v12 + v155 * 1u;
-    v157 = load_address(v22);
-    v158 = (u64)((u64)v11 * (u64)1476u);
-    v159 = v157 + v158 * 1u;
-    store16(v159, a2);
-    v160 = (u16)v154;
-    v161 = v159 + 2u * 1u;
-    store16(v161, v160);
-    v162 = v159 + 4u * 1u;
-    switch (v154) {
-    case 54u: goto L28;
-    case 56u: goto L29;
-    case 80u: goto L30;
-    default: goto L31;
-    }
-L28:;
-    memory_move(v162, v12, 54u);
-    goto L32;
-L29:;
-    memory_move(v162, v12, 56u);
-    goto L32;
-L30:;
-    memory_move(v162, v12, 80u);
-    goto L32;
-L31:;
-    f34(v162, v12, v155);
-    goto L32;
-L32:;
-    v163 = v159 + 8u * 1u;
-    store8(v163, v36);
-    if (v142) { goto L34; }
-    else { goto L33; }
-L33:;
-    v164 = v159 + 32u * 1u;
-    store8(v164, v150);
-    v165 = v159 + 33u * 1u;
-    store8(v165, v151);
-    goto L34;
-L34:;
-    v166 = v159 + 48u * 1u;
-    store8(v166, v143);
-    v167 = v159 + 49u * 1u;
-    store8(v167, v143);
-    v168 = load64(v24);
-    v169 = (u64)((u64)v168 + (u64)1u);
-    store64(v24, v169);
-    v170 = v153 == 0u;
-    if (v170) { v16 = 0u; v17 = 6u; goto L36; }
-    else { v11 = v169; v12 = v156; v13 = v153; v14 = v152; goto L27; }
-L35:;
-    f38(a1, v15, a2, a3, v27, v22);
-    v16 = 0u; v17 = v15; goto L36;
-L36:;
-    v171 = load64(v24);
-    store8(a0, v17);
-    v172 = a0 + 1u * 1u;
-    store8(v172, v16);
-    v173 = a0 + 8u * 1u;
-    store64(v173, v171);
-    return;
-}
-
-static void f48(address a0, address a1) {
+static void f46(address a0, address a1) {
     address v2, v4, v5, v6, v7;
     u64 v3;
     u64 block0[54];
@@ -11289,7 +10376,7 @@ static void f48(address a0, address a1) {
     return;
 }
 
-static void f49(address a0, address a1, u16 a2, address a3, u64 a4, address a5, u64 a6) {
+static void f47(address a0, address a1, u16 a2, address a3, u64 a4, address a5, u64 a6) {
     address v7, v9, v15, v18, v20, v27, v28, v29, v30, v31, v32, v33, v34, v35, v36, v37;
     address v38, v41, v42, v43, v45, v47, v51, v55, v57, v60, v62, v64, v69, v72, v74, v76;
     address v85, v90, v92, v101, v103, v105, v107, v113, v114, v115, v116, v117, v118, v119, v122, v123;
@@ -11459,7 +10546,7 @@ L12:;
     v104 = load8(v103);
     v105 = v42 + 54u * 1u;
     v106 = (u64)((u64)v44 + (u64)UINT64_C(18446744073709551562));
-    v107 = v98 ? v105 : ADDRESS(c138);
+    v107 = v98 ? v105 : ADDRESS(c145);
     v108 = v98 ? v106 : 0u;
     v109 = (u16)v102;
     v110 = (u16)((u32)v109 << (8u & 15u));
@@ -11536,7 +10623,7 @@ L19:;
     store_address(v149, v7);
     v150 = v31 + 16u * 1u;
     store64(v150, v144);
-    v151 = f19(v136, v31, v97, v32);
+    v151 = f25(v136, v31, v97, v32);
     v152 = v151 == 2u;
     if (v152) { v13 = v89; v14 = v120; goto L56; }
     else { v21 = v70; v22 = 0u; v23 = 1u; goto L72; }
@@ -11610,7 +10697,7 @@ L28:;
     v186 = load8(v185);
     v187 = v42 + 54u * 1u;
     v188 = (u64)((u64)v44 + (u64)UINT64_C(18446744073709551562));
-    v189 = v180 ? v187 : ADDRESS(c138);
+    v189 = v180 ? v187 : ADDRESS(c145);
     v190 = v180 ? v188 : 0u;
     v191 = (u16)v184;
     v192 = (u16)((u32)v191 << (8u & 15u));
@@ -11629,7 +10716,7 @@ L28:;
     store_address(v199, v189);
     v200 = v34 + 16u * 1u;
     store64(v200, v190);
-    v201 = f50(v69, v33, v179, v34);
+    v201 = f48(v69, v33, v179, v34);
     v202 = v201.m0;
     switch (v202) {
     case 0u: v21 = v70; v22 = 1u; v23 = 9u; goto L72;
@@ -11717,7 +10804,7 @@ L34:;
     v244 = swap16(v194);
     v245 = v30 + 52u * 1u;
     store16(v245, v244);
-    f23(a1, v29, v207, v30);
+    f29(a1, v29, v207, v30);
     v246 = load8(v220);
     v247 = a1 + 448u * 1u;
     v248 = a1 + 2584u * 1u;
@@ -11788,7 +10875,7 @@ L42:;
     if (v282) { goto L44; }
     else { v12 = v281; goto L42; }
 L43:;
-    f33(v262, v189, v190);
+    f38(v262, v189, v190);
     goto L44;
 L44:;
     v283 = v262 + 2121u * 1u;
@@ -11832,10 +10919,10 @@ L49:;
     memory_move(v285, v292, 80u);
     goto L55;
 L50:;
-    f34(v285, v292, v291);
+    f39(v285, v292, v291);
     goto L55;
 L51:;
-    f35(v285, v292, v291);
+    f40(v285, v292, v291);
     goto L55;
 L52:;
     v298 = v262 + 2088u * 1u;
@@ -11848,7 +10935,7 @@ L53:;
     store64(v298, 0u);
     goto L54;
 L54:;
-    f36(v36, v284, v285);
+    f41(v36, v284, v285);
     goto L55;
 L55:;
     v25 = 0u; v26 = 5u; goto L83;
@@ -11931,7 +11018,7 @@ L67:;
     memory_move(v338, v18, 80u);
     goto L69;
 L68:;
-    f34(v338, v18, v331);
+    f39(v338, v18, v331);
     goto L69;
 L69:;
     v339 = v335 + 8u * 1u;
@@ -12012,7 +11099,7 @@ L77:;
 L78:;
     UNREACHABLE;
 L79:;
-    f39(a1, a2, a3, v36);
+    f44(a1, a2, a3, v36);
     if (v22) { goto L81; }
     else { v24 = v23; goto L82; }
 L80:;
@@ -12032,7 +11119,7 @@ L81:;
     v383 = load8(v382);
     v384 = v42 + 54u * 1u;
     v385 = (u64)((u64)v44 + (u64)UINT64_C(18446744073709551562));
-    v386 = v373 ? v384 : ADDRESS(c138);
+    v386 = v373 ? v384 : ADDRESS(c145);
     v387 = v373 ? v385 : 0u;
     v388 = (u16)v381;
     v389 = (u16)((u32)v388 << (8u & 15u));
@@ -12124,7 +11211,7 @@ L81:;
     v452 = swap16(v395);
     v453 = v28 + 52u * 1u;
     store16(v453, v452);
-    f40(a1, v27, v28);
+    f45(a1, v27, v28);
     v24 = v23; goto L82;
 L82:;
     v25 = 0u; v26 = v24; goto L83;
@@ -12138,7 +11225,7 @@ L83:;
     return;
 }
 
-static struct s1 f50(address a0, address a1, u16 a2, address a3) {
+static struct s1 f48(address a0, address a1, u16 a2, address a3) {
     address v4, v9, v10, v13, v14, v16, v18, v21, v26, v29, v31, v33, v35, v37, v39, v40;
     address v41, v42, v43, v44, v46;
     u64 v5, v11, v17, v22, v23, v38;
@@ -12206,7 +11293,7 @@ L6:;
     store_address(v43, v4);
     v44 = v9 + 16u * 1u;
     store64(v44, v38);
-    v45 = f19(v30, v9, a2, a3);
+    v45 = f25(v30, v9, a2, a3);
     v6 = v45; goto L7;
 L7:;
     v46 = v4 + 2128u * 1u;
@@ -12220,7 +11307,7 @@ L8:;
     return v49;
 }
 
-static void f51(address a0, address a1, address a2, u64 a3) {
+static void f49(address a0, address a1, address a2, u64 a3) {
     address v4, v7, v8, v9, v10, v11, v12, v15, v16, v17, v19, v21, v26, v28, v30, v32;
     address v34, v36, v46, v47, v48, v49, v50, v51, v54, v56, v60, v64, v66, v69, v74, v78;
     address v80, v86, v88, v94, v95, v96, v99, v101, v104, v108, v111, v113, v115, v117, v119, v121;
@@ -12275,7 +11362,7 @@ L1:;
     v33 = load8(v32);
     v34 = v16 + 54u * 1u;
     v35 = (u64)((u64)v18 + (u64)UINT64_C(18446744073709551562));
-    v36 = v23 ? v34 : ADDRESS(c138);
+    v36 = v23 ? v34 : ADDRESS(c145);
     v37 = v23 ? v35 : 0u;
     v38 = (u16)v31;
     v39 = (u16)((u32)v38 << (8u & 15u));
@@ -12422,7 +11509,7 @@ L14:;
     store_address(v127, v4);
     v128 = v10 + 16u * 1u;
     store64(v128, v122);
-    v129 = f19(v114, v10, v93, v11);
+    v129 = f25(v114, v10, v93, v11);
     v130 = v4 + 2128u * 1u;
     v131 = load8(v130);
     v132 = v129 == 1u;
@@ -12432,7 +11519,7 @@ L15:;
     goto L19;
 L16:;
     memory_set(v9, 0u, 440u);
-    f44(v9, a1);
+    f18(v9, a1);
     memory_cpy(v8, v9, 440u);
     v133 = v20 > 2u;
     v134 = v133 ? 4u : 2u;
@@ -12477,7 +11564,7 @@ L16:;
     store8(v153, 1u);
     v154 = v7 + 1137u * 1u;
     memory_set(v154, 0u, 159u);
-    f52(v8, v11, v6, v7);
+    f50(v8, v11, v6, v7);
     v155 = load8(v139);
     v156 = v7 + 1288u * 1u;
     v157 = load64(v156);
@@ -12546,7 +11633,7 @@ L20:;
     goto L17;
 }
 
-static void f52(address a0, address a1, u8 a2, address a3) {
+static void f50(address a0, address a1, u8 a2, address a3) {
     address v4, v25, v26, v27, v28, v29, v31, v32, v33, v34, v35, v36, v37, v38, v48, v49;
     address v50, v76, v77, v78, v80, v81, v84, v85, v86, v87, v91, v92, v95, v96, v97, v99;
     address v101, v102, v105, v106, v107, v108, v110, v111, v114, v115, v116, v117;
@@ -12567,7 +11654,7 @@ static void f52(address a0, address a1, u8 a2, address a3) {
     v29 = a1 + 2u * 1u;
     v30 = load16(v29);
     switch (v30) {
-    case 0u: v4 = ADDRESS(c110); v5 = 19u; v6 = 0u; v7 = 2u; v8 = 0u; v9 = 1u; v10 = 0u; v11 = 7u; v12 = 0u; v13 = 0u; goto L21;
+    case 0u: v4 = ADDRESS(c117); v5 = 19u; v6 = 0u; v7 = 2u; v8 = 0u; v9 = 1u; v10 = 0u; v11 = 7u; v12 = 0u; v13 = 0u; goto L21;
     case 2u: goto L1;
     case 8192u: goto L2;
     case 8193u: goto L3;
@@ -12591,45 +11678,45 @@ static void f52(address a0, address a1, u8 a2, address a3) {
     default: goto L64;
     }
 L1:;
-    v4 = ADDRESS(c111); v5 = 16u; v6 = 0u; v7 = 1u; v8 = 1u; v9 = 0u; v10 = 1u; v11 = 3u; v12 = 1u; v13 = 0u; goto L21;
+    v4 = ADDRESS(c118); v5 = 16u; v6 = 0u; v7 = 1u; v8 = 1u; v9 = 0u; v10 = 1u; v11 = 3u; v12 = 1u; v13 = 0u; goto L21;
 L2:;
-    v4 = ADDRESS(c112); v5 = 16u; v6 = 0u; v7 = 1u; v8 = 1u; v9 = 0u; v10 = 1u; v11 = 1u; v12 = 2u; v13 = 0u; goto L21;
+    v4 = ADDRESS(c119); v5 = 16u; v6 = 0u; v7 = 1u; v8 = 1u; v9 = 0u; v10 = 1u; v11 = 1u; v12 = 2u; v13 = 0u; goto L21;
 L3:;
-    v4 = ADDRESS(c113); v5 = 16u; v6 = 0u; v7 = 1u; v8 = 1u; v9 = 0u; v10 = 1u; v11 = 1u; v12 = 3u; v13 = 0u; goto L21;
+    v4 = ADDRESS(c120); v5 = 16u; v6 = 0u; v7 = 1u; v8 = 1u; v9 = 0u; v10 = 1u; v11 = 1u; v12 = 3u; v13 = 0u; goto L21;
 L4:;
-    v4 = ADDRESS(c114); v5 = 15u; v6 = 0u; v7 = 1u; v8 = 1u; v9 = 0u; v10 = 1u; v11 = 1u; v12 = 4u; v13 = 0u; goto L21;
+    v4 = ADDRESS(c121); v5 = 15u; v6 = 0u; v7 = 1u; v8 = 1u; v9 = 0u; v10 = 1u; v11 = 1u; v12 = 4u; v13 = 0u; goto L21;
 L5:;
-    v4 = ADDRESS(c115); v5 = 24u; v6 = 0u; v7 = 1u; v8 = 1u; v9 = 0u; v10 = 1u; v11 = 1u; v12 = 5u; v13 = 0u; goto L21;
+    v4 = ADDRESS(c122); v5 = 24u; v6 = 0u; v7 = 1u; v8 = 1u; v9 = 0u; v10 = 1u; v11 = 1u; v12 = 5u; v13 = 0u; goto L21;
 L6:;
-    v4 = ADDRESS(c116); v5 = 13u; v6 = 4u; v7 = 2u; v8 = 0u; v9 = 1u; v10 = 1u; v11 = 1u; v12 = 6u; v13 = 0u; goto L21;
+    v4 = ADDRESS(c123); v5 = 13u; v6 = 4u; v7 = 2u; v8 = 0u; v9 = 1u; v10 = 1u; v11 = 1u; v12 = 6u; v13 = 0u; goto L21;
 L7:;
-    v4 = ADDRESS(c117); v5 = 9u; v6 = 0u; v7 = 1u; v8 = 1u; v9 = 0u; v10 = 1u; v11 = 3u; v12 = 7u; v13 = 0u; goto L21;
+    v4 = ADDRESS(c124); v5 = 9u; v6 = 0u; v7 = 1u; v8 = 1u; v9 = 0u; v10 = 1u; v11 = 3u; v12 = 7u; v13 = 0u; goto L21;
 L8:;
-    v4 = ADDRESS(c118); v5 = 9u; v6 = 0u; v7 = 1u; v8 = 1u; v9 = 0u; v10 = 1u; v11 = 3u; v12 = 8u; v13 = 0u; goto L21;
+    v4 = ADDRESS(c125); v5 = 9u; v6 = 0u; v7 = 1u; v8 = 1u; v9 = 0u; v10 = 1u; v11 = 3u; v12 = 8u; v13 = 0u; goto L21;
 L9:;
-    v4 = ADDRESS(c119); v5 = 6u; v6 = 0u; v7 = 1u; v8 = 1u; v9 = 0u; v10 = 1u; v11 = 3u; v12 = 9u; v13 = 0u; goto L21;
+    v4 = ADDRESS(c126); v5 = 6u; v6 = 0u; v7 = 1u; v8 = 1u; v9 = 0u; v10 = 1u; v11 = 3u; v12 = 9u; v13 = 0u; goto L21;
 L10:;
-    v4 = ADDRESS(c120); v5 = 10u; v6 = 0u; v7 = 1u; v8 = 1u; v9 = 0u; v10 = 1u; v11 = 1u; v12 = 10u; v13 = 0u; goto L21;
+    v4 = ADDRESS(c127); v5 = 10u; v6 = 0u; v7 = 1u; v8 = 1u; v9 = 0u; v10 = 1u; v11 = 1u; v12 = 10u; v13 = 0u; goto L21;
 L11:;
-    v4 = ADDRESS(c126); v5 = 21u; v6 = 4u; v7 = 2u; v8 = 0u; v9 = 1u; v10 = 1u; v11 = 3u; v12 = 11u; v13 = 0u; goto L21;
+    v4 = ADDRESS(c133); v5 = 21u; v6 = 4u; v7 = 2u; v8 = 0u; v9 = 1u; v10 = 1u; v11 = 3u; v12 = 11u; v13 = 0u; goto L21;
 L12:;
-    v4 = ADDRESS(c128); v5 = 24u; v6 = 4u; v7 = 2u; v8 = 0u; v9 = 1u; v10 = 1u; v11 = 3u; v12 = 11u; v13 = 1u; goto L21;
+    v4 = ADDRESS(c135); v5 = 24u; v6 = 4u; v7 = 2u; v8 = 0u; v9 = 1u; v10 = 1u; v11 = 3u; v12 = 11u; v13 = 1u; goto L21;
 L13:;
-    v4 = ADDRESS(c130); v5 = 17u; v6 = 4u; v7 = 2u; v8 = 0u; v9 = 1u; v10 = 1u; v11 = 3u; v12 = 11u; v13 = 2u; goto L21;
+    v4 = ADDRESS(c137); v5 = 17u; v6 = 4u; v7 = 2u; v8 = 0u; v9 = 1u; v10 = 1u; v11 = 3u; v12 = 11u; v13 = 2u; goto L21;
 L14:;
-    v4 = ADDRESS(c121); v5 = 14u; v6 = 4u; v7 = 2u; v8 = 0u; v9 = 1u; v10 = 1u; v11 = 1u; v12 = 12u; v13 = 0u; goto L21;
+    v4 = ADDRESS(c128); v5 = 14u; v6 = 4u; v7 = 2u; v8 = 0u; v9 = 1u; v10 = 1u; v11 = 1u; v12 = 12u; v13 = 0u; goto L21;
 L15:;
-    v4 = ADDRESS(c122); v5 = 11u; v6 = 4u; v7 = 2u; v8 = 0u; v9 = 1u; v10 = 0u; v11 = 4u; v12 = 13u; v13 = 0u; goto L21;
+    v4 = ADDRESS(c129); v5 = 11u; v6 = 4u; v7 = 2u; v8 = 0u; v9 = 1u; v10 = 0u; v11 = 4u; v12 = 13u; v13 = 0u; goto L21;
 L16:;
-    v4 = ADDRESS(c123); v5 = 12u; v6 = 4u; v7 = 2u; v8 = 0u; v9 = 1u; v10 = 0u; v11 = 4u; v12 = 14u; v13 = 0u; goto L21;
+    v4 = ADDRESS(c130); v5 = 12u; v6 = 4u; v7 = 2u; v8 = 0u; v9 = 1u; v10 = 0u; v11 = 4u; v12 = 14u; v13 = 0u; goto L21;
 L17:;
-    v4 = ADDRESS(c124); v5 = 14u; v6 = 0u; v7 = 1u; v8 = 1u; v9 = 0u; v10 = 1u; v11 = 3u; v12 = 15u; v13 = 0u; goto L21;
+    v4 = ADDRESS(c131); v5 = 14u; v6 = 0u; v7 = 1u; v8 = 1u; v9 = 0u; v10 = 1u; v11 = 3u; v12 = 15u; v13 = 0u; goto L21;
 L18:;
-    v4 = ADDRESS(c125); v5 = 14u; v6 = 0u; v7 = 1u; v8 = 1u; v9 = 0u; v10 = 1u; v11 = 3u; v12 = 16u; v13 = 0u; goto L21;
+    v4 = ADDRESS(c132); v5 = 14u; v6 = 0u; v7 = 1u; v8 = 1u; v9 = 0u; v10 = 1u; v11 = 3u; v12 = 16u; v13 = 0u; goto L21;
 L19:;
-    v4 = ADDRESS(c132); v5 = 15u; v6 = 4u; v7 = 2u; v8 = 0u; v9 = 1u; v10 = 1u; v11 = 3u; v12 = 11u; v13 = 3u; goto L21;
+    v4 = ADDRESS(c139); v5 = 15u; v6 = 4u; v7 = 2u; v8 = 0u; v9 = 1u; v10 = 1u; v11 = 3u; v12 = 11u; v13 = 3u; goto L21;
 L20:;
-    v4 = ADDRESS(c134); v5 = 27u; v6 = 4u; v7 = 2u; v8 = 0u; v9 = 1u; v10 = 1u; v11 = 3u; v12 = 11u; v13 = 4u; goto L21;
+    v4 = ADDRESS(c141); v5 = 27u; v6 = 4u; v7 = 2u; v8 = 0u; v9 = 1u; v10 = 1u; v11 = 3u; v12 = 11u; v13 = 4u; goto L21;
 L21:;
     memory_set(v26, 0u, 6u);
     memory_cpy(v28, v26, 6u);
@@ -12811,7 +11898,7 @@ L48:;
     store8(v77, v17);
     v78 = v25 + 3u * 1u;
     store8(v78, v18);
-    v79 = f25(v25, v49, v51);
+    v79 = f31(v25, v49, v51);
     if (v79) { goto L51; }
     else { v19 = 3u; goto L49; }
 L49:;
@@ -12820,7 +11907,7 @@ L49:;
 L50:;
     goto L51;
 L51:;
-    f28(a0, v12, v13, a1);
+    f34(a0, v12, v13, a1);
     if (v8) { goto L53; }
     else { v23 = 0u; v24 = 0u; goto L62; }
 L52:;
@@ -12906,10 +11993,10 @@ L60:;
     store64(v102, v109);
     goto L63;
 L61:;
-    f53(a0, v12, a3);
+    f51(a0, v12, a3);
     goto L63;
 L62:;
-    f54(a0, v27, a1, v24, v23, a3);
+    f52(a0, v27, a1, v24, v23, a3);
     goto L63;
 L63:;
     return;
@@ -12931,7 +12018,7 @@ L64:;
     goto L63;
 }
 
-static void f53(address a0, u8 a1, address a2) {
+static void f51(address a0, u8 a1, address a2) {
     address v3, v4, v5, v6, v7, v9, v12, v13, v14, v15, v16, v19, v20, v22, v25, v26;
     address v27, v28, v31, v32;
     u8 v8, v11, v24;
@@ -12979,7 +12066,7 @@ L3:;
     goto L7;
 L4:;
     memory_set(v7, 0u, 144u);
-    f31(a0, a1, v7);
+    f36(a0, a1, v7);
     v22 = v7 + 136u * 1u;
     v23 = load64(v22);
     memory_set(v4, 0u, 144u);
@@ -13010,7 +12097,7 @@ L7:;
     return;
 }
 
-static void f54(address a0, address a1, address a2, u8 a3, u8 a4, address a5) {
+static void f52(address a0, address a1, address a2, u8 a3, u8 a4, address a5) {
     u16 v6, v7, v17, v21, v22, v39, v51, v64, v65, v70, v71, v72, v73, v82, v100, v117;
     u16 v127;
     u64 v8, v20, v31, v32, v35, v36, v44, v47, v48, v55, v58, v59, v61, v63, v75, v76;
@@ -13276,7 +12363,7 @@ L22:;
     return;
 }
 
-static void f55(address a0, address a1, u8 a2) {
+static void f53(address a0, address a1, u8 a2) {
     address v3, v4, v5, v6, v10, v12, v13, v14, v15, v16, v17, v18, v19, v20, v21, v22;
     address v23, v24, v25, v26, v27, v28, v29, v30, v31, v32;
     u8 v7, v8, v9;
@@ -13335,15 +12422,15 @@ static void f55(address a0, address a1, u8 a2) {
     v31 = v3 + 1137u * 1u;
     memory_set(v31, 0u, 159u);
     store8(v6, a2);
-    f56(a0, v5, v3);
+    f54(a0, v5, v3);
     memory_cpy(v4, v3, 1296u);
     v32 = a1 + 10u * 1u;
     v33 = load16(v32);
-    f59(a0, a1, v33, v5, v4);
+    f57(a0, a1, v33, v5, v4);
     return;
 }
 
-static void f56(address a0, address a1, address a2) {
+static void f54(address a0, address a1, address a2) {
     address v3, v10, v11, v12, v15, v17, v18, v19, v20, v21, v22, v23, v24, v28, v30, v31;
     address v34, v35, v36, v37, v39, v41, v42, v45, v46, v47, v48, v50, v52, v53, v56, v57;
     address v58, v59;
@@ -13361,7 +12448,7 @@ static void f56(address a0, address a1, address a2) {
     v15 = a1 + 2u * 1u;
     v16 = load16(v15);
     switch (v16) {
-    case 0u: v3 = ADDRESS(c110); v4 = 19u; v5 = 0u; v6 = 1u; v7 = 7u; v8 = 0u; v9 = 0u; goto L21;
+    case 0u: v3 = ADDRESS(c117); v4 = 19u; v5 = 0u; v6 = 1u; v7 = 7u; v8 = 0u; v9 = 0u; goto L21;
     case 2u: goto L1;
     case 8192u: goto L2;
     case 8193u: goto L3;
@@ -13385,45 +12472,45 @@ static void f56(address a0, address a1, address a2) {
     default: goto L22;
     }
 L1:;
-    v3 = ADDRESS(c111); v4 = 16u; v5 = 1u; v6 = 0u; v7 = 3u; v8 = 1u; v9 = 0u; goto L21;
+    v3 = ADDRESS(c118); v4 = 16u; v5 = 1u; v6 = 0u; v7 = 3u; v8 = 1u; v9 = 0u; goto L21;
 L2:;
-    v3 = ADDRESS(c112); v4 = 16u; v5 = 1u; v6 = 0u; v7 = 1u; v8 = 2u; v9 = 0u; goto L21;
+    v3 = ADDRESS(c119); v4 = 16u; v5 = 1u; v6 = 0u; v7 = 1u; v8 = 2u; v9 = 0u; goto L21;
 L3:;
-    v3 = ADDRESS(c113); v4 = 16u; v5 = 1u; v6 = 0u; v7 = 1u; v8 = 3u; v9 = 0u; goto L21;
+    v3 = ADDRESS(c120); v4 = 16u; v5 = 1u; v6 = 0u; v7 = 1u; v8 = 3u; v9 = 0u; goto L21;
 L4:;
-    v3 = ADDRESS(c114); v4 = 15u; v5 = 1u; v6 = 0u; v7 = 1u; v8 = 4u; v9 = 0u; goto L21;
+    v3 = ADDRESS(c121); v4 = 15u; v5 = 1u; v6 = 0u; v7 = 1u; v8 = 4u; v9 = 0u; goto L21;
 L5:;
-    v3 = ADDRESS(c115); v4 = 24u; v5 = 1u; v6 = 0u; v7 = 1u; v8 = 5u; v9 = 0u; goto L21;
+    v3 = ADDRESS(c122); v4 = 24u; v5 = 1u; v6 = 0u; v7 = 1u; v8 = 5u; v9 = 0u; goto L21;
 L6:;
-    v3 = ADDRESS(c116); v4 = 13u; v5 = 0u; v6 = 1u; v7 = 1u; v8 = 6u; v9 = 0u; goto L21;
+    v3 = ADDRESS(c123); v4 = 13u; v5 = 0u; v6 = 1u; v7 = 1u; v8 = 6u; v9 = 0u; goto L21;
 L7:;
-    v3 = ADDRESS(c117); v4 = 9u; v5 = 1u; v6 = 0u; v7 = 3u; v8 = 7u; v9 = 0u; goto L21;
+    v3 = ADDRESS(c124); v4 = 9u; v5 = 1u; v6 = 0u; v7 = 3u; v8 = 7u; v9 = 0u; goto L21;
 L8:;
-    v3 = ADDRESS(c118); v4 = 9u; v5 = 1u; v6 = 0u; v7 = 3u; v8 = 8u; v9 = 0u; goto L21;
+    v3 = ADDRESS(c125); v4 = 9u; v5 = 1u; v6 = 0u; v7 = 3u; v8 = 8u; v9 = 0u; goto L21;
 L9:;
-    v3 = ADDRESS(c119); v4 = 6u; v5 = 1u; v6 = 0u; v7 = 3u; v8 = 9u; v9 = 0u; goto L21;
+    v3 = ADDRESS(c126); v4 = 6u; v5 = 1u; v6 = 0u; v7 = 3u; v8 = 9u; v9 = 0u; goto L21;
 L10:;
-    v3 = ADDRESS(c120); v4 = 10u; v5 = 1u; v6 = 0u; v7 = 1u; v8 = 10u; v9 = 0u; goto L21;
+    v3 = ADDRESS(c127); v4 = 10u; v5 = 1u; v6 = 0u; v7 = 1u; v8 = 10u; v9 = 0u; goto L21;
 L11:;
-    v3 = ADDRESS(c126); v4 = 21u; v5 = 0u; v6 = 1u; v7 = 3u; v8 = 11u; v9 = 0u; goto L21;
+    v3 = ADDRESS(c133); v4 = 21u; v5 = 0u; v6 = 1u; v7 = 3u; v8 = 11u; v9 = 0u; goto L21;
 L12:;
-    v3 = ADDRESS(c128); v4 = 24u; v5 = 0u; v6 = 1u; v7 = 3u; v8 = 11u; v9 = 1u; goto L21;
+    v3 = ADDRESS(c135); v4 = 24u; v5 = 0u; v6 = 1u; v7 = 3u; v8 = 11u; v9 = 1u; goto L21;
 L13:;
-    v3 = ADDRESS(c130); v4 = 17u; v5 = 0u; v6 = 1u; v7 = 3u; v8 = 11u; v9 = 2u; goto L21;
+    v3 = ADDRESS(c137); v4 = 17u; v5 = 0u; v6 = 1u; v7 = 3u; v8 = 11u; v9 = 2u; goto L21;
 L14:;
-    v3 = ADDRESS(c121); v4 = 14u; v5 = 0u; v6 = 1u; v7 = 1u; v8 = 12u; v9 = 0u; goto L21;
+    v3 = ADDRESS(c128); v4 = 14u; v5 = 0u; v6 = 1u; v7 = 1u; v8 = 12u; v9 = 0u; goto L21;
 L15:;
-    v3 = ADDRESS(c122); v4 = 11u; v5 = 0u; v6 = 1u; v7 = 4u; v8 = 13u; v9 = 0u; goto L21;
+    v3 = ADDRESS(c129); v4 = 11u; v5 = 0u; v6 = 1u; v7 = 4u; v8 = 13u; v9 = 0u; goto L21;
 L16:;
-    v3 = ADDRESS(c123); v4 = 12u; v5 = 0u; v6 = 1u; v7 = 4u; v8 = 14u; v9 = 0u; goto L21;
+    v3 = ADDRESS(c130); v4 = 12u; v5 = 0u; v6 = 1u; v7 = 4u; v8 = 14u; v9 = 0u; goto L21;
 L17:;
-    v3 = ADDRESS(c124); v4 = 14u; v5 = 1u; v6 = 0u; v7 = 3u; v8 = 15u; v9 = 0u; goto L21;
+    v3 = ADDRESS(c131); v4 = 14u; v5 = 1u; v6 = 0u; v7 = 3u; v8 = 15u; v9 = 0u; goto L21;
 L18:;
-    v3 = ADDRESS(c125); v4 = 14u; v5 = 1u; v6 = 0u; v7 = 3u; v8 = 16u; v9 = 0u; goto L21;
+    v3 = ADDRESS(c132); v4 = 14u; v5 = 1u; v6 = 0u; v7 = 3u; v8 = 16u; v9 = 0u; goto L21;
 L19:;
-    v3 = ADDRESS(c132); v4 = 15u; v5 = 0u; v6 = 1u; v7 = 3u; v8 = 11u; v9 = 3u; goto L21;
+    v3 = ADDRESS(c139); v4 = 15u; v5 = 0u; v6 = 1u; v7 = 3u; v8 = 11u; v9 = 3u; goto L21;
 L20:;
-    v3 = ADDRESS(c134); v4 = 27u; v5 = 0u; v6 = 1u; v7 = 3u; v8 = 11u; v9 = 4u; goto L21;
+    v3 = ADDRESS(c141); v4 = 27u; v5 = 0u; v6 = 1u; v7 = 3u; v8 = 11u; v9 = 4u; goto L21;
 L21:;
     memory_set(v10, 0u, 6u);
     memory_cpy(v12, v10, 6u);
@@ -13532,15 +12619,15 @@ L28:;
     store64(v53, v60);
     goto L23;
 L29:;
-    f57(a0, v8, a2);
+    f55(a0, v8, a2);
     goto L23;
 L30:;
     v61 = (u8)v27;
-    f58(a0, v11, a1, v61, a2);
+    f56(a0, v11, a1, v61, a2);
     goto L23;
 }
 
-static void f57(address a0, u8 a1, address a2) {
+static void f55(address a0, u8 a1, address a2) {
     address v3, v5, v7, v8, v11, v12, v13, v14, v16, v18, v19, v22, v23, v24, v25;
     u8 v4, v6, v17;
     u64 v9, v10, v15, v20, v21, v26;
@@ -13569,7 +12656,7 @@ L1:;
     goto L3;
 L2:;
     memory_set(v3, 0u, 144u);
-    f31(a0, a1, v3);
+    f36(a0, a1, v3);
     v16 = a2 + 1296u * 1u;
     v17 = load8(v16);
     v18 = a2 + 8u * 1u;
@@ -13591,7 +12678,7 @@ L3:;
     return;
 }
 
-static void f58(address a0, address a1, address a2, u8 a3, address a4) {
+static void f56(address a0, address a1, address a2, u8 a3, address a4) {
     u16 v5, v6, v9, v13, v14, v26;
     u64 v7, v12, v19, v20, v22, v23, v31, v32;
     address v8, v11, v16, v17, v18, v24, v25, v27, v28, v29, v30;
@@ -13645,7 +12732,7 @@ L5:;
     return;
 }
 
-static void f59(address a0, address a1, u16 a2, address a3, address a4) {
+static void f57(address a0, address a1, u16 a2, address a3, address a4) {
     address v5, v11, v14, v22, v23, v24, v25, v28, v30, v32, v35, v42, v43, v44, v46, v47;
     address v49, v50, v52, v53, v54, v55, v58, v67, v68, v72, v73, v79, v80, v82, v84, v88;
     address v89, v90, v93, v94, v97, v133, v135, v138, v140, v141, v143, v149, v153, v154, v159, v161;
@@ -13748,7 +12835,7 @@ L9:;
     if (v71) { goto L11; }
     else { v8 = v70; goto L9; }
 L10:;
-    f33(v42, v54, v56);
+    f38(v42, v54, v56);
     goto L11;
 L11:;
     v72 = a4 + 8u * 1u;
@@ -13840,7 +12927,7 @@ L17:;
     v139 = load8(v138);
     switch (v139) {
     case 0u: goto L18;
-    case 1u: v11 = ADDRESS(c138); v12 = 0u; goto L28;
+    case 1u: v11 = ADDRESS(c145); v12 = 0u; goto L28;
     case 2u: goto L19;
     default: goto L27;
     }
@@ -13853,7 +12940,7 @@ L19:;
     v143 = v133 + 9u * 1u;
     v144 = load8(v143);
     switch (v144) {
-    case 0u: v13 = 0u; v14 = ADDRESS(c138); v15 = v87; v16 = 1u; v17 = 1u; v18 = 60u; goto L29;
+    case 0u: v13 = 0u; v14 = ADDRESS(c145); v15 = v87; v16 = 1u; v17 = 1u; v18 = 60u; goto L29;
     case 1u: goto L20;
     case 2u: goto L21;
     case 3u: goto L22;
@@ -13863,17 +12950,17 @@ L19:;
     default: goto L26;
     }
 L20:;
-    v13 = 0u; v14 = ADDRESS(c138); v15 = v87; v16 = 2u; v17 = 1u; v18 = 60u; goto L29;
+    v13 = 0u; v14 = ADDRESS(c145); v15 = v87; v16 = 2u; v17 = 1u; v18 = 60u; goto L29;
 L21:;
-    v13 = 0u; v14 = ADDRESS(c138); v15 = v87; v16 = 3u; v17 = 1u; v18 = 60u; goto L29;
+    v13 = 0u; v14 = ADDRESS(c145); v15 = v87; v16 = 3u; v17 = 1u; v18 = 60u; goto L29;
 L22:;
-    v13 = 0u; v14 = ADDRESS(c138); v15 = v87; v16 = 4u; v17 = 1u; v18 = 60u; goto L29;
+    v13 = 0u; v14 = ADDRESS(c145); v15 = v87; v16 = 4u; v17 = 1u; v18 = 60u; goto L29;
 L23:;
-    v13 = 0u; v14 = ADDRESS(c138); v15 = v87; v16 = 5u; v17 = 1u; v18 = 60u; goto L29;
+    v13 = 0u; v14 = ADDRESS(c145); v15 = v87; v16 = 5u; v17 = 1u; v18 = 60u; goto L29;
 L24:;
-    v13 = 0u; v14 = ADDRESS(c138); v15 = v87; v16 = 6u; v17 = 1u; v18 = 60u; goto L29;
+    v13 = 0u; v14 = ADDRESS(c145); v15 = v87; v16 = 6u; v17 = 1u; v18 = 60u; goto L29;
 L25:;
-    v13 = 0u; v14 = ADDRESS(c138); v15 = v87; v16 = 65534u; v17 = 1u; v18 = 60u; goto L29;
+    v13 = 0u; v14 = ADDRESS(c145); v15 = v87; v16 = 65534u; v17 = 1u; v18 = 60u; goto L29;
 L26:;
     UNREACHABLE;
 L27:;
@@ -13890,16 +12977,16 @@ L29:;
 L30:;
     v149 = v89 + v146 * 1u;
     v150 = (u64)v149;
-    v151 = (u64)((u64)v150 - (u64)(ADDRESS(c136) + 8u * 1u));
+    v151 = (u64)((u64)v150 - (u64)(ADDRESS(c143) + 8u * 1u));
     v152 = v151 < v18;
     if (v152) { v19 = 0u; goto L32; }
     else { goto L31; }
 L31:;
-    memory_cpy(v149, (ADDRESS(c136) + 8u * 1u), v18);
+    memory_cpy(v149, (ADDRESS(c143) + 8u * 1u), v18);
     goto L33;
 L32:;
     v153 = v149 + v19 * 1u;
-    v154 = (ADDRESS(c136) + 8u * 1u) + v19 * 1u;
+    v154 = (ADDRESS(c143) + 8u * 1u) + v19 * 1u;
     v155 = load8(v154);
     store8(v153, v155);
     v156 = (u64)((u64)v19 + (u64)1u);
@@ -14045,7 +13132,7 @@ L48:;
     return;
 }
 
-static u8 f60(address a0) {
+static u8 f58(address a0) {
     u8 v1, v2, v3;
     address v4;
     u16 v5;
@@ -14086,7 +13173,7 @@ L3:;
     return v1;
 }
 
-static u8 f61(address a0, address a1) {
+static u8 f59(address a0, address a1) {
     address v2, v4, v8, v9, v10, v11, v13, v15, v20, v23, v25, v27, v33, v35, v41, v43;
     address v48, v50, v52, v54, v61, v62, v63, v64, v65, v66, v67, v68, v69, v72, v74, v77;
     address v81, v84, v86, v88, v90, v92, v94, v95, v96, v97, v98, v99;
@@ -14145,7 +13232,7 @@ L1:;
     v50 = v10 + v47 * 1u;
     v51 = load8(v50);
     if (v45) { goto L2; }
-    else { v2 = ADDRESS(c138); v3 = 0u; goto L3; }
+    else { v2 = ADDRESS(c145); v3 = 0u; goto L3; }
 L2:;
     v52 = a1 + 8u * 1u;
     v53 = load64(v52);
@@ -14226,7 +13313,7 @@ L8:;
     store_address(v98, v4);
     v99 = v8 + 16u * 1u;
     store64(v99, v93);
-    v100 = f19(v85, v8, v40, v9);
+    v100 = f25(v85, v8, v40, v9);
     v6 = v100; goto L9;
 L9:;
     v7 = v6; goto L10;
@@ -14234,7 +13321,7 @@ L10:;
     return v7;
 }
 
-static void f62(address a0, address a1, address a2, u64 a3) {
+static void f60(address a0, address a1, address a2, u64 a3) {
     u8 v4, v25, v28, v32, v33;
     address v5, v6, v7, v8, v9, v10, v11, v12, v13, v14, v15, v16, v17, v18, v19, v20;
     address v21, v22, v23, v24, v26, v29, v30, v31, v34, v35, v36, v37, v38, v39, v40, v41;
@@ -14373,11 +13460,108 @@ L3:;
     store64(v54, 1u);
     v55 = a1 + 10u * 1u;
     v56 = load16(v55);
-    f59(a0, a1, v56, v24, v15);
+    f57(a0, a1, v56, v24, v15);
     return;
 }
 
-static void f63(address a0, address a1, address a2) {
+static void f61(address a0, address a1, u64 a2) {
+    u64 v3, v4, v5, v6, v7, v9, v12, v14, v16, v17, v19, v21, v23, v24, v25, v28;
+    u64 v29, v32, v41, v42, v43, v44, v46;
+    address v8, v11, v13, v18, v20, v27, v30, v31, v33, v34, v36, v39, v40;
+    u8 v10, v15, v22, v26, v45;
+    u16 v35, v37, v38;
+    v8 = a0 + 24u * 1u;
+    v9 = load64(v8);
+    v10 = v9 == 0u;
+    if (v10) { goto L5; }
+    else { goto L1; }
+L1:;
+    v11 = a0 + 32u * 1u;
+    v12 = load64(v11);
+    v13 = load_address(a0);
+    v14 = (u64)((u64)v12 - (u64)v9);
+    v15 = v12 == v9;
+    if (v15) { v4 = v9; v5 = v9; goto L4; }
+    else { v3 = 0u; goto L2; }
+L2:;
+    v16 = (u64)((u64)v3 + (u64)v9);
+    v17 = (u64)((u64)v16 * (u64)1476u);
+    v18 = v13 + v17 * 1u;
+    v19 = (u64)((u64)v3 * (u64)1476u);
+    v20 = v13 + v19 * 1u;
+    memory_move(v20, v18, 1476u);
+    v21 = (u64)((u64)v3 + (u64)1u);
+    v22 = v21 == v14;
+    if (v22) { goto L3; }
+    else { v3 = v21; goto L2; }
+L3:;
+    v23 = load64(v8);
+    v24 = load64(v11);
+    v4 = v24; v5 = v23; goto L4;
+L4:;
+    v25 = (u64)((u64)v4 - (u64)v5);
+    store64(v11, v25);
+    store64(v8, 0u);
+    goto L5;
+L5:;
+    v26 = a2 == 0u;
+    if (v26) { goto L14; }
+    else { goto L6; }
+L6:;
+    v27 = a0 + 32u * 1u;
+    v28 = load64(v27);
+    v6 = v28; v7 = 0u; goto L7;
+L7:;
+    v29 = (u64)((u64)v7 * (u64)1476u);
+    v30 = a1 + v29 * 1u;
+    v31 = load_address(a0);
+    v32 = (u64)((u64)v6 * (u64)1476u);
+    v33 = v31 + v32 * 1u;
+    v34 = v30 + 2u * 1u;
+    v35 = load16(v34);
+    v36 = v30 + 4u * 1u;
+    v37 = load16(v30);
+    store16(v33, v37);
+    v38 = load16(v34);
+    v39 = v33 + 2u * 1u;
+    store16(v39, v38);
+    v40 = v33 + 4u * 1u;
+    switch (v35) {
+    case 54u: goto L8;
+    case 56u: goto L9;
+    case 80u: goto L10;
+    default: goto L11;
+    }
+L8:;
+    memory_move(v40, v36, 54u);
+    goto L12;
+L9:;
+    memory_move(v40, v36, 56u);
+    goto L12;
+L10:;
+    memory_move(v40, v36, 80u);
+    goto L12;
+L11:;
+    v41 = (u64)v35;
+    f39(v40, v36, v41);
+    goto L12;
+L12:;
+    v42 = load64(v27);
+    v43 = (u64)((u64)v42 + (u64)1u);
+    store64(v27, v43);
+    v44 = (u64)((u64)v7 + (u64)1u);
+    v45 = v44 == a2;
+    if (v45) { goto L13; }
+    else { v6 = v43; v7 = v44; goto L7; }
+L13:;
+    v46 = (u64)((u64)a2 * (u64)1476u);
+    memory_set(a1, 0u, v46);
+    goto L14;
+L14:;
+    return;
+}
+
+static void f62(address a0, address a1, address a2) {
     u64 v3, v5, v7, v8, v12, v13, v15, v16, v18, v19, v20, v22, v23, v24, v25, v27;
     u64 v28, v29, v30, v31, v33, v34, v35, v36, v37, v38, v40, v41, v42, v43, v44, v45;
     u64 v46, v48, v49, v50, v51, v52, v53, v54, v55, v56, v57, v58, v59, v60, v61, v62;
@@ -14525,7 +13709,7 @@ L10:;
     v124 = v8 >= v3;
     v9 = v124; goto L12;
 L11:;
-    v125 = f21(v4, v3, v6, v3);
+    v125 = f27(v4, v3, v6, v3);
     v9 = v125; goto L12;
 L12:;
     v126 = (u8)(((u32)v9 ^ (u32)1u) & UINT64_C(1));
@@ -15376,23 +14560,1118 @@ L48:;
     return;
 }
 
-static u32 f64(address a0, u16 a1, address a2, u64 a3, address a4, u8 a5, address a6, u64 a7, address a8) {
-    address v9, v19, v28, v29, v30, v31, v32, v33, v34, v35, v36, v37, v38, v39, v40, v41;
-    address v42, v43, v44, v45, v46, v49, v51, v53, v54, v61, v62, v63, v64, v65, v69, v71;
-    address v73, v79, v82, v83, v84, v86, v89, v93, v96, v101, v103, v105, v110, v111, v112, v117;
-    address v120, v121, v122, v126, v127, v134, v135, v136, v137, v138, v140, v142, v144, v147, v148, v149;
-    address v150, v151, v152, v155, v156, v163, v168, v169, v170, v172, v174, v181, v182, v183, v184, v191;
-    address v192, v193, v196, v198;
-    u64 v10, v13, v14, v15, v16, v17, v18, v20, v21, v22, v25, v26, v66, v67, v70, v80;
-    u64 v85, v90, v97, v102, v104, v106, v107, v108, v113, v114, v115, v116, v118, v124, v125, v128;
-    u64 v129, v130, v143, v153, v164, v165, v166, v167, v175, v177, v178, v179, v180, v185, v186, v187;
-    u64 v189;
-    u8 v11, v12, v23, v24, v47, v48, v50, v52, v55, v56, v57, v58, v59, v60, v68, v72;
-    u8 v74, v81, v88, v91, v92, v94, v95, v98, v99, v100, v109, v119, v123, v131, v132, v133;
-    u8 v139, v141, v145, v146, v154, v157, v158, v159, v160, v161, v162, v171, v173, v176, v188, v190;
-    u8 v197, v199, v200, v201;
-    u32 v27, v194, v195, v202, v203;
-    u16 v75, v76, v77, v78, v87;
+static struct s2 f63(address a0, address a1, u64 a2) {
+    u64 v3, v4, v14, v16, v19, v23, v24, v25, v27, v30, v32, v34, v58, v59, v60, v65;
+    u64 v67;
+    u8 v5, v8, v9, v17, v21, v22, v31, v33, v35, v36, v38, v39, v41, v42, v61, v64;
+    u8 v66;
+    struct s2 v6, v10, v20, v68, v69;
+    address v7, v11, v12, v15, v18, v28, v43, v44, v45, v46, v47, v48, v49, v50, v51, v52;
+    address v53, v54, v55, v56, v57, v62, v63;
+    u16 v13, v26, v29, v37, v40;
+    v7 = a0 + 472u * 1u;
+    v8 = load8(v7);
+    v9 = v8 == 0u;
+    if (v9) { goto L1; }
+    else { goto L2; }
+L1:;
+    v10 = f64(a0, a1, a2);
+    v6 = v10; goto L9;
+L2:;
+    v11 = a0 + 474u * 1u;
+    v12 = a0 + 476u * 1u;
+    v13 = load16(v12);
+    v14 = (u64)v13;
+    v15 = a0 + 478u * 1u;
+    v16 = (u64)((u64)v14 + (u64)16u);
+    v17 = a2 < v16;
+    if (v17) { v4 = 0u; v5 = 0u; goto L8; }
+    else { goto L3; }
+L3:;
+    v18 = a1 + v16 * 1u;
+    v19 = (u64)((u64)a2 - (u64)v16);
+    v20 = f64(a0, v18, v19);
+    v21 = v20.m0;
+    v22 = v21 == 1u;
+    if (v22) { goto L4; }
+    else { v4 = 0u; v5 = v21; goto L8; }
+L4:;
+    v23 = v20.m1;
+    v24 = (u64)((u64)v14 + (u64)4u);
+    v25 = (u64)((u64)v24 + (u64)v23);
+    v26 = load16(v12);
+    v27 = (u64)v26;
+    v28 = a1 + 16u * 1u;
+    v29 = load16(v11);
+    v30 = (u64)((u64)v25 >> (24u & 63u));
+    v31 = (u8)(v30);
+    v32 = (u64)((u64)v25 >> (16u & 63u));
+    v33 = (u8)(v32);
+    v34 = (u64)((u64)v25 >> (8u & 63u));
+    v35 = (u8)(v34);
+    v36 = (u8)(v25);
+    v37 = (u16)((u32)v29 >> (8u & 15u));
+    v38 = (u8)(v37);
+    v39 = (u8)(v29);
+    v40 = (u16)((u32)v26 >> (8u & 15u));
+    v41 = (u8)(v40);
+    v42 = (u8)(v26);
+    store8(a1, 112u);
+    v43 = a1 + 1u * 1u;
+    store8(v43, 116u);
+    v44 = a1 + 2u * 1u;
+    store8(v44, 112u);
+    v45 = a1 + 3u * 1u;
+    store8(v45, 109u);
+    v46 = a1 + 4u * 1u;
+    store8(v46, 3u);
+    v47 = a1 + 5u * 1u;
+    store8(v47, 1u);
+    v48 = a1 + 6u * 1u;
+    store8(v48, 0u);
+    v49 = a1 + 7u * 1u;
+    store8(v49, 0u);
+    v50 = a1 + 8u * 1u;
+    store8(v50, v31);
+    v51 = a1 + 9u * 1u;
+    store8(v51, v33);
+    v52 = a1 + 10u * 1u;
+    store8(v52, v35);
+    v53 = a1 + 11u * 1u;
+    store8(v53, v36);
+    v54 = a1 + 12u * 1u;
+    store8(v54, v38);
+    v55 = a1 + 13u * 1u;
+    store8(v55, v39);
+    v56 = a1 + 14u * 1u;
+    store8(v56, v41);
+    v57 = a1 + 15u * 1u;
+    store8(v57, v42);
+    v58 = (u64)v28;
+    v59 = (u64)v15;
+    v60 = (u64)((u64)v58 - (u64)v59);
+    v61 = v60 < v27;
+    if (v61) { v3 = 0u; goto L6; }
+    else { goto L5; }
+L5:;
+    memory_move(v28, v15, v27);
+    goto L7;
+L6:;
+    v62 = v28 + v3 * 1u;
+    v63 = v15 + v3 * 1u;
+    v64 = load8(v63);
+    store8(v62, v64);
+    v65 = (u64)((u64)v3 + (u64)1u);
+    v66 = v65 == v27;
+    if (v66) { goto L7; }
+    else { v3 = v65; goto L6; }
+L7:;
+    v67 = (u64)((u64)v23 + (u64)v16);
+    v4 = v67; v5 = 1u; goto L8;
+L8:;
+    v68 = (struct s2){ 0 };
+    v68.m0 = v5;
+    v69 = v68;
+    v69.m1 = v4;
+    v6 = v69; goto L9;
+L9:;
+    return v6;
+}
+
+static struct s2 f64(address a0, address a1, u64 a2) {
+    u64 v3, v4, v5, v6, v7, v8, v9, v13, v14, v15, v16, v18, v19, v21, v22, v23;
+    u64 v24, v25, v27, v30, v34, v35, v36, v37, v38, v39, v48, v52, v53, v55, v58, v66;
+    u64 v67, v71, v73, v80, v84, v86, v90, v94, v96, v98, v99, v100, v101, v103, v104, v105;
+    u64 v106, v108, v109, v110, v113, v115, v121, v124, v128, v130, v134, v140, v141, v150, v152, v163;
+    u64 v172, v173, v174, v179, v181, v183, v185, v187, v195, v197, v233, v234, v236, v242, v243, v244;
+    u64 v245, v323, v328, v330, v332, v333, v334, v336, v337, v338, v340, v345, v347, v348, v350, v352;
+    address v10, v11, v12, v17, v20, v26, v28, v31, v41, v42, v43, v44, v45, v47, v50, v54;
+    address v56, v57, v60, v61, v62, v63, v64, v68, v69, v70, v72, v75, v76, v77, v82, v83;
+    address v112, v114, v117, v118, v119, v120, v123, v125, v131, v132, v133, v136, v137, v138, v142, v143;
+    address v145, v147, v149, v151, v153, v156, v164, v165, v166, v167, v168, v169, v170, v171, v176, v177;
+    address v182, v186, v189, v190, v191, v194, v198, v199, v201, v208, v210, v217, v219, v228, v232, v235;
+    address v237, v241, v248, v249, v251, v252, v254, v255, v257, v258, v260, v261, v263, v264, v266, v267;
+    address v269, v270, v272, v273, v275, v276, v278, v279, v281, v282, v284, v285, v287, v288, v290, v291;
+    address v293, v294, v296, v297, v299, v300, v302, v303, v305, v306, v308, v309, v311, v312, v314, v315;
+    address v317, v318, v320, v321, v325, v326, v331, v341, v342, v343, v355, v356, v357, v358, v359, v360;
+    address v361, v362, v363, v364, v365;
+    u16 v29, v146, v148, v154, v155, v157, v158, v159, v160, v161, v162, v203, v204, v205, v206, v207;
+    u16 v212, v213, v214, v215, v221, v222, v223, v224, v225, v226, v238, v239;
+    u8 v32, v33, v40, v46, v49, v51, v59, v65, v74, v78, v79, v81, v85, v87, v88, v89;
+    u8 v91, v92, v93, v95, v97, v102, v107, v111, v116, v122, v126, v127, v129, v135, v139, v144;
+    u8 v175, v178, v180, v184, v188, v192, v193, v196, v200, v202, v209, v211, v216, v218, v220, v227;
+    u8 v229, v230, v231, v240, v246, v247, v250, v253, v256, v259, v262, v265, v268, v271, v274, v277;
+    u8 v280, v283, v286, v289, v292, v295, v298, v301, v304, v307, v310, v313, v316, v319, v322, v324;
+    u8 v327, v329, v335, v339, v344, v346, v349, v351, v353, v354;
+    struct s2 v366, v367;
+    u64 block0[5];
+    u64 block1[5];
+    u64 block2[42];
+    u64 block3[4];
+    u64 block4[5];
+    v41 = ADDRESS(block0);
+    v42 = ADDRESS(block1);
+    v43 = ADDRESS(block2);
+    v44 = ADDRESS(block3);
+    v45 = ADDRESS(block4);
+    v46 = a2 > 27184u;
+    if (v46) { goto L19; }
+    else { goto L1; }
+L1:;
+    v47 = a0 + 160u * 1u;
+    v48 = load64(v47);
+    v49 = v48 == 0u;
+    if (v49) { v3 = 89u; goto L3; }
+    else { goto L2; }
+L2:;
+    v50 = a0 + 24u * 1u;
+    v51 = load8(v50);
+    v52 = (u64)v51;
+    v53 = (u64)((u64)v52 + (u64)89u);
+    v3 = v53; goto L3;
+L3:;
+    v54 = a0 + 432u * 1u;
+    v55 = load64(v54);
+    v56 = a0 + 440u * 1u;
+    memory_set(v45, 0u, 40u);
+    f17(v45, v56);
+    v57 = v45 + 32u * 1u;
+    v58 = load64(v57);
+    v59 = v58 == 0u;
+    if (v59) { v16 = 0u; goto L18; }
+    else { goto L4; }
+L4:;
+    v60 = v45 + 16u * 1u;
+    v61 = v44 + 16u * 1u;
+    v62 = v44 + 24u * 1u;
+    v63 = v44 + 25u * 1u;
+    v4 = 0u; v5 = 0u; goto L5;
+L5:;
+    v64 = v60 + v5 * 1u;
+    v65 = load8(v64);
+    v66 = (u64)v65;
+    v67 = (u64)((u64)v66 * (u64)2136u);
+    v68 = load_address(v45);
+    v69 = v68 + v67 * 1u;
+    v70 = v69 + 1424u * 1u;
+    v71 = load64(v70);
+    v72 = v69 + 1440u * 1u;
+    v73 = load64(v72);
+    v74 = v73 == 0u;
+    if (v74) { v15 = 0u; goto L17; }
+    else { goto L6; }
+L6:;
+    v75 = v69 + 1432u * 1u;
+    v76 = v69 + 1448u * 1u;
+    v77 = v69 + 2121u * 1u;
+    v6 = 0u; v7 = 0u; goto L7;
+L7:;
+    v78 = load8(v77);
+    v79 = load8(v75);
+    v80 = (u64)v79;
+    v81 = v7 == 0u;
+    if (v81) { v12 = v76; v13 = v80; goto L9; }
+    else { v8 = v80; v9 = v7; v10 = v76; v11 = v75; goto L8; }
+L8:;
+    v82 = v10 + v8 * 1u;
+    v83 = v11 + 1u * 1u;
+    v84 = (u64)((u64)v9 + (u64)UINT64_C(18446744073709551615));
+    v85 = load8(v83);
+    v86 = (u64)v85;
+    v87 = v84 == 0u;
+    if (v87) { v12 = v82; v13 = v86; goto L9; }
+    else { v8 = v86; v9 = v84; v10 = v82; v11 = v83; goto L8; }
+L9:;
+    memory_set(v44, 0u, 32u);
+    f8(v44, v12, v13);
+    v88 = load8(v44);
+    v89 = v88 == 1u;
+    if (v89) { goto L14; }
+    else { goto L10; }
+L10:;
+    v90 = load64(v61);
+    v91 = load8(v62);
+    v92 = load8(v63);
+    switch (v92) {
+    case 0u: goto L12;
+    case 1u: goto L11;
+    default: goto L15;
+    }
+L11:;
+    v14 = 3u; goto L16;
+L12:;
+    v93 = v91 == 2u;
+    if (v93) { goto L13; }
+    else { goto L14; }
+L13:;
+    v94 = (u64)((u64)v90 + (u64)UINT64_C(18446744073709551564));
+    v14 = v94; goto L16;
+L14:;
+    v14 = 1u; goto L16;
+L15:;
+    v95 = v91 == 2u;
+    v96 = v95 ? 2u : 1u;
+    v14 = v96; goto L16;
+L16:;
+    v97 = v78 == 0u;
+    v98 = v97 ? 0u : 2u;
+    v99 = (u64)((u64)v98 + (u64)v6);
+    v100 = (u64)((u64)v99 + (u64)v14);
+    v101 = (u64)((u64)v7 + (u64)1u);
+    v102 = v101 == v73;
+    if (v102) { v15 = v100; goto L17; }
+    else { v6 = v100; v7 = v101; goto L7; }
+L17:;
+    v103 = (u64)((u64)v4 + (u64)20u);
+    v104 = (u64)((u64)v103 + (u64)v71);
+    v105 = (u64)((u64)v104 + (u64)v15);
+    v106 = (u64)((u64)v5 + (u64)1u);
+    v107 = v106 == v58;
+    if (v107) { v16 = v105; goto L18; }
+    else { v4 = v105; v5 = v106; goto L5; }
+L18:;
+    v108 = (u64)((u64)v55 * (u64)15u);
+    v109 = (u64)((u64)v108 + (u64)v3);
+    v110 = (u64)((u64)v109 + (u64)v16);
+    v111 = v110 > a2;
+    if (v111) { v39 = 0u; v40 = 0u; goto L55; }
+    else { goto L19; }
+L19:;
+    v112 = a0 + 440u * 1u;
+    v113 = (u64)((u64)a2 + (u64)UINT64_C(18446744073709551604));
+    memory_set(v43, 0u, 336u);
+    f65(v43, a0);
+    v114 = v43 + 328u * 1u;
+    v115 = load64(v114);
+    v116 = v113 < v115;
+    if (v116) { goto L20; }
+    else { goto L21; }
+L20:;
+    TRAP;
+    UNREACHABLE;
+L21:;
+    v117 = a1 + 12u * 1u;
+    memory_cpy(v117, v43, v115);
+    v118 = a0 + 448u * 1u;
+    v119 = load_address(v118);
+    v120 = a0 + 456u * 1u;
+    v121 = load64(v120);
+    v17 = v119; v18 = v121; v19 = 0u; goto L22;
+L22:;
+    v20 = v17; v21 = v18; goto L23;
+L23:;
+    v122 = v21 == 0u;
+    if (v122) { goto L26; }
+    else { goto L24; }
+L24:;
+    v123 = v20 + 2136u * 1u;
+    v124 = (u64)((u64)v21 + (u64)UINT64_C(18446744073709551615));
+    v125 = v20 + 2129u * 1u;
+    v126 = load8(v125);
+    v127 = (u8)((v126) & UINT64_C(1));
+    if (v127) { goto L25; }
+    else { v20 = v123; v21 = v124; goto L23; }
+L25:;
+    v128 = (u64)((u64)v19 + (u64)1u);
+    v17 = v123; v18 = v124; v19 = v128; goto L22;
+L26:;
+    v129 = (u8)(v19);
+    v130 = (u64)((u64)v115 + (u64)13u);
+    v131 = a1 + v115 * 1u;
+    v132 = v131 + 12u * 1u;
+    store8(v132, v129);
+    memory_set(v42, 0u, 40u);
+    f17(v42, v112);
+    memory_cpy(v41, v42, 40u);
+    v133 = v41 + 32u * 1u;
+    v134 = load64(v133);
+    v135 = v134 == 0u;
+    if (v135) { v38 = v130; goto L54; }
+    else { goto L27; }
+L27:;
+    v136 = v41 + 16u * 1u;
+    v137 = load_address(v41);
+    v22 = v130; v23 = 0u; goto L28;
+L28:;
+    v138 = v136 + v23 * 1u;
+    v139 = load8(v138);
+    v140 = (u64)v139;
+    v141 = (u64)((u64)v140 * (u64)2136u);
+    v142 = v137 + v141 * 1u;
+    v143 = v142 + 2120u * 1u;
+    v144 = load8(v143);
+    v145 = v142 + 2116u * 1u;
+    v146 = load16(v145);
+    v147 = v142 + 2118u * 1u;
+    v148 = load16(v147);
+    v149 = v142 + 1424u * 1u;
+    v150 = load64(v149);
+    v151 = v142 + 2104u * 1u;
+    v152 = load64(v151);
+    v153 = v142 + 2112u * 1u;
+    v154 = load16(v153);
+    v155 = swap16(v154);
+    v156 = v142 + 2114u * 1u;
+    v157 = load16(v156);
+    v158 = swap16(v157);
+    v159 = swap16(v146);
+    v160 = swap16(v148);
+    v161 = (u16)(v150);
+    v162 = swap16(v161);
+    v163 = (u64)((u64)v22 + (u64)19u);
+    v164 = a1 + v22 * 1u;
+    store64(v164, v152);
+    v165 = v164 + 8u * 1u;
+    store16(v165, v155);
+    v166 = v164 + 10u * 1u;
+    store16(v166, v158);
+    v167 = v164 + 12u * 1u;
+    store8(v167, v144);
+    v168 = v164 + 13u * 1u;
+    store16(v168, v159);
+    v169 = v164 + 15u * 1u;
+    store16(v169, v160);
+    v170 = v164 + 17u * 1u;
+    store16(v170, v162);
+    v171 = a1 + v163 * 1u;
+    v172 = (u64)v171;
+    v173 = (u64)v142;
+    v174 = (u64)((u64)v172 - (u64)v173);
+    v175 = v174 < v150;
+    if (v175) { v24 = 0u; goto L30; }
+    else { goto L29; }
+L29:;
+    memory_move(v171, v142, v150);
+    goto L31;
+L30:;
+    v176 = v171 + v24 * 1u;
+    v177 = v142 + v24 * 1u;
+    v178 = load8(v177);
+    store8(v176, v178);
+    v179 = (u64)((u64)v24 + (u64)1u);
+    v180 = v179 == v150;
+    if (v180) { goto L31; }
+    else { v24 = v179; goto L30; }
+L31:;
+    v181 = (u64)((u64)v150 + (u64)v163);
+    v182 = v142 + 1440u * 1u;
+    v183 = load64(v182);
+    v184 = (u8)(v183);
+    v185 = (u64)((u64)v181 + (u64)1u);
+    v186 = a1 + v181 * 1u;
+    store8(v186, v184);
+    v187 = load64(v182);
+    v188 = v187 == 0u;
+    if (v188) { v37 = v185; goto L53; }
+    else { goto L32; }
+L32:;
+    v189 = v142 + 1448u * 1u;
+    v190 = v142 + 1432u * 1u;
+    v191 = v142 + 2121u * 1u;
+    v192 = load8(v191);
+    v193 = (u8)((v192) & UINT64_C(1));
+    v25 = v185; v26 = v189; v27 = v187; v28 = v190; goto L33;
+L33:;
+    v194 = v28 + 1u * 1u;
+    v195 = (u64)((u64)v27 + (u64)UINT64_C(18446744073709551615));
+    v196 = load8(v28);
+    v197 = (u64)v196;
+    v198 = v26 + v197 * 1u;
+    if (v193) { goto L34; }
+    else { v29 = 0u; goto L35; }
+L34:;
+    v199 = v26 + 28u * 1u;
+    v200 = load8(v199);
+    v201 = v26 + 29u * 1u;
+    v202 = load8(v201);
+    v203 = (u16)v200;
+    v204 = (u16)((u32)v203 << (8u & 15u));
+    v205 = (u16)v202;
+    v206 = (u16)((u32)v204 | (u32)v205);
+    v207 = swap16(v206);
+    v29 = v207; goto L35;
+L35:;
+    v208 = v26 + 48u * 1u;
+    v209 = load8(v208);
+    v210 = v26 + 49u * 1u;
+    v211 = load8(v210);
+    v212 = (u16)v209;
+    v213 = (u16)((u32)v212 << (8u & 15u));
+    v214 = (u16)v211;
+    v215 = (u16)((u32)v213 | (u32)v214);
+    v216 = v215 == 2u;
+    if (v216) { goto L36; }
+    else { goto L37; }
+L36:;
+    v217 = v26 + 52u * 1u;
+    v218 = load8(v217);
+    v219 = v26 + 53u * 1u;
+    v220 = load8(v219);
+    v221 = (u16)v218;
+    v222 = (u16)((u32)v221 << (8u & 15u));
+    v223 = (u16)v220;
+    v224 = (u16)((u32)v222 | (u32)v223);
+    v225 = (u16)((u32)v224 + (u32)65535u);
+    v226 = v225 < 6u ? v225 : 6u;
+    v227 = (u8)(v226);
+    v30 = 0u; v31 = 0u; v32 = 2u; v33 = v227; goto L39;
+L37:;
+    v228 = v26 + 46u * 1u;
+    v229 = load8(v228);
+    v230 = (u8)((u32)v229 & (u32)15u);
+    v231 = v230 == 2u;
+    if (v231) { goto L38; }
+    else { v30 = 0u; v31 = 0u; v32 = 1u; v33 = 0u; goto L39; }
+L38:;
+    v232 = v26 + 54u * 1u;
+    v233 = (u64)((u64)v197 + (u64)UINT64_C(18446744073709551562));
+    v30 = v233; v31 = v232; v32 = 0u; v33 = 0u; goto L39;
+L39:;
+    if (v193) { goto L40; }
+    else { v34 = v25; goto L41; }
+L40:;
+    v234 = (u64)((u64)v25 + (u64)2u);
+    v235 = a1 + v25 * 1u;
+    store16(v235, v29);
+    v34 = v234; goto L41;
+L41:;
+    switch (v32) {
+    case 0u: goto L42;
+    case 1u: goto L49;
+    case 2u: goto L50;
+    default: goto L51;
+    }
+L42:;
+    v236 = (u64)((u64)v34 + (u64)2u);
+    v237 = a1 + v34 * 1u;
+    v238 = (u16)(v30);
+    v239 = (u16)((u32)v238 << (8u & 15u));
+    store16(v237, v239);
+    v240 = v30 == 26u;
+    v241 = a1 + v236 * 1u;
+    v242 = (u64)v241;
+    v243 = (u64)v31;
+    v244 = (u64)((u64)v242 - (u64)v243);
+    if (v240) { goto L43; }
+    else { goto L46; }
+L43:;
+    v245 = (u64)((u64)v34 + (u64)28u);
+    v246 = v244 < 26u;
+    if (v246) { goto L44; }
+    else { goto L45; }
+L44:;
+    v247 = load8(v31);
+    store8(v241, v247);
+    v248 = v241 + 1u * 1u;
+    v249 = v31 + 1u * 1u;
+    v250 = load8(v249);
+    store8(v248, v250);
+    v251 = v241 + 2u * 1u;
+    v252 = v31 + 2u * 1u;
+    v253 = load8(v252);
+    store8(v251, v253);
+    v254 = v241 + 3u * 1u;
+    v255 = v31 + 3u * 1u;
+    v256 = load8(v255);
+    store8(v254, v256);
+    v257 = v241 + 4u * 1u;
+    v258 = v31 + 4u * 1u;
+    v259 = load8(v258);
+    store8(v257, v259);
+    v260 = v241 + 5u * 1u;
+    v261 = v31 + 5u * 1u;
+    v262 = load8(v261);
+    store8(v260, v262);
+    v263 = v241 + 6u * 1u;
+    v264 = v31 + 6u * 1u;
+    v265 = load8(v264);
+    store8(v263, v265);
+    v266 = v241 + 7u * 1u;
+    v267 = v31 + 7u * 1u;
+    v268 = load8(v267);
+    store8(v266, v268);
+    v269 = v241 + 8u * 1u;
+    v270 = v31 + 8u * 1u;
+    v271 = load8(v270);
+    store8(v269, v271);
+    v272 = v241 + 9u * 1u;
+    v273 = v31 + 9u * 1u;
+    v274 = load8(v273);
+    store8(v272, v274);
+    v275 = v241 + 10u * 1u;
+    v276 = v31 + 10u * 1u;
+    v277 = load8(v276);
+    store8(v275, v277);
+    v278 = v241 + 11u * 1u;
+    v279 = v31 + 11u * 1u;
+    v280 = load8(v279);
+    store8(v278, v280);
+    v281 = v241 + 12u * 1u;
+    v282 = v31 + 12u * 1u;
+    v283 = load8(v282);
+    store8(v281, v283);
+    v284 = v241 + 13u * 1u;
+    v285 = v31 + 13u * 1u;
+    v286 = load8(v285);
+    store8(v284, v286);
+    v287 = v241 + 14u * 1u;
+    v288 = v31 + 14u * 1u;
+    v289 = load8(v288);
+    store8(v287, v289);
+    v290 = v241 + 15u * 1u;
+    v291 = v31 + 15u * 1u;
+    v292 = load8(v291);
+    store8(v290, v292);
+    v293 = v241 + 16u * 1u;
+    v294 = v31 + 16u * 1u;
+    v295 = load8(v294);
+    store8(v293, v295);
+    v296 = v241 + 17u * 1u;
+    v297 = v31 + 17u * 1u;
+    v298 = load8(v297);
+    store8(v296, v298);
+    v299 = v241 + 18u * 1u;
+    v300 = v31 + 18u * 1u;
+    v301 = load8(v300);
+    store8(v299, v301);
+    v302 = v241 + 19u * 1u;
+    v303 = v31 + 19u * 1u;
+    v304 = load8(v303);
+    store8(v302, v304);
+    v305 = v241 + 20u * 1u;
+    v306 = v31 + 20u * 1u;
+    v307 = load8(v306);
+    store8(v305, v307);
+    v308 = v241 + 21u * 1u;
+    v309 = v31 + 21u * 1u;
+    v310 = load8(v309);
+    store8(v308, v310);
+    v311 = v241 + 22u * 1u;
+    v312 = v31 + 22u * 1u;
+    v313 = load8(v312);
+    store8(v311, v313);
+    v314 = v241 + 23u * 1u;
+    v315 = v31 + 23u * 1u;
+    v316 = load8(v315);
+    store8(v314, v316);
+    v317 = v241 + 24u * 1u;
+    v318 = v31 + 24u * 1u;
+    v319 = load8(v318);
+    store8(v317, v319);
+    v320 = v241 + 25u * 1u;
+    v321 = v31 + 25u * 1u;
+    v322 = load8(v321);
+    store8(v320, v322);
+    v36 = v245; goto L52;
+L45:;
+    memory_move(v241, v31, 26u);
+    v36 = v245; goto L52;
+L46:;
+    v323 = (u64)((u64)v236 + (u64)v30);
+    v324 = v244 < v30;
+    if (v324) { v35 = 0u; goto L48; }
+    else { goto L47; }
+L47:;
+    memory_move(v241, v31, v30);
+    v36 = v323; goto L52;
+L48:;
+    v325 = v241 + v35 * 1u;
+    v326 = v31 + v35 * 1u;
+    v327 = load8(v326);
+    store8(v325, v327);
+    v328 = (u64)((u64)v35 + (u64)1u);
+    v329 = v328 == v30;
+    if (v329) { v36 = v323; goto L52; }
+    else { v35 = v328; goto L48; }
+L49:;
+    v330 = (u64)((u64)v34 + (u64)1u);
+    v331 = a1 + v34 * 1u;
+    store8(v331, 1u);
+    v36 = v330; goto L52;
+L50:;
+    v332 = (u64)v33;
+    v333 = (u64)(((u64)v332 << (3u & 63u)) & UINT64_C(72057594037927935));
+    v334 = (u64)(((u64)UINT64_C(71501262696415745) >> (v333 & 63u)) & UINT64_C(72057594037927935));
+    v335 = (u8)(v334);
+    v336 = (u64)v33;
+    v337 = (u64)(((u64)v336 << (3u & 63u)) & UINT64_C(72057594037927935));
+    v338 = (u64)(((u64)UINT64_C(71776119061217280) >> (v337 & 63u)) & UINT64_C(72057594037927935));
+    v339 = (u8)(v338);
+    v340 = (u64)((u64)v34 + (u64)3u);
+    v341 = a1 + v34 * 1u;
+    store8(v341, 2u);
+    v342 = v341 + 1u * 1u;
+    store8(v342, v339);
+    v343 = v341 + 2u * 1u;
+    store8(v343, v335);
+    v36 = v340; goto L52;
+L51:;
+    UNREACHABLE;
+L52:;
+    v344 = v195 == 0u;
+    if (v344) { v37 = v36; goto L53; }
+    else { v25 = v36; v26 = v198; v27 = v195; v28 = v194; goto L33; }
+L53:;
+    v345 = (u64)((u64)v23 + (u64)1u);
+    v346 = v345 == v134;
+    if (v346) { v38 = v37; goto L54; }
+    else { v22 = v37; v23 = v345; goto L28; }
+L54:;
+    v347 = (u64)((u64)v38 + (u64)UINT64_C(18446744073709551604));
+    v348 = (u64)((u64)v347 >> (24u & 63u));
+    v349 = (u8)(v348);
+    v350 = (u64)((u64)v347 >> (16u & 63u));
+    v351 = (u8)(v350);
+    v352 = (u64)((u64)v347 >> (8u & 63u));
+    v353 = (u8)(v352);
+    v354 = (u8)(v347);
+    store8(a1, 112u);
+    v355 = a1 + 1u * 1u;
+    store8(v355, 116u);
+    v356 = a1 + 2u * 1u;
+    store8(v356, 112u);
+    v357 = a1 + 3u * 1u;
+    store8(v357, 109u);
+    v358 = a1 + 4u * 1u;
+    store8(v358, 1u);
+    v359 = a1 + 5u * 1u;
+    store8(v359, 1u);
+    v360 = a1 + 6u * 1u;
+    store8(v360, 0u);
+    v361 = a1 + 7u * 1u;
+    store8(v361, 0u);
+    v362 = a1 + 8u * 1u;
+    store8(v362, v349);
+    v363 = a1 + 9u * 1u;
+    store8(v363, v351);
+    v364 = a1 + 10u * 1u;
+    store8(v364, v353);
+    v365 = a1 + 11u * 1u;
+    store8(v365, v354);
+    v39 = v38; v40 = 1u; goto L55;
+L55:;
+    v366 = (struct s2){ 0 };
+    v366.m0 = v40;
+    v367 = v366;
+    v367.m1 = v39;
+    return v367;
+}
+
+static void f65(address a0, address a1) {
+    u64 v2, v4, v5, v6, v7, v8, v9, v10, v13, v14, v15, v39, v70, v71, v74, v75;
+    u64 v79, v80, v81, v105, v139, v140, v141, v165, v193, v197, v202, v205, v209, v211, v213, v224;
+    u64 v225, v228, v229, v231, v232, v236, v237;
+    address v3, v11, v12, v18, v19, v21, v22, v24, v25, v27, v28, v30, v31, v33, v34, v36;
+    address v37, v40, v42, v44, v49, v50, v52, v55, v56, v57, v58, v61, v62, v64, v65, v68;
+    address v69, v72, v73, v76, v77, v78, v84, v85, v87, v88, v90, v91, v93, v94, v96, v97;
+    address v99, v100, v102, v103, v106, v109, v110, v112, v113, v116, v117, v120, v121, v122, v124, v127;
+    address v128, v129, v130, v133, v134, v136, v137, v138, v144, v145, v147, v148, v150, v151, v153, v154;
+    address v156, v157, v159, v160, v162, v163, v166, v169, v170, v172, v174, v176, v178, v180, v182, v184;
+    address v185, v186, v187, v188, v189, v190, v191, v192, v195, v199, v201, v203, v204, v208, v212, v215;
+    address v219, v227, v230, v234, v235;
+    u8 v16, v17, v20, v23, v26, v29, v32, v35, v38, v41, v43, v51, v53, v54, v63, v82;
+    u8 v83, v86, v89, v92, v95, v98, v101, v104, v111, v123, v125, v126, v135, v142, v143, v146;
+    u8 v149, v152, v155, v158, v161, v164, v171, v173, v175, v177, v179, v181, v183, v194, v196, v198;
+    u8 v200, v206, v207, v210, v214, v216, v217, v218, v226, v233, v238;
+    u16 v45, v46, v47, v48, v59, v60, v66, v67, v107, v108, v114, v115, v131, v132, v167, v168;
+    u16 v220, v221, v222, v223;
+    u32 v118, v119;
+    u64 block0[42];
+    v11 = ADDRESS(block0);
+    memory_set(v11, 0u, 336u);
+    v12 = v11 + 328u * 1u;
+    v13 = (u64)v11;
+    v14 = (u64)a1;
+    v15 = (u64)((u64)v13 - (u64)v14);
+    v16 = v15 < 8u;
+    if (v16) { goto L1; }
+    else { goto L2; }
+L1:;
+    v17 = load8(a1);
+    store8(v11, v17);
+    v18 = v11 + 1u * 1u;
+    v19 = a1 + 1u * 1u;
+    v20 = load8(v19);
+    store8(v18, v20);
+    v21 = v11 + 2u * 1u;
+    v22 = a1 + 2u * 1u;
+    v23 = load8(v22);
+    store8(v21, v23);
+    v24 = v11 + 3u * 1u;
+    v25 = a1 + 3u * 1u;
+    v26 = load8(v25);
+    store8(v24, v26);
+    v27 = v11 + 4u * 1u;
+    v28 = a1 + 4u * 1u;
+    v29 = load8(v28);
+    store8(v27, v29);
+    v30 = v11 + 5u * 1u;
+    v31 = a1 + 5u * 1u;
+    v32 = load8(v31);
+    store8(v30, v32);
+    v33 = v11 + 6u * 1u;
+    v34 = a1 + 6u * 1u;
+    v35 = load8(v34);
+    store8(v33, v35);
+    v36 = v11 + 7u * 1u;
+    v37 = a1 + 7u * 1u;
+    v38 = load8(v37);
+    store8(v36, v38);
+    goto L3;
+L2:;
+    v39 = load64(a1);
+    store64(v11, v39);
+    goto L3;
+L3:;
+    store64(v12, 8u);
+    v40 = a1 + 9u * 1u;
+    v41 = load8(v40);
+    v42 = a1 + 8u * 1u;
+    v43 = load8(v42);
+    v44 = v11 + 8u * 1u;
+    v45 = (u16)v41;
+    v46 = (u16)((u32)v45 << (8u & 15u));
+    v47 = (u16)v43;
+    v48 = (u16)((u32)v46 | (u32)v47);
+    store16(v44, v48);
+    store64(v12, 10u);
+    v49 = a1 + 10u * 1u;
+    v50 = a1 + 12u * 1u;
+    v51 = load8(v50);
+    v52 = a1 + 11u * 1u;
+    v53 = load8(v52);
+    v54 = load8(v49);
+    v55 = v11 + 10u * 1u;
+    store8(v55, v54);
+    v56 = v11 + 11u * 1u;
+    store8(v56, v53);
+    v57 = v11 + 12u * 1u;
+    store8(v57, v51);
+    store64(v12, 13u);
+    v58 = a1 + 14u * 1u;
+    v59 = load16(v58);
+    v60 = swap16(v59);
+    v61 = v11 + 13u * 1u;
+    store16(v61, v60);
+    store64(v12, 15u);
+    v62 = a1 + 16u * 1u;
+    v63 = load8(v62);
+    v64 = v11 + 15u * 1u;
+    store8(v64, v63);
+    store64(v12, 16u);
+    v65 = a1 + 168u * 1u;
+    v66 = load16(v65);
+    v67 = swap16(v66);
+    v68 = v11 + 16u * 1u;
+    store16(v68, v67);
+    store64(v12, 18u);
+    v69 = a1 + 176u * 1u;
+    v70 = load64(v69);
+    v71 = swap64(v70);
+    v72 = v11 + 18u * 1u;
+    store64(v72, v71);
+    store64(v12, 26u);
+    v73 = a1 + 184u * 1u;
+    v74 = load64(v73);
+    v75 = swap64(v74);
+    v76 = v11 + 26u * 1u;
+    store64(v76, v75);
+    store64(v12, 34u);
+    v77 = a1 + 192u * 1u;
+    v78 = v11 + 34u * 1u;
+    v79 = (u64)v78;
+    v80 = (u64)v77;
+    v81 = (u64)((u64)v79 - (u64)v80);
+    v82 = v81 < 8u;
+    if (v82) { goto L4; }
+    else { goto L5; }
+L4:;
+    v83 = load8(v77);
+    store8(v78, v83);
+    v84 = v11 + 35u * 1u;
+    v85 = a1 + 193u * 1u;
+    v86 = load8(v85);
+    store8(v84, v86);
+    v87 = v11 + 36u * 1u;
+    v88 = a1 + 194u * 1u;
+    v89 = load8(v88);
+    store8(v87, v89);
+    v90 = v11 + 37u * 1u;
+    v91 = a1 + 195u * 1u;
+    v92 = load8(v91);
+    store8(v90, v92);
+    v93 = v11 + 38u * 1u;
+    v94 = a1 + 196u * 1u;
+    v95 = load8(v94);
+    store8(v93, v95);
+    v96 = v11 + 39u * 1u;
+    v97 = a1 + 197u * 1u;
+    v98 = load8(v97);
+    store8(v96, v98);
+    v99 = v11 + 40u * 1u;
+    v100 = a1 + 198u * 1u;
+    v101 = load8(v100);
+    store8(v99, v101);
+    v102 = v11 + 41u * 1u;
+    v103 = a1 + 199u * 1u;
+    v104 = load8(v103);
+    store8(v102, v104);
+    goto L6;
+L5:;
+    v105 = load64(v77);
+    store64(v78, v105);
+    goto L6;
+L6:;
+    store64(v12, 42u);
+    v106 = a1 + 200u * 1u;
+    v107 = load16(v106);
+    v108 = swap16(v107);
+    v109 = v11 + 42u * 1u;
+    store16(v109, v108);
+    store64(v12, 44u);
+    v110 = a1 + 202u * 1u;
+    v111 = load8(v110);
+    v112 = v11 + 44u * 1u;
+    store8(v112, v111);
+    store64(v12, 45u);
+    v113 = a1 + 204u * 1u;
+    v114 = load16(v113);
+    v115 = swap16(v114);
+    v116 = v11 + 45u * 1u;
+    store16(v116, v115);
+    store64(v12, 47u);
+    v117 = a1 + 208u * 1u;
+    v118 = load32(v117);
+    v119 = swap32(v118);
+    v120 = v11 + 47u * 1u;
+    store32(v120, v119);
+    store64(v12, 51u);
+    v121 = a1 + 220u * 1u;
+    v122 = a1 + 222u * 1u;
+    v123 = load8(v122);
+    v124 = a1 + 221u * 1u;
+    v125 = load8(v124);
+    v126 = load8(v121);
+    v127 = v11 + 51u * 1u;
+    store8(v127, v126);
+    v128 = v11 + 52u * 1u;
+    store8(v128, v125);
+    v129 = v11 + 53u * 1u;
+    store8(v129, v123);
+    store64(v12, 54u);
+    v130 = a1 + 224u * 1u;
+    v131 = load16(v130);
+    v132 = swap16(v131);
+    v133 = v11 + 54u * 1u;
+    store16(v133, v132);
+    store64(v12, 56u);
+    v134 = a1 + 226u * 1u;
+    v135 = load8(v134);
+    v136 = v11 + 56u * 1u;
+    store8(v136, v135);
+    store64(v12, 57u);
+    v137 = a1 + 212u * 1u;
+    v138 = v11 + 57u * 1u;
+    v139 = (u64)v138;
+    v140 = (u64)v137;
+    v141 = (u64)((u64)v139 - (u64)v140);
+    v142 = v141 < 8u;
+    if (v142) { goto L7; }
+    else { goto L8; }
+L7:;
+    v143 = load8(v137);
+    store8(v138, v143);
+    v144 = v11 + 58u * 1u;
+    v145 = a1 + 213u * 1u;
+    v146 = load8(v145);
+    store8(v144, v146);
+    v147 = v11 + 59u * 1u;
+    v148 = a1 + 214u * 1u;
+    v149 = load8(v148);
+    store8(v147, v149);
+    v150 = v11 + 60u * 1u;
+    v151 = a1 + 215u * 1u;
+    v152 = load8(v151);
+    store8(v150, v152);
+    v153 = v11 + 61u * 1u;
+    v154 = a1 + 216u * 1u;
+    v155 = load8(v154);
+    store8(v153, v155);
+    v156 = v11 + 62u * 1u;
+    v157 = a1 + 217u * 1u;
+    v158 = load8(v157);
+    store8(v156, v158);
+    v159 = v11 + 63u * 1u;
+    v160 = a1 + 218u * 1u;
+    v161 = load8(v160);
+    store8(v159, v161);
+    v162 = v11 + 64u * 1u;
+    v163 = a1 + 219u * 1u;
+    v164 = load8(v163);
+    store8(v162, v164);
+    goto L9;
+L8:;
+    v165 = load64(v137);
+    store64(v138, v165);
+    goto L9;
+L9:;
+    store64(v12, 65u);
+    v166 = a1 + 228u * 1u;
+    v167 = load16(v166);
+    v168 = swap16(v167);
+    v169 = v11 + 65u * 1u;
+    store16(v169, v168);
+    store64(v12, 67u);
+    v170 = a1 + 236u * 1u;
+    v171 = load8(v170);
+    v172 = a1 + 235u * 1u;
+    v173 = load8(v172);
+    v174 = a1 + 234u * 1u;
+    v175 = load8(v174);
+    v176 = a1 + 233u * 1u;
+    v177 = load8(v176);
+    v178 = a1 + 232u * 1u;
+    v179 = load8(v178);
+    v180 = a1 + 231u * 1u;
+    v181 = load8(v180);
+    v182 = a1 + 230u * 1u;
+    v183 = load8(v182);
+    v184 = v11 + 67u * 1u;
+    store8(v184, v183);
+    v185 = v11 + 68u * 1u;
+    store8(v185, v181);
+    v186 = v11 + 69u * 1u;
+    store8(v186, v179);
+    v187 = v11 + 70u * 1u;
+    store8(v187, v177);
+    v188 = v11 + 71u * 1u;
+    store8(v188, v175);
+    v189 = v11 + 72u * 1u;
+    store8(v189, v173);
+    v190 = v11 + 73u * 1u;
+    store8(v190, v171);
+    store64(v12, 74u);
+    v191 = a1 + 24u * 1u;
+    v192 = a1 + 160u * 1u;
+    v193 = load64(v192);
+    v194 = v193 == 0u;
+    if (v194) { v2 = 0u; v3 = v191; goto L11; }
+    else { goto L10; }
+L10:;
+    v195 = a1 + 25u * 1u;
+    v196 = load8(v191);
+    v197 = (u64)v196;
+    v2 = v197; v3 = v195; goto L11;
+L11:;
+    v198 = (u8)(v2);
+    v199 = v11 + 74u * 1u;
+    store8(v199, v198);
+    store64(v12, 75u);
+    v200 = v2 > 249u;
+    if (v200) { v4 = 75u; goto L13; }
+    else { goto L12; }
+L12:;
+    v201 = v11 + 75u * 1u;
+    memory_cpy(v201, v3, v2);
+    v202 = (u64)((u64)v2 + (u64)75u);
+    store64(v12, v202);
+    v4 = v202; goto L13;
+L13:;
+    v203 = a1 + 240u * 1u;
+    v204 = a1 + 432u * 1u;
+    v205 = load64(v204);
+    v206 = v4 == 324u;
+    if (v206) { v5 = 324u; goto L15; }
+    else { goto L14; }
+L14:;
+    v207 = (u8)(v205);
+    v208 = v11 + v4 * 1u;
+    store8(v208, v207);
+    v209 = (u64)((u64)v4 + (u64)1u);
+    store64(v12, v209);
+    v5 = v209; goto L15;
+L15:;
+    v210 = v205 == 0u;
+    if (v210) { goto L23; }
+    else { v6 = v5; v7 = 0u; goto L16; }
+L16:;
+    v211 = (u64)((u64)v7 * (u64)24u);
+    v212 = v203 + v211 * 1u;
+    v213 = (u64)((u64)v6 + (u64)UINT64_C(18446744073709551293));
+    v214 = v213 < 2u;
+    if (v214) { v8 = v6; goto L18; }
+    else { goto L17; }
+L17:;
+    v215 = v212 + 1u * 1u;
+    v216 = load8(v215);
+    v217 = load8(v212);
+    v218 = (u8)((u32)v217 + (u32)1u);
+    v219 = v11 + v6 * 1u;
+    v220 = (u16)v216;
+    v221 = (u16)((u32)v220 << (8u & 15u));
+    v222 = (u16)v218;
+    v223 = (u16)((u32)v221 | (u32)v222);
+    store16(v219, v223);
+    v224 = (u64)((u64)v6 + (u64)2u);
+    store64(v12, v224);
+    v8 = v224; goto L18;
+L18:;
+    v225 = (u64)((u64)v8 + (u64)UINT64_C(18446744073709551299));
+    v226 = v225 < 8u;
+    if (v226) { v9 = v8; goto L20; }
+    else { goto L19; }
+L19:;
+    v227 = v212 + 8u * 1u;
+    v228 = load64(v227);
+    v229 = swap64(v228);
+    v230 = v11 + v8 * 1u;
+    store64(v230, v229);
+    v231 = (u64)((u64)v8 + (u64)8u);
+    store64(v12, v231);
+    v9 = v231; goto L20;
+L20:;
+    v232 = (u64)((u64)v9 + (u64)UINT64_C(18446744073709551296));
+    v233 = v232 < 5u;
+    if (v233) { v10 = v9; goto L22; }
+    else { goto L21; }
+L21:;
+    v234 = v212 + 16u * 1u;
+    v235 = v11 + v9 * 1u;
+    memory_cpy(v235, v234, 5u);
+    v236 = (u64)((u64)v9 + (u64)5u);
+    store64(v12, v236);
+    v10 = v236; goto L22;
+L22:;
+    v237 = (u64)((u64)v7 + (u64)1u);
+    v238 = v237 == v205;
+    if (v238) { goto L23; }
+    else { v6 = v10; v7 = v237; goto L16; }
+L23:;
+    memory_cpy(a0, v11, 336u);
+    return;
+}
+
+static u32 f66(address a0, u16 a1, address a2, u64 a3, address a4, u8 a5, address a6, u64 a7, address a8) {
+    address v9, v11, v14, v22, v31, v32, v33, v34, v35, v36, v37, v38, v39, v40, v41, v42;
+    address v43, v44, v45, v46, v47, v48, v49, v50, v51, v52, v53, v56, v58, v60, v61, v62;
+    address v63, v68, v69, v70, v73, v76, v77, v78, v80, v86, v88, v95, v97, v102, v103, v104;
+    address v105, v106, v110, v112, v114, v120, v123, v124, v125, v127, v130, v134, v137, v142, v143, v144;
+    address v145, v146, v150, v152, v154, v160, v163, v164, v165, v167, v170, v174, v177, v182, v184, v186;
+    address v191, v192, v193, v198, v201, v202, v203, v207, v208, v215, v216, v217, v218, v219, v221, v223;
+    address v225, v228, v229, v230, v231, v232, v233, v236, v237, v244, v249, v250, v251, v253, v255, v262;
+    address v263, v264, v265, v272, v273, v274, v277, v279;
+    u64 v10, v12, v16, v17, v18, v19, v20, v21, v23, v24, v25, v28, v29, v72, v96, v98;
+    u64 v107, v108, v111, v121, v126, v131, v147, v148, v151, v161, v166, v171, v178, v183, v185, v187;
+    u64 v188, v189, v194, v195, v196, v197, v199, v205, v206, v209, v210, v211, v224, v234, v245, v246;
+    u64 v247, v248, v256, v258, v259, v260, v261, v266, v267, v268, v270;
+    u8 v13, v15, v26, v27, v54, v55, v57, v59, v64, v65, v66, v67, v74, v75, v79, v81;
+    u8 v87, v89, v94, v99, v100, v101, v109, v113, v115, v122, v129, v132, v133, v135, v136, v138;
+    u8 v139, v140, v141, v149, v153, v155, v162, v169, v172, v173, v175, v176, v179, v180, v181, v190;
+    u8 v200, v204, v212, v213, v214, v220, v222, v226, v227, v235, v238, v239, v240, v241, v242, v243;
+    u8 v252, v254, v257, v269, v271, v278, v280, v281, v282;
+    u32 v30, v275, v276, v283, v284;
+    u16 v71, v82, v83, v84, v85, v90, v91, v92, v93, v116, v117, v118, v119, v128, v156, v157;
+    u16 v158, v159, v168;
     u64 block0[2];
     u64 block1[3];
     u64 block2[2];
@@ -15407,456 +15686,501 @@ static u32 f64(address a0, u16 a1, address a2, u64 a3, address a4, u8 a5, addres
     u64 block11[3];
     u64 block12[5];
     u64 block13[4];
-    u64 block14[4];
-    u64 block15[2];
-    u64 block16[2];
-    u64 block17[2];
-    v28 = ADDRESS(block0);
-    v29 = ADDRESS(block1);
-    v30 = ADDRESS(block2);
-    v31 = ADDRESS(block3);
-    v32 = ADDRESS(block4);
-    v33 = ADDRESS(block5);
-    v34 = ADDRESS(block6);
-    v35 = ADDRESS(block7);
-    v36 = ADDRESS(block8);
-    v37 = ADDRESS(block9);
-    v38 = ADDRESS(block10);
-    v39 = ADDRESS(block11);
-    v40 = ADDRESS(block12);
-    v41 = ADDRESS(block13);
-    v42 = ADDRESS(block14);
-    v43 = ADDRESS(block15);
-    v44 = ADDRESS(block16);
-    v45 = ADDRESS(block17);
+    u64 block14[6];
+    u64 block15[4];
+    u64 block16[4];
+    u64 block17[4];
+    u64 block18[4];
+    u64 block19[2];
+    u64 block20[2];
+    u64 block21[2];
+    v31 = ADDRESS(block0);
+    v32 = ADDRESS(block1);
+    v33 = ADDRESS(block2);
+    v34 = ADDRESS(block3);
+    v35 = ADDRESS(block4);
+    v36 = ADDRESS(block5);
+    v37 = ADDRESS(block6);
+    v38 = ADDRESS(block7);
+    v39 = ADDRESS(block8);
+    v40 = ADDRESS(block9);
+    v41 = ADDRESS(block10);
+    v42 = ADDRESS(block11);
+    v43 = ADDRESS(block12);
+    v44 = ADDRESS(block13);
+    v45 = ADDRESS(block14);
+    v46 = ADDRESS(block15);
+    v47 = ADDRESS(block16);
+    v48 = ADDRESS(block17);
+    v49 = ADDRESS(block18);
+    v50 = ADDRESS(block19);
+    v51 = ADDRESS(block20);
+    v52 = ADDRESS(block21);
+    memory_set(v52, 0u, 12u);
     memory_set(a8, 0u, 32u);
-    memory_set(v42, 0u, 32u);
-    memory_set(v43, 0u, 12u);
-    memory_set(v44, 0u, 12u);
-    v46 = load_address(a0);
-    f45(v42, v46, a1, a4, a7);
-    v47 = load8(v42);
-    v48 = v47 == 0u;
-    if (v48) { goto L1; }
-    else { goto L39; }
+    memory_set(v49, 0u, 32u);
+    memory_set(v50, 0u, 12u);
+    memory_set(v51, 0u, 12u);
+    v53 = load_address(a0);
+    f16(v49, v53, a1, a4, a7);
+    v54 = load8(v49);
+    v55 = v54 == 0u;
+    if (v55) { goto L1; }
+    else { goto L57; }
 L1:;
-    v49 = v42 + 8u * 1u;
-    v50 = load8(v49);
-    v51 = v42 + 9u * 1u;
-    v52 = load8(v51);
-    v53 = v42 + 16u * 1u;
-    v54 = a0 + 953u * 1u;
-    v55 = load8(v54);
-    v56 = (u8)((v55) & UINT64_C(1));
-    v57 = (u8)(((u32)v56 ^ (u32)1u) & UINT64_C(1));
-    v58 = (u8)(((u32)a5 | (u32)v57) & UINT64_C(1));
-    if (v58) { v12 = 1u; goto L10; }
-    else { goto L2; }
+    v56 = v49 + 8u * 1u;
+    v57 = load8(v56);
+    v58 = v49 + 9u * 1u;
+    v59 = load8(v58);
+    v60 = v49 + 16u * 1u;
+    if (a5) { goto L2; }
+    else { goto L3; }
 L2:;
-    memory_set(v41, 0u, 32u);
-    f8(v41, a2, a3);
-    v59 = load8(v41);
-    v60 = v59 == 0u;
-    if (v60) { goto L3; }
-    else { v11 = 0u; goto L9; }
+    v61 = a0 + 953u * 1u;
+    v14 = v61; v15 = 1u; goto L29;
 L3:;
-    v61 = v41 + 8u * 1u;
-    v62 = load_address(v61);
-    v63 = load_address(a0);
-    v64 = v63 + 440u * 1u;
-    v65 = v62 + 34u * 1u;
-    v66 = load64(v65);
-    v67 = load64(v64);
-    v68 = v66 == v67;
-    if (v68) { goto L4; }
-    else { v11 = 0u; goto L9; }
+    v62 = load_address(a0);
+    v63 = v62 + 472u * 1u;
+    v64 = load8(v63);
+    v65 = v64 == 1u;
+    if (v65) { goto L4; }
+    else { goto L20; }
 L4:;
-    v69 = v62 + 20u * 1u;
-    v70 = load64(v69);
-    v71 = v62 + 28u * 1u;
-    v72 = load8(v71);
-    v73 = v62 + 29u * 1u;
-    v74 = load8(v73);
-    v75 = (u16)v72;
-    v76 = (u16)((u32)v75 << (8u & 15u));
-    v77 = (u16)v74;
-    v78 = (u16)((u32)v76 | (u32)v77);
-    v79 = v63 + 456u * 1u;
-    v80 = load64(v79);
-    v81 = v80 == 0u;
-    if (v81) { v11 = 0u; goto L9; }
-    else { goto L5; }
+    memory_set(v47, 0u, 32u);
+    memory_set(v48, 0u, 32u);
+    f8(v47, a2, a3);
+    v66 = load8(v47);
+    v67 = v66 == 0u;
+    if (v67) { goto L5; }
+    else { goto L7; }
 L5:;
-    v82 = v63 + 448u * 1u;
-    v83 = load_address(v82);
-    v9 = v83; v10 = v80; goto L6;
+    v68 = v47 + 8u * 1u;
+    v69 = load_address(v68);
+    v70 = v62 + 476u * 1u;
+    v71 = load16(v70);
+    v72 = (u64)v71;
+    v73 = v62 + 478u * 1u;
+    f8(v48, v73, v72);
+    v74 = load8(v48);
+    v75 = v74 == 0u;
+    if (v75) { goto L6; }
+    else { goto L7; }
 L6:;
-    v84 = v9 + 2136u * 1u;
-    v85 = (u64)((u64)v10 + (u64)UINT64_C(18446744073709551615));
-    v86 = v9 + 2112u * 1u;
-    v87 = load16(v86);
-    v88 = v78 == v87;
-    if (v88) { goto L7; }
-    else { goto L8; }
+    v76 = v48 + 8u * 1u;
+    v77 = load_address(v76);
+    v78 = v69 + 28u * 1u;
+    v79 = load8(v78);
+    v80 = v69 + 29u * 1u;
+    v81 = load8(v80);
+    v82 = (u16)v79;
+    v83 = (u16)((u32)v82 << (8u & 15u));
+    v84 = (u16)v81;
+    v85 = (u16)((u32)v83 | (u32)v84);
+    v86 = v77 + 28u * 1u;
+    v87 = load8(v86);
+    v88 = v77 + 29u * 1u;
+    v89 = load8(v88);
+    v90 = (u16)v87;
+    v91 = (u16)((u32)v90 << (8u & 15u));
+    v92 = (u16)v89;
+    v93 = (u16)((u32)v91 | (u32)v92);
+    v94 = v85 == v93;
+    if (v94) { goto L8; }
+    else { goto L7; }
 L7:;
-    v89 = v9 + 2104u * 1u;
-    v90 = load64(v89);
-    v91 = v70 == v90;
-    if (v91) { v11 = 1u; goto L9; }
-    else { goto L8; }
+    goto L18;
 L8:;
-    v92 = v85 == 0u;
-    if (v92) { v11 = 0u; goto L9; }
-    else { v9 = v84; v10 = v85; goto L6; }
+    v95 = v77 + 20u * 1u;
+    v96 = load64(v95);
+    v97 = v69 + 20u * 1u;
+    v98 = load64(v97);
+    v99 = v98 == v96;
+    if (v99) { goto L9; }
+    else { goto L18; }
 L9:;
-    v12 = v11; goto L10;
+    memory_set(v46, 0u, 32u);
+    f8(v46, a2, a3);
+    v100 = load8(v46);
+    v101 = v100 == 0u;
+    if (v101) { goto L10; }
+    else { goto L16; }
 L10:;
-    v93 = a0 + 955u * 1u;
-    v94 = load8(v93);
-    v95 = (u8)((v94) & UINT64_C(1));
-    if (v95) { goto L11; }
-    else { goto L38; }
+    v102 = v46 + 8u * 1u;
+    v103 = load_address(v102);
+    v104 = load_address(a0);
+    v105 = v104 + 440u * 1u;
+    v106 = v103 + 34u * 1u;
+    v107 = load64(v106);
+    v108 = load64(v105);
+    v109 = v107 == v108;
+    if (v109) { goto L11; }
+    else { goto L16; }
 L11:;
-    v96 = a0 + 928u * 1u;
-    v97 = load64(v96);
-    v98 = v97 != 0u;
-    v99 = (u8)(((u32)v12 ^ (u32)1u) & UINT64_C(1));
-    v100 = (u8)(((u32)v98 | (u32)v99) & UINT64_C(1));
-    if (v100) { goto L17; }
+    v110 = v103 + 20u * 1u;
+    v111 = load64(v110);
+    v112 = v103 + 28u * 1u;
+    v113 = load8(v112);
+    v114 = v103 + 29u * 1u;
+    v115 = load8(v114);
+    v116 = (u16)v113;
+    v117 = (u16)((u32)v116 << (8u & 15u));
+    v118 = (u16)v115;
+    v119 = (u16)((u32)v117 | (u32)v118);
+    v120 = v104 + 456u * 1u;
+    v121 = load64(v120);
+    v122 = v121 == 0u;
+    if (v122) { goto L16; }
     else { goto L12; }
 L12:;
-    v101 = a0 + 896u * 1u;
-    v102 = load64(v101);
-    v103 = a0 + 920u * 1u;
-    v104 = load64(v103);
-    v105 = a0 + 912u * 1u;
-    v106 = load64(v105);
-    v107 = (u64)((u64)v102 - (u64)v104);
-    v108 = (u64)((u64)v107 + (u64)v106);
-    v109 = v108 > 14u;
-    if (v109) { goto L18; }
-    else { goto L13; }
+    v123 = v104 + 448u * 1u;
+    v124 = load_address(v123);
+    v9 = v124; v10 = v121; goto L13;
 L13:;
-    v110 = load_address(a0);
-    memory_set(v40, 0u, 40u);
-    v111 = v110 + 440u * 1u;
-    f42(v40, v111);
-    v112 = v110 + 432u * 1u;
-    v113 = load64(v112);
-    v114 = (u64)((u64)v113 << (1u & 63u));
-    v115 = (u64)((u64)v114 & (u64)UINT64_C(131070));
-    v116 = (u64)((u64)v115 + (u64)UINT64_C(18446744073709551615));
-    v117 = v40 + 32u * 1u;
-    v118 = load64(v117);
-    v119 = v118 == 0u;
-    if (v119) { v15 = v116; goto L16; }
-    else { goto L14; }
+    v125 = v9 + 2136u * 1u;
+    v126 = (u64)((u64)v10 + (u64)UINT64_C(18446744073709551615));
+    v127 = v9 + 2112u * 1u;
+    v128 = load16(v127);
+    v129 = v119 == v128;
+    if (v129) { goto L14; }
+    else { goto L15; }
 L14:;
-    v120 = v40 + 16u * 1u;
-    v121 = load_address(v40);
-    v13 = v116; v14 = 0u; goto L15;
+    v130 = v9 + 2104u * 1u;
+    v131 = load64(v130);
+    v132 = v111 == v131;
+    if (v132) { goto L17; }
+    else { goto L15; }
 L15:;
-    v122 = v120 + v14 * 1u;
-    v123 = load8(v122);
-    v124 = (u64)v123;
-    v125 = (u64)((u64)v124 * (u64)2136u);
-    v126 = v121 + v125 * 1u;
-    v127 = v126 + 1440u * 1u;
-    v128 = load64(v127);
-    v129 = v13 > v128 ? v13 : v128;
-    v130 = (u64)((u64)v14 + (u64)1u);
-    v131 = v130 == v118;
-    if (v131) { v15 = v129; goto L16; }
-    else { v13 = v129; v14 = v130; goto L15; }
+    v133 = v126 == 0u;
+    if (v133) { goto L16; }
+    else { v9 = v125; v10 = v126; goto L13; }
 L16:;
-    v132 = v15 > v108;
-    if (v132) { goto L38; }
-    else { goto L18; }
+    goto L18;
 L17:;
-    v133 = (u8)(((u32)v12 | (u32)v98) & UINT64_C(1));
-    if (v133) { goto L38; }
-    else { goto L18; }
+    goto L19;
 L18:;
-    if (v12) { goto L20; }
-    else { goto L19; }
-L19:;
-    memory_set(v38, 0u, 16u);
-    store64(v39, 0u);
     v134 = load_address(a0);
-    v135 = a0 + 8u * 1u;
-    memory_cpy(v37, v134, 440u);
-    memory_move(v134, v135, 440u);
-    memory_cpy(v135, v37, 440u);
-    v136 = load_address(a0);
-    store8(v39, v50);
-    v137 = v39 + 1u * 1u;
-    store8(v137, v52);
-    v138 = v39 + 8u * 1u;
-    memory_cpy(v138, v53, 16u);
-    f46(v38, v136, a1, a2, a3, v39, 0u, a6, a7);
-    v139 = load8(v38);
-    v140 = v38 + 1u * 1u;
-    v141 = load8(v140);
-    v142 = v38 + 8u * 1u;
-    v143 = load64(v142);
-    v144 = load_address(a0);
-    memory_cpy(v36, v144, 440u);
-    memory_move(v144, v135, 440u);
-    memory_cpy(v135, v36, 440u);
-    memory_set(v45, 0u, 12u);
-    v23 = v139; v24 = v141; v25 = v143; v26 = 0u; goto L27;
+    memory_set(v45, 0u, 48u);
+    f49(v45, v134, a2, a3);
+    v135 = load8(v45);
+    v136 = v135 == 1u;
+    if (v136) { goto L19; }
+    else { goto L20; }
+L19:;
+    v30 = 123u; goto L59;
 L20:;
-    v145 = load8(v54);
-    v146 = (u8)((v145) & UINT64_C(1));
-    if (v146) { goto L21; }
-    else { goto L22; }
+    v137 = a0 + 953u * 1u;
+    v138 = load8(v137);
+    v139 = (u8)((v138) & UINT64_C(1));
+    if (v139) { goto L21; }
+    else { v14 = v137; v15 = 1u; goto L29; }
 L21:;
-    memory_set(v32, 0u, 16u);
-    memory_set(v33, 0u, 440u);
-    store64(v34, 0u);
-    memory_set(v35, 0u, 12u);
-    v147 = load_address(a0);
-    f44(v33, v147);
-    memory_cpy(v31, v33, 440u);
-    v148 = load_address(a0);
-    store8(v34, v50);
-    v149 = v34 + 1u * 1u;
-    store8(v149, v52);
-    v150 = v34 + 8u * 1u;
-    memory_cpy(v150, v53, 16u);
-    f46(v32, v148, a1, a2, a3, v34, a5, a6, a7);
-    v151 = a0 + 888u * 1u;
-    v152 = v32 + 8u * 1u;
-    v153 = load64(v152);
-    f65(v151, a6, v153);
-    v154 = load8(v32);
-    v155 = v32 + 1u * 1u;
-    v156 = a0 + 954u * 1u;
-    v157 = load8(v156);
-    v158 = (u8)((v157) & UINT64_C(1));
-    v159 = v154 == 5u;
-    v160 = (u8)(((u32)v159 | (u32)v158) & UINT64_C(1));
-    v161 = (u8)v160;
-    store8(v156, v161);
-    v162 = load8(v155);
-    v163 = load_address(a0);
-    f63(v35, v163, v31);
-    v164 = (u64)v154;
-    v165 = (u64)v162;
-    v166 = (u64)((u64)v165 << (8u & 63u));
-    v167 = (u64)((u64)v166 | (u64)v164);
-    memory_cpy(v43, v35, 12u);
-    v19 = v43; v20 = v167; v21 = 0u; v22 = v153; goto L26;
+    memory_set(v44, 0u, 32u);
+    f8(v44, a2, a3);
+    v140 = load8(v44);
+    v141 = v140 == 0u;
+    if (v141) { goto L22; }
+    else { v13 = 0u; goto L28; }
 L22:;
-    memory_set(v28, 0u, 16u);
-    store64(v29, 0u);
-    memory_set(v30, 0u, 12u);
-    v168 = load_address(a0);
-    store8(v29, v50);
-    v169 = v29 + 1u * 1u;
-    store8(v169, v52);
-    v170 = v29 + 8u * 1u;
-    memory_cpy(v170, v53, 16u);
-    f46(v28, v168, a1, a2, a3, v29, a5, a6, a7);
-    v171 = load8(v28);
-    v172 = v28 + 1u * 1u;
-    v173 = load8(v172);
-    v174 = v28 + 8u * 1u;
-    v175 = load64(v174);
-    v176 = v171 == 5u;
-    if (v176) { goto L24; }
-    else { goto L23; }
+    v142 = v44 + 8u * 1u;
+    v143 = load_address(v142);
+    v144 = load_address(a0);
+    v145 = v144 + 440u * 1u;
+    v146 = v143 + 34u * 1u;
+    v147 = load64(v146);
+    v148 = load64(v145);
+    v149 = v147 == v148;
+    if (v149) { goto L23; }
+    else { v13 = 0u; goto L28; }
 L23:;
-    v177 = (u64)v173;
-    v178 = (u64)((u64)v177 << (8u & 63u));
-    v179 = (u64)v171;
-    v180 = (u64)((u64)v178 | (u64)v179);
-    memory_set(v44, 0u, 12u);
-    v16 = v180; v17 = v175; v18 = 0u; goto L25;
+    v150 = v143 + 20u * 1u;
+    v151 = load64(v150);
+    v152 = v143 + 28u * 1u;
+    v153 = load8(v152);
+    v154 = v143 + 29u * 1u;
+    v155 = load8(v154);
+    v156 = (u16)v153;
+    v157 = (u16)((u32)v156 << (8u & 15u));
+    v158 = (u16)v155;
+    v159 = (u16)((u32)v157 | (u32)v158);
+    v160 = v144 + 456u * 1u;
+    v161 = load64(v160);
+    v162 = v161 == 0u;
+    if (v162) { v13 = 0u; goto L28; }
+    else { goto L24; }
 L24:;
-    v181 = a0 + 888u * 1u;
-    f65(v181, a6, v175);
-    store8(v54, 1u);
-    v182 = a0 + 954u * 1u;
-    store8(v182, 1u);
-    v183 = load_address(a0);
-    v184 = a0 + 8u * 1u;
-    f63(v30, v183, v184);
-    v185 = (u64)v173;
-    v186 = (u64)((u64)v185 << (8u & 63u));
-    v187 = (u64)((u64)v186 | (u64)5u);
-    memory_cpy(v44, v30, 12u);
-    v16 = v187; v17 = 0u; v18 = v175; goto L25;
+    v163 = v144 + 448u * 1u;
+    v164 = load_address(v163);
+    v11 = v164; v12 = v161; goto L25;
 L25:;
-    v19 = v44; v20 = v16; v21 = v17; v22 = v18; goto L26;
+    v165 = v11 + 2136u * 1u;
+    v166 = (u64)((u64)v12 + (u64)UINT64_C(18446744073709551615));
+    v167 = v11 + 2112u * 1u;
+    v168 = load16(v167);
+    v169 = v159 == v168;
+    if (v169) { goto L26; }
+    else { goto L27; }
 L26:;
-    v188 = (u8)(v20);
-    v189 = (u64)((u64)v20 >> (8u & 63u));
-    v190 = (u8)(v189);
-    memory_cpy(v45, v19, 12u);
-    v23 = v188; v24 = v190; v25 = v21; v26 = v22; goto L27;
+    v170 = v11 + 2104u * 1u;
+    v171 = load64(v170);
+    v172 = v151 == v171;
+    if (v172) { v13 = 1u; goto L28; }
+    else { goto L27; }
 L27:;
-    store64(a8, v25);
-    v191 = a8 + 8u * 1u;
-    store64(v191, v26);
-    v192 = a8 + 16u * 1u;
-    memory_cpy(v192, v45, 12u);
-    v193 = a8 + 28u * 1u;
-    store32(v193, 0u);
-    switch (v23) {
-    case 0u: goto L28;
-    case 9u: goto L36;
-    case 1u: v27 = 1u; goto L40;
-    case 2u: goto L29;
-    case 3u: goto L30;
-    case 4u: goto L31;
-    case 5u: goto L32;
-    case 6u: goto L33;
-    case 7u: goto L34;
-    case 8u: goto L35;
-    default: goto L37;
-    }
+    v173 = v166 == 0u;
+    if (v173) { v13 = 0u; goto L28; }
+    else { v11 = v165; v12 = v166; goto L25; }
 L28:;
-    v194 = (u32)v24;
-    v195 = (u32)((u32)v194 + (u32)16u);
-    v27 = v195; goto L40;
+    v14 = v137; v15 = v13; goto L29;
 L29:;
-    v27 = 2u; goto L40;
+    v174 = a0 + 955u * 1u;
+    v175 = load8(v174);
+    v176 = (u8)((v175) & UINT64_C(1));
+    if (v176) { goto L30; }
+    else { goto L58; }
 L30:;
-    v27 = 3u; goto L40;
+    v177 = a0 + 928u * 1u;
+    v178 = load64(v177);
+    v179 = v178 != 0u;
+    v180 = (u8)(((u32)v15 ^ (u32)1u) & UINT64_C(1));
+    v181 = (u8)(((u32)v179 | (u32)v180) & UINT64_C(1));
+    if (v181) { goto L36; }
+    else { goto L31; }
 L31:;
-    v27 = 4u; goto L40;
+    v182 = a0 + 896u * 1u;
+    v183 = load64(v182);
+    v184 = a0 + 920u * 1u;
+    v185 = load64(v184);
+    v186 = a0 + 912u * 1u;
+    v187 = load64(v186);
+    v188 = (u64)((u64)v183 - (u64)v185);
+    v189 = (u64)((u64)v188 + (u64)v187);
+    v190 = v189 > 14u;
+    if (v190) { goto L37; }
+    else { goto L32; }
 L32:;
-    v27 = 5u; goto L40;
+    v191 = load_address(a0);
+    memory_set(v43, 0u, 40u);
+    v192 = v191 + 440u * 1u;
+    f17(v43, v192);
+    v193 = v191 + 432u * 1u;
+    v194 = load64(v193);
+    v195 = (u64)((u64)v194 << (1u & 63u));
+    v196 = (u64)((u64)v195 & (u64)UINT64_C(131070));
+    v197 = (u64)((u64)v196 + (u64)UINT64_C(18446744073709551615));
+    v198 = v43 + 32u * 1u;
+    v199 = load64(v198);
+    v200 = v199 == 0u;
+    if (v200) { v18 = v197; goto L35; }
+    else { goto L33; }
 L33:;
-    v27 = 6u; goto L40;
+    v201 = v43 + 16u * 1u;
+    v202 = load_address(v43);
+    v16 = v197; v17 = 0u; goto L34;
 L34:;
-    v27 = 7u; goto L40;
+    v203 = v201 + v17 * 1u;
+    v204 = load8(v203);
+    v205 = (u64)v204;
+    v206 = (u64)((u64)v205 * (u64)2136u);
+    v207 = v202 + v206 * 1u;
+    v208 = v207 + 1440u * 1u;
+    v209 = load64(v208);
+    v210 = v16 > v209 ? v16 : v209;
+    v211 = (u64)((u64)v17 + (u64)1u);
+    v212 = v211 == v199;
+    if (v212) { v18 = v210; goto L35; }
+    else { v16 = v210; v17 = v211; goto L34; }
 L35:;
-    v27 = 8u; goto L40;
+    v213 = v18 > v189;
+    if (v213) { goto L58; }
+    else { goto L37; }
 L36:;
-    v27 = 9u; goto L40;
+    v214 = (u8)(((u32)v15 | (u32)v179) & UINT64_C(1));
+    if (v214) { goto L58; }
+    else { goto L37; }
 L37:;
-    UNREACHABLE;
+    if (v15) { goto L39; }
+    else { goto L38; }
 L38:;
-    v27 = 118u; goto L40;
+    memory_set(v41, 0u, 16u);
+    store64(v42, 0u);
+    v215 = load_address(a0);
+    v216 = a0 + 8u * 1u;
+    memory_cpy(v40, v215, 440u);
+    memory_move(v215, v216, 440u);
+    memory_cpy(v216, v40, 440u);
+    v217 = load_address(a0);
+    store8(v42, v57);
+    v218 = v42 + 1u * 1u;
+    store8(v218, v59);
+    v219 = v42 + 8u * 1u;
+    memory_cpy(v219, v60, 16u);
+    f20(v41, v217, a1, a2, a3, v42, 0u, a6, a7);
+    v220 = load8(v41);
+    v221 = v41 + 1u * 1u;
+    v222 = load8(v221);
+    v223 = v41 + 8u * 1u;
+    v224 = load64(v223);
+    v225 = load_address(a0);
+    memory_cpy(v39, v225, 440u);
+    memory_move(v225, v216, 440u);
+    memory_cpy(v216, v39, 440u);
+    memory_set(v52, 0u, 12u);
+    v26 = v220; v27 = v222; v28 = v224; v29 = 0u; goto L46;
 L39:;
-    v196 = v42 + 1u * 1u;
-    v197 = load8(v196);
-    v198 = v42 + 2u * 1u;
-    v199 = load8(v198);
-    v200 = v197 == 0u;
-    v201 = v199 == 0u;
-    v202 = v201 ? 33u : 34u;
-    v203 = v200 ? v202 : 121u;
-    v27 = v203; goto L40;
+    v226 = load8(v14);
+    v227 = (u8)((v226) & UINT64_C(1));
+    if (v227) { goto L40; }
+    else { goto L41; }
 L40:;
-    return v27;
-}
-
-static void f65(address a0, address a1, u64 a2) {
-    u64 v3, v4, v5, v6, v7, v9, v12, v14, v16, v17, v19, v21, v23, v24, v25, v28;
-    u64 v29, v32, v41, v42, v43, v44, v46;
-    address v8, v11, v13, v18, v20, v27, v30, v31, v33, v34, v36, v39, v40;
-    u8 v10, v15, v22, v26, v45;
-    u16 v35, v37, v38;
-    v8 = a0 + 24u * 1u;
-    v9 = load64(v8);
-    v10 = v9 == 0u;
-    if (v10) { goto L5; }
-    else { goto L1; }
-L1:;
-    v11 = a0 + 32u * 1u;
-    v12 = load64(v11);
-    v13 = load_address(a0);
-    v14 = (u64)((u64)v12 - (u64)v9);
-    v15 = v12 == v9;
-    if (v15) { v4 = v9; v5 = v9; goto L4; }
-    else { v3 = 0u; goto L2; }
-L2:;
-    v16 = (u64)((u64)v3 + (u64)v9);
-    v17 = (u64)((u64)v16 * (u64)1476u);
-    v18 = v13 + v17 * 1u;
-    v19 = (u64)((u64)v3 * (u64)1476u);
-    v20 = v13 + v19 * 1u;
-    memory_move(v20, v18, 1476u);
-    v21 = (u64)((u64)v3 + (u64)1u);
-    v22 = v21 == v14;
-    if (v22) { goto L3; }
-    else { v3 = v21; goto L2; }
-L3:;
-    v23 = load64(v8);
-    v24 = load64(v11);
-    v4 = v24; v5 = v23; goto L4;
-L4:;
-    v25 = (u64)((u64)v4 - (u64)v5);
-    store64(v11, v25);
-    store64(v8, 0u);
-    goto L5;
-L5:;
-    v26 = a2 == 0u;
-    if (v26) { goto L14; }
-    else { goto L6; }
-L6:;
-    v27 = a0 + 32u * 1u;
-    v28 = load64(v27);
-    v6 = v28; v7 = 0u; goto L7;
-L7:;
-    v29 = (u64)((u64)v7 * (u64)1476u);
-    v30 = a1 + v29 * 1u;
-    v31 = load_address(a0);
-    v32 = (u64)((u64)v6 * (u64)1476u);
-    v33 = v31 + v32 * 1u;
-    v34 = v30 + 2u * 1u;
-    v35 = load16(v34);
-    v36 = v30 + 4u * 1u;
-    v37 = load16(v30);
-    store16(v33, v37);
-    v38 = load16(v34);
-    v39 = v33 + 2u * 1u;
-    store16(v39, v38);
-    v40 = v33 + 4u * 1u;
-    switch (v35) {
-    case 54u: goto L8;
-    case 56u: goto L9;
-    case 80u: goto L10;
-    default: goto L11;
+    memory_set(v35, 0u, 16u);
+    memory_set(v36, 0u, 440u);
+    store64(v37, 0u);
+    memory_set(v38, 0u, 12u);
+    v228 = load_address(a0);
+    f18(v36, v228);
+    memory_cpy(v34, v36, 440u);
+    v229 = load_address(a0);
+    store8(v37, v57);
+    v230 = v37 + 1u * 1u;
+    store8(v230, v59);
+    v231 = v37 + 8u * 1u;
+    memory_cpy(v231, v60, 16u);
+    f20(v35, v229, a1, a2, a3, v37, a5, a6, a7);
+    v232 = a0 + 888u * 1u;
+    v233 = v35 + 8u * 1u;
+    v234 = load64(v233);
+    f61(v232, a6, v234);
+    v235 = load8(v35);
+    v236 = v35 + 1u * 1u;
+    v237 = a0 + 954u * 1u;
+    v238 = load8(v237);
+    v239 = (u8)((v238) & UINT64_C(1));
+    v240 = v235 == 5u;
+    v241 = (u8)(((u32)v240 | (u32)v239) & UINT64_C(1));
+    v242 = (u8)v241;
+    store8(v237, v242);
+    v243 = load8(v236);
+    v244 = load_address(a0);
+    f62(v38, v244, v34);
+    v245 = (u64)v235;
+    v246 = (u64)v243;
+    v247 = (u64)((u64)v246 << (8u & 63u));
+    v248 = (u64)((u64)v247 | (u64)v245);
+    memory_cpy(v50, v38, 12u);
+    v22 = v50; v23 = v248; v24 = 0u; v25 = v234; goto L45;
+L41:;
+    memory_set(v31, 0u, 16u);
+    store64(v32, 0u);
+    memory_set(v33, 0u, 12u);
+    v249 = load_address(a0);
+    store8(v32, v57);
+    v250 = v32 + 1u * 1u;
+    store8(v250, v59);
+    v251 = v32 + 8u * 1u;
+    memory_cpy(v251, v60, 16u);
+    f20(v31, v249, a1, a2, a3, v32, a5, a6, a7);
+    v252 = load8(v31);
+    v253 = v31 + 1u * 1u;
+    v254 = load8(v253);
+    v255 = v31 + 8u * 1u;
+    v256 = load64(v255);
+    v257 = v252 == 5u;
+    if (v257) { goto L43; }
+    else { goto L42; }
+L42:;
+    v258 = (u64)v254;
+    v259 = (u64)((u64)v258 << (8u & 63u));
+    v260 = (u64)v252;
+    v261 = (u64)((u64)v259 | (u64)v260);
+    memory_set(v51, 0u, 12u);
+    v19 = v261; v20 = v256; v21 = 0u; goto L44;
+L43:;
+    v262 = a0 + 888u * 1u;
+    f61(v262, a6, v256);
+    store8(v14, 1u);
+    v263 = a0 + 954u * 1u;
+    store8(v263, 1u);
+    v264 = load_address(a0);
+    v265 = a0 + 8u * 1u;
+    f62(v33, v264, v265);
+    v266 = (u64)v254;
+    v267 = (u64)((u64)v266 << (8u & 63u));
+    v268 = (u64)((u64)v267 | (u64)5u);
+    memory_cpy(v51, v33, 12u);
+    v19 = v268; v20 = 0u; v21 = v256; goto L44;
+L44:;
+    v22 = v51; v23 = v19; v24 = v20; v25 = v21; goto L45;
+L45:;
+    v269 = (u8)(v23);
+    v270 = (u64)((u64)v23 >> (8u & 63u));
+    v271 = (u8)(v270);
+    memory_cpy(v52, v22, 12u);
+    v26 = v269; v27 = v271; v28 = v24; v29 = v25; goto L46;
+L46:;
+    store64(a8, v28);
+    v272 = a8 + 8u * 1u;
+    store64(v272, v29);
+    v273 = a8 + 16u * 1u;
+    memory_cpy(v273, v52, 12u);
+    v274 = a8 + 28u * 1u;
+    store32(v274, 0u);
+    switch (v26) {
+    case 0u: goto L47;
+    case 9u: goto L55;
+    case 1u: v30 = 1u; goto L59;
+    case 2u: goto L48;
+    case 3u: goto L49;
+    case 4u: goto L50;
+    case 5u: goto L51;
+    case 6u: goto L52;
+    case 7u: goto L53;
+    case 8u: goto L54;
+    default: goto L56;
     }
-L8:;
-    memory_move(v40, v36, 54u);
-    goto L12;
-L9:;
-    memory_move(v40, v36, 56u);
-    goto L12;
-L10:;
-    memory_move(v40, v36, 80u);
-    goto L12;
-L11:;
-    v41 = (u64)v35;
-    f34(v40, v36, v41);
-    goto L12;
-L12:;
-    v42 = load64(v27);
-    v43 = (u64)((u64)v42 + (u64)1u);
-    store64(v27, v43);
-    v44 = (u64)((u64)v7 + (u64)1u);
-    v45 = v44 == a2;
-    if (v45) { goto L13; }
-    else { v6 = v43; v7 = v44; goto L7; }
-L13:;
-    v46 = (u64)((u64)a2 * (u64)1476u);
-    memory_set(a1, 0u, v46);
-    goto L14;
-L14:;
-    return;
+L47:;
+    v275 = (u32)v27;
+    v276 = (u32)((u32)v275 + (u32)16u);
+    v30 = v276; goto L59;
+L48:;
+    v30 = 2u; goto L59;
+L49:;
+    v30 = 3u; goto L59;
+L50:;
+    v30 = 4u; goto L59;
+L51:;
+    v30 = 5u; goto L59;
+L52:;
+    v30 = 6u; goto L59;
+L53:;
+    v30 = 7u; goto L59;
+L54:;
+    v30 = 8u; goto L59;
+L55:;
+    v30 = 9u; goto L59;
+L56:;
+    UNREACHABLE;
+L57:;
+    v277 = v49 + 1u * 1u;
+    v278 = load8(v277);
+    v279 = v49 + 2u * 1u;
+    v280 = load8(v279);
+    v281 = v278 == 0u;
+    v282 = v280 == 0u;
+    v283 = v282 ? 33u : 34u;
+    v284 = v281 ? v283 : 121u;
+    v30 = v284; goto L59;
+L58:;
+    v30 = 118u; goto L59;
+L59:;
+    return v30;
 }
 
-static u64 f66(u8 a0, u8 a1) {
+static u64 f67(u8 a0, u8 a1) {
     u64 v2, v4, v5, v6, v12, v17, v18, v19, v20;
     address v3, v7, v8, v9, v10, v13, v15;
     u8 v11, v14, v16;
     switch (a0) {
-    case 1u: v2 = 6u; v3 = ADDRESS(c147); goto L15;
+    case 1u: v2 = 6u; v3 = ADDRESS(c154); goto L15;
     case 2u: goto L1;
     case 3u: goto L2;
     case 4u: goto L3;
@@ -15876,34 +16200,34 @@ static u64 f66(u8 a0, u8 a1) {
     default: goto L13;
     }
 L1:;
-    v2 = 60u; v3 = ADDRESS(c148); goto L15;
+    v2 = 60u; v3 = ADDRESS(c155); goto L15;
 L2:;
-    v2 = 18u; v3 = ADDRESS(c149); goto L15;
+    v2 = 18u; v3 = ADDRESS(c156); goto L15;
 L3:;
-    v2 = 60u; v3 = ADDRESS(c150); goto L15;
+    v2 = 60u; v3 = ADDRESS(c157); goto L15;
 L4:;
-    v2 = 48u; v3 = ADDRESS(c151); goto L15;
+    v2 = 48u; v3 = ADDRESS(c158); goto L15;
 L5:;
-    v2 = 60u; v3 = ADDRESS(c152); goto L15;
+    v2 = 60u; v3 = ADDRESS(c159); goto L15;
 L6:;
-    v2 = 6u; v3 = ADDRESS(c153); goto L15;
+    v2 = 6u; v3 = ADDRESS(c160); goto L15;
 L7:;
-    v2 = 6u; v3 = ADDRESS(c154); goto L15;
+    v2 = 6u; v3 = ADDRESS(c161); goto L15;
 L8:;
-    v2 = 6u; v3 = ADDRESS(c155); goto L15;
-L9:;
-    v2 = 6u; v3 = ADDRESS(c156); goto L15;
-L10:;
     v2 = 6u; v3 = ADDRESS(c162); goto L15;
-L11:;
+L9:;
     v2 = 6u; v3 = ADDRESS(c163); goto L15;
+L10:;
+    v2 = 6u; v3 = ADDRESS(c169); goto L15;
+L11:;
+    v2 = 6u; v3 = ADDRESS(c170); goto L15;
 L12:;
-    v2 = 24u; v3 = ADDRESS(c164); goto L15;
+    v2 = 24u; v3 = ADDRESS(c171); goto L15;
 L13:;
     UNREACHABLE;
 L14:;
     v6 = (u64)a1;
-    v7 = ADDRESS(c342) + v6 * 8u;
+    v7 = ADDRESS(c350) + v6 * 8u;
     v8 = load_address(v7);
     v2 = 6u; v3 = v8; goto L15;
 L15:;
@@ -15953,7 +16277,7 @@ L22:;
     return v20;
 }
 
-static void f67(address a0, address a1, address a2, u64 a3, address a4) {
+static void f68(address a0, address a1, address a2, u64 a3, address a4) {
     u64 v5, v7, v10, v11, v13, v14, v16, v20, v21, v22, v79, v82, v88, v89, v90, v91;
     u64 v93, v95, v98, v99, v102, v302, v316, v317, v324, v325;
     address v6, v28, v29, v30, v31, v33, v35, v37, v39, v41, v44, v49, v52, v53, v80, v81;
@@ -16100,7 +16424,7 @@ L13:;
     else { goto L21; }
 L14:;
     memory_set(v28, 0u, 24u);
-    f26(v28, v29, v13);
+    f32(v28, v29, v13);
     v85 = load8(v28);
     v86 = v85 == 0u;
     if (v86) { goto L15; }
@@ -16118,7 +16442,7 @@ L15:;
     if (v94) { v14 = v91; goto L17; }
     else { goto L16; }
 L16:;
-    f29(a4, v91);
+    f19(a4, v91);
     v95 = load64(v92);
     v14 = v95; goto L17;
 L17:;
@@ -16161,7 +16485,7 @@ L24:;
     default: v23 = v34; v24 = 3u; v25 = 1u; v26 = v32; v27 = v36; goto L71;
     }
 L25:;
-    v107 = f68(127u, a2, a3);
+    v107 = f69(127u, a2, a3);
     v108 = v107.m0;
     v109 = (u8)((v108) & UINT64_C(1));
     if (v109) { goto L26; }
@@ -16171,7 +16495,7 @@ L26:;
     v111 = (u8)(v110);
     v18 = 0u; v19 = v111; v20 = 1u; goto L66;
 L27:;
-    v112 = f68(32767u, a2, a3);
+    v112 = f69(32767u, a2, a3);
     v113 = v112.m0;
     v114 = (u8)((v113) & UINT64_C(1));
     if (v114) { goto L28; }
@@ -16184,7 +16508,7 @@ L28:;
     v119 = (u8)(v118);
     v18 = v119; v19 = v117; v20 = 2u; goto L66;
 L29:;
-    v120 = f69(a2, a3);
+    v120 = f70(a2, a3);
     v121 = v120.m0;
     v122 = (u8)((v121) & UINT64_C(1));
     if (v122) { goto L30; }
@@ -16195,7 +16519,7 @@ L30:;
     v125 = v124 ? v42 : 0u;
     v18 = 0u; v19 = v125; v20 = 1u; goto L66;
 L31:;
-    v126 = f69(a2, a3);
+    v126 = f70(a2, a3);
     v127 = v126.m0;
     v128 = (u8)((v127) & UINT64_C(1));
     if (v128) { goto L32; }
@@ -16205,7 +16529,7 @@ L32:;
     v130 = (u8)((u32)v129 & (u32)1u);
     v18 = 0u; v19 = v130; v20 = 1u; goto L66;
 L33:;
-    v131 = f71(a2, a3);
+    v131 = f72(a2, a3);
     v132 = v131.m0;
     v133 = v132 == 1u;
     v134 = v131.m1;
@@ -16451,7 +16775,7 @@ L58:;
 L59:;
     v289 = a2 + v16 * 1u;
     v290 = load8(v289);
-    v291 = ADDRESS(c183) + v16 * 1u;
+    v291 = ADDRESS(c190) + v16 * 1u;
     v292 = load8(v291);
     v293 = (u8)((u32)v290 + (u32)191u);
     v294 = v293 < 26u;
@@ -16470,7 +16794,7 @@ L60:;
     if (v303) { v15 = 254u; goto L39; }
     else { v16 = v302; goto L59; }
 L61:;
-    v304 = f71(a2, a3);
+    v304 = f72(a2, a3);
     v17 = v304; goto L62;
 L62:;
     v305 = v17.m0;
@@ -16481,7 +16805,7 @@ L63:;
     v307 = v17.m1;
     v18 = 0u; v19 = v307; v20 = 1u; goto L66;
 L64:;
-    v308 = f71(a2, a3);
+    v308 = f72(a2, a3);
     v309 = v308.m0;
     v310 = v309 == 1u;
     if (v310) { goto L65; }
@@ -16534,7 +16858,7 @@ L71:;
     return;
 }
 
-static struct s3 f68(u16 a0, address a1, u64 a2) {
+static struct s3 f69(u16 a0, address a1, u64 a2) {
     u64 v3, v5, v6, v7, v8, v48, v50, v60, v62, v63, v65, v66, v71, v79, v81, v82;
     u64 v84, v85;
     u32 v4, v15, v20, v22, v23, v24, v28, v30, v31, v32, v33, v34, v38, v39, v40, v41;
@@ -16688,7 +17012,7 @@ L21:;
     return v93;
 }
 
-static struct s1 f69(address a0, u64 a1) {
+static struct s1 f70(address a0, u64 a1) {
     u64 v2, v3, v4, v34, v58, v60, v61, v63, v64;
     u8 v5, v6, v8, v9, v10, v11, v12, v13, v15, v16, v17, v18, v19, v20, v22, v23;
     u8 v24, v25, v26, v27, v28, v29, v30, v31, v32, v33, v35, v37, v39, v40, v41, v42;
@@ -16749,7 +17073,7 @@ L5:;
 L6:;
     v36 = a0 + v2 * 1u;
     v37 = load8(v36);
-    v38 = ADDRESS(c166) + v2 * 1u;
+    v38 = ADDRESS(c173) + v2 * 1u;
     v39 = load8(v38);
     v40 = (u8)((u32)v37 + (u32)191u);
     v41 = v40 < 26u;
@@ -16810,7 +17134,7 @@ L14:;
     return v70;
 }
 
-static void f70(address a0, u8 a1, u8 a2) {
+static void f71(address a0, u8 a1, u8 a2) {
     u64 v3, v5, v9, v12, v14, v18, v20, v21, v24, v26, v27, v30, v32;
     address v4, v10, v11, v13, v19, v22, v23, v25, v28, v29, v31, v33, v34;
     u8 v6, v7, v8, v15, v16, v17;
@@ -16829,10 +17153,10 @@ L1:;
 L2:;
     v8 = (u8)((u32)a2 + (u32)255u);
     v9 = (u64)v8;
-    v10 = ADDRESS(c328) + v9 * 8u;
+    v10 = ADDRESS(c336) + v9 * 8u;
     v11 = load_address(v10);
     v12 = (u64)v8;
-    v13 = ADDRESS(c329) + v12 * 8u;
+    v13 = ADDRESS(c337) + v12 * 8u;
     v14 = load64(v13);
     v3 = 1u; v4 = v11; v5 = v14; goto L17;
 L3:;
@@ -16842,7 +17166,7 @@ L3:;
     else { v3 = 0u; v4 = 0u; v5 = 0u; goto L17; }
 L4:;
     switch (a2) {
-    case 16u: v3 = 1u; v4 = ADDRESS(c184); v5 = 12u; goto L17;
+    case 16u: v3 = 1u; v4 = ADDRESS(c191); v5 = 12u; goto L17;
     case 32u: goto L5;
     case 48u: goto L6;
     case 57u: goto L7;
@@ -16854,21 +17178,21 @@ L4:;
     default: goto L13;
     }
 L5:;
-    v3 = 1u; v4 = ADDRESS(c185); v5 = 4u; goto L17;
+    v3 = 1u; v4 = ADDRESS(c192); v5 = 4u; goto L17;
 L6:;
-    v3 = 1u; v4 = ADDRESS(c186); v5 = 17u; goto L17;
+    v3 = 1u; v4 = ADDRESS(c193); v5 = 17u; goto L17;
 L7:;
-    v3 = 1u; v4 = ADDRESS(c187); v5 = 16u; goto L17;
+    v3 = 1u; v4 = ADDRESS(c194); v5 = 16u; goto L17;
 L8:;
-    v3 = 1u; v4 = ADDRESS(c188); v5 = 3u; goto L17;
+    v3 = 1u; v4 = ADDRESS(c195); v5 = 3u; goto L17;
 L9:;
-    v3 = 1u; v4 = ADDRESS(c189); v5 = 3u; goto L17;
+    v3 = 1u; v4 = ADDRESS(c196); v5 = 3u; goto L17;
 L10:;
-    v3 = 1u; v4 = ADDRESS(c190); v5 = 8u; goto L17;
+    v3 = 1u; v4 = ADDRESS(c197); v5 = 8u; goto L17;
 L11:;
-    v3 = 1u; v4 = ADDRESS(c191); v5 = 5u; goto L17;
+    v3 = 1u; v4 = ADDRESS(c198); v5 = 5u; goto L17;
 L12:;
-    v3 = 1u; v4 = ADDRESS(c192); v5 = 19u; goto L17;
+    v3 = 1u; v4 = ADDRESS(c199); v5 = 19u; goto L17;
 L13:;
     v3 = 0u; v4 = 0u; v5 = 0u; goto L17;
 L14:;
@@ -16877,21 +17201,21 @@ L14:;
     else { v3 = 0u; v4 = 0u; v5 = 0u; goto L17; }
 L15:;
     v18 = (u64)v15;
-    v19 = ADDRESS(c330) + v18 * 8u;
+    v19 = ADDRESS(c338) + v18 * 8u;
     v20 = load64(v19);
     v21 = (u64)v15;
-    v22 = ADDRESS(c331) + v21 * 8u;
+    v22 = ADDRESS(c339) + v21 * 8u;
     v23 = load_address(v22);
     v24 = (u64)v15;
-    v25 = ADDRESS(c332) + v24 * 8u;
+    v25 = ADDRESS(c340) + v24 * 8u;
     v26 = load64(v25);
     v3 = v20; v4 = v23; v5 = v26; goto L17;
 L16:;
     v27 = (u64)a2;
-    v28 = ADDRESS(c333) + v27 * 8u;
+    v28 = ADDRESS(c341) + v27 * 8u;
     v29 = load_address(v28);
     v30 = (u64)a2;
-    v31 = ADDRESS(c334) + v30 * 8u;
+    v31 = ADDRESS(c342) + v30 * 8u;
     v32 = load64(v31);
     v3 = 1u; v4 = v29; v5 = v32; goto L17;
 L17:;
@@ -16905,7 +17229,7 @@ L18:;
     UNREACHABLE;
 }
 
-static struct s1 f71(address a0, u64 a1) {
+static struct s1 f72(address a0, u64 a1) {
     u8 v2, v3, v4, v7, v8, v9, v10, v11, v12, v13, v15, v16, v18, v20, v21, v22;
     u8 v23, v24, v25, v26, v27, v28, v29, v30, v31, v32, v33, v34, v35, v36, v37, v38;
     u8 v39, v40, v41, v42, v43, v44, v45, v47, v48, v49, v50, v51, v53, v56, v60, v61;
@@ -17033,7 +17357,7 @@ L20:;
     return v67;
 }
 
-static struct s4 f72(address a0) {
+static struct s4 f73(address a0) {
     u64 v1, v10;
     address v2, v4, v6, v9;
     u8 v3, v5, v7;
@@ -17041,7 +17365,7 @@ static struct s4 f72(address a0) {
     v3 = load8(a0);
     switch (v3) {
     case 0u: goto L1;
-    case 1u: v1 = 11u; v2 = ADDRESS(c198); goto L53;
+    case 1u: v1 = 11u; v2 = ADDRESS(c205); goto L53;
     case 2u: goto L2;
     case 3u: goto L3;
     case 4u: goto L4;
@@ -17100,112 +17424,112 @@ L1:;
     v5 = load8(v4);
     v6 = a0 + 1u * 1u;
     v7 = load8(v6);
-    v8 = f73(v7, v5);
+    v8 = f74(v7, v5);
     v9 = v8.m0;
     v10 = v8.m1;
     v1 = v10; v2 = v9; goto L53;
 L2:;
-    v1 = 9u; v2 = ADDRESS(c199); goto L53;
-L3:;
-    v1 = 12u; v2 = ADDRESS(c200); goto L53;
-L4:;
-    v1 = 13u; v2 = ADDRESS(c201); goto L53;
-L5:;
-    v1 = 13u; v2 = ADDRESS(c202); goto L53;
-L6:;
-    v1 = 12u; v2 = ADDRESS(c203); goto L53;
-L7:;
-    v1 = 23u; v2 = ADDRESS(c204); goto L53;
-L8:;
-    v1 = 5u; v2 = ADDRESS(c205); goto L53;
-L9:;
     v1 = 9u; v2 = ADDRESS(c206); goto L53;
-L10:;
-    v1 = 21u; v2 = ADDRESS(c207); goto L53;
-L11:;
-    v1 = 15u; v2 = ADDRESS(c208); goto L53;
-L12:;
-    v1 = 15u; v2 = ADDRESS(c209); goto L53;
-L13:;
+L3:;
+    v1 = 12u; v2 = ADDRESS(c207); goto L53;
+L4:;
+    v1 = 13u; v2 = ADDRESS(c208); goto L53;
+L5:;
+    v1 = 13u; v2 = ADDRESS(c209); goto L53;
+L6:;
     v1 = 12u; v2 = ADDRESS(c210); goto L53;
-L14:;
-    v1 = 20u; v2 = ADDRESS(c211); goto L53;
-L15:;
-    v1 = 18u; v2 = ADDRESS(c212); goto L53;
-L16:;
-    v1 = 12u; v2 = ADDRESS(c213); goto L53;
-L17:;
-    v1 = 15u; v2 = ADDRESS(c214); goto L53;
-L18:;
-    v1 = 12u; v2 = ADDRESS(c215); goto L53;
-L19:;
-    v1 = 16u; v2 = ADDRESS(c216); goto L53;
-L20:;
+L7:;
+    v1 = 23u; v2 = ADDRESS(c211); goto L53;
+L8:;
+    v1 = 5u; v2 = ADDRESS(c212); goto L53;
+L9:;
+    v1 = 9u; v2 = ADDRESS(c213); goto L53;
+L10:;
+    v1 = 21u; v2 = ADDRESS(c214); goto L53;
+L11:;
+    v1 = 15u; v2 = ADDRESS(c215); goto L53;
+L12:;
+    v1 = 15u; v2 = ADDRESS(c216); goto L53;
+L13:;
     v1 = 12u; v2 = ADDRESS(c217); goto L53;
+L14:;
+    v1 = 20u; v2 = ADDRESS(c218); goto L53;
+L15:;
+    v1 = 18u; v2 = ADDRESS(c219); goto L53;
+L16:;
+    v1 = 12u; v2 = ADDRESS(c220); goto L53;
+L17:;
+    v1 = 15u; v2 = ADDRESS(c221); goto L53;
+L18:;
+    v1 = 12u; v2 = ADDRESS(c222); goto L53;
+L19:;
+    v1 = 16u; v2 = ADDRESS(c223); goto L53;
+L20:;
+    v1 = 12u; v2 = ADDRESS(c224); goto L53;
 L21:;
-    v1 = 13u; v2 = ADDRESS(c218); goto L53;
+    v1 = 13u; v2 = ADDRESS(c225); goto L53;
 L22:;
-    v1 = 12u; v2 = ADDRESS(c219); goto L53;
+    v1 = 12u; v2 = ADDRESS(c226); goto L53;
 L23:;
-    v1 = 26u; v2 = ADDRESS(c220); goto L53;
+    v1 = 26u; v2 = ADDRESS(c227); goto L53;
 L24:;
-    v1 = 23u; v2 = ADDRESS(c221); goto L53;
+    v1 = 23u; v2 = ADDRESS(c228); goto L53;
 L25:;
-    v1 = 19u; v2 = ADDRESS(c222); goto L53;
+    v1 = 19u; v2 = ADDRESS(c229); goto L53;
 L26:;
-    v1 = 17u; v2 = ADDRESS(c223); goto L53;
+    v1 = 17u; v2 = ADDRESS(c230); goto L53;
 L27:;
-    v1 = 9u; v2 = ADDRESS(c224); goto L53;
+    v1 = 9u; v2 = ADDRESS(c231); goto L53;
 L28:;
-    v1 = 10u; v2 = ADDRESS(c225); goto L53;
+    v1 = 10u; v2 = ADDRESS(c232); goto L53;
 L29:;
-    v1 = 23u; v2 = ADDRESS(c226); goto L53;
+    v1 = 23u; v2 = ADDRESS(c233); goto L53;
 L30:;
-    v1 = 9u; v2 = ADDRESS(c227); goto L53;
+    v1 = 9u; v2 = ADDRESS(c234); goto L53;
 L31:;
-    v1 = 12u; v2 = ADDRESS(c228); goto L53;
+    v1 = 12u; v2 = ADDRESS(c235); goto L53;
 L32:;
-    v1 = 9u; v2 = ADDRESS(c229); goto L53;
+    v1 = 9u; v2 = ADDRESS(c236); goto L53;
 L33:;
-    v1 = 7u; v2 = ADDRESS(c230); goto L53;
+    v1 = 7u; v2 = ADDRESS(c237); goto L53;
 L34:;
-    v1 = 12u; v2 = ADDRESS(c231); goto L53;
-L35:;
-    v1 = 13u; v2 = ADDRESS(c232); goto L53;
-L36:;
-    v1 = 14u; v2 = ADDRESS(c233); goto L53;
-L37:;
-    v1 = 12u; v2 = ADDRESS(c234); goto L53;
-L38:;
-    v1 = 13u; v2 = ADDRESS(c235); goto L53;
-L39:;
-    v1 = 24u; v2 = ADDRESS(c236); goto L53;
-L40:;
-    v1 = 11u; v2 = ADDRESS(c237); goto L53;
-L41:;
     v1 = 12u; v2 = ADDRESS(c238); goto L53;
-L42:;
+L35:;
     v1 = 13u; v2 = ADDRESS(c239); goto L53;
-L43:;
-    v1 = 7u; v2 = ADDRESS(c240); goto L53;
-L44:;
+L36:;
+    v1 = 14u; v2 = ADDRESS(c240); goto L53;
+L37:;
     v1 = 12u; v2 = ADDRESS(c241); goto L53;
-L45:;
+L38:;
     v1 = 13u; v2 = ADDRESS(c242); goto L53;
-L46:;
-    v1 = 14u; v2 = ADDRESS(c243); goto L53;
-L47:;
-    v1 = 12u; v2 = ADDRESS(c244); goto L53;
-L48:;
-    v1 = 13u; v2 = ADDRESS(c245); goto L53;
-L49:;
-    v1 = 24u; v2 = ADDRESS(c246); goto L53;
-L50:;
-    v1 = 11u; v2 = ADDRESS(c247); goto L53;
-L51:;
+L39:;
+    v1 = 24u; v2 = ADDRESS(c243); goto L53;
+L40:;
+    v1 = 11u; v2 = ADDRESS(c244); goto L53;
+L41:;
+    v1 = 12u; v2 = ADDRESS(c245); goto L53;
+L42:;
+    v1 = 13u; v2 = ADDRESS(c246); goto L53;
+L43:;
+    v1 = 7u; v2 = ADDRESS(c247); goto L53;
+L44:;
     v1 = 12u; v2 = ADDRESS(c248); goto L53;
-L52:;
+L45:;
     v1 = 13u; v2 = ADDRESS(c249); goto L53;
+L46:;
+    v1 = 14u; v2 = ADDRESS(c250); goto L53;
+L47:;
+    v1 = 12u; v2 = ADDRESS(c251); goto L53;
+L48:;
+    v1 = 13u; v2 = ADDRESS(c252); goto L53;
+L49:;
+    v1 = 24u; v2 = ADDRESS(c253); goto L53;
+L50:;
+    v1 = 11u; v2 = ADDRESS(c254); goto L53;
+L51:;
+    v1 = 12u; v2 = ADDRESS(c255); goto L53;
+L52:;
+    v1 = 13u; v2 = ADDRESS(c256); goto L53;
 L53:;
     v11 = (struct s4){ 0 };
     v11.m0 = v2;
@@ -17216,12 +17540,12 @@ L54:;
     UNREACHABLE;
 }
 
-static struct s4 f73(u8 a0, u8 a1) {
+static struct s4 f74(u8 a0, u8 a1) {
     u64 v2, v4, v6, v7;
     address v3, v5, v8, v9;
     struct s4 v10, v11;
     switch (a0) {
-    case 0u: v2 = 13u; v3 = ADDRESS(c250); goto L34;
+    case 0u: v2 = 13u; v3 = ADDRESS(c257); goto L34;
     case 1u: goto L1;
     case 2u: goto L2;
     case 3u: goto L3;
@@ -17258,75 +17582,75 @@ static struct s4 f73(u8 a0, u8 a1) {
     default: goto L35;
     }
 L1:;
-    v2 = 12u; v3 = ADDRESS(c251); goto L34;
+    v2 = 12u; v3 = ADDRESS(c258); goto L34;
 L2:;
-    v2 = 15u; v3 = ADDRESS(c252); goto L34;
+    v2 = 15u; v3 = ADDRESS(c259); goto L34;
 L3:;
-    v2 = 11u; v3 = ADDRESS(c253); goto L34;
+    v2 = 11u; v3 = ADDRESS(c260); goto L34;
 L4:;
-    v2 = 9u; v3 = ADDRESS(c254); goto L34;
-L5:;
-    v2 = 23u; v3 = ADDRESS(c255); goto L34;
-L6:;
-    v2 = 26u; v3 = ADDRESS(c256); goto L34;
-L7:;
-    v2 = 36u; v3 = ADDRESS(c257); goto L34;
-L8:;
-    v2 = 9u; v3 = ADDRESS(c258); goto L34;
-L9:;
-    v2 = 12u; v3 = ADDRESS(c259); goto L34;
-L10:;
-    v2 = 16u; v3 = ADDRESS(c260); goto L34;
-L11:;
     v2 = 9u; v3 = ADDRESS(c261); goto L34;
+L5:;
+    v2 = 23u; v3 = ADDRESS(c262); goto L34;
+L6:;
+    v2 = 26u; v3 = ADDRESS(c263); goto L34;
+L7:;
+    v2 = 36u; v3 = ADDRESS(c264); goto L34;
+L8:;
+    v2 = 9u; v3 = ADDRESS(c265); goto L34;
+L9:;
+    v2 = 12u; v3 = ADDRESS(c266); goto L34;
+L10:;
+    v2 = 16u; v3 = ADDRESS(c267); goto L34;
+L11:;
+    v2 = 9u; v3 = ADDRESS(c268); goto L34;
 L12:;
-    v2 = 18u; v3 = ADDRESS(c262); goto L34;
+    v2 = 18u; v3 = ADDRESS(c269); goto L34;
 L13:;
-    v2 = 11u; v3 = ADDRESS(c263); goto L34;
+    v2 = 11u; v3 = ADDRESS(c270); goto L34;
 L14:;
-    v2 = 37u; v3 = ADDRESS(c264); goto L34;
+    v2 = 37u; v3 = ADDRESS(c271); goto L34;
 L15:;
-    v2 = 34u; v3 = ADDRESS(c265); goto L34;
+    v2 = 34u; v3 = ADDRESS(c272); goto L34;
 L16:;
-    v2 = 20u; v3 = ADDRESS(c266); goto L34;
+    v2 = 20u; v3 = ADDRESS(c273); goto L34;
 L17:;
-    v2 = 34u; v3 = ADDRESS(c267); goto L34;
+    v2 = 34u; v3 = ADDRESS(c274); goto L34;
 L18:;
-    v2 = 37u; v3 = ADDRESS(c268); goto L34;
+    v2 = 37u; v3 = ADDRESS(c275); goto L34;
 L19:;
-    v2 = 47u; v3 = ADDRESS(c269); goto L34;
+    v2 = 47u; v3 = ADDRESS(c276); goto L34;
 L20:;
-    v2 = 20u; v3 = ADDRESS(c270); goto L34;
+    v2 = 20u; v3 = ADDRESS(c277); goto L34;
 L21:;
-    v2 = 19u; v3 = ADDRESS(c271); goto L34;
+    v2 = 19u; v3 = ADDRESS(c278); goto L34;
 L22:;
-    v2 = 16u; v3 = ADDRESS(c272); goto L34;
+    v2 = 16u; v3 = ADDRESS(c279); goto L34;
 L23:;
-    v2 = 6u; v3 = ADDRESS(c273); goto L34;
+    v2 = 6u; v3 = ADDRESS(c280); goto L34;
 L24:;
-    v2 = 6u; v3 = ADDRESS(c274); goto L34;
+    v2 = 6u; v3 = ADDRESS(c281); goto L34;
 L25:;
-    v2 = 21u; v3 = ADDRESS(c275); goto L34;
+    v2 = 21u; v3 = ADDRESS(c282); goto L34;
 L26:;
-    v2 = 12u; v3 = ADDRESS(c276); goto L34;
+    v2 = 12u; v3 = ADDRESS(c283); goto L34;
 L27:;
-    v2 = 13u; v3 = ADDRESS(c277); goto L34;
+    v2 = 13u; v3 = ADDRESS(c284); goto L34;
 L28:;
-    v2 = 18u; v3 = ADDRESS(c278); goto L34;
+    v2 = 18u; v3 = ADDRESS(c285); goto L34;
 L29:;
-    v2 = 10u; v3 = ADDRESS(c279); goto L34;
+    v2 = 10u; v3 = ADDRESS(c286); goto L34;
 L30:;
-    v2 = 9u; v3 = ADDRESS(c280); goto L34;
+    v2 = 9u; v3 = ADDRESS(c287); goto L34;
 L31:;
-    v2 = 22u; v3 = ADDRESS(c281); goto L34;
+    v2 = 22u; v3 = ADDRESS(c288); goto L34;
 L32:;
-    v2 = 13u; v3 = ADDRESS(c282); goto L34;
+    v2 = 13u; v3 = ADDRESS(c289); goto L34;
 L33:;
     v4 = (u64)a1;
-    v5 = ADDRESS(c335) + v4 * 8u;
+    v5 = ADDRESS(c343) + v4 * 8u;
     v6 = load64(v5);
     v7 = (u64)a1;
-    v8 = ADDRESS(c336) + v7 * 8u;
+    v8 = ADDRESS(c344) + v7 * 8u;
     v9 = load_address(v8);
     v2 = v6; v3 = v9; goto L34;
 L34:;
@@ -17339,7 +17663,7 @@ L35:;
     UNREACHABLE;
 }
 
-static u64 f74(u16 a0, address a1) {
+static u64 f75(u16 a0, address a1) {
     u64 v2, v4, v12, v22;
     address v3, v6, v8, v13, v16, v19;
     u8 v5, v7, v9, v10, v11, v14, v15, v17, v18, v20, v21, v23;
@@ -17351,7 +17675,7 @@ static u64 f74(u16 a0, address a1) {
     switch (a0) {
     case 0u: goto L27;
     case 2u: goto L1;
-    case 8192u: v2 = 10u; v3 = ADDRESS(c148); goto L18;
+    case 8192u: v2 = 10u; v3 = ADDRESS(c155); goto L18;
     case 8193u: goto L3;
     case 8194u: goto L4;
     case 8195u: goto L5;
@@ -17373,39 +17697,39 @@ static u64 f74(u16 a0, address a1) {
     default: goto L19;
     }
 L1:;
-    v2 = 1u; v3 = ADDRESS(c147); goto L18;
-L2:;
-    v2 = 1u; v3 = ADDRESS(c157); goto L18;
-L3:;
-    v2 = 3u; v3 = ADDRESS(c149); goto L18;
-L4:;
-    v2 = 10u; v3 = ADDRESS(c150); goto L18;
-L5:;
-    v2 = 8u; v3 = ADDRESS(c151); goto L18;
-L6:;
-    v2 = 10u; v3 = ADDRESS(c152); goto L18;
-L7:;
-    v2 = 1u; v3 = ADDRESS(c153); goto L18;
-L8:;
     v2 = 1u; v3 = ADDRESS(c154); goto L18;
-L9:;
-    v2 = 1u; v3 = ADDRESS(c155); goto L18;
-L10:;
-    v2 = 1u; v3 = ADDRESS(c156); goto L18;
-L11:;
-    v2 = 1u; v3 = ADDRESS(c158); goto L18;
-L12:;
-    v2 = 1u; v3 = ADDRESS(c159); goto L18;
-L13:;
+L2:;
+    v2 = 1u; v3 = ADDRESS(c164); goto L18;
+L3:;
+    v2 = 3u; v3 = ADDRESS(c156); goto L18;
+L4:;
+    v2 = 10u; v3 = ADDRESS(c157); goto L18;
+L5:;
+    v2 = 8u; v3 = ADDRESS(c158); goto L18;
+L6:;
+    v2 = 10u; v3 = ADDRESS(c159); goto L18;
+L7:;
     v2 = 1u; v3 = ADDRESS(c160); goto L18;
-L14:;
+L8:;
     v2 = 1u; v3 = ADDRESS(c161); goto L18;
-L15:;
+L9:;
     v2 = 1u; v3 = ADDRESS(c162); goto L18;
-L16:;
+L10:;
     v2 = 1u; v3 = ADDRESS(c163); goto L18;
+L11:;
+    v2 = 1u; v3 = ADDRESS(c165); goto L18;
+L12:;
+    v2 = 1u; v3 = ADDRESS(c166); goto L18;
+L13:;
+    v2 = 1u; v3 = ADDRESS(c167); goto L18;
+L14:;
+    v2 = 1u; v3 = ADDRESS(c168); goto L18;
+L15:;
+    v2 = 1u; v3 = ADDRESS(c169); goto L18;
+L16:;
+    v2 = 1u; v3 = ADDRESS(c170); goto L18;
 L17:;
-    v2 = 4u; v3 = ADDRESS(c164); goto L18;
+    v2 = 4u; v3 = ADDRESS(c171); goto L18;
 L18:;
     v10 = v5 == 0u;
     v11 = v7 == 33u;
@@ -17450,7 +17774,7 @@ L27:;
     UNREACHABLE;
 }
 
-static void f75(u8 a0, u8 a1, address a2) {
+static void f76(u8 a0, u8 a1, address a2) {
     u64 v3, v4, v5, v6, v7, v14, v19, v21, v23, v27, v29, v30, v31, v36, v42, v44;
     u64 v46, v50, v52, v53, v56, v64, v66, v74;
     address v8, v11, v12, v13, v15, v18, v20, v26, v28, v33, v34, v38, v41, v43, v49, v51;
@@ -17460,7 +17784,7 @@ static void f75(u8 a0, u8 a1, address a2) {
     u64 block0[3];
     v8 = ADDRESS(block0);
     memory_set(v8, 0u, 24u);
-    f70(v8, a0, a1);
+    f71(v8, a0, a1);
     v9 = load8(v8);
     v10 = v9 == 1u;
     if (v10) { goto L1; }
@@ -17534,7 +17858,7 @@ L9:;
     v50 = (u64)((u64)v42 + (u64)2u);
     v51 = v49 + v42 * 1u;
     v52 = (u64)v51;
-    v53 = (u64)((u64)v52 - (u64)ADDRESS(c284));
+    v53 = (u64)((u64)v52 - (u64)ADDRESS(c291));
     v54 = v53 < 2u;
     if (v54) { goto L10; }
     else { goto L11; }
@@ -17590,7 +17914,7 @@ L18:;
     return;
 }
 
-static struct s4 f76(u16 a0, address a1, u64 a2) {
+static struct s4 f77(u16 a0, address a1, u64 a2) {
     u8 v3, v4, v9, v11, v12, v17, v22, v25, v27, v30, v31, v32, v33, v36, v38, v40;
     u8 v45, v48, v49, v51, v52;
     u64 v5, v6, v8, v10, v13, v14, v15, v16, v19, v21, v24, v26, v28, v29, v35, v37;
@@ -17629,11 +17953,11 @@ static struct s4 f76(u16 a0, address a1, u64 a2) {
     case 49154u: goto L42;
     case 49156u: goto L45;
     case 49157u: goto L48;
-    default: v7 = ADDRESS(c138); v8 = 0u; goto L53;
+    default: v7 = ADDRESS(c145); v8 = 0u; goto L53;
     }
 L1:;
     v9 = a2 == 0u;
-    if (v9) { v7 = ADDRESS(c138); v8 = 0u; goto L53; }
+    if (v9) { v7 = ADDRESS(c145); v8 = 0u; goto L53; }
     else { goto L22; }
 L2:;
     v3 = 2u; v4 = 0u; goto L21;
@@ -17674,10 +17998,10 @@ L19:;
 L20:;
     v3 = 11u; v4 = 4u; goto L21;
 L21:;
-    v10 = f66(v3, v4);
+    v10 = f67(v3, v4);
     v11 = a2 == v10;
     if (v11) { goto L23; }
-    else { v7 = ADDRESS(c138); v8 = 0u; goto L53; }
+    else { v7 = ADDRESS(c145); v8 = 0u; goto L53; }
 L22:;
     v12 = load8(a1);
     v13 = (u64)v12;
@@ -17685,12 +18009,12 @@ L22:;
     v15 = (u64)((u64)v14 & (u64)1u);
     v16 = (u64)((u64)v15 + (u64)v14);
     v17 = a2 == v16;
-    v18 = v17 ? ADDRESS(c147) : ADDRESS(c138);
+    v18 = v17 ? ADDRESS(c154) : ADDRESS(c145);
     v19 = (u64)v17;
     v7 = v18; v8 = v19; goto L53;
 L23:;
     switch (v3) {
-    case 1u: v7 = ADDRESS(c147); v8 = 1u; goto L53;
+    case 1u: v7 = ADDRESS(c154); v8 = 1u; goto L53;
     case 2u: goto L24;
     case 3u: goto L25;
     case 4u: goto L26;
@@ -17710,31 +18034,31 @@ L23:;
     default: goto L37;
     }
 L24:;
-    v7 = ADDRESS(c148); v8 = 10u; goto L53;
+    v7 = ADDRESS(c155); v8 = 10u; goto L53;
 L25:;
-    v7 = ADDRESS(c149); v8 = 3u; goto L53;
+    v7 = ADDRESS(c156); v8 = 3u; goto L53;
 L26:;
-    v7 = ADDRESS(c150); v8 = 10u; goto L53;
+    v7 = ADDRESS(c157); v8 = 10u; goto L53;
 L27:;
-    v7 = ADDRESS(c151); v8 = 8u; goto L53;
+    v7 = ADDRESS(c158); v8 = 8u; goto L53;
 L28:;
-    v7 = ADDRESS(c152); v8 = 10u; goto L53;
+    v7 = ADDRESS(c159); v8 = 10u; goto L53;
 L29:;
-    v7 = ADDRESS(c153); v8 = 1u; goto L53;
+    v7 = ADDRESS(c160); v8 = 1u; goto L53;
 L30:;
-    v7 = ADDRESS(c154); v8 = 1u; goto L53;
+    v7 = ADDRESS(c161); v8 = 1u; goto L53;
 L31:;
-    v7 = ADDRESS(c155); v8 = 1u; goto L53;
-L32:;
-    v7 = ADDRESS(c156); v8 = 1u; goto L53;
-L33:;
     v7 = ADDRESS(c162); v8 = 1u; goto L53;
-L34:;
+L32:;
     v7 = ADDRESS(c163); v8 = 1u; goto L53;
+L33:;
+    v7 = ADDRESS(c169); v8 = 1u; goto L53;
+L34:;
+    v7 = ADDRESS(c170); v8 = 1u; goto L53;
 L35:;
-    v7 = ADDRESS(c164); v8 = 4u; goto L53;
+    v7 = ADDRESS(c171); v8 = 4u; goto L53;
 L36:;
-    v7 = ADDRESS(c138); v8 = 0u; goto L53;
+    v7 = ADDRESS(c145); v8 = 0u; goto L53;
 L37:;
     UNREACHABLE;
 L38:;
@@ -17748,10 +18072,10 @@ L41:;
 L42:;
     v5 = 6u; v6 = 8u; goto L49;
 L43:;
-    v20 = f77(a1, a2);
+    v20 = f78(a1, a2);
     v21 = v20.m1;
     v22 = v21 == 0u;
-    if (v22) { v7 = ADDRESS(c138); v8 = 0u; goto L53; }
+    if (v22) { v7 = ADDRESS(c145); v8 = 0u; goto L53; }
     else { goto L44; }
 L44:;
     v23 = v20.m0;
@@ -17765,17 +18089,17 @@ L44:;
     v31 = (u8)(((u32)v27 & (u32)v30) & UINT64_C(1));
     v32 = a2 > 1u;
     v33 = (u8)(((u32)v32 & (u32)v31) & UINT64_C(1));
-    v34 = v33 ? ADDRESS(c293) : ADDRESS(c138);
+    v34 = v33 ? ADDRESS(c300) : ADDRESS(c145);
     v35 = v33 ? 10u : 0u;
     v7 = v34; v8 = v35; goto L53;
 L45:;
     v36 = a2 > 11u;
     if (v36) { goto L46; }
-    else { v7 = ADDRESS(c138); v8 = 0u; goto L53; }
+    else { v7 = ADDRESS(c145); v8 = 0u; goto L53; }
 L46:;
     v37 = (u64)((u64)a2 + (u64)UINT64_C(18446744073709551604));
     v38 = v37 == 0u;
-    if (v38) { v7 = ADDRESS(c138); v8 = 0u; goto L53; }
+    if (v38) { v7 = ADDRESS(c145); v8 = 0u; goto L53; }
     else { goto L47; }
 L47:;
     v39 = a1 + 12u * 1u;
@@ -17785,7 +18109,7 @@ L47:;
     v43 = (u64)((u64)v42 & (u64)1u);
     v44 = (u64)((u64)v43 + (u64)v42);
     v45 = v37 == v44;
-    v46 = v45 ? ADDRESS(c301) : ADDRESS(c138);
+    v46 = v45 ? ADDRESS(c308) : ADDRESS(c145);
     v47 = v45 ? 4u : 0u;
     v7 = v46; v8 = v47; goto L53;
 L48:;
@@ -17793,24 +18117,24 @@ L48:;
 L49:;
     v48 = a2 == v6;
     if (v48) { goto L51; }
-    else { v7 = ADDRESS(c138); v8 = 0u; goto L53; }
+    else { v7 = ADDRESS(c145); v8 = 0u; goto L53; }
 L50:;
     v49 = a2 > 7u;
     v50 = (u64)((u64)a2 & (u64)7u);
     v51 = v50 == 0u;
     v52 = (u8)(((u32)v49 & (u32)v51) & UINT64_C(1));
-    v53 = v52 ? ADDRESS(c297) : ADDRESS(c138);
+    v53 = v52 ? ADDRESS(c304) : ADDRESS(c145);
     v54 = (u64)v52;
     v7 = v53; v8 = v54; goto L53;
 L51:;
-    v55 = ADDRESS(c337) + v5 * 8u;
+    v55 = ADDRESS(c345) + v5 * 8u;
     v56 = load_address(v55);
-    v57 = ADDRESS(c338) + v5 * 8u;
+    v57 = ADDRESS(c346) + v5 * 8u;
     v58 = load64(v57);
     v7 = v56; v8 = v58; goto L53;
 L52:;
     v59 = (u64)v4;
-    v60 = ADDRESS(c342) + v59 * 8u;
+    v60 = ADDRESS(c350) + v59 * 8u;
     v61 = load_address(v60);
     v7 = v61; v8 = 1u; goto L53;
 L53:;
@@ -17821,7 +18145,7 @@ L53:;
     return v63;
 }
 
-static struct s4 f77(address a0, u64 a1) {
+static struct s4 f78(address a0, u64 a1) {
     u64 v2, v3, v5, v7, v11, v13, v16, v20, v21, v23, v24, v26, v29, v31, v34, v36;
     u64 v40, v41, v43, v44, v47, v50, v52, v58, v60, v63, v66, v68, v71, v73;
     address v4, v6, v9, v10, v15, v18, v25, v28, v30, v33, v35, v38, v45, v46, v49, v51;
@@ -17830,7 +18154,7 @@ static struct s4 f77(address a0, u64 a1) {
     u8 v64, v67, v69;
     struct s4 v74, v75;
     v8 = a1 < 3u;
-    if (v8) { v2 = 0u; v3 = 0u; v4 = ADDRESS(c138); goto L4; }
+    if (v8) { v2 = 0u; v3 = 0u; v4 = ADDRESS(c145); goto L4; }
     else { goto L1; }
 L1:;
     v9 = a0 + 2u * 1u;
@@ -17841,11 +18165,11 @@ L1:;
     v14 = v11 < v13;
     v15 = v10 + v13 * 1u;
     v16 = v11 > v13 ? (u64)((u64)v11 - (u64)v13) : 0u;
-    if (v14) { v2 = 0u; v3 = 0u; v4 = ADDRESS(c138); goto L4; }
+    if (v14) { v2 = 0u; v3 = 0u; v4 = ADDRESS(c145); goto L4; }
     else { goto L2; }
 L2:;
     v17 = v16 < 2u;
-    if (v17) { v2 = 0u; v3 = v16; v4 = ADDRESS(c138); goto L4; }
+    if (v17) { v2 = 0u; v3 = v16; v4 = ADDRESS(c145); goto L4; }
     else { goto L3; }
 L3:;
     v18 = v15 + 1u * 1u;
@@ -17862,12 +18186,12 @@ L4:;
     v27 = v26 < v2;
     v28 = v4 + v2 * 1u;
     v29 = v26 > v2 ? (u64)((u64)v26 - (u64)v2) : 0u;
-    v30 = v27 ? ADDRESS(c138) : v28;
+    v30 = v27 ? ADDRESS(c145) : v28;
     v31 = v27 ? 0u : v29;
     v32 = v31 < 2u;
     v33 = v30 + 2u * 1u;
     v34 = v31 > 2u ? (u64)((u64)v31 - (u64)2u) : 0u;
-    v35 = v32 ? ADDRESS(c138) : v33;
+    v35 = v32 ? ADDRESS(c145) : v33;
     v36 = v32 ? 0u : v34;
     v37 = v36 < 2u;
     if (v37) { v5 = 0u; goto L6; }
@@ -17883,16 +18207,16 @@ L5:;
     v5 = v44; goto L6;
 L6:;
     v45 = v35 + 2u * 1u;
-    v46 = v37 ? ADDRESS(c138) : v45;
+    v46 = v37 ? ADDRESS(c145) : v45;
     v47 = v36 > 2u ? (u64)((u64)v36 - (u64)2u) : 0u;
     v48 = v47 < v5;
     v49 = v46 + v5 * 1u;
     v50 = v47 > v5 ? (u64)((u64)v47 - (u64)v5) : 0u;
-    v51 = v48 ? ADDRESS(c138) : v49;
+    v51 = v48 ? ADDRESS(c145) : v49;
     v52 = v48 ? 0u : v50;
     v53 = v52 < 4u;
     v54 = v51 + 4u * 1u;
-    v55 = v53 ? ADDRESS(c138) : v54;
+    v55 = v53 ? ADDRESS(c145) : v54;
     v56 = v52 < 5u;
     if (v56) { v6 = v55; v7 = 0u; goto L10; }
     else { goto L7; }
@@ -17904,7 +18228,7 @@ L7:;
     v61 = v58 < v60;
     v62 = v57 + v60 * 1u;
     v63 = v58 > v60 ? (u64)((u64)v58 - (u64)v60) : 0u;
-    if (v61) { v6 = ADDRESS(c138); v7 = 0u; goto L10; }
+    if (v61) { v6 = ADDRESS(c145); v7 = 0u; goto L10; }
     else { goto L8; }
 L8:;
     v64 = v58 > v60;
@@ -17918,7 +18242,7 @@ L9:;
     v69 = v66 < v68;
     v70 = v65 + v68 * 1u;
     v71 = v66 > v68 ? (u64)((u64)v66 - (u64)v68) : 0u;
-    v72 = v69 ? ADDRESS(c138) : v70;
+    v72 = v69 ? ADDRESS(c145) : v70;
     v73 = v69 ? 0u : v71;
     v6 = v72; v7 = v73; goto L10;
 L10:;
@@ -17929,7 +18253,7 @@ L10:;
     return v75;
 }
 
-static void f78(address a0, u8 a1, u8 a2, address a3, u64 a4) {
+static void f79(address a0, u8 a1, u8 a2, address a3, u64 a4) {
     u64 v5, v7, v8, v10, v11, v13, v14, v16, v17, v18, v20, v22, v24, v25, v26, v28;
     u64 v30, v33, v35, v36, v40, v42, v43, v44, v45, v49, v50, v52, v53, v54, v55, v56;
     u64 v58, v59, v60, v62, v63, v64, v75, v76, v78, v79, v80, v81, v82, v85, v87, v88;
@@ -18114,7 +18438,7 @@ L15:;
 L16:;
     v131 = a4 < 2u;
     v132 = a3 + 2u * 1u;
-    v133 = v131 ? ADDRESS(c138) : v132;
+    v133 = v131 ? ADDRESS(c145) : v132;
     v134 = a4 > 2u ? (u64)((u64)a4 - (u64)2u) : 0u;
     v135 = (struct s4){ 0 };
     v135.m0 = v133;
@@ -18123,7 +18447,7 @@ L16:;
     v31 = v136; goto L60;
 L17:;
     v137 = a4 < 3u;
-    if (v137) { v34 = 9u; v35 = ADDRESS(c138); v36 = 0u; goto L63; }
+    if (v137) { v34 = 9u; v35 = ADDRESS(c145); v36 = 0u; goto L63; }
     else { goto L18; }
 L18:;
     v138 = a3 + 2u * 1u;
@@ -18134,11 +18458,11 @@ L18:;
     v143 = v140 < v142;
     v144 = v139 + v142 * 1u;
     v145 = v140 > v142 ? (u64)((u64)v140 - (u64)v142) : 0u;
-    if (v143) { v34 = 9u; v35 = ADDRESS(c138); v36 = 0u; goto L63; }
+    if (v143) { v34 = 9u; v35 = ADDRESS(c145); v36 = 0u; goto L63; }
     else { v23 = v144; v24 = v145; goto L54; }
 L19:;
     v146 = a4 < 3u;
-    if (v146) { v25 = 0u; v26 = 0u; v27 = ADDRESS(c138); goto L56; }
+    if (v146) { v25 = 0u; v26 = 0u; v27 = ADDRESS(c145); goto L56; }
     else { goto L20; }
 L20:;
     v147 = a3 + 2u * 1u;
@@ -18149,11 +18473,11 @@ L20:;
     v152 = v149 < v151;
     v153 = v148 + v151 * 1u;
     v154 = v149 > v151 ? (u64)((u64)v149 - (u64)v151) : 0u;
-    if (v152) { v25 = 0u; v26 = 0u; v27 = ADDRESS(c138); goto L56; }
+    if (v152) { v25 = 0u; v26 = 0u; v27 = ADDRESS(c145); goto L56; }
     else { goto L21; }
 L21:;
     v155 = v154 < 2u;
-    if (v155) { v25 = 0u; v26 = v154; v27 = ADDRESS(c138); goto L56; }
+    if (v155) { v25 = 0u; v26 = v154; v27 = ADDRESS(c145); goto L56; }
     else { goto L22; }
 L22:;
     v156 = v153 + 1u * 1u;
@@ -18167,7 +18491,7 @@ L22:;
     v25 = v162; v26 = v154; v27 = v163; goto L56;
 L23:;
     v164 = a4 < 3u;
-    if (v164) { v7 = 0u; v8 = 0u; v9 = ADDRESS(c138); goto L27; }
+    if (v164) { v7 = 0u; v8 = 0u; v9 = ADDRESS(c145); goto L27; }
     else { goto L24; }
 L24:;
     v165 = a3 + 2u * 1u;
@@ -18178,11 +18502,11 @@ L24:;
     v170 = v167 < v169;
     v171 = v166 + v169 * 1u;
     v172 = v167 > v169 ? (u64)((u64)v167 - (u64)v169) : 0u;
-    if (v170) { v7 = 0u; v8 = 0u; v9 = ADDRESS(c138); goto L27; }
+    if (v170) { v7 = 0u; v8 = 0u; v9 = ADDRESS(c145); goto L27; }
     else { goto L25; }
 L25:;
     v173 = v172 < 2u;
-    if (v173) { v7 = 0u; v8 = v172; v9 = ADDRESS(c138); goto L27; }
+    if (v173) { v7 = 0u; v8 = v172; v9 = ADDRESS(c145); goto L27; }
     else { goto L26; }
 L26:;
     v174 = v171 + 1u * 1u;
@@ -18199,16 +18523,16 @@ L27:;
     v183 = v182 < v7;
     v184 = v9 + v7 * 1u;
     v185 = v182 > v7 ? (u64)((u64)v182 - (u64)v7) : 0u;
-    v186 = v183 ? ADDRESS(c138) : v184;
+    v186 = v183 ? ADDRESS(c145) : v184;
     v187 = v183 ? 0u : v185;
     v188 = v187 < 2u;
     v189 = v186 + 2u * 1u;
     v190 = (u64)((u64)v187 + (u64)UINT64_C(18446744073709551614));
-    if (v188) { v34 = 9u; v35 = ADDRESS(c138); v36 = 0u; goto L63; }
+    if (v188) { v34 = 9u; v35 = ADDRESS(c145); v36 = 0u; goto L63; }
     else { v23 = v189; v24 = v190; goto L54; }
 L28:;
     v191 = a4 < 3u;
-    if (v191) { v10 = 0u; v11 = 0u; v12 = ADDRESS(c138); goto L32; }
+    if (v191) { v10 = 0u; v11 = 0u; v12 = ADDRESS(c145); goto L32; }
     else { goto L29; }
 L29:;
     v192 = a3 + 2u * 1u;
@@ -18219,11 +18543,11 @@ L29:;
     v197 = v194 < v196;
     v198 = v193 + v196 * 1u;
     v199 = v194 > v196 ? (u64)((u64)v194 - (u64)v196) : 0u;
-    if (v197) { v10 = 0u; v11 = 0u; v12 = ADDRESS(c138); goto L32; }
+    if (v197) { v10 = 0u; v11 = 0u; v12 = ADDRESS(c145); goto L32; }
     else { goto L30; }
 L30:;
     v200 = v199 < 2u;
-    if (v200) { v10 = 0u; v11 = v199; v12 = ADDRESS(c138); goto L32; }
+    if (v200) { v10 = 0u; v11 = v199; v12 = ADDRESS(c145); goto L32; }
     else { goto L31; }
 L31:;
     v201 = v198 + 1u * 1u;
@@ -18240,12 +18564,12 @@ L32:;
     v210 = v209 < v10;
     v211 = v12 + v10 * 1u;
     v212 = v209 > v10 ? (u64)((u64)v209 - (u64)v10) : 0u;
-    v213 = v210 ? ADDRESS(c138) : v211;
+    v213 = v210 ? ADDRESS(c145) : v211;
     v214 = v210 ? 0u : v212;
     v215 = v214 < 2u;
     v216 = v213 + 2u * 1u;
     v217 = v214 > 2u ? (u64)((u64)v214 - (u64)2u) : 0u;
-    v218 = v215 ? ADDRESS(c138) : v216;
+    v218 = v215 ? ADDRESS(c145) : v216;
     v219 = v215 ? 0u : v217;
     v220 = v219 < 2u;
     if (v220) { v28 = 0u; goto L58; }
@@ -18261,7 +18585,7 @@ L33:;
     v28 = v227; goto L58;
 L34:;
     v228 = a4 < 3u;
-    if (v228) { v13 = 0u; v14 = 0u; v15 = ADDRESS(c138); goto L38; }
+    if (v228) { v13 = 0u; v14 = 0u; v15 = ADDRESS(c145); goto L38; }
     else { goto L35; }
 L35:;
     v229 = a3 + 2u * 1u;
@@ -18272,11 +18596,11 @@ L35:;
     v234 = v231 < v233;
     v235 = v230 + v233 * 1u;
     v236 = v231 > v233 ? (u64)((u64)v231 - (u64)v233) : 0u;
-    if (v234) { v13 = 0u; v14 = 0u; v15 = ADDRESS(c138); goto L38; }
+    if (v234) { v13 = 0u; v14 = 0u; v15 = ADDRESS(c145); goto L38; }
     else { goto L36; }
 L36:;
     v237 = v236 < 2u;
-    if (v237) { v13 = 0u; v14 = v236; v15 = ADDRESS(c138); goto L38; }
+    if (v237) { v13 = 0u; v14 = v236; v15 = ADDRESS(c145); goto L38; }
     else { goto L37; }
 L37:;
     v238 = v235 + 1u * 1u;
@@ -18293,12 +18617,12 @@ L38:;
     v247 = v246 < v13;
     v248 = v15 + v13 * 1u;
     v249 = v246 > v13 ? (u64)((u64)v246 - (u64)v13) : 0u;
-    v250 = v247 ? ADDRESS(c138) : v248;
+    v250 = v247 ? ADDRESS(c145) : v248;
     v251 = v247 ? 0u : v249;
     v252 = v251 < 2u;
     v253 = v250 + 2u * 1u;
     v254 = v251 > 2u ? (u64)((u64)v251 - (u64)2u) : 0u;
-    v255 = v252 ? ADDRESS(c138) : v253;
+    v255 = v252 ? ADDRESS(c145) : v253;
     v256 = v252 ? 0u : v254;
     v257 = v256 < 2u;
     if (v257) { v16 = 0u; goto L40; }
@@ -18314,17 +18638,17 @@ L39:;
     v16 = v264; goto L40;
 L40:;
     v265 = v255 + 2u * 1u;
-    v266 = v257 ? ADDRESS(c138) : v265;
+    v266 = v257 ? ADDRESS(c145) : v265;
     v267 = v256 > 2u ? (u64)((u64)v256 - (u64)2u) : 0u;
     v268 = v267 < v16;
     v269 = v266 + v16 * 1u;
     v270 = v267 > v16 ? (u64)((u64)v267 - (u64)v16) : 0u;
-    v271 = v268 ? ADDRESS(c138) : v269;
+    v271 = v268 ? ADDRESS(c145) : v269;
     v272 = v268 ? 0u : v270;
     v273 = v272 < 4u;
     v274 = v271 + 4u * 1u;
     v275 = v272 > 4u ? (u64)((u64)v272 - (u64)4u) : 0u;
-    v276 = v273 ? ADDRESS(c138) : v274;
+    v276 = v273 ? ADDRESS(c145) : v274;
     v277 = v273 ? 0u : v275;
     v278 = (struct s4){ 0 };
     v278.m0 = v276;
@@ -18333,7 +18657,7 @@ L40:;
     v31 = v279; goto L60;
 L41:;
     v280 = a4 < 3u;
-    if (v280) { v17 = 0u; v18 = 0u; v19 = ADDRESS(c138); goto L45; }
+    if (v280) { v17 = 0u; v18 = 0u; v19 = ADDRESS(c145); goto L45; }
     else { goto L42; }
 L42:;
     v281 = a3 + 2u * 1u;
@@ -18344,11 +18668,11 @@ L42:;
     v286 = v283 < v285;
     v287 = v282 + v285 * 1u;
     v288 = v283 > v285 ? (u64)((u64)v283 - (u64)v285) : 0u;
-    if (v286) { v17 = 0u; v18 = 0u; v19 = ADDRESS(c138); goto L45; }
+    if (v286) { v17 = 0u; v18 = 0u; v19 = ADDRESS(c145); goto L45; }
     else { goto L43; }
 L43:;
     v289 = v288 < 2u;
-    if (v289) { v17 = 0u; v18 = v288; v19 = ADDRESS(c138); goto L45; }
+    if (v289) { v17 = 0u; v18 = v288; v19 = ADDRESS(c145); goto L45; }
     else { goto L44; }
 L44:;
     v290 = v287 + 1u * 1u;
@@ -18365,12 +18689,12 @@ L45:;
     v299 = v298 < v17;
     v300 = v19 + v17 * 1u;
     v301 = v298 > v17 ? (u64)((u64)v298 - (u64)v17) : 0u;
-    v302 = v299 ? ADDRESS(c138) : v300;
+    v302 = v299 ? ADDRESS(c145) : v300;
     v303 = v299 ? 0u : v301;
     v304 = v303 < 2u;
     v305 = v302 + 2u * 1u;
     v306 = v303 > 2u ? (u64)((u64)v303 - (u64)2u) : 0u;
-    v307 = v304 ? ADDRESS(c138) : v305;
+    v307 = v304 ? ADDRESS(c145) : v305;
     v308 = v304 ? 0u : v306;
     v309 = v308 < 2u;
     if (v309) { v20 = 0u; goto L47; }
@@ -18386,16 +18710,16 @@ L46:;
     v20 = v316; goto L47;
 L47:;
     v317 = v307 + 2u * 1u;
-    v318 = v309 ? ADDRESS(c138) : v317;
+    v318 = v309 ? ADDRESS(c145) : v317;
     v319 = v308 > 2u ? (u64)((u64)v308 - (u64)2u) : 0u;
     v320 = v319 < v20;
     v321 = v318 + v20 * 1u;
     v322 = v319 > v20 ? (u64)((u64)v319 - (u64)v20) : 0u;
-    v323 = v320 ? ADDRESS(c138) : v321;
+    v323 = v320 ? ADDRESS(c145) : v321;
     v324 = v320 ? 0u : v322;
     v325 = v324 < 4u;
     v326 = v323 + 4u * 1u;
-    v327 = v325 ? ADDRESS(c138) : v326;
+    v327 = v325 ? ADDRESS(c145) : v326;
     v328 = v324 < 5u;
     if (v328) { v21 = v327; v22 = 0u; goto L49; }
     else { goto L48; }
@@ -18407,7 +18731,7 @@ L48:;
     v333 = v330 < v332;
     v334 = v329 + v332 * 1u;
     v335 = v330 > v332 ? (u64)((u64)v330 - (u64)v332) : 0u;
-    v336 = v333 ? ADDRESS(c138) : v334;
+    v336 = v333 ? ADDRESS(c145) : v334;
     v337 = v333 ? 0u : v335;
     v21 = v336; v22 = v337; goto L49;
 L49:;
@@ -18417,10 +18741,10 @@ L49:;
     v339.m1 = v22;
     v31 = v339; goto L60;
 L50:;
-    v340 = f77(a3, a4);
+    v340 = f78(a3, a4);
     v31 = v340; goto L60;
 L51:;
-    v341 = f77(a3, a4);
+    v341 = f78(a3, a4);
     v342 = v341.m0;
     v343 = v341.m1;
     v344 = v343 == 0u;
@@ -18434,7 +18758,7 @@ L52:;
     v349 = v346 < v348;
     v350 = v345 + v348 * 1u;
     v351 = v346 > v348 ? (u64)((u64)v346 - (u64)v348) : 0u;
-    v352 = v349 ? ADDRESS(c138) : v350;
+    v352 = v349 ? ADDRESS(c145) : v350;
     v353 = v351 < 6u ? v351 : 6u;
     v354 = v349 ? 0u : v353;
     v29 = v352; v30 = v354; goto L59;
@@ -18442,7 +18766,7 @@ L53:;
     UNREACHABLE;
 L54:;
     v355 = v24 < 2u;
-    if (v355) { v34 = 9u; v35 = ADDRESS(c138); v36 = 0u; goto L63; }
+    if (v355) { v34 = 9u; v35 = ADDRESS(c145); v36 = 0u; goto L63; }
     else { goto L55; }
 L55:;
     v356 = v23 + 1u * 1u;
@@ -18477,7 +18801,7 @@ L57:;
     v34 = 0u; v35 = v379; v36 = 0u; goto L63;
 L58:;
     v380 = v218 + 2u * 1u;
-    v381 = v220 ? ADDRESS(c138) : v380;
+    v381 = v220 ? ADDRESS(c145) : v380;
     v382 = v219 > 2u ? (u64)((u64)v219 - (u64)2u) : 0u;
     v383 = v382 < v28;
     v384 = v381 + v28 * 1u;
@@ -18485,7 +18809,7 @@ L58:;
     v386 = v385 < 3u ? v385 : 3u;
     v387 = v383 ? 0u : v386;
     v388 = (u64)v384;
-    v389 = v383 ? ADDRESS(c138) : v388;
+    v389 = v383 ? ADDRESS(c145) : v388;
     v34 = 9u; v35 = v389; v36 = v387; goto L63;
 L59:;
     v390 = (u64)v29;
@@ -18560,7 +18884,7 @@ L66:;
     UNREACHABLE;
 }
 
-static void f79(u64 a0, address a1) {
+static void f80(u64 a0, address a1) {
     u64 v2, v3, v4, v5, v6, v7, v8, v11, v12, v13, v14, v20, v28, v30, v42, v44;
     u64 v45, v57, v68, v70, v72, v80, v85, v87, v89, v93;
     address v9, v21, v23, v25, v26, v27, v31, v33, v35, v36, v43, v46, v48, v50, v51, v58;
@@ -18585,7 +18909,7 @@ L1:;
     v18 = (u16)((u32)v15 - (u32)v17);
     v19 = (u16)((u32)v18 << (1u & 15u));
     v20 = (u64)v19;
-    v21 = ADDRESS(c304) + v20 * 1u;
+    v21 = ADDRESS(c311) + v20 * 1u;
     v22 = load8(v21);
     v23 = v21 + 1u * 1u;
     v24 = load8(v23);
@@ -18597,7 +18921,7 @@ L1:;
     v28 = (u64)((u64)v3 + (u64)UINT64_C(18446744073709551612));
     v29 = (u16)((u32)v16 << (1u & 15u));
     v30 = (u64)v29;
-    v31 = ADDRESS(c304) + v30 * 1u;
+    v31 = ADDRESS(c311) + v30 * 1u;
     v32 = load8(v31);
     v33 = v31 + 1u * 1u;
     v34 = load8(v33);
@@ -18626,7 +18950,7 @@ L4:;
 L5:;
     v44 = (u64)((u64)v4 + (u64)UINT64_C(18446744073709551614));
     v45 = (u64)((u64)v5 << (1u & 63u));
-    v46 = ADDRESS(c304) + v45 * 1u;
+    v46 = ADDRESS(c311) + v45 * 1u;
     v47 = load8(v46);
     v48 = v46 + 1u * 1u;
     v49 = load8(v48);
@@ -18642,7 +18966,7 @@ L6:;
     v55 = (u16)((u32)v52 - (u32)v54);
     v56 = (u16)((u32)v55 << (1u & 15u));
     v57 = (u64)v56;
-    v58 = ADDRESS(c304) + v57 * 1u;
+    v58 = ADDRESS(c311) + v57 * 1u;
     v59 = load8(v58);
     v60 = v58 + 1u * 1u;
     v61 = load8(v60);
@@ -18665,7 +18989,7 @@ L8:;
     v70 = (u64)((u64)v4 + (u64)UINT64_C(18446744073709551612));
     v71 = (u16)((u32)v53 << (1u & 15u));
     v72 = (u64)v71;
-    v73 = ADDRESS(c304) + v72 * 1u;
+    v73 = ADDRESS(c311) + v72 * 1u;
     v74 = load8(v73);
     v75 = v73 + 1u * 1u;
     v76 = load8(v75);
@@ -18707,7 +19031,7 @@ L13:;
     return;
 }
 
-static struct s3 f80(address a0, u64 a1) {
+static struct s3 f81(address a0, u64 a1) {
     u64 v2, v4, v5, v8, v12, v27;
     address v3, v9, v14, v16;
     u8 v6, v11, v13, v15, v17, v18, v19, v20, v21, v22, v23, v24, v25, v26, v28;
@@ -18716,10 +19040,10 @@ static struct s3 f80(address a0, u64 a1) {
     v2 = 0u; goto L1;
 L1:;
     v8 = (u64)((u64)v2 << (1u & 63u));
-    v9 = ADDRESS(c309) + v8 * 1u;
+    v9 = ADDRESS(c316) + v8 * 1u;
     v10 = load16(v9);
     switch (v10) {
-    case 0u: v3 = ADDRESS(c110); v4 = 19u; goto L22;
+    case 0u: v3 = ADDRESS(c117); v4 = 19u; goto L22;
     case 2u: goto L2;
     case 8192u: goto L3;
     case 8193u: goto L4;
@@ -18743,45 +19067,45 @@ L1:;
     default: goto L25;
     }
 L2:;
-    v3 = ADDRESS(c111); v4 = 16u; goto L22;
+    v3 = ADDRESS(c118); v4 = 16u; goto L22;
 L3:;
-    v3 = ADDRESS(c112); v4 = 16u; goto L22;
+    v3 = ADDRESS(c119); v4 = 16u; goto L22;
 L4:;
-    v3 = ADDRESS(c113); v4 = 16u; goto L22;
+    v3 = ADDRESS(c120); v4 = 16u; goto L22;
 L5:;
-    v3 = ADDRESS(c114); v4 = 15u; goto L22;
+    v3 = ADDRESS(c121); v4 = 15u; goto L22;
 L6:;
-    v3 = ADDRESS(c115); v4 = 24u; goto L22;
+    v3 = ADDRESS(c122); v4 = 24u; goto L22;
 L7:;
-    v3 = ADDRESS(c116); v4 = 13u; goto L22;
+    v3 = ADDRESS(c123); v4 = 13u; goto L22;
 L8:;
-    v3 = ADDRESS(c117); v4 = 9u; goto L22;
+    v3 = ADDRESS(c124); v4 = 9u; goto L22;
 L9:;
-    v3 = ADDRESS(c118); v4 = 9u; goto L22;
+    v3 = ADDRESS(c125); v4 = 9u; goto L22;
 L10:;
-    v3 = ADDRESS(c119); v4 = 6u; goto L22;
+    v3 = ADDRESS(c126); v4 = 6u; goto L22;
 L11:;
-    v3 = ADDRESS(c120); v4 = 10u; goto L22;
+    v3 = ADDRESS(c127); v4 = 10u; goto L22;
 L12:;
-    v3 = ADDRESS(c126); v4 = 21u; goto L22;
+    v3 = ADDRESS(c133); v4 = 21u; goto L22;
 L13:;
-    v3 = ADDRESS(c128); v4 = 24u; goto L22;
+    v3 = ADDRESS(c135); v4 = 24u; goto L22;
 L14:;
-    v3 = ADDRESS(c130); v4 = 17u; goto L22;
+    v3 = ADDRESS(c137); v4 = 17u; goto L22;
 L15:;
-    v3 = ADDRESS(c121); v4 = 14u; goto L22;
+    v3 = ADDRESS(c128); v4 = 14u; goto L22;
 L16:;
-    v3 = ADDRESS(c122); v4 = 11u; goto L22;
+    v3 = ADDRESS(c129); v4 = 11u; goto L22;
 L17:;
-    v3 = ADDRESS(c123); v4 = 12u; goto L22;
+    v3 = ADDRESS(c130); v4 = 12u; goto L22;
 L18:;
-    v3 = ADDRESS(c124); v4 = 14u; goto L22;
+    v3 = ADDRESS(c131); v4 = 14u; goto L22;
 L19:;
-    v3 = ADDRESS(c125); v4 = 14u; goto L22;
+    v3 = ADDRESS(c132); v4 = 14u; goto L22;
 L20:;
-    v3 = ADDRESS(c132); v4 = 15u; goto L22;
+    v3 = ADDRESS(c139); v4 = 15u; goto L22;
 L21:;
-    v3 = ADDRESS(c134); v4 = 27u; goto L22;
+    v3 = ADDRESS(c141); v4 = 27u; goto L22;
 L22:;
     v11 = v4 == a1;
     if (v11) { v5 = 0u; goto L24; }
@@ -18820,7 +19144,7 @@ L26:;
     return v30;
 }
 
-static struct s3 f81(address a0, u64 a1) {
+static struct s3 f82(address a0, u64 a1) {
     u8 v2, v3, v4, v5, v7, v8, v9, v11, v12, v13, v14, v15, v16, v17, v18, v19;
     u8 v20, v21, v22, v23, v24, v25, v26, v27, v29, v31, v32, v33, v34, v35, v36, v37;
     u8 v38, v39, v40, v41, v42, v43, v44, v45, v46, v47;
@@ -18943,7 +19267,7 @@ L22:;
     return v53;
 }
 
-static void f82(address a0, address a1, u64 a2) {
+static void f83(address a0, address a1, u64 a2) {
     u8 v3, v6, v7, v8, v11, v12, v13, v18, v20, v21, v23, v24, v26, v29, v31, v32;
     u8 v33, v34, v35, v36, v37, v38, v39, v40, v41, v42, v43, v44, v45, v46, v47, v50;
     u8 v60, v62, v63, v64, v65, v66, v67, v68, v69, v70, v71, v72, v73, v74, v75, v76;
@@ -19133,7 +19457,7 @@ L34:;
     v3 = v13; v4 = v14; goto L5;
 }
 
-static u32 f83(address a0, u64 a1, address a2, u64 a3) {
+static u32 f84(address a0, u64 a1, address a2, u64 a3) {
     u32 v4, v6, v7, v9, v13, v14, v15, v17, v18, v19, v20, v22, v23, v24, v25, v27;
     u32 v28, v29, v30, v32, v33, v34, v35, v37, v38, v39, v40, v42, v43, v44, v45, v47;
     u32 v48, v49, v50, v52, v53, v54, v60, v61, v62, v64, v65, v66, v67, v69, v70, v71;
@@ -19253,7 +19577,7 @@ L4:;
     return v104;
 }
 
-static void f84(address a0, address a1, u64 a2) {
+static void f85(address a0, address a1, u64 a2) {
     u32 v3, v31, v32, v33, v34, v35, v36, v37, v38, v39, v40, v41, v73, v74, v75, v77;
     u32 v78, v79, v80, v82, v83, v84, v85, v87, v88, v89, v90, v92, v93, v94, v95, v97;
     u32 v98, v99, v100, v102, v103, v104, v105, v107, v108, v109, v110, v112, v113, v114, v117, v118;
@@ -19287,7 +19611,7 @@ L1:;
     if (v19) { goto L4; }
     else { goto L2; }
 L2:;
-    v20 = f21(a1, 4u, ADDRESS(c311), 4u);
+    v20 = f27(a1, 4u, ADDRESS(c318), 4u);
     if (v20) { goto L5; }
     else { goto L4; }
 L3:;
@@ -19344,7 +19668,7 @@ L6:;
     if (v60) { goto L11; }
     else { goto L7; }
 L7:;
-    v61 = f21(v46, 4u, ADDRESS(c310), 4u);
+    v61 = f27(v46, 4u, ADDRESS(c317), 4u);
     if (v61) { goto L8; }
     else { goto L11; }
 L8:;
@@ -19480,7 +19804,1179 @@ L12:;
     goto L3;
 }
 
-static u8 f85(address a0, u64 a1, address a2) {
+static u8 f86(address a0, address a1) {
+    u64 v2, v3, v15, v18, v22, v25, v35, v36, v43, v50, v52, v55, v71, v76, v79, v87;
+    u64 v90, v98, v104, v106, v114, v117;
+    u8 v4, v5, v6, v8, v11, v12, v13, v19, v20, v26, v28, v29, v37, v38, v40, v41;
+    u8 v42, v48, v49, v54, v56, v57, v58, v59, v60, v62, v63, v64, v65, v66, v67, v68;
+    u8 v69, v70, v72, v73, v74, v80, v82, v83, v84, v85, v91, v93, v94, v99, v100, v101;
+    u8 v103, v105, v107, v108, v110, v111, v112, v118, v120, v121, v122;
+    address v7, v9, v14, v16, v21, v23, v27, v30, v31, v32, v33, v34, v39, v44, v45, v46;
+    address v47, v51, v53, v61, v75, v77, v81, v86, v88, v92, v95, v96, v97, v102, v109, v113;
+    address v115, v119;
+    u16 v10, v17, v24, v78, v89, v116;
+    v6 = load8(a1);
+    v7 = a1 + 16u * 1u;
+    v8 = load8(v7);
+    v9 = a1 + 18u * 1u;
+    v10 = load16(v9);
+    v11 = load8(a0);
+    switch (v6) {
+    case 0u: goto L1;
+    case 1u: goto L2;
+    case 2u: goto L4;
+    case 3u: goto L18;
+    case 4u: goto L21;
+    case 5u: goto L36;
+    default: goto L40;
+    }
+L1:;
+    v12 = v11 != 1u;
+    v5 = v12; goto L39;
+L2:;
+    v13 = v11 == 1u;
+    if (v13) { goto L3; }
+    else { v5 = 0u; goto L39; }
+L3:;
+    v14 = a0 + 40u * 1u;
+    v15 = load64(v14);
+    v16 = a0 + 26u * 1u;
+    v17 = load16(v16);
+    v18 = (u64)v17;
+    v19 = v15 < v18;
+    v5 = v19; goto L39;
+L4:;
+    v20 = v11 == 1u;
+    if (v20) { goto L5; }
+    else { v5 = 0u; goto L39; }
+L5:;
+    v21 = a0 + 40u * 1u;
+    v22 = load64(v21);
+    v23 = a0 + 26u * 1u;
+    v24 = load16(v23);
+    v25 = (u64)v24;
+    v26 = v22 == v25;
+    if (v26) { goto L6; }
+    else { v5 = 0u; goto L39; }
+L6:;
+    v27 = a0 + 80u * 1u;
+    v28 = load8(v27);
+    v29 = (u8)((v28) & UINT64_C(1));
+    if (v29) { v5 = 0u; goto L39; }
+    else { goto L7; }
+L7:;
+    v30 = a0 + 32u * 1u;
+    v31 = load_address(v30);
+    v32 = a0 + 56u * 1u;
+    v33 = load_address(v32);
+    v34 = a0 + 64u * 1u;
+    v35 = load64(v34);
+    v36 = (u64)v10;
+    v37 = v35 > v36;
+    if (v37) { goto L8; }
+    else { v5 = 0u; goto L39; }
+L8:;
+    v38 = v8 == 0u;
+    v39 = v33 + v36 * 1u;
+    v40 = load8(v39);
+    if (v38) { goto L9; }
+    else { goto L17; }
+L9:;
+    v41 = v40 == 0u;
+    if (v41) { goto L10; }
+    else { v5 = 0u; goto L39; }
+L10:;
+    v42 = v10 == 0u;
+    if (v42) { v5 = 1u; goto L39; }
+    else { goto L11; }
+L11:;
+    v43 = (u64)((u64)v36 << (4u & 63u));
+    v44 = v31 + v43 * 1u;
+    v45 = v44 + 9u * 1u;
+    v46 = v44 + 8u * 1u;
+    v2 = 0u; goto L12;
+L12:;
+    v47 = v33 + v2 * 1u;
+    v48 = load8(v47);
+    v49 = v48 == 2u;
+    if (v49) { goto L16; }
+    else { goto L13; }
+L13:;
+    v50 = (u64)((u64)v2 << (4u & 63u));
+    v51 = v31 + v50 * 1u;
+    v52 = load64(v51);
+    v53 = v51 + 9u * 1u;
+    v54 = load8(v53);
+    v55 = load64(v44);
+    v56 = load8(v45);
+    v57 = v52 == v55;
+    v58 = v56 == 6u;
+    v59 = v57 ? 1u : v58;
+    if (v59) { v5 = 0u; goto L39; }
+    else { goto L14; }
+L14:;
+    v60 = load8(v46);
+    v61 = v51 + 8u * 1u;
+    v62 = load8(v61);
+    v63 = v62 != v60;
+    v64 = v54 == 3u;
+    v65 = v63 ? 1u : v64;
+    v66 = v56 == 3u;
+    v67 = v65 ? 1u : v66;
+    if (v67) { goto L16; }
+    else { goto L15; }
+L15:;
+    v68 = v54 < v56;
+    v69 = v56 == 5u;
+    v70 = (u8)(((u32)v68 | (u32)v69) & UINT64_C(1));
+    if (v70) { v5 = 0u; goto L39; }
+    else { goto L16; }
+L16:;
+    v71 = (u64)((u64)v2 + (u64)1u);
+    v72 = v71 == v36;
+    if (v72) { v5 = 1u; goto L39; }
+    else { v2 = v71; goto L12; }
+L17:;
+    v73 = v40 == 1u;
+    v5 = v73; goto L39;
+L18:;
+    v74 = v11 == 1u;
+    if (v74) { goto L19; }
+    else { v5 = 0u; goto L39; }
+L19:;
+    v75 = a0 + 40u * 1u;
+    v76 = load64(v75);
+    v77 = a0 + 26u * 1u;
+    v78 = load16(v77);
+    v79 = (u64)v78;
+    v80 = v76 == v79;
+    if (v80) { goto L20; }
+    else { v5 = 0u; goto L39; }
+L20:;
+    v81 = a0 + 80u * 1u;
+    v82 = load8(v81);
+    v83 = (u8)((v82) & UINT64_C(1));
+    v84 = (u8)(((u32)v83 ^ (u32)1u) & UINT64_C(1));
+    v5 = v84; goto L39;
+L21:;
+    v85 = v11 == 1u;
+    if (v85) { goto L22; }
+    else { v5 = 0u; goto L39; }
+L22:;
+    v86 = a0 + 40u * 1u;
+    v87 = load64(v86);
+    v88 = a0 + 26u * 1u;
+    v89 = load16(v88);
+    v90 = (u64)v89;
+    v91 = v87 == v90;
+    if (v91) { goto L23; }
+    else { v5 = 0u; goto L39; }
+L23:;
+    v92 = a0 + 80u * 1u;
+    v93 = load8(v92);
+    v94 = (u8)((v93) & UINT64_C(1));
+    if (v94) { v5 = 0u; goto L39; }
+    else { goto L24; }
+L24:;
+    v95 = a0 + 56u * 1u;
+    v96 = load_address(v95);
+    v97 = a0 + 64u * 1u;
+    v98 = load64(v97);
+    v99 = v98 == 0u;
+    if (v99) { goto L31; }
+    else { goto L25; }
+L25:;
+    v100 = v8 == 0u;
+    v101 = v8 == 4u;
+    v3 = 0u; goto L26;
+L26:;
+    v102 = v96 + v3 * 1u;
+    v103 = load8(v102);
+    switch (v103) {
+    case 1u: v5 = 0u; goto L39;
+    case 2u: goto L30;
+    case 5u: goto L27;
+    case 0u: goto L28;
+    case 3u: goto L28;
+    case 4u: goto L28;
+    default: goto L29;
+    }
+L27:;
+    if (v101) { goto L30; }
+    else { v5 = 0u; goto L39; }
+L28:;
+    if (v100) { v5 = 0u; goto L39; }
+    else { goto L30; }
+L29:;
+    UNREACHABLE;
+L30:;
+    v104 = (u64)((u64)v3 + (u64)1u);
+    v105 = v104 == v98;
+    if (v105) { goto L31; }
+    else { v3 = v104; goto L26; }
+L31:;
+    v106 = (u64)v10;
+    switch (v8) {
+    case 1u: goto L32;
+    case 2u: goto L33;
+    case 0u: v5 = 1u; goto L39;
+    case 3u: v5 = 1u; goto L39;
+    case 4u: v5 = 1u; goto L39;
+    case 5u: v5 = 1u; goto L39;
+    case 6u: v5 = 1u; goto L39;
+    case 7u: v5 = 1u; goto L39;
+    default: goto L35;
+    }
+L32:;
+    v107 = v98 > v106;
+    if (v107) { v4 = 3u; goto L34; }
+    else { v5 = 0u; goto L39; }
+L33:;
+    v108 = v98 > v106;
+    if (v108) { v4 = 4u; goto L34; }
+    else { v5 = 0u; goto L39; }
+L34:;
+    v109 = v96 + v106 * 1u;
+    v110 = load8(v109);
+    v111 = v110 == v4;
+    v5 = v111; goto L39;
+L35:;
+    UNREACHABLE;
+L36:;
+    v112 = v11 == 1u;
+    if (v112) { goto L37; }
+    else { v5 = 0u; goto L39; }
+L37:;
+    v113 = a0 + 40u * 1u;
+    v114 = load64(v113);
+    v115 = a0 + 26u * 1u;
+    v116 = load16(v115);
+    v117 = (u64)v116;
+    v118 = v114 == v117;
+    if (v118) { goto L38; }
+    else { v5 = 0u; goto L39; }
+L38:;
+    v119 = a0 + 80u * 1u;
+    v120 = load8(v119);
+    v121 = (u8)((v120) & UINT64_C(1));
+    v122 = (u8)(((u32)v121 ^ (u32)1u) & UINT64_C(1));
+    v5 = v122; goto L39;
+L39:;
+    return v5;
+L40:;
+    UNREACHABLE;
+}
+
+static u8 f87(address a0, address a1) {
+    u16 v2, v3, v4, v19, v21, v23;
+    u8 v5, v9, v10, v11, v15, v17, v33, v34, v36, v37, v38, v44, v45, v61, v62, v65;
+    u8 v76, v78, v79, v81, v82, v83, v89, v90, v95, v97, v98, v99, v100, v101, v103, v104;
+    u8 v105, v106, v107, v108, v109, v110, v111, v113, v114, v115;
+    u64 v6, v7, v8, v13, v25, v41, v43, v46, v48, v55, v58, v60, v63, v64, v66, v69;
+    u64 v75, v77, v84, v91, v93, v96, v112;
+    address v12, v14, v16, v18, v20, v22, v24, v26, v27, v28, v29, v30, v31, v32, v35, v39;
+    address v40, v42, v47, v49, v50, v51, v52, v53, v54, v56, v57, v59, v67, v68, v70, v71;
+    address v72, v73, v74, v80, v85, v86, v87, v88, v92, v94, v102, v116;
+    v11 = load8(a1);
+    v12 = a1 + 8u * 1u;
+    v13 = load64(v12);
+    v14 = a1 + 16u * 1u;
+    v15 = load8(v14);
+    v16 = a1 + 17u * 1u;
+    v17 = load8(v16);
+    v18 = a1 + 18u * 1u;
+    v19 = load16(v18);
+    v20 = a1 + 20u * 1u;
+    v21 = load16(v20);
+    v22 = a1 + 22u * 1u;
+    v23 = load16(v22);
+    switch (v11) {
+    case 0u: goto L1;
+    case 1u: goto L2;
+    case 2u: goto L14;
+    case 4u: goto L31;
+    case 3u: v10 = 0u; goto L32;
+    case 5u: v10 = 0u; goto L32;
+    default: goto L33;
+    }
+L1:;
+    v24 = a1 + 24u * 1u;
+    v25 = load64(v24);
+    store64(a0, 1u);
+    v26 = a0 + 8u * 1u;
+    store64(v26, v13);
+    v27 = a0 + 16u * 1u;
+    store8(v27, v15);
+    v28 = a0 + 17u * 1u;
+    store8(v28, v17);
+    v29 = a0 + 18u * 1u;
+    store16(v29, v19);
+    v30 = a0 + 20u * 1u;
+    store16(v30, v21);
+    v31 = a0 + 22u * 1u;
+    store16(v31, v23);
+    v32 = a0 + 24u * 1u;
+    store64(v32, v25);
+    v10 = 0u; goto L32;
+L2:;
+    v33 = load8(a0);
+    v34 = v33 == 1u;
+    if (v34) { goto L3; }
+    else { goto L4; }
+L3:;
+    v35 = a0 + 8u * 1u;
+    v36 = load8(v35);
+    v37 = (u8)((u32)v36 & (u32)2u);
+    v38 = v37 == 0u;
+    if (v38) { goto L4; }
+    else { v2 = 0u; v3 = 0u; v4 = 0u; v5 = 6u; goto L5; }
+L4:;
+    v2 = v19; v3 = v21; v4 = v23; v5 = v17; goto L5;
+L5:;
+    v39 = a0 + 32u * 1u;
+    v40 = a0 + 48u * 1u;
+    v41 = load64(v40);
+    v42 = a0 + 40u * 1u;
+    v43 = load64(v42);
+    v44 = v41 == v43;
+    if (v44) { goto L6; }
+    else { v6 = v43; goto L8; }
+L6:;
+    v45 = f88(v39);
+    if (v45) { goto L7; }
+    else { v10 = 1u; goto L32; }
+L7:;
+    v46 = load64(v42);
+    v6 = v46; goto L8;
+L8:;
+    v47 = load_address(v39);
+    v48 = (u64)((u64)v6 << (4u & 63u));
+    v49 = v47 + v48 * 1u;
+    store64(v49, v13);
+    v50 = v49 + 8u * 1u;
+    store8(v50, v15);
+    v51 = v49 + 9u * 1u;
+    store8(v51, v5);
+    v52 = v49 + 10u * 1u;
+    store16(v52, v2);
+    v53 = v49 + 12u * 1u;
+    store16(v53, v3);
+    v54 = v49 + 14u * 1u;
+    store16(v54, v4);
+    v55 = (u64)((u64)v6 + (u64)1u);
+    store64(v42, v55);
+    v56 = a0 + 56u * 1u;
+    v57 = a0 + 72u * 1u;
+    v58 = load64(v57);
+    v59 = a0 + 64u * 1u;
+    v60 = load64(v59);
+    v61 = v58 == v60;
+    if (v61) { goto L9; }
+    else { v7 = v60; goto L13; }
+L9:;
+    v62 = f89(v56);
+    if (v62) { goto L10; }
+    else { goto L11; }
+L10:;
+    v63 = load64(v59);
+    v7 = v63; goto L13;
+L11:;
+    v64 = load64(v42);
+    v65 = v64 == 0u;
+    if (v65) { v10 = 1u; goto L32; }
+    else { goto L12; }
+L12:;
+    v66 = (u64)((u64)v64 + (u64)UINT64_C(18446744073709551615));
+    store64(v42, v66);
+    v10 = 1u; goto L32;
+L13:;
+    v67 = load_address(v56);
+    v68 = v67 + v7 * 1u;
+    store8(v68, 0u);
+    v69 = (u64)((u64)v7 + (u64)1u);
+    store64(v59, v69);
+    v10 = 0u; goto L32;
+L14:;
+    v70 = a0 + 32u * 1u;
+    v71 = load_address(v70);
+    v72 = a0 + 56u * 1u;
+    v73 = load_address(v72);
+    v74 = a0 + 64u * 1u;
+    v75 = load64(v74);
+    v76 = (u8)(v21);
+    v77 = (u64)v19;
+    v78 = v75 > v77;
+    if (v78) { goto L15; }
+    else { v10 = 0u; goto L32; }
+L15:;
+    v79 = v15 == 0u;
+    v80 = v73 + v77 * 1u;
+    v81 = load8(v80);
+    if (v79) { goto L16; }
+    else { goto L24; }
+L16:;
+    v82 = v81 == 0u;
+    if (v82) { goto L17; }
+    else { v10 = 0u; goto L32; }
+L17:;
+    v83 = v19 == 0u;
+    if (v83) { v9 = 1u; goto L30; }
+    else { goto L18; }
+L18:;
+    v84 = (u64)((u64)v77 << (4u & 63u));
+    v85 = v71 + v84 * 1u;
+    v86 = v85 + 9u * 1u;
+    v87 = v85 + 8u * 1u;
+    v8 = 0u; goto L19;
+L19:;
+    v88 = v73 + v8 * 1u;
+    v89 = load8(v88);
+    v90 = v89 == 2u;
+    if (v90) { goto L23; }
+    else { goto L20; }
+L20:;
+    v91 = (u64)((u64)v8 << (4u & 63u));
+    v92 = v71 + v91 * 1u;
+    v93 = load64(v92);
+    v94 = v92 + 9u * 1u;
+    v95 = load8(v94);
+    v96 = load64(v85);
+    v97 = load8(v86);
+    v98 = v93 == v96;
+    v99 = v97 == 6u;
+    v100 = v98 ? 1u : v99;
+    if (v100) { v10 = 0u; goto L32; }
+    else { goto L21; }
+L21:;
+    v101 = load8(v87);
+    v102 = v92 + 8u * 1u;
+    v103 = load8(v102);
+    v104 = v103 != v101;
+    v105 = v95 == 3u;
+    v106 = v104 ? 1u : v105;
+    v107 = v97 == 3u;
+    v108 = v106 ? 1u : v107;
+    if (v108) { goto L23; }
+    else { goto L22; }
+L22:;
+    v109 = v95 < v97;
+    v110 = v97 == 5u;
+    v111 = (u8)(((u32)v109 | (u32)v110) & UINT64_C(1));
+    if (v111) { v10 = 0u; goto L32; }
+    else { goto L23; }
+L23:;
+    v112 = (u64)((u64)v8 + (u64)1u);
+    v113 = v112 == v77;
+    if (v113) { goto L25; }
+    else { v8 = v112; goto L19; }
+L24:;
+    v114 = v81 == 1u;
+    if (v114) { goto L25; }
+    else { v10 = 0u; goto L32; }
+L25:;
+    switch (v15) {
+    case 0u: v9 = 1u; goto L30;
+    case 1u: goto L26;
+    case 2u: goto L27;
+    case 3u: goto L28;
+    default: goto L29;
+    }
+L26:;
+    v9 = 0u; goto L30;
+L27:;
+    v9 = 5u; goto L30;
+L28:;
+    v115 = (u8)((u32)v76 + (u32)2u);
+    v9 = v115; goto L30;
+L29:;
+    UNREACHABLE;
+L30:;
+    store8(v80, v9);
+    v10 = 0u; goto L32;
+L31:;
+    v116 = a0 + 80u * 1u;
+    store8(v116, 1u);
+    v10 = 0u; goto L32;
+L32:;
+    return v10;
+L33:;
+    UNREACHABLE;
+}
+
+static u8 f88(address a0) {
+    u8 v1, v5, v10, v14, v15, v21, v26;
+    struct pair v2, v19, v23, v24;
+    address v3, v6, v16, v28;
+    u64 v4, v7, v8, v9, v11, v12, v13, v17, v18, v20, v22, v25, v27;
+    v3 = a0 + 8u * 1u;
+    v4 = load64(v3);
+    v5 = v4 == UINT64_C(18446744073709551615);
+    if (v5) { v1 = 0u; goto L1; }
+    else { goto L2; }
+L1:;
+    return v1;
+L2:;
+    v6 = a0 + 16u * 1u;
+    v7 = load64(v6);
+    v8 = v4 > 3u ? v4 : 3u;
+    v9 = (u64)((u64)v8 + (u64)1u);
+    v10 = v7 < UINT64_C(4611686018427387904);
+    v11 = (u64)((u64)v7 << (1u & 63u));
+    v12 = v9 > v11 ? v9 : v11;
+    v13 = v10 ? v12 : v9;
+    v14 = v13 < UINT64_C(576460752303423488);
+    if (v14) { goto L3; }
+    else { v1 = 0u; goto L1; }
+L3:;
+    v15 = v7 == 0u;
+    if (v15) { goto L5; }
+    else { goto L4; }
+L4:;
+    v16 = load_address(a0);
+    v17 = (u64)((u64)v4 << (4u & 63u));
+    v18 = (u64)((u64)v13 << (4u & 63u));
+    v19 = portable_rattle_realloc(v16, v17, v18, 8u);
+    v20 = v19.m0;
+    v21 = (u8)((v20) & UINT64_C(1));
+    if (v21) { v2 = v19; goto L6; }
+    else { v1 = 0u; goto L1; }
+L5:;
+    v22 = (u64)((u64)v12 << (4u & 63u));
+    v23 = portable_rattle_alloc(v22, 8u);
+    v24 = v23;
+    v25 = v24.m0;
+    v26 = (u8)((v25) & UINT64_C(1));
+    if (v26) { v2 = v24; goto L6; }
+    else { v1 = 0u; goto L1; }
+L6:;
+    v27 = v2.m1;
+    v28 = (address)v27;
+    store_address(a0, v28);
+    store64(v6, v13);
+    v1 = 1u; goto L1;
+}
+
+static u8 f89(address a0) {
+    u8 v1, v5, v10, v14, v15, v19, v23;
+    struct pair v2, v17, v20, v21;
+    address v3, v6, v16, v25;
+    u64 v4, v7, v8, v9, v11, v12, v13, v18, v22, v24;
+    v3 = a0 + 8u * 1u;
+    v4 = load64(v3);
+    v5 = v4 == UINT64_C(18446744073709551615);
+    if (v5) { v1 = 0u; goto L1; }
+    else { goto L2; }
+L1:;
+    return v1;
+L2:;
+    v6 = a0 + 16u * 1u;
+    v7 = load64(v6);
+    v8 = v4 > 7u ? v4 : 7u;
+    v9 = (u64)((u64)v8 + (u64)1u);
+    v10 = v7 < UINT64_C(4611686018427387904);
+    v11 = (u64)((u64)v7 << (1u & 63u));
+    v12 = v9 > v11 ? v9 : v11;
+    v13 = v10 ? v12 : v9;
+    v14 = (i64)v13 > (i64)UINT64_C(18446744073709551615);
+    if (v14) { goto L3; }
+    else { v1 = 0u; goto L1; }
+L3:;
+    v15 = v7 == 0u;
+    if (v15) { goto L5; }
+    else { goto L4; }
+L4:;
+    v16 = load_address(a0);
+    v17 = portable_rattle_realloc(v16, v4, v13, 1u);
+    v18 = v17.m0;
+    v19 = (u8)((v18) & UINT64_C(1));
+    if (v19) { v2 = v17; goto L6; }
+    else { v1 = 0u; goto L1; }
+L5:;
+    v20 = portable_rattle_alloc(v12, 1u);
+    v21 = v20;
+    v22 = v21.m0;
+    v23 = (u8)((v22) & UINT64_C(1));
+    if (v23) { v2 = v21; goto L6; }
+    else { v1 = 0u; goto L1; }
+L6:;
+    v24 = v2.m1;
+    v25 = (address)v24;
+    store_address(a0, v25);
+    store64(v6, v13);
+    v1 = 1u; goto L1;
+}
+
+static void f90(address a0, address a1) {
+    u64 v2, v8, v11, v39, v40, v41, v42, v43, v44, v45, v46, v47, v48, v49, v50, v51;
+    u64 v52, v53, v54, v55, v56, v57, v58, v59, v60, v61, v66, v67, v68, v73, v74, v75;
+    u64 v77, v79, v81, v82, v83, v84, v85, v86, v87, v88, v89, v91, v109, v110, v111, v112;
+    u64 v113, v114, v115, v116, v117, v118, v119, v120, v121, v122, v123, v124, v125, v126, v127, v128;
+    u64 v129, v130, v131, v140, v141, v142, v147, v148, v149, v150, v151, v152, v153, v170, v171, v172;
+    u64 v173, v174, v175, v176, v177, v178, v179, v180, v181, v182, v183, v184, v185, v186, v187, v188;
+    u64 v189, v190, v191, v192, v225, v226, v227, v228, v229, v230, v231, v232, v233, v234, v235, v236;
+    u64 v237, v238, v239, v240, v241, v242, v243, v244, v245, v246, v247, v272, v273, v274, v275, v276;
+    u64 v277, v278, v279, v280, v281, v282, v283, v284, v285, v286, v287, v288, v289, v290, v291, v292;
+    u64 v293, v294, v326, v327, v328, v329, v330, v331, v332, v333, v334, v335, v336, v337, v338, v339;
+    u64 v340, v341, v342, v343, v344, v345, v346, v347, v348, v382, v383, v384, v385, v386, v387, v388;
+    u64 v389, v390, v391, v392, v393, v394, v395, v396, v397, v398, v399, v400, v401, v402, v403, v404;
+    u64 v429, v430, v431, v432, v433, v434, v435, v436, v437, v438, v439, v440, v441, v442, v443, v444;
+    u64 v445, v446, v447, v448, v449, v450, v451;
+    u16 v3, v4, v5, v76, v78, v80, v197, v198, v199, v200, v205, v206, v207, v208, v252, v253;
+    u16 v254, v255, v299, v300, v301, v302, v353, v354, v355, v356, v361, v362, v363, v364, v365, v456;
+    u16 v457, v458, v459, v465, v466, v467, v468;
+    u8 v6, v7, v9, v10, v12, v14, v15, v20, v22, v24, v26, v28, v30, v32, v34, v36;
+    u8 v38, v63, v65, v70, v72, v90, v92, v94, v96, v98, v100, v102, v104, v106, v108, v133;
+    u8 v135, v137, v139, v144, v146, v155, v157, v159, v161, v163, v165, v167, v169, v194, v196, v202;
+    u8 v204, v210, v212, v214, v216, v218, v220, v222, v224, v249, v251, v257, v259, v261, v263, v265;
+    u8 v267, v269, v271, v296, v298, v304, v305, v306, v311, v313, v315, v317, v319, v321, v323, v325;
+    u8 v350, v352, v358, v360, v367, v369, v371, v373, v375, v377, v379, v381, v406, v408, v410, v411;
+    u8 v412, v414, v416, v418, v420, v422, v424, v426, v428, v453, v455, v464;
+    address v13, v16, v17, v18, v19, v21, v23, v25, v27, v29, v31, v33, v35, v37, v62, v64;
+    address v69, v71, v93, v95, v97, v99, v101, v103, v105, v107, v132, v134, v136, v138, v143, v145;
+    address v154, v156, v158, v160, v162, v164, v166, v168, v193, v195, v201, v203, v209, v211, v213, v215;
+    address v217, v219, v221, v223, v248, v250, v256, v258, v260, v262, v264, v266, v268, v270, v295, v297;
+    address v303, v307, v308, v309, v310, v312, v314, v316, v318, v320, v322, v324, v349, v351, v357, v359;
+    address v366, v368, v370, v372, v374, v376, v378, v380, v405, v407, v409, v413, v415, v417, v419, v421;
+    address v423, v425, v427, v452, v454, v460, v461, v462, v463, v469, v470, v471, v472, v473, v474, v475;
+    address v476;
+    v12 = load8(a1);
+    switch (v12) {
+    case 1u: goto L1;
+    case 2u: goto L5;
+    case 3u: goto L6;
+    case 4u: goto L7;
+    case 5u: goto L8;
+    case 6u: goto L9;
+    case 7u: goto L12;
+    case 8u: goto L13;
+    case 9u: goto L16;
+    default: v2 = 0u; v3 = 0u; v4 = 0u; v5 = 0u; v6 = 0u; v7 = 0u; v8 = 0u; v9 = 0u; v10 = 0u; v11 = 0u; goto L17;
+    }
+L1:;
+    v13 = a1 + 1u * 1u;
+    v14 = load8(v13);
+    v15 = v14 == 2u;
+    if (v15) { goto L4; }
+    else { goto L3; }
+L2:;
+    return;
+L3:;
+    store64(a0, 0u);
+    v16 = a0 + 8u * 1u;
+    store8(v16, 0u);
+    v17 = a0 + 9u * 1u;
+    store8(v17, 0u);
+    v18 = a0 + 16u * 1u;
+    memory_set(v18, 0u, 24u);
+    goto L2;
+L4:;
+    v19 = a1 + 2u * 1u;
+    v20 = load8(v19);
+    v21 = a1 + 3u * 1u;
+    v22 = load8(v21);
+    v23 = a1 + 4u * 1u;
+    v24 = load8(v23);
+    v25 = a1 + 5u * 1u;
+    v26 = load8(v25);
+    v27 = a1 + 6u * 1u;
+    v28 = load8(v27);
+    v29 = a1 + 7u * 1u;
+    v30 = load8(v29);
+    v31 = a1 + 8u * 1u;
+    v32 = load8(v31);
+    v33 = a1 + 9u * 1u;
+    v34 = load8(v33);
+    v35 = a1 + 10u * 1u;
+    v36 = load8(v35);
+    v37 = a1 + 11u * 1u;
+    v38 = load8(v37);
+    v39 = (u64)v38;
+    v40 = (u64)((u64)v39 << (56u & 63u));
+    v41 = (u64)v36;
+    v42 = (u64)((u64)v41 << (48u & 63u));
+    v43 = (u64)v34;
+    v44 = (u64)((u64)v43 << (40u & 63u));
+    v45 = (u64)v32;
+    v46 = (u64)((u64)v45 << (32u & 63u));
+    v47 = (u64)v30;
+    v48 = (u64)((u64)v47 << (24u & 63u));
+    v49 = (u64)v28;
+    v50 = (u64)((u64)v49 << (16u & 63u));
+    v51 = (u64)v26;
+    v52 = (u64)((u64)v51 << (8u & 63u));
+    v53 = (u64)v24;
+    v54 = (u64)((u64)v52 | (u64)v53);
+    v55 = (u64)((u64)v54 | (u64)v50);
+    v56 = (u64)((u64)v55 | (u64)v48);
+    v57 = (u64)((u64)v56 | (u64)v46);
+    v58 = (u64)((u64)v57 | (u64)v44);
+    v59 = (u64)((u64)v58 | (u64)v42);
+    v60 = (u64)((u64)v59 | (u64)v40);
+    v61 = swap64(v60);
+    v62 = a1 + 12u * 1u;
+    v63 = load8(v62);
+    v64 = a1 + 13u * 1u;
+    v65 = load8(v64);
+    v66 = (u64)v63;
+    v67 = (u64)((u64)v66 << (8u & 63u));
+    v68 = (u64)v65;
+    v69 = a1 + 14u * 1u;
+    v70 = load8(v69);
+    v71 = a1 + 15u * 1u;
+    v72 = load8(v71);
+    v73 = (u64)v70;
+    v74 = (u64)v72;
+    v75 = (u64)((u64)v61 >> (16u & 63u));
+    v76 = (u16)(v75);
+    v77 = (u64)((u64)v61 >> (32u & 63u));
+    v78 = (u16)(v77);
+    v79 = (u64)((u64)v61 >> (48u & 63u));
+    v80 = (u16)(v79);
+    v81 = (u64)((u64)v73 << (24u & 63u));
+    v82 = (u64)((u64)v74 << (16u & 63u));
+    v83 = (u64)((u64)v67 | (u64)v68);
+    v84 = (u64)((u64)v83 | (u64)v81);
+    v85 = (u64)((u64)v84 | (u64)v82);
+    v86 = (u64)v22;
+    v87 = (u64)((u64)v86 << (8u & 63u));
+    v88 = (u64)v20;
+    v89 = (u64)((u64)v87 | (u64)v88);
+    v90 = (u8)(v61);
+    v91 = (u64)((u64)v61 >> (8u & 63u));
+    v92 = (u8)(v91);
+    v2 = v85; v3 = v80; v4 = v78; v5 = v76; v6 = v92; v7 = v90; v8 = v89; v9 = 0u; v10 = 0u; v11 = 1u; goto L17;
+L5:;
+    v93 = a1 + 1u * 1u;
+    v94 = load8(v93);
+    v95 = a1 + 2u * 1u;
+    v96 = load8(v95);
+    v97 = a1 + 3u * 1u;
+    v98 = load8(v97);
+    v99 = a1 + 4u * 1u;
+    v100 = load8(v99);
+    v101 = a1 + 5u * 1u;
+    v102 = load8(v101);
+    v103 = a1 + 6u * 1u;
+    v104 = load8(v103);
+    v105 = a1 + 7u * 1u;
+    v106 = load8(v105);
+    v107 = a1 + 8u * 1u;
+    v108 = load8(v107);
+    v109 = (u64)v108;
+    v110 = (u64)((u64)v109 << (56u & 63u));
+    v111 = (u64)v106;
+    v112 = (u64)((u64)v111 << (48u & 63u));
+    v113 = (u64)v104;
+    v114 = (u64)((u64)v113 << (40u & 63u));
+    v115 = (u64)v102;
+    v116 = (u64)((u64)v115 << (32u & 63u));
+    v117 = (u64)v100;
+    v118 = (u64)((u64)v117 << (24u & 63u));
+    v119 = (u64)v98;
+    v120 = (u64)((u64)v119 << (16u & 63u));
+    v121 = (u64)v96;
+    v122 = (u64)((u64)v121 << (8u & 63u));
+    v123 = (u64)v94;
+    v124 = (u64)((u64)v122 | (u64)v123);
+    v125 = (u64)((u64)v124 | (u64)v120);
+    v126 = (u64)((u64)v125 | (u64)v118);
+    v127 = (u64)((u64)v126 | (u64)v116);
+    v128 = (u64)((u64)v127 | (u64)v114);
+    v129 = (u64)((u64)v128 | (u64)v112);
+    v130 = (u64)((u64)v129 | (u64)v110);
+    v131 = swap64(v130);
+    v132 = a1 + 9u * 1u;
+    v133 = load8(v132);
+    v134 = a1 + 10u * 1u;
+    v135 = load8(v134);
+    v136 = a1 + 11u * 1u;
+    v137 = load8(v136);
+    v138 = a1 + 12u * 1u;
+    v139 = load8(v138);
+    v140 = (u64)v137;
+    v141 = (u64)((u64)v140 << (8u & 63u));
+    v142 = (u64)v139;
+    v143 = a1 + 13u * 1u;
+    v144 = load8(v143);
+    v145 = a1 + 14u * 1u;
+    v146 = load8(v145);
+    v147 = (u64)v144;
+    v148 = (u64)v146;
+    v149 = (u64)((u64)v147 << (24u & 63u));
+    v150 = (u64)((u64)v148 << (16u & 63u));
+    v151 = (u64)((u64)v141 | (u64)v142);
+    v152 = (u64)((u64)v151 | (u64)v149);
+    v153 = (u64)((u64)v152 | (u64)v150);
+    v2 = v153; v3 = 0u; v4 = 0u; v5 = 0u; v6 = v135; v7 = v133; v8 = v131; v9 = 0u; v10 = 1u; v11 = 1u; goto L17;
+L6:;
+    v154 = a1 + 5u * 1u;
+    v155 = load8(v154);
+    v156 = a1 + 6u * 1u;
+    v157 = load8(v156);
+    v158 = a1 + 7u * 1u;
+    v159 = load8(v158);
+    v160 = a1 + 8u * 1u;
+    v161 = load8(v160);
+    v162 = a1 + 9u * 1u;
+    v163 = load8(v162);
+    v164 = a1 + 10u * 1u;
+    v165 = load8(v164);
+    v166 = a1 + 11u * 1u;
+    v167 = load8(v166);
+    v168 = a1 + 12u * 1u;
+    v169 = load8(v168);
+    v170 = (u64)v169;
+    v171 = (u64)((u64)v170 << (56u & 63u));
+    v172 = (u64)v167;
+    v173 = (u64)((u64)v172 << (48u & 63u));
+    v174 = (u64)v165;
+    v175 = (u64)((u64)v174 << (40u & 63u));
+    v176 = (u64)v163;
+    v177 = (u64)((u64)v176 << (32u & 63u));
+    v178 = (u64)v161;
+    v179 = (u64)((u64)v178 << (24u & 63u));
+    v180 = (u64)v159;
+    v181 = (u64)((u64)v180 << (16u & 63u));
+    v182 = (u64)v157;
+    v183 = (u64)((u64)v182 << (8u & 63u));
+    v184 = (u64)v155;
+    v185 = (u64)((u64)v183 | (u64)v184);
+    v186 = (u64)((u64)v185 | (u64)v181);
+    v187 = (u64)((u64)v186 | (u64)v179);
+    v188 = (u64)((u64)v187 | (u64)v177);
+    v189 = (u64)((u64)v188 | (u64)v175);
+    v190 = (u64)((u64)v189 | (u64)v173);
+    v191 = (u64)((u64)v190 | (u64)v171);
+    v192 = swap64(v191);
+    v193 = a1 + 1u * 1u;
+    v194 = load8(v193);
+    v195 = a1 + 2u * 1u;
+    v196 = load8(v195);
+    v197 = (u16)v194;
+    v198 = (u16)((u32)v197 << (8u & 15u));
+    v199 = (u16)v196;
+    v200 = (u16)((u32)v198 | (u32)v199);
+    v201 = a1 + 3u * 1u;
+    v202 = load8(v201);
+    v203 = a1 + 4u * 1u;
+    v204 = load8(v203);
+    v205 = (u16)v202;
+    v206 = (u16)((u32)v205 << (8u & 15u));
+    v207 = (u16)v204;
+    v208 = (u16)((u32)v206 | (u32)v207);
+    v2 = 0u; v3 = 0u; v4 = v208; v5 = v200; v6 = 0u; v7 = 0u; v8 = v192; v9 = 0u; v10 = 2u; v11 = 1u; goto L17;
+L7:;
+    v209 = a1 + 3u * 1u;
+    v210 = load8(v209);
+    v211 = a1 + 4u * 1u;
+    v212 = load8(v211);
+    v213 = a1 + 5u * 1u;
+    v214 = load8(v213);
+    v215 = a1 + 6u * 1u;
+    v216 = load8(v215);
+    v217 = a1 + 7u * 1u;
+    v218 = load8(v217);
+    v219 = a1 + 8u * 1u;
+    v220 = load8(v219);
+    v221 = a1 + 9u * 1u;
+    v222 = load8(v221);
+    v223 = a1 + 10u * 1u;
+    v224 = load8(v223);
+    v225 = (u64)v224;
+    v226 = (u64)((u64)v225 << (56u & 63u));
+    v227 = (u64)v222;
+    v228 = (u64)((u64)v227 << (48u & 63u));
+    v229 = (u64)v220;
+    v230 = (u64)((u64)v229 << (40u & 63u));
+    v231 = (u64)v218;
+    v232 = (u64)((u64)v231 << (32u & 63u));
+    v233 = (u64)v216;
+    v234 = (u64)((u64)v233 << (24u & 63u));
+    v235 = (u64)v214;
+    v236 = (u64)((u64)v235 << (16u & 63u));
+    v237 = (u64)v212;
+    v238 = (u64)((u64)v237 << (8u & 63u));
+    v239 = (u64)v210;
+    v240 = (u64)((u64)v238 | (u64)v239);
+    v241 = (u64)((u64)v240 | (u64)v236);
+    v242 = (u64)((u64)v241 | (u64)v234);
+    v243 = (u64)((u64)v242 | (u64)v232);
+    v244 = (u64)((u64)v243 | (u64)v230);
+    v245 = (u64)((u64)v244 | (u64)v228);
+    v246 = (u64)((u64)v245 | (u64)v226);
+    v247 = swap64(v246);
+    v248 = a1 + 1u * 1u;
+    v249 = load8(v248);
+    v250 = a1 + 2u * 1u;
+    v251 = load8(v250);
+    v252 = (u16)v249;
+    v253 = (u16)((u32)v252 << (8u & 15u));
+    v254 = (u16)v251;
+    v255 = (u16)((u32)v253 | (u32)v254);
+    v2 = 0u; v3 = 0u; v4 = 0u; v5 = v255; v6 = 0u; v7 = 1u; v8 = v247; v9 = 0u; v10 = 2u; v11 = 1u; goto L17;
+L8:;
+    v256 = a1 + 3u * 1u;
+    v257 = load8(v256);
+    v258 = a1 + 4u * 1u;
+    v259 = load8(v258);
+    v260 = a1 + 5u * 1u;
+    v261 = load8(v260);
+    v262 = a1 + 6u * 1u;
+    v263 = load8(v262);
+    v264 = a1 + 7u * 1u;
+    v265 = load8(v264);
+    v266 = a1 + 8u * 1u;
+    v267 = load8(v266);
+    v268 = a1 + 9u * 1u;
+    v269 = load8(v268);
+    v270 = a1 + 10u * 1u;
+    v271 = load8(v270);
+    v272 = (u64)v271;
+    v273 = (u64)((u64)v272 << (56u & 63u));
+    v274 = (u64)v269;
+    v275 = (u64)((u64)v274 << (48u & 63u));
+    v276 = (u64)v267;
+    v277 = (u64)((u64)v276 << (40u & 63u));
+    v278 = (u64)v265;
+    v279 = (u64)((u64)v278 << (32u & 63u));
+    v280 = (u64)v263;
+    v281 = (u64)((u64)v280 << (24u & 63u));
+    v282 = (u64)v261;
+    v283 = (u64)((u64)v282 << (16u & 63u));
+    v284 = (u64)v259;
+    v285 = (u64)((u64)v284 << (8u & 63u));
+    v286 = (u64)v257;
+    v287 = (u64)((u64)v285 | (u64)v286);
+    v288 = (u64)((u64)v287 | (u64)v283);
+    v289 = (u64)((u64)v288 | (u64)v281);
+    v290 = (u64)((u64)v289 | (u64)v279);
+    v291 = (u64)((u64)v290 | (u64)v277);
+    v292 = (u64)((u64)v291 | (u64)v275);
+    v293 = (u64)((u64)v292 | (u64)v273);
+    v294 = swap64(v293);
+    v295 = a1 + 1u * 1u;
+    v296 = load8(v295);
+    v297 = a1 + 2u * 1u;
+    v298 = load8(v297);
+    v299 = (u16)v296;
+    v300 = (u16)((u32)v299 << (8u & 15u));
+    v301 = (u16)v298;
+    v302 = (u16)((u32)v300 | (u32)v301);
+    v2 = 0u; v3 = 0u; v4 = 0u; v5 = v302; v6 = 0u; v7 = 2u; v8 = v294; v9 = 0u; v10 = 2u; v11 = 1u; goto L17;
+L9:;
+    v303 = a1 + 3u * 1u;
+    v304 = load8(v303);
+    v305 = (u8)((u32)v304 + (u32)255u);
+    v306 = v305 < 3u;
+    if (v306) { goto L11; }
+    else { goto L10; }
+L10:;
+    store64(a0, 0u);
+    v307 = a0 + 8u * 1u;
+    store8(v307, 0u);
+    v308 = a0 + 9u * 1u;
+    store8(v308, 0u);
+    v309 = a0 + 16u * 1u;
+    memory_set(v309, 0u, 24u);
+    goto L2;
+L11:;
+    v310 = a1 + 6u * 1u;
+    v311 = load8(v310);
+    v312 = a1 + 7u * 1u;
+    v313 = load8(v312);
+    v314 = a1 + 8u * 1u;
+    v315 = load8(v314);
+    v316 = a1 + 9u * 1u;
+    v317 = load8(v316);
+    v318 = a1 + 10u * 1u;
+    v319 = load8(v318);
+    v320 = a1 + 11u * 1u;
+    v321 = load8(v320);
+    v322 = a1 + 12u * 1u;
+    v323 = load8(v322);
+    v324 = a1 + 13u * 1u;
+    v325 = load8(v324);
+    v326 = (u64)v325;
+    v327 = (u64)((u64)v326 << (56u & 63u));
+    v328 = (u64)v323;
+    v329 = (u64)((u64)v328 << (48u & 63u));
+    v330 = (u64)v321;
+    v331 = (u64)((u64)v330 << (40u & 63u));
+    v332 = (u64)v319;
+    v333 = (u64)((u64)v332 << (32u & 63u));
+    v334 = (u64)v317;
+    v335 = (u64)((u64)v334 << (24u & 63u));
+    v336 = (u64)v315;
+    v337 = (u64)((u64)v336 << (16u & 63u));
+    v338 = (u64)v313;
+    v339 = (u64)((u64)v338 << (8u & 63u));
+    v340 = (u64)v311;
+    v341 = (u64)((u64)v339 | (u64)v340);
+    v342 = (u64)((u64)v341 | (u64)v337);
+    v343 = (u64)((u64)v342 | (u64)v335);
+    v344 = (u64)((u64)v343 | (u64)v333);
+    v345 = (u64)((u64)v344 | (u64)v331);
+    v346 = (u64)((u64)v345 | (u64)v329);
+    v347 = (u64)((u64)v346 | (u64)v327);
+    v348 = swap64(v347);
+    v349 = a1 + 1u * 1u;
+    v350 = load8(v349);
+    v351 = a1 + 2u * 1u;
+    v352 = load8(v351);
+    v353 = (u16)v350;
+    v354 = (u16)((u32)v353 << (8u & 15u));
+    v355 = (u16)v352;
+    v356 = (u16)((u32)v354 | (u32)v355);
+    v357 = a1 + 4u * 1u;
+    v358 = load8(v357);
+    v359 = a1 + 5u * 1u;
+    v360 = load8(v359);
+    v361 = (u16)v358;
+    v362 = (u16)((u32)v361 << (8u & 15u));
+    v363 = (u16)v360;
+    v364 = (u16)((u32)v362 | (u32)v363);
+    v365 = (u16)v305;
+    v2 = 0u; v3 = v364; v4 = v365; v5 = v356; v6 = 0u; v7 = 3u; v8 = v348; v9 = 0u; v10 = 2u; v11 = 1u; goto L17;
+L12:;
+    v366 = a1 + 3u * 1u;
+    v367 = load8(v366);
+    v368 = a1 + 4u * 1u;
+    v369 = load8(v368);
+    v370 = a1 + 5u * 1u;
+    v371 = load8(v370);
+    v372 = a1 + 6u * 1u;
+    v373 = load8(v372);
+    v374 = a1 + 7u * 1u;
+    v375 = load8(v374);
+    v376 = a1 + 8u * 1u;
+    v377 = load8(v376);
+    v378 = a1 + 9u * 1u;
+    v379 = load8(v378);
+    v380 = a1 + 10u * 1u;
+    v381 = load8(v380);
+    v382 = (u64)v381;
+    v383 = (u64)((u64)v382 << (56u & 63u));
+    v384 = (u64)v379;
+    v385 = (u64)((u64)v384 << (48u & 63u));
+    v386 = (u64)v377;
+    v387 = (u64)((u64)v386 << (40u & 63u));
+    v388 = (u64)v375;
+    v389 = (u64)((u64)v388 << (32u & 63u));
+    v390 = (u64)v373;
+    v391 = (u64)((u64)v390 << (24u & 63u));
+    v392 = (u64)v371;
+    v393 = (u64)((u64)v392 << (16u & 63u));
+    v394 = (u64)v369;
+    v395 = (u64)((u64)v394 << (8u & 63u));
+    v396 = (u64)v367;
+    v397 = (u64)((u64)v395 | (u64)v396);
+    v398 = (u64)((u64)v397 | (u64)v393);
+    v399 = (u64)((u64)v398 | (u64)v391);
+    v400 = (u64)((u64)v399 | (u64)v389);
+    v401 = (u64)((u64)v400 | (u64)v387);
+    v402 = (u64)((u64)v401 | (u64)v385);
+    v403 = (u64)((u64)v402 | (u64)v383);
+    v404 = swap64(v403);
+    v405 = a1 + 1u * 1u;
+    v406 = load8(v405);
+    v407 = a1 + 2u * 1u;
+    v408 = load8(v407);
+    v2 = 0u; v3 = 0u; v4 = 0u; v5 = 0u; v6 = v408; v7 = v406; v8 = v404; v9 = 0u; v10 = 3u; v11 = 1u; goto L17;
+L13:;
+    v409 = a1 + 1u * 1u;
+    v410 = load8(v409);
+    v411 = (u8)((u32)v410 + (u32)255u);
+    v412 = v411 < 8u;
+    if (v412) { goto L14; }
+    else { goto L15; }
+L14:;
+    v413 = a1 + 4u * 1u;
+    v414 = load8(v413);
+    v415 = a1 + 5u * 1u;
+    v416 = load8(v415);
+    v417 = a1 + 6u * 1u;
+    v418 = load8(v417);
+    v419 = a1 + 7u * 1u;
+    v420 = load8(v419);
+    v421 = a1 + 8u * 1u;
+    v422 = load8(v421);
+    v423 = a1 + 9u * 1u;
+    v424 = load8(v423);
+    v425 = a1 + 10u * 1u;
+    v426 = load8(v425);
+    v427 = a1 + 11u * 1u;
+    v428 = load8(v427);
+    v429 = (u64)v428;
+    v430 = (u64)((u64)v429 << (56u & 63u));
+    v431 = (u64)v426;
+    v432 = (u64)((u64)v431 << (48u & 63u));
+    v433 = (u64)v424;
+    v434 = (u64)((u64)v433 << (40u & 63u));
+    v435 = (u64)v422;
+    v436 = (u64)((u64)v435 << (32u & 63u));
+    v437 = (u64)v420;
+    v438 = (u64)((u64)v437 << (24u & 63u));
+    v439 = (u64)v418;
+    v440 = (u64)((u64)v439 << (16u & 63u));
+    v441 = (u64)v416;
+    v442 = (u64)((u64)v441 << (8u & 63u));
+    v443 = (u64)v414;
+    v444 = (u64)((u64)v442 | (u64)v443);
+    v445 = (u64)((u64)v444 | (u64)v440);
+    v446 = (u64)((u64)v445 | (u64)v438);
+    v447 = (u64)((u64)v446 | (u64)v436);
+    v448 = (u64)((u64)v447 | (u64)v434);
+    v449 = (u64)((u64)v448 | (u64)v432);
+    v450 = (u64)((u64)v449 | (u64)v430);
+    v451 = swap64(v450);
+    v452 = a1 + 2u * 1u;
+    v453 = load8(v452);
+    v454 = a1 + 3u * 1u;
+    v455 = load8(v454);
+    v456 = (u16)v453;
+    v457 = (u16)((u32)v456 << (8u & 15u));
+    v458 = (u16)v455;
+    v459 = (u16)((u32)v457 | (u32)v458);
+    v2 = 0u; v3 = 0u; v4 = 0u; v5 = v459; v6 = 0u; v7 = v411; v8 = v451; v9 = 0u; v10 = 4u; v11 = 1u; goto L17;
+L15:;
+    store64(a0, 0u);
+    v460 = a0 + 8u * 1u;
+    store8(v460, 0u);
+    v461 = a0 + 9u * 1u;
+    store8(v461, 0u);
+    v462 = a0 + 16u * 1u;
+    memory_set(v462, 0u, 24u);
+    goto L2;
+L16:;
+    v463 = a1 + 1u * 1u;
+    v464 = load8(v463);
+    v2 = 0u; v3 = 0u; v4 = 0u; v5 = 0u; v6 = 0u; v7 = 0u; v8 = 0u; v9 = v464; v10 = 5u; v11 = 1u; goto L17;
+L17:;
+    v465 = (u16)v6;
+    v466 = (u16)((u32)v465 << (8u & 15u));
+    v467 = (u16)v7;
+    v468 = (u16)((u32)v466 | (u32)v467);
+    store64(a0, v11);
+    v469 = a0 + 8u * 1u;
+    store8(v469, v10);
+    v470 = a0 + 9u * 1u;
+    store8(v470, v9);
+    v471 = a0 + 16u * 1u;
+    store64(v471, v8);
+    v472 = a0 + 24u * 1u;
+    store16(v472, v468);
+    v473 = a0 + 26u * 1u;
+    store16(v473, v5);
+    v474 = a0 + 28u * 1u;
+    store16(v474, v4);
+    v475 = a0 + 30u * 1u;
+    store16(v475, v3);
+    v476 = a0 + 32u * 1u;
+    store64(v476, v2);
+    goto L2;
+}
+
+static u8 f91(address a0, u64 a1, address a2) {
     address v3, v7, v8, v10, v14, v21, v24, v27, v30, v33, v36, v39, v42, v45, v48, v51;
     address v54, v57, v60, v63, v66, v69, v72, v75, v78, v81, v84, v87, v90, v93, v96, v99;
     address v102, v105, v108, v111, v114;
@@ -19719,7 +21215,166 @@ L38:;
     return v5;
 }
 
-static u8 f86(u64 a0, address a1, u64 a2, address a3, u64 a4, u64 a5) {
+static void f92(address a0, address a1, u64 a2) {
+    u64 v3, v4, v5, v11, v12, v13, v32, v40, v42, v50, v62, v63, v79, v89, v98, v99;
+    u16 v6, v7, v8, v9, v14, v15, v16, v17, v37, v38, v39, v47, v48, v49, v51, v56;
+    u16 v57, v58, v59, v60, v68, v69, v70, v71, v84, v85, v86, v87, v94, v95, v96, v97;
+    u16 v104, v105, v106, v107, v112, v113, v114, v115;
+    u8 v10, v18, v23, v24, v28, v30, v34, v36, v44, v46, v53, v55, v61, v65, v67, v72;
+    u8 v73, v75, v76, v77, v81, v83, v91, v93, v101, v103, v109, v111, v117, v118;
+    address v19, v20, v21, v22, v25, v26, v27, v29, v31, v33, v35, v41, v43, v45, v52, v54;
+    address v64, v66, v74, v78, v80, v82, v88, v90, v92, v100, v102, v108, v110, v116, v119, v120;
+    address v121, v122, v123, v124, v125, v126;
+    u64 block0[1];
+    u64 block1[4];
+    u64 block2[4];
+    u64 block3[1];
+    v19 = ADDRESS(block0);
+    v20 = ADDRESS(block1);
+    v21 = ADDRESS(block2);
+    v22 = ADDRESS(block3);
+    memory_set(v21, 0u, 32u);
+    f8(v21, a1, a2);
+    v23 = load8(v21);
+    v24 = v23 == 0u;
+    if (v24) { goto L1; }
+    else { goto L2; }
+L1:;
+    v25 = v21 + 8u * 1u;
+    v26 = load_address(v25);
+    v27 = v21 + 24u * 1u;
+    v28 = load8(v27);
+    v29 = v21 + 25u * 1u;
+    v30 = load8(v29);
+    v31 = v26 + 20u * 1u;
+    v32 = load64(v31);
+    v33 = v26 + 28u * 1u;
+    v34 = load8(v33);
+    v35 = v26 + 29u * 1u;
+    v36 = load8(v35);
+    v37 = (u16)v34;
+    v38 = (u16)((u32)v37 << (8u & 15u));
+    v39 = (u16)v36;
+    v40 = swap64(v32);
+    v41 = v26 + 34u * 1u;
+    v42 = load64(v41);
+    v43 = v26 + 42u * 1u;
+    v44 = load8(v43);
+    v45 = v26 + 43u * 1u;
+    v46 = load8(v45);
+    v47 = (u16)v44;
+    v48 = (u16)((u32)v47 << (8u & 15u));
+    v49 = (u16)v46;
+    v50 = swap64(v42);
+    v51 = (u16)((u32)v38 | (u32)v39);
+    v52 = v26 + 30u * 1u;
+    v53 = load8(v52);
+    v54 = v26 + 31u * 1u;
+    v55 = load8(v54);
+    v56 = (u16)v53;
+    v57 = (u16)((u32)v56 << (8u & 15u));
+    v58 = (u16)v55;
+    v59 = (u16)((u32)v57 | (u32)v58);
+    v60 = (u16)((u32)v48 | (u32)v49);
+    v61 = v30 == 0u;
+    v62 = v61 ? 52u : 54u;
+    v63 = v61 ? 53u : 55u;
+    v64 = v26 + v62 * 1u;
+    v65 = load8(v64);
+    v66 = v26 + v63 * 1u;
+    v67 = load8(v66);
+    v68 = (u16)v65;
+    v69 = (u16)((u32)v68 << (8u & 15u));
+    v70 = (u16)v67;
+    v71 = (u16)((u32)v69 | (u32)v70);
+    memory_set(v22, 0u, 7u);
+    v11 = 1u; v12 = v40; v13 = v50; v14 = v51; v15 = v59; v16 = v60; v17 = v71; v18 = v28; goto L7;
+L2:;
+    memory_set(v20, 0u, 32u);
+    f8(v20, a1, a2);
+    v72 = load8(v20);
+    v73 = v72 == 1u;
+    if (v73) { goto L3; }
+    else { goto L4; }
+L3:;
+    v74 = v20 + 1u * 1u;
+    v75 = load8(v74);
+    v76 = (u8)((u32)v75 & (u32)252u);
+    v77 = v76 == 4u;
+    if (v77) { goto L5; }
+    else { goto L4; }
+L4:;
+    memory_set(v19, 0u, 7u);
+    v3 = 0u; v4 = 0u; v5 = 0u; v6 = 0u; v7 = 0u; v8 = 0u; v9 = 0u; v10 = 0u; goto L6;
+L5:;
+    memory_set(v19, 0u, 7u);
+    v78 = a1 + 20u * 1u;
+    v79 = load64(v78);
+    v80 = a1 + 28u * 1u;
+    v81 = load8(v80);
+    v82 = a1 + 29u * 1u;
+    v83 = load8(v82);
+    v84 = (u16)v81;
+    v85 = (u16)((u32)v84 << (8u & 15u));
+    v86 = (u16)v83;
+    v87 = (u16)((u32)v85 | (u32)v86);
+    v88 = a1 + 34u * 1u;
+    v89 = load64(v88);
+    v90 = a1 + 42u * 1u;
+    v91 = load8(v90);
+    v92 = a1 + 43u * 1u;
+    v93 = load8(v92);
+    v94 = (u16)v91;
+    v95 = (u16)((u32)v94 << (8u & 15u));
+    v96 = (u16)v93;
+    v97 = (u16)((u32)v95 | (u32)v96);
+    v98 = swap64(v79);
+    v99 = swap64(v89);
+    v100 = a1 + 30u * 1u;
+    v101 = load8(v100);
+    v102 = a1 + 31u * 1u;
+    v103 = load8(v102);
+    v104 = (u16)v101;
+    v105 = (u16)((u32)v104 << (8u & 15u));
+    v106 = (u16)v103;
+    v107 = (u16)((u32)v105 | (u32)v106);
+    v108 = a1 + 52u * 1u;
+    v109 = load8(v108);
+    v110 = a1 + 53u * 1u;
+    v111 = load8(v110);
+    v112 = (u16)v109;
+    v113 = (u16)((u32)v112 << (8u & 15u));
+    v114 = (u16)v111;
+    v115 = (u16)((u32)v113 | (u32)v114);
+    v116 = a1 + 46u * 1u;
+    v117 = load8(v116);
+    v118 = (u8)((u32)v117 & (u32)15u);
+    v3 = 1u; v4 = v98; v5 = v99; v6 = v87; v7 = v107; v8 = v97; v9 = v115; v10 = v118; goto L6;
+L6:;
+    memory_cpy(v22, v19, 7u);
+    v11 = v3; v12 = v4; v13 = v5; v14 = v6; v15 = v7; v16 = v8; v17 = v9; v18 = v10; goto L7;
+L7:;
+    store64(a0, v11);
+    v119 = a0 + 8u * 1u;
+    store64(v119, v12);
+    v120 = a0 + 16u * 1u;
+    store64(v120, v13);
+    v121 = a0 + 24u * 1u;
+    store16(v121, v14);
+    v122 = a0 + 26u * 1u;
+    store16(v122, v15);
+    v123 = a0 + 28u * 1u;
+    store16(v123, v16);
+    v124 = a0 + 30u * 1u;
+    store16(v124, v17);
+    v125 = a0 + 32u * 1u;
+    store8(v125, v18);
+    v126 = a0 + 33u * 1u;
+    memory_cpy(v126, v22, 7u);
+    return;
+}
+
+static u8 f93(u64 a0, address a1, u64 a2, address a3, u64 a4, u64 a5) {
     u64 v6, v8, v12, v13, v16, v17, v18, v19, v20, v21, v22, v24, v25, v26, v27, v28;
     u64 v31, v32, v35, v36, v37, v40, v41, v42, v43, v44, v45, v46, v47, v48, v49, v50;
     u64 v51, v52, v54, v55, v56, v58, v59, v61, v69, v72, v84, v86, v88, v90, v91, v92;
@@ -19865,7 +21520,7 @@ L13:;
     v7 = 1u; goto L10;
 }
 
-static void f87(address a0, u32 a1, address a2, u64 a3) {
+static void f94(address a0, u32 a1, address a2, u64 a3) {
     u64 v4, v5, v6, v7, v8, v9, v10, v12, v14, v15, v27, v44, v45, v46, v47, v48;
     u64 v49, v50, v51, v52, v53, v54, v55, v56, v57, v58, v59, v60, v61, v62, v63, v64;
     u64 v65, v66, v67, v68, v69, v70, v71, v72, v74, v75, v76, v94, v95, v96, v97, v98;
@@ -20159,7 +21814,7 @@ L7:;
     else { v6 = v5; goto L9; }
 L8:;
     v251 = (u64)((u64)v5 + (u64)32u);
-    v252 = f88(v16, v251, a3);
+    v252 = f95(v16, v251, a3);
     v253 = (u64)((u64)a3 - (u64)v252);
     v254 = v253 > 31u;
     if (v254) { v5 = v252; goto L7; }
@@ -20296,7 +21951,7 @@ L19:;
     v358 = (u64)((u64)v10 + (u64)1u);
     v359 = a2 + v358 * 1u;
     v360 = (u64)((u64)a3 - (u64)v358);
-    f82(v17, a2, v10);
+    f83(v17, a2, v10);
     v361 = load8(v17);
     v362 = v361 == 1u;
     if (v362) { goto L21; }
@@ -20351,7 +22006,7 @@ L27:;
     v11 = 1u; v12 = v366; v13 = v385; goto L20;
 }
 
-static u64 f88(address a0, u64 a1, u64 a2) {
+static u64 f95(address a0, u64 a1, u64 a2) {
     u64 v3, v4, v5, v10, v11, v28, v29, v30, v31, v32, v33, v34, v35, v36, v37, v38;
     u64 v39, v40, v41, v42, v43, v44, v45, v46, v47, v48, v49, v50, v51, v52, v53, v70;
     u64 v71, v72, v73, v74, v75, v76, v77, v78, v79, v80, v81, v82, v83, v84, v85, v86;
@@ -20745,7 +22400,7 @@ L4:;
     return v4;
 }
 
-static u8 f89(address a0) {
+static u8 f96(address a0) {
     u64 v1, v6, v11, v13, v15, v16, v18, v20, v24, v25, v27, v29, v32, v34, v38, v40;
     u64 v41, v43, v45, v49, v50, v52, v54, v57, v59;
     struct pair v2, v3, v26, v30, v31, v51, v55, v56;
@@ -20758,7 +22413,7 @@ static u8 f89(address a0) {
     else { v1 = v6; goto L3; }
 L1:;
     v8 = a0 + 48u * 1u;
-    v9 = f90(v8);
+    v9 = f97(v8);
     v10 = (u8)((v9) & UINT64_C(1));
     if (v10) { v4 = 1u; goto L17; }
     else { goto L2; }
@@ -20862,7 +22517,7 @@ L17:;
     return v4;
 }
 
-static u8 f90(address a0) {
+static u8 f97(address a0) {
     u64 v1, v2, v3, v5, v7, v8, v9, v10, v12, v13, v14, v15, v19, v22, v23, v24;
     u64 v25, v32, v34, v35, v36, v39, v40, v47, v118, v119, v121, v124, v127, v128, v131, v133;
     u64 v134, v135, v136, v138, v139, v141, v142, v144, v150, v151, v153, v155, v158, v160, v162, v163;
@@ -21187,7 +22842,7 @@ L30:;
     if (v190) { goto L31; }
     else { v9 = v7; v10 = 0u; goto L33; }
 L31:;
-    v191 = f91(a0, v3);
+    v191 = f98(a0, v3);
     if (v191) { goto L32; }
     else { goto L36; }
 L32:;
@@ -21378,7 +23033,7 @@ L44:;
     return v16;
 }
 
-static u8 f91(address a0, u64 a1) {
+static u8 f98(address a0, u64 a1) {
     u8 v2, v7, v12, v16, v17, v23, v28;
     struct pair v3, v21, v25, v26;
     address v4, v8, v18, v30;
@@ -21432,7 +23087,7 @@ L6:;
     v2 = 1u; goto L1;
 }
 
-static void f92(address a0, address a1, u64 a2, address a3, address a4, u16 a5, u16 a6) {
+static void f99(address a0, address a1, u64 a2, address a3, address a4, u16 a5, u16 a6) {
     u8 v7, v16, v19, v24, v30, v31, v32, v36, v41, v53, v54, v55, v57, v58, v59, v61;
     u8 v62, v63, v65, v66, v67, v68, v70, v71, v73, v74, v75, v77, v78, v79, v80, v84;
     u8 v86, v90, v92, v94, v96, v98, v100, v102, v104, v106, v108, v110, v112, v114, v116, v118;
@@ -21504,7 +23159,7 @@ L1:;
     if (v67) { v16 = 0u; goto L38; }
     else { goto L2; }
 L2:;
-    v68 = f21(a1, 4u, (ADDRESS(c324) + 8u * 1u), 4u);
+    v68 = f27(a1, 4u, (ADDRESS(c332) + 8u * 1u), 4u);
     if (v68) { goto L3; }
     else { v16 = 0u; goto L38; }
 L3:;
@@ -21773,7 +23428,7 @@ L18:;
     v256 = v255 == 0u;
     v257 = load_address(v228);
     v258 = load64(v229);
-    v259 = v256 ? ADDRESS(c138) : v257;
+    v259 = v256 ? ADDRESS(c145) : v257;
     v260 = v256 ? 0u : v258;
     v261 = a2 < v254;
     if (v261) { goto L33; }
@@ -21829,7 +23484,7 @@ L24:;
     if (v293) { goto L27; }
     else { goto L33; }
 L25:;
-    v294 = f21(a1, v254, v43, v254);
+    v294 = f27(a1, v254, v43, v254);
     v295 = v263 == v260;
     v296 = (u8)(((u32)v295 & (u32)v294) & UINT64_C(1));
     if (v296) { goto L27; }
@@ -21890,7 +23545,7 @@ L32:;
 L33:;
     goto L39;
 L34:;
-    v329 = f21(v262, v263, v259, v260);
+    v329 = f27(v262, v263, v259, v260);
     if (v329) { goto L36; }
     else { goto L39; }
 L35:;
@@ -22052,7 +23707,134 @@ L50:;
     goto L37;
 }
 
-static void f93(address a0, address a1, u64 a2, address a3, u64 a4, address a5, u64 a6) {
+static struct s1 f100(address a0, u64 a1) {
+    address v2, v5;
+    u8 v3, v4, v6, v7;
+    struct s1 v8, v9;
+    u64 block0[26];
+    v2 = ADDRESS(block0);
+    memory_set(v2, 0u, 208u);
+    f101(v2, a0, a1);
+    v3 = load8(v2);
+    v4 = v3 == 0u;
+    v5 = v2 + 1u * 1u;
+    v6 = load8(v5);
+    v7 = v4 ? 0u : v6;
+    v8 = (struct s1){ 0 };
+    v8.m0 = v3;
+    v9 = v8;
+    v9.m1 = v7;
+    return v9;
+}
+
+static void f101(address a0, address a1, u64 a2) {
+    u64 v3, v4, v6, v15, v17, v26, v29, v30, v38, v39, v41;
+    address v5, v7, v8, v9, v10, v12, v13, v16, v18, v20, v22, v23, v24, v25, v32, v33;
+    address v35, v42, v44, v45, v46, v47, v48;
+    u8 v11, v14, v21, v27, v28, v31, v37, v40, v43;
+    u16 v19, v34, v36;
+    u64 block0[24];
+    u64 block1[24];
+    u64 block2[24];
+    v8 = ADDRESS(block0);
+    v9 = ADDRESS(block1);
+    v10 = ADDRESS(block2);
+    v11 = a2 > 16u;
+    if (v11) { goto L2; }
+    else { goto L3; }
+L1:;
+    return;
+L2:;
+    store8(a0, 1u);
+    v12 = a0 + 1u * 1u;
+    store8(v12, 0u);
+    v13 = a0 + 8u * 1u;
+    memory_set(v13, 0u, 200u);
+    goto L1;
+L3:;
+    v14 = a2 == 0u;
+    memory_set(v8, 0u, 192u);
+    if (v14) { goto L4; }
+    else { v3 = 0u; goto L5; }
+L4:;
+    memory_set(v9, 0u, 192u);
+    goto L14;
+L5:;
+    v15 = (u64)((u64)v3 * (u64)12u);
+    v16 = a1 + v15 * 1u;
+    v17 = load64(v16);
+    v18 = v16 + 8u * 1u;
+    v19 = load16(v18);
+    v20 = v16 + 10u * 1u;
+    v21 = load8(v20);
+    v22 = v8 + v15 * 1u;
+    store64(v22, v17);
+    v23 = v22 + 8u * 1u;
+    store16(v23, v19);
+    v24 = v22 + 10u * 1u;
+    store8(v24, v21);
+    v25 = v22 + 11u * 1u;
+    store8(v25, 0u);
+    v26 = (u64)((u64)v3 + (u64)1u);
+    v27 = v26 == a2;
+    if (v27) { goto L6; }
+    else { v3 = v26; goto L5; }
+L6:;
+    memory_cpy(v10, v8, 192u);
+    memory_cpy(v9, v10, 192u);
+    v28 = a2 == 1u;
+    if (v28) { goto L14; }
+    else { goto L7; }
+L7:;
+    v29 = (u64)((u64)a2 + (u64)UINT64_C(18446744073709551615));
+    v4 = v29; v5 = v9; goto L9;
+L8:;
+    v30 = (u64)((u64)v4 + (u64)UINT64_C(18446744073709551615));
+    v31 = v30 == 0u;
+    if (v31) { goto L14; }
+    else { v4 = v30; v5 = v32; goto L9; }
+L9:;
+    v32 = v5 + 12u * 1u;
+    v33 = v5 + 8u * 1u;
+    v34 = load16(v33);
+    v6 = v4; v7 = v32; goto L10;
+L10:;
+    v35 = v7 + 8u * 1u;
+    v36 = load16(v35);
+    v37 = v34 == v36;
+    if (v37) { goto L11; }
+    else { goto L12; }
+L11:;
+    v38 = load64(v5);
+    v39 = load64(v7);
+    v40 = v38 == v39;
+    if (v40) { goto L13; }
+    else { goto L12; }
+L12:;
+    v41 = (u64)((u64)v6 + (u64)UINT64_C(18446744073709551615));
+    v42 = v7 + 12u * 1u;
+    v43 = v41 == 0u;
+    if (v43) { goto L8; }
+    else { v6 = v41; v7 = v42; goto L10; }
+L13:;
+    store8(a0, 1u);
+    v44 = a0 + 1u * 1u;
+    store8(v44, 1u);
+    v45 = a0 + 8u * 1u;
+    memory_set(v45, 0u, 200u);
+    goto L1;
+L14:;
+    store8(a0, 0u);
+    v46 = a0 + 1u * 1u;
+    store8(v46, 0u);
+    v47 = a0 + 8u * 1u;
+    memory_cpy(v47, v9, 192u);
+    v48 = a0 + 200u * 1u;
+    store64(v48, a2);
+    goto L1;
+}
+
+static void f102(address a0, address a1, u64 a2, address a3, u64 a4, address a5, u64 a6) {
     u8 v7, v8, v9, v16, v17, v18, v20, v21, v22, v23, v25, v26, v27, v29, v30, v31;
     u8 v33, v34, v35, v36, v38, v39, v41, v42, v43, v45, v49, v50, v51, v57, v58, v61;
     u64 v10, v19, v44, v47, v48, v60, v62;
@@ -22069,9 +23851,9 @@ static void f93(address a0, address a1, u64 a2, address a3, u64 a4, address a5, 
     v14 = ADDRESS(block3);
     memory_set(v12, 0u, 440u);
     memory_set(v13, 0u, 40u);
-    f94(v12);
+    f103(v12);
     memory_cpy(v11, v12, 440u);
-    v15 = f97(a3, a4);
+    v15 = f100(a3, a4);
     v16 = v15.m0;
     v17 = v16 == 1u;
     if (v17) { goto L1; }
@@ -22106,7 +23888,7 @@ L4:;
     if (v35) { v7 = 1u; v8 = 2u; v9 = 0u; v10 = 0u; goto L12; }
     else { goto L5; }
 L5:;
-    v36 = f21(a5, 4u, (ADDRESS(c324) + 8u * 1u), 4u);
+    v36 = f27(a5, 4u, (ADDRESS(c332) + 8u * 1u), 4u);
     if (v36) { goto L6; }
     else { v7 = 1u; v8 = 2u; v9 = 0u; v10 = 0u; goto L12; }
 L6:;
@@ -22122,7 +23904,7 @@ L7:;
     if (v42) { goto L8; }
     else { v7 = 1u; v8 = 2u; v9 = 2u; v10 = 0u; goto L12; }
 L8:;
-    v43 = f99(a5, a6, v11);
+    v43 = f106(a5, a6, v11);
     if (v43) { goto L9; }
     else { v7 = 1u; v8 = 2u; v9 = 3u; v10 = 0u; goto L12; }
 L9:;
@@ -22139,7 +23921,7 @@ L10:;
     else { v7 = 1u; v8 = 2u; v9 = 5u; v10 = 0u; goto L12; }
 L11:;
     store64(v14, v19);
-    f107(v13, v14, a3, a4);
+    f114(v13, v14, a3, a4);
     v50 = load8(v13);
     v51 = v50 == 0u;
     if (v51) { goto L13; }
@@ -22155,7 +23937,7 @@ L12:;
     return;
 L13:;
     v55 = v13 + 8u * 1u;
-    v56 = f108(v11, v55);
+    v56 = f115(v11, v55);
     v57 = v56.m0;
     v58 = v57 == 0u;
     v59 = v56.m1;
@@ -22165,7 +23947,7 @@ L13:;
     v7 = v57; v8 = v61; v9 = 0u; v10 = v62; goto L12;
 }
 
-static void f94(address a0) {
+static void f103(address a0) {
     address v1, v2, v3, v4, v5, v6, v7, v8, v9, v10, v11, v12, v13, v14, v15, v16;
     address v17, v18, v19, v20, v21, v22, v23, v24, v25, v28;
     u8 v26, v27;
@@ -22222,7 +24004,7 @@ static void f94(address a0) {
     store8(v24, 1u);
     v25 = v3 + 20u * 1u;
     store32(v25, 0u);
-    f95(v2, v1, v3, 1u);
+    f104(v2, v1, v3, 1u);
     v26 = load8(v2);
     v27 = v26 == 0u;
     if (v27) { goto L1; }
@@ -22236,7 +24018,7 @@ L2:;
     UNREACHABLE;
 }
 
-static void f95(address a0, address a1, address a2, u64 a3) {
+static void f104(address a0, address a1, address a2, u64 a3) {
     u64 v4, v16, v33, v34, v35, v36, v39, v42, v43, v46, v52, v54, v71, v73;
     address v5, v6, v7, v8, v9, v10, v11, v12, v15, v17, v19, v21, v23, v25, v27, v29;
     address v31, v32, v38, v40, v41, v48, v49, v51, v53, v55, v57, v58, v59, v61, v62, v64;
@@ -22271,7 +24053,7 @@ static void f95(address a0, address a1, address a2, u64 a3) {
     memory_set(v10, 0u, 10u);
     memory_set(v11, 0u, 150u);
     memory_set(v12, 0u, 202u);
-    f96(v8, a1, a2, a3);
+    f105(v8, a1, a2, a3);
     v13 = load8(v8);
     v14 = v13 == 0u;
     if (v14) { goto L1; }
@@ -22305,7 +24087,7 @@ L1:;
     else { goto L2; }
 L2:;
     v38 = v7 + 136u * 1u;
-    f29(v7, v36);
+    f19(v7, v36);
     v39 = load64(v38);
     v4 = v39; goto L3;
 L3:;
@@ -22513,7 +24295,7 @@ L9:;
     goto L8;
 }
 
-static void f96(address a0, address a1, address a2, u64 a3) {
+static void f105(address a0, address a1, address a2, u64 a3) {
     address v4, v6, v8, v13, v14, v15, v16, v17, v18, v19, v23, v24, v25, v26, v27, v30;
     address v31, v36, v51, v52, v53, v54, v55, v56, v57, v58, v59, v60, v61, v62, v63, v64;
     address v65, v66, v67, v68, v69, v70, v71, v72, v73, v74, v75, v76, v77, v78, v79, v80;
@@ -22571,7 +24353,7 @@ L2:;
     else { goto L3; }
 L3:;
     memory_set(v17, 0u, 24u);
-    f26(v17, v26, v32);
+    f32(v17, v26, v32);
     v34 = load8(v17);
     v35 = v34 == 0u;
     if (v35) { goto L4; }
@@ -23044,134 +24826,7 @@ L36:;
     goto L10;
 }
 
-static struct s1 f97(address a0, u64 a1) {
-    address v2, v5;
-    u8 v3, v4, v6, v7;
-    struct s1 v8, v9;
-    u64 block0[26];
-    v2 = ADDRESS(block0);
-    memory_set(v2, 0u, 208u);
-    f98(v2, a0, a1);
-    v3 = load8(v2);
-    v4 = v3 == 0u;
-    v5 = v2 + 1u * 1u;
-    v6 = load8(v5);
-    v7 = v4 ? 0u : v6;
-    v8 = (struct s1){ 0 };
-    v8.m0 = v3;
-    v9 = v8;
-    v9.m1 = v7;
-    return v9;
-}
-
-static void f98(address a0, address a1, u64 a2) {
-    u64 v3, v4, v6, v15, v17, v26, v29, v30, v38, v39, v41;
-    address v5, v7, v8, v9, v10, v12, v13, v16, v18, v20, v22, v23, v24, v25, v32, v33;
-    address v35, v42, v44, v45, v46, v47, v48;
-    u8 v11, v14, v21, v27, v28, v31, v37, v40, v43;
-    u16 v19, v34, v36;
-    u64 block0[24];
-    u64 block1[24];
-    u64 block2[24];
-    v8 = ADDRESS(block0);
-    v9 = ADDRESS(block1);
-    v10 = ADDRESS(block2);
-    v11 = a2 > 16u;
-    if (v11) { goto L2; }
-    else { goto L3; }
-L1:;
-    return;
-L2:;
-    store8(a0, 1u);
-    v12 = a0 + 1u * 1u;
-    store8(v12, 0u);
-    v13 = a0 + 8u * 1u;
-    memory_set(v13, 0u, 200u);
-    goto L1;
-L3:;
-    v14 = a2 == 0u;
-    memory_set(v8, 0u, 192u);
-    if (v14) { goto L4; }
-    else { v3 = 0u; goto L5; }
-L4:;
-    memory_set(v9, 0u, 192u);
-    goto L14;
-L5:;
-    v15 = (u64)((u64)v3 * (u64)12u);
-    v16 = a1 + v15 * 1u;
-    v17 = load64(v16);
-    v18 = v16 + 8u * 1u;
-    v19 = load16(v18);
-    v20 = v16 + 10u * 1u;
-    v21 = load8(v20);
-    v22 = v8 + v15 * 1u;
-    store64(v22, v17);
-    v23 = v22 + 8u * 1u;
-    store16(v23, v19);
-    v24 = v22 + 10u * 1u;
-    store8(v24, v21);
-    v25 = v22 + 11u * 1u;
-    store8(v25, 0u);
-    v26 = (u64)((u64)v3 + (u64)1u);
-    v27 = v26 == a2;
-    if (v27) { goto L6; }
-    else { v3 = v26; goto L5; }
-L6:;
-    memory_cpy(v10, v8, 192u);
-    memory_cpy(v9, v10, 192u);
-    v28 = a2 == 1u;
-    if (v28) { goto L14; }
-    else { goto L7; }
-L7:;
-    v29 = (u64)((u64)a2 + (u64)UINT64_C(18446744073709551615));
-    v4 = v29; v5 = v9; goto L9;
-L8:;
-    v30 = (u64)((u64)v4 + (u64)UINT64_C(18446744073709551615));
-    v31 = v30 == 0u;
-    if (v31) { goto L14; }
-    else { v4 = v30; v5 = v32; goto L9; }
-L9:;
-    v32 = v5 + 12u * 1u;
-    v33 = v5 + 8u * 1u;
-    v34 = load16(v33);
-    v6 = v4; v7 = v32; goto L10;
-L10:;
-    v35 = v7 + 8u * 1u;
-    v36 = load16(v35);
-    v37 = v34 == v36;
-    if (v37) { goto L11; }
-    else { goto L12; }
-L11:;
-    v38 = load64(v5);
-    v39 = load64(v7);
-    v40 = v38 == v39;
-    if (v40) { goto L13; }
-    else { goto L12; }
-L12:;
-    v41 = (u64)((u64)v6 + (u64)UINT64_C(18446744073709551615));
-    v42 = v7 + 12u * 1u;
-    v43 = v41 == 0u;
-    if (v43) { goto L8; }
-    else { v6 = v41; v7 = v42; goto L10; }
-L13:;
-    store8(a0, 1u);
-    v44 = a0 + 1u * 1u;
-    store8(v44, 1u);
-    v45 = a0 + 8u * 1u;
-    memory_set(v45, 0u, 200u);
-    goto L1;
-L14:;
-    store8(a0, 0u);
-    v46 = a0 + 1u * 1u;
-    store8(v46, 0u);
-    v47 = a0 + 8u * 1u;
-    memory_cpy(v47, v9, 192u);
-    v48 = a0 + 200u * 1u;
-    store64(v48, a2);
-    goto L1;
-}
-
-static u8 f99(address a0, u64 a1, address a2) {
+static u8 f106(address a0, u64 a1, address a2) {
     u8 v3, v5, v8, v11, v13, v18, v21, v24, v29, v33, v34;
     address v4, v6, v9, v14, v15, v25, v26, v30, v31, v32;
     u64 v7, v10, v12, v16, v17, v19, v20, v22, v23, v27, v28;
@@ -23224,17 +24879,17 @@ L5:;
     store_address(v31, v26);
     v32 = v4 + 16u * 1u;
     store64(v32, v28);
-    v33 = f100(v4);
+    v33 = f107(v4);
     if (v33) { goto L6; }
     else { v3 = 0u; goto L7; }
 L6:;
-    v34 = f102(a0, a1, a2);
+    v34 = f109(a0, a1, a2);
     v3 = v34; goto L7;
 L7:;
     return v3;
 }
 
-static u8 f100(address a0) {
+static u8 f107(address a0) {
     u8 v1, v3, v6, v7, v8, v9, v10, v11, v12, v13, v14, v15, v19, v20, v40, v54;
     u8 v55, v57, v60, v61, v62, v63, v64, v65, v66, v67, v68, v69, v70, v71, v72, v73;
     u8 v74, v75, v76, v77, v81, v82, v83, v84, v85, v86, v87, v88, v89, v90, v91, v92;
@@ -23310,7 +24965,7 @@ L3:;
     v51 = v18 + 16u * 1u;
     v52 = v18 + 48u * 1u;
     v53 = v18 + 56u * 1u;
-    f101(v18, v42, v39, v17);
+    f108(v18, v42, v39, v17);
     v54 = load8(v18);
     v55 = v54 == 1u;
     if (v55) { goto L4; }
@@ -23333,7 +24988,7 @@ L5:;
     v67 = load8(v43);
     v2 = v58; v3 = 1u; v4 = v56; v5 = v59; v6 = v60; v7 = v61; v8 = v62; v9 = v63; v10 = v64; v11 = v65; v12 = v66; v13 = v67; goto L6;
 L6:;
-    f101(v18, v2, v4, v17);
+    f108(v18, v2, v4, v17);
     v68 = load8(v18);
     v69 = v68 == 1u;
     if (v69) { goto L7; }
@@ -23417,7 +25072,7 @@ L19:;
     v1 = v108; goto L1;
 }
 
-static void f101(address a0, address a1, u64 a2, address a3) {
+static void f108(address a0, address a1, u64 a2, address a3) {
     u8 v4, v12, v13, v18, v28, v31, v34, v38, v42, v45, v48, v51, v52, v54, v57, v60;
     u8 v63, v66, v70, v73, v76, v79, v82, v83, v85, v89, v92, v93, v94, v95, v96, v97;
     u8 v98, v102, v108, v109, v115, v119, v122, v126, v129, v130, v132, v134, v135, v136, v137, v141;
@@ -23843,7 +25498,7 @@ L60:;
     goto L2;
 }
 
-static u8 f102(address a0, u64 a1, address a2) {
+static u8 f109(address a0, u64 a1, address a2) {
     u8 v3, v5, v9, v11, v13, v14, v26, v27, v29, v30, v31, v33, v34, v35, v37, v38;
     u8 v39, v40, v41, v42;
     address v4, v6, v15, v16, v17, v18, v19, v20, v21, v22, v23, v24, v25, v28, v32, v36;
@@ -23907,19 +25562,19 @@ L2:;
 L3:;
     v3 = 0u; goto L1;
 L4:;
-    v40 = f21(a0, 12u, v4, 12u);
+    v40 = f27(a0, 12u, v4, 12u);
     if (v40) { goto L5; }
     else { v3 = 0u; goto L1; }
 L5:;
-    v41 = f103(a2, v6, v7);
+    v41 = f110(a2, v6, v7);
     if (v41) { goto L6; }
     else { v3 = 0u; goto L1; }
 L6:;
-    v42 = f106(a2, v6, v7);
+    v42 = f113(a2, v6, v7);
     v3 = v42; goto L1;
 }
 
-static u8 f103(address a0, address a1, u64 a2) {
+static u8 f110(address a0, address a1, u64 a2) {
     u8 v3, v6, v9, v11, v14, v17, v20, v21, v22, v25;
     address v4, v5, v7, v12, v13, v23, v24;
     u64 v8, v10, v15, v16, v18, v19;
@@ -23954,7 +25609,7 @@ L3:;
     if (v20) { v3 = 0u; goto L5; }
     else { goto L4; }
 L4:;
-    f104(v5, a1, v12, v10);
+    f111(v5, a1, v12, v10);
     v21 = load8(v5);
     v22 = v21 == 1u;
     if (v22) { goto L6; }
@@ -23965,11 +25620,11 @@ L6:;
     v23 = v13 + 1u * 1u;
     v24 = v5 + 8u * 1u;
     memory_cpy(v4, v24, 248u);
-    v25 = f105(a0, v4, v23, v19);
+    v25 = f112(a0, v4, v23, v19);
     v3 = v25; goto L5;
 }
 
-static void f104(address a0, address a1, address a2, u64 a3) {
+static void f111(address a0, address a1, address a2, u64 a3) {
     address v4, v5, v6, v8, v9, v10, v11, v13, v15, v19, v21, v23, v25, v27, v31, v36;
     address v42, v44, v46, v48, v50, v52, v54, v56, v81, v83, v85, v87, v89, v91, v93, v95;
     address v121, v123, v129, v133, v135, v141, v143, v145, v147, v160, v162, v164, v166, v168, v170, v174;
@@ -24304,7 +25959,7 @@ L3:;
     goto L1;
 }
 
-static u8 f105(address a0, address a1, address a2, u64 a3) {
+static u8 f112(address a0, address a1, address a2, u64 a3) {
     u64 v4, v6, v48, v67, v125, v147, v148, v149, v150, v151, v152, v153, v154, v155, v156, v157;
     u64 v158, v159, v160, v161, v162, v163, v164, v165, v166, v167, v168, v169, v179, v190, v300, v326;
     u64 v327, v328, v329, v332, v335, v336, v339, v346, v348, v357, v370, v372;
@@ -24743,7 +26398,7 @@ L5:;
     v295 = v57 + 192u * 1u;
     store64(v295, v6);
     memory_set(v53, 0u, 208u);
-    f96(v53, a1, v57, v6);
+    f105(v53, a1, v57, v6);
     v296 = load8(v53);
     v297 = v296 == 0u;
     if (v297) { goto L6; }
@@ -24798,7 +26453,7 @@ L6:;
     else { goto L7; }
 L7:;
     v331 = v52 + 136u * 1u;
-    f29(v52, v329);
+    f19(v52, v329);
     v332 = load64(v331);
     v48 = v332; goto L8;
 L8:;
@@ -24970,7 +26625,7 @@ L14:;
     return v49;
 }
 
-static u8 f106(address a0, address a1, u64 a2) {
+static u8 f113(address a0, address a1, u64 a2) {
     u8 v3, v5, v8, v12, v14, v16, v17, v23, v27, v28, v29, v30, v31, v35, v36, v37;
     u8 v41, v42, v43, v44, v45, v46, v47, v48, v51, v52, v55, v56, v59, v60, v64, v65;
     u8 v66, v70, v71, v72, v73, v77, v78, v79, v80, v84, v85, v86, v87, v88, v89, v90;
@@ -24990,7 +26645,7 @@ static u8 f106(address a0, address a1, u64 a2) {
     v19 = ADDRESS(block1);
     v20 = ADDRESS(block2);
     memory_set(v19, 0u, 336u);
-    f43(v19, a0);
+    f65(v19, a0);
     memory_cpy(v20, v19, 336u);
     v21 = v20 + 328u * 1u;
     v22 = load64(v21);
@@ -25091,7 +26746,7 @@ L6:;
     if (v96) { goto L7; }
     else { goto L8; }
 L7:;
-    v97 = f20(v18, v22);
+    v97 = f26(v18, v22);
     v16 = v97; goto L26;
 L8:;
     v98 = v22 < 65u;
@@ -25207,7 +26862,7 @@ L27:;
     return v17;
 }
 
-static void f107(address a0, address a1, address a2, u64 a3) {
+static void f114(address a0, address a1, address a2, u64 a3) {
     u64 v4, v6, v8, v10, v17, v20, v23, v25, v27, v31, v38;
     u8 v5, v13, v14, v18, v19, v24, v30, v39;
     address v7, v9, v11, v12, v15, v16, v26, v28, v29, v32, v33, v34, v35, v36, v37, v40;
@@ -25221,7 +26876,7 @@ static void f107(address a0, address a1, address a2, u64 a3) {
     v11 = ADDRESS(block1);
     v12 = ADDRESS(block2);
     memory_set(v12, 0u, 208u);
-    f98(v12, a2, a3);
+    f101(v12, a2, a3);
     v13 = load8(v12);
     v14 = v13 == 0u;
     if (v14) { goto L1; }
@@ -25288,12 +26943,12 @@ L7:;
     UNREACHABLE;
 }
 
-static struct s5 f108(address a0, address a1) {
-    u8 v2, v17, v25;
-    address v3, v4, v5, v7, v8, v9, v11, v13, v14, v19, v20, v21, v22, v23, v24;
+static struct s5 f115(address a0, address a1) {
+    u8 v2, v17, v26;
+    address v3, v4, v5, v7, v8, v9, v11, v13, v14, v19, v20, v21, v22, v23, v24, v25;
     u64 v6, v10, v12, v16, v18;
     struct pair v15;
-    struct s5 v26, v27;
+    struct s5 v27, v28;
     u64 block0[54];
     u64 block1[55];
     v4 = ADDRESS(block0);
@@ -25306,11 +26961,11 @@ static struct s5 f108(address a0, address a1) {
     v11 = a1 + 24u * 1u;
     v12 = load64(v11);
     memory_set(v5, 0u, 440u);
-    f44(v5, a0);
+    f18(v5, a0);
     v13 = load_address(v5);
     v14 = v5 + 8u * 1u;
     memory_cpy(v4, v14, 432u);
-    v15 = portable_rattle_alloc(472u, 8u);
+    v15 = portable_rattle_alloc(664u, 8u);
     v16 = v15.m0;
     v17 = (u8)((v16) & UINT64_C(1));
     if (v17) { goto L1; }
@@ -25329,23 +26984,25 @@ L1:;
     store64(v23, v10);
     v24 = v19 + 464u * 1u;
     store64(v24, v12);
+    v25 = v19 + 472u * 1u;
+    memory_set(v25, 0u, 190u);
     v2 = 0u; v3 = v19; goto L4;
 L2:;
-    v25 = v12 == 0u;
-    if (v25) { v2 = 1u; v3 = 0u; goto L4; }
+    v26 = v12 == 0u;
+    if (v26) { v2 = 1u; v3 = 0u; goto L4; }
     else { goto L3; }
 L3:;
     portable_rattle_dealloc(v8);
     v2 = 1u; v3 = 0u; goto L4;
 L4:;
-    v26 = (struct s5){ 0 };
-    v26.m0 = v2;
-    v27 = v26;
-    v27.m1 = v3;
-    return v27;
+    v27 = (struct s5){ 0 };
+    v27.m0 = v2;
+    v28 = v27;
+    v28.m1 = v3;
+    return v28;
 }
 
-static u8 f109(address a0, u64 a1, address a2) {
+static u8 f116(address a0, u64 a1, address a2) {
     address v3, v7, v12, v13, v23, v24, v25, v29, v30, v31;
     u8 v4, v6, v9, v11, v16, v19, v22, v28, v32;
     u64 v5, v8, v10, v14, v15, v17, v18, v20, v21, v26, v27;
@@ -25398,14 +27055,14 @@ L5:;
     store_address(v30, v25);
     v31 = v3 + 16u * 1u;
     store64(v31, v27);
-    v32 = f110(v3, a2);
+    v32 = f117(v3, a2);
     return v32;
 L6:;
     TRAP;
     UNREACHABLE;
 }
 
-static u8 f110(address a0, address a1) {
+static u8 f117(address a0, address a1) {
     address v2, v6, v10, v11, v12, v13, v14, v15, v16, v17, v18, v19, v20, v21, v22, v23;
     address v24, v25, v26, v27, v28, v29, v32, v34, v35, v36, v37, v38, v39, v40, v41, v42;
     address v43, v46, v50, v53, v55, v58;
@@ -25474,7 +27131,7 @@ L1:;
     v43 = v11 + 16u * 1u;
     v2 = v35; v3 = v33; v4 = 0u; v5 = 0u; goto L2;
 L2:;
-    f101(v12, v2, v3, v10);
+    f108(v12, v2, v3, v10);
     v44 = load8(v12);
     v45 = v44 == 1u;
     if (v45) { goto L3; }
@@ -25512,7 +27169,7 @@ L7:;
     else { v6 = v53; v7 = v54; goto L5; }
 L8:;
     v62 = load16(v42);
-    f59(a1, v36, v62, v43, v10);
+    f57(a1, v36, v62, v43, v10);
     v8 = 0u; goto L9;
 L9:;
     v63 = (u8)((u32)v8 + (u32)v4);
@@ -25527,7 +27184,7 @@ L11:;
     return v9;
 }
 
-static u8 f111(address a0) {
+static u8 f118(address a0) {
     u8 v1, v5, v10, v14, v15, v21, v26;
     struct pair v2, v19, v23, v24;
     address v3, v6, v16, v28;
@@ -25580,7 +27237,7 @@ L6:;
     v1 = 1u; goto L1;
 }
 
-static u32 f112(address a0, address a1) {
+static u32 f119(address a0, address a1) {
     u64 v2, v10, v12, v16, v18, v22, v24, v28, v30, v32, v34, v36, v38, v56, v58, v67;
     u64 v72, v76, v82;
     u32 v3;
@@ -25753,7 +27410,7 @@ L18:;
     return v3;
 }
 
-static void f113(address a0, address a1) {
+static void f120(address a0, address a1) {
     u64 v2, v4, v30, v34, v64, v68, v81, v82, v84, v85;
     u16 v3, v8, v23, v27, v42, v56, v66, v73, v74, v87, v88, v90, v91, v98, v99, v103;
     u16 v105, v106;
@@ -26032,7 +27689,7 @@ L3:;
     return;
 }
 
-static void f114(address a0, address a1, address a2, address a3, u64 a4) {
+static void f121(address a0, address a1, address a2, address a3, u64 a4) {
     u8 v5, v7, v8, v10, v11, v14, v16, v17, v25, v27, v30, v32, v33, v34, v36, v38;
     u8 v39, v40, v42, v45, v49, v51, v53, v54, v55, v57, v59, v61, v62, v63, v67, v68;
     u8 v69, v70, v71, v72, v73, v74, v75, v79, v80, v82, v83, v84, v85, v87, v89, v94;
@@ -26162,7 +27819,7 @@ L11:;
     else { goto L12; }
 L12:;
     v90 = a1 + 192u * 1u;
-    f115(v19, a2, a1, v90);
+    f122(v19, a2, a1, v90);
     v91 = v19 + 20u * 1u;
     v92 = load64(v91);
     v93 = v19 + 34u * 1u;
@@ -26231,7 +27888,7 @@ L21:;
     else { v12 = v126; v13 = v127; goto L19; }
 L22:;
     memory_cpy(v20, v18, 16u);
-    f115(v21, a2, a1, v90);
+    f122(v21, a2, a1, v90);
     memory_cpy(v90, v21, 36u);
     v129 = load8(a2);
     v130 = load8(v31);
@@ -26411,7 +28068,7 @@ L28:;
     goto L27;
 }
 
-static void f115(address a0, address a1, address a2, address a3) {
+static void f122(address a0, address a1, address a2, address a3) {
     u64 v4, v6, v7, v8, v18, v20, v24, v26, v28, v30, v49, v50, v51, v52, v53, v54;
     u64 v55, v56, v57, v58, v59, v60, v64, v66, v67, v69, v71, v90, v91, v92, v93, v94;
     u64 v95, v96, v97, v98, v99, v100, v101, v103, v107, v109;
@@ -26579,7 +28236,7 @@ L6:;
     return;
 }
 
-static void f116(address a0, address a1, u8 a2, u16 a3, u16 a4, address a5, u64 a6) {
+static void f123(address a0, address a1, u8 a2, u16 a3, u16 a4, address a5, u64 a6) {
     u8 v7, v8, v15, v16, v20, v24, v25, v30, v31, v32, v40, v41, v62, v63, v66, v67;
     u8 v68, v69;
     address v9, v10, v11, v12, v13, v14, v17, v21, v22, v23, v26, v27, v28, v33, v34, v35;
@@ -26668,7 +28325,7 @@ L8:;
     store_address(v38, a5);
     v39 = v10 + 16u * 1u;
     store64(v39, a6);
-    f44(v12, a1);
+    f18(v12, a1);
     memory_cpy(v11, v12, 440u);
     v40 = v16 == 3u;
     v41 = v40 ? 4u : 2u;
@@ -26713,7 +28370,7 @@ L8:;
     store8(v60, 1u);
     v61 = v9 + 1137u * 1u;
     memory_set(v61, 0u, 159u);
-    f52(a1, v10, 7u, v9);
+    f50(a1, v10, 7u, v9);
     v62 = load8(v46);
     v63 = load8(v47);
     v64 = v9 + 1288u * 1u;
@@ -26725,7 +28382,7 @@ L8:;
     if (v68) { v7 = 3u; v8 = v63; goto L10; }
     else { goto L9; }
 L9:;
-    f63(v14, a1, v11);
+    f62(v14, a1, v11);
     v70 = v13 + 1u * 1u;
     memory_cpy(v70, v14, 12u);
     v7 = 0u; v8 = 0u; goto L10;
@@ -26741,7 +28398,7 @@ L10:;
     goto L2;
 }
 
-static void f117(address a0, address a1, u16 a2, address a3, u64 a4) {
+static void f124(address a0, address a1, u16 a2, address a3, u64 a4) {
     u16 v5, v7, v8, v9, v10, v23, v31, v33, v37, v39, v45, v82, v83, v84, v85, v86;
     u16 v87, v88, v89, v119, v131, v132, v133, v134, v135, v136, v137, v138, v139;
     u64 v6, v22, v29, v43, v66, v67, v77, v79, v81, v98, v100, v113, v118;
@@ -26786,7 +28443,7 @@ L3:;
     memory_set(v25, 0u, 153u);
     goto L2;
 L4:;
-    f51(v17, a1, a3, a4);
+    f49(v17, a1, a3, a4);
     v26 = load8(v17);
     v27 = v26 == 1u;
     if (v27) { goto L5; }
@@ -26872,7 +28529,7 @@ L9:;
     v77 = load64(v76);
     v78 = v65 + 54u * 1u;
     v79 = (u64)((u64)v77 + (u64)UINT64_C(18446744073709551562));
-    v80 = v64 ? v78 : ADDRESS(c138);
+    v80 = v64 ? v78 : ADDRESS(c145);
     v81 = v64 ? v79 : 0u;
     v82 = (u16)v73;
     v83 = (u16)((u32)v82 << (8u & 15u));
@@ -26895,7 +28552,7 @@ L9:;
     store_address(v94, v80);
     v95 = v13 + 16u * 1u;
     store64(v95, v81);
-    v96 = f60(v13);
+    v96 = f58(v13);
     if (v96) { goto L10; }
     else { goto L16; }
 L10:;
@@ -26946,7 +28603,7 @@ L15:;
 L16:;
     v6 = 0u; v7 = 0u; v8 = 0u; v9 = 0u; v10 = 0u; v11 = 0u; v12 = 0u; goto L19;
 L17:;
-    v121 = f61(a1, v14);
+    v121 = f59(a1, v14);
     v122 = v121 < 2u;
     if (v122) { goto L18; }
     else { v6 = 0u; v7 = 0u; v8 = 0u; v9 = 0u; v10 = 0u; v11 = 0u; v12 = 0u; goto L19; }
@@ -26997,6 +28654,137 @@ L19:;
     goto L2;
 }
 
+static void f125(address a0, address a1, u16 a2, address a3, u64 a4) {
+    address v5, v7, v8, v9, v10, v11, v12, v13, v16, v19, v20, v21, v22, v23, v27, v29;
+    address v31, v37, v40, v41, v42, v44, v47, v52, v53, v55, v56, v59, v60, v61, v62, v63;
+    address v65, v67, v70, v71, v72, v73;
+    u64 v6, v24, v25, v28, v38, v43, v48;
+    u8 v14, v15, v17, v18, v26, v30, v32, v39, v46, v49, v50, v51, v54, v57, v64, v66;
+    u8 v68;
+    u16 v33, v34, v35, v36, v45, v58, v69;
+    u64 block0[55];
+    u64 block1[55];
+    u64 block2[4];
+    u64 block3[20];
+    u64 block4[20];
+    v8 = ADDRESS(block0);
+    v9 = ADDRESS(block1);
+    v10 = ADDRESS(block2);
+    v11 = ADDRESS(block3);
+    v12 = ADDRESS(block4);
+    v13 = a1 + 953u * 1u;
+    v14 = load8(v13);
+    v15 = (u8)((v14) & UINT64_C(1));
+    if (v15) { goto L2; }
+    else { goto L1; }
+L1:;
+    v16 = load_address(a1);
+    v7 = v16; goto L11;
+L2:;
+    memory_set(v10, 0u, 32u);
+    f8(v10, a3, a4);
+    v17 = load8(v10);
+    v18 = v17 == 0u;
+    v19 = load_address(a1);
+    if (v18) { goto L3; }
+    else { goto L12; }
+L3:;
+    v20 = v10 + 8u * 1u;
+    v21 = load_address(v20);
+    v22 = v19 + 440u * 1u;
+    v23 = v21 + 34u * 1u;
+    v24 = load64(v23);
+    v25 = load64(v22);
+    v26 = v24 == v25;
+    if (v26) { goto L4; }
+    else { goto L12; }
+L4:;
+    v27 = v21 + 20u * 1u;
+    v28 = load64(v27);
+    v29 = v21 + 28u * 1u;
+    v30 = load8(v29);
+    v31 = v21 + 29u * 1u;
+    v32 = load8(v31);
+    v33 = (u16)v30;
+    v34 = (u16)((u32)v33 << (8u & 15u));
+    v35 = (u16)v32;
+    v36 = (u16)((u32)v34 | (u32)v35);
+    v37 = v19 + 456u * 1u;
+    v38 = load64(v37);
+    v39 = v38 == 0u;
+    if (v39) { goto L12; }
+    else { goto L5; }
+L5:;
+    v40 = v19 + 448u * 1u;
+    v41 = load_address(v40);
+    v5 = v41; v6 = v38; goto L6;
+L6:;
+    v42 = v5 + 2136u * 1u;
+    v43 = (u64)((u64)v6 + (u64)UINT64_C(18446744073709551615));
+    v44 = v5 + 2112u * 1u;
+    v45 = load16(v44);
+    v46 = v36 == v45;
+    if (v46) { goto L7; }
+    else { goto L8; }
+L7:;
+    v47 = v5 + 2104u * 1u;
+    v48 = load64(v47);
+    v49 = v28 == v48;
+    if (v49) { goto L9; }
+    else { goto L8; }
+L8:;
+    v50 = v43 == 0u;
+    if (v50) { goto L12; }
+    else { v5 = v42; v6 = v43; goto L6; }
+L9:;
+    v7 = v19; goto L11;
+L10:;
+    return;
+L11:;
+    f124(v11, v7, a2, a3, a4);
+    v51 = load8(v11);
+    store8(a0, v51);
+    v52 = a0 + 1u * 1u;
+    v53 = v11 + 1u * 1u;
+    v54 = load8(v53);
+    store8(v52, v54);
+    v55 = a0 + 2u * 1u;
+    v56 = v11 + 2u * 1u;
+    v57 = load8(v56);
+    v58 = (u16)v57;
+    store16(v55, v58);
+    v59 = a0 + 4u * 1u;
+    v60 = v11 + 4u * 1u;
+    memory_cpy(v59, v60, 150u);
+    goto L10;
+L12:;
+    v61 = a1 + 8u * 1u;
+    memory_cpy(v9, v19, 440u);
+    memory_move(v19, v61, 440u);
+    memory_cpy(v61, v9, 440u);
+    v62 = load_address(a1);
+    f124(v12, v62, a2, a3, a4);
+    v63 = load_address(a1);
+    memory_cpy(v8, v63, 440u);
+    memory_move(v63, v61, 440u);
+    memory_cpy(v61, v8, 440u);
+    v64 = load8(v12);
+    v65 = v12 + 1u * 1u;
+    v66 = load8(v65);
+    v67 = v12 + 2u * 1u;
+    v68 = load8(v67);
+    v69 = (u16)v68;
+    v70 = v12 + 4u * 1u;
+    store8(a0, v64);
+    v71 = a0 + 1u * 1u;
+    store8(v71, v66);
+    v72 = a0 + 2u * 1u;
+    store16(v72, v69);
+    v73 = a0 + 4u * 1u;
+    memory_cpy(v73, v70, 150u);
+    goto L10;
+}
+
 u64 portable_ptpm_answer_name(u32 a0, address a1, u64 a2) {
     u64 v3, v5, v6, v8, v11, v12, v13, v18;
     address v4, v9, v15, v16;
@@ -27005,7 +28793,7 @@ u64 portable_ptpm_answer_name(u32 a0, address a1, u64 a2) {
     v8 = v7 ? 4096u : 0u;
     v9 = a1 + v8 * 1u;
     switch (a0) {
-    case 1u: v3 = 12u; v4 = ADDRESS(c0); goto L110;
+    case 1u: v3 = 12u; v4 = ADDRESS(c0); goto L117;
     case 2u: goto L1;
     case 3u: goto L2;
     case 4u: goto L3;
@@ -27034,331 +28822,352 @@ u64 portable_ptpm_answer_name(u32 a0, address a1, u64 a2) {
     case 28u: goto L26;
     case 29u: goto L27;
     case 30u: goto L28;
-    case 32u: goto L108;
-    case 33u: goto L29;
-    case 34u: goto L30;
-    case 35u: goto L31;
-    case 36u: goto L32;
-    case 37u: goto L33;
-    case 38u: goto L34;
-    case 39u: goto L35;
-    case 40u: goto L36;
-    case 41u: goto L37;
-    case 42u: goto L38;
-    case 43u: goto L39;
-    case 44u: goto L40;
-    case 45u: goto L41;
-    case 46u: goto L42;
-    case 47u: goto L43;
-    case 48u: goto L44;
-    case 49u: goto L45;
-    case 50u: goto L46;
-    case 51u: goto L47;
-    case 52u: goto L48;
-    case 53u: goto L49;
-    case 54u: goto L50;
-    case 55u: goto L51;
-    case 56u: goto L52;
-    case 57u: goto L53;
-    case 104u: goto L54;
-    case 105u: goto L55;
-    case 106u: goto L56;
-    case 107u: goto L57;
-    case 108u: goto L58;
-    case 109u: goto L59;
-    case 110u: goto L60;
-    case 112u: goto L61;
-    case 113u: goto L62;
-    case 114u: goto L63;
-    case 115u: goto L64;
-    case 116u: goto L65;
-    case 117u: goto L66;
-    case 118u: goto L67;
-    case 119u: goto L68;
-    case 120u: goto L69;
-    case 121u: goto L70;
-    case 64u: goto L100;
-    case 65u: goto L71;
-    case 66u: goto L72;
-    case 67u: goto L73;
-    case 68u: goto L74;
-    case 69u: goto L75;
-    case 70u: goto L76;
-    case 71u: goto L77;
-    case 72u: goto L78;
-    case 73u: goto L79;
-    case 74u: goto L80;
-    case 75u: goto L81;
-    case 76u: goto L82;
-    case 77u: goto L83;
-    case 78u: goto L84;
-    case 79u: goto L85;
-    case 80u: goto L86;
-    case 81u: goto L87;
-    case 82u: goto L88;
-    case 83u: goto L89;
-    case 84u: goto L90;
-    case 85u: goto L91;
-    case 86u: goto L92;
-    case 87u: goto L93;
-    case 88u: goto L94;
-    case 89u: goto L95;
-    case 90u: goto L96;
-    case 91u: goto L97;
-    case 92u: goto L98;
-    case 93u: goto L99;
-    case 94u: goto L109;
-    case 95u: goto L101;
-    case 96u: goto L102;
-    case 97u: goto L103;
-    case 98u: goto L104;
-    case 99u: goto L105;
-    case 100u: goto L106;
-    case 101u: goto L107;
-    default: v6 = 0u; goto L114;
+    case 31u: goto L29;
+    case 32u: goto L115;
+    case 33u: goto L30;
+    case 34u: goto L31;
+    case 35u: goto L32;
+    case 36u: goto L33;
+    case 37u: goto L34;
+    case 38u: goto L35;
+    case 39u: goto L36;
+    case 40u: goto L37;
+    case 41u: goto L38;
+    case 42u: goto L39;
+    case 43u: goto L40;
+    case 44u: goto L41;
+    case 45u: goto L42;
+    case 46u: goto L43;
+    case 47u: goto L44;
+    case 48u: goto L45;
+    case 49u: goto L46;
+    case 50u: goto L47;
+    case 51u: goto L48;
+    case 52u: goto L49;
+    case 53u: goto L50;
+    case 54u: goto L51;
+    case 55u: goto L52;
+    case 56u: goto L53;
+    case 57u: goto L54;
+    case 104u: goto L55;
+    case 105u: goto L56;
+    case 106u: goto L57;
+    case 107u: goto L58;
+    case 108u: goto L59;
+    case 109u: goto L60;
+    case 110u: goto L61;
+    case 112u: goto L62;
+    case 113u: goto L63;
+    case 114u: goto L64;
+    case 115u: goto L65;
+    case 116u: goto L66;
+    case 117u: goto L67;
+    case 118u: goto L68;
+    case 119u: goto L69;
+    case 120u: goto L70;
+    case 121u: goto L71;
+    case 123u: goto L72;
+    case 124u: goto L73;
+    case 126u: goto L74;
+    case 127u: goto L75;
+    case 128u: goto L76;
+    case 129u: goto L77;
+    case 64u: goto L107;
+    case 65u: goto L78;
+    case 66u: goto L79;
+    case 67u: goto L80;
+    case 68u: goto L81;
+    case 69u: goto L82;
+    case 70u: goto L83;
+    case 71u: goto L84;
+    case 72u: goto L85;
+    case 73u: goto L86;
+    case 74u: goto L87;
+    case 75u: goto L88;
+    case 76u: goto L89;
+    case 77u: goto L90;
+    case 78u: goto L91;
+    case 79u: goto L92;
+    case 80u: goto L93;
+    case 81u: goto L94;
+    case 82u: goto L95;
+    case 83u: goto L96;
+    case 84u: goto L97;
+    case 85u: goto L98;
+    case 86u: goto L99;
+    case 87u: goto L100;
+    case 88u: goto L101;
+    case 89u: goto L102;
+    case 90u: goto L103;
+    case 91u: goto L104;
+    case 92u: goto L105;
+    case 93u: goto L106;
+    case 94u: goto L116;
+    case 95u: goto L108;
+    case 96u: goto L109;
+    case 97u: goto L110;
+    case 98u: goto L111;
+    case 99u: goto L112;
+    case 100u: goto L113;
+    case 101u: goto L114;
+    default: v6 = 0u; goto L121;
     }
 L1:;
-    v3 = 11u; v4 = ADDRESS(c1); goto L110;
+    v3 = 11u; v4 = ADDRESS(c1); goto L117;
 L2:;
-    v3 = 13u; v4 = ADDRESS(c2); goto L110;
+    v3 = 13u; v4 = ADDRESS(c2); goto L117;
 L3:;
-    v3 = 13u; v4 = ADDRESS(c3); goto L110;
+    v3 = 13u; v4 = ADDRESS(c3); goto L117;
 L4:;
-    v3 = 12u; v4 = ADDRESS(c4); goto L110;
+    v3 = 12u; v4 = ADDRESS(c4); goto L117;
 L5:;
-    v3 = 15u; v4 = ADDRESS(c5); goto L110;
+    v3 = 15u; v4 = ADDRESS(c5); goto L117;
 L6:;
-    v3 = 11u; v4 = ADDRESS(c6); goto L110;
+    v3 = 11u; v4 = ADDRESS(c6); goto L117;
 L7:;
-    v3 = 16u; v4 = ADDRESS(c7); goto L110;
+    v3 = 16u; v4 = ADDRESS(c7); goto L117;
 L8:;
-    v3 = 19u; v4 = ADDRESS(c8); goto L110;
+    v3 = 19u; v4 = ADDRESS(c8); goto L117;
 L9:;
-    v3 = 11u; v4 = ADDRESS(c9); goto L110;
+    v3 = 11u; v4 = ADDRESS(c9); goto L117;
 L10:;
-    v3 = 12u; v4 = ADDRESS(c10); goto L110;
+    v3 = 12u; v4 = ADDRESS(c10); goto L117;
 L11:;
-    v3 = 12u; v4 = ADDRESS(c11); goto L110;
+    v3 = 12u; v4 = ADDRESS(c11); goto L117;
 L12:;
-    v3 = 13u; v4 = ADDRESS(c12); goto L110;
+    v3 = 13u; v4 = ADDRESS(c12); goto L117;
 L13:;
-    v3 = 12u; v4 = ADDRESS(c13); goto L110;
+    v3 = 12u; v4 = ADDRESS(c13); goto L117;
 L14:;
-    v3 = 13u; v4 = ADDRESS(c14); goto L110;
+    v3 = 13u; v4 = ADDRESS(c14); goto L117;
 L15:;
-    v3 = 9u; v4 = ADDRESS(c15); goto L110;
+    v3 = 9u; v4 = ADDRESS(c15); goto L117;
 L16:;
-    v3 = 14u; v4 = ADDRESS(c16); goto L110;
+    v3 = 14u; v4 = ADDRESS(c16); goto L117;
 L17:;
-    v3 = 11u; v4 = ADDRESS(c17); goto L110;
+    v3 = 11u; v4 = ADDRESS(c17); goto L117;
 L18:;
-    v3 = 10u; v4 = ADDRESS(c18); goto L110;
+    v3 = 10u; v4 = ADDRESS(c18); goto L117;
 L19:;
-    v3 = 10u; v4 = ADDRESS(c19); goto L110;
+    v3 = 10u; v4 = ADDRESS(c19); goto L117;
 L20:;
-    v3 = 12u; v4 = ADDRESS(c20); goto L110;
+    v3 = 12u; v4 = ADDRESS(c20); goto L117;
 L21:;
-    v3 = 14u; v4 = ADDRESS(c21); goto L110;
+    v3 = 14u; v4 = ADDRESS(c21); goto L117;
 L22:;
-    v3 = 8u; v4 = ADDRESS(c22); goto L110;
+    v3 = 8u; v4 = ADDRESS(c22); goto L117;
 L23:;
-    v3 = 4u; v4 = ADDRESS(c23); goto L110;
+    v3 = 4u; v4 = ADDRESS(c23); goto L117;
 L24:;
-    v3 = 7u; v4 = ADDRESS(c24); goto L110;
+    v3 = 7u; v4 = ADDRESS(c24); goto L117;
 L25:;
-    v3 = 5u; v4 = ADDRESS(c25); goto L110;
+    v3 = 5u; v4 = ADDRESS(c25); goto L117;
 L26:;
-    v3 = 4u; v4 = ADDRESS(c26); goto L110;
+    v3 = 4u; v4 = ADDRESS(c26); goto L117;
 L27:;
-    v3 = 12u; v4 = ADDRESS(c27); goto L110;
+    v3 = 12u; v4 = ADDRESS(c27); goto L117;
 L28:;
-    v3 = 11u; v4 = ADDRESS(c28); goto L110;
+    v3 = 11u; v4 = ADDRESS(c28); goto L117;
 L29:;
-    v3 = 7u; v4 = ADDRESS(c30); goto L110;
+    v3 = 7u; v4 = ADDRESS(c29); goto L117;
 L30:;
-    v3 = 7u; v4 = ADDRESS(c31); goto L110;
+    v3 = 7u; v4 = ADDRESS(c31); goto L117;
 L31:;
-    v3 = 9u; v4 = ADDRESS(c32); goto L110;
+    v3 = 7u; v4 = ADDRESS(c32); goto L117;
 L32:;
-    v3 = 12u; v4 = ADDRESS(c33); goto L110;
+    v3 = 9u; v4 = ADDRESS(c33); goto L117;
 L33:;
-    v3 = 10u; v4 = ADDRESS(c34); goto L110;
+    v3 = 12u; v4 = ADDRESS(c34); goto L117;
 L34:;
-    v3 = 4u; v4 = ADDRESS(c35); goto L110;
+    v3 = 10u; v4 = ADDRESS(c35); goto L117;
 L35:;
-    v3 = 10u; v4 = ADDRESS(c36); goto L110;
+    v3 = 4u; v4 = ADDRESS(c36); goto L117;
 L36:;
-    v3 = 13u; v4 = ADDRESS(c37); goto L110;
+    v3 = 10u; v4 = ADDRESS(c37); goto L117;
 L37:;
-    v3 = 9u; v4 = ADDRESS(c38); goto L110;
+    v3 = 13u; v4 = ADDRESS(c38); goto L117;
 L38:;
-    v3 = 16u; v4 = ADDRESS(c39); goto L110;
+    v3 = 9u; v4 = ADDRESS(c39); goto L117;
 L39:;
-    v3 = 4u; v4 = ADDRESS(c40); goto L110;
+    v3 = 16u; v4 = ADDRESS(c40); goto L117;
 L40:;
-    v3 = 7u; v4 = ADDRESS(c41); goto L110;
+    v3 = 4u; v4 = ADDRESS(c41); goto L117;
 L41:;
-    v3 = 9u; v4 = ADDRESS(c42); goto L110;
+    v3 = 7u; v4 = ADDRESS(c42); goto L117;
 L42:;
-    v3 = 9u; v4 = ADDRESS(c43); goto L110;
+    v3 = 9u; v4 = ADDRESS(c43); goto L117;
 L43:;
-    v3 = 11u; v4 = ADDRESS(c44); goto L110;
+    v3 = 9u; v4 = ADDRESS(c44); goto L117;
 L44:;
-    v3 = 8u; v4 = ADDRESS(c45); goto L110;
+    v3 = 11u; v4 = ADDRESS(c45); goto L117;
 L45:;
-    v3 = 14u; v4 = ADDRESS(c46); goto L110;
+    v3 = 8u; v4 = ADDRESS(c46); goto L117;
 L46:;
-    v3 = 19u; v4 = ADDRESS(c47); goto L110;
+    v3 = 14u; v4 = ADDRESS(c47); goto L117;
 L47:;
-    v3 = 17u; v4 = ADDRESS(c48); goto L110;
+    v3 = 19u; v4 = ADDRESS(c48); goto L117;
 L48:;
-    v3 = 13u; v4 = ADDRESS(c49); goto L110;
+    v3 = 17u; v4 = ADDRESS(c49); goto L117;
 L49:;
-    v3 = 16u; v4 = ADDRESS(c50); goto L110;
+    v3 = 13u; v4 = ADDRESS(c50); goto L117;
 L50:;
-    v3 = 15u; v4 = ADDRESS(c51); goto L110;
+    v3 = 16u; v4 = ADDRESS(c51); goto L117;
 L51:;
-    v3 = 10u; v4 = ADDRESS(c52); goto L110;
+    v3 = 15u; v4 = ADDRESS(c52); goto L117;
 L52:;
-    v3 = 16u; v4 = ADDRESS(c53); goto L110;
+    v3 = 10u; v4 = ADDRESS(c53); goto L117;
 L53:;
-    v3 = 14u; v4 = ADDRESS(c54); goto L110;
+    v3 = 16u; v4 = ADDRESS(c54); goto L117;
 L54:;
-    v3 = 12u; v4 = ADDRESS(c55); goto L110;
+    v3 = 14u; v4 = ADDRESS(c55); goto L117;
 L55:;
-    v3 = 13u; v4 = ADDRESS(c56); goto L110;
+    v3 = 12u; v4 = ADDRESS(c56); goto L117;
 L56:;
-    v3 = 10u; v4 = ADDRESS(c57); goto L110;
+    v3 = 13u; v4 = ADDRESS(c57); goto L117;
 L57:;
-    v3 = 7u; v4 = ADDRESS(c58); goto L110;
+    v3 = 10u; v4 = ADDRESS(c58); goto L117;
 L58:;
-    v3 = 11u; v4 = ADDRESS(c59); goto L110;
+    v3 = 7u; v4 = ADDRESS(c59); goto L117;
 L59:;
-    v3 = 11u; v4 = ADDRESS(c60); goto L110;
+    v3 = 11u; v4 = ADDRESS(c60); goto L117;
 L60:;
-    v3 = 13u; v4 = ADDRESS(c61); goto L110;
+    v3 = 11u; v4 = ADDRESS(c61); goto L117;
 L61:;
-    v3 = 12u; v4 = ADDRESS(c62); goto L110;
+    v3 = 13u; v4 = ADDRESS(c62); goto L117;
 L62:;
-    v3 = 9u; v4 = ADDRESS(c63); goto L110;
+    v3 = 12u; v4 = ADDRESS(c63); goto L117;
 L63:;
-    v3 = 10u; v4 = ADDRESS(c64); goto L110;
+    v3 = 9u; v4 = ADDRESS(c64); goto L117;
 L64:;
-    v3 = 10u; v4 = ADDRESS(c65); goto L110;
+    v3 = 10u; v4 = ADDRESS(c65); goto L117;
 L65:;
-    v3 = 10u; v4 = ADDRESS(c66); goto L110;
+    v3 = 10u; v4 = ADDRESS(c66); goto L117;
 L66:;
-    v3 = 8u; v4 = ADDRESS(c67); goto L110;
+    v3 = 10u; v4 = ADDRESS(c67); goto L117;
 L67:;
-    v3 = 7u; v4 = ADDRESS(c68); goto L110;
+    v3 = 8u; v4 = ADDRESS(c68); goto L117;
 L68:;
-    v3 = 11u; v4 = ADDRESS(c69); goto L110;
+    v3 = 7u; v4 = ADDRESS(c69); goto L117;
 L69:;
-    v3 = 8u; v4 = ADDRESS(c70); goto L110;
+    v3 = 11u; v4 = ADDRESS(c70); goto L117;
 L70:;
-    v3 = 7u; v4 = ADDRESS(c71); goto L110;
+    v3 = 8u; v4 = ADDRESS(c71); goto L117;
 L71:;
-    v3 = 10u; v4 = ADDRESS(c73); goto L110;
+    v3 = 7u; v4 = ADDRESS(c72); goto L117;
 L72:;
-    v3 = 20u; v4 = ADDRESS(c74); goto L110;
+    v3 = 9u; v4 = ADDRESS(c73); goto L117;
 L73:;
-    v3 = 12u; v4 = ADDRESS(c75); goto L110;
+    v3 = 17u; v4 = ADDRESS(c74); goto L117;
 L74:;
-    v3 = 13u; v4 = ADDRESS(c76); goto L110;
+    v3 = 10u; v4 = ADDRESS(c75); goto L117;
 L75:;
-    v3 = 15u; v4 = ADDRESS(c77); goto L110;
+    v3 = 9u; v4 = ADDRESS(c76); goto L117;
 L76:;
-    v3 = 18u; v4 = ADDRESS(c78); goto L110;
+    v3 = 11u; v4 = ADDRESS(c77); goto L117;
 L77:;
-    v3 = 12u; v4 = ADDRESS(c79); goto L110;
+    v3 = 13u; v4 = ADDRESS(c78); goto L117;
 L78:;
-    v3 = 13u; v4 = ADDRESS(c80); goto L110;
+    v3 = 10u; v4 = ADDRESS(c80); goto L117;
 L79:;
-    v3 = 17u; v4 = ADDRESS(c81); goto L110;
+    v3 = 20u; v4 = ADDRESS(c81); goto L117;
 L80:;
-    v3 = 22u; v4 = ADDRESS(c82); goto L110;
+    v3 = 12u; v4 = ADDRESS(c82); goto L117;
 L81:;
-    v3 = 19u; v4 = ADDRESS(c83); goto L110;
+    v3 = 13u; v4 = ADDRESS(c83); goto L117;
 L82:;
-    v3 = 15u; v4 = ADDRESS(c84); goto L110;
+    v3 = 15u; v4 = ADDRESS(c84); goto L117;
 L83:;
-    v3 = 16u; v4 = ADDRESS(c85); goto L110;
+    v3 = 18u; v4 = ADDRESS(c85); goto L117;
 L84:;
-    v3 = 21u; v4 = ADDRESS(c86); goto L110;
+    v3 = 12u; v4 = ADDRESS(c86); goto L117;
 L85:;
-    v3 = 17u; v4 = ADDRESS(c87); goto L110;
+    v3 = 13u; v4 = ADDRESS(c87); goto L117;
 L86:;
-    v3 = 25u; v4 = ADDRESS(c88); goto L110;
+    v3 = 17u; v4 = ADDRESS(c88); goto L117;
 L87:;
-    v3 = 21u; v4 = ADDRESS(c89); goto L110;
+    v3 = 22u; v4 = ADDRESS(c89); goto L117;
 L88:;
-    v3 = 24u; v4 = ADDRESS(c90); goto L110;
+    v3 = 19u; v4 = ADDRESS(c90); goto L117;
 L89:;
-    v3 = 24u; v4 = ADDRESS(c91); goto L110;
+    v3 = 15u; v4 = ADDRESS(c91); goto L117;
 L90:;
-    v3 = 25u; v4 = ADDRESS(c92); goto L110;
+    v3 = 16u; v4 = ADDRESS(c92); goto L117;
 L91:;
-    v3 = 15u; v4 = ADDRESS(c93); goto L110;
+    v3 = 21u; v4 = ADDRESS(c93); goto L117;
 L92:;
-    v3 = 14u; v4 = ADDRESS(c94); goto L110;
+    v3 = 17u; v4 = ADDRESS(c94); goto L117;
 L93:;
-    v3 = 10u; v4 = ADDRESS(c95); goto L110;
+    v3 = 25u; v4 = ADDRESS(c95); goto L117;
 L94:;
-    v3 = 10u; v4 = ADDRESS(c96); goto L110;
+    v3 = 21u; v4 = ADDRESS(c96); goto L117;
 L95:;
-    v3 = 13u; v4 = ADDRESS(c97); goto L110;
+    v3 = 24u; v4 = ADDRESS(c97); goto L117;
 L96:;
-    v3 = 17u; v4 = ADDRESS(c98); goto L110;
+    v3 = 24u; v4 = ADDRESS(c98); goto L117;
 L97:;
-    v3 = 18u; v4 = ADDRESS(c99); goto L110;
+    v3 = 25u; v4 = ADDRESS(c99); goto L117;
 L98:;
-    v3 = 23u; v4 = ADDRESS(c100); goto L110;
+    v3 = 15u; v4 = ADDRESS(c100); goto L117;
 L99:;
-    v3 = 15u; v4 = ADDRESS(c101); goto L110;
+    v3 = 14u; v4 = ADDRESS(c101); goto L117;
 L100:;
-    v3 = 12u; v4 = ADDRESS(c72); goto L110;
+    v3 = 10u; v4 = ADDRESS(c102); goto L117;
 L101:;
-    v3 = 21u; v4 = ADDRESS(c103); goto L110;
+    v3 = 10u; v4 = ADDRESS(c103); goto L117;
 L102:;
-    v3 = 14u; v4 = ADDRESS(c104); goto L110;
+    v3 = 13u; v4 = ADDRESS(c104); goto L117;
 L103:;
-    v3 = 16u; v4 = ADDRESS(c105); goto L110;
+    v3 = 17u; v4 = ADDRESS(c105); goto L117;
 L104:;
-    v3 = 19u; v4 = ADDRESS(c106); goto L110;
+    v3 = 18u; v4 = ADDRESS(c106); goto L117;
 L105:;
-    v3 = 12u; v4 = ADDRESS(c107); goto L110;
+    v3 = 23u; v4 = ADDRESS(c107); goto L117;
 L106:;
-    v3 = 19u; v4 = ADDRESS(c108); goto L110;
+    v3 = 15u; v4 = ADDRESS(c108); goto L117;
 L107:;
-    v3 = 18u; v4 = ADDRESS(c109); goto L110;
+    v3 = 12u; v4 = ADDRESS(c79); goto L117;
 L108:;
-    v3 = 8u; v4 = ADDRESS(c29); goto L110;
+    v3 = 21u; v4 = ADDRESS(c110); goto L117;
 L109:;
-    v3 = 9u; v4 = ADDRESS(c102); goto L110;
+    v3 = 14u; v4 = ADDRESS(c111); goto L117;
 L110:;
-    v10 = a2 < v3;
-    if (v10) { v6 = 0u; goto L114; }
-    else { goto L111; }
+    v3 = 16u; v4 = ADDRESS(c112); goto L117;
 L111:;
+    v3 = 19u; v4 = ADDRESS(c113); goto L117;
+L112:;
+    v3 = 12u; v4 = ADDRESS(c114); goto L117;
+L113:;
+    v3 = 19u; v4 = ADDRESS(c115); goto L117;
+L114:;
+    v3 = 18u; v4 = ADDRESS(c116); goto L117;
+L115:;
+    v3 = 8u; v4 = ADDRESS(c30); goto L117;
+L116:;
+    v3 = 9u; v4 = ADDRESS(c109); goto L117;
+L117:;
+    v10 = a2 < v3;
+    if (v10) { v6 = 0u; goto L121; }
+    else { goto L118; }
+L118:;
     v11 = (u64)v9;
     v12 = (u64)v4;
     v13 = (u64)((u64)v11 - (u64)v12);
     v14 = v13 < v3;
-    if (v14) { v5 = 0u; goto L113; }
-    else { goto L112; }
-L112:;
+    if (v14) { v5 = 0u; goto L120; }
+    else { goto L119; }
+L119:;
     memory_move(v9, v4, v3);
-    v6 = v3; goto L114;
-L113:;
+    v6 = v3; goto L121;
+L120:;
     v15 = v9 + v5 * 1u;
     v16 = v4 + v5 * 1u;
     v17 = load8(v16);
     store8(v15, v17);
     v18 = (u64)((u64)v5 + (u64)1u);
     v19 = v18 == v3;
-    if (v19) { v6 = v3; goto L114; }
-    else { v5 = v18; goto L113; }
-L114:;
+    if (v19) { v6 = v3; goto L121; }
+    else { v5 = v18; goto L120; }
+L121:;
     return v6;
 }
 
@@ -27992,7 +29801,7 @@ L75:;
 L76:;
     v342 = v12.m1;
     v343 = (u64)v342;
-    v344 = ADDRESS(c348) + v343 * 4u;
+    v344 = ADDRESS(c357) + v343 * 4u;
     v345 = load32(v344);
     v47 = v345; goto L77;
 L77:;
@@ -28047,7 +29856,7 @@ L6:;
     v21 = v20 + 235u * 1u;
     v22 = load8(v21);
     v23 = (u64)v22;
-    v24 = ADDRESS(c339) + v23 * 4u;
+    v24 = ADDRESS(c347) + v23 * 4u;
     v25 = load32(v24);
     v4 = v25; goto L7;
 L7:;
@@ -28610,7 +30419,7 @@ L19:;
 L20:;
     v74 = v4.m1;
     v75 = (u64)v74;
-    v76 = ADDRESS(c348) + v75 * 4u;
+    v76 = ADDRESS(c357) + v75 * 4u;
     v77 = load32(v76);
     v8 = v77; goto L21;
 L21:;
@@ -29258,16 +31067,16 @@ L15:;
 
 u32 portable_ptpm_asker_wake(address a0, u64 a1, address a2) {
     u16 v3, v4, v5, v13, v39, v49, v51, v52, v57, v61, v65, v70, v71, v124, v125, v157;
-    u16 v158, v159, v160, v164, v169, v259, v260, v274, v276, v278, v283;
+    u16 v158, v159, v160, v164, v169, v259, v260, v273, v275, v277, v281;
     u64 v6, v7, v10, v11, v34, v55, v59, v95, v96, v97, v98, v99, v100, v101, v108, v155;
-    u64 v162, v173, v208, v209, v214, v215, v272, v292, v303;
+    u64 v162, v173, v208, v209, v214, v215, v271, v290;
     u8 v8, v9, v14, v15, v25, v26, v28, v29, v35, v37, v41, v43, v44, v46, v47, v54;
     u8 v63, v67, v68, v72, v104, v121, v122, v123, v133, v134, v136, v137, v139, v141, v142, v143;
     u8 v146, v147, v149, v150, v153, v166, v167, v190, v191, v192, v193, v195, v196, v198, v199, v201;
     u8 v202, v204, v205, v206, v211, v212, v217, v218, v220, v231, v232, v234, v235, v237, v238, v240;
-    u8 v241, v243, v244, v245, v247, v248, v249, v261, v263, v266, v268, v270, v280, v281, v285, v287;
-    u8 v293, v294, v295, v296, v297;
-    u32 v12, v16, v305;
+    u8 v241, v243, v244, v245, v247, v248, v249, v261, v263, v265, v267, v269, v279, v283, v285, v291;
+    u8 v292, v293, v294, v295;
+    u32 v12, v16;
     address v17, v18, v19, v20, v21, v22, v23, v24, v27, v30, v31, v32, v33, v36, v38, v40;
     address v42, v45, v48, v50, v53, v56, v58, v60, v62, v64, v66, v69, v73, v74, v75, v76;
     address v77, v78, v79, v80, v81, v82, v83, v84, v85, v86, v87, v88, v89, v90, v91, v92;
@@ -29276,9 +31085,9 @@ u32 portable_ptpm_asker_wake(address a0, u64 a1, address a2) {
     address v151, v152, v154, v156, v161, v163, v165, v168, v170, v171, v172, v174, v175, v176, v177, v178;
     address v179, v180, v181, v182, v183, v184, v185, v186, v187, v188, v189, v194, v197, v200, v203, v207;
     address v210, v213, v216, v219, v221, v222, v223, v224, v225, v226, v227, v228, v229, v230, v233, v236;
-    address v239, v242, v246, v250, v251, v252, v253, v254, v255, v256, v257, v258, v262, v264, v265, v267;
-    address v269, v271, v273, v275, v277, v279, v282, v284, v286, v288, v289, v290, v291, v298, v299, v300;
-    address v301, v302, v304;
+    address v239, v242, v246, v250, v251, v252, v253, v254, v255, v256, v257, v258, v262, v264, v266, v268;
+    address v270, v272, v274, v276, v278, v280, v282, v284, v286, v287, v288, v289, v296, v297, v298, v299;
+    address v300;
     u64 block0[1];
     u64 block1[7];
     u64 block2[7];
@@ -29317,7 +31126,7 @@ L2:;
     if (v35) { goto L3; }
     else { goto L4; }
 L3:;
-    v10 = 0u; v11 = 0u; v12 = 0u; v13 = 0u; v14 = 0u; v15 = 0u; goto L57;
+    v10 = 0u; v11 = 0u; v12 = 0u; v13 = 0u; v14 = 0u; v15 = 0u; goto L58;
 L4:;
     v36 = v31 + 179u * 1u;
     v37 = load8(v36);
@@ -29781,30 +31590,28 @@ L45:;
     UNREACHABLE;
 L46:;
     v263 = load8(v22);
-    v264 = v22 + 1u * 1u;
-    v265 = v22 + 8u * 1u;
-    v266 = load8(v265);
-    v267 = v22 + 9u * 1u;
-    v268 = load8(v267);
-    v269 = v22 + 10u * 1u;
-    v270 = load8(v269);
-    v271 = v22 + 16u * 1u;
-    v272 = load64(v271);
-    v273 = v22 + 24u * 1u;
-    v274 = load16(v273);
-    v275 = v22 + 32u * 1u;
-    v276 = load16(v275);
-    v277 = v22 + 34u * 1u;
-    v278 = load16(v277);
-    v279 = v22 + 36u * 1u;
-    v280 = load8(v264);
-    memory_cpy(v23, v279, 28u);
-    v281 = v263 == 0u;
-    if (v281) { goto L47; }
-    else { goto L58; }
+    v264 = v22 + 8u * 1u;
+    v265 = load8(v264);
+    v266 = v22 + 9u * 1u;
+    v267 = load8(v266);
+    v268 = v22 + 10u * 1u;
+    v269 = load8(v268);
+    v270 = v22 + 16u * 1u;
+    v271 = load64(v270);
+    v272 = v22 + 24u * 1u;
+    v273 = load16(v272);
+    v274 = v22 + 32u * 1u;
+    v275 = load16(v274);
+    v276 = v22 + 34u * 1u;
+    v277 = load16(v276);
+    v278 = v22 + 36u * 1u;
+    memory_cpy(v23, v278, 28u);
+    v279 = v263 == 0u;
+    if (v279) { goto L47; }
+    else { goto L57; }
 L47:;
-    switch (v266) {
-    case 0u: v10 = 0u; v11 = 0u; v12 = 0u; v13 = 0u; v14 = v266; v15 = v266; goto L57;
+    switch (v265) {
+    case 0u: v10 = 0u; v11 = 0u; v12 = 0u; v13 = 0u; v14 = v265; v15 = v265; goto L58;
     case 1u: goto L48;
     case 2u: goto L49;
     case 3u: goto L50;
@@ -29815,65 +31622,287 @@ L47:;
     default: goto L54;
     }
 L48:;
-    v10 = v272; v11 = 0u; v12 = 1u; v13 = v274; v14 = 0u; v15 = 0u; goto L57;
+    v10 = v271; v11 = 0u; v12 = 1u; v13 = v273; v14 = 0u; v15 = 0u; goto L58;
 L49:;
-    v10 = 0u; v11 = 0u; v12 = 2u; v13 = 0u; v14 = 0u; v15 = 0u; goto L57;
+    v10 = 0u; v11 = 0u; v12 = 2u; v13 = 0u; v14 = 0u; v15 = 0u; goto L58;
 L50:;
-    v10 = 0u; v11 = v272; v12 = 3u; v13 = 0u; v14 = 0u; v15 = 0u; goto L57;
+    v10 = 0u; v11 = v271; v12 = 3u; v13 = 0u; v14 = 0u; v15 = 0u; goto L58;
 L51:;
-    v10 = 0u; v11 = v272; v12 = 4u; v13 = 0u; v14 = 0u; v15 = 0u; goto L57;
+    v10 = 0u; v11 = v271; v12 = 4u; v13 = 0u; v14 = 0u; v15 = 0u; goto L58;
 L52:;
-    v10 = 0u; v11 = v272; v12 = 5u; v13 = 0u; v14 = 0u; v15 = 0u; goto L57;
+    v10 = 0u; v11 = v271; v12 = 5u; v13 = 0u; v14 = 0u; v15 = 0u; goto L58;
 L53:;
-    v10 = 0u; v11 = 0u; v12 = 7u; v13 = 0u; v14 = v268; v15 = v270; goto L57;
+    v10 = 0u; v11 = 0u; v12 = 7u; v13 = 0u; v14 = v267; v15 = v269; goto L58;
 L54:;
     UNREACHABLE;
 L55:;
-    v282 = v23 + 4u * 1u;
-    v283 = (u16)((u32)v276 & (u32)255u);
-    v284 = v31 + 1840u * 1u;
+    v280 = v23 + 4u * 1u;
+    v281 = (u16)((u32)v275 & (u32)255u);
+    v282 = v31 + 1840u * 1u;
+    v283 = load8(v282);
+    v284 = v31 + 1848u * 1u;
     v285 = load8(v284);
-    v286 = v31 + 1848u * 1u;
-    v287 = load8(v286);
-    v288 = v31 + 1850u * 1u;
-    v289 = v31 + 1856u * 1u;
-    v290 = load_address(v289);
-    v291 = v31 + 1872u * 1u;
-    v292 = load64(v291);
-    store64(v284, 1u);
-    store16(v286, v283);
-    store16(v288, v278);
-    memory_cpy(v289, v282, 24u);
-    v293 = v285 != 1u;
-    v294 = v287 != 0u;
+    v286 = v31 + 1850u * 1u;
+    v287 = v31 + 1856u * 1u;
+    v288 = load_address(v287);
+    v289 = v31 + 1872u * 1u;
+    v290 = load64(v289);
+    store64(v282, 1u);
+    store16(v284, v281);
+    store16(v286, v277);
+    memory_cpy(v287, v280, 24u);
+    v291 = v283 != 1u;
+    v292 = v285 != 0u;
+    v293 = v291 ? 1u : v292;
+    v294 = v290 == 0u;
     v295 = v293 ? 1u : v294;
-    v296 = v292 == 0u;
-    v297 = v295 ? 1u : v296;
-    if (v297) { v10 = v272; v11 = 0u; v12 = 6u; v13 = v274; v14 = 0u; v15 = 0u; goto L57; }
+    if (v295) { v10 = v271; v11 = 0u; v12 = 6u; v13 = v273; v14 = 0u; v15 = 0u; goto L58; }
     else { goto L56; }
 L56:;
-    portable_rattle_dealloc(v290);
-    v10 = v272; v11 = 0u; v12 = 6u; v13 = v274; v14 = 0u; v15 = 0u; goto L57;
+    portable_rattle_dealloc(v288);
+    v10 = v271; v11 = 0u; v12 = 6u; v13 = v273; v14 = 0u; v15 = 0u; goto L58;
 L57:;
-    store64(a2, v10);
-    v298 = a2 + 8u * 1u;
-    store64(v298, v11);
-    v299 = a2 + 16u * 1u;
-    store32(v299, v12);
-    v300 = a2 + 20u * 1u;
-    store16(v300, v13);
-    v301 = a2 + 22u * 1u;
-    store8(v301, v14);
-    v302 = a2 + 23u * 1u;
-    store8(v302, v15);
-    v16 = 0u; goto L59;
+    v16 = 35u; goto L59;
 L58:;
-    v303 = (u64)v280;
-    v304 = ADDRESS(c348) + v303 * 4u;
-    v305 = load32(v304);
-    v16 = v305; goto L59;
+    store64(a2, v10);
+    v296 = a2 + 8u * 1u;
+    store64(v296, v11);
+    v297 = a2 + 16u * 1u;
+    store32(v297, v12);
+    v298 = a2 + 20u * 1u;
+    store16(v298, v13);
+    v299 = a2 + 22u * 1u;
+    store8(v299, v14);
+    v300 = a2 + 23u * 1u;
+    store8(v300, v15);
+    v16 = 0u; goto L59;
 L59:;
     return v16;
+}
+
+u32 portable_ptpm_clock_decide(address a0, address a1, address a2, u64 a3, address a4) {
+    u64 v5, v6, v7, v19, v46, v49, v51, v53, v54, v55, v60, v61, v62, v63, v65, v71;
+    u64 v72, v75, v76, v77, v83, v89;
+    u32 v8, v9, v102, v103, v110, v111;
+    address v10, v11, v12, v13, v14, v15, v16, v17, v20, v21, v24, v27, v28, v29, v30, v33;
+    address v37, v39, v41, v42, v45, v48, v50, v52, v57, v58, v59, v64, v67, v68, v69, v73;
+    address v74, v80, v81, v84, v85, v86, v87, v88, v90, v91, v92, v93, v94, v96, v98, v99;
+    address v100, v101, v104, v106;
+    u8 v18, v22, v23, v25, v26, v31, v32, v35, v36, v38, v40, v43, v44, v47, v56, v66;
+    u8 v70, v78, v79, v95, v97, v105, v107, v108, v109;
+    u16 v34, v82;
+    u64 block0[55];
+    u64 block1[2];
+    u64 block2[55];
+    u64 block3[3];
+    u64 block4[2];
+    u64 block5[5];
+    u64 block6[24];
+    u64 block7[4];
+    v10 = ADDRESS(block0);
+    v11 = ADDRESS(block1);
+    v12 = ADDRESS(block2);
+    v13 = ADDRESS(block3);
+    v14 = ADDRESS(block4);
+    v15 = ADDRESS(block5);
+    v16 = ADDRESS(block6);
+    v17 = ADDRESS(block7);
+    v18 = a2 == 0u;
+    v19 = v18 ? 4096u : 0u;
+    v20 = a2 + v19 * 1u;
+    memory_set(a4, 0u, 32u);
+    v21 = a0 + 8u * 1u;
+    v22 = load8(v21);
+    v23 = (u8)((v22) & UINT64_C(1));
+    if (v23) { goto L1; }
+    else { v9 = 32u; goto L26; }
+L1:;
+    v24 = load_address(a0);
+    v25 = load8(v24);
+    v26 = v25 == 4u;
+    if (v26) { goto L2; }
+    else { v9 = 32u; goto L26; }
+L2:;
+    v27 = v24 + 8u * 1u;
+    v28 = load_address(v27);
+    memory_set(a4, 0u, 32u);
+    memory_set(v17, 0u, 32u);
+    v29 = load_address(v28);
+    v30 = v29 + 472u * 1u;
+    v31 = load8(v30);
+    v32 = v31 == 1u;
+    if (v32) { goto L3; }
+    else { goto L4; }
+L3:;
+    v33 = v29 + 474u * 1u;
+    memory_cpy(v16, v33, 188u);
+    v34 = load16(v16);
+    f16(v17, v29, v34, a1, a3);
+    v35 = load8(v17);
+    v36 = v35 == 0u;
+    if (v36) { goto L5; }
+    else { goto L23; }
+L4:;
+    v8 = 124u; goto L25;
+L5:;
+    v37 = v17 + 8u * 1u;
+    v38 = load8(v37);
+    v39 = v17 + 9u * 1u;
+    v40 = load8(v39);
+    v41 = v17 + 16u * 1u;
+    v42 = v28 + 955u * 1u;
+    v43 = load8(v42);
+    v44 = (u8)((v43) & UINT64_C(1));
+    if (v44) { goto L6; }
+    else { goto L24; }
+L6:;
+    v45 = v28 + 928u * 1u;
+    v46 = load64(v45);
+    v47 = v46 == 0u;
+    if (v47) { goto L7; }
+    else { goto L24; }
+L7:;
+    v48 = v28 + 896u * 1u;
+    v49 = load64(v48);
+    v50 = v28 + 920u * 1u;
+    v51 = load64(v50);
+    v52 = v28 + 912u * 1u;
+    v53 = load64(v52);
+    v54 = (u64)((u64)v49 - (u64)v51);
+    v55 = (u64)((u64)v54 + (u64)v53);
+    v56 = v55 > 14u;
+    v57 = load_address(v28);
+    if (v56) { goto L12; }
+    else { goto L8; }
+L8:;
+    memory_set(v15, 0u, 40u);
+    v58 = v57 + 440u * 1u;
+    f17(v15, v58);
+    v59 = v57 + 432u * 1u;
+    v60 = load64(v59);
+    v61 = (u64)((u64)v60 << (1u & 63u));
+    v62 = (u64)((u64)v61 & (u64)UINT64_C(131070));
+    v63 = (u64)((u64)v62 + (u64)UINT64_C(18446744073709551615));
+    v64 = v15 + 32u * 1u;
+    v65 = load64(v64);
+    v66 = v65 == 0u;
+    if (v66) { v7 = v63; goto L11; }
+    else { goto L9; }
+L9:;
+    v67 = v15 + 16u * 1u;
+    v68 = load_address(v15);
+    v5 = v63; v6 = 0u; goto L10;
+L10:;
+    v69 = v67 + v6 * 1u;
+    v70 = load8(v69);
+    v71 = (u64)v70;
+    v72 = (u64)((u64)v71 * (u64)2136u);
+    v73 = v68 + v72 * 1u;
+    v74 = v73 + 1440u * 1u;
+    v75 = load64(v74);
+    v76 = v5 > v75 ? v5 : v75;
+    v77 = (u64)((u64)v6 + (u64)1u);
+    v78 = v77 == v65;
+    if (v78) { v7 = v76; goto L11; }
+    else { v5 = v76; v6 = v77; goto L10; }
+L11:;
+    v79 = v7 > v55;
+    if (v79) { goto L24; }
+    else { goto L12; }
+L12:;
+    memory_set(v11, 0u, 16u);
+    memory_set(v12, 0u, 440u);
+    store64(v13, 0u);
+    memory_set(v14, 0u, 12u);
+    f18(v12, v57);
+    memory_cpy(v10, v12, 440u);
+    v80 = load_address(v28);
+    v81 = v16 + 2u * 1u;
+    v82 = load16(v81);
+    v83 = (u64)v82;
+    v84 = v16 + 4u * 1u;
+    store8(v13, v38);
+    v85 = v13 + 1u * 1u;
+    store8(v85, v40);
+    v86 = v13 + 8u * 1u;
+    memory_cpy(v86, v41, 16u);
+    f20(v11, v80, v34, v84, v83, v13, 0u, v20, a3);
+    v87 = v28 + 888u * 1u;
+    v88 = v11 + 8u * 1u;
+    v89 = load64(v88);
+    f61(v87, v20, v89);
+    v90 = load_address(v28);
+    v91 = v90 + 472u * 1u;
+    v92 = v28 + 953u * 1u;
+    memory_set(v91, 0u, 190u);
+    store8(v92, 1u);
+    v93 = v28 + 954u * 1u;
+    store8(v93, 1u);
+    v94 = v28 + 956u * 1u;
+    store8(v94, 0u);
+    v95 = load8(v11);
+    v96 = v11 + 1u * 1u;
+    v97 = load8(v96);
+    v98 = load_address(v28);
+    f62(v14, v98, v10);
+    store64(a4, 0u);
+    v99 = a4 + 8u * 1u;
+    store64(v99, v89);
+    v100 = a4 + 16u * 1u;
+    memory_cpy(v100, v14, 12u);
+    v101 = a4 + 28u * 1u;
+    store32(v101, 0u);
+    switch (v95) {
+    case 0u: goto L13;
+    case 9u: goto L21;
+    case 1u: v8 = 1u; goto L25;
+    case 2u: goto L14;
+    case 3u: goto L15;
+    case 4u: goto L16;
+    case 5u: goto L17;
+    case 6u: goto L18;
+    case 7u: goto L19;
+    case 8u: goto L20;
+    default: goto L22;
+    }
+L13:;
+    v102 = (u32)v97;
+    v103 = (u32)((u32)v102 + (u32)16u);
+    v8 = v103; goto L25;
+L14:;
+    v8 = 2u; goto L25;
+L15:;
+    v8 = 3u; goto L25;
+L16:;
+    v8 = 4u; goto L25;
+L17:;
+    v8 = 5u; goto L25;
+L18:;
+    v8 = 6u; goto L25;
+L19:;
+    v8 = 7u; goto L25;
+L20:;
+    v8 = 8u; goto L25;
+L21:;
+    v8 = 9u; goto L25;
+L22:;
+    UNREACHABLE;
+L23:;
+    v104 = v17 + 1u * 1u;
+    v105 = load8(v104);
+    v106 = v17 + 2u * 1u;
+    v107 = load8(v106);
+    v108 = v105 == 0u;
+    v109 = v107 == 0u;
+    v110 = v109 ? 33u : 34u;
+    v111 = v108 ? v110 : 121u;
+    v8 = v111; goto L25;
+L24:;
+    v8 = 118u; goto L25;
+L25:;
+    v9 = v8; goto L26;
+L26:;
+    return v9;
 }
 
 void portable_ptpm_clock_defaults(address a0) {
@@ -29933,6 +31962,7 @@ L1:;
     case 2u: goto L3;
     case 3u: goto L3;
     case 5u: goto L3;
+    case 6u: goto L3;
     default: goto L4;
     }
 L2:;
@@ -30053,7 +32083,7 @@ L7:;
     if (v55) { goto L10; }
     else { goto L8; }
 L8:;
-    v56 = f16(v32, v15);
+    v56 = f22(v32, v15);
     if (v56) { goto L9; }
     else { goto L24; }
 L9:;
@@ -30084,7 +32114,7 @@ L10:;
     if (v78) { goto L26; }
     else { goto L11; }
 L11:;
-    v79 = f17(v32, v15);
+    v79 = f23(v32, v15);
     if (v79) { goto L12; }
     else { goto L27; }
 L12:;
@@ -30141,7 +32171,7 @@ L16:;
     v112 = load64(v111);
     v113 = v44 + 54u * 1u;
     v114 = (u64)((u64)v112 + (u64)UINT64_C(18446744073709551562));
-    v115 = v104 ? v113 : ADDRESS(c138);
+    v115 = v104 ? v113 : ADDRESS(c145);
     v116 = v104 ? v114 : 0u;
     v117 = (u16)((u32)v91 | (u32)v87);
     v118 = (u16)v108;
@@ -30161,7 +32191,7 @@ L16:;
     store_address(v126, v115);
     v127 = v14 + 16u * 1u;
     store64(v127, v116);
-    v128 = f18(v76, v13, v101, v14);
+    v128 = f24(v76, v13, v101, v14);
     v129 = v128.m0;
     switch (v129) {
     case 0u: goto L33;
@@ -30209,7 +32239,7 @@ L23:;
     TRAP;
     UNREACHABLE;
 L24:;
-    f38(v32, 1u, a1, v20, v43, v17);
+    f43(v32, 1u, a1, v20, v43, v17);
     v148 = load64(v40);
     store64(a6, v148);
     v11 = 1u; goto L36;
@@ -30221,23 +32251,23 @@ L25:;
     v152 = (u32)((u32)v151 + (u32)16u);
     v11 = v152; goto L36;
 L26:;
-    f38(v32, 2u, a1, v20, v43, v17);
+    f43(v32, 2u, a1, v20, v43, v17);
     v153 = load64(v40);
     store64(a6, v153);
     v11 = 2u; goto L36;
 L27:;
-    f38(v32, 3u, a1, v20, v43, v17);
+    f43(v32, 3u, a1, v20, v43, v17);
     v154 = load64(v40);
     store64(a6, v154);
     v11 = 3u; goto L36;
 L28:;
-    f38(v32, 4u, a1, v20, v43, v17);
+    f43(v32, 4u, a1, v20, v43, v17);
     v155 = load64(v40);
     store64(a6, v155);
     v11 = 4u; goto L36;
 L29:;
     v156 = v128.m1;
-    f22(v32, a1, v43, v156, v17);
+    f28(v32, a1, v43, v156, v17);
     v157 = load64(v40);
     store64(a6, v157);
     v11 = 5u; goto L36;
@@ -30261,22 +32291,22 @@ L30:;
     v169 = v9 + 1440u * 1u;
     v170 = load64(v169);
     v171 = v9 + 1448u * 1u;
-    f37(v168, v170, v171, v12, a1, v17);
+    f42(v168, v170, v171, v12, a1, v17);
     v172 = load64(v40);
     store64(a6, v172);
     v11 = 6u; goto L36;
 L31:;
-    f38(v32, 7u, a1, v20, v43, v17);
+    f43(v32, 7u, a1, v20, v43, v17);
     v173 = load64(v40);
     store64(a6, v173);
     v11 = 7u; goto L36;
 L32:;
-    f38(v32, 8u, a1, v20, v43, v17);
+    f43(v32, 8u, a1, v20, v43, v17);
     v174 = load64(v40);
     store64(a6, v174);
     v11 = 8u; goto L36;
 L33:;
-    f38(v32, 9u, a1, v20, v43, v17);
+    f43(v32, 9u, a1, v20, v43, v17);
     v175 = load64(v40);
     store64(a6, v175);
     v11 = 9u; goto L36;
@@ -30313,6 +32343,7 @@ L1:;
     case 2u: v5 = 32u; goto L7;
     case 3u: v5 = 32u; goto L7;
     case 5u: v5 = 32u; goto L7;
+    case 6u: v5 = 32u; goto L7;
     default: goto L4;
     }
 L2:;
@@ -30326,7 +32357,7 @@ L4:;
     UNREACHABLE;
 L5:;
     v17 = load_address(v4);
-    v18 = f41(v17, v8, a2);
+    v18 = f63(v17, v8, a2);
     v19 = v18.m0;
     v20 = v19 == 1u;
     if (v20) { goto L6; }
@@ -30343,7 +32374,8 @@ u32 portable_ptpm_clock_image_of(address a0, address a1, u64 a2, address a3, add
     u32 v5, v8;
     u64 v6, v7, v11, v25, v29, v31, v33, v34, v35, v38, v39;
     address v9, v12, v13, v16, v19, v20, v21, v26, v27, v28, v30, v32, v36, v37, v40, v41;
-    u8 v10, v14, v15, v17, v18, v23, v24;
+    address v42;
+    u8 v10, v14, v15, v17, v18, v23, v24, v43, v44, v45;
     struct s2 v22;
     u64 block0[55];
     v9 = ADDRESS(block0);
@@ -30368,7 +32400,7 @@ L2:;
     v20 = load_address(v19);
     memory_set(v9, 0u, 440u);
     v21 = load_address(v20);
-    v22 = f41(v21, v12, a2);
+    v22 = f63(v21, v12, a2);
     v23 = v22.m0;
     v24 = (u8)((v23) & UINT64_C(1));
     if (v24) { goto L3; }
@@ -30376,7 +32408,7 @@ L2:;
 L3:;
     v25 = v22.m1;
     v26 = load_address(v20);
-    f44(v9, v26);
+    f18(v9, v26);
     v27 = v20 + 448u * 1u;
     memory_cpy(v27, v9, 440u);
     v28 = v20 + 920u * 1u;
@@ -30397,6 +32429,11 @@ L3:;
     store8(v40, 1u);
     v41 = v20 + 954u * 1u;
     store8(v41, 0u);
+    v42 = v20 + 956u * 1u;
+    v43 = load8(v42);
+    v44 = v43 == 0u;
+    v45 = v44 ? 0u : 2u;
+    store8(v42, v45);
     v5 = 0u; v6 = v39; v7 = v25; goto L4;
 L4:;
     store64(a3, v7);
@@ -30427,6 +32464,7 @@ L1:;
     case 2u: v5 = 0u; goto L9;
     case 3u: v5 = 0u; goto L9;
     case 5u: v5 = 0u; goto L9;
+    case 6u: v5 = 0u; goto L9;
     default: goto L4;
     }
 L2:;
@@ -30442,7 +32480,7 @@ L5:;
     v15 = load_address(v1);
     memory_set(v6, 0u, 40u);
     v16 = v15 + 440u * 1u;
-    f42(v6, v16);
+    f17(v6, v16);
     v17 = v15 + 432u * 1u;
     v18 = load64(v17);
     v19 = (u64)((u64)v18 << (1u & 63u));
@@ -30533,7 +32571,7 @@ L6:;
     goto L8;
 L7:;
     v27 = (u64)v21;
-    f34(v26, v22, v27);
+    f39(v26, v22, v27);
     goto L8;
 L8:;
     v28 = load64(v15);
@@ -30554,23 +32592,23 @@ u32 portable_ptpm_clock_saved(address a0, u64 a1) {
     u32 v2, v4;
     u64 v3, v18, v23, v25, v26, v31, v33, v34;
     address v5, v6, v9, v12, v13, v14, v17, v20, v21, v22, v24, v27, v30, v32, v35, v36;
-    address v37, v38;
-    u8 v7, v8, v10, v11, v15, v16, v19, v28, v29;
+    address v37, v38, v39, v42, v43;
+    u8 v7, v8, v10, v11, v15, v16, v19, v28, v29, v40, v41, v44, v45;
     u64 block0[55];
     v5 = ADDRESS(block0);
     v6 = a0 + 8u * 1u;
     v7 = load8(v6);
     v8 = (u8)((v7) & UINT64_C(1));
     if (v8) { goto L1; }
-    else { v4 = 32u; goto L8; }
+    else { v4 = 32u; goto L10; }
 L1:;
     v9 = load_address(a0);
     v10 = load8(v9);
     v11 = v10 == 4u;
     if (v11) { goto L3; }
-    else { v4 = 32u; goto L8; }
+    else { v4 = 32u; goto L10; }
 L2:;
-    v4 = v2; goto L8;
+    v4 = v2; goto L10;
 L3:;
     v12 = v9 + 8u * 1u;
     v13 = load_address(v12);
@@ -30588,7 +32626,7 @@ L4:;
     else { v2 = 119u; goto L2; }
 L5:;
     v20 = v13 + 448u * 1u;
-    f44(v5, v20);
+    f18(v5, v20);
     v21 = v13 + 8u * 1u;
     memory_cpy(v21, v5, 440u);
     v22 = v13 + 920u * 1u;
@@ -30618,26 +32656,41 @@ L7:;
     store8(v14, 0u);
     v38 = v13 + 955u * 1u;
     store8(v38, 1u);
-    v2 = 0u; goto L2;
+    v39 = v13 + 956u * 1u;
+    v40 = load8(v39);
+    v41 = v40 == 2u;
+    if (v41) { goto L8; }
+    else { v2 = 0u; goto L2; }
 L8:;
+    v42 = load_address(v13);
+    v43 = v42 + 472u * 1u;
+    v44 = load8(v43);
+    v45 = v44 == 1u;
+    if (v45) { goto L9; }
+    else { v2 = 0u; goto L2; }
+L9:;
+    store8(v39, 0u);
+    v2 = 31u; goto L2;
+L10:;
     return v4;
 }
 
 u32 portable_ptpm_clock_saving(address a0, u64 a1) {
     u64 v2, v3, v4, v5, v7, v22, v27, v28, v29, v30, v32, v38, v39, v42, v43, v44;
-    u64 v49, v52, v54, v57, v58, v59, v61, v62, v66, v73, v80, v88, v100, v104, v107, v122;
-    u64 v129, v137, v149, v153, v162, v169, v177, v189, v193, v196;
+    u64 v49, v52, v54, v57, v58, v59, v61, v62, v66, v73, v80, v88, v100, v104, v110, v114;
+    u64 v117, v132, v139, v147, v159, v163, v169, v173, v182, v189, v197, v209, v213, v219, v223, v226;
     address v6, v9, v10, v11, v12, v13, v14, v16, v19, v21, v23, v25, v26, v31, v34, v35;
     address v36, v40, v41, v55, v60, v63, v64, v69, v70, v71, v72, v75, v77, v78, v79, v81;
-    address v83, v85, v86, v87, v96, v97, v98, v99, v101, v102, v103, v108, v109, v110, v111, v112;
-    address v113, v114, v115, v116, v118, v119, v120, v121, v124, v126, v127, v128, v130, v132, v134, v135;
-    address v136, v145, v146, v147, v148, v150, v151, v152, v158, v159, v160, v161, v164, v166, v167, v168;
-    address v170, v172, v174, v175, v176, v185, v186, v187, v188, v190, v191, v192;
+    address v83, v85, v86, v87, v96, v97, v98, v99, v101, v102, v103, v107, v108, v109, v111, v112;
+    address v113, v118, v119, v120, v121, v122, v123, v124, v125, v126, v128, v129, v130, v131, v134, v136;
+    address v137, v138, v140, v142, v144, v145, v146, v155, v156, v157, v158, v160, v161, v162, v166, v167;
+    address v168, v170, v171, v172, v178, v179, v180, v181, v184, v186, v187, v188, v190, v192, v194, v195;
+    address v196, v205, v206, v207, v208, v210, v211, v212, v216, v217, v218, v220, v221, v222;
     u32 v8;
     u8 v15, v17, v18, v20, v24, v33, v37, v45, v46, v47, v48, v53, v56, v67, v68, v74;
-    u8 v76, v82, v84, v89, v90, v91, v92, v93, v94, v95, v105, v106, v117, v123, v125, v131;
-    u8 v133, v138, v139, v140, v141, v142, v143, v144, v154, v155, v156, v157, v163, v165, v171, v173;
-    u8 v178, v179, v180, v181, v182, v183, v184, v194, v195;
+    u8 v76, v82, v84, v89, v90, v91, v92, v93, v94, v95, v105, v106, v115, v116, v127, v133;
+    u8 v135, v141, v143, v148, v149, v150, v151, v152, v153, v154, v164, v165, v174, v175, v176, v177;
+    u8 v183, v185, v191, v193, v198, v199, v200, v201, v202, v203, v204, v214, v215, v224, v225;
     struct pair v50, v51, v65;
     u64 block0[1];
     u64 block1[5];
@@ -30655,7 +32708,7 @@ u32 portable_ptpm_clock_saving(address a0, u64 a1) {
     v17 = load8(v16);
     v18 = (u8)((v17) & UINT64_C(1));
     if (v18) { goto L1; }
-    else { v8 = 32u; goto L64; }
+    else { v8 = 32u; goto L76; }
 L1:;
     v19 = load_address(a0);
     v20 = load8(v19);
@@ -30665,12 +32718,13 @@ L1:;
     memory_set(v19, 0u, 16u);
     switch (v20) {
     case 1u: goto L2;
-    case 4u: goto L61;
-    case 0u: goto L62;
-    case 2u: goto L62;
-    case 3u: goto L62;
-    case 5u: goto L62;
-    default: goto L63;
+    case 4u: goto L73;
+    case 0u: goto L74;
+    case 2u: goto L74;
+    case 3u: goto L74;
+    case 5u: goto L74;
+    case 6u: goto L74;
+    default: goto L75;
     }
 L2:;
     memory_set(v12, 0u, 440u);
@@ -30681,7 +32735,7 @@ L2:;
 L3:;
     memory_set(v10, 0u, 40u);
     v25 = v23 + 440u * 1u;
-    f42(v10, v25);
+    f17(v10, v25);
     v26 = v23 + 432u * 1u;
     v27 = load64(v26);
     v28 = (u64)((u64)v27 << (1u & 63u));
@@ -30724,7 +32778,7 @@ L8:;
 L9:;
     store64(v19, 1u);
     store64(v21, v22);
-    v8 = 35u; goto L64;
+    v8 = 35u; goto L76;
 L10:;
     v49 = (u64)((u64)a1 * (u64)1476u);
     v50 = portable_rattle_alloc(v49, 2u);
@@ -30751,8 +32805,8 @@ L13:;
     v61 = (u64)((u64)v5 + (u64)1u);
     v6 = v55; v7 = v61; goto L14;
 L14:;
-    f44(v12, v23);
-    f44(v13, v23);
+    f18(v12, v23);
+    f18(v13, v23);
     v62 = load64(v12);
     v63 = v12 + 8u * 1u;
     memory_cpy(v11, v63, 432u);
@@ -30761,12 +32815,12 @@ L14:;
     v65 = portable_rattle_alloc(960u, 8u);
     v66 = v65.m0;
     v67 = (u8)((v66) & UINT64_C(1));
-    if (v67) { goto L30; }
-    else { goto L44; }
+    if (v67) { goto L34; }
+    else { goto L52; }
 L15:;
     store64(v19, 1u);
     store64(v21, v22);
-    v8 = 34u; goto L64;
+    v8 = 34u; goto L76;
 L16:;
     v68 = load8(v19);
     v69 = load_address(v21);
@@ -30778,8 +32832,9 @@ L16:;
     case 3u: goto L24;
     case 4u: goto L25;
     case 5u: goto L29;
-    case 0u: v8 = 35u; goto L64;
-    default: goto L60;
+    case 6u: goto L30;
+    case 0u: v8 = 35u; goto L76;
+    default: goto L72;
     }
 L17:;
     v70 = v69 + 448u * 1u;
@@ -30788,11 +32843,11 @@ L17:;
     v73 = load64(v72);
     portable_rattle_dealloc(v69);
     v74 = v73 == 0u;
-    if (v74) { v8 = 35u; goto L64; }
+    if (v74) { v8 = 35u; goto L76; }
     else { goto L18; }
 L18:;
     portable_rattle_dealloc(v71);
-    v8 = 35u; goto L64;
+    v8 = 35u; goto L76;
 L19:;
     v75 = v69 + 48u * 1u;
     v76 = load8(v75);
@@ -30819,20 +32874,20 @@ L20:;
     goto L21;
 L21:;
     v92 = v82 == 0u;
-    if (v92) { v8 = 35u; goto L64; }
+    if (v92) { v8 = 35u; goto L76; }
     else { goto L22; }
 L22:;
     v93 = v84 != 0u;
     v94 = v88 == 0u;
     v95 = v93 ? 1u : v94;
-    if (v95) { v8 = 35u; goto L64; }
+    if (v95) { v8 = 35u; goto L76; }
     else { goto L23; }
 L23:;
     portable_rattle_dealloc(v86);
-    v8 = 35u; goto L64;
+    v8 = 35u; goto L76;
 L24:;
     f13(v69);
-    v8 = 35u; goto L64;
+    v8 = 35u; goto L76;
 L25:;
     v96 = load_address(v69);
     v97 = v69 + 888u * 1u;
@@ -30853,242 +32908,313 @@ L26:;
     goto L27;
 L27:;
     v106 = v100 == 0u;
-    if (v106) { v8 = 35u; goto L64; }
+    if (v106) { v8 = 35u; goto L76; }
     else { goto L28; }
 L28:;
     portable_rattle_dealloc(v98);
-    v8 = 35u; goto L64;
+    v8 = 35u; goto L76;
 L29:;
     f14(v69);
-    v8 = 35u; goto L64;
+    v8 = 35u; goto L76;
 L30:;
-    v107 = v65.m1;
-    v108 = (address)v107;
-    store_address(v108, v23);
-    v109 = v108 + 8u * 1u;
-    store64(v109, v62);
-    v110 = v108 + 16u * 1u;
-    memory_cpy(v110, v11, 872u);
-    v111 = v108 + 888u * 1u;
-    store_address(v111, v6);
-    v112 = v108 + 896u * 1u;
-    store64(v112, v7);
-    v113 = v108 + 904u * 1u;
-    store64(v113, a1);
-    v114 = v108 + 912u * 1u;
-    memory_set(v114, 0u, 43u);
-    v115 = v108 + 955u * 1u;
-    store8(v115, v15);
-    v116 = v108 + 956u * 1u;
-    store32(v116, 0u);
-    v117 = load8(v19);
-    v118 = load_address(v21);
-    store64(v19, 4u);
-    store64(v21, v107);
-    switch (v117) {
-    case 1u: goto L31;
-    case 2u: goto L33;
-    case 3u: goto L38;
-    case 4u: goto L39;
-    case 5u: goto L43;
-    case 0u: v8 = 0u; goto L64;
-    default: goto L60;
-    }
+    v107 = v69 + 32u * 1u;
+    v108 = load_address(v107);
+    v109 = v69 + 48u * 1u;
+    v110 = load64(v109);
+    v111 = v69 + 56u * 1u;
+    v112 = load_address(v111);
+    v113 = v69 + 72u * 1u;
+    v114 = load64(v113);
+    portable_rattle_dealloc(v69);
+    v115 = v110 == 0u;
+    if (v115) { goto L32; }
+    else { goto L31; }
 L31:;
-    v119 = v118 + 448u * 1u;
-    v120 = load_address(v119);
-    v121 = v118 + 464u * 1u;
-    v122 = load64(v121);
-    portable_rattle_dealloc(v118);
-    v123 = v122 == 0u;
-    if (v123) { v8 = 0u; goto L64; }
-    else { goto L32; }
+    portable_rattle_dealloc(v108);
+    goto L32;
 L32:;
-    portable_rattle_dealloc(v120);
-    v8 = 0u; goto L64;
+    v116 = v114 == 0u;
+    if (v116) { v8 = 35u; goto L76; }
+    else { goto L33; }
 L33:;
-    v124 = v118 + 48u * 1u;
-    v125 = load8(v124);
-    v126 = v118 + 64u * 1u;
-    v127 = load_address(v126);
-    v128 = v118 + 80u * 1u;
-    v129 = load64(v128);
-    v130 = v118 + 1576u * 1u;
-    v131 = load8(v130);
-    v132 = v118 + 1592u * 1u;
-    v133 = load8(v132);
-    v134 = v118 + 1600u * 1u;
-    v135 = load_address(v134);
-    v136 = v118 + 1616u * 1u;
-    v137 = load64(v136);
-    portable_rattle_dealloc(v118);
-    v138 = v125 == 0u;
-    v139 = v129 == 0u;
-    v140 = v138 ? 1u : v139;
-    if (v140) { goto L35; }
-    else { goto L34; }
+    portable_rattle_dealloc(v112);
+    v8 = 35u; goto L76;
 L34:;
-    portable_rattle_dealloc(v127);
-    goto L35;
+    v117 = v65.m1;
+    v118 = (address)v117;
+    store_address(v118, v23);
+    v119 = v118 + 8u * 1u;
+    store64(v119, v62);
+    v120 = v118 + 16u * 1u;
+    memory_cpy(v120, v11, 872u);
+    v121 = v118 + 888u * 1u;
+    store_address(v121, v6);
+    v122 = v118 + 896u * 1u;
+    store64(v122, v7);
+    v123 = v118 + 904u * 1u;
+    store64(v123, a1);
+    v124 = v118 + 912u * 1u;
+    memory_set(v124, 0u, 43u);
+    v125 = v118 + 955u * 1u;
+    store8(v125, v15);
+    v126 = v118 + 956u * 1u;
+    store32(v126, 0u);
+    v127 = load8(v19);
+    v128 = load_address(v21);
+    store64(v19, 4u);
+    store64(v21, v117);
+    switch (v127) {
+    case 1u: goto L35;
+    case 2u: goto L37;
+    case 3u: goto L42;
+    case 4u: goto L43;
+    case 5u: goto L47;
+    case 6u: goto L48;
+    case 0u: v8 = 0u; goto L76;
+    default: goto L72;
+    }
 L35:;
-    v141 = v131 == 0u;
-    if (v141) { v8 = 0u; goto L64; }
+    v129 = v128 + 448u * 1u;
+    v130 = load_address(v129);
+    v131 = v128 + 464u * 1u;
+    v132 = load64(v131);
+    portable_rattle_dealloc(v128);
+    v133 = v132 == 0u;
+    if (v133) { v8 = 0u; goto L76; }
     else { goto L36; }
 L36:;
-    v142 = v133 != 0u;
-    v143 = v137 == 0u;
-    v144 = v142 ? 1u : v143;
-    if (v144) { v8 = 0u; goto L64; }
-    else { goto L37; }
+    portable_rattle_dealloc(v130);
+    v8 = 0u; goto L76;
 L37:;
-    portable_rattle_dealloc(v135);
-    v8 = 0u; goto L64;
+    v134 = v128 + 48u * 1u;
+    v135 = load8(v134);
+    v136 = v128 + 64u * 1u;
+    v137 = load_address(v136);
+    v138 = v128 + 80u * 1u;
+    v139 = load64(v138);
+    v140 = v128 + 1576u * 1u;
+    v141 = load8(v140);
+    v142 = v128 + 1592u * 1u;
+    v143 = load8(v142);
+    v144 = v128 + 1600u * 1u;
+    v145 = load_address(v144);
+    v146 = v128 + 1616u * 1u;
+    v147 = load64(v146);
+    portable_rattle_dealloc(v128);
+    v148 = v135 == 0u;
+    v149 = v139 == 0u;
+    v150 = v148 ? 1u : v149;
+    if (v150) { goto L39; }
+    else { goto L38; }
 L38:;
-    f13(v118);
-    v8 = 0u; goto L64;
+    portable_rattle_dealloc(v137);
+    goto L39;
 L39:;
-    v145 = load_address(v118);
-    v146 = v118 + 888u * 1u;
-    v147 = load_address(v146);
-    v148 = v118 + 904u * 1u;
-    v149 = load64(v148);
-    portable_rattle_dealloc(v118);
-    v150 = v145 + 448u * 1u;
-    v151 = load_address(v150);
-    v152 = v145 + 464u * 1u;
-    v153 = load64(v152);
-    portable_rattle_dealloc(v145);
-    v154 = v153 == 0u;
-    if (v154) { goto L41; }
+    v151 = v141 == 0u;
+    if (v151) { v8 = 0u; goto L76; }
     else { goto L40; }
 L40:;
-    portable_rattle_dealloc(v151);
-    goto L41;
+    v152 = v143 != 0u;
+    v153 = v147 == 0u;
+    v154 = v152 ? 1u : v153;
+    if (v154) { v8 = 0u; goto L76; }
+    else { goto L41; }
 L41:;
-    v155 = v149 == 0u;
-    if (v155) { v8 = 0u; goto L64; }
-    else { goto L42; }
+    portable_rattle_dealloc(v145);
+    v8 = 0u; goto L76;
 L42:;
-    portable_rattle_dealloc(v147);
-    v8 = 0u; goto L64;
+    f13(v128);
+    v8 = 0u; goto L76;
 L43:;
-    f14(v118);
-    v8 = 0u; goto L64;
+    v155 = load_address(v128);
+    v156 = v128 + 888u * 1u;
+    v157 = load_address(v156);
+    v158 = v128 + 904u * 1u;
+    v159 = load64(v158);
+    portable_rattle_dealloc(v128);
+    v160 = v155 + 448u * 1u;
+    v161 = load_address(v160);
+    v162 = v155 + 464u * 1u;
+    v163 = load64(v162);
+    portable_rattle_dealloc(v155);
+    v164 = v163 == 0u;
+    if (v164) { goto L45; }
+    else { goto L44; }
 L44:;
-    v156 = a1 == 0u;
-    if (v156) { goto L46; }
-    else { goto L45; }
+    portable_rattle_dealloc(v161);
+    goto L45;
 L45:;
-    portable_rattle_dealloc(v6);
-    goto L46;
+    v165 = v159 == 0u;
+    if (v165) { v8 = 0u; goto L76; }
+    else { goto L46; }
 L46:;
-    v157 = load8(v19);
-    v158 = load_address(v21);
-    store64(v19, 1u);
-    store_address(v21, v23);
-    switch (v157) {
-    case 1u: goto L47;
-    case 2u: goto L49;
-    case 3u: goto L54;
-    case 4u: goto L55;
-    case 5u: goto L59;
-    case 0u: v8 = 35u; goto L64;
-    default: goto L60;
-    }
+    portable_rattle_dealloc(v157);
+    v8 = 0u; goto L76;
 L47:;
-    v159 = v158 + 448u * 1u;
-    v160 = load_address(v159);
-    v161 = v158 + 464u * 1u;
-    v162 = load64(v161);
-    portable_rattle_dealloc(v158);
-    v163 = v162 == 0u;
-    if (v163) { v8 = 35u; goto L64; }
-    else { goto L48; }
+    f14(v128);
+    v8 = 0u; goto L76;
 L48:;
-    portable_rattle_dealloc(v160);
-    v8 = 35u; goto L64;
-L49:;
-    v164 = v158 + 48u * 1u;
-    v165 = load8(v164);
-    v166 = v158 + 64u * 1u;
+    v166 = v128 + 32u * 1u;
     v167 = load_address(v166);
-    v168 = v158 + 80u * 1u;
+    v168 = v128 + 48u * 1u;
     v169 = load64(v168);
-    v170 = v158 + 1576u * 1u;
-    v171 = load8(v170);
-    v172 = v158 + 1592u * 1u;
-    v173 = load8(v172);
-    v174 = v158 + 1600u * 1u;
-    v175 = load_address(v174);
-    v176 = v158 + 1616u * 1u;
-    v177 = load64(v176);
-    portable_rattle_dealloc(v158);
-    v178 = v165 == 0u;
-    v179 = v169 == 0u;
-    v180 = v178 ? 1u : v179;
-    if (v180) { goto L51; }
-    else { goto L50; }
-L50:;
+    v170 = v128 + 56u * 1u;
+    v171 = load_address(v170);
+    v172 = v128 + 72u * 1u;
+    v173 = load64(v172);
+    portable_rattle_dealloc(v128);
+    v174 = v169 == 0u;
+    if (v174) { goto L50; }
+    else { goto L49; }
+L49:;
     portable_rattle_dealloc(v167);
-    goto L51;
+    goto L50;
+L50:;
+    v175 = v173 == 0u;
+    if (v175) { v8 = 0u; goto L76; }
+    else { goto L51; }
 L51:;
-    v181 = v171 == 0u;
-    if (v181) { v8 = 35u; goto L64; }
-    else { goto L52; }
+    portable_rattle_dealloc(v171);
+    v8 = 0u; goto L76;
 L52:;
-    v182 = v173 != 0u;
-    v183 = v177 == 0u;
-    v184 = v182 ? 1u : v183;
-    if (v184) { v8 = 35u; goto L64; }
+    v176 = a1 == 0u;
+    if (v176) { goto L54; }
     else { goto L53; }
 L53:;
-    portable_rattle_dealloc(v175);
-    v8 = 35u; goto L64;
+    portable_rattle_dealloc(v6);
+    goto L54;
 L54:;
-    f13(v158);
-    v8 = 35u; goto L64;
+    v177 = load8(v19);
+    v178 = load_address(v21);
+    store64(v19, 1u);
+    store_address(v21, v23);
+    switch (v177) {
+    case 1u: goto L55;
+    case 2u: goto L57;
+    case 3u: goto L62;
+    case 4u: goto L63;
+    case 5u: goto L67;
+    case 6u: goto L68;
+    case 0u: v8 = 35u; goto L76;
+    default: goto L72;
+    }
 L55:;
-    v185 = load_address(v158);
-    v186 = v158 + 888u * 1u;
-    v187 = load_address(v186);
-    v188 = v158 + 904u * 1u;
-    v189 = load64(v188);
-    portable_rattle_dealloc(v158);
-    v190 = v185 + 448u * 1u;
-    v191 = load_address(v190);
-    v192 = v185 + 464u * 1u;
-    v193 = load64(v192);
-    portable_rattle_dealloc(v185);
-    v194 = v193 == 0u;
-    if (v194) { goto L57; }
+    v179 = v178 + 448u * 1u;
+    v180 = load_address(v179);
+    v181 = v178 + 464u * 1u;
+    v182 = load64(v181);
+    portable_rattle_dealloc(v178);
+    v183 = v182 == 0u;
+    if (v183) { v8 = 35u; goto L76; }
     else { goto L56; }
 L56:;
-    portable_rattle_dealloc(v191);
-    goto L57;
+    portable_rattle_dealloc(v180);
+    v8 = 35u; goto L76;
 L57:;
-    v195 = v189 == 0u;
-    if (v195) { v8 = 35u; goto L64; }
+    v184 = v178 + 48u * 1u;
+    v185 = load8(v184);
+    v186 = v178 + 64u * 1u;
+    v187 = load_address(v186);
+    v188 = v178 + 80u * 1u;
+    v189 = load64(v188);
+    v190 = v178 + 1576u * 1u;
+    v191 = load8(v190);
+    v192 = v178 + 1592u * 1u;
+    v193 = load8(v192);
+    v194 = v178 + 1600u * 1u;
+    v195 = load_address(v194);
+    v196 = v178 + 1616u * 1u;
+    v197 = load64(v196);
+    portable_rattle_dealloc(v178);
+    v198 = v185 == 0u;
+    v199 = v189 == 0u;
+    v200 = v198 ? 1u : v199;
+    if (v200) { goto L59; }
     else { goto L58; }
 L58:;
     portable_rattle_dealloc(v187);
-    v8 = 35u; goto L64;
+    goto L59;
 L59:;
-    f14(v158);
-    v8 = 35u; goto L64;
+    v201 = v191 == 0u;
+    if (v201) { v8 = 35u; goto L76; }
+    else { goto L60; }
 L60:;
-    UNREACHABLE;
+    v202 = v193 != 0u;
+    v203 = v197 == 0u;
+    v204 = v202 ? 1u : v203;
+    if (v204) { v8 = 35u; goto L76; }
+    else { goto L61; }
 L61:;
+    portable_rattle_dealloc(v195);
+    v8 = 35u; goto L76;
+L62:;
+    f13(v178);
+    v8 = 35u; goto L76;
+L63:;
+    v205 = load_address(v178);
+    v206 = v178 + 888u * 1u;
+    v207 = load_address(v206);
+    v208 = v178 + 904u * 1u;
+    v209 = load64(v208);
+    portable_rattle_dealloc(v178);
+    v210 = v205 + 448u * 1u;
+    v211 = load_address(v210);
+    v212 = v205 + 464u * 1u;
+    v213 = load64(v212);
+    portable_rattle_dealloc(v205);
+    v214 = v213 == 0u;
+    if (v214) { goto L65; }
+    else { goto L64; }
+L64:;
+    portable_rattle_dealloc(v211);
+    goto L65;
+L65:;
+    v215 = v209 == 0u;
+    if (v215) { v8 = 35u; goto L76; }
+    else { goto L66; }
+L66:;
+    portable_rattle_dealloc(v207);
+    v8 = 35u; goto L76;
+L67:;
+    f14(v178);
+    v8 = 35u; goto L76;
+L68:;
+    v216 = v178 + 32u * 1u;
+    v217 = load_address(v216);
+    v218 = v178 + 48u * 1u;
+    v219 = load64(v218);
+    v220 = v178 + 56u * 1u;
+    v221 = load_address(v220);
+    v222 = v178 + 72u * 1u;
+    v223 = load64(v222);
+    portable_rattle_dealloc(v178);
+    v224 = v219 == 0u;
+    if (v224) { goto L70; }
+    else { goto L69; }
+L69:;
+    portable_rattle_dealloc(v217);
+    goto L70;
+L70:;
+    v225 = v223 == 0u;
+    if (v225) { v8 = 35u; goto L76; }
+    else { goto L71; }
+L71:;
+    portable_rattle_dealloc(v221);
+    v8 = 35u; goto L76;
+L72:;
+    UNREACHABLE;
+L73:;
     store64(v19, 4u);
     store64(v21, v22);
-    v8 = 0u; goto L64;
-L62:;
-    v196 = (u64)v20;
-    store64(v19, v196);
+    v8 = 0u; goto L76;
+L74:;
+    v226 = (u64)v20;
+    store64(v19, v226);
     store64(v21, v22);
-    v8 = 32u; goto L64;
-L63:;
+    v8 = 32u; goto L76;
+L75:;
     UNREACHABLE;
-L64:;
+L76:;
     return v8;
 }
 
@@ -31158,6 +33284,7 @@ L1:;
     case 2u: v10 = 32u; goto L18;
     case 3u: v10 = 32u; goto L18;
     case 5u: v10 = 32u; goto L18;
+    case 6u: v10 = 32u; goto L18;
     default: goto L17;
     }
 L2:;
@@ -31166,12 +33293,12 @@ L2:;
     memory_set(v15, 0u, 440u);
     memory_set(v16, 0u, 12u);
     memory_set(a8, 0u, 32u);
-    f44(v15, v31);
+    f18(v15, v31);
     memory_cpy(v14, v15, 440u);
     memory_set(v11, 0u, 32u);
     memory_set(v12, 0u, 16u);
     store64(v13, 0u);
-    f45(v11, v31, a1, a4, a7);
+    f16(v11, v31, a1, a4, a7);
     v32 = load8(v11);
     v33 = v32 == 0u;
     if (v33) { goto L3; }
@@ -31187,14 +33314,14 @@ L3:;
     store8(v39, v35);
     v40 = v13 + 8u * 1u;
     memory_cpy(v40, v38, 16u);
-    f46(v12, v31, a1, v19, a3, v13, v28, v22, a7);
+    f20(v12, v31, a1, v19, a3, v13, v28, v22, a7);
     v41 = load8(v12);
     v42 = v12 + 1u * 1u;
     v43 = load8(v42);
     v44 = v12 + 8u * 1u;
     v45 = load64(v44);
     store64(a8, v45);
-    f63(v16, v31, v14);
+    f62(v16, v31, v14);
     v46 = a8 + 16u * 1u;
     memory_cpy(v46, v16, 12u);
     switch (v41) {
@@ -31247,7 +33374,7 @@ L15:;
 L16:;
     v57 = v27 + 8u * 1u;
     v58 = load_address(v57);
-    v59 = f64(v58, a1, v19, a3, a4, v28, v22, a7, a8);
+    v59 = f66(v58, a1, v19, a3, a4, v28, v22, a7, a8);
     v10 = v59; goto L18;
 L17:;
     UNREACHABLE;
@@ -31305,10 +33432,10 @@ u64 portable_ptpm_error_name(u16 a0, address a1, u64 a2) {
     else { v4 = 0u; goto L5; }
 L1:;
     v13 = (u64)v8;
-    v14 = ADDRESS(c340) + v13 * 8u;
+    v14 = ADDRESS(c348) + v13 * 8u;
     v15 = load64(v14);
     v16 = (u64)v8;
-    v17 = ADDRESS(c341) + v16 * 8u;
+    v17 = ADDRESS(c349) + v16 * 8u;
     v18 = load_address(v17);
     v19 = a2 < v15;
     if (v19) { v4 = 0u; goto L5; }
@@ -31389,87 +33516,87 @@ u32 portable_ptpm_field_parse(u16 a0, address a1, u64 a2, address a3, u64 a4, ad
     memory_set(v81, 0u, 328u);
     memory_set(v82, 0u, 144u);
     memory_set(v83, 0u, 16u);
-    store_address(v80, ADDRESS(c138));
+    store_address(v80, ADDRESS(c145));
     v87 = v80 + 8u * 1u;
     store64(v87, 0u);
     v88 = v80 + 16u * 1u;
-    store_address(v88, ADDRESS(c138));
+    store_address(v88, ADDRESS(c145));
     v89 = v80 + 24u * 1u;
     store64(v89, 0u);
     v90 = v80 + 32u * 1u;
-    store_address(v90, ADDRESS(c138));
+    store_address(v90, ADDRESS(c145));
     v91 = v80 + 40u * 1u;
     store64(v91, 0u);
     v92 = v80 + 48u * 1u;
-    store_address(v92, ADDRESS(c138));
+    store_address(v92, ADDRESS(c145));
     v93 = v80 + 56u * 1u;
     store64(v93, 0u);
     v94 = v80 + 64u * 1u;
-    store_address(v94, ADDRESS(c138));
+    store_address(v94, ADDRESS(c145));
     v95 = v80 + 72u * 1u;
     store64(v95, 0u);
     v96 = v80 + 80u * 1u;
-    store_address(v96, ADDRESS(c138));
+    store_address(v96, ADDRESS(c145));
     v97 = v80 + 88u * 1u;
     store64(v97, 0u);
     v98 = v80 + 96u * 1u;
-    store_address(v98, ADDRESS(c138));
+    store_address(v98, ADDRESS(c145));
     v99 = v80 + 104u * 1u;
     store64(v99, 0u);
     v100 = v80 + 112u * 1u;
-    store_address(v100, ADDRESS(c138));
+    store_address(v100, ADDRESS(c145));
     v101 = v80 + 120u * 1u;
     store64(v101, 0u);
     v102 = v80 + 128u * 1u;
-    store_address(v102, ADDRESS(c138));
+    store_address(v102, ADDRESS(c145));
     v103 = v80 + 136u * 1u;
     store64(v103, 0u);
     v104 = v80 + 144u * 1u;
-    store_address(v104, ADDRESS(c138));
+    store_address(v104, ADDRESS(c145));
     v105 = v80 + 152u * 1u;
     store64(v105, 0u);
     v106 = v80 + 160u * 1u;
-    store_address(v106, ADDRESS(c138));
+    store_address(v106, ADDRESS(c145));
     v107 = v80 + 168u * 1u;
     store64(v107, 0u);
     v108 = v80 + 176u * 1u;
-    store_address(v108, ADDRESS(c138));
+    store_address(v108, ADDRESS(c145));
     v109 = v80 + 184u * 1u;
     store64(v109, 0u);
     v110 = v80 + 192u * 1u;
-    store_address(v110, ADDRESS(c138));
+    store_address(v110, ADDRESS(c145));
     v111 = v80 + 200u * 1u;
     store64(v111, 0u);
     v112 = v80 + 208u * 1u;
-    store_address(v112, ADDRESS(c138));
+    store_address(v112, ADDRESS(c145));
     v113 = v80 + 216u * 1u;
     store64(v113, 0u);
     v114 = v80 + 224u * 1u;
-    store_address(v114, ADDRESS(c138));
+    store_address(v114, ADDRESS(c145));
     v115 = v80 + 232u * 1u;
     store64(v115, 0u);
     v116 = v80 + 240u * 1u;
-    store_address(v116, ADDRESS(c138));
+    store_address(v116, ADDRESS(c145));
     v117 = v80 + 248u * 1u;
     store64(v117, 0u);
     v118 = v80 + 256u * 1u;
-    store_address(v118, ADDRESS(c138));
+    store_address(v118, ADDRESS(c145));
     v119 = v80 + 264u * 1u;
     store64(v119, 0u);
     v120 = v80 + 272u * 1u;
-    store_address(v120, ADDRESS(c138));
+    store_address(v120, ADDRESS(c145));
     v121 = v80 + 280u * 1u;
     store64(v121, 0u);
     v122 = v80 + 288u * 1u;
-    store_address(v122, ADDRESS(c138));
+    store_address(v122, ADDRESS(c145));
     v123 = v80 + 296u * 1u;
     store64(v123, 0u);
     v124 = v80 + 304u * 1u;
-    store_address(v124, ADDRESS(c138));
+    store_address(v124, ADDRESS(c145));
     v125 = v80 + 312u * 1u;
     memory_set(v125, 0u, 16u);
     v126 = a2 == 0u;
-    if (v126) { v13 = ADDRESS(c138); v14 = 0u; v15 = ADDRESS(c138); v16 = 0u; v17 = ADDRESS(c138); v18 = 0u; v19 = ADDRESS(c138); v20 = 0u; v21 = ADDRESS(c138); v22 = 0u; v23 = ADDRESS(c138); v24 = 0u; v25 = ADDRESS(c138); v26 = 0u; v27 = ADDRESS(c138); v28 = 0u; v29 = ADDRESS(c138); v30 = 0u; v31 = ADDRESS(c138); v32 = 0u; v33 = ADDRESS(c138); v34 = 0u; v35 = ADDRESS(c138); v36 = 0u; v37 = ADDRESS(c138); v38 = 0u; v39 = ADDRESS(c138); v40 = 0u; v41 = ADDRESS(c138); v42 = 0u; v43 = ADDRESS(c138); v44 = 0u; v45 = ADDRESS(c138); v46 = 0u; v47 = ADDRESS(c138); v48 = 0u; v49 = ADDRESS(c138); v50 = 0u; v51 = ADDRESS(c138); goto L10; }
+    if (v126) { v13 = ADDRESS(c145); v14 = 0u; v15 = ADDRESS(c145); v16 = 0u; v17 = ADDRESS(c145); v18 = 0u; v19 = ADDRESS(c145); v20 = 0u; v21 = ADDRESS(c145); v22 = 0u; v23 = ADDRESS(c145); v24 = 0u; v25 = ADDRESS(c145); v26 = 0u; v27 = ADDRESS(c145); v28 = 0u; v29 = ADDRESS(c145); v30 = 0u; v31 = ADDRESS(c145); v32 = 0u; v33 = ADDRESS(c145); v34 = 0u; v35 = ADDRESS(c145); v36 = 0u; v37 = ADDRESS(c145); v38 = 0u; v39 = ADDRESS(c145); v40 = 0u; v41 = ADDRESS(c145); v42 = 0u; v43 = ADDRESS(c145); v44 = 0u; v45 = ADDRESS(c145); v46 = 0u; v47 = ADDRESS(c145); v48 = 0u; v49 = ADDRESS(c145); v50 = 0u; v51 = ADDRESS(c145); goto L10; }
     else { goto L1; }
 L1:;
     v127 = a1 == 0u;
@@ -31495,7 +33622,7 @@ L4:;
     if (v138) { goto L7; }
     else { v10 = v136; v11 = v137; v12 = v135; goto L3; }
 L5:;
-    f26(v79, v9, v11);
+    f32(v79, v9, v11);
     v139 = load8(v79);
     v140 = v139 == 0u;
     if (v140) { goto L6; }
@@ -31712,7 +33839,7 @@ L30:;
     v52 = 11u; v53 = 4u; goto L31;
 L31:;
     memory_set(v78, 0u, 144u);
-    v232 = f66(v52, v53);
+    v232 = f67(v52, v53);
     v233 = v232 > 130u;
     if (v233) { goto L33; }
     else { goto L32; }
@@ -31723,8 +33850,8 @@ L32:;
     goto L33;
 L33:;
     switch (v52) {
-    case 1u: v54 = ADDRESS(c147); goto L47;
-    case 2u: v55 = 10u; v56 = ADDRESS(c148); goto L48;
+    case 1u: v54 = ADDRESS(c154); goto L47;
+    case 2u: v55 = 10u; v56 = ADDRESS(c155); goto L48;
     case 3u: goto L34;
     case 4u: goto L35;
     case 5u: goto L36;
@@ -31743,32 +33870,32 @@ L33:;
     default: goto L45;
     }
 L34:;
-    v55 = 3u; v56 = ADDRESS(c149); goto L48;
+    v55 = 3u; v56 = ADDRESS(c156); goto L48;
 L35:;
-    v55 = 10u; v56 = ADDRESS(c150); goto L48;
+    v55 = 10u; v56 = ADDRESS(c157); goto L48;
 L36:;
-    v55 = 8u; v56 = ADDRESS(c151); goto L48;
+    v55 = 8u; v56 = ADDRESS(c158); goto L48;
 L37:;
-    v55 = 10u; v56 = ADDRESS(c152); goto L48;
+    v55 = 10u; v56 = ADDRESS(c159); goto L48;
 L38:;
-    v54 = ADDRESS(c153); goto L47;
+    v54 = ADDRESS(c160); goto L47;
 L39:;
-    v54 = ADDRESS(c154); goto L47;
+    v54 = ADDRESS(c161); goto L47;
 L40:;
-    v54 = ADDRESS(c155); goto L47;
-L41:;
-    v54 = ADDRESS(c156); goto L47;
-L42:;
     v54 = ADDRESS(c162); goto L47;
-L43:;
+L41:;
     v54 = ADDRESS(c163); goto L47;
+L42:;
+    v54 = ADDRESS(c169); goto L47;
+L43:;
+    v54 = ADDRESS(c170); goto L47;
 L44:;
-    v55 = 4u; v56 = ADDRESS(c164); goto L48;
+    v55 = 4u; v56 = ADDRESS(c171); goto L48;
 L45:;
     UNREACHABLE;
 L46:;
     v235 = (u64)v53;
-    v236 = ADDRESS(c342) + v235 * 8u;
+    v236 = ADDRESS(c350) + v235 * 8u;
     v237 = load_address(v236);
     v54 = v237; goto L47;
 L47:;
@@ -31822,7 +33949,7 @@ L52:;
     store8(v241, v263);
     v264 = load8(v244);
     store8(v243, v264);
-    v265 = f72(v75);
+    v265 = f73(v75);
     v266 = v265.m0;
     v267 = v265.m1;
     v268 = v257 == v267;
@@ -31856,7 +33983,7 @@ L55:;
 L56:;
     v61 = v264; v62 = v263; v63 = v262; v64 = 2u; goto L58;
 L57:;
-    f67(v76, v74, v259, v261, v78);
+    f68(v76, v74, v259, v261, v78);
     v285 = load8(v76);
     v286 = load8(v245);
     v287 = load8(v246);
@@ -31870,7 +33997,7 @@ L58:;
 L59:;
     goto L62;
 L60:;
-    f67(v77, v54, v51, v50, v78);
+    f68(v77, v54, v51, v50, v78);
     v291 = load8(v77);
     v292 = v77 + 1u * 1u;
     v293 = load8(v292);
@@ -31917,7 +34044,7 @@ L69:;
     store8(v304, v67);
     v305 = v72 + 2u * 1u;
     store8(v305, v68);
-    v306 = f74(a0, v72);
+    v306 = f75(a0, v72);
     v69 = 0u; v70 = v306; v71 = 116u; goto L71;
 L70:;
     store8(v73, v66);
@@ -31925,7 +34052,7 @@ L70:;
     store8(v307, v67);
     v308 = v73 + 2u * 1u;
     store8(v308, v68);
-    v309 = f74(a0, v73);
+    v309 = f75(a0, v73);
     v69 = 0u; v70 = v309; v71 = 117u; goto L71;
 L71:;
     store64(a5, v69);
@@ -31953,7 +34080,7 @@ u64 portable_ptpm_field_takes(u16 a0, u64 a1, address a2, u64 a3) {
     switch (a0) {
     case 24577u: goto L14;
     case 2u: goto L1;
-    case 8192u: v4 = 10u; v5 = ADDRESS(c148); goto L18;
+    case 8192u: v4 = 10u; v5 = ADDRESS(c155); goto L18;
     case 8193u: goto L3;
     case 8194u: goto L4;
     case 8195u: goto L5;
@@ -31972,39 +34099,39 @@ u64 portable_ptpm_field_takes(u16 a0, u64 a1, address a2, u64 a3) {
     default: v18 = 0u; goto L63;
     }
 L1:;
-    v4 = 1u; v5 = ADDRESS(c147); goto L18;
-L2:;
-    v4 = 1u; v5 = ADDRESS(c157); goto L18;
-L3:;
-    v4 = 3u; v5 = ADDRESS(c149); goto L18;
-L4:;
-    v4 = 10u; v5 = ADDRESS(c150); goto L18;
-L5:;
-    v4 = 8u; v5 = ADDRESS(c151); goto L18;
-L6:;
-    v4 = 10u; v5 = ADDRESS(c152); goto L18;
-L7:;
-    v4 = 1u; v5 = ADDRESS(c153); goto L18;
-L8:;
     v4 = 1u; v5 = ADDRESS(c154); goto L18;
-L9:;
-    v4 = 1u; v5 = ADDRESS(c155); goto L18;
-L10:;
-    v4 = 1u; v5 = ADDRESS(c156); goto L18;
-L11:;
-    v4 = 1u; v5 = ADDRESS(c158); goto L18;
-L12:;
-    v4 = 1u; v5 = ADDRESS(c159); goto L18;
-L13:;
+L2:;
+    v4 = 1u; v5 = ADDRESS(c164); goto L18;
+L3:;
+    v4 = 3u; v5 = ADDRESS(c156); goto L18;
+L4:;
+    v4 = 10u; v5 = ADDRESS(c157); goto L18;
+L5:;
+    v4 = 8u; v5 = ADDRESS(c158); goto L18;
+L6:;
+    v4 = 10u; v5 = ADDRESS(c159); goto L18;
+L7:;
     v4 = 1u; v5 = ADDRESS(c160); goto L18;
-L14:;
+L8:;
     v4 = 1u; v5 = ADDRESS(c161); goto L18;
-L15:;
+L9:;
     v4 = 1u; v5 = ADDRESS(c162); goto L18;
-L16:;
+L10:;
     v4 = 1u; v5 = ADDRESS(c163); goto L18;
+L11:;
+    v4 = 1u; v5 = ADDRESS(c165); goto L18;
+L12:;
+    v4 = 1u; v5 = ADDRESS(c166); goto L18;
+L13:;
+    v4 = 1u; v5 = ADDRESS(c167); goto L18;
+L14:;
+    v4 = 1u; v5 = ADDRESS(c168); goto L18;
+L15:;
+    v4 = 1u; v5 = ADDRESS(c169); goto L18;
+L16:;
+    v4 = 1u; v5 = ADDRESS(c170); goto L18;
 L17:;
-    v4 = 4u; v5 = ADDRESS(c164); goto L18;
+    v4 = 4u; v5 = ADDRESS(c171); goto L18;
 L18:;
     v23 = a1 < v4;
     if (v23) { goto L19; }
@@ -32029,7 +34156,7 @@ L19:;
     if (v35) { goto L20; }
     else { goto L49; }
 L20:;
-    f75(1u, 1u, v19);
+    f76(1u, 1u, v19);
     v36 = load8(v31);
     v37 = v36 == 1u;
     if (v37) { goto L21; }
@@ -32048,7 +34175,7 @@ L22:;
     v45 = (u64)((u64)v38 + (u64)2u);
     v46 = v44 + v38 * 1u;
     v47 = (u64)v46;
-    v48 = (u64)((u64)v47 - (u64)ADDRESS(c285));
+    v48 = (u64)((u64)v47 - (u64)ADDRESS(c292));
     v49 = v48 < 2u;
     if (v49) { goto L23; }
     else { goto L24; }
@@ -32065,7 +34192,7 @@ L25:;
     store64(v32, v6);
     goto L26;
 L26:;
-    f75(1u, 2u, v19);
+    f76(1u, 2u, v19);
     v51 = load8(v31);
     v52 = v51 == 1u;
     if (v52) { goto L27; }
@@ -32084,7 +34211,7 @@ L28:;
     v60 = (u64)((u64)v53 + (u64)2u);
     v61 = v59 + v53 * 1u;
     v62 = (u64)v61;
-    v63 = (u64)((u64)v62 - (u64)ADDRESS(c285));
+    v63 = (u64)((u64)v62 - (u64)ADDRESS(c292));
     v64 = v63 < 2u;
     if (v64) { goto L30; }
     else { goto L29; }
@@ -32101,7 +34228,7 @@ L31:;
     store64(v32, v8);
     goto L32;
 L32:;
-    f75(1u, 3u, v19);
+    f76(1u, 3u, v19);
     v66 = load8(v31);
     v67 = v66 == 1u;
     if (v67) { goto L33; }
@@ -32120,7 +34247,7 @@ L34:;
     v75 = (u64)((u64)v68 + (u64)2u);
     v76 = v74 + v68 * 1u;
     v77 = (u64)v76;
-    v78 = (u64)((u64)v77 - (u64)ADDRESS(c285));
+    v78 = (u64)((u64)v77 - (u64)ADDRESS(c292));
     v79 = v78 < 2u;
     if (v79) { goto L36; }
     else { goto L35; }
@@ -32137,7 +34264,7 @@ L37:;
     store64(v32, v10);
     goto L38;
 L38:;
-    f75(1u, 4u, v19);
+    f76(1u, 4u, v19);
     v81 = load8(v31);
     v82 = v81 == 1u;
     if (v82) { goto L39; }
@@ -32156,7 +34283,7 @@ L40:;
     v90 = (u64)((u64)v83 + (u64)2u);
     v91 = v89 + v83 * 1u;
     v92 = (u64)v91;
-    v93 = (u64)((u64)v92 - (u64)ADDRESS(c285));
+    v93 = (u64)((u64)v92 - (u64)ADDRESS(c292));
     v94 = v93 < 2u;
     if (v94) { goto L42; }
     else { goto L41; }
@@ -32173,7 +34300,7 @@ L43:;
     store64(v32, v12);
     goto L44;
 L44:;
-    f75(1u, 254u, v19);
+    f76(1u, 254u, v19);
     v96 = load8(v31);
     v97 = v96 == 1u;
     if (v97) { goto L45; }
@@ -32192,7 +34319,7 @@ L46:;
     v105 = (u64)((u64)v98 + (u64)26u);
     v106 = v104 + v98 * 1u;
     v107 = (u64)v106;
-    v108 = (u64)((u64)v107 - (u64)ADDRESS(c283));
+    v108 = (u64)((u64)v107 - (u64)ADDRESS(c290));
     v109 = v108 < 26u;
     if (v109) { goto L47; }
     else { goto L48; }
@@ -32250,15 +34377,15 @@ L47:;
     store8(v134, 53u);
     v17 = v105; goto L62;
 L48:;
-    memory_cpy(v106, ADDRESS(c283), 26u);
+    memory_cpy(v106, ADDRESS(c290), 26u);
     v17 = v105; goto L62;
 L49:;
     switch (v27) {
     case 0u: goto L50;
     case 1u: goto L51;
     case 2u: goto L52;
-    case 3u: v14 = 13u; v15 = ADDRESS(c288); goto L58;
-    case 4u: v14 = 13u; v15 = ADDRESS(c288); goto L58;
+    case 3u: v14 = 13u; v15 = ADDRESS(c295); goto L58;
+    case 4u: v14 = 13u; v15 = ADDRESS(c295); goto L58;
     case 5u: goto L54;
     case 10u: goto L55;
     case 6u: goto L56;
@@ -32272,25 +34399,25 @@ L49:;
     default: goto L57;
     }
 L50:;
-    if (v34) { v14 = 56u; v15 = ADDRESS(c291); goto L58; }
+    if (v34) { v14 = 56u; v15 = ADDRESS(c298); goto L58; }
     else { goto L56; }
 L51:;
-    if (v34) { v14 = 56u; v15 = ADDRESS(c291); goto L58; }
+    if (v34) { v14 = 56u; v15 = ADDRESS(c298); goto L58; }
     else { goto L56; }
 L52:;
     switch (v29) {
-    case 1u: v14 = 25u; v15 = ADDRESS(c286); goto L58;
+    case 1u: v14 = 25u; v15 = ADDRESS(c293); goto L58;
     case 2u: goto L53;
     default: goto L56;
     }
 L53:;
-    v14 = 29u; v15 = ADDRESS(c287); goto L58;
+    v14 = 29u; v15 = ADDRESS(c294); goto L58;
 L54:;
-    v14 = 55u; v15 = ADDRESS(c289); goto L58;
+    v14 = 55u; v15 = ADDRESS(c296); goto L58;
 L55:;
-    v14 = 37u; v15 = ADDRESS(c290); goto L58;
+    v14 = 37u; v15 = ADDRESS(c297); goto L58;
 L56:;
-    v14 = 8u; v15 = ADDRESS(c292); goto L58;
+    v14 = 8u; v15 = ADDRESS(c299); goto L58;
 L57:;
     UNREACHABLE;
 L58:;
@@ -32405,7 +34532,7 @@ u64 portable_ptpm_field_text(u16 a0, address a1, u64 a2, address a3, u64 a4) {
     store64(v217, 1u);
     v218 = v209 + 24u * 1u;
     store64(v218, 0u);
-    v219 = f76(a0, v212, a2);
+    v219 = f77(a0, v212, a2);
     v220 = v219.m0;
     v221 = v219.m1;
     v222 = v221 == 0u;
@@ -32437,7 +34564,7 @@ L2:;
     else { goto L8; }
 L3:;
     v242 = (u64)v215;
-    v243 = (u64)((u64)v242 - (u64)ADDRESS(c303));
+    v243 = (u64)((u64)v242 - (u64)ADDRESS(c310));
     v244 = v243 < 6u;
     if (v244) { goto L4; }
     else { goto L5; }
@@ -32455,7 +34582,7 @@ L4:;
     store8(v249, 32u);
     goto L6;
 L5:;
-    memory_cpy(v215, ADDRESS(c303), 6u);
+    memory_cpy(v215, ADDRESS(c310), 6u);
     goto L6;
 L6:;
     v250 = a2 == 0u;
@@ -32586,7 +34713,7 @@ L26:;
     store8(v208, v294);
     store8(v223, v296);
     store8(v224, v298);
-    v315 = f72(v208);
+    v315 = f73(v208);
     v316 = v315.m0;
     v317 = v315.m1;
     v318 = v41 == 1u;
@@ -32670,7 +34797,7 @@ L39:;
     v353 = (u64)((u64)v346 + (u64)2u);
     v354 = v352 + v346 * 1u;
     v355 = (u64)v354;
-    v356 = (u64)((u64)v355 - (u64)ADDRESS(c284));
+    v356 = (u64)((u64)v355 - (u64)ADDRESS(c291));
     v357 = v356 < 2u;
     if (v357) { goto L40; }
     else { goto L41; }
@@ -32743,7 +34870,7 @@ L50:;
     if (v388) { v176 = v86; v177 = v87; v178 = v88; v179 = v89; v180 = v90; v181 = v91; v182 = v92; v183 = v93; v184 = v94; v185 = v95; v186 = v96; v187 = v97; goto L186; }
     else { v70 = v86; v71 = v87; v72 = v88; v73 = v89; v74 = v90; v75 = v91; v76 = v92; v77 = v93; v78 = v94; v79 = v95; v80 = v96; v81 = v97; v82 = v98; v83 = v387; goto L44; }
 L51:;
-    f78(v207, v302, v304, v306, v307);
+    f79(v207, v302, v304, v306, v307);
     v389 = load8(v207);
     v390 = load8(v225);
     v391 = load8(v226);
@@ -32769,7 +34896,7 @@ L51:;
     default: goto L184;
     }
 L52:;
-    f79(v395, v209);
+    f80(v395, v209);
     goto L185;
 L53:;
     memory_set(v204, 0u, 40u);
@@ -32788,7 +34915,7 @@ L54:;
     v406 = (u16)((u32)v403 - (u32)v405);
     v407 = (u16)((u32)v406 << (1u & 15u));
     v408 = (u64)v407;
-    v409 = ADDRESS(c304) + v408 * 1u;
+    v409 = ADDRESS(c311) + v408 * 1u;
     v410 = load8(v409);
     v411 = v409 + 1u * 1u;
     v412 = load8(v411);
@@ -32800,7 +34927,7 @@ L54:;
     v416 = (u64)((u64)v109 + (u64)UINT64_C(18446744073709551612));
     v417 = (u16)((u32)v404 << (1u & 15u));
     v418 = (u64)v417;
-    v419 = ADDRESS(c304) + v418 * 1u;
+    v419 = ADDRESS(c311) + v418 * 1u;
     v420 = load8(v419);
     v421 = v419 + 1u * 1u;
     v422 = load8(v421);
@@ -32829,7 +34956,7 @@ L57:;
 L58:;
     v432 = (u64)((u64)v110 + (u64)UINT64_C(18446744073709551614));
     v433 = (u64)((u64)v111 << (1u & 63u));
-    v434 = ADDRESS(c304) + v433 * 1u;
+    v434 = ADDRESS(c311) + v433 * 1u;
     v435 = load8(v434);
     v436 = v434 + 1u * 1u;
     v437 = load8(v436);
@@ -32845,7 +34972,7 @@ L59:;
     v443 = (u16)((u32)v440 - (u32)v442);
     v444 = (u16)((u32)v443 << (1u & 15u));
     v445 = (u64)v444;
-    v446 = ADDRESS(c304) + v445 * 1u;
+    v446 = ADDRESS(c311) + v445 * 1u;
     v447 = load8(v446);
     v448 = v446 + 1u * 1u;
     v449 = load8(v448);
@@ -32868,7 +34995,7 @@ L61:;
     v458 = (u64)((u64)v110 + (u64)UINT64_C(18446744073709551612));
     v459 = (u16)((u32)v441 << (1u & 15u));
     v460 = (u64)v459;
-    v461 = ADDRESS(c304) + v460 * 1u;
+    v461 = ADDRESS(c311) + v460 * 1u;
     v462 = load8(v461);
     v463 = v461 + 1u * 1u;
     v464 = load8(v463);
@@ -32916,7 +35043,7 @@ L68:;
 L69:;
     v482 = (u8)((v390) & UINT64_C(1));
     v483 = v482 ? 4u : 5u;
-    v484 = v482 ? ADDRESS(c165) : ADDRESS(c166);
+    v484 = v482 ? ADDRESS(c172) : ADDRESS(c173);
     v485 = v100 == 1u;
     if (v485) { goto L70; }
     else { goto L185; }
@@ -32980,7 +35107,7 @@ L78:;
     goto L79;
 L79:;
     v514 = (u64)((u64)v504 >> (16u & 63u));
-    f79(v514, v209);
+    f80(v514, v209);
     v515 = load8(v217);
     v516 = v515 == 1u;
     if (v516) { goto L80; }
@@ -33009,7 +35136,7 @@ L84:;
     v525 = (u32)((u32)v123 * (u32)10u);
     v526 = (u32)((u32)v525 >> (16u & 31u));
     v527 = (u64)v526;
-    f79(v527, v209);
+    f80(v527, v209);
     v528 = (u32)((u32)v525 & (u32)65534u);
     v529 = v528 == 0u;
     v530 = (u8)((u32)v124 + (u32)255u);
@@ -33161,10 +35288,10 @@ L105:;
     goto L106;
 L106:;
     v599 = (u64)((u64)v562 & (u64)65535u);
-    f79(v599, v209);
+    f80(v599, v209);
     goto L185;
 L107:;
-    f75(v390, v391, v209);
+    f76(v390, v391, v209);
     goto L185;
 L108:;
     v600 = v104 == 1u;
@@ -33184,7 +35311,7 @@ L110:;
     v608 = (u64)((u64)v601 + (u64)6u);
     v609 = v607 + v601 * 1u;
     v610 = (u64)v609;
-    v611 = (u64)((u64)v610 - (u64)ADDRESS(c305));
+    v611 = (u64)((u64)v610 - (u64)ADDRESS(c312));
     v612 = v611 < 6u;
     if (v612) { goto L111; }
     else { goto L112; }
@@ -33202,7 +35329,7 @@ L111:;
     store8(v617, 32u);
     v143 = v608; v144 = 1u; goto L113;
 L112:;
-    memory_cpy(v609, ADDRESS(c305), 6u);
+    memory_cpy(v609, ADDRESS(c312), 6u);
     v143 = v608; v144 = 1u; goto L113;
 L113:;
     store64(v217, v144);
@@ -33210,7 +35337,7 @@ L113:;
     goto L114;
 L114:;
     v618 = (u64)v391;
-    f79(v618, v209);
+    f80(v618, v209);
     v619 = load8(v217);
     v620 = v619 == 1u;
     if (v620) { goto L115; }
@@ -33229,7 +35356,7 @@ L116:;
     v628 = (u64)((u64)v621 + (u64)12u);
     v629 = v627 + v621 * 1u;
     v630 = (u64)v629;
-    v631 = (u64)((u64)v630 - (u64)ADDRESS(c306));
+    v631 = (u64)((u64)v630 - (u64)ADDRESS(c313));
     v632 = v631 < 12u;
     if (v632) { goto L117; }
     else { goto L118; }
@@ -33260,7 +35387,7 @@ L117:;
     v644 = load64(v216);
     v145 = v644; goto L119;
 L118:;
-    memory_cpy(v629, ADDRESS(c306), 12u);
+    memory_cpy(v629, ADDRESS(c313), 12u);
     v145 = v622; goto L119;
 L119:;
     v645 = v145 > v628;
@@ -33308,7 +35435,7 @@ L124:;
     v670 = (u64)((u64)v621 + (u64)26u);
     v671 = v669 + v662 * 1u;
     v672 = (u64)v671;
-    v673 = (u64)((u64)v672 - (u64)ADDRESS(c307));
+    v673 = (u64)((u64)v672 - (u64)ADDRESS(c314));
     v674 = v673 < 12u;
     if (v674) { goto L125; }
     else { goto L126; }
@@ -33339,7 +35466,7 @@ L125:;
     v686 = load64(v216);
     v146 = v686; goto L127;
 L126:;
-    memory_cpy(v671, ADDRESS(c307), 12u);
+    memory_cpy(v671, ADDRESS(c314), 12u);
     v146 = v664; goto L127;
 L127:;
     v687 = (u16)((u32)v393 >> (8u & 15u));
@@ -33472,7 +35599,7 @@ L146:;
     v752 = (u64)((u64)v745 + (u64)2u);
     v753 = v751 + v745 * 1u;
     v754 = (u64)v753;
-    v755 = (u64)((u64)v754 - (u64)ADDRESS(c308));
+    v755 = (u64)((u64)v754 - (u64)ADDRESS(c315));
     v756 = v755 < 2u;
     if (v756) { goto L147; }
     else { goto L148; }
@@ -33749,7 +35876,7 @@ u32 portable_ptpm_id_at(u64 a0) {
     else { v1 = UINT32_C(65536); goto L2; }
 L1:;
     v3 = (u64)((u64)a0 << (1u & 63u));
-    v4 = ADDRESS(c309) + v3 * 1u;
+    v4 = ADDRESS(c316) + v3 * 1u;
     v5 = load16(v4);
     v6 = (u32)v5;
     v1 = v6; goto L2;
@@ -33765,7 +35892,7 @@ u64 portable_ptpm_id_name(u16 a0, address a1, u64 a2) {
     v8 = v7 ? 4096u : 0u;
     v9 = a1 + v8 * 1u;
     switch (a0) {
-    case 0u: v3 = ADDRESS(c110); v4 = 19u; goto L21;
+    case 0u: v3 = ADDRESS(c117); v4 = 19u; goto L21;
     case 2u: goto L1;
     case 8192u: goto L2;
     case 8193u: goto L3;
@@ -33789,45 +35916,45 @@ u64 portable_ptpm_id_name(u16 a0, address a1, u64 a2) {
     default: v6 = 0u; goto L25;
     }
 L1:;
-    v3 = ADDRESS(c111); v4 = 16u; goto L21;
+    v3 = ADDRESS(c118); v4 = 16u; goto L21;
 L2:;
-    v3 = ADDRESS(c112); v4 = 16u; goto L21;
+    v3 = ADDRESS(c119); v4 = 16u; goto L21;
 L3:;
-    v3 = ADDRESS(c113); v4 = 16u; goto L21;
+    v3 = ADDRESS(c120); v4 = 16u; goto L21;
 L4:;
-    v3 = ADDRESS(c114); v4 = 15u; goto L21;
+    v3 = ADDRESS(c121); v4 = 15u; goto L21;
 L5:;
-    v3 = ADDRESS(c115); v4 = 24u; goto L21;
+    v3 = ADDRESS(c122); v4 = 24u; goto L21;
 L6:;
-    v3 = ADDRESS(c116); v4 = 13u; goto L21;
+    v3 = ADDRESS(c123); v4 = 13u; goto L21;
 L7:;
-    v3 = ADDRESS(c117); v4 = 9u; goto L21;
+    v3 = ADDRESS(c124); v4 = 9u; goto L21;
 L8:;
-    v3 = ADDRESS(c118); v4 = 9u; goto L21;
+    v3 = ADDRESS(c125); v4 = 9u; goto L21;
 L9:;
-    v3 = ADDRESS(c119); v4 = 6u; goto L21;
+    v3 = ADDRESS(c126); v4 = 6u; goto L21;
 L10:;
-    v3 = ADDRESS(c120); v4 = 10u; goto L21;
+    v3 = ADDRESS(c127); v4 = 10u; goto L21;
 L11:;
-    v3 = ADDRESS(c126); v4 = 21u; goto L21;
+    v3 = ADDRESS(c133); v4 = 21u; goto L21;
 L12:;
-    v3 = ADDRESS(c128); v4 = 24u; goto L21;
+    v3 = ADDRESS(c135); v4 = 24u; goto L21;
 L13:;
-    v3 = ADDRESS(c130); v4 = 17u; goto L21;
+    v3 = ADDRESS(c137); v4 = 17u; goto L21;
 L14:;
-    v3 = ADDRESS(c121); v4 = 14u; goto L21;
+    v3 = ADDRESS(c128); v4 = 14u; goto L21;
 L15:;
-    v3 = ADDRESS(c122); v4 = 11u; goto L21;
+    v3 = ADDRESS(c129); v4 = 11u; goto L21;
 L16:;
-    v3 = ADDRESS(c123); v4 = 12u; goto L21;
+    v3 = ADDRESS(c130); v4 = 12u; goto L21;
 L17:;
-    v3 = ADDRESS(c124); v4 = 14u; goto L21;
+    v3 = ADDRESS(c131); v4 = 14u; goto L21;
 L18:;
-    v3 = ADDRESS(c125); v4 = 14u; goto L21;
+    v3 = ADDRESS(c132); v4 = 14u; goto L21;
 L19:;
-    v3 = ADDRESS(c132); v4 = 15u; goto L21;
+    v3 = ADDRESS(c139); v4 = 15u; goto L21;
 L20:;
-    v3 = ADDRESS(c134); v4 = 27u; goto L21;
+    v3 = ADDRESS(c141); v4 = 27u; goto L21;
 L21:;
     v10 = a2 < v4;
     if (v10) { v6 = 0u; goto L25; }
@@ -33865,7 +35992,7 @@ u32 portable_ptpm_id_named(address a0, u64 a1) {
     v2 = a0 == 0u;
     v3 = v2 ? 4096u : 0u;
     v4 = a0 + v3 * 1u;
-    v5 = f80(v4, a1);
+    v5 = f81(v4, a1);
     v6 = v5.m0;
     v7 = v6 == 1u;
     v8 = v5.m1;
@@ -33903,13 +36030,13 @@ L2:;
 L3:;
     v11 = v5 + 2u * 1u;
     v12 = (u64)((u64)a1 + (u64)UINT64_C(18446744073709551614));
-    v13 = f81(v11, v12);
+    v13 = f82(v11, v12);
     v2 = v13; goto L5;
 L4:;
-    v14 = f80(v5, a1);
+    v14 = f81(v5, a1);
     v15 = v14.m0;
     v16 = v14.m1;
-    v17 = f81(v5, a1);
+    v17 = f82(v5, a1);
     v18 = v17.m0;
     v19 = v17.m1;
     v20 = (u8)((v15) & UINT64_C(1));
@@ -33942,7 +36069,7 @@ u8 portable_ptpm_identity_parse(address a0, u64 a1, address a2) {
     v8 = a0 + v7 * 1u;
     memory_set(v5, 0u, 9u);
     memory_set(v4, 0u, 24u);
-    f26(v4, v8, a1);
+    f32(v4, v8, a1);
     v9 = load8(v4);
     v10 = v9 == 0u;
     if (v10) { goto L2; }
@@ -33954,7 +36081,7 @@ L2:;
     v12 = load_address(v11);
     v13 = v4 + 16u * 1u;
     v14 = load64(v13);
-    f82(v5, v12, v14);
+    f83(v5, v12, v14);
     v15 = load8(v5);
     v16 = v15 == 1u;
     if (v16) { goto L3; }
@@ -33993,7 +36120,7 @@ L1:;
     v18 = v7 + 4u * 1u;
     store64(v18, v17);
     store64(v16, 12u);
-    v19 = f83(v14, a2, v7, 12u);
+    v19 = f84(v14, a2, v7, 12u);
     v20 = swap32(v19);
     v21 = v7 + 12u * 1u;
     store32(v21, v20);
@@ -34019,7 +36146,7 @@ u32 portable_ptpm_image_unseal(address a0, u64 a1, address a2, address a3) {
     memory_set(v5, 0u, 24u);
     store64(a2, 0u);
     store64(a3, 0u);
-    f84(v5, v8, a1);
+    f85(v5, v8, a1);
     v9 = load8(v5);
     v10 = v9 == 0u;
     if (v10) { goto L1; }
@@ -34040,6 +36167,1373 @@ L2:;
     v4 = v18; goto L3;
 L3:;
     return v4;
+}
+
+u32 portable_ptpm_journal_add(address a0, address a1, address a2, u64 a3, address a4, u64 a5, address a6, u64 a7, address a8) {
+    u16 v9, v10, v12, v21, v35, v36, v78, v126, v128, v130, v132, v134, v190, v192, v198, v204;
+    u16 v205, v216, v217, v218, v219, v229, v231, v257, v258, v272, v274, v284, v286, v291, v294, v301;
+    u16 v303, v332, v334, v344, v345, v356, v357, v373, v374;
+    u8 v11, v14, v16, v17, v18, v19, v24, v25, v26, v27, v30, v31, v32, v33, v41, v44;
+    u8 v47, v62, v65, v68, v72, v73, v75, v76, v81, v83, v85, v87, v89, v91, v93, v95;
+    u8 v97, v99, v101, v143, v145, v147, v149, v151, v153, v155, v157, v159, v161, v186, v188, v200;
+    u8 v201, v202, v207, v209, v211, v212, v213, v215, v232, v233, v234, v236, v237, v239, v240, v241;
+    u8 v243, v267, v276, v278, v280, v287, v292, v293, v297, v300, v302, v304, v325, v326, v328, v329;
+    u8 v343, v350, v352, v354, v361, v364, v365, v379, v386, v392, v393, v394;
+    u64 v13, v15, v20, v23, v28, v29, v34, v37, v38, v40, v43, v45, v48, v49, v50, v51;
+    u64 v63, v66, v69, v79, v102, v103, v104, v105, v106, v107, v108, v109, v110, v111, v112, v113;
+    u64 v114, v115, v116, v117, v118, v119, v120, v121, v122, v123, v124, v129, v131, v133, v135, v136;
+    u64 v137, v138, v139, v140, v141, v142, v144, v162, v163, v164, v165, v166, v167, v168, v169, v170;
+    u64 v171, v172, v173, v174, v175, v176, v177, v178, v179, v180, v181, v182, v183, v184, v193, v194;
+    u64 v195, v196, v230, v235, v238, v242, v244, v245, v246, v247, v248, v249, v250, v251, v252, v253;
+    u64 v254, v255, v256, v259, v270, v277, v279, v282, v296, v299, v305, v322, v324, v330, v347, v349;
+    u64 v351, v353, v359, v360, v363, v366, v371, v375, v377, v378, v381, v382, v385, v389, v391;
+    address v22, v39, v42, v46, v53, v54, v55, v56, v57, v58, v59, v60, v61, v64, v67, v70;
+    address v71, v74, v77, v80, v82, v84, v86, v88, v90, v92, v94, v96, v98, v100, v125, v127;
+    address v146, v148, v150, v152, v154, v156, v158, v160, v185, v187, v189, v191, v197, v199, v203, v206;
+    address v208, v210, v214, v220, v221, v222, v223, v224, v225, v226, v227, v228, v260, v261, v262, v263;
+    address v264, v265, v266, v268, v269, v271, v273, v275, v281, v283, v285, v288, v289, v290, v295, v298;
+    address v306, v307, v308, v309, v310, v311, v312, v313, v314, v315, v316, v317, v318, v319, v320, v321;
+    address v323, v327, v331, v333, v335, v336, v337, v338, v339, v340, v341, v342, v346, v348, v355, v358;
+    address v362, v367, v368, v370, v372, v376, v380, v388, v390;
+    u32 v52, v369, v383, v384, v387;
+    u64 block0[1];
+    u64 block1[1029];
+    u64 block2[3];
+    u64 block3[2];
+    u64 block4[2];
+    u64 block5[1028];
+    u64 block6[3];
+    u64 block7[4];
+    u64 block8[1028];
+    v53 = ADDRESS(block0);
+    v54 = ADDRESS(block1);
+    v55 = ADDRESS(block2);
+    v56 = ADDRESS(block3);
+    v57 = ADDRESS(block4);
+    v58 = ADDRESS(block5);
+    v59 = ADDRESS(block6);
+    v60 = ADDRESS(block7);
+    v61 = ADDRESS(block8);
+    v62 = a2 == 0u;
+    v63 = v62 ? 4096u : 0u;
+    v64 = a2 + v63 * 1u;
+    v65 = a4 == 0u;
+    v66 = v65 ? 4096u : 0u;
+    v67 = a4 + v66 * 1u;
+    v68 = a6 == 0u;
+    v69 = v68 ? 4096u : 0u;
+    v70 = a6 + v69 * 1u;
+    store64(a8, 0u);
+    v71 = a0 + 8u * 1u;
+    v72 = load8(v71);
+    v73 = (u8)((v72) & UINT64_C(1));
+    if (v73) { goto L1; }
+    else { v52 = 126u; goto L54; }
+L1:;
+    v74 = load_address(a0);
+    v75 = load8(v74);
+    v76 = v75 == 6u;
+    if (v76) { goto L2; }
+    else { v52 = 126u; goto L54; }
+L2:;
+    v77 = a1 + 26u * 1u;
+    v78 = load16(v77);
+    v79 = load64(a1);
+    v80 = a1 + 40u * 1u;
+    v81 = load8(v80);
+    switch (v81) {
+    case 1u: goto L3;
+    case 2u: goto L4;
+    case 3u: goto L5;
+    case 4u: v9 = 0u; v10 = v78; v11 = 0u; v12 = 0u; v13 = 0u; v14 = 1u; v15 = v79; v16 = 0u; v17 = 2u; goto L12;
+    case 5u: goto L6;
+    case 6u: goto L7;
+    case 7u: goto L9;
+    case 8u: goto L10;
+    case 9u: goto L11;
+    default: v52 = 127u; goto L54;
+    }
+L3:;
+    v82 = a1 + 41u * 1u;
+    v83 = load8(v82);
+    v84 = a1 + 42u * 1u;
+    v85 = load8(v84);
+    v86 = a1 + 32u * 1u;
+    v87 = load8(v86);
+    v88 = a1 + 33u * 1u;
+    v89 = load8(v88);
+    v90 = a1 + 34u * 1u;
+    v91 = load8(v90);
+    v92 = a1 + 35u * 1u;
+    v93 = load8(v92);
+    v94 = a1 + 36u * 1u;
+    v95 = load8(v94);
+    v96 = a1 + 37u * 1u;
+    v97 = load8(v96);
+    v98 = a1 + 38u * 1u;
+    v99 = load8(v98);
+    v100 = a1 + 39u * 1u;
+    v101 = load8(v100);
+    v102 = (u64)v101;
+    v103 = (u64)((u64)v102 << (56u & 63u));
+    v104 = (u64)v99;
+    v105 = (u64)((u64)v104 << (48u & 63u));
+    v106 = (u64)v97;
+    v107 = (u64)((u64)v106 << (40u & 63u));
+    v108 = (u64)v95;
+    v109 = (u64)((u64)v108 << (32u & 63u));
+    v110 = (u64)v93;
+    v111 = (u64)((u64)v110 << (24u & 63u));
+    v112 = (u64)v91;
+    v113 = (u64)((u64)v112 << (16u & 63u));
+    v114 = (u64)v89;
+    v115 = (u64)((u64)v114 << (8u & 63u));
+    v116 = (u64)v87;
+    v117 = (u64)((u64)v115 | (u64)v116);
+    v118 = (u64)((u64)v117 | (u64)v113);
+    v119 = (u64)((u64)v118 | (u64)v111);
+    v120 = (u64)((u64)v119 | (u64)v109);
+    v121 = (u64)((u64)v120 | (u64)v107);
+    v122 = (u64)((u64)v121 | (u64)v105);
+    v123 = (u64)((u64)v122 | (u64)v103);
+    v124 = swap64(v123);
+    v125 = a1 + 22u * 1u;
+    v126 = load16(v125);
+    v127 = a1 + 20u * 1u;
+    v128 = load16(v127);
+    v129 = (u64)((u64)v124 >> (16u & 63u));
+    v130 = (u16)(v129);
+    v131 = (u64)((u64)v124 >> (32u & 63u));
+    v132 = (u16)(v131);
+    v133 = (u64)((u64)v124 >> (48u & 63u));
+    v134 = (u16)(v133);
+    v135 = (u64)v126;
+    v136 = (u64)v128;
+    v137 = (u64)((u64)v136 << (16u & 63u));
+    v138 = (u64)((u64)v137 | (u64)v135);
+    v139 = (u64)v85;
+    v140 = (u64)((u64)v139 << (8u & 63u));
+    v141 = (u64)v83;
+    v142 = (u64)((u64)v140 | (u64)v141);
+    v143 = (u8)(v124);
+    v144 = (u64)((u64)v124 >> (8u & 63u));
+    v145 = (u8)(v144);
+    v9 = v132; v10 = v130; v11 = v145; v12 = v134; v13 = v138; v14 = v143; v15 = v142; v16 = 0u; v17 = 0u; goto L12;
+L4:;
+    v146 = a1 + 32u * 1u;
+    v147 = load8(v146);
+    v148 = a1 + 33u * 1u;
+    v149 = load8(v148);
+    v150 = a1 + 34u * 1u;
+    v151 = load8(v150);
+    v152 = a1 + 35u * 1u;
+    v153 = load8(v152);
+    v154 = a1 + 36u * 1u;
+    v155 = load8(v154);
+    v156 = a1 + 37u * 1u;
+    v157 = load8(v156);
+    v158 = a1 + 38u * 1u;
+    v159 = load8(v158);
+    v160 = a1 + 39u * 1u;
+    v161 = load8(v160);
+    v162 = (u64)v161;
+    v163 = (u64)((u64)v162 << (56u & 63u));
+    v164 = (u64)v159;
+    v165 = (u64)((u64)v164 << (48u & 63u));
+    v166 = (u64)v157;
+    v167 = (u64)((u64)v166 << (40u & 63u));
+    v168 = (u64)v155;
+    v169 = (u64)((u64)v168 << (32u & 63u));
+    v170 = (u64)v153;
+    v171 = (u64)((u64)v170 << (24u & 63u));
+    v172 = (u64)v151;
+    v173 = (u64)((u64)v172 << (16u & 63u));
+    v174 = (u64)v149;
+    v175 = (u64)((u64)v174 << (8u & 63u));
+    v176 = (u64)v147;
+    v177 = (u64)((u64)v175 | (u64)v176);
+    v178 = (u64)((u64)v177 | (u64)v173);
+    v179 = (u64)((u64)v178 | (u64)v171);
+    v180 = (u64)((u64)v179 | (u64)v169);
+    v181 = (u64)((u64)v180 | (u64)v167);
+    v182 = (u64)((u64)v181 | (u64)v165);
+    v183 = (u64)((u64)v182 | (u64)v163);
+    v184 = swap64(v183);
+    v185 = a1 + 43u * 1u;
+    v186 = load8(v185);
+    v187 = a1 + 44u * 1u;
+    v188 = load8(v187);
+    v189 = a1 + 22u * 1u;
+    v190 = load16(v189);
+    v191 = a1 + 24u * 1u;
+    v192 = load16(v191);
+    v193 = (u64)v190;
+    v194 = (u64)v192;
+    v195 = (u64)((u64)v194 << (16u & 63u));
+    v196 = (u64)((u64)v195 | (u64)v193);
+    v9 = 0u; v10 = 0u; v11 = v188; v12 = 0u; v13 = v196; v14 = v186; v15 = v184; v16 = 0u; v17 = 1u; goto L12;
+L5:;
+    v197 = a1 + 28u * 1u;
+    v198 = load16(v197);
+    v9 = v198; v10 = v78; v11 = 0u; v12 = 0u; v13 = 0u; v14 = 0u; v15 = v79; v16 = 0u; v17 = 2u; goto L12;
+L6:;
+    v9 = 0u; v10 = v78; v11 = 0u; v12 = 0u; v13 = 0u; v14 = 2u; v15 = v79; v16 = 0u; v17 = 2u; goto L12;
+L7:;
+    v199 = a1 + 45u * 1u;
+    v200 = load8(v199);
+    v201 = (u8)((u32)v200 + (u32)255u);
+    v202 = v201 < 3u;
+    if (v202) { goto L8; }
+    else { v52 = 127u; goto L54; }
+L8:;
+    v203 = a1 + 30u * 1u;
+    v204 = load16(v203);
+    v205 = (u16)v201;
+    v9 = v205; v10 = v78; v11 = 0u; v12 = v204; v13 = 0u; v14 = 3u; v15 = v79; v16 = 0u; v17 = 2u; goto L12;
+L9:;
+    v206 = a1 + 41u * 1u;
+    v207 = load8(v206);
+    v208 = a1 + 42u * 1u;
+    v209 = load8(v208);
+    v9 = 0u; v10 = 0u; v11 = v209; v12 = 0u; v13 = 0u; v14 = v207; v15 = v79; v16 = 0u; v17 = 3u; goto L12;
+L10:;
+    v210 = a1 + 45u * 1u;
+    v211 = load8(v210);
+    v212 = (u8)((u32)v211 + (u32)255u);
+    v213 = v212 < 8u;
+    if (v213) { v9 = 0u; v10 = v78; v11 = 0u; v12 = 0u; v13 = 0u; v14 = v212; v15 = v79; v16 = 0u; v17 = 4u; goto L12; }
+    else { v52 = 127u; goto L54; }
+L11:;
+    v214 = a1 + 45u * 1u;
+    v215 = load8(v214);
+    v9 = 0u; v10 = 0u; v11 = 0u; v12 = 0u; v13 = 0u; v14 = 0u; v15 = 0u; v16 = v215; v17 = 5u; goto L12;
+L12:;
+    v216 = (u16)v11;
+    v217 = (u16)((u32)v216 << (8u & 15u));
+    v218 = (u16)v14;
+    v219 = (u16)((u32)v217 | (u32)v218);
+    v220 = v74 + 8u * 1u;
+    v221 = load_address(v220);
+    store64(v60, 0u);
+    store8(v60, v17);
+    v222 = v60 + 1u * 1u;
+    store8(v222, v16);
+    v223 = v60 + 8u * 1u;
+    store64(v223, v15);
+    v224 = v60 + 16u * 1u;
+    store16(v224, v219);
+    v225 = v60 + 18u * 1u;
+    store16(v225, v10);
+    v226 = v60 + 20u * 1u;
+    store16(v226, v9);
+    v227 = v60 + 22u * 1u;
+    store16(v227, v12);
+    v228 = v60 + 24u * 1u;
+    store64(v228, v13);
+    v229 = (u16)(v13);
+    v230 = (u64)((u64)v13 >> (16u & 63u));
+    v231 = (u16)(v230);
+    switch (v17) {
+    case 0u: goto L17;
+    case 1u: v19 = 2u; v20 = 4096u; goto L19;
+    case 2u: goto L16;
+    case 3u: v18 = 7u; goto L18;
+    case 4u: goto L13;
+    case 5u: goto L14;
+    default: goto L15;
+    }
+L13:;
+    v18 = 8u; goto L18;
+L14:;
+    v19 = 9u; v20 = 4096u; goto L19;
+L15:;
+    UNREACHABLE;
+L16:;
+    v232 = (u8)((u32)v14 + (u32)3u);
+    switch (v14) {
+    case 254u: goto L17;
+    case 255u: v19 = v232; v20 = 4096u; goto L19;
+    case 3u: v19 = v232; v20 = 4096u; goto L19;
+    case 6u: v19 = v232; v20 = 4096u; goto L19;
+    default: v18 = v232; goto L18;
+    }
+L17:;
+    v19 = 1u; v20 = 255u; goto L19;
+L18:;
+    v19 = v18; v20 = 0u; goto L19;
+L19:;
+    v233 = a3 > v20;
+    if (v233) { goto L50; }
+    else { goto L20; }
+L20:;
+    v234 = v19 == 1u;
+    v235 = v234 ? 255u : 4096u;
+    v236 = (u8)((u32)v19 + (u32)253u);
+    v237 = v236 < 254u;
+    v238 = v237 ? 0u : v235;
+    v239 = a5 > v238;
+    if (v239) { goto L50; }
+    else { goto L21; }
+L21:;
+    v240 = f86(v221, v60);
+    if (v240) { goto L22; }
+    else { goto L51; }
+L22:;
+    memory_set(v58, 0u, 8224u);
+    switch (v17) {
+    case 0u: goto L24;
+    case 1u: goto L25;
+    case 2u: goto L26;
+    case 3u: goto L30;
+    case 4u: goto L31;
+    case 5u: goto L23;
+    default: goto L15;
+    }
+L23:;
+    v30 = 9u; v31 = v16; v32 = 0u; v33 = 0u; v34 = 0u; v35 = 0u; v36 = 0u; v37 = 2u; goto L33;
+L24:;
+    v241 = (u8)(v15);
+    v242 = (u64)((u64)v15 >> (8u & 63u));
+    v243 = (u8)(v242);
+    v244 = (u64)v12;
+    v245 = (u64)((u64)v244 << (48u & 63u));
+    v246 = (u64)v9;
+    v247 = (u64)((u64)v246 << (32u & 63u));
+    v248 = (u64)v10;
+    v249 = (u64)((u64)v248 << (16u & 63u));
+    v250 = (u64)v11;
+    v251 = (u64)((u64)v250 << (8u & 63u));
+    v252 = (u64)v14;
+    v253 = (u64)((u64)v251 | (u64)v252);
+    v254 = (u64)((u64)v253 | (u64)v249);
+    v255 = (u64)((u64)v254 | (u64)v247);
+    v256 = (u64)((u64)v255 | (u64)v245);
+    v257 = swap16(v231);
+    v258 = swap16(v229);
+    v259 = swap64(v256);
+    store8(v59, 1u);
+    v260 = v59 + 1u * 1u;
+    store8(v260, 2u);
+    v261 = v59 + 2u * 1u;
+    store8(v261, v241);
+    v262 = v59 + 3u * 1u;
+    store8(v262, v243);
+    v263 = v59 + 4u * 1u;
+    store64(v263, v259);
+    v264 = v59 + 12u * 1u;
+    store16(v264, v258);
+    v265 = v59 + 14u * 1u;
+    store16(v265, v257);
+    v266 = v58 + 8216u * 1u;
+    memory_cpy(v58, v59, 16u);
+    store64(v266, 16u);
+    v267 = (u8)(a3);
+    v268 = v58 + 16u * 1u;
+    store8(v268, v267);
+    v42 = v266; v43 = 16u; v44 = 1u; v45 = 1u; goto L36;
+L25:;
+    v269 = v56 + 14u * 1u;
+    store8(v269, 0u);
+    v270 = swap64(v15);
+    store64(v56, v270);
+    v271 = v56 + 8u * 1u;
+    store16(v271, v219);
+    v272 = swap16(v229);
+    v273 = v56 + 10u * 1u;
+    store16(v273, v272);
+    v274 = swap16(v231);
+    v275 = v56 + 12u * 1u;
+    store16(v275, v274);
+    v276 = (u8)(v270);
+    v277 = (u64)((u64)v270 >> (8u & 63u));
+    v278 = (u8)(v277);
+    v279 = (u64)((u64)v270 >> (16u & 63u));
+    v280 = (u8)(v279);
+    v281 = v56 + 3u * 1u;
+    v282 = load64(v281);
+    v283 = v56 + 11u * 1u;
+    v284 = load16(v283);
+    v285 = v56 + 13u * 1u;
+    v286 = load16(v285);
+    v30 = 2u; v31 = v276; v32 = v278; v33 = v280; v34 = v282; v35 = v284; v36 = v286; v37 = 15u; goto L33;
+L26:;
+    v287 = (u8)((u32)v14 + (u32)3u);
+    v288 = v55 + 4u * 1u;
+    v289 = v55 + 3u * 1u;
+    v290 = v55 + 1u * 1u;
+    memory_set(v289, 0u, 13u);
+    store8(v55, v287);
+    v291 = swap16(v10);
+    store16(v290, v291);
+    switch (v14) {
+    case 0u: v21 = v9; v22 = v289; v23 = 5u; goto L28;
+    case 3u: goto L27;
+    case 1u: v38 = 3u; goto L34;
+    case 2u: v38 = 3u; goto L34;
+    default: goto L29;
+    }
+L27:;
+    v292 = (u8)(v9);
+    v293 = (u8)((u32)v292 + (u32)1u);
+    store8(v289, v293);
+    v21 = v12; v22 = v288; v23 = 6u; goto L28;
+L28:;
+    v294 = swap16(v21);
+    store16(v22, v294);
+    v38 = v23; goto L34;
+L29:;
+    UNREACHABLE;
+L30:;
+    v295 = v57 + 8u * 1u;
+    store8(v295, 0u);
+    v296 = swap64(v15);
+    store64(v57, v296);
+    v297 = (u8)(v296);
+    v298 = v57 + 1u * 1u;
+    v299 = load64(v298);
+    v24 = 7u; v25 = v14; v26 = v11; v27 = v297; v28 = v299; v29 = 11u; goto L32;
+L31:;
+    v300 = (u8)((u32)v14 + (u32)1u);
+    v301 = swap16(v10);
+    v302 = (u8)(v301);
+    v303 = (u16)((u32)v301 >> (8u & 15u));
+    v304 = (u8)(v303);
+    v305 = swap64(v15);
+    v24 = 8u; v25 = v300; v26 = v302; v27 = v304; v28 = v305; v29 = 12u; goto L32;
+L32:;
+    store8(v59, v24);
+    v306 = v59 + 1u * 1u;
+    store8(v306, v25);
+    v307 = v59 + 2u * 1u;
+    store8(v307, v26);
+    v308 = v59 + 3u * 1u;
+    store8(v308, v27);
+    v309 = v59 + 4u * 1u;
+    store64(v309, v28);
+    v310 = v59 + 12u * 1u;
+    store16(v310, 0u);
+    v311 = v59 + 14u * 1u;
+    store16(v311, 0u);
+    v312 = v59 + 16u * 1u;
+    store64(v312, v29);
+    v313 = v58 + 8216u * 1u;
+    memory_cpy(v58, v59, v29);
+    store64(v313, v29);
+    v46 = v313; v47 = v24; v48 = v29; goto L37;
+L33:;
+    store8(v59, v30);
+    v314 = v59 + 1u * 1u;
+    store8(v314, v31);
+    v315 = v59 + 2u * 1u;
+    store8(v315, v32);
+    v316 = v59 + 3u * 1u;
+    store8(v316, v33);
+    v317 = v59 + 4u * 1u;
+    store64(v317, v34);
+    v318 = v59 + 12u * 1u;
+    store16(v318, v35);
+    v319 = v59 + 14u * 1u;
+    store16(v319, v36);
+    v320 = v59 + 16u * 1u;
+    store64(v320, v37);
+    v321 = v58 + 8216u * 1u;
+    memory_cpy(v58, v59, v37);
+    store64(v321, v37);
+    v39 = v321; v40 = v37; v41 = v30; goto L35;
+L34:;
+    v322 = swap64(v15);
+    v323 = v55 + v38 * 1u;
+    store64(v323, v322);
+    v324 = (u64)((u64)v38 | (u64)8u);
+    v325 = load8(v55);
+    v326 = load8(v290);
+    v327 = v55 + 2u * 1u;
+    v328 = load8(v327);
+    v329 = load8(v289);
+    v330 = load64(v288);
+    v331 = v55 + 12u * 1u;
+    v332 = load16(v331);
+    v333 = v55 + 14u * 1u;
+    v334 = load16(v333);
+    store8(v59, v325);
+    v335 = v59 + 1u * 1u;
+    store8(v335, v326);
+    v336 = v59 + 2u * 1u;
+    store8(v336, v328);
+    v337 = v59 + 3u * 1u;
+    store8(v337, v329);
+    v338 = v59 + 4u * 1u;
+    store64(v338, v330);
+    v339 = v59 + 12u * 1u;
+    store16(v339, v332);
+    v340 = v59 + 14u * 1u;
+    store16(v340, v334);
+    v341 = v59 + 16u * 1u;
+    store64(v341, v324);
+    v342 = v58 + 8216u * 1u;
+    memory_cpy(v58, v59, v324);
+    store64(v342, v324);
+    v343 = v287 == 6u;
+    if (v343) { v39 = v342; v40 = v324; v41 = 6u; goto L35; }
+    else { v46 = v342; v47 = v287; v48 = v324; goto L37; }
+L35:;
+    v344 = (u16)(a3);
+    v345 = swap16(v344);
+    v346 = v58 + v40 * 1u;
+    store16(v346, v345);
+    v42 = v39; v43 = v40; v44 = v41; v45 = 2u; goto L36;
+L36:;
+    v347 = (u64)((u64)v45 + (u64)v43);
+    store64(v42, v347);
+    v46 = v42; v47 = v44; v48 = v347; goto L37;
+L37:;
+    v348 = v58 + v48 * 1u;
+    memory_cpy(v348, v64, a3);
+    v349 = (u64)((u64)v48 + (u64)a3);
+    store64(v46, v349);
+    v350 = v47 == 2u;
+    v351 = v350 ? 2u : 0u;
+    v352 = v47 == 1u;
+    v353 = v352 ? 1u : v351;
+    switch (v353) {
+    case 0u: v50 = v349; goto L41;
+    case 1u: goto L38;
+    default: goto L39;
+    }
+L38:;
+    v354 = (u8)(a5);
+    v355 = v58 + v349 * 1u;
+    store8(v355, v354);
+    v49 = 1u; goto L40;
+L39:;
+    v356 = (u16)(a5);
+    v357 = swap16(v356);
+    v358 = v58 + v349 * 1u;
+    store16(v358, v357);
+    v49 = 2u; goto L40;
+L40:;
+    v359 = (u64)((u64)v49 + (u64)v349);
+    store64(v46, v359);
+    v50 = v359; goto L41;
+L41:;
+    v360 = (u64)((u64)8211u - (u64)v50);
+    v361 = v360 < a5;
+    if (v361) { goto L43; }
+    else { goto L42; }
+L42:;
+    v362 = v58 + v50 * 1u;
+    memory_cpy(v362, v67, a5);
+    v363 = (u64)((u64)v50 + (u64)a5);
+    store64(v46, v363);
+    goto L43;
+L43:;
+    memory_cpy(v61, v58, 8224u);
+    v364 = load8(v221);
+    v365 = v364 == 0u;
+    v366 = v365 ? 4u : 0u;
+    v367 = v365 ? ADDRESS(c319) : ADDRESS(c145);
+    v368 = v221 + 84u * 1u;
+    v369 = load32(v368);
+    v370 = v61 + 8216u * 1u;
+    v371 = load64(v370);
+    memory_set(v54, 0u, 8224u);
+    v372 = v54 + 8224u * 1u;
+    memory_cpy(v54, v367, v366);
+    v373 = (u16)(v371);
+    v374 = swap16(v373);
+    v375 = v365 ? 4u : 0u;
+    v376 = v54 + v375 * 1u;
+    store16(v376, v374);
+    v377 = (u64)((u64)v366 | (u64)2u);
+    store64(v372, v377);
+    v378 = (u64)((u64)8221u - (u64)v377);
+    v379 = v378 < v371;
+    if (v379) { v51 = v377; goto L45; }
+    else { goto L44; }
+L44:;
+    v380 = v54 + v377 * 1u;
+    memory_cpy(v380, v61, v371);
+    v381 = (u64)((u64)v377 + (u64)v371);
+    store64(v372, v381);
+    v51 = v381; goto L45;
+L45:;
+    v382 = (u64)((u64)v51 - (u64)v366);
+    v383 = swap32(v369);
+    store32(v53, v383);
+    v384 = f84(v53, 4u, v376, v382);
+    v385 = (u64)((u64)v51 + (u64)UINT64_C(18446744073709543398));
+    v386 = v385 < 4u;
+    if (v386) { goto L47; }
+    else { goto L46; }
+L46:;
+    v387 = swap32(v384);
+    v388 = v54 + v51 * 1u;
+    store32(v388, v387);
+    v389 = (u64)((u64)v51 + (u64)4u);
+    store64(v372, v389);
+    goto L47;
+L47:;
+    v390 = v54 + 8224u * 1u;
+    v391 = load64(v390);
+    v392 = a7 < v391;
+    if (v392) { goto L52; }
+    else { goto L48; }
+L48:;
+    v393 = f87(v221, v60);
+    v394 = v393 == 0u;
+    if (v394) { goto L49; }
+    else { goto L53; }
+L49:;
+    store32(v368, v384);
+    memory_cpy(v70, v54, v391);
+    store64(a8, v391);
+    v52 = 0u; goto L54;
+L50:;
+    v52 = 127u; goto L54;
+L51:;
+    v52 = 128u; goto L54;
+L52:;
+    v52 = 34u; goto L54;
+L53:;
+    v52 = 35u; goto L54;
+L54:;
+    return v52;
+}
+
+u32 portable_ptpm_journal_mark(address a0, u16 a1) {
+    u32 v2, v19;
+    address v3, v6, v9, v10, v11, v15, v16, v17;
+    u8 v4, v5, v7, v8, v14, v18;
+    u64 v12, v13;
+    v3 = a0 + 8u * 1u;
+    v4 = load8(v3);
+    v5 = (u8)((v4) & UINT64_C(1));
+    if (v5) { goto L1; }
+    else { v2 = 6u; goto L4; }
+L1:;
+    v6 = load_address(a0);
+    v7 = load8(v6);
+    v8 = v7 == 6u;
+    if (v8) { goto L2; }
+    else { v2 = 6u; goto L4; }
+L2:;
+    v9 = v6 + 8u * 1u;
+    v10 = load_address(v9);
+    v11 = v10 + 64u * 1u;
+    v12 = load64(v11);
+    v13 = (u64)a1;
+    v14 = v12 > v13;
+    if (v14) { goto L3; }
+    else { v2 = 6u; goto L4; }
+L3:;
+    v15 = v10 + 56u * 1u;
+    v16 = load_address(v15);
+    v17 = v16 + v13 * 1u;
+    v18 = load8(v17);
+    v19 = (u32)v18;
+    v2 = v19; goto L4;
+L4:;
+    return v2;
+}
+
+u32 portable_ptpm_journal_next(address a0, address a1, u64 a2, address a3, address a4) {
+    u8 v5, v24, v25, v28, v35, v39, v40, v42, v43, v46, v47, v48, v49, v50, v52, v53;
+    u8 v54, v56, v57, v58, v60, v61, v62, v63, v64, v65, v66, v71, v73, v75, v76, v77;
+    u8 v78, v80, v86, v87, v91, v94, v98, v103, v110, v116, v118, v120, v121, v122, v123, v125;
+    u8 v131, v132, v133, v135, v138, v140, v146, v147, v149, v150, v153, v154, v156, v158, v161, v163;
+    u8 v168, v170, v174, v176, v179, v181, v187, v188, v189, v193, v195, v196, v198, v199, v200, v202;
+    u8 v203, v220, v221, v222, v223, v224, v225, v227, v228, v235, v236, v240, v247, v259, v260, v261;
+    u8 v263;
+    u64 v6, v7, v8, v9, v10, v11, v12, v13, v14, v15, v16, v23, v36, v68, v72, v81;
+    u64 v82, v83, v84, v85, v88, v112, v115, v117, v126, v127, v128, v129, v134, v136, v141, v142;
+    u64 v143, v144, v145, v148, v155, v159, v164, v165, v166, v167, v169, v171, v172, v173, v177, v182;
+    u64 v183, v184, v185, v186, v190, v192, v194, v197, v205, v207, v241, v242, v244, v245, v248, v250;
+    u64 v251, v264, v265, v268, v291, v292;
+    u16 v17, v18, v19, v20, v21, v22, v114, v209, v211, v243, v246, v258, v267, v270;
+    u32 v26, v27, v29, v70, v92, v93, v95, v96, v99, v100, v101, v104, v105, v106, v107, v108;
+    u32 v109, v213, v237, v238, v239, v249, v252, v253, v254, v255, v256, v257, v262, v266, v269, v271;
+    u32 v272, v273, v274, v275;
+    address v30, v31, v32, v33, v34, v37, v38, v41, v44, v45, v51, v55, v59, v67, v69, v74;
+    address v79, v89, v90, v97, v102, v111, v113, v119, v124, v130, v137, v139, v151, v152, v157, v160;
+    address v162, v175, v178, v180, v191, v201, v204, v206, v208, v210, v212, v214, v215, v216, v217, v218;
+    address v219, v226, v229, v230, v231, v232, v233, v234, v276, v277, v278, v279, v280, v281, v282, v283;
+    address v284, v285, v286, v287, v288, v289, v290;
+    u64 block0[1];
+    u64 block1[5];
+    u64 block2[4];
+    u64 block3[4];
+    u64 block4[1];
+    v30 = ADDRESS(block0);
+    v31 = ADDRESS(block1);
+    v32 = ADDRESS(block2);
+    v33 = ADDRESS(block3);
+    v34 = ADDRESS(block4);
+    v35 = a1 == 0u;
+    v36 = v35 ? 4096u : 0u;
+    v37 = a1 + v36 * 1u;
+    store64(a4, 0u);
+    memory_set(a3, 0u, 48u);
+    v38 = a0 + 8u * 1u;
+    v39 = load8(v38);
+    v40 = (u8)((v39) & UINT64_C(1));
+    if (v40) { goto L1; }
+    else { v29 = 126u; goto L73; }
+L1:;
+    v41 = load_address(a0);
+    v42 = load8(v41);
+    v43 = v42 == 6u;
+    if (v43) { goto L2; }
+    else { v29 = 126u; goto L73; }
+L2:;
+    v44 = v41 + 8u * 1u;
+    v45 = load_address(v44);
+    v46 = load8(v45);
+    v47 = v46 == 1u;
+    if (v47) { v6 = 0u; goto L9; }
+    else { goto L3; }
+L3:;
+    v48 = a2 > 3u;
+    if (v48) { goto L4; }
+    else { goto L6; }
+L4:;
+    v49 = load8(v37);
+    v50 = v49 != 80u;
+    v51 = v37 + 1u * 1u;
+    v52 = load8(v51);
+    v53 = v52 != 84u;
+    v54 = (u8)(((u32)v50 | (u32)v53) & UINT64_C(1));
+    v55 = v37 + 2u * 1u;
+    v56 = load8(v55);
+    v57 = v56 != 80u;
+    v58 = (u8)(((u32)v54 | (u32)v57) & UINT64_C(1));
+    v59 = v37 + 3u * 1u;
+    v60 = load8(v59);
+    v61 = v60 != 74u;
+    v62 = (u8)(((u32)v58 | (u32)v61) & UINT64_C(1));
+    if (v62) { v5 = v49; goto L8; }
+    else { goto L5; }
+L5:;
+    v63 = f27(v37, 4u, ADDRESS(c319), 4u);
+    if (v63) { v6 = 4u; goto L9; }
+    else { goto L71; }
+L6:;
+    v64 = a2 == 0u;
+    if (v64) { goto L71; }
+    else { goto L7; }
+L7:;
+    v65 = load8(v37);
+    v5 = v65; goto L8;
+L8:;
+    v66 = v5 == 80u;
+    if (v66) { goto L71; }
+    else { v29 = 105u; goto L73; }
+L9:;
+    v67 = v37 + v6 * 1u;
+    v68 = (u64)((u64)a2 - (u64)v6);
+    v69 = v45 + 84u * 1u;
+    v70 = load32(v69);
+    v71 = a2 == v6;
+    if (v71) { goto L16; }
+    else { v7 = 0u; goto L11; }
+L10:;
+    v72 = (u64)((u64)v7 + (u64)1u);
+    v73 = v72 == v68;
+    if (v73) { goto L16; }
+    else { v7 = v72; goto L11; }
+L11:;
+    v74 = v67 + v7 * 1u;
+    v75 = load8(v74);
+    v76 = v75 == 0u;
+    if (v76) { goto L10; }
+    else { goto L12; }
+L12:;
+    v77 = v68 < 6u;
+    if (v77) { goto L16; }
+    else { goto L13; }
+L13:;
+    v78 = load8(v67);
+    v79 = v67 + 1u * 1u;
+    v80 = load8(v79);
+    v81 = (u64)v78;
+    v82 = (u64)((u64)v81 << (8u & 63u));
+    v83 = (u64)v80;
+    v84 = (u64)((u64)v82 | (u64)v83);
+    v85 = (u64)((u64)v84 + (u64)6u);
+    v86 = v68 < v85;
+    if (v86) { goto L16; }
+    else { goto L14; }
+L14:;
+    v87 = v84 == 0u;
+    if (v87) { goto L71; }
+    else { goto L15; }
+L15:;
+    v88 = (u64)((u64)v84 + (u64)2u);
+    v89 = v67 + v88 * 1u;
+    v90 = v89 + 1u * 1u;
+    v91 = load8(v90);
+    v92 = (u32)v91;
+    v93 = (u32)((u32)v92 << (8u & 31u));
+    v94 = load8(v89);
+    v95 = (u32)v94;
+    v96 = (u32)((u32)v93 | (u32)v95);
+    v97 = v89 + 2u * 1u;
+    v98 = load8(v97);
+    v99 = (u32)v98;
+    v100 = (u32)((u32)v99 << (16u & 31u));
+    v101 = (u32)((u32)v96 | (u32)v100);
+    v102 = v89 + 3u * 1u;
+    v103 = load8(v102);
+    v104 = (u32)v103;
+    v105 = (u32)((u32)v104 << (24u & 31u));
+    v106 = (u32)((u32)v101 | (u32)v105);
+    v107 = swap32(v106);
+    v108 = swap32(v70);
+    store32(v34, v108);
+    v109 = f84(v34, 4u, v67, v88);
+    v110 = v107 == v109;
+    if (v110) { goto L31; }
+    else { goto L71; }
+L16:;
+    if (v47) { goto L17; }
+    else { goto L71; }
+L17:;
+    v111 = v45 + 40u * 1u;
+    v112 = load64(v111);
+    v113 = v45 + 26u * 1u;
+    v114 = load16(v113);
+    v115 = (u64)v114;
+    v116 = v112 == v115;
+    if (v116) { goto L18; }
+    else { goto L71; }
+L18:;
+    if (v71) { v29 = 129u; goto L73; }
+    else { v8 = 0u; goto L20; }
+L19:;
+    v117 = (u64)((u64)v8 + (u64)1u);
+    v118 = v117 == v68;
+    if (v118) { v29 = 129u; goto L73; }
+    else { v8 = v117; goto L20; }
+L20:;
+    v119 = v67 + v8 * 1u;
+    v120 = load8(v119);
+    v121 = v120 == 0u;
+    if (v121) { goto L19; }
+    else { goto L21; }
+L21:;
+    v122 = v68 < 3u;
+    if (v122) { v29 = 129u; goto L73; }
+    else { goto L22; }
+L22:;
+    v123 = load8(v67);
+    v124 = v67 + 1u * 1u;
+    v125 = load8(v124);
+    v126 = (u64)v123;
+    v127 = (u64)((u64)v126 << (8u & 63u));
+    v128 = (u64)v125;
+    v129 = (u64)((u64)v127 | (u64)v128);
+    v130 = v67 + 2u * 1u;
+    v131 = load8(v130);
+    switch (v131) {
+    case 1u: goto L71;
+    case 2u: goto L71;
+    case 3u: goto L26;
+    case 7u: v9 = 11u; goto L27;
+    case 6u: v10 = 14u; goto L28;
+    case 8u: goto L23;
+    case 9u: goto L24;
+    case 0u: goto L71;
+    default: goto L25;
+    }
+L23:;
+    v9 = 12u; goto L27;
+L24:;
+    v10 = 2u; goto L28;
+L25:;
+    v132 = v131 < 6u;
+    if (v132) { v9 = 11u; goto L27; }
+    else { goto L71; }
+L26:;
+    v9 = 13u; goto L27;
+L27:;
+    v133 = v129 == v9;
+    if (v133) { v29 = 129u; goto L73; }
+    else { goto L71; }
+L28:;
+    v134 = (u64)((u64)v10 + (u64)4u);
+    v135 = v68 < v134;
+    v136 = (u64)((u64)v10 + (u64)2u);
+    if (v135) { goto L30; }
+    else { goto L29; }
+L29:;
+    v137 = v67 + v136 * 1u;
+    v138 = load8(v137);
+    v139 = v137 + 1u * 1u;
+    v140 = load8(v139);
+    v141 = (u64)v138;
+    v142 = (u64)((u64)v141 << (8u & 63u));
+    v143 = (u64)v140;
+    v144 = (u64)((u64)v142 | (u64)v143);
+    v145 = (u64)((u64)v144 + (u64)v136);
+    v146 = v129 == v145;
+    if (v146) { v29 = 129u; goto L73; }
+    else { goto L71; }
+L30:;
+    v147 = v136 <= v129;
+    v148 = (u64)((u64)v10 + (u64)4098u);
+    v149 = v129 <= v148;
+    v150 = v147 ? v149 : 0u;
+    if (v150) { v29 = 129u; goto L73; }
+    else { goto L71; }
+L31:;
+    store64(v32, 0u);
+    store64(v33, 0u);
+    v151 = v67 + 2u * 1u;
+    v152 = v31 + 8u * 1u;
+    memory_set(v152, 0u, 32u);
+    v153 = load8(v151);
+    switch (v153) {
+    case 1u: v11 = 1u; v12 = 16u; goto L39;
+    case 2u: goto L37;
+    case 3u: goto L38;
+    case 7u: goto L36;
+    case 6u: goto L32;
+    case 8u: goto L33;
+    case 9u: goto L34;
+    case 0u: goto L54;
+    default: goto L35;
+    }
+L32:;
+    v11 = 2u; v12 = 14u; goto L39;
+L33:;
+    v11 = 0u; v12 = 12u; goto L39;
+L34:;
+    v11 = 2u; v12 = 2u; goto L39;
+L35:;
+    v154 = v153 < 6u;
+    if (v154) { goto L36; }
+    else { goto L54; }
+L36:;
+    v11 = 0u; v12 = 11u; goto L39;
+L37:;
+    v11 = 2u; v12 = 15u; goto L39;
+L38:;
+    v11 = 0u; v12 = 13u; goto L39;
+L39:;
+    v155 = (u64)((u64)v12 + (u64)v11);
+    v156 = v84 < v155;
+    if (v156) { goto L55; }
+    else { goto L40; }
+L40:;
+    switch (v11) {
+    case 0u: v13 = v11; goto L43;
+    case 1u: goto L41;
+    default: goto L42;
+    }
+L41:;
+    v157 = v151 + v12 * 1u;
+    v158 = load8(v157);
+    v159 = (u64)v158;
+    v13 = v159; goto L43;
+L42:;
+    v160 = v151 + v12 * 1u;
+    v161 = load8(v160);
+    v162 = v160 + 1u * 1u;
+    v163 = load8(v162);
+    v164 = (u64)v161;
+    v165 = (u64)((u64)v164 << (8u & 63u));
+    v166 = (u64)v163;
+    v167 = (u64)((u64)v165 | (u64)v166);
+    v13 = v167; goto L43;
+L43:;
+    v168 = v153 == 2u;
+    v169 = v168 ? 2u : 0u;
+    v170 = v153 == 1u;
+    v171 = v170 ? 1u : v169;
+    v172 = (u64)((u64)v13 + (u64)v155);
+    v173 = (u64)((u64)v172 + (u64)v171);
+    v174 = v84 < v173;
+    if (v174) { goto L55; }
+    else { goto L44; }
+L44:;
+    switch (v171) {
+    case 0u: v14 = v171; goto L47;
+    case 1u: goto L45;
+    default: goto L46;
+    }
+L45:;
+    v175 = v151 + v172 * 1u;
+    v176 = load8(v175);
+    v177 = (u64)v176;
+    v14 = v177; goto L47;
+L46:;
+    v178 = v151 + v172 * 1u;
+    v179 = load8(v178);
+    v180 = v178 + 1u * 1u;
+    v181 = load8(v180);
+    v182 = (u64)v179;
+    v183 = (u64)((u64)v182 << (8u & 63u));
+    v184 = (u64)v181;
+    v185 = (u64)((u64)v183 | (u64)v184);
+    v14 = v185; goto L47;
+L47:;
+    v186 = (u64)((u64)v14 + (u64)v173);
+    v187 = v186 == v84;
+    if (v187) { goto L48; }
+    else { goto L55; }
+L48:;
+    v188 = (u8)((u32)v153 + (u32)255u);
+    v189 = v188 < 9u;
+    if (v189) { goto L49; }
+    else { v15 = 0u; goto L50; }
+L49:;
+    v190 = (u64)v188;
+    v191 = ADDRESS(c351) + v190 * 8u;
+    v192 = load64(v191);
+    v15 = v192; goto L50;
+L50:;
+    v193 = v13 > v15;
+    if (v193) { goto L55; }
+    else { goto L51; }
+L51:;
+    v194 = v170 ? 255u : 4096u;
+    v195 = (u8)((u32)v153 + (u32)253u);
+    v196 = v195 < 254u;
+    v197 = v196 ? 0u : v194;
+    v198 = v14 > v197;
+    if (v198) { goto L55; }
+    else { goto L52; }
+L52:;
+    f90(v31, v151);
+    v199 = load8(v31);
+    v200 = v199 == 1u;
+    if (v200) { goto L53; }
+    else { goto L55; }
+L53:;
+    v201 = v31 + 9u * 1u;
+    v202 = load8(v201);
+    v203 = load8(v152);
+    v204 = v31 + 16u * 1u;
+    v205 = load64(v204);
+    v206 = v31 + 24u * 1u;
+    v207 = load64(v206);
+    v208 = v31 + 32u * 1u;
+    v209 = load16(v208);
+    v210 = v31 + 34u * 1u;
+    v211 = load16(v210);
+    v212 = v31 + 36u * 1u;
+    v213 = load32(v212);
+    store8(v32, v203);
+    v214 = v32 + 1u * 1u;
+    store8(v214, v202);
+    v215 = v32 + 8u * 1u;
+    store64(v215, v205);
+    v216 = v32 + 16u * 1u;
+    store64(v216, v207);
+    v217 = v32 + 24u * 1u;
+    store16(v217, v209);
+    v218 = v32 + 26u * 1u;
+    store16(v218, v211);
+    v219 = v32 + 28u * 1u;
+    store32(v219, v213);
+    v220 = f86(v45, v32);
+    if (v220) { goto L58; }
+    else { goto L70; }
+L54:;
+    goto L70;
+L55:;
+    v221 = v46 != 1u;
+    v222 = v84 != 1u;
+    v223 = (u8)(((u32)v221 & (u32)v222) & UINT64_C(1));
+    v224 = v153 == 1u;
+    v225 = (u8)(((u32)v223 & (u32)v224) & UINT64_C(1));
+    if (v225) { goto L56; }
+    else { goto L70; }
+L56:;
+    v226 = v67 + 3u * 1u;
+    v227 = load8(v226);
+    v228 = v227 == 2u;
+    if (v228) { goto L70; }
+    else { goto L57; }
+L57:;
+    v29 = 105u; goto L73;
+L58:;
+    store8(v33, v203);
+    v229 = v33 + 1u * 1u;
+    store8(v229, v202);
+    v230 = v33 + 8u * 1u;
+    store64(v230, v205);
+    v231 = v33 + 16u * 1u;
+    store64(v231, v207);
+    v232 = v33 + 24u * 1u;
+    store16(v232, v209);
+    v233 = v33 + 26u * 1u;
+    store16(v233, v211);
+    v234 = v33 + 28u * 1u;
+    store32(v234, v213);
+    v235 = f87(v45, v33);
+    v236 = v235 == 0u;
+    if (v236) { goto L59; }
+    else { goto L72; }
+L59:;
+    v237 = load32(v69);
+    v238 = swap32(v237);
+    store32(v30, v238);
+    v239 = f84(v30, 4u, v67, v88);
+    store32(v69, v239);
+    v240 = (u8)(v207);
+    v241 = (u64)((u64)v207 >> (8u & 63u));
+    v242 = (u64)((u64)v207 >> (16u & 63u));
+    v243 = (u16)(v242);
+    v244 = (u64)((u64)v207 >> (32u & 63u));
+    v245 = (u64)((u64)v207 >> (48u & 63u));
+    v246 = (u16)(v245);
+    switch (v203) {
+    case 0u: goto L61;
+    case 1u: goto L62;
+    case 2u: goto L63;
+    case 3u: goto L67;
+    case 4u: goto L68;
+    case 5u: v16 = 0u; v17 = 0u; v18 = 0u; v19 = 0u; v20 = 0u; v21 = 0u; v22 = 0u; v23 = 0u; v24 = 9u; v25 = 0u; v26 = 0u; v27 = 0u; v28 = v202; goto L69;
+    default: goto L60;
+    }
+L60:;
+    UNREACHABLE;
+L61:;
+    v247 = (u8)(v205);
+    v248 = (u64)((u64)v205 >> (8u & 63u));
+    v249 = (u32)(v248);
+    v250 = swap64(v207);
+    v16 = 0u; v17 = v211; v18 = v209; v19 = 0u; v20 = 0u; v21 = 0u; v22 = 0u; v23 = v250; v24 = 1u; v25 = v247; v26 = v249; v27 = 0u; v28 = 0u; goto L69;
+L62:;
+    v251 = swap64(v205);
+    v252 = (u32)(v241);
+    v253 = (u32)((u32)v252 << (24u & 31u));
+    v254 = (u32)(v207);
+    v255 = (u32)((u32)v254 << (16u & 31u));
+    v256 = (u32)((u32)v255 & (u32)UINT32_C(16711680));
+    v257 = (u32)((u32)v253 | (u32)v256);
+    v16 = 0u; v17 = 0u; v18 = v209; v19 = v211; v20 = 0u; v21 = 0u; v22 = 0u; v23 = v251; v24 = 2u; v25 = 0u; v26 = 0u; v27 = v257; v28 = 0u; goto L69;
+L63:;
+    v258 = (u16)(v244);
+    switch (v240) {
+    case 0u: v16 = v205; v17 = 0u; v18 = 0u; v19 = 0u; v20 = v243; v21 = v258; v22 = 0u; v23 = 0u; v24 = 3u; v25 = v240; v26 = 0u; v27 = 0u; v28 = v240; goto L69;
+    case 1u: goto L64;
+    case 2u: goto L64;
+    case 3u: goto L65;
+    default: goto L66;
+    }
+L64:;
+    v259 = (u8)((u32)v240 + (u32)3u);
+    v16 = v205; v17 = 0u; v18 = 0u; v19 = 0u; v20 = v243; v21 = 0u; v22 = 0u; v23 = 0u; v24 = v259; v25 = 0u; v26 = 0u; v27 = 0u; v28 = 0u; goto L69;
+L65:;
+    v260 = (u8)(v244);
+    v261 = (u8)((u32)v260 + (u32)1u);
+    v16 = v205; v17 = 0u; v18 = 0u; v19 = 0u; v20 = v243; v21 = 0u; v22 = v246; v23 = 0u; v24 = 6u; v25 = 0u; v26 = 0u; v27 = 0u; v28 = v261; goto L69;
+L66:;
+    UNREACHABLE;
+L67:;
+    v262 = (u32)(v241);
+    v16 = v205; v17 = 0u; v18 = 0u; v19 = 0u; v20 = 0u; v21 = 0u; v22 = 0u; v23 = 0u; v24 = 7u; v25 = v240; v26 = v262; v27 = 0u; v28 = 0u; goto L69;
+L68:;
+    v263 = (u8)((u32)v240 + (u32)1u);
+    v16 = v205; v17 = 0u; v18 = 0u; v19 = 0u; v20 = v243; v21 = 0u; v22 = 0u; v23 = 0u; v24 = 8u; v25 = 0u; v26 = 0u; v27 = 0u; v28 = v263; goto L69;
+L69:;
+    v264 = (u64)((u64)v6 | (u64)2u);
+    v265 = (u64)((u64)v155 + (u64)v264);
+    v266 = (u32)(v265);
+    v267 = (u16)(v13);
+    v268 = (u64)((u64)v173 + (u64)v264);
+    v269 = (u32)(v268);
+    v270 = (u16)(v14);
+    v271 = (u32)((u32)v26 << (8u & 31u));
+    v272 = (u32)((u32)v271 & (u32)65280u);
+    v273 = (u32)v25;
+    v274 = (u32)((u32)v27 | (u32)v273);
+    v275 = (u32)((u32)v274 | (u32)v272);
+    store64(a3, v16);
+    v276 = a3 + 8u * 1u;
+    store32(v276, v266);
+    v277 = a3 + 12u * 1u;
+    store32(v277, v269);
+    v278 = a3 + 16u * 1u;
+    store16(v278, v267);
+    v279 = a3 + 18u * 1u;
+    store16(v279, v270);
+    v280 = a3 + 20u * 1u;
+    store16(v280, v17);
+    v281 = a3 + 22u * 1u;
+    store16(v281, v18);
+    v282 = a3 + 24u * 1u;
+    store16(v282, v19);
+    v283 = a3 + 26u * 1u;
+    store16(v283, v20);
+    v284 = a3 + 28u * 1u;
+    store16(v284, v21);
+    v285 = a3 + 30u * 1u;
+    store16(v285, v22);
+    v286 = a3 + 32u * 1u;
+    store64(v286, v23);
+    v287 = a3 + 40u * 1u;
+    store8(v287, v24);
+    v288 = a3 + 41u * 1u;
+    store32(v288, v275);
+    v289 = a3 + 45u * 1u;
+    store8(v289, v28);
+    v290 = a3 + 46u * 1u;
+    store16(v290, 0u);
+    v291 = (u64)((u64)v6 + (u64)6u);
+    v292 = (u64)((u64)v291 + (u64)v84);
+    store64(a4, v292);
+    v29 = 0u; goto L73;
+L70:;
+    goto L71;
+L71:;
+    v29 = 107u; goto L73;
+L72:;
+    v29 = 35u; goto L73;
+L73:;
+    return v29;
+}
+
+u16 portable_ptpm_journal_next_step(address a0) {
+    u64 v1, v2, v15, v18, v32, v39, v41, v44, v60, v62, v64;
+    u16 v3, v17, v65;
+    address v4, v7, v10, v11, v14, v16, v20, v23, v24, v25, v26, v28, v33, v34, v35, v36;
+    address v40, v42, v50;
+    u8 v5, v6, v8, v9, v12, v13, v19, v21, v22, v27, v29, v30, v31, v37, v38, v43;
+    u8 v45, v46, v47, v48, v49, v51, v52, v53, v54, v55, v56, v57, v58, v59, v61, v63;
+    v4 = a0 + 8u * 1u;
+    v5 = load8(v4);
+    v6 = (u8)((v5) & UINT64_C(1));
+    if (v6) { goto L1; }
+    else { v3 = 65535u; goto L16; }
+L1:;
+    v7 = load_address(a0);
+    v8 = load8(v7);
+    v9 = v8 == 6u;
+    if (v9) { goto L2; }
+    else { v3 = 65535u; goto L16; }
+L2:;
+    v10 = v7 + 8u * 1u;
+    v11 = load_address(v10);
+    v12 = load8(v11);
+    v13 = v12 == 1u;
+    if (v13) { goto L3; }
+    else { v3 = 65535u; goto L16; }
+L3:;
+    v14 = v11 + 40u * 1u;
+    v15 = load64(v14);
+    v16 = v11 + 26u * 1u;
+    v17 = load16(v16);
+    v18 = (u64)v17;
+    v19 = v15 == v18;
+    if (v19) { goto L4; }
+    else { v3 = 65535u; goto L16; }
+L4:;
+    v20 = v11 + 80u * 1u;
+    v21 = load8(v20);
+    v22 = (u8)((v21) & UINT64_C(1));
+    if (v22) { v3 = 65535u; goto L16; }
+    else { goto L5; }
+L5:;
+    v23 = v11 + 32u * 1u;
+    v24 = load_address(v23);
+    v25 = v11 + 56u * 1u;
+    v26 = load_address(v25);
+    v27 = v15 == 0u;
+    if (v27) { v3 = 65535u; goto L16; }
+    else { v1 = 0u; goto L6; }
+L6:;
+    v28 = v26 + v1 * 1u;
+    v29 = load8(v28);
+    v30 = v29 == 0u;
+    if (v30) { goto L7; }
+    else { goto L14; }
+L7:;
+    v31 = v1 == 0u;
+    if (v31) { v3 = 0u; goto L16; }
+    else { goto L8; }
+L8:;
+    v32 = (u64)((u64)v1 << (4u & 63u));
+    v33 = v24 + v32 * 1u;
+    v34 = v33 + 9u * 1u;
+    v35 = v33 + 8u * 1u;
+    v2 = 0u; goto L9;
+L9:;
+    v36 = v26 + v2 * 1u;
+    v37 = load8(v36);
+    v38 = v37 == 2u;
+    if (v38) { goto L13; }
+    else { goto L10; }
+L10:;
+    v39 = (u64)((u64)v2 << (4u & 63u));
+    v40 = v24 + v39 * 1u;
+    v41 = load64(v40);
+    v42 = v40 + 9u * 1u;
+    v43 = load8(v42);
+    v44 = load64(v33);
+    v45 = load8(v34);
+    v46 = v41 == v44;
+    v47 = v45 == 6u;
+    v48 = v46 ? 1u : v47;
+    if (v48) { goto L14; }
+    else { goto L11; }
+L11:;
+    v49 = load8(v35);
+    v50 = v40 + 8u * 1u;
+    v51 = load8(v50);
+    v52 = v51 != v49;
+    v53 = v43 == 3u;
+    v54 = v52 ? 1u : v53;
+    v55 = v45 == 3u;
+    v56 = v54 ? 1u : v55;
+    if (v56) { goto L13; }
+    else { goto L12; }
+L12:;
+    v57 = v43 < v45;
+    v58 = v45 == 5u;
+    v59 = (u8)(((u32)v57 | (u32)v58) & UINT64_C(1));
+    if (v59) { goto L14; }
+    else { goto L13; }
+L13:;
+    v60 = (u64)((u64)v2 + (u64)1u);
+    v61 = v60 == v1;
+    if (v61) { goto L15; }
+    else { v2 = v60; goto L9; }
+L14:;
+    v62 = (u64)((u64)v1 + (u64)1u);
+    v63 = v62 == v15;
+    if (v63) { v3 = 65535u; goto L16; }
+    else { v1 = v62; goto L6; }
+L15:;
+    v64 = v1 < 65535u ? v1 : 65535u;
+    v65 = (u16)(v64);
+    v3 = v65; goto L16;
+L16:;
+    return v3;
+}
+
+void portable_ptpm_journal_stop(address a0) {
+    address v1, v2, v6, v8;
+    u8 v3, v4, v5;
+    u64 v7;
+    v1 = load_address(a0);
+    v2 = a0 + 8u * 1u;
+    v3 = load8(v2);
+    v4 = (u8)((v3) & UINT64_C(1));
+    memory_set(a0, 0u, 16u);
+    if (v4) { goto L1; }
+    else { goto L2; }
+L1:;
+    v5 = load8(v1);
+    v6 = v1 + 8u * 1u;
+    v7 = load64(v6);
+    portable_rattle_dealloc(v1);
+    v8 = (address)v7;
+    f12(v5, v8);
+    goto L2;
+L2:;
+    return;
 }
 
 void portable_ptpm_limit_range(address a0, u32 a1, u32 a2) {
@@ -34106,11 +37600,11 @@ u16 portable_ptpm_limits_say(address a0, u64 a1, address a2) {
     default: goto L11;
     }
 L1:;
-    v11 = f85(v8, a1, a2);
+    v11 = f91(v8, a1, a2);
     if (v11) { v5 = 6u; goto L12; }
     else { goto L11; }
 L2:;
-    v12 = f85(v8, a1, a2);
+    v12 = f91(v8, a1, a2);
     if (v12) { v5 = 5u; goto L12; }
     else { goto L3; }
 L3:;
@@ -34185,7 +37679,7 @@ u32 portable_ptpm_member_kind(u16 a0, address a1, u64 a2, u64 a3) {
     v7 = v6 ? 4096u : 0u;
     v8 = a1 + v7 * 1u;
     memory_set(v5, 0u, 24u);
-    v9 = f76(a0, v8, a2);
+    v9 = f77(a0, v8, a2);
     v10 = v9.m1;
     v11 = a3 < v10;
     if (v11) { goto L1; }
@@ -34203,7 +37697,7 @@ L1:;
     v21 = (u64)v20;
     v22 = v8 + v21 * 1u;
     v23 = (u64)((u64)a2 - (u64)v21);
-    f78(v5, v16, v18, v22, v23);
+    f79(v5, v16, v18, v22, v23);
     v24 = load8(v5);
     switch (v24) {
     case 0u: v4 = 1u; goto L12;
@@ -34272,7 +37766,7 @@ L3:;
     memory_set(v17, 0u, 24u);
     v26 = (u64)((u64)v5 * (u64)a2);
     v27 = v20 + v26 * 1u;
-    f84(v17, v27, a2);
+    f85(v17, v27, a2);
     v28 = load8(v17);
     v29 = v28 == 0u;
     if (v29) { goto L5; }
@@ -34326,7 +37820,7 @@ L1:;
     v12 = a1 + v11 * 1u;
     v13 = (u8)(v8);
     memory_set(v7, 0u, 24u);
-    f26(v7, v12, a2);
+    f32(v7, v12, a2);
     v14 = load8(v7);
     v15 = v14 == 0u;
     if (v15) { goto L2; }
@@ -34338,10 +37832,10 @@ L2:;
     v19 = load64(v18);
     memory_set(v6, 0u, 24u);
     v20 = (u64)v8;
-    v21 = ADDRESS(c343) + v20 * 8u;
+    v21 = ADDRESS(c352) + v20 * 8u;
     v22 = load64(v21);
     v23 = (u64)v8;
-    v24 = ADDRESS(c344) + v23 * 8u;
+    v24 = ADDRESS(c353) + v23 * 8u;
     v25 = load_address(v24);
     v26 = v6 + 16u * 1u;
     v27 = v6 + 8u * 1u;
@@ -34350,7 +37844,7 @@ L2:;
 L3:;
     v29 = v25 + v3 * 1u;
     v30 = load8(v29);
-    f70(v6, v13, v30);
+    f71(v6, v13, v30);
     v31 = load8(v6);
     v32 = v31 == 1u;
     if (v32) { goto L4; }
@@ -34410,10 +37904,10 @@ u32 portable_ptpm_other_id_at(u64 a0) {
     if (v2) { goto L1; }
     else { v1 = UINT32_C(65536); goto L2; }
 L1:;
-    v3 = ADDRESS(c312) + a0 * 1u;
+    v3 = ADDRESS(c320) + a0 * 1u;
     v4 = load8(v3);
     v5 = (u64)v4;
-    v6 = ADDRESS(c347) + v5 * 4u;
+    v6 = ADDRESS(c356) + v5 * 4u;
     v7 = load32(v6);
     v1 = v7; goto L2;
 L2:;
@@ -34428,7 +37922,7 @@ u64 portable_ptpm_other_id_name(u16 a0, address a1, u64 a2) {
     v8 = v7 ? 4096u : 0u;
     v9 = a1 + v8 * 1u;
     switch (a0) {
-    case 1u: v3 = ADDRESS(c313); v4 = 17u; goto L10;
+    case 1u: v3 = ADDRESS(c321); v4 = 17u; goto L10;
     case 8207u: goto L9;
     case 8210u: goto L1;
     case 8211u: goto L2;
@@ -34441,23 +37935,23 @@ u64 portable_ptpm_other_id_name(u16 a0, address a1, u64 a2) {
     default: v6 = 0u; goto L14;
     }
 L1:;
-    v3 = ADDRESS(c315); v4 = 23u; goto L10;
+    v3 = ADDRESS(c323); v4 = 23u; goto L10;
 L2:;
-    v3 = ADDRESS(c316); v4 = 20u; goto L10;
+    v3 = ADDRESS(c324); v4 = 20u; goto L10;
 L3:;
-    v3 = ADDRESS(c317); v4 = 15u; goto L10;
+    v3 = ADDRESS(c325); v4 = 15u; goto L10;
 L4:;
-    v3 = ADDRESS(c318); v4 = 14u; goto L10;
+    v3 = ADDRESS(c326); v4 = 14u; goto L10;
 L5:;
-    v3 = ADDRESS(c319); v4 = 23u; goto L10;
+    v3 = ADDRESS(c327); v4 = 23u; goto L10;
 L6:;
-    v3 = ADDRESS(c320); v4 = 16u; goto L10;
+    v3 = ADDRESS(c328); v4 = 16u; goto L10;
 L7:;
-    v3 = ADDRESS(c321); v4 = 18u; goto L10;
+    v3 = ADDRESS(c329); v4 = 18u; goto L10;
 L8:;
-    v3 = ADDRESS(c322); v4 = 13u; goto L10;
+    v3 = ADDRESS(c330); v4 = 13u; goto L10;
 L9:;
-    v3 = ADDRESS(c314); v4 = 4u; goto L10;
+    v3 = ADDRESS(c322); v4 = 4u; goto L10;
 L10:;
     v10 = a2 < v4;
     if (v10) { v6 = 0u; goto L14; }
@@ -34497,7 +37991,7 @@ u32 portable_ptpm_other_id_named(address a0, u64 a1) {
     v7 = v6 ? 4096u : 0u;
     v8 = a0 + v7 * 1u;
     memory_set(v5, 0u, 24u);
-    f26(v5, v8, a1);
+    f32(v5, v8, a1);
     v9 = load8(v5);
     v10 = v9 == 0u;
     if (v10) { goto L1; }
@@ -34509,13 +38003,13 @@ L1:;
     v14 = load64(v13);
     v2 = 0u; goto L2;
 L2:;
-    v15 = ADDRESS(c312) + v2 * 1u;
+    v15 = ADDRESS(c320) + v2 * 1u;
     v16 = load8(v15);
     v17 = (u64)v16;
-    v18 = ADDRESS(c345) + v17 * 8u;
+    v18 = ADDRESS(c354) + v17 * 8u;
     v19 = load64(v18);
     v20 = (u64)v16;
-    v21 = ADDRESS(c346) + v20 * 8u;
+    v21 = ADDRESS(c355) + v20 * 8u;
     v22 = load_address(v21);
     v23 = v14 == v19;
     if (v23) { v3 = 0u; goto L4; }
@@ -34548,7 +38042,7 @@ L5:;
     else { v2 = v39; goto L2; }
 L6:;
     v41 = (u64)v16;
-    v42 = ADDRESS(c347) + v41 * 4u;
+    v42 = ADDRESS(c356) + v41 * 4u;
     v43 = load32(v42);
     v4 = v43; goto L7;
 L7:;
@@ -34556,188 +38050,55 @@ L7:;
 }
 
 u8 portable_ptpm_passed_on_is_first(address a0, address a1, u64 a2, u64 a3, u64 a4) {
-    u8 v5, v8, v12, v13, v18, v20, v24, v26, v34, v36, v43, v45, v51, v55, v57, v69;
-    address v6, v7, v10, v14, v15, v16, v17, v19, v21, v23, v25, v31, v33, v35, v42, v44;
-    address v54, v56, v62, v63, v64, v65, v66, v67, v68;
-    u64 v9, v11, v22, v30, v32, v40, v52, v53;
-    u16 v27, v28, v29, v37, v38, v39, v41, v46, v47, v48, v49, v50, v58, v59, v60, v61;
-    u64 block0[4];
-    u64 block1[4];
+    u8 v5, v7, v11, v12, v15;
+    address v6, v9, v13, v14;
+    u64 v8, v10;
+    u64 block0[5];
     v6 = ADDRESS(block0);
-    v7 = ADDRESS(block1);
-    v8 = a1 == 0u;
-    v9 = v8 ? 4096u : 0u;
-    v10 = a1 + v9 * 1u;
-    v11 = load64(a0);
-    memory_set(v6, 0u, 32u);
-    f8(v6, v10, a2);
-    v12 = load8(v6);
-    v13 = v12 == 0u;
-    if (v13) { goto L1; }
+    v7 = a1 == 0u;
+    v8 = v7 ? 4096u : 0u;
+    v9 = a1 + v8 * 1u;
+    v10 = load64(a0);
+    f92(v6, v9, a2);
+    v11 = load8(v6);
+    v12 = v11 == 1u;
+    if (v12) { goto L1; }
     else { v5 = 0u; goto L2; }
 L1:;
-    v14 = a0 + 8u * 1u;
-    v15 = v6 + 8u * 1u;
-    v16 = load_address(v15);
-    v17 = v6 + 24u * 1u;
-    v18 = load8(v17);
-    v19 = v6 + 25u * 1u;
-    v20 = load8(v19);
-    v21 = v16 + 20u * 1u;
-    v22 = load64(v21);
-    v23 = v16 + 28u * 1u;
-    v24 = load8(v23);
-    v25 = v16 + 29u * 1u;
-    v26 = load8(v25);
-    v27 = (u16)v24;
-    v28 = (u16)((u32)v27 << (8u & 15u));
-    v29 = (u16)v26;
-    v30 = swap64(v22);
-    v31 = v16 + 34u * 1u;
-    v32 = load64(v31);
-    v33 = v16 + 42u * 1u;
-    v34 = load8(v33);
-    v35 = v16 + 43u * 1u;
-    v36 = load8(v35);
-    v37 = (u16)v34;
-    v38 = (u16)((u32)v37 << (8u & 15u));
-    v39 = (u16)v36;
-    v40 = swap64(v32);
-    v41 = (u16)((u32)v28 | (u32)v29);
-    v42 = v16 + 30u * 1u;
-    v43 = load8(v42);
-    v44 = v16 + 31u * 1u;
-    v45 = load8(v44);
-    v46 = (u16)v43;
-    v47 = (u16)((u32)v46 << (8u & 15u));
-    v48 = (u16)v45;
-    v49 = (u16)((u32)v47 | (u32)v48);
-    v50 = (u16)((u32)v38 | (u32)v39);
-    v51 = v20 == 0u;
-    v52 = v51 ? 52u : 54u;
-    v53 = v51 ? 53u : 55u;
-    v54 = v16 + v52 * 1u;
-    v55 = load8(v54);
-    v56 = v16 + v53 * 1u;
-    v57 = load8(v56);
-    v58 = (u16)v55;
-    v59 = (u16)((u32)v58 << (8u & 15u));
-    v60 = (u16)v57;
-    v61 = (u16)((u32)v59 | (u32)v60);
-    store64(v7, v30);
-    v62 = v7 + 8u * 1u;
-    store64(v62, v40);
-    v63 = v7 + 16u * 1u;
-    store16(v63, v41);
-    v64 = v7 + 18u * 1u;
-    store16(v64, v49);
-    v65 = v7 + 20u * 1u;
-    store16(v65, v50);
-    v66 = v7 + 22u * 1u;
-    store16(v66, v61);
-    v67 = v7 + 24u * 1u;
-    store8(v67, v18);
-    v68 = v7 + 25u * 1u;
-    memory_set(v68, 0u, 7u);
-    v69 = f86(v11, v14, 4096u, v7, a3, a4);
-    v5 = v69; goto L2;
+    v13 = a0 + 8u * 1u;
+    v14 = v6 + 8u * 1u;
+    v15 = f93(v10, v13, 4096u, v14, a3, a4);
+    v5 = v15; goto L2;
 L2:;
     return v5;
 }
 
 u8 portable_ptpm_passed_on_is_first_of(u64 a0, address a1, u64 a2, address a3, u64 a4, u64 a5, u64 a6) {
-    u8 v7, v10, v14, v15, v18, v19, v23, v25, v29, v31, v39, v41, v48, v50, v56, v60;
-    u8 v62, v74;
-    address v8, v9, v12, v17, v20, v21, v22, v24, v26, v28, v30, v36, v38, v40, v47, v49;
-    address v59, v61, v67, v68, v69, v70, v71, v72, v73;
-    u64 v11, v13, v16, v27, v35, v37, v45, v57, v58;
-    u16 v32, v33, v34, v42, v43, v44, v46, v51, v52, v53, v54, v55, v63, v64, v65, v66;
-    u64 block0[4];
-    u64 block1[4];
+    u8 v7, v9, v13, v14, v17, v18, v20;
+    address v8, v11, v16, v19;
+    u64 v10, v12, v15;
+    u64 block0[5];
     v8 = ADDRESS(block0);
-    v9 = ADDRESS(block1);
-    v10 = a1 == 0u;
-    v11 = v10 ? 4096u : 0u;
-    v12 = a1 + v11 * 1u;
-    memory_set(v8, 0u, 32u);
-    v13 = (u64)((u64)a2 + (u64)UINT64_C(18446744073708503039));
-    v14 = v13 < UINT64_C(18446744073708503055);
-    if (v14) { v7 = 0u; goto L3; }
+    v9 = a1 == 0u;
+    v10 = v9 ? 4096u : 0u;
+    v11 = a1 + v10 * 1u;
+    v12 = (u64)((u64)a2 + (u64)UINT64_C(18446744073708503039));
+    v13 = v12 < UINT64_C(18446744073708503055);
+    if (v13) { v7 = 0u; goto L3; }
     else { goto L1; }
 L1:;
-    v15 = a3 == 0u;
-    v16 = v15 ? 4096u : 0u;
-    v17 = a3 + v16 * 1u;
-    f8(v8, v17, a4);
-    v18 = load8(v8);
-    v19 = v18 == 0u;
-    if (v19) { goto L2; }
+    v14 = a3 == 0u;
+    v15 = v14 ? 4096u : 0u;
+    v16 = a3 + v15 * 1u;
+    f92(v8, v16, a4);
+    v17 = load8(v8);
+    v18 = v17 == 1u;
+    if (v18) { goto L2; }
     else { v7 = 0u; goto L3; }
 L2:;
-    v20 = v8 + 8u * 1u;
-    v21 = load_address(v20);
-    v22 = v8 + 24u * 1u;
-    v23 = load8(v22);
-    v24 = v8 + 25u * 1u;
-    v25 = load8(v24);
-    v26 = v21 + 20u * 1u;
-    v27 = load64(v26);
-    v28 = v21 + 28u * 1u;
-    v29 = load8(v28);
-    v30 = v21 + 29u * 1u;
-    v31 = load8(v30);
-    v32 = (u16)v29;
-    v33 = (u16)((u32)v32 << (8u & 15u));
-    v34 = (u16)v31;
-    v35 = swap64(v27);
-    v36 = v21 + 34u * 1u;
-    v37 = load64(v36);
-    v38 = v21 + 42u * 1u;
-    v39 = load8(v38);
-    v40 = v21 + 43u * 1u;
-    v41 = load8(v40);
-    v42 = (u16)v39;
-    v43 = (u16)((u32)v42 << (8u & 15u));
-    v44 = (u16)v41;
-    v45 = swap64(v37);
-    v46 = (u16)((u32)v33 | (u32)v34);
-    v47 = v21 + 30u * 1u;
-    v48 = load8(v47);
-    v49 = v21 + 31u * 1u;
-    v50 = load8(v49);
-    v51 = (u16)v48;
-    v52 = (u16)((u32)v51 << (8u & 15u));
-    v53 = (u16)v50;
-    v54 = (u16)((u32)v52 | (u32)v53);
-    v55 = (u16)((u32)v43 | (u32)v44);
-    v56 = v25 == 0u;
-    v57 = v56 ? 52u : 54u;
-    v58 = v56 ? 53u : 55u;
-    v59 = v21 + v57 * 1u;
-    v60 = load8(v59);
-    v61 = v21 + v58 * 1u;
-    v62 = load8(v61);
-    v63 = (u16)v60;
-    v64 = (u16)((u32)v63 << (8u & 15u));
-    v65 = (u16)v62;
-    v66 = (u16)((u32)v64 | (u32)v65);
-    store64(v9, v35);
-    v67 = v9 + 8u * 1u;
-    store64(v67, v45);
-    v68 = v9 + 16u * 1u;
-    store16(v68, v46);
-    v69 = v9 + 18u * 1u;
-    store16(v69, v54);
-    v70 = v9 + 20u * 1u;
-    store16(v70, v55);
-    v71 = v9 + 22u * 1u;
-    store16(v71, v66);
-    v72 = v9 + 24u * 1u;
-    store8(v72, v23);
-    v73 = v9 + 25u * 1u;
-    memory_set(v73, 0u, 7u);
-    v74 = f86(a0, v12, a2, v9, a5, a6);
-    v7 = v74; goto L3;
+    v19 = v8 + 8u * 1u;
+    v20 = f93(a0, v11, a2, v19, a5, a6);
+    v7 = v20; goto L3;
 L3:;
     return v7;
 }
@@ -34779,7 +38140,7 @@ u8 portable_ptpm_port_identity_parse(address a0, u64 a1, address a2, address a3)
     v11 = v10 ? 4096u : 0u;
     v12 = a0 + v11 * 1u;
     memory_set(v9, 0u, 24u);
-    f26(v9, v12, a1);
+    f32(v9, v12, a1);
     v13 = load8(v9);
     v14 = v13 == 0u;
     if (v14) { goto L2; }
@@ -34793,7 +38154,7 @@ L2:;
     v18 = load64(v17);
     memory_set(v7, 0u, 12u);
     memory_set(v8, 0u, 12u);
-    f87(v7, 47u, v16, v18);
+    f94(v7, 47u, v16, v18);
     v19 = load8(v7);
     v20 = v19 == 1u;
     v21 = v8 + 10u * 1u;
@@ -34807,7 +38168,7 @@ L3:;
     v25 = load16(v21);
     v4 = v25; v5 = v24; goto L5;
 L4:;
-    f87(v8, 45u, v16, v18);
+    f94(v8, 45u, v16, v18);
     v26 = load8(v8);
     v27 = v8 + 2u * 1u;
     v28 = load64(v27);
@@ -34925,7 +38286,7 @@ L5:;
 L6:;
     v40 = v20.m1;
     v41 = (u64)v40;
-    v42 = ADDRESS(c348) + v41 * 4u;
+    v42 = ADDRESS(c357) + v41 * 4u;
     v43 = load32(v42);
     v6 = v43; goto L7;
 L7:;
@@ -35043,7 +38404,7 @@ L11:;
     else { goto L12; }
 L12:;
     v65 = (u64)v8;
-    v66 = ADDRESS(c348) + v65 * 4u;
+    v66 = ADDRESS(c357) + v65 * 4u;
     v67 = load32(v66);
     v9 = v67; goto L13;
 L13:;
@@ -35712,16 +39073,16 @@ L2:;
 
 u32 portable_ptpm_sizes_agree(address a0, u64 a1) {
     u64 v2, v3, v6, v9, v11, v14, v15, v17, v18, v21, v22, v24, v25, v28, v29, v31;
-    u64 v32, v35, v36, v38, v42, v45;
-    u32 v4, v47;
-    u8 v5, v8, v10, v16, v23, v30, v37, v39, v40, v43, v46;
-    address v7, v12, v13, v19, v20, v26, v27, v33, v34, v41, v44;
+    u64 v32, v35, v36, v38;
+    u32 v4;
+    u8 v5, v8, v10, v16, v23, v30, v37, v39, v40;
+    address v7, v12, v13, v19, v20, v26, v27, v33, v34;
     v5 = a0 == 0u;
     v6 = v5 ? 4096u : 0u;
     v7 = a0 + v6 * 1u;
-    v8 = a1 == 22u;
+    v8 = a1 == 24u;
     if (v8) { v2 = 0u; goto L1; }
-    else { v4 = 47u; goto L11; }
+    else { v4 = 47u; goto L9; }
 L1:;
     v9 = (u64)((u64)v2 + (u64)4u);
     v10 = v2 == UINT64_C(18446744073709551612);
@@ -35732,7 +39093,7 @@ L2:;
 L3:;
     v11 = (u64)((u64)v2 << (3u & 63u));
     v12 = v7 + v11 * 1u;
-    v13 = ADDRESS(c323) + v11 * 1u;
+    v13 = ADDRESS(c331) + v11 * 1u;
     v14 = load64(v12);
     v15 = load64(v13);
     v16 = v14 == v15;
@@ -35742,7 +39103,7 @@ L4:;
     v17 = (u64)((u64)v2 | (u64)1u);
     v18 = (u64)((u64)v17 << (3u & 63u));
     v19 = v7 + v18 * 1u;
-    v20 = ADDRESS(c323) + v18 * 1u;
+    v20 = ADDRESS(c331) + v18 * 1u;
     v21 = load64(v19);
     v22 = load64(v20);
     v23 = v21 == v22;
@@ -35752,7 +39113,7 @@ L5:;
     v24 = (u64)((u64)v2 | (u64)2u);
     v25 = (u64)((u64)v24 << (3u & 63u));
     v26 = v7 + v25 * 1u;
-    v27 = ADDRESS(c323) + v25 * 1u;
+    v27 = ADDRESS(c331) + v25 * 1u;
     v28 = load64(v26);
     v29 = load64(v27);
     v30 = v28 == v29;
@@ -35762,7 +39123,7 @@ L6:;
     v31 = (u64)((u64)v2 | (u64)3u);
     v32 = (u64)((u64)v31 << (3u & 63u));
     v33 = v7 + v32 * 1u;
-    v34 = ADDRESS(c323) + v32 * 1u;
+    v34 = ADDRESS(c331) + v32 * 1u;
     v35 = load64(v33);
     v36 = load64(v34);
     v37 = v35 == v36;
@@ -35770,25 +39131,13 @@ L6:;
     v3 = v38; goto L7;
 L7:;
     v39 = v3 < v9;
-    if (v39) { v4 = 47u; goto L11; }
+    if (v39) { v4 = 47u; goto L9; }
     else { goto L8; }
 L8:;
-    v40 = v2 == 16u;
-    if (v40) { goto L9; }
+    v40 = v2 == 20u;
+    if (v40) { v4 = 0u; goto L9; }
     else { goto L2; }
 L9:;
-    v41 = v7 + 160u * 1u;
-    v42 = load64(v41);
-    v43 = v42 == 36u;
-    if (v43) { goto L10; }
-    else { v4 = 47u; goto L11; }
-L10:;
-    v44 = v7 + 168u * 1u;
-    v45 = load64(v44);
-    v46 = v45 == 32u;
-    v47 = v46 ? 0u : 47u;
-    v4 = v47; goto L11;
-L11:;
     return v4;
 }
 
@@ -36000,7 +39349,7 @@ L18:;
     if (v163) { goto L21; }
     else { v21 = v162; goto L17; }
 L19:;
-    v164 = f21(v8, v9, v15, v9);
+    v164 = f27(v8, v9, v15, v9);
     if (v164) { goto L21; }
     else { v22 = 3u; goto L26; }
 L20:;
@@ -36627,7 +39976,7 @@ L23:;
     switch (v42) {
     case 0u: goto L25;
     case 1u: goto L24;
-    default: v5 = v20; v6 = ADDRESS(c138); v7 = 0u; goto L29;
+    default: v5 = v20; v6 = ADDRESS(c145); v7 = 0u; goto L29;
     }
 L24:;
     v324 = v36 + 52u * 1u;
@@ -36972,7 +40321,7 @@ L40:;
     if (v569) { goto L41; }
     else { v16 = v446; v17 = v445; goto L43; }
 L41:;
-    v570 = f89(v102);
+    v570 = f96(v102);
     v571 = v570 == 0u;
     if (v571) { goto L42; }
     else { goto L49; }
@@ -37303,7 +40652,7 @@ L3:;
     v42 = v5 + 38u * 1u;
     store16(v42, 0u);
     v43 = v5 + 40u * 1u;
-    store_address(v43, ADDRESS(c138));
+    store_address(v43, ADDRESS(c145));
     v44 = v5 + 48u * 1u;
     store64(v44, 0u);
     f3(v5, v6);
@@ -37346,23 +40695,23 @@ u32 portable_ptpm_version(void) {
 }
 
 u32 portable_ptpm_asker_restore(address a0, address a1, address a2, address a3, u64 a4) {
-    u16 v5, v19, v23, v30, v31, v73, v77, v81, v95, v96, v97, v98, v118, v119, v120, v121;
+    u16 v5, v19, v23, v30, v31, v73, v78, v79, v96, v97, v98, v99, v119, v120, v121, v122;
     u8 v6, v7, v8, v9, v10, v11, v17, v18, v20, v24, v25, v26, v27, v62, v69, v70;
-    u8 v71, v74, v75, v76, v79, v83, v90, v92, v94, v100, v101, v104, v105, v109, v110, v111;
-    u8 v112, v113, v115, v117, v122, v123, v124, v125, v126, v127, v128, v129, v130, v131, v132, v134;
-    u8 v137, v150, v155, v205, v211, v212, v213, v218, v219, v220;
-    u64 v12, v13, v14, v16, v21, v22, v28, v29, v32, v63, v66, v68, v86, v89, v107, v140;
-    u64 v144, v146, v148, v151, v154, v157, v204, v206, v215;
+    u8 v71, v74, v75, v76, v80, v82, v84, v91, v93, v95, v101, v102, v105, v106, v110, v111;
+    u8 v112, v113, v114, v116, v118, v123, v124, v125, v126, v127, v128, v129, v130, v131, v132, v133;
+    u8 v135, v138, v151, v156, v206, v212, v213, v214, v219, v220, v221;
+    u64 v12, v13, v14, v16, v21, v22, v28, v29, v32, v63, v66, v68, v87, v90, v108, v141;
+    u64 v145, v147, v149, v152, v155, v158, v205, v207, v216;
     address v15, v34, v35, v36, v37, v38, v39, v40, v41, v42, v43, v44, v45, v46, v47, v48;
     address v49, v50, v51, v52, v53, v54, v55, v56, v57, v58, v59, v60, v61, v64, v65, v67;
-    address v72, v78, v80, v82, v84, v87, v91, v93, v99, v102, v103, v106, v108, v114, v116, v133;
-    address v135, v136, v138, v139, v141, v142, v143, v145, v147, v149, v152, v156, v158, v159, v160, v161;
-    address v162, v163, v164, v165, v166, v167, v168, v169, v170, v171, v172, v173, v174, v175, v176, v177;
-    address v178, v179, v180, v181, v182, v183, v184, v185, v186, v187, v188, v189, v190, v191, v192, v193;
-    address v194, v195, v196, v197, v198, v199, v200, v201, v202, v207, v208, v209, v210, v214, v216, v217;
-    address v221;
-    u32 v33, v85, v88, v222;
-    struct pair v153, v203;
+    address v72, v77, v81, v83, v85, v88, v92, v94, v100, v103, v104, v107, v109, v115, v117, v134;
+    address v136, v137, v139, v140, v142, v143, v144, v146, v148, v150, v153, v157, v159, v160, v161, v162;
+    address v163, v164, v165, v166, v167, v168, v169, v170, v171, v172, v173, v174, v175, v176, v177, v178;
+    address v179, v180, v181, v182, v183, v184, v185, v186, v187, v188, v189, v190, v191, v192, v193, v194;
+    address v195, v196, v197, v198, v199, v200, v201, v202, v203, v208, v209, v210, v211, v215, v217, v218;
+    address v222;
+    u32 v33, v86, v89, v223;
+    struct pair v154, v204;
     u64 block0[189];
     u64 block1[7];
     u64 block2[4];
@@ -37449,15 +40798,15 @@ u32 portable_ptpm_asker_restore(address a0, address a1, address a2, address a3, 
     v67 = a1 + 14u * 1u;
     v68 = load64(v67);
     v69 = v66 == UINT64_C(18446744073709551615);
-    if (v69) { goto L24; }
+    if (v69) { goto L25; }
     else { goto L1; }
 L1:;
     v70 = v68 == UINT64_C(18446744073709551615);
-    if (v70) { goto L25; }
+    if (v70) { goto L26; }
     else { goto L2; }
 L2:;
     v71 = v66 == v68;
-    if (v71) { goto L26; }
+    if (v71) { goto L27; }
     else { goto L3; }
 L3:;
     v72 = a1 + 2u * 1u;
@@ -37466,132 +40815,136 @@ L3:;
     if (v74) { goto L4; }
     else { goto L5; }
 L4:;
-    v33 = 48u; goto L36;
+    v33 = 48u; goto L38;
 L5:;
     v75 = v73 > 8u;
-    if (v75) { goto L23; }
+    if (v75) { goto L24; }
     else { goto L6; }
 L6:;
     v76 = v68 == 0u;
-    if (v76) { goto L27; }
+    if (v76) { goto L28; }
     else { goto L7; }
 L7:;
-    v77 = load16(a1);
-    v78 = a1 + 23u * 1u;
-    v79 = load8(v78);
-    v80 = a1 + 26u * 1u;
-    v81 = load16(v80);
-    v82 = a1 + 24u * 1u;
-    v83 = load8(v82);
-    v84 = a1 + 28u * 1u;
-    v85 = load32(v84);
-    v86 = (u64)v85;
-    v87 = a1 + 32u * 1u;
-    v88 = load32(v87);
-    v89 = (u64)v88;
+    v77 = a1 + 26u * 1u;
+    v78 = load16(v77);
+    v79 = load16(a1);
+    v80 = v78 == v79;
+    if (v80) { goto L29; }
+    else { goto L8; }
+L8:;
+    v81 = a1 + 23u * 1u;
+    v82 = load8(v81);
+    v83 = a1 + 24u * 1u;
+    v84 = load8(v83);
+    v85 = a1 + 28u * 1u;
+    v86 = load32(v85);
+    v87 = (u64)v86;
+    v88 = a1 + 32u * 1u;
+    v89 = load32(v88);
+    v90 = (u64)v89;
     memory_cpy(v36, a2, 26u);
     memory_set(v37, 0u, 104u);
-    v90 = a4 > 52u;
-    if (v90) { goto L8; }
-    else { v5 = 0u; goto L9; }
-L8:;
-    v91 = v64 + 31u * 1u;
-    v92 = load8(v91);
-    v93 = v64 + 32u * 1u;
-    v94 = load8(v93);
-    v95 = (u16)v92;
-    v96 = (u16)((u32)v95 << (8u & 15u));
-    v97 = (u16)v94;
-    v98 = (u16)((u32)v96 | (u32)v97);
-    v5 = v98; goto L9;
+    v91 = a4 > 52u;
+    if (v91) { goto L9; }
+    else { v5 = 0u; goto L10; }
 L9:;
-    store64(v38, v66);
-    v99 = v38 + 8u * 1u;
-    store16(v99, v77);
-    store64(v39, v68);
-    f92(v37, v64, a4, v38, v39, v73, v5);
-    v100 = load8(v37);
-    v101 = v100 == 0u;
-    if (v101) { goto L10; }
-    else { goto L20; }
+    v92 = v64 + 31u * 1u;
+    v93 = load8(v92);
+    v94 = v64 + 32u * 1u;
+    v95 = load8(v94);
+    v96 = (u16)v93;
+    v97 = (u16)((u32)v96 << (8u & 15u));
+    v98 = (u16)v95;
+    v99 = (u16)((u32)v97 | (u32)v98);
+    v5 = v99; goto L10;
 L10:;
-    v102 = v37 + 8u * 1u;
-    v103 = v64 + 52u * 1u;
-    v104 = load8(v103);
-    v105 = v104 == 0u;
-    if (v105) { v6 = 0u; goto L17; }
-    else { goto L11; }
+    store64(v38, v66);
+    v100 = v38 + 8u * 1u;
+    store16(v100, v79);
+    store64(v39, v68);
+    f99(v37, v64, a4, v38, v39, v73, v5);
+    v101 = load8(v37);
+    v102 = v101 == 0u;
+    if (v102) { goto L11; }
+    else { goto L21; }
 L11:;
-    v106 = v64 + 60u * 1u;
-    v107 = (u64)((u64)a4 + (u64)UINT64_C(18446744073709551556));
-    v108 = v64 + 53u * 1u;
-    v109 = load8(v108);
-    v110 = v109 == 3u;
-    v111 = v110 ? 3u : 0u;
-    v112 = v109 == 1u;
-    v113 = v112 ? 1u : v111;
-    v114 = v64 + 54u * 1u;
-    v115 = load8(v114);
-    v116 = v64 + 55u * 1u;
-    v117 = load8(v116);
-    v118 = (u16)v115;
-    v119 = (u16)((u32)v118 << (8u & 15u));
-    v120 = (u16)v117;
-    v121 = (u16)((u32)v119 | (u32)v120);
-    switch (v113) {
-    case 0u: goto L12;
-    case 3u: v6 = 4u; goto L17;
-    case 1u: goto L14;
-    default: goto L16;
-    }
+    v103 = v37 + 8u * 1u;
+    v104 = v64 + 52u * 1u;
+    v105 = load8(v104);
+    v106 = v105 == 0u;
+    if (v106) { v6 = 0u; goto L18; }
+    else { goto L12; }
 L12:;
-    v122 = v121 == 8192u;
-    v123 = v107 == 20u;
-    v124 = (u8)(((u32)v123 & (u32)v122) & UINT64_C(1));
-    if (v124) { v7 = 0u; v8 = 1u; goto L18; }
-    else { goto L13; }
+    v107 = v64 + 60u * 1u;
+    v108 = (u64)((u64)a4 + (u64)UINT64_C(18446744073709551556));
+    v109 = v64 + 53u * 1u;
+    v110 = load8(v109);
+    v111 = v110 == 3u;
+    v112 = v111 ? 3u : 0u;
+    v113 = v110 == 1u;
+    v114 = v113 ? 1u : v112;
+    v115 = v64 + 54u * 1u;
+    v116 = load8(v115);
+    v117 = v64 + 55u * 1u;
+    v118 = load8(v117);
+    v119 = (u16)v116;
+    v120 = (u16)((u32)v119 << (8u & 15u));
+    v121 = (u16)v118;
+    v122 = (u16)((u32)v120 | (u32)v121);
+    switch (v114) {
+    case 0u: goto L13;
+    case 3u: v6 = 4u; goto L18;
+    case 1u: goto L15;
+    default: goto L17;
+    }
 L13:;
-    v125 = v121 == 8196u;
-    v126 = v107 == 26u;
-    v127 = (u8)(((u32)v126 & (u32)v125) & UINT64_C(1));
-    v128 = v127 ? 1u : 2u;
-    v6 = v128; goto L17;
+    v123 = v122 == 8192u;
+    v124 = v108 == 20u;
+    v125 = (u8)(((u32)v124 & (u32)v123) & UINT64_C(1));
+    if (v125) { v7 = 0u; v8 = 1u; goto L19; }
+    else { goto L14; }
 L14:;
-    v129 = v121 == 8199u;
-    v130 = v107 == 2u;
-    v131 = (u8)(((u32)v130 & (u32)v129) & UINT64_C(1));
-    if (v131) { goto L15; }
-    else { v6 = 4u; goto L17; }
+    v126 = v122 == 8196u;
+    v127 = v108 == 26u;
+    v128 = (u8)(((u32)v127 & (u32)v126) & UINT64_C(1));
+    v129 = v128 ? 1u : 2u;
+    v6 = v129; goto L18;
 L15:;
-    v132 = load8(v106);
-    v7 = v132; v8 = 3u; goto L18;
+    v130 = v122 == 8199u;
+    v131 = v108 == 2u;
+    v132 = (u8)(((u32)v131 & (u32)v130) & UINT64_C(1));
+    if (v132) { goto L16; }
+    else { v6 = 4u; goto L18; }
 L16:;
-    UNREACHABLE;
+    v133 = load8(v107);
+    v7 = v133; v8 = 3u; goto L19;
 L17:;
-    if (v90) { v7 = 0u; v8 = v6; goto L18; }
-    else { v9 = 0u; v10 = v6; v11 = 0u; goto L19; }
+    UNREACHABLE;
 L18:;
-    v133 = v64 + 33u * 1u;
-    v134 = load8(v133);
-    v9 = v7; v10 = v8; v11 = v134; goto L19;
+    if (v91) { v7 = 0u; v8 = v6; goto L19; }
+    else { v9 = 0u; v10 = v6; v11 = 0u; goto L20; }
 L19:;
+    v134 = v64 + 33u * 1u;
+    v135 = load8(v134);
+    v9 = v7; v10 = v8; v11 = v135; goto L20;
+L20:;
     memory_set(v35, 0u, 6u);
-    v135 = v35 + 6u * 1u;
-    memory_cpy(v135, v102, 48u);
-    v136 = v37 + 56u * 1u;
-    v137 = load8(v136);
-    v138 = v37 + 57u * 1u;
-    memory_cpy(v43, v138, 7u);
-    v139 = v37 + 64u * 1u;
-    v140 = load64(v139);
-    v141 = v37 + 72u * 1u;
-    v142 = load_address(v141);
-    v143 = v37 + 80u * 1u;
-    v144 = load64(v143);
-    v145 = v37 + 88u * 1u;
-    v146 = load64(v145);
-    v147 = v37 + 96u * 1u;
-    v148 = load64(v147);
+    v136 = v35 + 6u * 1u;
+    memory_cpy(v136, v103, 48u);
+    v137 = v37 + 56u * 1u;
+    v138 = load8(v137);
+    v139 = v37 + 57u * 1u;
+    memory_cpy(v43, v139, 7u);
+    v140 = v37 + 64u * 1u;
+    v141 = load64(v140);
+    v142 = v37 + 72u * 1u;
+    v143 = load_address(v142);
+    v144 = v37 + 80u * 1u;
+    v145 = load64(v144);
+    v146 = v37 + 88u * 1u;
+    v147 = load64(v146);
+    v148 = v37 + 96u * 1u;
+    v149 = load64(v148);
     memory_cpy(v41, v36, 26u);
     memory_set(v40, 0u, 7u);
     memory_cpy(v42, v35, 54u);
@@ -37602,13 +40955,13 @@ L19:;
     memory_set(v48, 0u, 7u);
     memory_set(v49, 0u, 32u);
     memory_set(v50, 0u, 1480u);
-    v12 = v148; v13 = v146; v14 = v144; v15 = v142; v16 = v140; v17 = v137; v18 = v79; v19 = v81; v20 = v83; v21 = v86; v22 = v89; v23 = v5; v24 = v11; v25 = 1u; v26 = v10; v27 = v9; v28 = v66; v29 = v68; v30 = v73; v31 = v77; v32 = 0u; goto L21;
-L20:;
-    v149 = v37 + 1u * 1u;
-    v150 = load8(v149);
-    v151 = (u64)v150;
-    v12 = 0u; v13 = 0u; v14 = 0u; v15 = 0u; v16 = 0u; v17 = 0u; v18 = 0u; v19 = 0u; v20 = 0u; v21 = 0u; v22 = 0u; v23 = 0u; v24 = 0u; v25 = 0u; v26 = 0u; v27 = 0u; v28 = 0u; v29 = 0u; v30 = 0u; v31 = 0u; v32 = v151; goto L21;
+    v12 = v149; v13 = v147; v14 = v145; v15 = v143; v16 = v141; v17 = v138; v18 = v82; v19 = v78; v20 = v84; v21 = v87; v22 = v90; v23 = v5; v24 = v11; v25 = 1u; v26 = v10; v27 = v9; v28 = v66; v29 = v68; v30 = v73; v31 = v79; v32 = 0u; goto L22;
 L21:;
+    v150 = v37 + 1u * 1u;
+    v151 = load8(v150);
+    v152 = (u64)v151;
+    v12 = 0u; v13 = 0u; v14 = 0u; v15 = 0u; v16 = 0u; v17 = 0u; v18 = 0u; v19 = 0u; v20 = 0u; v21 = 0u; v22 = 0u; v23 = 0u; v24 = 0u; v25 = 0u; v26 = 0u; v27 = 0u; v28 = 0u; v29 = 0u; v30 = 0u; v31 = 0u; v32 = v152; goto L22;
+L22:;
     memory_cpy(v51, v40, 7u);
     memory_cpy(v52, v41, 26u);
     memory_cpy(v53, v42, 54u);
@@ -37620,182 +40973,185 @@ L21:;
     memory_cpy(v59, v48, 7u);
     memory_cpy(v60, v49, 32u);
     memory_cpy(v61, v50, 1480u);
-    if (v101) { goto L22; }
-    else { goto L35; }
-L22:;
-    memory_cpy(v34, v60, 32u);
-    v152 = v34 + 32u * 1u;
-    memory_cpy(v152, v61, 1480u);
-    v153 = portable_rattle_alloc(1880u, 8u);
-    v154 = v153.m0;
-    v155 = (u8)((v154) & UINT64_C(1));
-    if (v155) { goto L28; }
-    else { goto L33; }
+    if (v102) { goto L23; }
+    else { goto L37; }
 L23:;
-    v33 = 49u; goto L36;
+    memory_cpy(v34, v60, 32u);
+    v153 = v34 + 32u * 1u;
+    memory_cpy(v153, v61, 1480u);
+    v154 = portable_rattle_alloc(1880u, 8u);
+    v155 = v154.m0;
+    v156 = (u8)((v155) & UINT64_C(1));
+    if (v156) { goto L30; }
+    else { goto L35; }
 L24:;
-    v33 = 53u; goto L36;
+    v33 = 49u; goto L38;
 L25:;
-    v33 = 54u; goto L36;
+    v33 = 53u; goto L38;
 L26:;
-    v33 = 55u; goto L36;
+    v33 = 54u; goto L38;
 L27:;
-    v33 = 57u; goto L36;
+    v33 = 55u; goto L38;
 L28:;
-    v156 = (address)v28;
-    v157 = v153.m1;
-    v158 = (address)v157;
-    store_address(v158, v156);
-    v159 = v158 + 8u * 1u;
-    store16(v159, v31);
-    v160 = v158 + 10u * 1u;
-    store64(v160, v29);
-    v161 = v158 + 18u * 1u;
-    store16(v161, v30);
-    v162 = v158 + 20u * 1u;
-    store8(v162, v18);
-    v163 = v158 + 21u * 1u;
-    store8(v163, 0u);
-    v164 = v158 + 22u * 1u;
-    store16(v164, v19);
-    v165 = v158 + 24u * 1u;
-    store8(v165, v20);
-    v166 = v158 + 25u * 1u;
-    memory_cpy(v166, v51, 7u);
-    v167 = v158 + 32u * 1u;
-    store64(v167, v21);
-    v168 = v158 + 40u * 1u;
-    store64(v168, v22);
-    v169 = v158 + 48u * 1u;
-    memory_cpy(v169, v52, 26u);
-    v170 = v158 + 74u * 1u;
-    memory_cpy(v170, v53, 54u);
-    v171 = v158 + 128u * 1u;
-    store8(v171, v17);
-    v172 = v158 + 129u * 1u;
-    memory_cpy(v172, v54, 7u);
-    v173 = v158 + 136u * 1u;
-    store64(v173, v16);
-    v174 = v158 + 144u * 1u;
-    store_address(v174, v15);
-    v175 = v158 + 152u * 1u;
-    store64(v175, v14);
-    v176 = v158 + 160u * 1u;
-    store64(v176, v13);
-    v177 = v158 + 168u * 1u;
-    store64(v177, v12);
-    v178 = v158 + 176u * 1u;
-    store16(v178, v23);
-    v179 = v158 + 178u * 1u;
-    store8(v179, v24);
-    v180 = v158 + 179u * 1u;
-    memory_cpy(v180, v55, 5u);
-    v181 = v158 + 184u * 1u;
-    store8(v181, 0u);
-    v182 = v158 + 185u * 1u;
-    memory_cpy(v182, v56, 7u);
-    v183 = v158 + 192u * 1u;
-    v184 = v158 + 224u * 1u;
-    memory_set(v183, 0u, 32u);
-    memory_cpy(v184, v57, 10u);
-    v185 = v158 + 234u * 1u;
-    store8(v185, v25);
-    v186 = v158 + 235u * 1u;
-    store8(v186, v26);
-    v187 = v158 + 236u * 1u;
-    store8(v187, v27);
-    v188 = v158 + 237u * 1u;
-    store8(v188, 0u);
-    v189 = v158 + 238u * 1u;
-    store16(v189, 0u);
-    v190 = v158 + 240u * 1u;
-    store64(v190, v28);
-    v191 = v158 + 248u * 1u;
-    store16(v191, v19);
-    v192 = v158 + 250u * 1u;
-    store64(v192, v29);
-    v193 = v158 + 258u * 1u;
-    store16(v193, v30);
-    v194 = v158 + 260u * 1u;
-    store16(v194, 0u);
-    v195 = v158 + 262u * 1u;
-    store8(v195, v18);
-    v196 = v158 + 263u * 1u;
-    store8(v196, v25);
-    v197 = v158 + 264u * 1u;
-    memory_cpy(v197, v58, 24u);
-    v198 = v158 + 288u * 1u;
-    store8(v198, 0u);
-    v199 = v158 + 289u * 1u;
-    memory_cpy(v199, v59, 7u);
-    v200 = v158 + 296u * 1u;
-    v201 = v158 + 328u * 1u;
-    memory_set(v200, 0u, 32u);
-    memory_cpy(v201, v34, 1512u);
-    v202 = v158 + 1840u * 1u;
-    memory_set(v202, 0u, 40u);
-    v203 = portable_rattle_alloc(16u, 8u);
-    v204 = v203.m0;
-    v205 = (u8)((v204) & UINT64_C(1));
-    if (v205) { goto L29; }
-    else { goto L32; }
+    v33 = 57u; goto L38;
 L29:;
-    v206 = v203.m1;
-    v207 = (address)v206;
-    store64(v207, 5u);
-    v208 = v207 + 8u * 1u;
-    store64(v208, v157);
-    v209 = load_address(a0);
-    v210 = a0 + 8u * 1u;
-    v211 = load8(v210);
-    v212 = (u8)((v211) & UINT64_C(1));
-    memory_set(a0, 0u, 16u);
-    if (v212) { goto L30; }
-    else { goto L31; }
+    v33 = 52u; goto L38;
 L30:;
-    v213 = load8(v209);
-    v214 = v209 + 8u * 1u;
-    v215 = load64(v214);
-    portable_rattle_dealloc(v209);
-    v216 = (address)v215;
-    f12(v213, v216);
-    goto L31;
-L31:;
-    store64(a0, v206);
-    store8(v210, 1u);
-    v217 = a0 + 9u * 1u;
-    memory_set(v217, 0u, 7u);
-    v33 = 0u; goto L36;
-L32:;
-    f14(v158);
-    v33 = 35u; goto L36;
-L33:;
-    v218 = v17 != 1u;
-    v219 = v13 == 0u;
-    v220 = v218 ? 1u : v219;
-    if (v220) { v33 = 35u; goto L36; }
+    v157 = (address)v28;
+    v158 = v154.m1;
+    v159 = (address)v158;
+    store_address(v159, v157);
+    v160 = v159 + 8u * 1u;
+    store16(v160, v31);
+    v161 = v159 + 10u * 1u;
+    store64(v161, v29);
+    v162 = v159 + 18u * 1u;
+    store16(v162, v30);
+    v163 = v159 + 20u * 1u;
+    store8(v163, v18);
+    v164 = v159 + 21u * 1u;
+    store8(v164, 0u);
+    v165 = v159 + 22u * 1u;
+    store16(v165, v19);
+    v166 = v159 + 24u * 1u;
+    store8(v166, v20);
+    v167 = v159 + 25u * 1u;
+    memory_cpy(v167, v51, 7u);
+    v168 = v159 + 32u * 1u;
+    store64(v168, v21);
+    v169 = v159 + 40u * 1u;
+    store64(v169, v22);
+    v170 = v159 + 48u * 1u;
+    memory_cpy(v170, v52, 26u);
+    v171 = v159 + 74u * 1u;
+    memory_cpy(v171, v53, 54u);
+    v172 = v159 + 128u * 1u;
+    store8(v172, v17);
+    v173 = v159 + 129u * 1u;
+    memory_cpy(v173, v54, 7u);
+    v174 = v159 + 136u * 1u;
+    store64(v174, v16);
+    v175 = v159 + 144u * 1u;
+    store_address(v175, v15);
+    v176 = v159 + 152u * 1u;
+    store64(v176, v14);
+    v177 = v159 + 160u * 1u;
+    store64(v177, v13);
+    v178 = v159 + 168u * 1u;
+    store64(v178, v12);
+    v179 = v159 + 176u * 1u;
+    store16(v179, v23);
+    v180 = v159 + 178u * 1u;
+    store8(v180, v24);
+    v181 = v159 + 179u * 1u;
+    memory_cpy(v181, v55, 5u);
+    v182 = v159 + 184u * 1u;
+    store8(v182, 0u);
+    v183 = v159 + 185u * 1u;
+    memory_cpy(v183, v56, 7u);
+    v184 = v159 + 192u * 1u;
+    v185 = v159 + 224u * 1u;
+    memory_set(v184, 0u, 32u);
+    memory_cpy(v185, v57, 10u);
+    v186 = v159 + 234u * 1u;
+    store8(v186, v25);
+    v187 = v159 + 235u * 1u;
+    store8(v187, v26);
+    v188 = v159 + 236u * 1u;
+    store8(v188, v27);
+    v189 = v159 + 237u * 1u;
+    store8(v189, 0u);
+    v190 = v159 + 238u * 1u;
+    store16(v190, 0u);
+    v191 = v159 + 240u * 1u;
+    store64(v191, v28);
+    v192 = v159 + 248u * 1u;
+    store16(v192, v19);
+    v193 = v159 + 250u * 1u;
+    store64(v193, v29);
+    v194 = v159 + 258u * 1u;
+    store16(v194, v30);
+    v195 = v159 + 260u * 1u;
+    store16(v195, 0u);
+    v196 = v159 + 262u * 1u;
+    store8(v196, v18);
+    v197 = v159 + 263u * 1u;
+    store8(v197, v25);
+    v198 = v159 + 264u * 1u;
+    memory_cpy(v198, v58, 24u);
+    v199 = v159 + 288u * 1u;
+    store8(v199, 0u);
+    v200 = v159 + 289u * 1u;
+    memory_cpy(v200, v59, 7u);
+    v201 = v159 + 296u * 1u;
+    v202 = v159 + 328u * 1u;
+    memory_set(v201, 0u, 32u);
+    memory_cpy(v202, v34, 1512u);
+    v203 = v159 + 1840u * 1u;
+    memory_set(v203, 0u, 40u);
+    v204 = portable_rattle_alloc(16u, 8u);
+    v205 = v204.m0;
+    v206 = (u8)((v205) & UINT64_C(1));
+    if (v206) { goto L31; }
     else { goto L34; }
+L31:;
+    v207 = v204.m1;
+    v208 = (address)v207;
+    store64(v208, 5u);
+    v209 = v208 + 8u * 1u;
+    store64(v209, v158);
+    v210 = load_address(a0);
+    v211 = a0 + 8u * 1u;
+    v212 = load8(v211);
+    v213 = (u8)((v212) & UINT64_C(1));
+    memory_set(a0, 0u, 16u);
+    if (v213) { goto L32; }
+    else { goto L33; }
+L32:;
+    v214 = load8(v210);
+    v215 = v210 + 8u * 1u;
+    v216 = load64(v215);
+    portable_rattle_dealloc(v210);
+    v217 = (address)v216;
+    f12(v214, v217);
+    goto L33;
+L33:;
+    store64(a0, v207);
+    store8(v211, 1u);
+    v218 = a0 + 9u * 1u;
+    memory_set(v218, 0u, 7u);
+    v33 = 0u; goto L38;
 L34:;
-    portable_rattle_dealloc(v15);
-    v33 = 35u; goto L36;
+    f14(v159);
+    v33 = 35u; goto L38;
 L35:;
-    v221 = ADDRESS(c350) + v32 * 4u;
-    v222 = load32(v221);
-    v33 = v222; goto L36;
+    v219 = v17 != 1u;
+    v220 = v13 == 0u;
+    v221 = v219 ? 1u : v220;
+    if (v221) { v33 = 35u; goto L38; }
+    else { goto L36; }
 L36:;
+    portable_rattle_dealloc(v15);
+    v33 = 35u; goto L38;
+L37:;
+    v222 = ADDRESS(c359) + v32 * 4u;
+    v223 = load32(v222);
+    v33 = v223; goto L38;
+L38:;
     return v33;
 }
 
 u32 portable_ptpm_asker_start(address a0, address a1, address a2) {
-    u32 v3, v35, v37;
-    address v4, v5, v6, v10, v12, v13, v15, v20, v25, v28, v30, v32, v34, v36, v41, v45;
-    address v46, v47, v48, v49, v50, v51, v52, v53, v54, v55, v56, v57, v58, v59, v60, v61;
-    address v62, v63, v64, v65, v66, v67, v68, v69, v70, v71, v72, v73, v74, v75, v76, v77;
-    address v78, v83, v84, v85, v89, v91, v92;
-    u8 v7, v8, v9, v17, v18, v19, v22, v23, v24, v29, v33, v40, v81, v86, v87, v88;
-    u64 v11, v14, v16, v39, v42, v43, v44, v80, v82, v90;
-    u16 v21, v26, v27, v31;
-    struct pair v38, v79;
+    u32 v3, v36, v38;
+    address v4, v5, v6, v10, v12, v13, v15, v20, v25, v29, v31, v33, v35, v37, v42, v46;
+    address v47, v48, v49, v50, v51, v52, v53, v54, v55, v56, v57, v58, v59, v60, v61, v62;
+    address v63, v64, v65, v66, v67, v68, v69, v70, v71, v72, v73, v74, v75, v76, v77, v78;
+    address v79, v84, v85, v86, v90, v92, v93;
+    u8 v7, v8, v9, v17, v18, v19, v22, v23, v24, v28, v32, v34, v41, v82, v87, v88;
+    u8 v89;
+    u64 v11, v14, v16, v40, v43, v44, v45, v81, v83, v91;
+    u16 v21, v26, v27, v30;
+    struct pair v39, v80;
     u64 block0[4];
     v4 = ADDRESS(block0);
     v5 = load_address(a0);
@@ -37819,265 +41175,485 @@ L2:;
     v15 = a1 + 14u * 1u;
     v16 = load64(v15);
     v17 = v14 == UINT64_C(18446744073709551615);
-    if (v17) { v3 = 53u; goto L15; }
+    if (v17) { v3 = 53u; goto L16; }
     else { goto L3; }
 L3:;
     v18 = v16 == UINT64_C(18446744073709551615);
-    if (v18) { v3 = 54u; goto L15; }
+    if (v18) { v3 = 54u; goto L16; }
     else { goto L4; }
 L4:;
     v19 = v14 == v16;
-    if (v19) { v3 = 55u; goto L15; }
+    if (v19) { v3 = 55u; goto L16; }
     else { goto L5; }
 L5:;
     v20 = a1 + 2u * 1u;
     v21 = load16(v20);
     v22 = v21 == 0u;
-    if (v22) { v3 = 48u; goto L15; }
+    if (v22) { v3 = 48u; goto L16; }
     else { goto L6; }
 L6:;
     v23 = v21 > 8u;
-    if (v23) { v3 = 49u; goto L15; }
+    if (v23) { v3 = 49u; goto L16; }
     else { goto L7; }
 L7:;
     v24 = v16 == 0u;
-    if (v24) { v3 = 57u; goto L15; }
+    if (v24) { v3 = 57u; goto L16; }
     else { goto L8; }
 L8:;
-    v25 = a1 + 4u * 1u;
+    v25 = a1 + 26u * 1u;
     v26 = load16(v25);
     v27 = load16(a1);
-    v28 = a1 + 23u * 1u;
-    v29 = load8(v28);
-    v30 = a1 + 26u * 1u;
-    v31 = load16(v30);
-    v32 = a1 + 24u * 1u;
-    v33 = load8(v32);
-    v34 = a1 + 28u * 1u;
-    v35 = load32(v34);
-    v36 = a1 + 32u * 1u;
-    v37 = load32(v36);
-    memory_cpy(v4, a2, 26u);
-    v38 = portable_rattle_alloc(1880u, 8u);
-    v39 = v38.m0;
-    v40 = (u8)((v39) & UINT64_C(1));
-    if (v40) { goto L9; }
-    else { goto L14; }
+    v28 = v26 == v27;
+    if (v28) { v3 = 52u; goto L16; }
+    else { goto L9; }
 L9:;
-    v41 = (address)v14;
-    v42 = (u64)v37;
-    v43 = (u64)v35;
-    v44 = v38.m1;
-    v45 = (address)v44;
-    store_address(v45, v41);
-    v46 = v45 + 8u * 1u;
-    store16(v46, v27);
-    v47 = v45 + 10u * 1u;
-    store64(v47, v16);
-    v48 = v45 + 18u * 1u;
-    store16(v48, v21);
-    v49 = v45 + 20u * 1u;
-    store8(v49, v29);
-    v50 = v45 + 21u * 1u;
-    store8(v50, 0u);
-    v51 = v45 + 22u * 1u;
-    store16(v51, v31);
-    v52 = v45 + 24u * 1u;
-    store8(v52, v33);
-    v53 = v45 + 25u * 1u;
-    memory_set(v53, 0u, 7u);
-    v54 = v45 + 32u * 1u;
-    store64(v54, v43);
-    v55 = v45 + 40u * 1u;
-    store64(v55, v42);
-    v56 = v45 + 48u * 1u;
-    memory_cpy(v56, v4, 26u);
-    v57 = v45 + 74u * 1u;
-    memory_set(v57, 0u, 6u);
-    v58 = v45 + 80u * 1u;
-    store64(v58, v14);
-    v59 = v45 + 88u * 1u;
-    store16(v59, v27);
-    v60 = v45 + 90u * 1u;
-    store64(v60, v16);
-    v61 = v45 + 98u * 1u;
-    store16(v61, v21);
-    v62 = v45 + 100u * 1u;
-    store16(v62, v26);
-    v63 = v45 + 102u * 1u;
-    store8(v63, v29);
-    v64 = v45 + 103u * 1u;
-    store8(v64, v33);
-    v65 = v45 + 104u * 1u;
-    v66 = v45 + 176u * 1u;
-    memory_set(v65, 0u, 72u);
-    store16(v66, v26);
-    v67 = v45 + 178u * 1u;
-    store8(v67, v29);
-    v68 = v45 + 179u * 1u;
-    v69 = v45 + 237u * 1u;
-    memory_set(v68, 0u, 58u);
-    store8(v69, 3u);
-    v70 = v45 + 238u * 1u;
-    store16(v70, 0u);
-    v71 = v45 + 240u * 1u;
-    store64(v71, v14);
-    v72 = v45 + 248u * 1u;
-    store16(v72, v31);
-    v73 = v45 + 250u * 1u;
-    store64(v73, v16);
-    v74 = v45 + 258u * 1u;
-    store16(v74, v21);
-    v75 = v45 + 260u * 1u;
-    store16(v75, 0u);
-    v76 = v45 + 262u * 1u;
-    store8(v76, v29);
-    v77 = v45 + 263u * 1u;
-    store8(v77, 1u);
-    v78 = v45 + 264u * 1u;
-    memory_set(v78, 0u, 1616u);
-    v79 = portable_rattle_alloc(16u, 8u);
-    v80 = v79.m0;
-    v81 = (u8)((v80) & UINT64_C(1));
-    if (v81) { goto L10; }
-    else { goto L13; }
+    v29 = a1 + 4u * 1u;
+    v30 = load16(v29);
+    v31 = a1 + 23u * 1u;
+    v32 = load8(v31);
+    v33 = a1 + 24u * 1u;
+    v34 = load8(v33);
+    v35 = a1 + 28u * 1u;
+    v36 = load32(v35);
+    v37 = a1 + 32u * 1u;
+    v38 = load32(v37);
+    memory_cpy(v4, a2, 26u);
+    v39 = portable_rattle_alloc(1880u, 8u);
+    v40 = v39.m0;
+    v41 = (u8)((v40) & UINT64_C(1));
+    if (v41) { goto L10; }
+    else { goto L15; }
 L10:;
-    v82 = v79.m1;
-    v83 = (address)v82;
-    store64(v83, 5u);
-    v84 = v83 + 8u * 1u;
-    store64(v84, v44);
-    v85 = load_address(a0);
-    v86 = load8(v6);
-    v87 = (u8)((v86) & UINT64_C(1));
-    memory_set(a0, 0u, 16u);
-    if (v87) { goto L11; }
-    else { goto L12; }
+    v42 = (address)v14;
+    v43 = (u64)v38;
+    v44 = (u64)v36;
+    v45 = v39.m1;
+    v46 = (address)v45;
+    store_address(v46, v42);
+    v47 = v46 + 8u * 1u;
+    store16(v47, v27);
+    v48 = v46 + 10u * 1u;
+    store64(v48, v16);
+    v49 = v46 + 18u * 1u;
+    store16(v49, v21);
+    v50 = v46 + 20u * 1u;
+    store8(v50, v32);
+    v51 = v46 + 21u * 1u;
+    store8(v51, 0u);
+    v52 = v46 + 22u * 1u;
+    store16(v52, v26);
+    v53 = v46 + 24u * 1u;
+    store8(v53, v34);
+    v54 = v46 + 25u * 1u;
+    memory_set(v54, 0u, 7u);
+    v55 = v46 + 32u * 1u;
+    store64(v55, v44);
+    v56 = v46 + 40u * 1u;
+    store64(v56, v43);
+    v57 = v46 + 48u * 1u;
+    memory_cpy(v57, v4, 26u);
+    v58 = v46 + 74u * 1u;
+    memory_set(v58, 0u, 6u);
+    v59 = v46 + 80u * 1u;
+    store64(v59, v14);
+    v60 = v46 + 88u * 1u;
+    store16(v60, v27);
+    v61 = v46 + 90u * 1u;
+    store64(v61, v16);
+    v62 = v46 + 98u * 1u;
+    store16(v62, v21);
+    v63 = v46 + 100u * 1u;
+    store16(v63, v30);
+    v64 = v46 + 102u * 1u;
+    store8(v64, v32);
+    v65 = v46 + 103u * 1u;
+    store8(v65, v34);
+    v66 = v46 + 104u * 1u;
+    v67 = v46 + 176u * 1u;
+    memory_set(v66, 0u, 72u);
+    store16(v67, v30);
+    v68 = v46 + 178u * 1u;
+    store8(v68, v32);
+    v69 = v46 + 179u * 1u;
+    v70 = v46 + 237u * 1u;
+    memory_set(v69, 0u, 58u);
+    store8(v70, 3u);
+    v71 = v46 + 238u * 1u;
+    store16(v71, 0u);
+    v72 = v46 + 240u * 1u;
+    store64(v72, v14);
+    v73 = v46 + 248u * 1u;
+    store16(v73, v26);
+    v74 = v46 + 250u * 1u;
+    store64(v74, v16);
+    v75 = v46 + 258u * 1u;
+    store16(v75, v21);
+    v76 = v46 + 260u * 1u;
+    store16(v76, 0u);
+    v77 = v46 + 262u * 1u;
+    store8(v77, v32);
+    v78 = v46 + 263u * 1u;
+    store8(v78, 1u);
+    v79 = v46 + 264u * 1u;
+    memory_set(v79, 0u, 1616u);
+    v80 = portable_rattle_alloc(16u, 8u);
+    v81 = v80.m0;
+    v82 = (u8)((v81) & UINT64_C(1));
+    if (v82) { goto L11; }
+    else { goto L14; }
 L11:;
-    v88 = load8(v85);
-    v89 = v85 + 8u * 1u;
-    v90 = load64(v89);
-    portable_rattle_dealloc(v85);
-    v91 = (address)v90;
-    f12(v88, v91);
-    goto L12;
+    v83 = v80.m1;
+    v84 = (address)v83;
+    store64(v84, 5u);
+    v85 = v84 + 8u * 1u;
+    store64(v85, v45);
+    v86 = load_address(a0);
+    v87 = load8(v6);
+    v88 = (u8)((v87) & UINT64_C(1));
+    memory_set(a0, 0u, 16u);
+    if (v88) { goto L12; }
+    else { goto L13; }
 L12:;
-    store64(a0, v82);
-    store8(v6, 1u);
-    v92 = a0 + 9u * 1u;
-    memory_set(v92, 0u, 7u);
-    v3 = 0u; goto L15;
+    v89 = load8(v86);
+    v90 = v86 + 8u * 1u;
+    v91 = load64(v90);
+    portable_rattle_dealloc(v86);
+    v92 = (address)v91;
+    f12(v89, v92);
+    goto L13;
 L13:;
-    f14(v45);
-    v3 = 35u; goto L15;
+    store64(a0, v83);
+    store8(v6, 1u);
+    v93 = a0 + 9u * 1u;
+    memory_set(v93, 0u, 7u);
+    v3 = 0u; goto L16;
 L14:;
-    v3 = 35u; goto L15;
+    f14(v46);
+    v3 = 35u; goto L16;
 L15:;
+    v3 = 35u; goto L16;
+L16:;
     return v3;
 }
 
 u32 portable_ptpm_clock_restore(address a0, address a1, u64 a2, address a3, u64 a4, address a5, u64 a6, address a7) {
-    u32 v8, v45, v46, v52;
-    address v9, v12, v15, v18, v20, v26, v27, v28, v29, v33, v35, v36, v37, v38, v41, v43;
-    address v47, v48, v51;
-    u8 v10, v13, v16, v17, v21, v24, v30, v31, v32, v40, v42, v44;
-    u64 v11, v14, v19, v23, v25, v34, v39, v49, v50;
-    struct pair v22;
+    u8 v8, v10, v11, v12, v13, v20, v23, v26, v27, v28, v30, v31, v32, v34, v35, v36;
+    u8 v38, v39, v40, v41, v43, v44, v46, v47, v48, v50, v52, v58, v60, v70, v72, v74;
+    u8 v75, v91, v92, v93, v96, v98, v99, v100, v101, v102, v104, v105, v106, v108, v110, v115;
+    u8 v116, v117, v119, v120, v121, v123, v127, v134, v136, v137, v138, v139, v140, v141, v145, v147;
+    u8 v149, v152, v158, v159, v160, v169;
+    u64 v9, v21, v24, v61, v62, v63, v64, v66, v95, v97, v111, v112, v113, v114, v122, v125;
+    u64 v143, v151, v153, v162, v168, v174, v175;
+    u32 v14, v67, v68, v69, v71, v73, v170, v171, v177;
+    address v15, v16, v17, v18, v19, v22, v25, v29, v33, v37, v42, v45, v49, v51, v57, v59;
+    address v65, v76, v77, v78, v79, v80, v81, v82, v83, v84, v85, v86, v87, v88, v89, v90;
+    address v94, v103, v107, v109, v124, v126, v129, v130, v131, v132, v133, v135, v142, v144, v146, v148;
+    address v154, v155, v156, v157, v161, v163, v164, v165, v166, v167, v172, v173, v176;
+    u16 v53, v54, v55, v56, v128;
+    struct s1 v118;
+    struct pair v150;
     u64 block0[2];
-    v9 = ADDRESS(block0);
-    v10 = a3 == 0u;
-    v11 = v10 ? 4096u : 0u;
-    v12 = a3 + v11 * 1u;
-    v13 = a5 == 0u;
-    v14 = v13 ? 4096u : 0u;
-    v15 = a5 + v14 * 1u;
+    u64 block1[23];
+    u64 block2[2];
+    u64 block3[4];
+    u64 block4[2];
+    v15 = ADDRESS(block0);
+    v16 = ADDRESS(block1);
+    v17 = ADDRESS(block2);
+    v18 = ADDRESS(block3);
+    v19 = ADDRESS(block4);
+    v20 = a3 == 0u;
+    v21 = v20 ? 4096u : 0u;
+    v22 = a3 + v21 * 1u;
+    v23 = a5 == 0u;
+    v24 = v23 ? 4096u : 0u;
+    v25 = a5 + v24 * 1u;
     store64(a7, 0u);
-    memory_set(v9, 0u, 16u);
-    f93(v9, a1, a2, v12, a4, v15, a6);
-    v16 = load8(v9);
-    v17 = v16 == 0u;
-    if (v17) { goto L1; }
-    else { goto L6; }
+    v26 = a6 > 11u;
+    if (v26) { goto L1; }
+    else { goto L19; }
 L1:;
-    v18 = v9 + 8u * 1u;
-    v19 = load64(v18);
-    v20 = (address)v19;
-    v21 = f109(v15, a6, v20);
-    v22 = portable_rattle_alloc(16u, 8u);
-    v23 = v22.m0;
-    v24 = (u8)((v23) & UINT64_C(1));
-    if (v24) { goto L2; }
-    else { goto L4; }
-L2:;
-    v25 = v22.m1;
-    v26 = (address)v25;
-    store64(v26, 1u);
-    v27 = v26 + 8u * 1u;
-    store64(v27, v19);
-    v28 = load_address(a0);
-    v29 = a0 + 8u * 1u;
+    v27 = load8(v25);
+    v28 = v27 != 112u;
+    v29 = v25 + 1u * 1u;
     v30 = load8(v29);
-    v31 = (u8)((v30) & UINT64_C(1));
-    memory_set(a0, 0u, 16u);
-    if (v31) { goto L3; }
-    else { goto L10; }
+    v31 = v30 != 116u;
+    v32 = (u8)(((u32)v28 | (u32)v31) & UINT64_C(1));
+    v33 = v25 + 2u * 1u;
+    v34 = load8(v33);
+    v35 = v34 != 112u;
+    v36 = (u8)(((u32)v32 | (u32)v35) & UINT64_C(1));
+    v37 = v25 + 3u * 1u;
+    v38 = load8(v37);
+    v39 = v38 != 109u;
+    v40 = (u8)(((u32)v36 | (u32)v39) & UINT64_C(1));
+    if (v40) { goto L19; }
+    else { goto L2; }
+L2:;
+    v41 = f27(v25, 4u, (ADDRESS(c332) + 8u * 1u), 4u);
+    if (v41) { goto L3; }
+    else { goto L19; }
 L3:;
-    v32 = load8(v28);
-    v33 = v28 + 8u * 1u;
-    v34 = load64(v33);
-    portable_rattle_dealloc(v28);
-    v35 = (address)v34;
-    f12(v32, v35);
-    goto L10;
+    v42 = v25 + 4u * 1u;
+    v43 = load8(v42);
+    v44 = v43 == 3u;
+    if (v44) { goto L4; }
+    else { goto L19; }
 L4:;
-    v36 = v20 + 448u * 1u;
-    v37 = load_address(v36);
-    v38 = v20 + 464u * 1u;
-    v39 = load64(v38);
-    portable_rattle_dealloc(v20);
-    v40 = v39 == 0u;
-    if (v40) { v8 = 35u; goto L12; }
-    else { goto L5; }
+    v45 = v25 + 5u * 1u;
+    v46 = load8(v45);
+    v47 = v46 == 1u;
+    if (v47) { goto L5; }
+    else { goto L19; }
 L5:;
-    portable_rattle_dealloc(v37);
-    v8 = 35u; goto L12;
+    v48 = a6 < 16u;
+    if (v48) { goto L14; }
+    else { goto L6; }
 L6:;
-    v41 = v9 + 2u * 1u;
-    v42 = load8(v41);
-    v43 = v9 + 1u * 1u;
-    v44 = load8(v43);
-    switch (v44) {
-    case 0u: goto L11;
-    case 1u: v8 = 56u; goto L12;
-    case 2u: goto L7;
-    case 3u: goto L8;
-    default: goto L9;
-    }
+    v49 = v25 + 12u * 1u;
+    v50 = load8(v49);
+    v51 = v25 + 13u * 1u;
+    v52 = load8(v51);
+    v53 = (u16)v50;
+    v54 = (u16)((u32)v53 << (8u & 15u));
+    v55 = (u16)v52;
+    v56 = (u16)((u32)v54 | (u32)v55);
+    v57 = v25 + 14u * 1u;
+    v58 = load8(v57);
+    v59 = v25 + 15u * 1u;
+    v60 = load8(v59);
+    v61 = (u64)v58;
+    v62 = (u64)((u64)v61 << (8u & 63u));
+    v63 = (u64)v60;
+    v64 = (u64)((u64)v62 | (u64)v63);
+    v65 = v25 + 16u * 1u;
+    v66 = (u64)((u64)a6 + (u64)UINT64_C(18446744073709551600));
+    v67 = (u32)(v66);
+    v68 = (u32)((u32)v67 + (u32)4u);
+    v69 = (u32)((u32)v68 >> (24u & 31u));
+    v70 = (u8)(v69);
+    v71 = (u32)((u32)v68 >> (16u & 31u));
+    v72 = (u8)(v71);
+    v73 = (u32)((u32)v68 >> (8u & 31u));
+    v74 = (u8)(v73);
+    v75 = (u8)(v68);
+    store8(v19, 112u);
+    v76 = v19 + 1u * 1u;
+    store8(v76, 116u);
+    v77 = v19 + 2u * 1u;
+    store8(v77, 112u);
+    v78 = v19 + 3u * 1u;
+    store8(v78, 109u);
+    v79 = v19 + 4u * 1u;
+    store8(v79, 3u);
+    v80 = v19 + 5u * 1u;
+    store8(v80, 1u);
+    v81 = v19 + 6u * 1u;
+    store8(v81, 0u);
+    v82 = v19 + 7u * 1u;
+    store8(v82, 0u);
+    v83 = v19 + 8u * 1u;
+    store8(v83, v70);
+    v84 = v19 + 9u * 1u;
+    store8(v84, v72);
+    v85 = v19 + 10u * 1u;
+    store8(v85, v74);
+    v86 = v19 + 11u * 1u;
+    store8(v86, v75);
+    v87 = v19 + 12u * 1u;
+    store8(v87, v50);
+    v88 = v19 + 13u * 1u;
+    store8(v88, v52);
+    v89 = v19 + 14u * 1u;
+    store8(v89, v58);
+    v90 = v19 + 15u * 1u;
+    store8(v90, v60);
+    v91 = f27(v25, 16u, v19, 16u);
+    v92 = v66 >= v64;
+    v93 = v91 ? v92 : 0u;
+    if (v93) { goto L7; }
+    else { goto L14; }
 L7:;
-    v45 = (u32)v42;
-    v46 = (u32)((u32)v45 + (u32)104u);
-    v8 = v46; goto L12;
+    v94 = v65 + v64 * 1u;
+    v95 = (u64)((u64)v66 - (u64)v64);
+    v96 = v56 == 0u;
+    v97 = (u64)v56;
+    v98 = a2 < v97;
+    v99 = (u8)(((u32)v96 | (u32)v98) & UINT64_C(1));
+    if (v99) { goto L14; }
+    else { goto L8; }
 L8:;
-    v8 = 35u; goto L12;
+    memory_set(v18, 0u, 32u);
+    v100 = v64 > 184u;
+    if (v100) { goto L11; }
+    else { goto L9; }
 L9:;
-    UNREACHABLE;
+    f8(v18, v65, v64);
+    v101 = load8(v18);
+    v102 = v101 == 0u;
+    if (v102) { goto L10; }
+    else { goto L11; }
 L10:;
-    store64(a0, v25);
-    store8(v29, 1u);
-    v47 = a0 + 9u * 1u;
-    v48 = a0 + 10u * 1u;
-    memory_set(v48, 0u, 6u);
-    store8(v47, 1u);
-    v49 = (u64)v21;
-    store64(a7, v49);
-    v8 = 0u; goto L12;
+    v103 = v18 + 24u * 1u;
+    v104 = load8(v103);
+    v105 = (u8)((u32)v104 & (u32)253u);
+    v106 = v105 == 1u;
+    if (v106) { goto L12; }
+    else { goto L11; }
 L11:;
-    v50 = (u64)v42;
-    v51 = ADDRESS(c349) + v50 * 4u;
-    v52 = load32(v51);
-    v8 = v52; goto L12;
+    goto L14;
 L12:;
-    return v8;
+    v107 = v25 + 18u * 1u;
+    v108 = load8(v107);
+    v109 = v25 + 19u * 1u;
+    v110 = load8(v109);
+    v111 = (u64)v108;
+    v112 = (u64)((u64)v111 << (8u & 63u));
+    v113 = (u64)v110;
+    v114 = (u64)((u64)v112 | (u64)v113);
+    v115 = v114 == v64;
+    if (v115) { goto L13; }
+    else { goto L14; }
+L13:;
+    memory_set(v17, 0u, 16u);
+    f102(v17, a1, a2, v22, a4, v94, v95);
+    v116 = load8(v17);
+    v117 = v116 == 0u;
+    if (v117) { goto L17; }
+    else { goto L18; }
+L14:;
+    v118 = f100(v22, a4);
+    v119 = v118.m0;
+    v120 = v119 == 1u;
+    if (v120) { goto L15; }
+    else { goto L16; }
+L15:;
+    v121 = v118.m1;
+    v13 = v121; goto L32;
+L16:;
+    v122 = load64(a1);
+    v123 = v122 == 0u;
+    if (v123) { v14 = 56u; goto L33; }
+    else { v12 = 3u; goto L28; }
+L17:;
+    v124 = v17 + 8u * 1u;
+    v125 = load64(v124);
+    v126 = (address)v125;
+    v127 = f116(v94, v95, v126);
+    memory_set(v16, 0u, 184u);
+    memory_cpy(v16, v65, v64);
+    v128 = (u16)v60;
+    v129 = v126 + 472u * 1u;
+    store16(v129, 1u);
+    v130 = v126 + 474u * 1u;
+    store16(v130, v56);
+    v131 = v126 + 476u * 1u;
+    store16(v131, v128);
+    v132 = v126 + 478u * 1u;
+    memory_cpy(v132, v16, 184u);
+    v8 = v127; v9 = v125; goto L22;
+L18:;
+    v133 = v17 + 2u * 1u;
+    v134 = load8(v133);
+    v135 = v17 + 1u * 1u;
+    v136 = load8(v135);
+    v137 = v136 == 2u;
+    v138 = v134 < 3u;
+    v139 = v137 ? v138 : 0u;
+    if (v139) { v12 = 3u; goto L28; }
+    else { v10 = v134; v11 = v136; goto L27; }
+L19:;
+    memory_set(v15, 0u, 16u);
+    f102(v15, a1, a2, v22, a4, v25, a6);
+    v140 = load8(v15);
+    v141 = v140 == 0u;
+    if (v141) { goto L20; }
+    else { goto L21; }
+L20:;
+    v142 = v15 + 8u * 1u;
+    v143 = load64(v142);
+    v144 = (address)v143;
+    v145 = f116(v25, a6, v144);
+    v8 = v145; v9 = v143; goto L22;
+L21:;
+    v146 = v15 + 2u * 1u;
+    v147 = load8(v146);
+    v148 = v15 + 1u * 1u;
+    v149 = load8(v148);
+    v10 = v147; v11 = v149; goto L27;
+L22:;
+    v150 = portable_rattle_alloc(16u, 8u);
+    v151 = v150.m0;
+    v152 = (u8)((v151) & UINT64_C(1));
+    if (v152) { goto L23; }
+    else { goto L25; }
+L23:;
+    v153 = v150.m1;
+    v154 = (address)v153;
+    store64(v154, 1u);
+    v155 = v154 + 8u * 1u;
+    store64(v155, v9);
+    v156 = load_address(a0);
+    v157 = a0 + 8u * 1u;
+    v158 = load8(v157);
+    v159 = (u8)((v158) & UINT64_C(1));
+    memory_set(a0, 0u, 16u);
+    if (v159) { goto L24; }
+    else { goto L31; }
+L24:;
+    v160 = load8(v156);
+    v161 = v156 + 8u * 1u;
+    v162 = load64(v161);
+    portable_rattle_dealloc(v156);
+    v163 = (address)v162;
+    f12(v160, v163);
+    goto L31;
+L25:;
+    v164 = (address)v9;
+    v165 = v164 + 448u * 1u;
+    v166 = load_address(v165);
+    v167 = v164 + 464u * 1u;
+    v168 = load64(v167);
+    portable_rattle_dealloc(v164);
+    v169 = v168 == 0u;
+    if (v169) { v14 = 35u; goto L33; }
+    else { goto L26; }
+L26:;
+    portable_rattle_dealloc(v166);
+    v14 = 35u; goto L33;
+L27:;
+    switch (v11) {
+    case 0u: v13 = v10; goto L32;
+    case 1u: v14 = 56u; goto L33;
+    case 2u: v12 = v10; goto L28;
+    case 3u: goto L29;
+    default: goto L30;
+    }
+L28:;
+    v170 = (u32)v12;
+    v171 = (u32)((u32)v170 + (u32)104u);
+    v14 = v171; goto L33;
+L29:;
+    v14 = 35u; goto L33;
+L30:;
+    UNREACHABLE;
+L31:;
+    store64(a0, v153);
+    store8(v157, 1u);
+    v172 = a0 + 9u * 1u;
+    v173 = a0 + 10u * 1u;
+    memory_set(v173, 0u, 6u);
+    store8(v172, 1u);
+    v174 = (u64)v8;
+    store64(a7, v174);
+    v14 = 0u; goto L33;
+L32:;
+    v175 = (u64)v13;
+    v176 = ADDRESS(c358) + v175 * 4u;
+    v177 = load32(v176);
+    v14 = v177; goto L33;
+L33:;
+    return v14;
 }
 
 u32 portable_ptpm_clock_start(address a0, address a1, address a2, u64 a3, address a4, u64 a5) {
@@ -38194,7 +41770,7 @@ L4:;
     if (v65) { goto L5; }
     else { v9 = v6; v10 = v7; goto L7; }
 L5:;
-    v66 = f111(v22);
+    v66 = f118(v22);
     if (v66) { goto L6; }
     else { goto L8; }
 L6:;
@@ -38452,14 +42028,14 @@ L11:;
     store8(v247, v204);
     v248 = v24 + 243u * 1u;
     memory_set(v248, 0u, 5u);
-    f95(v23, v24, v13, v12);
+    f104(v23, v24, v13, v12);
     v249 = load8(v23);
     v250 = v249 == 0u;
     if (v250) { goto L12; }
     else { goto L13; }
 L12:;
     v251 = v23 + 8u * 1u;
-    f98(v25, v35, a5);
+    f101(v25, v35, a5);
     v252 = load8(v25);
     v253 = v252 == 0u;
     if (v253) { goto L15; }
@@ -38561,7 +42137,7 @@ L27:;
     store64(v293, v269);
     v294 = v29 + 24u * 1u;
     store64(v294, v269);
-    v295 = f108(v27, v29);
+    v295 = f115(v27, v29);
     v296 = v295.m0;
     v297 = v296 == 0u;
     v298 = v295.m1;
@@ -38743,11 +42319,109 @@ L75:;
     UNREACHABLE;
 L76:;
     v322 = (u64)v262;
-    v323 = ADDRESS(c349) + v322 * 4u;
+    v323 = ADDRESS(c358) + v322 * 4u;
     v324 = load32(v323);
     v16 = v324; goto L77;
 L77:;
     return v16;
+}
+
+u32 portable_ptpm_journal_start(address a0) {
+    u32 v1;
+    address v2, v3, v4, v8, v10, v15, v16, v17, v18, v19, v24, v25, v26, v30, v32, v33;
+    address v34, v35, v36, v38;
+    u8 v5, v6, v7, v13, v22, v27, v28, v29, v40, v41;
+    u64 v9, v12, v14, v21, v23, v31, v37, v39;
+    struct pair v11, v20;
+    u64 block0[1];
+    v2 = ADDRESS(block0);
+    v3 = load_address(a0);
+    v4 = a0 + 8u * 1u;
+    v5 = load8(v4);
+    v6 = (u8)((v5) & UINT64_C(1));
+    memory_set(a0, 0u, 16u);
+    if (v6) { goto L1; }
+    else { goto L2; }
+L1:;
+    v7 = load8(v3);
+    v8 = v3 + 8u * 1u;
+    v9 = load64(v8);
+    portable_rattle_dealloc(v3);
+    v10 = (address)v9;
+    f12(v7, v10);
+    goto L2;
+L2:;
+    v11 = portable_rattle_alloc(88u, 8u);
+    v12 = v11.m0;
+    v13 = (u8)((v12) & UINT64_C(1));
+    if (v13) { goto L3; }
+    else { v1 = 35u; goto L11; }
+L3:;
+    v14 = v11.m1;
+    v15 = (address)v14;
+    v16 = v15 + 32u * 1u;
+    memory_set(v15, 0u, 32u);
+    store_address(v16, v2);
+    v17 = v15 + 40u * 1u;
+    v18 = v15 + 56u * 1u;
+    memory_set(v17, 0u, 16u);
+    store_address(v18, v2);
+    v19 = v15 + 64u * 1u;
+    memory_set(v19, 0u, 24u);
+    v20 = portable_rattle_alloc(16u, 8u);
+    v21 = v20.m0;
+    v22 = (u8)((v21) & UINT64_C(1));
+    if (v22) { goto L4; }
+    else { goto L7; }
+L4:;
+    v23 = v20.m1;
+    v24 = (address)v23;
+    store64(v24, 6u);
+    v25 = v24 + 8u * 1u;
+    store64(v25, v14);
+    v26 = load_address(a0);
+    v27 = load8(v4);
+    v28 = (u8)((v27) & UINT64_C(1));
+    memory_set(a0, 0u, 16u);
+    if (v28) { goto L5; }
+    else { goto L6; }
+L5:;
+    v29 = load8(v26);
+    v30 = v26 + 8u * 1u;
+    v31 = load64(v30);
+    portable_rattle_dealloc(v26);
+    v32 = (address)v31;
+    f12(v29, v32);
+    goto L6;
+L6:;
+    store64(a0, v23);
+    store8(v4, 1u);
+    v33 = a0 + 9u * 1u;
+    memory_set(v33, 0u, 7u);
+    v1 = 0u; goto L11;
+L7:;
+    v34 = v15 + 72u * 1u;
+    v35 = v15 + 48u * 1u;
+    v36 = load_address(v16);
+    v37 = load64(v35);
+    v38 = load_address(v18);
+    v39 = load64(v34);
+    portable_rattle_dealloc(v15);
+    v40 = v37 == 0u;
+    if (v40) { goto L9; }
+    else { goto L8; }
+L8:;
+    portable_rattle_dealloc(v36);
+    goto L9;
+L9:;
+    v41 = v39 == 0u;
+    if (v41) { v1 = 35u; goto L11; }
+    else { goto L10; }
+L10:;
+    portable_rattle_dealloc(v38);
+    v1 = 35u; goto L11;
+L11:;
+    return v1;
 }
 
 u32 portable_ptpm_session_restore(address a0, address a1, address a2, u64 a3) {
@@ -38787,7 +42461,7 @@ u32 portable_ptpm_session_restore(address a0, address a1, address a2, u64 a3) {
     v20 = load16(v19);
     v21 = a1 + 4u * 1u;
     v22 = load16(v21);
-    f92(v5, v12, a3, v6, v7, v20, v22);
+    f99(v5, v12, a3, v6, v7, v20, v22);
     v23 = load8(v5);
     v24 = v23 == 0u;
     if (v24) { goto L1; }
@@ -38820,7 +42494,7 @@ L2:;
     v44 = v5 + 1u * 1u;
     v45 = load8(v44);
     v46 = (u64)v45;
-    v47 = ADDRESS(c350) + v46 * 4u;
+    v47 = ADDRESS(c359) + v46 * 4u;
     v48 = load32(v47);
     v4 = v48; goto L14;
 L3:;
@@ -39170,7 +42844,7 @@ L3:;
     memory_set(v43, 0u, 24u);
     v44 = v4 + 136u * 1u;
     store64(v44, UINT64_C(2611923443488327891));
-    v45 = f112(a0, v4);
+    v45 = f119(a0, v4);
     v2 = v45; goto L4;
 L4:;
     return v2;
@@ -39270,7 +42944,7 @@ L6:;
     memory_set(v48, 0u, 24u);
     v49 = v5 + 136u * 1u;
     store64(v49, UINT64_C(2611923443488327891));
-    v50 = f112(a0, v5);
+    v50 = f119(a0, v5);
     v3 = v50; goto L7;
 L7:;
     return v3;
@@ -39328,6 +43002,7 @@ L1:;
     case 2u: v49 = 32u; goto L66;
     case 3u: v49 = 32u; goto L66;
     case 5u: v49 = 32u; goto L66;
+    case 6u: v49 = 32u; goto L66;
     default: goto L65;
     }
 L2:;
@@ -39555,9 +43230,9 @@ L53:;
     if (v123) { goto L54; }
     else { v20 = v122; goto L53; }
 L54:;
-    f113(v56, a1);
+    f120(v56, a1);
     memory_set(v54, 0u, 24u);
-    f114(v54, v92, v56, v55, a3);
+    f121(v54, v92, v56, v55, a3);
     v124 = load8(v54);
     v125 = v54 + 1u * 1u;
     v126 = load8(v125);
@@ -39597,7 +43272,7 @@ L56:;
     if (v155) { v36 = 0u; v37 = 1u; v38 = 0u; v39 = 0u; v40 = 0u; v41 = 0u; v42 = 0u; v43 = 0u; v44 = 0u; v45 = 0u; v46 = 0u; v47 = 0u; v48 = 0u; goto L64; }
     else { goto L57; }
 L57:;
-    f113(v52, a1);
+    f120(v52, a1);
     memory_set(v51, 0u, 200u);
     v156 = a3 == 0u;
     if (v156) { goto L60; }
@@ -39640,7 +43315,7 @@ L59:;
     else { v34 = v181; goto L59; }
 L60:;
     memory_set(v50, 0u, 24u);
-    f114(v50, v151, v52, v51, a3);
+    f121(v50, v151, v52, v51, a3);
     v183 = load8(v50);
     v184 = v50 + 1u * 1u;
     v185 = load8(v184);
@@ -39673,9 +43348,9 @@ L61:;
     v208 = v53 + 16u * 1u;
     v209 = load64(v208);
     v210 = v150 + 8u * 1u;
-    f114(v53, v210, v52, v51, a3);
+    f121(v53, v210, v52, v51, a3);
     v211 = v150 + 448u * 1u;
-    f114(v53, v211, v52, v51, a3);
+    f121(v53, v211, v52, v51, a3);
     v212 = v150 + 952u * 1u;
     v213 = load8(v212);
     v214 = (u8)((v213) & UINT64_C(1));
@@ -39729,6 +43404,7 @@ L1:;
     case 2u: v12 = 32u; goto L46;
     case 3u: v12 = 32u; goto L46;
     case 5u: v12 = 32u; goto L46;
+    case 6u: v12 = 32u; goto L46;
     default: goto L4;
     }
 L2:;
@@ -39860,7 +43536,7 @@ L28:;
 L29:;
     v8 = 11u; v9 = 4u; goto L37;
 L30:;
-    f31(v6, v7, v13);
+    f36(v6, v7, v13);
     v34 = load64(v33);
     v11 = v34; goto L43;
 L31:;
@@ -40003,6 +43679,234 @@ L46:;
     return v12;
 }
 
+u64 portable_ptpm_clock_transit(address a0, u16 a1, address a2, u64 a3, address a4, u64 a5) {
+    address v6, v11, v14, v17, v18, v21, v23, v24, v25, v26, v27, v29, v37, v41, v43, v52;
+    address v55, v57, v60, v63, v66, v73, v75, v88, v91, v93, v94, v97;
+    u64 v7, v8, v9, v10, v13, v16, v30, v45, v46, v47, v48, v49, v61, v64, v70, v71;
+    u64 v74, v81, v82, v84, v85, v87, v90, v98, v99;
+    u8 v12, v15, v19, v20, v22, v28, v32, v33, v34, v35, v36, v38, v39, v40, v42, v44;
+    u8 v50, v51, v53, v54, v56, v58, v59, v62, v65, v67, v68, v72, v76, v79, v83, v86;
+    u8 v89, v95, v96, v100;
+    u16 v31, v69, v77, v78, v80, v92;
+    u64 block0[4];
+    v11 = ADDRESS(block0);
+    v12 = a2 == 0u;
+    v13 = v12 ? 4096u : 0u;
+    v14 = a2 + v13 * 1u;
+    v15 = a4 == 0u;
+    v16 = v15 ? 4096u : 0u;
+    v17 = a4 + v16 * 1u;
+    v18 = a0 + 8u * 1u;
+    v19 = load8(v18);
+    v20 = (u8)((v19) & UINT64_C(1));
+    if (v20) { goto L1; }
+    else { v10 = 0u; goto L32; }
+L1:;
+    v21 = load_address(a0);
+    v22 = load8(v21);
+    switch (v22) {
+    case 1u: goto L2;
+    case 4u: goto L3;
+    case 0u: v10 = 0u; goto L32;
+    case 2u: v10 = 0u; goto L32;
+    case 3u: v10 = 0u; goto L32;
+    case 5u: v10 = 0u; goto L32;
+    case 6u: v10 = 0u; goto L32;
+    default: goto L4;
+    }
+L2:;
+    v23 = v21 + 8u * 1u;
+    v24 = load_address(v23);
+    v6 = v24; goto L5;
+L3:;
+    v25 = v21 + 8u * 1u;
+    v26 = load_address(v25);
+    v27 = v26 + 8u * 1u;
+    v6 = v27; goto L5;
+L4:;
+    UNREACHABLE;
+L5:;
+    v28 = a1 == 0u;
+    if (v28) { v10 = 0u; goto L32; }
+    else { goto L6; }
+L6:;
+    v29 = v6 + 432u * 1u;
+    v30 = load64(v29);
+    v31 = (u16)(v30);
+    v32 = a1 > v31;
+    v33 = a5 < 15u;
+    v34 = (u8)(((u32)v33 | (u32)v32) & UINT64_C(1));
+    if (v34) { v10 = 0u; goto L32; }
+    else { goto L7; }
+L7:;
+    memory_set(v11, 0u, 32u);
+    f8(v11, v14, a3);
+    v35 = load8(v11);
+    v36 = v35 == 1u;
+    if (v36) { goto L8; }
+    else { goto L9; }
+L8:;
+    v37 = v11 + 1u * 1u;
+    v38 = load8(v37);
+    v39 = (u8)((u32)v38 & (u32)252u);
+    v40 = v39 == 4u;
+    if (v40) { goto L10; }
+    else { goto L9; }
+L9:;
+    v10 = 0u; goto L32;
+L10:;
+    v41 = v14 + 2u * 1u;
+    v42 = load8(v41);
+    v43 = v14 + 3u * 1u;
+    v44 = load8(v43);
+    v45 = (u64)v42;
+    v46 = (u64)((u64)v45 << (8u & 63u));
+    v47 = (u64)v44;
+    v48 = (u64)((u64)v46 | (u64)v47);
+    v49 = load64(v6);
+    v50 = load8(v14);
+    v51 = v50 < 16u;
+    if (v51) { goto L11; }
+    else { v10 = 0u; goto L32; }
+L11:;
+    v52 = v14 + 5u * 1u;
+    v53 = load8(v52);
+    v54 = v53 == 0u;
+    if (v54) { goto L12; }
+    else { v10 = 0u; goto L32; }
+L12:;
+    v55 = v14 + 4u * 1u;
+    v56 = load8(v55);
+    v57 = v6 + 8u * 1u;
+    v58 = load8(v57);
+    v59 = v56 == v58;
+    if (v59) { goto L13; }
+    else { v10 = 0u; goto L32; }
+L13:;
+    v60 = v14 + 20u * 1u;
+    v61 = load64(v60);
+    v62 = v61 == v49;
+    if (v62) { v10 = 0u; goto L32; }
+    else { goto L14; }
+L14:;
+    v63 = v14 + 34u * 1u;
+    v64 = load64(v63);
+    v65 = v64 == v49;
+    if (v65) { v10 = 0u; goto L32; }
+    else { goto L15; }
+L15:;
+    v66 = v14 + 45u * 1u;
+    v67 = load8(v66);
+    v68 = v67 == 0u;
+    if (v68) { v10 = 0u; goto L32; }
+    else { goto L16; }
+L16:;
+    v69 = (u16)((u32)a1 + (u32)65535u);
+    v70 = load64(v29);
+    v71 = (u64)v69;
+    v72 = v70 > v71;
+    if (v72) { goto L17; }
+    else { v10 = 0u; goto L32; }
+L17:;
+    v73 = v6 + 240u * 1u;
+    v74 = (u64)((u64)v71 * (u64)24u);
+    v75 = v73 + v74 * 1u;
+    v76 = load8(v75);
+    switch (v76) {
+    case 4u: goto L19;
+    case 5u: goto L19;
+    case 7u: goto L19;
+    case 8u: goto L19;
+    case 0u: v10 = 0u; goto L32;
+    case 1u: v10 = 0u; goto L32;
+    case 2u: v10 = 0u; goto L32;
+    case 3u: v10 = 0u; goto L32;
+    case 6u: v10 = 0u; goto L32;
+    default: goto L18;
+    }
+L18:;
+    UNREACHABLE;
+L19:;
+    v77 = (u16)(v70);
+    v78 = (u16)((u32)v77 + (u32)1u);
+    v79 = v78 > 1u;
+    if (v79) { goto L20; }
+    else { v10 = 0u; goto L32; }
+L20:;
+    v80 = (u16)(v48);
+    v81 = (u64)a1;
+    v82 = (u64)v78;
+    v7 = 1u; v8 = 0u; goto L21;
+L21:;
+    v83 = v7 == v81;
+    if (v83) { v9 = v8; goto L31; }
+    else { goto L22; }
+L22:;
+    v84 = (u64)((u64)v7 + (u64)UINT64_C(18446744073709551615));
+    v85 = load64(v29);
+    v86 = v85 > v84;
+    if (v86) { goto L23; }
+    else { v9 = v8; goto L31; }
+L23:;
+    v87 = (u64)((u64)v84 * (u64)24u);
+    v88 = v73 + v87 * 1u;
+    v89 = load8(v88);
+    switch (v89) {
+    case 4u: goto L25;
+    case 5u: goto L25;
+    case 7u: goto L25;
+    case 8u: goto L25;
+    case 0u: v9 = v8; goto L31;
+    case 1u: v9 = v8; goto L31;
+    case 2u: v9 = v8; goto L31;
+    case 3u: v9 = v8; goto L31;
+    case 6u: v9 = v8; goto L31;
+    default: goto L24;
+    }
+L24:;
+    UNREACHABLE;
+L25:;
+    v90 = (u64)((u64)v8 * (u64)1476u);
+    v91 = v17 + v90 * 1u;
+    v92 = (u16)(v7);
+    store16(v91, v92);
+    v93 = v91 + 2u * 1u;
+    store16(v93, v80);
+    v94 = v91 + 4u * 1u;
+    switch (v80) {
+    case 54u: goto L26;
+    case 56u: goto L27;
+    case 80u: goto L28;
+    default: goto L29;
+    }
+L26:;
+    memory_move(v94, v14, 54u);
+    goto L30;
+L27:;
+    memory_move(v94, v14, 56u);
+    goto L30;
+L28:;
+    memory_move(v94, v14, 80u);
+    goto L30;
+L29:;
+    f39(v94, v14, v48);
+    goto L30;
+L30:;
+    v95 = load8(v66);
+    v96 = (u8)((u32)v95 + (u32)255u);
+    v97 = v91 + 49u * 1u;
+    store8(v97, v96);
+    v98 = (u64)((u64)v8 + (u64)1u);
+    v9 = v98; goto L31;
+L31:;
+    v99 = (u64)((u64)v7 + (u64)1u);
+    v100 = v99 == v82;
+    if (v100) { v10 = v9; goto L32; }
+    else { v7 = v99; v8 = v9; goto L21; }
+L32:;
+    return v10;
+}
+
 u32 portable_ptpm_clock_set(address a0, u8 a1, u16 a2, u16 a3, address a4, u64 a5, address a6, address a7) {
     u32 v8;
     address v9, v10, v11, v14, v15, v16, v17, v20, v22, v23, v25, v27, v30, v32, v34, v35;
@@ -40041,12 +43945,13 @@ L1:;
     case 2u: v8 = 32u; goto L17;
     case 3u: v8 = 32u; goto L17;
     case 5u: v8 = 32u; goto L17;
+    case 6u: v8 = 32u; goto L17;
     default: goto L16;
     }
 L2:;
     v22 = v20 + 8u * 1u;
     v23 = load_address(v22);
-    f116(v10, v23, a1, a2, a3, v14, a5);
+    f123(v10, v23, a1, a2, a3, v14, a5);
     v24 = load8(v10);
     v25 = v10 + 1u * 1u;
     v26 = load8(v25);
@@ -40072,7 +43977,7 @@ L4:;
     }
 L5:;
     v31 = (u64)v28;
-    v32 = ADDRESS(c351) + v31 * 2u;
+    v32 = ADDRESS(c360) + v31 * 2u;
     v33 = load16(v32);
     store16(a7, v33);
     v8 = 26u; goto L17;
@@ -40087,7 +43992,7 @@ L9:;
     v35 = load_address(v34);
     memory_set(v9, 0u, 16u);
     v36 = load_address(v35);
-    f116(v9, v36, a1, a2, a3, v14, a5);
+    f123(v9, v36, a1, a2, a3, v14, a5);
     v37 = load8(v9);
     v38 = v37 == 0u;
     if (v38) { goto L10; }
@@ -40120,7 +44025,7 @@ L11:;
     }
 L12:;
     v47 = (u64)v44;
-    v48 = ADDRESS(c351) + v47 * 2u;
+    v48 = ADDRESS(c360) + v47 * 2u;
     v49 = load16(v48);
     store16(a7, v49);
     v8 = 26u; goto L17;
@@ -40137,202 +44042,391 @@ L17:;
 }
 
 u32 portable_ptpm_clock_ask(address a0, u16 a1, address a2, u64 a3, address a4) {
-    address v5, v7, v8, v9, v10, v11, v13, v14, v15, v16, v17, v18, v19, v22, v23, v26;
-    address v27, v28, v29, v30, v31, v32, v34, v35, v37, v39, v41, v45, v46, v47, v50, v53;
-    address v54, v55, v56, v57, v61, v63, v65, v71, v74, v75, v76, v78, v81, v85, v86, v87;
-    u64 v6, v21, v58, v59, v62, v72, v77, v82;
-    u32 v12, v44, v93;
-    u8 v20, v24, v25, v33, v36, v38, v40, v42, v43, v48, v49, v51, v52, v60, v64, v66;
-    u8 v73, v80, v83, v84, v88, v89, v90, v91, v92;
-    u16 v67, v68, v69, v70, v79;
-    u64 block0[55];
-    u64 block1[55];
-    u64 block2[4];
-    u64 block3[20];
-    u64 block4[20];
-    u64 block5[20];
-    u64 block6[19];
-    v13 = ADDRESS(block0);
-    v14 = ADDRESS(block1);
-    v15 = ADDRESS(block2);
-    v16 = ADDRESS(block3);
-    v17 = ADDRESS(block4);
-    v18 = ADDRESS(block5);
-    v19 = ADDRESS(block6);
-    v20 = a2 == 0u;
-    v21 = v20 ? 4096u : 0u;
-    v22 = a2 + v21 * 1u;
+    u32 v5, v6, v7, v28, v39;
+    address v8, v9, v12, v13, v16, v18, v19, v22, v23, v25, v29, v30, v33, v34, v36;
+    u8 v10, v14, v15, v17, v20, v21, v24, v26, v27, v31, v32, v35, v37, v38;
+    u64 v11;
+    u64 block0[20];
+    u64 block1[20];
+    v8 = ADDRESS(block0);
+    v9 = ADDRESS(block1);
+    v10 = a2 == 0u;
+    v11 = v10 ? 4096u : 0u;
+    v12 = a2 + v11 * 1u;
+    memory_set(v9, 0u, 154u);
     memory_set(a4, 0u, 150u);
-    v23 = a0 + 8u * 1u;
-    v24 = load8(v23);
-    v25 = (u8)((v24) & UINT64_C(1));
-    v26 = v16 + 1u * 1u;
-    v27 = v17 + 1u * 1u;
-    v28 = v16 + 2u * 1u;
-    v29 = v17 + 2u * 1u;
-    v30 = v16 + 4u * 1u;
-    v31 = v17 + 4u * 1u;
-    if (v25) { goto L1; }
-    else { v12 = 32u; goto L27; }
+    v13 = a0 + 8u * 1u;
+    v14 = load8(v13);
+    v15 = (u8)((v14) & UINT64_C(1));
+    if (v15) { goto L1; }
+    else { v7 = 32u; goto L15; }
 L1:;
-    v32 = load_address(a0);
-    v33 = load8(v32);
-    switch (v33) {
+    v16 = load_address(a0);
+    v17 = load8(v16);
+    switch (v17) {
     case 1u: goto L2;
     case 4u: goto L8;
-    case 0u: v12 = 32u; goto L27;
-    case 2u: v12 = 32u; goto L27;
-    case 3u: v12 = 32u; goto L27;
-    case 5u: v12 = 32u; goto L27;
-    default: goto L26;
+    case 0u: v7 = 32u; goto L15;
+    case 2u: v7 = 32u; goto L15;
+    case 3u: v7 = 32u; goto L15;
+    case 5u: v7 = 32u; goto L15;
+    case 6u: v7 = 32u; goto L15;
+    default: goto L14;
     }
 L2:;
-    v34 = v32 + 8u * 1u;
-    v35 = load_address(v34);
-    f117(v18, v35, a1, v22, a3);
-    v36 = load8(v18);
-    v37 = v18 + 1u * 1u;
-    v38 = load8(v37);
-    v39 = v18 + 2u * 1u;
-    v40 = load8(v39);
-    v41 = v18 + 4u * 1u;
-    memory_set(a4, 0u, 150u);
-    v42 = v36 == 0u;
-    if (v42) { goto L3; }
-    else { goto L6; }
+    v18 = v16 + 8u * 1u;
+    v19 = load_address(v18);
+    f124(v8, v19, a1, v12, a3);
+    v20 = load8(v8);
+    v21 = v20 == 0u;
+    if (v21) { goto L3; }
+    else { goto L7; }
 L3:;
-    switch (v40) {
-    case 1u: goto L4;
-    case 2u: goto L5;
-    case 0u: v12 = 0u; goto L27;
-    default: goto L7;
+    v22 = v8 + 4u * 1u;
+    v23 = v8 + 2u * 1u;
+    v24 = load8(v23);
+    memory_set(a4, 0u, 150u);
+    switch (v24) {
+    case 1u: v5 = 29u; goto L5;
+    case 2u: goto L4;
+    case 0u: v7 = 0u; goto L15;
+    default: goto L6;
     }
 L4:;
-    memory_cpy(a4, v41, 150u);
-    v12 = 29u; goto L27;
+    v5 = 30u; goto L5;
 L5:;
-    memory_cpy(a4, v41, 150u);
-    v12 = 30u; goto L27;
+    memory_cpy(a4, v22, 150u);
+    v7 = v5; goto L15;
 L6:;
-    v43 = v38 == 0u;
-    v44 = v43 ? 33u : 34u;
-    v12 = v44; goto L27;
+    UNREACHABLE;
 L7:;
-    UNREACHABLE;
-L8:;
-    v45 = v32 + 8u * 1u;
-    v46 = load_address(v45);
-    v47 = v46 + 953u * 1u;
-    v48 = load8(v47);
-    v49 = (u8)((v48) & UINT64_C(1));
-    if (v49) { goto L10; }
-    else { goto L9; }
-L9:;
-    v50 = load_address(v46);
-    v7 = v50; goto L18;
-L10:;
-    memory_set(v15, 0u, 32u);
-    f8(v15, v22, a3);
-    v51 = load8(v15);
-    v52 = v51 == 0u;
-    v53 = load_address(v46);
-    if (v52) { goto L11; }
-    else { goto L19; }
-L11:;
-    v54 = v15 + 8u * 1u;
-    v55 = load_address(v54);
-    v56 = v53 + 440u * 1u;
-    v57 = v55 + 34u * 1u;
-    v58 = load64(v57);
-    v59 = load64(v56);
-    v60 = v58 == v59;
-    if (v60) { goto L12; }
-    else { goto L19; }
-L12:;
-    v61 = v55 + 20u * 1u;
-    v62 = load64(v61);
-    v63 = v55 + 28u * 1u;
-    v64 = load8(v63);
-    v65 = v55 + 29u * 1u;
-    v66 = load8(v65);
-    v67 = (u16)v64;
-    v68 = (u16)((u32)v67 << (8u & 15u));
-    v69 = (u16)v66;
-    v70 = (u16)((u32)v68 | (u32)v69);
-    v71 = v53 + 456u * 1u;
-    v72 = load64(v71);
-    v73 = v72 == 0u;
-    if (v73) { goto L19; }
-    else { goto L13; }
-L13:;
-    v74 = v53 + 448u * 1u;
-    v75 = load_address(v74);
-    v5 = v75; v6 = v72; goto L14;
-L14:;
-    v76 = v5 + 2136u * 1u;
-    v77 = (u64)((u64)v6 + (u64)UINT64_C(18446744073709551615));
-    v78 = v5 + 2112u * 1u;
-    v79 = load16(v78);
-    v80 = v70 == v79;
-    if (v80) { goto L15; }
-    else { goto L16; }
-L15:;
-    v81 = v5 + 2104u * 1u;
-    v82 = load64(v81);
-    v83 = v62 == v82;
-    if (v83) { goto L17; }
-    else { goto L16; }
-L16:;
-    v84 = v77 == 0u;
-    if (v84) { goto L19; }
-    else { v5 = v76; v6 = v77; goto L14; }
-L17:;
-    v7 = v53; goto L18;
-L18:;
-    f117(v16, v7, a1, v22, a3);
-    v8 = v26; v9 = v28; v10 = v30; v11 = v16; goto L20;
-L19:;
-    v85 = v46 + 8u * 1u;
-    memory_cpy(v14, v53, 440u);
-    memory_move(v53, v85, 440u);
-    memory_cpy(v85, v14, 440u);
-    v86 = load_address(v46);
-    f117(v17, v86, a1, v22, a3);
-    v87 = load_address(v46);
-    memory_cpy(v13, v87, 440u);
-    memory_move(v87, v85, 440u);
-    memory_cpy(v85, v13, 440u);
-    v8 = v27; v9 = v29; v10 = v31; v11 = v17; goto L20;
-L20:;
-    v88 = load8(v11);
-    v89 = load8(v8);
-    v90 = load8(v9);
-    memory_cpy(v19, v10, 150u);
+    v25 = v8 + 1u * 1u;
+    v26 = load8(v25);
     memory_set(a4, 0u, 150u);
-    v91 = v88 == 0u;
-    if (v91) { goto L21; }
-    else { goto L24; }
-L21:;
-    switch (v90) {
-    case 1u: goto L22;
-    case 2u: goto L23;
-    case 0u: v12 = 0u; goto L27;
-    default: goto L25;
+    v27 = v26 == 0u;
+    v28 = v27 ? 33u : 34u;
+    v7 = v28; goto L15;
+L8:;
+    v29 = v16 + 8u * 1u;
+    v30 = load_address(v29);
+    f125(v9, v30, a1, v12, a3);
+    v31 = load8(v9);
+    v32 = v31 == 0u;
+    if (v32) { goto L9; }
+    else { goto L13; }
+L9:;
+    v33 = v9 + 4u * 1u;
+    v34 = v9 + 2u * 1u;
+    v35 = load8(v34);
+    memory_set(a4, 0u, 150u);
+    switch (v35) {
+    case 1u: v6 = 29u; goto L11;
+    case 2u: goto L10;
+    case 0u: v7 = 0u; goto L15;
+    default: goto L12;
     }
-L22:;
-    memory_cpy(a4, v19, 150u);
-    v12 = 29u; goto L27;
-L23:;
-    memory_cpy(a4, v19, 150u);
-    v12 = 30u; goto L27;
-L24:;
-    v92 = v89 == 0u;
-    v93 = v92 ? 33u : 34u;
-    v12 = v93; goto L27;
-L25:;
+L10:;
+    v6 = 30u; goto L11;
+L11:;
+    memory_cpy(a4, v33, 150u);
+    v7 = v6; goto L15;
+L12:;
     UNREACHABLE;
-L26:;
+L13:;
+    v36 = v9 + 1u * 1u;
+    v37 = load8(v36);
+    memory_set(a4, 0u, 150u);
+    v38 = v37 == 0u;
+    v39 = v38 ? 33u : 34u;
+    v7 = v39; goto L15;
+L14:;
     UNREACHABLE;
-L27:;
-    return v12;
+L15:;
+    return v7;
+}
+
+u32 portable_ptpm_clock_under_way(address a0, address a1) {
+    address v2, v5, v6, v7, v10, v12, v13, v14, v15, v16, v19, v22, v25, v26, v27, v29;
+    address v31, v33, v35, v37, v39, v41, v46, v48, v50, v52, v57, v58, v76, v77, v78, v79;
+    address v80, v81, v82, v83;
+    u16 v3, v20, v59, v60, v61, v62, v63, v64, v65, v66, v67, v68, v69, v70, v71, v72;
+    u16 v73, v74, v75;
+    u32 v4;
+    u8 v8, v9, v11, v17, v18, v23, v24, v30, v32, v36, v38, v40, v42, v43, v47, v49;
+    u8 v51, v53, v56;
+    u64 v21, v28, v34, v44, v45, v54, v55;
+    u64 block0[17];
+    u64 block1[4];
+    v5 = ADDRESS(block0);
+    v6 = ADDRESS(block1);
+    memory_set(a1, 0u, 150u);
+    v7 = a0 + 8u * 1u;
+    v8 = load8(v7);
+    v9 = (u8)((v8) & UINT64_C(1));
+    if (v9) { goto L1; }
+    else { v4 = 32u; goto L11; }
+L1:;
+    v10 = load_address(a0);
+    v11 = load8(v10);
+    switch (v11) {
+    case 1u: goto L2;
+    case 4u: goto L3;
+    case 0u: v4 = 32u; goto L11;
+    case 2u: v4 = 32u; goto L11;
+    case 3u: v4 = 32u; goto L11;
+    case 5u: v4 = 32u; goto L11;
+    case 6u: v4 = 32u; goto L11;
+    default: goto L4;
+    }
+L2:;
+    v12 = v10 + 8u * 1u;
+    v2 = v12; goto L5;
+L3:;
+    v13 = v10 + 8u * 1u;
+    v14 = load_address(v13);
+    v2 = v14; goto L5;
+L4:;
+    UNREACHABLE;
+L5:;
+    v15 = load_address(v2);
+    v16 = v15 + 472u * 1u;
+    v17 = load8(v16);
+    v18 = v17 == 1u;
+    if (v18) { goto L6; }
+    else { v4 = 0u; goto L11; }
+L6:;
+    memory_set(v6, 0u, 32u);
+    v19 = v15 + 476u * 1u;
+    v20 = load16(v19);
+    v21 = (u64)v20;
+    v22 = v15 + 478u * 1u;
+    f8(v6, v22, v21);
+    v23 = load8(v6);
+    v24 = v23 == 0u;
+    if (v24) { goto L7; }
+    else { goto L9; }
+L7:;
+    v25 = v6 + 8u * 1u;
+    v26 = load_address(v25);
+    v27 = v6 + 16u * 1u;
+    v28 = load64(v27);
+    v29 = v6 + 24u * 1u;
+    v30 = load8(v29);
+    v31 = v6 + 25u * 1u;
+    v32 = load8(v31);
+    v33 = v26 + 20u * 1u;
+    v34 = load64(v33);
+    v35 = v26 + 28u * 1u;
+    v36 = load8(v35);
+    v37 = v26 + 29u * 1u;
+    v38 = load8(v37);
+    v39 = v26 + 30u * 1u;
+    v40 = load8(v39);
+    v41 = v26 + 31u * 1u;
+    v42 = load8(v41);
+    v43 = v32 == 0u;
+    v44 = v43 ? 52u : 54u;
+    v45 = v43 ? 53u : 55u;
+    v46 = v26 + v44 * 1u;
+    v47 = load8(v46);
+    v48 = v26 + v45 * 1u;
+    v49 = load8(v48);
+    v50 = v26 + 42u * 1u;
+    v51 = load8(v50);
+    v52 = v26 + 43u * 1u;
+    v53 = load8(v52);
+    v54 = (u64)((u64)v28 + (u64)UINT64_C(18446744073709551562));
+    v55 = v43 ? v54 : 0u;
+    memory_set(v5, 0u, 130u);
+    v56 = v55 > 130u;
+    if (v56) { v3 = 0u; goto L10; }
+    else { goto L8; }
+L8:;
+    v57 = v26 + 54u * 1u;
+    v58 = v43 ? v57 : ADDRESS(c145);
+    memory_cpy(v5, v58, v55);
+    v59 = (u16)(v55);
+    v3 = v59; goto L10;
+L9:;
+    TRAP;
+    UNREACHABLE;
+L10:;
+    v60 = (u16)v51;
+    v61 = (u16)((u32)v60 << (8u & 15u));
+    v62 = (u16)v53;
+    v63 = (u16)((u32)v61 | (u32)v62);
+    v64 = (u16)v47;
+    v65 = (u16)((u32)v64 << (8u & 15u));
+    v66 = (u16)v49;
+    v67 = (u16)((u32)v65 | (u32)v66);
+    v68 = (u16)v40;
+    v69 = (u16)((u32)v68 << (8u & 15u));
+    v70 = (u16)v42;
+    v71 = (u16)((u32)v69 | (u32)v70);
+    v72 = (u16)v36;
+    v73 = (u16)((u32)v72 << (8u & 15u));
+    v74 = (u16)v38;
+    v75 = (u16)((u32)v73 | (u32)v74);
+    store64(a1, v34);
+    v76 = a1 + 8u * 1u;
+    store16(v76, v75);
+    v77 = a1 + 10u * 1u;
+    store16(v77, v71);
+    v78 = a1 + 12u * 1u;
+    store16(v78, v67);
+    v79 = a1 + 14u * 1u;
+    store16(v79, v63);
+    v80 = a1 + 16u * 1u;
+    store16(v80, v3);
+    v81 = a1 + 18u * 1u;
+    store8(v81, v30);
+    v82 = a1 + 19u * 1u;
+    memory_cpy(v82, v5, 130u);
+    v83 = a1 + 149u * 1u;
+    store8(v83, 0u);
+    v4 = 29u; goto L11;
+L11:;
+    return v4;
+}
+
+u32 portable_ptpm_clock_undertake(address a0, u16 a1, address a2, u64 a3, address a4) {
+    u32 v5, v6, v7;
+    address v8, v9, v10, v11, v14, v15, v18, v21, v22, v24, v25, v29, v32, v37, v39, v40;
+    address v43, v44, v47, v49, v56, v57, v58, v59, v60, v61;
+    u8 v12, v16, v17, v19, v20, v23, v28, v30, v31, v34, v35, v36, v38, v41, v42, v45;
+    u8 v46, v48, v50;
+    u64 v13, v26, v33, v51, v52, v53, v54;
+    u16 v27, v55;
+    u64 block0[23];
+    u64 block1[6];
+    u64 block2[20];
+    u64 block3[19];
+    v8 = ADDRESS(block0);
+    v9 = ADDRESS(block1);
+    v10 = ADDRESS(block2);
+    v11 = ADDRESS(block3);
+    v12 = a2 == 0u;
+    v13 = v12 ? 4096u : 0u;
+    v14 = a2 + v13 * 1u;
+    memory_set(a4, 0u, 150u);
+    v15 = a0 + 8u * 1u;
+    v16 = load8(v15);
+    v17 = (u8)((v16) & UINT64_C(1));
+    if (v17) { goto L1; }
+    else { v7 = 32u; goto L19; }
+L1:;
+    v18 = load_address(a0);
+    v19 = load8(v18);
+    v20 = v19 == 4u;
+    if (v20) { goto L2; }
+    else { v7 = 32u; goto L19; }
+L2:;
+    v21 = v18 + 8u * 1u;
+    v22 = load_address(v21);
+    memory_set(v10, 0u, 154u);
+    v23 = a1 == 0u;
+    if (v23) { goto L4; }
+    else { goto L3; }
+L3:;
+    v24 = load_address(v22);
+    v25 = v24 + 432u * 1u;
+    v26 = load64(v25);
+    v27 = (u16)(v26);
+    v28 = a1 > v27;
+    if (v28) { goto L4; }
+    else { goto L5; }
+L4:;
+    memory_set(a4, 0u, 150u);
+    v6 = 33u; goto L18;
+L5:;
+    v29 = v22 + 955u * 1u;
+    v30 = load8(v29);
+    v31 = (u8)((v30) & UINT64_C(1));
+    if (v31) { goto L6; }
+    else { goto L16; }
+L6:;
+    v32 = v22 + 928u * 1u;
+    v33 = load64(v32);
+    v34 = v33 == 0u;
+    if (v34) { goto L7; }
+    else { goto L16; }
+L7:;
+    f125(v10, v22, a1, v14, a3);
+    v35 = load8(v10);
+    v36 = v35 == 0u;
+    if (v36) { goto L8; }
+    else { goto L9; }
+L8:;
+    v37 = v10 + 2u * 1u;
+    v38 = load8(v37);
+    v39 = v10 + 4u * 1u;
+    v40 = load_address(v22);
+    memory_set(v9, 0u, 48u);
+    f49(v9, v40, v14, a3);
+    v41 = load8(v9);
+    v42 = v41 == 1u;
+    if (v42) { goto L10; }
+    else { goto L12; }
+L9:;
+    TRAP;
+    UNREACHABLE;
+L10:;
+    v43 = load_address(v22);
+    v44 = v43 + 472u * 1u;
+    v45 = load8(v44);
+    v46 = v45 == 1u;
+    if (v46) { goto L17; }
+    else { goto L11; }
+L11:;
+    v47 = v14 + 2u * 1u;
+    v48 = load8(v47);
+    v49 = v14 + 3u * 1u;
+    v50 = load8(v49);
+    v51 = (u64)v48;
+    v52 = (u64)((u64)v51 << (8u & 63u));
+    v53 = (u64)v50;
+    v54 = (u64)((u64)v52 | (u64)v53);
+    memory_set(v8, 0u, 184u);
+    memory_cpy(v8, v14, v54);
+    v55 = (u16)(v54);
+    store16(v44, 1u);
+    v56 = v43 + 474u * 1u;
+    store16(v56, a1);
+    v57 = v43 + 476u * 1u;
+    store16(v57, v55);
+    v58 = v43 + 478u * 1u;
+    memory_cpy(v58, v8, 184u);
+    v59 = v22 + 953u * 1u;
+    store8(v59, 1u);
+    v60 = v22 + 954u * 1u;
+    store8(v60, 1u);
+    v61 = v22 + 956u * 1u;
+    store8(v61, 1u);
+    goto L12;
+L12:;
+    memory_cpy(v11, v39, 150u);
+    memory_set(a4, 0u, 150u);
+    switch (v38) {
+    case 1u: v5 = 29u; goto L14;
+    case 2u: goto L13;
+    case 0u: v6 = 0u; goto L18;
+    default: goto L15;
+    }
+L13:;
+    v5 = 30u; goto L14;
+L14:;
+    memory_cpy(a4, v11, 150u);
+    v6 = v5; goto L18;
+L15:;
+    UNREACHABLE;
+L16:;
+    memory_set(a4, 0u, 150u);
+    v6 = 118u; goto L18;
+L17:;
+    memory_set(a4, 0u, 150u);
+    v6 = 123u; goto L18;
+L18:;
+    v7 = v6; goto L19;
+L19:;
+    return v7;
 }
