@@ -429,7 +429,7 @@ enum ptpm_saved ptpm_clock_image(const struct ptpm_clock *clock, uint8_t *octets
 size_t ptpm_clock_transit(const struct ptpm_clock *clock, uint16_t port, const uint8_t *datagram, size_t size, struct ptpm_sent *sent, size_t room) {
     fill();
     size_t answer = (size_t)portable_ptpm_clock_transit(ADDRESS(clock), port, ADDRESS(datagram), size, ADDRESS(sent), room);
-    for (size_t i = 0; i < *count; i++) swap_ptpm_sent(&sent[i]);
+    for (size_t i = 0; i < answer; i++) swap_ptpm_sent(&sent[i]);
     return answer;
 }
 

@@ -8,8 +8,10 @@ WIDTHS = {'uint16_t': 16, 'int16_t': 16, 'uint32_t': 32, 'int32_t': 32, 'uint64_
 CLOSED = ('ptpm_clock', 'ptpm_session', 'ptpm_survey', 'ptpm_passed_on')
 # The most structs of an array that a call judges, and one more. With as many any further ones change no answer.
 MOST = {'ptpm_port_settings': 9, 'ptpm_observed_port': 9, 'ptpm_manager_settings': 17}
-# The arrays that a call reads, with the parameter that has their number. What it writes is `sent`, counted by what it writes elsewhere.
+# The arrays that a call reads, with the parameter that has their number.
 COUNTS = {'ports': 'port_count', 'managers': 'manager_count'}
+# The array that a call writes is `sent`. The parameter that ends so has its number; without one the answer is the number.
+WRITTEN = {'*taken': 'taken->count', '*count': '*count'}
 # Calls that judge an array of any size, which is their first parameter, with its number. What one answers is the greatest of what it
 # answers for each of the array alone: NOT_SETABLE or NOT_SUPPORTED, else WRONG_VALUE, else 0.
 FOR_EACH = ('ptpm_limits_say',)
@@ -58,7 +60,7 @@ class Header:
         if name in FOR_EACH:
             return self._call_for_each(answer, name, taken)
         before, given, after = [], [], []
-        written = 'taken->count' if any(parameter.endswith('*taken') for parameter in taken) else '*count'
+        written = next((count for end, count in WRITTEN.items() if any(parameter.endswith(end) for parameter in taken)), 'answer')
         for parameter in taken:
             for lines, more in zip((before, given, after), self._parameter(parameter, written)):
                 lines += more
