@@ -50,11 +50,13 @@ static int end_unanswered(struct run *run) {
 
 /* ---- what is noted and saved */
 
-/* Says at the first run how a clock knows this manager, if nobody named it. */
+/* Says at the first run how a clock knows this manager, if nobody named it: once, also for several clocks. */
 static void tell_first_run(const struct run *run) {
+    static bool is_told;
     char identity[IDENTITY_TEXT];
     complain("%s is new: the session begins at number %u", run->session.file->path, run->driver.handed.number);
-    if (run->task->has_manager || run->task->path != NULL) return;
+    if (is_told || run->task->has_manager || run->task->path != NULL) return;
+    is_told = true;
     write_identity(identity, run->task->settings.clock);
     complain("it asks as manager %s/%u, by the MAC of the interface: a ptpm-clock takes its changes with -m %s/%u", identity,
              run->task->settings.port, identity, run->task->settings.port);
