@@ -358,7 +358,7 @@ static int end_probe(struct plan *plan, const struct probe *probe, const struct 
     write_identity(clock, probe->request.settings.target);
     show_progress("%s: does it take SETs of this manager?", clock);
     int status = end_asked(probe->run);
-    if (status == ANSWERED && refusal != 0) add_refusal(plan, task, clock);
+    if (status == ANSWERED && refusal != 0) add_refusal(plan, task, clock), say_of_ptp4l(refusal);
     if (status == NOT_ANSWERED) complain("%s gave no answer: whether it takes SETs of this manager is not known", clock);
     return status;
 }

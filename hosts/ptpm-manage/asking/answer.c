@@ -230,13 +230,21 @@ static void print_own_answer(const struct task *task, const struct answer *answe
     else print_answer(stdout, task, "", answer);
 }
 
+void say_of_ptp4l(uint16_t error) {
+    static bool is_said;
+    if (error != NOT_SUPPORTED || is_said) return;
+    is_said = true;
+    complain("a ptp4l takes some changes at its Unix socket alone: with ptpm-clock --ptp4l beside it, it takes them over the network");
+}
+
 /* Without a file the port of the manager is another one in each run. */
 void say_right(const struct task *task, uint16_t error) {
     char identity[IDENTITY_TEXT], manager[IDENTITY_TEXT + 16] = "whoever gives no --manager";
     if (error != NOT_SUPPORTED) return;
     write_identity(identity, task->settings.clock);
     if (task->is_kept) snprintf(manager, sizeof manager, "manager %s/%u", identity, task->settings.port);
-    complain("the clock lacks that id, or takes no change of it from %s: a ptp4l takes some at its Unix socket alone", manager);
+    complain("the clock lacks that id, or takes no change of it from %s", manager);
+    say_of_ptp4l(error);
 }
 
 int print_report(const struct task *task, const struct answer *answer) {

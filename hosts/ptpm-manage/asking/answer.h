@@ -43,6 +43,9 @@ int print_report(const struct task *task, const struct answer *answer);
    error says nothing of the manager. */
 void say_right(const struct task *task, uint16_t error);
 
+/* Says once how a ptp4l takes changes over the network, if the error is NOT_SUPPORTED. */
+void say_of_ptp4l(uint16_t error);
+
 /* Prints how many requests there were, and messages of them. */
 void print_count(long requests, long sent);
 
