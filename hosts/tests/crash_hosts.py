@@ -159,7 +159,7 @@ class Batch:
             handled = other.handle(port, octets)
         if asked is not None and asked.action != GET:
             self.live.set(asked.action, asked.id, asked.port, asked.octets)
-        return handled
+        return dataclasses.replace(handled, answer=HandleAnswer.ANSWERED_UNNUMBERED) if octets[46] == GET else handled
 
     def observe(self, members, ports):
         kept = {Planted.OBSERVED_LIVE_ALONE: self.shown if self.is_unsaved() else None, Planted.COPY_IS_NOT_OBSERVED: self.copied}
@@ -187,7 +187,7 @@ class Batch:
         if is_all or self.copied is not None:
             self.show(self.copy() if is_all else self.copied)
             self.copied = None
-        return leaving
+        return ptpm.Saved(leaving, False)
 
 
 class Waiting(NamedTuple):
@@ -266,7 +266,7 @@ class ClockHost:
 
     def confirm(self, save):
         """What leaves once this image is saved."""
-        leaving = self.clock.saved(save.token)
+        leaving = self.clock.saved(save.token).messages
         self.shown = self.copied if self.is_unsaved else self.state
         self.save = None
         return leaving

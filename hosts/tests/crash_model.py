@@ -203,6 +203,7 @@ def carried_out(sets, request, rights):
 # ---- a clock
 
 OTHER_DOMAIN, NEW, REPEAT, OLD, CONFLICT = "OTHER_DOMAIN", "ANSWERED_NEW", "ANSWERED_REPEAT", "DROPPED_OLD", "DROPPED_CONFLICT"
+UNNUMBERED = "ANSWERED_UNNUMBERED"
 
 
 class ClockState(NamedTuple):

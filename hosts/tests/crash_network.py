@@ -6,7 +6,7 @@ from collections import Counter
 from typing import NamedTuple, Optional
 
 from crash_hosts import ATTEMPTS, ClockHost, SessionHost, Waiting, ptpm
-from crash_model import CLOCK_SET, GET, NEW, PORT_COMMAND, PORT_DATA_SET, PORT_SET, REPEAT, WHOLE_CLOCK, Answer, Asked, field_of
+from crash_model import CLOCK_SET, GET, NEW, PORT_COMMAND, PORT_DATA_SET, PORT_SET, REPEAT, UNNUMBERED, WHOLE_CLOCK, Answer, Asked, field_of
 
 READER = "reader"                               # an end of a link
 READER_IDENTITY = bytes([0x0A, 0x0B, 0x0C, 0xFF, 0xFE, 0x0D, 0x0E, 0x0F, 0, 1])
@@ -214,7 +214,8 @@ class World:
             return
         self.counts["requests of owners"] += 1
         host.owner_asked += 1
-        self.need(taken.answer.name == NEW, "the owner of clock", number, "is answered", taken.answer.name)
+        wanted = UNNUMBERED if request.action == GET else NEW
+        self.need(taken.answer.name == wanted, "the owner of clock", number, "is answered", taken.answer.name)
         after = host.state.after(asked, EVERY_RIGHT)
         if request.action != GET:
             host.go_on_as(after, was_unsaved)
