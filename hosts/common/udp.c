@@ -8,6 +8,7 @@
 #include <string.h>
 
 static struct in6_addr group_of_six = { .s6_addr = { 0xff, 0x0e, [14] = 0x01, 0x81 } };        /* ff0e::181 */
+static const uint32_t group_of_four = 0xe0000181;                                               /* 224.0.1.129 */
 
 void use_group(const struct in6_addr *other) { group_of_six = *other; }
 
@@ -20,7 +21,7 @@ static socklen_t group_at(struct sockaddr_storage *to, bool is_six, uint16_t por
     }
     struct sockaddr_in *four = (struct sockaddr_in *)to;
     *four = (struct sockaddr_in){
-        .sin_family = AF_INET, .sin_port = htons(port), .sin_addr.s_addr = htonl(0xe0000181),              /* 224.0.1.129 */
+        .sin_family = AF_INET, .sin_port = htons(port), .sin_addr.s_addr = htonl(group_of_four),
     };
     return sizeof *four;
 }
@@ -82,12 +83,12 @@ static bool stay_at(int socket, const char *interface, bool is_six, const char *
 }
 
 /* Joins the group at an interface, or leaves it; whether it is done. */
-static bool set_membership(int socket, const struct sockaddr_storage *to, unsigned interface, bool is_joined) {
-    if (to->ss_family == AF_INET6) {
-        const struct ipv6_mreq six = { .ipv6mr_multiaddr = ((const struct sockaddr_in6 *)to)->sin6_addr, .ipv6mr_interface = interface };
+static bool set_membership(int socket, bool is_six, unsigned interface, bool is_joined) {
+    if (is_six) {
+        const struct ipv6_mreq six = { .ipv6mr_multiaddr = group_of_six, .ipv6mr_interface = interface };
         return setsockopt(socket, IPPROTO_IPV6, is_joined ? IPV6_ADD_MEMBERSHIP : IPV6_DROP_MEMBERSHIP, &six, sizeof six) == 0;
     }
-    const struct ip_mreqn four = { .imr_multiaddr = ((const struct sockaddr_in *)to)->sin_addr, .imr_ifindex = (int)interface };
+    const struct ip_mreqn four = { .imr_multiaddr.s_addr = htonl(group_of_four), .imr_ifindex = (int)interface };
     return setsockopt(socket, IPPROTO_IP, is_joined ? IP_ADD_MEMBERSHIP : IP_DROP_MEMBERSHIP, &four, sizeof four) == 0;
 }
 
@@ -101,7 +102,7 @@ static bool join_group_at(int socket, const char *interface, bool is_six, uint16
     *what = port == EVENT_PORT ? "UDP port 319" : "UDP port 320";
     if (bind(socket, (const struct sockaddr *)&to, size)) return false;
     *what = is_six ? "IPV6_ADD_MEMBERSHIP" : "IP_ADD_MEMBERSHIP";
-    return set_membership(socket, &to, index_of(socket, interface), true);
+    return set_membership(socket, is_six, index_of(socket, interface), true);
 }
 
 static bool join_group(int socket, const char *interface, bool is_six, const char **what) {
@@ -144,8 +145,6 @@ const char *right_needed(bool is_ethernet) {
 }
 
 bool join_again(int socket, unsigned interface, bool is_six) {
-    struct sockaddr_storage to;
-    group(&to, is_six);
-    set_membership(socket, &to, interface, false);
-    return set_membership(socket, &to, interface, true);
+    set_membership(socket, is_six, interface, false);
+    return set_membership(socket, is_six, interface, true);
 }

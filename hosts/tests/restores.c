@@ -12,8 +12,8 @@
 #include <sys/mman.h>
 #include <unistd.h>
 
-enum { BASES = 64, MOST_MANAGERS = 16, MOST_PORTS = 8, ROOM = 32768, PAGE = 4096, REQUESTS = 40 };
-enum { KIND = 4, VERSION = 5, SIZE = 8, HEAD = 12, IDENTITY = 12 };
+enum { BASES = 64, MOST_MANAGERS = 16, MOST_PORTS = 8, ROOM = 32768, PAGE = 4096, REQUESTS = 40, NEW = 400 };
+enum { KIND = 4, VERSION = 5, SIZE = 8, HEAD = 12, IDENTITY = 12, MESSAGE = 16, WITH_CHANGE = 3 };
 
 /* A clock, its managers and its image. */
 struct base { size_t port_count, manager_count, size; struct ptpm_manager_settings managers[MOST_MANAGERS]; uint8_t *image; };
@@ -88,8 +88,22 @@ static void ask(struct ptpm_clock *clock, const struct base *base) {
     size_t count;
     if (base->manager_count == 0) return;
     const struct ptpm_manager_settings *manager = &base->managers[draw((uint32_t)base->manager_count)];
-    size_t size = draw_request(request, manager, (uint16_t)draw(400), base->port_count);
+    size_t size = draw_request(request, manager, (uint16_t)draw(NEW), base->port_count);
     ptpm_clock_handle(clock, 1, request, size, sent, PTPM_MOST_SENT, &count);
+}
+
+/* Has a clock keep a change as under way, if what is drawn is one: then its image is of another kind. */
+static void undertake(struct ptpm_clock *clock, const struct base *base) {
+    static uint8_t image[PTPM_CLOCK_IMAGE_OCTETS];
+    uint8_t request[256];
+    uint64_t token;
+    size_t size;
+    struct ptpm_question asked;
+    check(ptpm_clock_saving(clock, PTPM_MOST_SENT) == PTPM_SAVING && ptpm_clock_image_of(clock, image, sizeof image, &size, &token) == PTPM_SAVED
+          && ptpm_clock_saved(clock, token) == PTPM_SAVED, "a clock that saves");
+    if (base->manager_count == 0) return;
+    size = draw_request(request, base->managers, NEW, base->port_count);
+    ptpm_clock_undertake(clock, 1, request, size, &asked);
 }
 
 static void draw_base(struct base *base, size_t place) {
@@ -108,6 +122,7 @@ static void draw_base(struct base *base, size_t place) {
     }
     check(ptpm_clock_start(&clock, &settings, ports, base->port_count, base->managers, base->manager_count) == PTPM_STARTED, "a start");
     for (int i = 0; i < REQUESTS; i++) ask(&clock, base);
+    if (place % 2 == 1) undertake(&clock, base);
     check(ptpm_clock_image(&clock, image, sizeof image, &base->size) == PTPM_SAVED, "an image");
     base->image = malloc(base->size);
     if (base->image == NULL) exit(2);
@@ -144,12 +159,17 @@ static size_t damage(uint8_t *octets, size_t size) {
     return size;
 }
 
+/* The clock's identity in an image, which comes last in one with a change under way. */
+static const uint8_t *identity_in(const uint8_t *image) {
+    return image + IDENTITY + (image[KIND] == WITH_CHANGE ? MESSAGE + 256 * image[MESSAGE - 2] + image[MESSAGE - 1] : 0);
+}
+
 /* Whether that may be the answer: the first refusal that holds, of those that can be seen at the head. */
 static bool may_be(enum ptpm_restored answer, const uint8_t *image, size_t size) {
     if (size < HEAD || memcmp(image, "ptpm", 4) != 0) return answer == PTPM_NOT_AN_IMAGE;
     if (image[VERSION] != 1) return answer == PTPM_OTHER_VERSION;
-    if (image[KIND] != 1) return answer == PTPM_OTHER_KIND;
-    if (answer == PTPM_OTHER_CLOCK) return memcmp(image + IDENTITY, identity, 8) != 0;
+    if (image[KIND] != 1 && image[KIND] != WITH_CHANGE) return answer == PTPM_OTHER_KIND;
+    if (answer == PTPM_OTHER_CLOCK) return memcmp(identity_in(image), identity, 8) != 0;
     return answer == PTPM_DAMAGED || answer == PTPM_OTHER_PORTS || answer == PTPM_RESTORED;
 }
 
@@ -203,7 +223,12 @@ int main(int argc, char **argv) {
     struct ptpm_clock clock = { 0 };
     if (argc > 2) state = strtoull(argv[2], NULL, 10);
     lay_pages();
-    for (size_t i = 0; i < BASES; i++) draw_base(&bases[i], i);
+    size_t changes = 0;
+    for (size_t i = 0; i < BASES; i++) {
+        draw_base(&bases[i], i);
+        changes += bases[i].image[KIND] == WITH_CHANGE;
+    }
+    check(changes > 0, "images with a change under way");
     size_t before = mallinfo2().uordblks;
     for (long i = 0; i < count; i++) {
         const struct base *base = &bases[(size_t)i * BASES / (size_t)count];

@@ -58,6 +58,7 @@ static void buckets(void) {
 
 /* A GET of PRIORITY1 whose other members are 0 (13.3, 15.4). */
 #define GET_MESSAGE { 0x0d, 0x12, 0, MESSAGE, [49] = 1, [51] = 2 }
+#define SEED UINT64_C(0x1500000000000015)       /* the same in either order of octets, as a struct may have it */
 
 static void number_message(uint8_t *message, unsigned number) {
     message[30] = (uint8_t)(number >> 8);
@@ -119,7 +120,7 @@ static unsigned noted(struct ptpm_passed_on *table, uint8_t *message, unsigned c
 
 /* The table keeps a second's messages at the rates that there are, and passes on none that it can't note. */
 static void many_messages(void) {
-    static struct ptpm_passed_on table = { .seed = 1588 };
+    static struct ptpm_passed_on table = { .seed = SEED };
     uint8_t message[ERROR_STATUS] = GET_MESSAGE;
     unsigned first = noted(&table, message, 2000, NOW), again = noted(&table, message, 2000, NOW + 500);
     check(first >= 1990 && again == 0, "2,000 messages in a second, and each again");
@@ -130,7 +131,7 @@ static void many_messages(void) {
 
 /* The same by a table of the host's own. */
 static bool is_first_of(uint64_t (*places)[6], size_t count, const uint8_t message[MESSAGE], uint64_t now) {
-    return ptpm_passed_on_is_first_of(1588, places, count, message, MESSAGE, now, TIME);
+    return ptpm_passed_on_is_first_of(SEED, places, count, message, MESSAGE, now, TIME);
 }
 
 /* Sixteen messages have a place in the smallest. No message has one if the table is too small or too large. */
@@ -148,12 +149,12 @@ static void own_tables(void) {
     check(is_first_of(many, MOST, message, NOW), "the largest table");
     check(!is_first_of(many, MOST + 1, message, NOW + TIME) && !is_first_of(places, FEWEST - 1, message, NOW + 2 * TIME)
           && !is_first_of(places, 0, message, NOW + 2 * TIME), "no table of such a size");
-    check(!ptpm_passed_on_is_first_of(1588, places, FEWEST, message, 0, NOW + 2 * TIME, TIME), "no management message in such a table");
+    check(!ptpm_passed_on_is_first_of(SEED, places, FEWEST, message, 0, NOW + 2 * TIME, TIME), "no management message in such a table");
 }
 
 /* What a table of 4,096 places of the host's answers is what the library's own answers. */
 static void same_tables(void) {
-    static struct ptpm_passed_on table = { .seed = 1588 };
+    static struct ptpm_passed_on table = { .seed = SEED };
     static uint64_t places[PLACES][6];
     uint8_t message[ERROR_STATUS] = GET_MESSAGE;
     bool is_same = true;
