@@ -144,7 +144,8 @@ def files_in_the_way():
     os.rmdir(state), os.mkfifo(state)
     check("a pipe is refused", is_refused(2, f"{state}: it is no file", *WORDS))
     os.unlink(state)
-    for name, why in [(folder + "/", "no name of a file"), (folder + "/no/no/state", "No such file or directory"), ("/proc/state", "")]:
+    not_made = f"its folder can't be made: mkdir -p {folder}/no makes the one above it"
+    for name, why in [(folder + "/", "no name of a file"), (folder + "/no/no/state", not_made), ("/proc/state", "")]:
         fault = ".lock" if why == "" else ""
         check(f"{name} is refused", is_refused(2, f"{name}{fault}: {why}", "-s", name, *UNIX))
     inner = os.path.join(folder, "state")
