@@ -3,6 +3,7 @@
 
 counts ./units
 counts ./blocks
+counts ./flash
 counts tests/put
 check "dataFields come back from their text" "$(./fields > "$work/fields" && echo yes)"
 cat "$work/fields"
