@@ -1,9 +1,10 @@
-/* measure: what a datagram costs a host in C. `./measure LIST COUNT` starts a clock, lets it answer a GET of its manager, and hands
-   it the datagram of the list COUNT times at port 1. The lists `send`, `receive` and `ignore` are of a manager's session. In `send`
-   a GET is sent, with an attempt more before it. In `receive` one is begun, and its answer is heard. In `ignore` an answer under
-   an older number is heard. In `start` a clock of two ports is started and stopped. By the difference of two runs a counter of
-   instructions (callgrind) shows what one of them costs. Prints the list, the answer to the last call, and its messages and
-   their octets; for `start` only its name. Status 2 if the words are not understood, 1 if a clock or a session does not start. */
+/* measure: what a datagram costs a host in C. `./measure LIST COUNT [take]` starts a clock, and lets it answer a GET of its manager. Then it
+   hands it the datagram of the list COUNT times at port 1, by ptpm_clock_handle, or with `take` by ptpm_clock_take. The lists `send`,
+   `receive` and `ignore` are of a manager's session. In `send` a GET is sent, with an attempt more before it. In `receive` one is
+   begun, and its answer is heard. In `ignore` an answer under an older number is heard. In `start` a clock of two ports is started and
+   stopped. By the difference of two runs a counter of instructions (callgrind) shows what one of them costs. Prints the list, the
+   answer to the last call, and its messages and their octets; for `start` only its name. Status 2 if the words are not understood, 1 if
+   a clock or a session does not start. */
 #include "ptpm.h"
 #include <stdbool.h>
 #include <stdio.h>
@@ -59,6 +60,7 @@ static const uint8_t identity[8] = { 0xaa, 0xbb, 0xcc, 0xff, 0xfe, 0xdd, 0xee, 0
 static const uint8_t another[8] = { 0xaa, 0xbb, 0xcc, 0xff, 0xfe, 0xdd, 0xee, 0x02 };
 static const uint8_t every[8] = { 0xff, 0xff, 0xff, 0xff, 0xff, 0xff, 0xff, 0xff };
 static struct ptpm_sent sent[PTPM_MOST_SENT];
+static bool is_taken;                   /* by ptpm_clock_take */
 
 /* The number in two octets, the high one first. */
 static void put(uint8_t *octets, uint16_t number) {
@@ -103,6 +105,14 @@ static bool start(const struct list *list, struct ptpm_clock *clock) {
     return ptpm_clock_start(clock, &settings, ports, list->ports, managers, list->managers) == PTPM_STARTED;
 }
 
+static enum ptpm_handled take(struct ptpm_clock *clock, const uint8_t *octets, size_t size, size_t *messages) {
+    static const struct ptpm_say agrees;
+    static struct ptpm_taken taken;
+    enum ptpm_handled answer = ptpm_clock_take(clock, 1, octets, size, &agrees, 0, sent, PTPM_MOST_SENT, &taken);
+    *messages = taken.count;
+    return answer;
+}
+
 /* A GET under number 7, and then the datagram again and again, in two places that take turns. The answer to the last one. */
 static enum ptpm_handled repeat(struct ptpm_clock *clock, const struct list *list, unsigned long count, size_t *messages) {
     static uint8_t places[2][MOST];
@@ -116,7 +126,7 @@ static enum ptpm_handled repeat(struct ptpm_clock *clock, const struct list *lis
         uint8_t *octets = places[i % 2];
         number = (uint16_t)(number + list->step);
         put(octets + 30, number);
-        answer = ptpm_clock_handle(clock, 1, octets, size, sent, PTPM_MOST_SENT, messages);
+        answer = is_taken ? take(clock, octets, size, messages) : ptpm_clock_handle(clock, 1, octets, size, sent, PTPM_MOST_SENT, messages);
     }
     return answer;
 }
@@ -206,8 +216,10 @@ static bool is_asked(const char *word, const char *name) { return strcmp(word, n
 
 int main(int argc, char **argv) {
     char *end = "";
-    unsigned long count = argc == 3 ? strtoul(argv[2], &end, 10) : 0;
-    bool is_count = argc == 3 && argv[2][0] >= '0' && argv[2][0] <= '9' && *end == '\0', is_known = false;
+    is_taken = argc == 4 && strcmp(argv[3], "take") == 0;
+    bool has_count = argc == 3 || is_taken;
+    unsigned long count = has_count ? strtoul(argv[2], &end, 10) : 0;
+    bool is_count = has_count && argv[2][0] >= '0' && argv[2][0] <= '9' && *end == '\0', is_known = false;
     int status = 0;
     for (size_t i = 0; is_count && i < sizeof lists / sizeof *lists; i++) {
         if (!is_asked(argv[1], lists[i].name)) continue;
@@ -221,6 +233,6 @@ int main(int argc, char **argv) {
     }
     if (is_count && is_asked(argv[1], "start")) return status | start_each(count);
     if (is_known) return status;
-    fprintf(stderr, "usage: measure LIST|all COUNT\n");
+    fprintf(stderr, "usage: measure LIST|all COUNT [take]\n");
     return 2;
 }
