@@ -471,7 +471,7 @@ takes_back_so : (a : AskerValue) (file : Option SessionValue) (notes : List Note
 takes_back_so a file notes run due w under none =
     let b = taken_back a in
     let same = ap (λ n. number_of n a.session.issued) w.first in
-    goes_on_after (desk a.session file notes run) (TakesBack (setup_with a.settings (latest a))) due (saves b) (none, same)
+    goes_on_after (desk a.session file notes run) (TakesBack (setup_with a.settings (latest a))) due (saves b) (none, under.waiting, same)
     (saves_so b file notes run due
     (record { size = w.size; first = refl; unkept = w.unkept; known = w.known })
     (back_leaves_so file a.session b.session notes run under.has none refl refl same)

@@ -198,7 +198,7 @@ IsAllowed d LetsGo = SaysTold d.notes (latest_number d.live)
 IsAllowed d Returns = Unit {0}
 IsAllowed d (Starts setup domain) = d.file ≡ None
 IsAllowed d (Continues setup) = (is_waiting d.live ≡ false) × (setup.first ≡ next_number d.live)
-IsAllowed d (TakesBack setup) = HasNoneOut d.run × (setup.first ≡ latest_number d.live)
+IsAllowed d (TakesBack setup) = HasNoneOut d.run × (is_waiting d.live ≡ true) × (setup.first ≡ latest_number d.live)
 IsAllowed d Crashes = Unit {0}
 
 -- each of these moves is allowed in its turn
