@@ -44,7 +44,7 @@ at-room (Some reason) x = refl
 at-room None (Ok h) = refl
 at-room None (Err reason) = refl
 
-no-more : (o : Option Refusal) → option_or o None ≡ o
+pub no-more : (o : Option Refusal) → option_or o None ≡ o
 no-more None = refl
 no-more (Some reason) = refl
 
@@ -241,7 +241,7 @@ module _ (N : Network) (k : RestartingNetwork) (calm : IsCalm k) where
 
 -- ---- a session that is started again
 
-not-refused : (o : Option Refusal) (x : Result Happened Refusal) → o ≡ None → result_err (unless_refused o x) ≡ result_err x
+pub not-refused : (o : Option Refusal) (x : Result Happened Refusal) → o ≡ None → result_err (unless_refused o x) ≡ result_err x
 not-refused None x e = refl
 not-refused (Some reason) x e = absurd (cc)
 

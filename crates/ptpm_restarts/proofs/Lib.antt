@@ -16,3 +16,5 @@ pub mod ActRuns
 pub mod HostsLowering
 pub mod LoweringBeside
 pub mod Batching
+pub mod DeskSessions
+pub mod DeskMoves

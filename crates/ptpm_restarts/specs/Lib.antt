@@ -6,3 +6,4 @@ pub mod GoingOn
 pub mod ActsAsIfNever
 pub mod HostsLowering
 pub mod Batching
+pub mod DeskIncidents

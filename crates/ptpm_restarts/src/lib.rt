@@ -3,10 +3,12 @@
 //! machine of `ptpm_network`.
 #![tactic(auto)]
 
+mod desks;
 mod going_on;
 mod lowering;
 mod restarts;
 
+pub use desks::allowed_saves_in_time;
 pub use going_on::{
     answer_shows_latest, answered_after_restarts, saved_at_once, started_again,
     undone_before_the_save,
