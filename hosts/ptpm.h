@@ -659,7 +659,8 @@ __extension__ enum PTPM_FOUR_OCTETS(ptpm_set_here) {
     PTPM_SET_NO_CLOCK = PTPM_NO_CLOCK,
     PTPM_SET_NO_PORT = PTPM_NO_PORT,    /* it is neither a port of the clock nor 0xFFFF */
     PTPM_SET_NOT_PERMITTED = 40,        /* the action is neither PTPM_SET nor PTPM_COMMAND */
-    PTPM_SET_BAD_VALUE = 41             /* the dataField has an odd number of octets, or over 1,418 */
+    PTPM_SET_BAD_VALUE = 41,            /* the dataField has an odd number of octets, or over 1,418 */
+    PTPM_SET_UNDER_WAY = PTPM_UNDER_WAY /* it is a SET of DOMAIN, and a change is under way */
 };
 
 /* ptpm_clock_observe. */
@@ -1001,8 +1002,9 @@ enum ptpm_handled ptpm_clock_take(struct ptpm_clock *clock, uint16_t port, const
    (ptpm_clock_saving). If ptpm_clock_ask, by the clock as it is, would return PTPM_ASKED_CHANGE, the change is under way, and in each
    image from now on. Then the clock is unsaved. The host saves it, ptpm_clock_saved returns PTPM_ACT_NOW once, and the host asks its
    device. ptpm_clock_decide then says what the device did. After a restart the host only looks whether its device has the change.
-   While it is under way, ptpm_clock_take returns PTPM_UNDER_WAY for two kinds of datagrams, except those of the owner. The first is
-   what the same manager asks of only this clock. The second is any for which ptpm_clock_ask would return PTPM_ASKED_CHANGE.
+   While it is under way, ptpm_clock_take returns PTPM_UNDER_WAY for what the same manager asks of only this clock. So it does for any
+   datagram for which ptpm_clock_ask would return PTPM_ASKED_CHANGE. Of the owner's it does so only for a SET of DOMAIN, and so does
+   ptpm_clock_set: in another domain the change would get no answer.
    Takes:   what ptpm_clock_ask takes.
    Returns: PTPM_ASKED_CHANGE. PTPM_ASKED_VALUE and PTPM_ASKED_NOTHING as ptpm_clock_ask does, and nothing is kept. Or why not, the
             first of these: PTPM_NO_CLOCK, also for a clock that does not save, PTPM_NO_PORT, PTPM_UNSAVED and PTPM_UNDER_WAY. It
@@ -1025,7 +1027,7 @@ enum ptpm_asking ptpm_clock_under_way(const struct ptpm_clock *clock, struct ptp
             a clock that does not save, PTPM_NOTHING_UNDER_WAY, PTPM_NO_ROOM, PTPM_BAD_SAY, and PTPM_UNSAVED as at ptpm_clock_take.
    Writes:  what ptpm_clock_take writes.
    Caller:  after PTPM_UNSAVED takes the messages that were released or saves the clock, and calls it again. If the device has the change
-            and the answer is not PTPM_ANSWERED_NEW, it takes that back: another change of the clock came in between. */
+            and the answer is not PTPM_ANSWERED_NEW, it takes that back: the restore was not given that manager. */
 enum ptpm_handled ptpm_clock_decide(struct ptpm_clock *clock, const struct ptpm_say *say, struct ptpm_sent *sent, size_t room,
                                     struct ptpm_taken *taken);
 

@@ -218,19 +218,13 @@ static bool is_asked(const struct heard *held, struct ptpm_question *asked) {
     return ptpm_clock_ask(&clock_held, ingress_of(held), held->octets, held->size, asked) == PTPM_ASKED_CHANGE;
 }
 
-/* In another domain what is under way would get no answer, whatever the device did. */
-static bool moves_domain(const struct heard *heard) {
-    if (heard->size < LEAST_MESSAGE || (heard->octets[ACTION_AT] & LOWER_HALF) != PTPM_SET) return false;
-    return (heard->octets[ID_AT] << 8 | heard->octets[ID_AT + 1]) == PTPM_ID_DOMAIN;
-}
-
 /* A manager's request. The device is asked about a change, which waits if its program is to be asked. Nothing else of its manager
    is taken then, so that no later request overtakes it. While another change is under way the clock takes none. How many messages were
    not taken. */
 static unsigned long take_request(struct heard *held) {
     struct ptpm_question asked;
-    if (held->is_of_owner && !(moves_domain(held) && is_under_way())) return take_turn(held, NULL);
-    if (held->is_of_owner || (has_device && is_passed_over(held))) return 0;
+    if (held->is_of_owner) return take_turn(held, NULL);
+    if (has_device && is_passed_over(held)) return 0;
     if (!has_device || !is_asked(held, &asked)) return take_turn(held, NULL);
     const struct ptpm_say *objection = objection_of_limits(&asked);
     if (!has_program() || (objection != NULL && !is_under_way())) return take_turn(held, objection);

@@ -65,7 +65,7 @@ refusals! {
     /// Why a device is not asked (`enum ptpm_asking`).
     QuestionError { NoClock NoPort Unsaved UnderWay }
     /// Why nothing is set at the device itself (`enum ptpm_set_here`).
-    SetError { NoClock NoPort NotPermitted BadValue }
+    SetError { NoClock NoPort NotPermitted BadValue UnderWay }
     /// Why nothing is observed (`enum ptpm_observed`).
     ObserveError { NoClock NoPort GrandmasterDiffers BadClockAccuracy BadLeap59 BadState }
     /// Why nothing is read (`enum ptpm_read`).

@@ -139,7 +139,7 @@ pub const PTPM_ASKED_VALUE: u32 = 30; pub const PTPM_ASKING_NO_CLOCK: u32 = 32; 
 pub const PTPM_ASKING_UNSAVED: u32 = 118; pub const PTPM_ASKING_UNDER_WAY: u32 = 123;
 pub type ptpm_set_here = u32; pub const PTPM_SET_HERE: u32 = 0; pub const PTPM_SET_REFUSED: u32 = 26;
 pub const PTPM_SET_NO_CLOCK: u32 = 32; pub const PTPM_SET_NO_PORT: u32 = 33; pub const PTPM_SET_NOT_PERMITTED: u32 = 40;
-pub const PTPM_SET_BAD_VALUE: u32 = 41;
+pub const PTPM_SET_BAD_VALUE: u32 = 41; pub const PTPM_SET_UNDER_WAY: u32 = 123;
 pub type ptpm_observed = u32; pub const PTPM_OBSERVED: u32 = 0; pub const PTPM_OBSERVE_NO_CLOCK: u32 = 32;
 pub const PTPM_OBSERVE_NO_PORT: u32 = 33; pub const PTPM_OBSERVE_GRANDMASTER_DIFFERS: u32 = 50;
 pub const PTPM_OBSERVE_BAD_CLOCK_ACCURACY: u32 = 70; pub const PTPM_OBSERVE_BAD_LEAP59: u32 = 88;

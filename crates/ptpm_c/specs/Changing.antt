@@ -19,12 +19,13 @@ abbrev pub error_in : ChangeRefusal → ℕ
 error_in refusals.NoPort = 0
 error_in refusals.NotPermitted = 0
 error_in refusals.BadValue = 0
+error_in refusals.UnderWay = 0
 error_in (refusals.Refused error) = error_number error
 
 -- it is carried out, and these members of the clock have another value then
 abbrev pub ChangesHere : HostedClock → RequestValue → ℕ → ℕ → ChangedMembers → Option HostedClock → Type 0
 ChangesHere c q number error members left =
-    change_refusal q c.agent.sets ≡ None
+    change_refusal q c ≡ None
     → (number ≡ 0)
     × ((error ≡ 0)
     × IsSomeAnd left (λ d. IsChangedHere q c d × (members ≡ changed c.agent.sets d.agent.sets)))
@@ -32,7 +33,7 @@ ChangesHere c q number error members left =
 -- the same of a clock that is saved while it takes datagrams, which is unsaved then
 abbrev pub ChangesUnsaved : SavingClock → RequestValue → ℕ → ℕ → ChangedMembers → Option SavingClock → Type 0
 ChangesUnsaved w q number error members left =
-    change_refusal q w.clock.value.agent.sets ≡ None
+    change_refusal q w.clock.value ≡ None
     → (number ≡ 0)
     × ((error ≡ 0)
     × IsSomeAnd left

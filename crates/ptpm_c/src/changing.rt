@@ -34,7 +34,7 @@ pub extern "C" fn ptpm_clock_set(
         (clock_held handle.new.keeping) }
     ensures refused { (c : HostedClock)
         → clock_held handle.old.keeping ≡ Some c
-        → RefusesHere (change_refusal (request_here action id port octets.now) c.agent.sets) result
+        → RefusesHere (change_refusal (request_here action id port octets.now) c) result
         error.new members.new c (clock_held handle.new.keeping) }
     ensures saving { (w : SavingClock)
         → saving_clock_held handle.old.keeping ≡ Some w
@@ -43,7 +43,7 @@ pub extern "C" fn ptpm_clock_set(
     ensures saving_refused { (w : SavingClock)
         → saving_clock_held handle.old.keeping ≡ Some w
         → RefusesHere
-        (change_refusal (request_here action id port octets.now) w.clock.value.agent.sets) result
+        (change_refusal (request_here action id port octets.now) w.clock.value) result
         error.new members.new w (saving_clock_held handle.new.keeping) }
     ensures empty { any_clock_held handle.old.keeping ≡ None
         → (result ≡ no_clock)

@@ -1,8 +1,10 @@
 -- A change at the device itself, as a host asks for it.
-use Rattle.std.specs.Prelude.{◌≡◌, ◌==◌, ◌||◌, ℕ, Bool, not, List, [], ◌∷◌, Option, Some, None, if◌then◌else◌}
+use Rattle.std.specs.Prelude.{◌≡◌, ◌==◌, ◌||◌, ◌&&◌, ℕ, Bool, true, false, is_some, not, List, [], ◌∷◌, Option, Some, None, if◌then◌else◌}
 use Rattle.std.specs.FinMap.{empty}
 use Rattle.std.specs.Option.{option_map, option_or}
 use Rattle.ptpm_codec.specs.declared.identity.PortIdentity.{PortIdentity}
+use Rattle.ptpm_codec.specs.declared.message.Action.{Action}
+use Rattle.ptpm_codec.specs.declared.message.Action.TheVariants as actions
 use Rattle.ptpm_codec.specs.declared.message.Message.{Message}
 use Rattle.ptpm_codec.specs.Message.{action_of, is_data_field}
 use Rattle.ptpm_codec.specs.Ordered.{first_of}
@@ -15,6 +17,7 @@ use Rattle.ptpm_table.specs.Entries.{Entries}
 use Rattle.ptpm_table.specs.Managers.{clock_with}
 use Rattle.ptpm_agent.specs.declared.verdict.Verdict.{Verdict}
 use Rattle.ptpm_agent.specs.declared.verdict.Verdict.TheVariants as verdicts
+use Rattle.ptpm_agent.specs.Addressing.{request_of}
 use Rattle.ptpm_agent.specs.Turn.{Clock, State, Turned, turn}
 use Rattle.ptpm_device.specs.Asking.{is_change}
 use Rattle.ptpm_device.specs.Changing.{changed_state}
@@ -32,17 +35,30 @@ request_here action id port octets = record { action = asked_action action; id =
 abbrev pub is_target : ℕ → DataSetsValue → Bool
 is_target port d = port == 65535 || has_port port d
 
--- Why it is no change at all. A GET changes nothing, so it is none.
-abbrev pub form_refusal : RequestValue → DataSetsValue → Option ChangeRefusal
-form_refusal q d = first_of (
-    (not (is_target q.port d), refusals.NoPort)
+abbrev pub is_set : Action → Bool
+is_set actions.Set = true
+is_set _ = false
+
+-- A SET of DOMAIN (15.5.2.3). What is under way would get no answer in another domain, so the owner moves none meanwhile.
+abbrev pub moves_domain : RequestValue → Bool
+moves_domain q = is_set q.action && q.id == 0x2007
+
+abbrev pub moves_domain_in : Option Message → Bool
+moves_domain_in None = false
+moves_domain_in (Some v) = moves_domain (request_of v)
+
+-- Why it is no change now. A GET changes nothing, so it is none.
+abbrev pub form_refusal : RequestValue → HostedClock → Option ChangeRefusal
+form_refusal q c = first_of (
+    (not (is_target q.port c.agent.sets), refusals.NoPort)
     ∷ (not (is_change q.action), refusals.NotPermitted)
     ∷ (not (is_data_field q.octets), refusals.BadValue)
+    ∷ (is_some c.under_way && moves_domain q, refusals.UnderWay)
     ∷ [])
 
 -- why it is not carried out
-abbrev pub change_refusal : RequestValue → DataSetsValue → Option ChangeRefusal
-change_refusal q d = option_or (form_refusal q d) (option_map (λ error. refusals.Refused error) (refusal_of q all_rights))
+abbrev pub change_refusal : RequestValue → HostedClock → Option ChangeRefusal
+change_refusal q c = option_or (form_refusal q c) (option_map (λ error. refusals.Refused error) (refusal_of q all_rights))
 
 -- the data sets are those after it, and what is kept of each manager is as it was
 pub record IsChangedHere (q : RequestValue) (before after : HostedClock) : Type 0 where

@@ -201,6 +201,7 @@ abbrev pub change_number : ChangeRefusal → ℕ
 change_number changes.NoPort = 33
 change_number changes.NotPermitted = 40
 change_number changes.BadValue = 41
+change_number changes.UnderWay = under_way
 change_number (changes.Refused error) = 26
 
 -- why a clock or a session does not count as saved

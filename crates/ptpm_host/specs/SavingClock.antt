@@ -26,6 +26,7 @@ use Rattle.ptpm_host.specs.declared.saving_clock.Acting.{Acting}
 use Rattle.ptpm_host.specs.declared.saving_clock.Acting.TheVariants as actings
 use Rattle.ptpm_host.specs.declared.saving_clock.SavingClock.{SavingClock}
 use Rattle.ptpm_host.specs.declared.under_way.UnderWay.{UnderWay}
+use Rattle.ptpm_host.specs.Changing.{moves_domain_in}
 use Rattle.ptpm_host.specs.Clock.{clock_in, messages_in, state_in}
 use Rattle.ptpm_host.specs.Coming.{ClockBatch, ClockState, Coming, coming_process, is_held_by}
 use Rattle.ptpm_host.specs.Device.{said_refusal}
@@ -139,12 +140,13 @@ abbrev pub is_of_its_source : List ℕ → Option Datagram → Bool
 is_of_its_source datagram None = false
 is_of_its_source datagram (Some x) = is_of_one_source (message_of datagram) (message_of x.1)
 
--- it is of the same manager for this clock alone, or another change
-abbrev pub is_behind : SavingClock → ℕ → List ℕ → Bool
-is_behind c port datagram =
+-- it is of the same manager for this clock alone, or another change; of the owner, a SET of DOMAIN
+abbrev pub is_behind : SavingClock → ℕ → List ℕ → Bool → Bool
+is_behind c port datagram of_owner =
     is_some c.clock.value.under_way
-    && (is_of_its_source datagram (request_under_way c.clock.value.under_way) && is_of_manager (clock_in c.clock.value) (port, datagram)
-    || is_some (asked (clock_in c.clock.value) (state_in c.clock.value) datagram))
+    && (if of_owner then moves_domain_in (message_of datagram)
+    else (is_of_its_source datagram (request_under_way c.clock.value.under_way) && is_of_manager (clock_in c.clock.value) (port, datagram)
+    || is_some (asked (clock_in c.clock.value) (state_in c.clock.value) datagram)))
 
 -- ---- why it takes nothing
 
@@ -165,7 +167,7 @@ is_full c for_live =
 abbrev pub take_refusal : SavingClock → ℕ → List ℕ → Say → Bool → ℕ → Option TakeRefusal
 take_refusal c port datagram say of_owner room =
     take_refusal_by (said_refusal (has_port port c.clock.value.agent.sets) (most_sent (state_in c.clock.value)) room say)
-    (not of_owner && is_behind c port datagram)
+    (is_behind c port datagram of_owner)
     (is_full c (is_for_live c port datagram of_owner))
 
 -- ---- why no change is under way, or what is is not decided

@@ -204,7 +204,7 @@ pub fn decide_number(refusal: DecideRefusal) -> u32
     }
 }
 
-/// Why a change at the device itself is not carried out, 26, 33, 40 or 41.
+/// Why a change at the device itself is not carried out, 26, 33, 40, 41 or 123.
 pub fn change_number(refusal: ChangeRefusal) -> u32
     ensures number { result ≡ change_number refusal }
     ensures some { 1 ≤ result }
@@ -213,6 +213,7 @@ pub fn change_number(refusal: ChangeRefusal) -> u32
         ChangeRefusal::NoPort => 33,
         ChangeRefusal::NotPermitted => 40,
         ChangeRefusal::BadValue => 41,
+        ChangeRefusal::UnderWay => UNDER_WAY,
         ChangeRefusal::Refused(_) => 26,
     }
 }

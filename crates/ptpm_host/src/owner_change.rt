@@ -4,11 +4,12 @@ ghost use Rattle.std.specs.Prelude.{◌≡◌, ◌≤◌, All, IfOk, MatchResult
 ghost use Rattle.std.specs.List.{AllZip};
 ghost use Rattle.ptpm_codec.specs.declared.message.Message.{Message};
 ghost use Rattle.ptpm_codec.specs.Message.{action_of};
+ghost use Rattle.ptpm_codec.specs.Reading.{message_of};
 ghost use Rattle.ptpm_data.specs.Changed.{changed};
 ghost use Rattle.ptpm_data.specs.Members.{HasPort};
 ghost use Rattle.ptpm_agent.specs.Agent.{IsTurned, clock_of, state_of};
 ghost use Rattle.ptpm_agent.specs.Turn.{outbox_of, turn};
-ghost use Rattle.ptpm_host.specs.Changing.{IsChangedHere, change_refusal, is_target, owner_turn, owner_verdict, request_here};
+ghost use Rattle.ptpm_host.specs.Changing.{IsChangedHere, change_refusal, is_target, moves_domain, moves_domain_in, owner_turn, owner_verdict, request_here};
 ghost use Rattle.ptpm_host.specs.Clock.{IsWhole, KeepsBehind, clock_in, messages_in, state_in};
 ghost use Rattle.ptpm_host.specs.MostSent.{most_sent};
 
@@ -22,6 +23,9 @@ use ptpm_codec::{Action, PortIdentity, is_data_field, view};
 use ptpm_data::{ChangedMembers, DataSets, Request, Rights};
 use ptpm_device::{change_here, is_change};
 use ptpm_table::{Outgoing, ReplyTable, SlotTable};
+
+/// The managementId of the clock's domainNumber (15.5.2.3).
+const DOMAIN: u16 = 0x2007;
 
 impl HostedClock {
     /// Carries out a SET or a COMMAND of the device's owner, as one of a manager with every right. Answers which members have
@@ -41,9 +45,8 @@ impl HostedClock {
         ensures table { self.new.agent.table ≡ self.old.agent.table }
         ensures under_way { self.new.under_way ≡ self.old.under_way }
         ensures refusal { MatchResult result
-            (λ _. change_refusal (request_here action id port octets.now) self.old.agent.sets ≡ None)
-            (λ e. change_refusal (request_here action id port octets.now) self.old.agent.sets
-            ≡ Some e) }
+            (λ _. change_refusal (request_here action id port octets.now) self.old ≡ None)
+            (λ e. change_refusal (request_here action id port octets.now) self.old ≡ Some e) }
         ensures unchanged { OnErr result (self.new ≡ self.old) }
     {
         let action = asked_action(action);
@@ -62,6 +65,9 @@ impl HostedClock {
             port,
             octets,
         };
+        if self.under_way.is_some() && moves_domain(&request) {
+            return Err(ChangeRefusal::UnderWay);
+        }
         let before = self.agent.sets().copy();
         match change_here(&mut self.agent, &request) {
             Ok(()) => Ok(self.agent.sets().changed_since(&before)),
@@ -147,6 +153,23 @@ fn owner_verdict(verdict: Verdict, action: Action) -> Verdict
         return Verdict::AnsweredUnnumbered;
     }
     verdict
+}
+
+/// Whether it is a SET of DOMAIN.
+fn moves_domain(request: &Request<'_>) -> bool
+    ensures { result ≡ moves_domain request.now }
+{
+    request.action == Action::Set && request.id == DOMAIN
+}
+
+/// Whether a datagram asks for one.
+pub(crate) fn asks_to_move(datagram: &[u8]) -> bool
+    ensures { result ≡ moves_domain_in (message_of datagram.now) }
+{
+    let Ok(message) = view(datagram) else {
+        return false;
+    };
+    message.action() == Action::Set && message.id() == DOMAIN
 }
 
 /// Whether a target's portNumber means every port, or one of these data sets.

@@ -57,6 +57,8 @@ pub enum ChangeRefusal {
     NotPermitted,
     /// Its dataField has an odd number of octets, or over 1,418.
     BadValue,
+    /// It is a SET of DOMAIN, and a change is under way.
+    UnderWay,
     /// A manager with every right would be refused with this error.
     Refused(ErrorId),
 }
@@ -65,7 +67,7 @@ pub enum ChangeRefusal {
 #[derive(Clone, Copy, Debug, PartialEq, Eq)]
 pub enum TakeRefusal {
     Said(SaidRefusal),
-    /// A change is under way. It is of the same manager, or this would be another one.
+    /// A change is under way. It is of the same manager, this would be another one, or the owner would move the domain.
     UnderWay,
     /// It was never saved, or messages that were released were not taken out, or there are too few free places for those
     /// that may wait.

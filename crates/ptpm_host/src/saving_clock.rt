@@ -6,6 +6,7 @@ ghost use Rattle.ptpm_host.specs.Queue.{queued};
 use crate::clock::{Handled, HostedClock};
 use crate::device::{Asking, Question, Said, Say};
 use crate::observing::{ObservedClock, ObservedPort, port_observations};
+use crate::owner_change::asks_to_move;
 use crate::queue::Queue;
 use crate::refusal::{
     ChangeRefusal, DecideRefusal, HandleRefusal, SavedRefusal, SavingRefusal, TakeRefusal,
@@ -268,7 +269,7 @@ impl SavingClock {
             Ok(said) => said,
             Err(refusal) => return Err(TakeRefusal::Said(refusal)),
         };
-        if !of_owner && self.is_behind(port, datagram) {
+        if self.is_behind(port, datagram, of_owner) {
             return Err(TakeRefusal::UnderWay);
         }
         let is_for_live = self.is_for_live(port, datagram, of_owner);
@@ -285,14 +286,17 @@ impl SavingClock {
         }
     }
 
-    /// Whether a datagram of a manager comes after what is under way: it is of the same manager for this clock alone, or another
-    /// change.
-    fn is_behind(&self, port: u16, datagram: &[u8]) -> bool
-        ensures { result ≡ is_behind self.now port datagram.now }
+    /// Whether a datagram comes after what is under way: it is of the same manager for this clock alone, or another change. Of those
+    /// of the owner it is a SET of DOMAIN, so what is under way is decided in the domain that it came in.
+    fn is_behind(&self, port: u16, datagram: &[u8], of_owner: bool) -> bool
+        ensures { result ≡ is_behind self.now port datagram.now of_owner }
     {
         let Some(under_way) = &self.clock.under_way else {
             return false;
         };
+        if of_owner {
+            return asks_to_move(datagram);
+        }
         under_way.is_of_source(datagram) && self.is_of_manager(port, datagram)
             || self.clock.asks_change(datagram)
     }
@@ -660,12 +664,10 @@ impl SavingClock {
         ensures begun { self.new.is_begun ≡ self.old.is_begun }
         ensures refusal { MatchResult result
             (λ _.
-            change_refusal (request_here action id port octets.now)
-            self.old.clock.value.agent.sets
+            change_refusal (request_here action id port octets.now) self.old.clock.value
             ≡ None)
             (λ e.
-            change_refusal (request_here action id port octets.now)
-            self.old.clock.value.agent.sets
+            change_refusal (request_here action id port octets.now) self.old.clock.value
             ≡ Some e) }
         ensures unchanged { OnErr result (self.new ≡ self.old) }
     {
