@@ -14,7 +14,7 @@
 #include <time.h>
 #include <unistd.h>
 
-enum { PORTS = 2, NOTED = 1000, RATE = 100 };   /* milliseconds in which a message is forwarded once, and messages a second */
+enum { PORTS = 2, PLACES = 2 * PORTS - 1, NOTED = 1000, RATE = 100 };   /* milliseconds in which a message is forwarded once, and messages a second */
 
 static const uint8_t identity[8] = { 0xaa, 0xbb, 0xcc, 0xff, 0xfe, 0xdd, 0xee, 0x01 };
 static const struct ptpm_manager_settings manager = {
@@ -22,7 +22,7 @@ static const struct ptpm_manager_settings manager = {
 };
 static __attribute__((aligned(16))) unsigned char block[PTPM_CLOCK_MEMORY_OF(1)];
 static struct ptpm_clock device;                /* all zeros: no clock is held yet */
-static struct ptpm_sent sent[PTPM_MOST_SENT];
+static struct ptpm_sent sent[PLACES];
 static struct ptpm_passed_on passed_on;         /* what was forwarded last */
 static struct ptpm_rate rates[PORTS];           /* what each port still forwards */
 static uint8_t datagram[65536];
@@ -90,7 +90,7 @@ static void come_in(int port) {
     size_t count;
     ssize_t size = recv(sockets[port - 1].fd, datagram, sizeof datagram, MSG_DONTWAIT);
     if (size < 0) return;
-    ptpm_clock_handle(&device, (uint16_t)port, datagram, (size_t)size, sent, PTPM_MOST_SENT, &count);
+    ptpm_clock_handle(&device, (uint16_t)port, datagram, (size_t)size, sent, PLACES, &count);
     send_messages(port, (size_t)size, count);
 }
 

@@ -9,7 +9,7 @@ static const uint8_t datagram[54] = {           /* from 0011223344556677/1 to ev
     0x0d, 0x12, 0, 54, 0, 0, 0, 0, 0, 0, 0, 0, 0, 0, 0, 0, 0, 0, 0, 0, 0x00, 0x11, 0x22, 0x33, 0x44, 0x55, 0x66, 0x77, 0, 1, 0, 7, 4, 0x7f,
     0xaa, 0xbb, 0xcc, 0xff, 0xfe, 0xdd, 0xee, 0x01, 0xff, 0xff, 1, 1, 0, 0, 0, 1, 0, 2, 0x20, 0x05,
 };
-static struct ptpm_sent sent[PTPM_MOST_SENT];   /* large, so it is in no frame */
+static struct ptpm_sent sent[1];                /* as many messages as a clock of one port sends at most */
 
 int main(void) {
     static struct ptpm_clock clock;             /* all zeros: it holds no clock yet */
@@ -21,7 +21,7 @@ int main(void) {
     memcpy(settings.identity, identity, sizeof identity);
     ptpm_port_defaults(&port);
     if (ptpm_clock_start(&clock, &settings, &port, 1, &manager, 1) != PTPM_STARTED) return 1;
-    enum ptpm_handled answer = ptpm_clock_handle(&clock, 1, datagram, sizeof datagram, sent, PTPM_MOST_SENT, &count);
+    enum ptpm_handled answer = ptpm_clock_handle(&clock, 1, datagram, sizeof datagram, sent, 1, &count);
     if (ptpm_is_refusal(answer)) return 1;                      /* a mistake of this host */
     for (size_t i = 0; i < count; i++) {
         printf("%u ", (unsigned)sent[i].port);

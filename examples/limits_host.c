@@ -16,7 +16,7 @@ static uint8_t datagram[56] = {                 /* from this manager to port 1 o
 };
 static struct ptpm_clock device;                /* all zeros: no clock is held yet */
 static struct ptpm_limit limits[1];
-static struct ptpm_sent sent[PTPM_MOST_SENT];
+static struct ptpm_sent sent[1];
 static bool is_hardware_broken;
 
 static bool write_to_hardware(const struct ptpm_question *asked) {
@@ -49,7 +49,7 @@ static void come_in(uint8_t number, int8_t value) {
     datagram[NUMBER_AT] = number;
     datagram[VALUE_AT] = (uint8_t)value;
     struct ptpm_say say = say_of_device();
-    enum ptpm_handled answer = ptpm_clock_take(&device, 1, datagram, sizeof datagram, &say, 0, sent, PTPM_MOST_SENT, &taken);
+    enum ptpm_handled answer = ptpm_clock_take(&device, 1, datagram, sizeof datagram, &say, 0, sent, 1, &taken);
     printf("%u, logSyncInterval %d:", (unsigned)number, value);
     print_name(ptpm_answer_name, answer);
     if (taken.count > 0 && sent[0].octets[TLV_TYPE_AT] == ERROR_STATUS) {

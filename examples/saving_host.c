@@ -21,7 +21,7 @@ static const uint8_t get[54] = {                /* from a clock that is no manag
     0xaa, 0xbb, 0xcc, 0xff, 0xfe, 0xdd, 0xee, 0x01, 0xff, 0xff, 1, 1, 0, 0, 0, 1, 0, 2, 0x20, 0x05,
 };
 enum { MOST_WAITING = 4 };                      /* a clock of one port makes one message of a datagram */
-static struct ptpm_sent sent[PTPM_MOST_SENT];
+static struct ptpm_sent sent[1];
 static struct ptpm_clock device;                /* all zeros: no clock is held yet */
 static uint8_t image[PTPM_CLOCK_IMAGE_OCTETS + PTPM_SEAL_OCTETS];
 static uint64_t saves;
@@ -83,7 +83,7 @@ static void come_in(const uint8_t *datagram, size_t size) {
     static const struct ptpm_say agrees = { 0, 0, PTPM_AGREES, { 0 } };
     struct ptpm_taken taken;
     char name[PTPM_MOST_NAME];
-    enum ptpm_handled answer = ptpm_clock_take(&device, 1, datagram, size, &agrees, 0, sent, PTPM_MOST_SENT, &taken);
+    enum ptpm_handled answer = ptpm_clock_take(&device, 1, datagram, size, &agrees, 0, sent, 1, &taken);
     printf("%.*s\n", (int)ptpm_answer_name(answer, name, sizeof name), name);
     for (size_t i = 0; i < taken.count; i++) send_out(&sent[i]);
 }

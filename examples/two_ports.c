@@ -11,7 +11,7 @@
 #include <sys/socket.h>
 #include <time.h>
 
-enum { PORTS = 2, TICK = 125 };                             /* milliseconds between two observations */
+enum { PORTS = 2, PLACES = 2 * PORTS - 1, TICK = 125 };     /* milliseconds between two observations */
 enum { NOTED = 1000, RATE = 100 };                          /* milliseconds in which a message is forwarded once, and messages a second */
 
 /* What the servo, the states of the ports and the best master found since, over zeros. */
@@ -22,7 +22,7 @@ void take_precedence(uint8_t priority1, uint8_t priority2); /* into its Announce
 void tell_operator(uint32_t answer);                        /* its name is that of ptpm_answer_name */
 
 static struct ptpm_clock device;                            /* all zeros: no clock is held yet */
-static struct ptpm_sent sent[PTPM_MOST_SENT];
+static struct ptpm_sent sent[PLACES];
 static struct ptpm_passed_on passed_on;                     /* what was forwarded last */
 static struct ptpm_rate rates[PORTS];                       /* what each port still forwards */
 static struct sockaddr_in group;
@@ -100,7 +100,7 @@ static void come_in(uint16_t port) {
     ssize_t size = recv(sockets[port - 1].fd, octets, sizeof octets, MSG_DONTWAIT);
     if (size < 0) return;
     enum ptpm_handled answer =
-        ptpm_clock_take(&device, port, octets, (size_t)size, &agrees, 0, sent, PTPM_MOST_SENT, &taken);
+        ptpm_clock_take(&device, port, octets, (size_t)size, &agrees, 0, sent, PLACES, &taken);
     send_messages(port, octets, (size_t)size, taken.count);
     act(&taken.changed);
     if (answer == PTPM_DROPPED_OLD || answer == PTPM_DROPPED_CONFLICT || ptpm_is_refusal(answer)) tell_operator(answer);

@@ -632,8 +632,7 @@ __extension__ enum PTPM_FOUR_OCTETS(ptpm_handled) {
     PTPM_HANDLE_BAD_TEXT = PTPM_BAD_TEXT,
     PTPM_HANDLE_NO_CLOCK = PTPM_NO_CLOCK,
     PTPM_HANDLE_NO_PORT = PTPM_NO_PORT,
-    PTPM_HANDLE_NO_ROOM = PTPM_NO_ROOM, /* for fewer than PTPM_MOST_SENT messages at ptpm_clock_handle, and than
-                                           ptpm_clock_most_sent at the others */
+    PTPM_HANDLE_NO_ROOM = PTPM_NO_ROOM, /* for fewer than ptpm_clock_most_sent messages */
     PTPM_HANDLE_NO_MEMORY = PTPM_NO_MEMORY,
     PTPM_HANDLE_UNSAVED = PTPM_UNSAVED,
     PTPM_BAD_SAY = 121,                 /* it is of another kind, has an error that no device gives, or gives what is no dataField */
@@ -954,7 +953,7 @@ static inline enum ptpm_started ptpm_clock_start_sized(struct ptpm_clock *handle
 }
 
 /* Judges a datagram that came in at a port, carries its request out, and makes what is to be sent.
-   Takes:   the port, counted from 1; size octets; and room places, PTPM_MOST_SENT or more.
+   Takes:   the port, counted from 1; size octets; and room places, ptpm_clock_most_sent or more: one for a clock of one port.
    Returns: what became of the datagram; or why it was not judged, and then *count is 0. That is PTPM_NO_CLOCK also for a clock
             that saves (ptpm_clock_saving).
    Writes:  *count, and the first *count places of sent: of each its port, its size, and as many octets.
@@ -983,8 +982,7 @@ enum ptpm_asking ptpm_clock_ask(const struct ptpm_clock *clock, uint16_t port, c
    A request of the device's owner is judged as one of a manager with every right, and what the device says does not count. Nothing of
    it is kept, so a copy of it is carried out again. A GET of the owner is answered PTPM_ANSWERED_UNNUMBERED.
    At a clock that saves (ptpm_clock_saving) messages may wait for a save, as is said there.
-   Takes:   what ptpm_clock_handle takes, but room places, ptpm_clock_most_sent or more: one for a clock of one port. And *say; and
-            of_owner: 1 for a datagram of the owner, and 0 for any other.
+   Takes:   what ptpm_clock_handle takes; *say; and of_owner: 1 for a datagram of the owner, and 0 for any other.
    Returns: what became of the datagram; or why it was not judged, the first of these: PTPM_NO_CLOCK, PTPM_NO_PORT, PTPM_NO_ROOM,
             PTPM_BAD_SAY, PTPM_UNDER_WAY (ptpm_clock_undertake) and PTPM_UNSAVED. A datagram that is not judged counts as lost.
    Writes:  all of *taken: zeros if the datagram was not judged. And the first taken->count places of sent, as ptpm_clock_handle
@@ -1088,7 +1086,7 @@ enum ptpm_saved ptpm_clock_image(const struct ptpm_clock *clock, uint8_t *octets
    sdoId 0 and the clock's domain. It has a hop left, is not for exactly this clock, and goes between ports that may forward. Each
    copy has octet 45, boundaryHops, less by one. Every other octet is as it came. Nothing is answered, and nothing changes. A host
    that wants such messages to pass calls it after ptpm_clock_take.
-   Takes:   the port it came in at, and the datagram, of size octets; PTPM_MOST_SENT places.
+   Takes:   the port it came in at, and the datagram, of size octets; and room places, as many as the clock has ports, or more.
    Returns: how many copies there are: 0 for any other datagram, without a clock, for a port that it lacks, and for fewer places.
    Writes:  that many places of sent, each with its port. */
 size_t ptpm_clock_transit(const struct ptpm_clock *clock, uint16_t port, const uint8_t *datagram, size_t size, struct ptpm_sent *sent,

@@ -7,6 +7,7 @@ use Rattle.ptpm_host.specs.declared.clock.HostedClock.{HostedClock}
 use Rattle.ptpm_host.specs.declared.refusal.HandleRefusal.{HandleRefusal}
 use Rattle.ptpm_host.specs.declared.sent.Sent.{Sent}
 use Rattle.ptpm_host.specs.Clock.{IsWhole, KeepsBehind, clock_in, handle_refusal, messages_in, state_in}
+use Rattle.ptpm_host.specs.MostSent.{most_sent}
 use Rattle.ptpm_host.specs.Numbers.{handle_number, no_clock, verdict_number}
 use Rattle.ptpm_c.specs.declared.keeping.Keeping.{Keeping}
 use Rattle.ptpm_c.specs.Held.{clock_held, held}
@@ -25,7 +26,7 @@ pub record IsTurnedTo (c : HostedClock) (port : ℕ) (datagram : List ℕ) (numb
 
 -- why a datagram at a port is not handed to the clock, by that port and by the places that there are
 abbrev pub why_not_handed : HostedClock → ℕ → List Sent → Option HandleRefusal
-why_not_handed c port places = handle_refusal (has_port port c.agent.sets) (length places)
+why_not_handed c port places = handle_refusal (has_port port c.agent.sets) (most_sent (state_in c)) (length places)
 
 -- the first `count` places have a whole message each; what comes after a message stays, and so do the places after them
 pub record AreWritten (before : List Sent) (count : ℕ) (after : List Sent) : Type 0 where

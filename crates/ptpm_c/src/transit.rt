@@ -11,7 +11,7 @@ use crate::handle::Handle;
 use ptpm_host::{Sent, pass_unread};
 
 /// Writes the copies of a datagram that the clock passes on unread. They are in the first places of `sent`, and their number is the
-/// answer. The places after them stay. None if the handle holds no clock, if the clock lacks the port, or if there are fewer than 15 places.
+/// answer. The places after them stay. None if the handle holds no clock, if the clock lacks the port, or if it has more ports than places.
 /// Nothing changes. Takes no memory.
 #[tactic(auto, using(ptpm_host::specs::OutboxLaws::kept_by_none))]
 #[unsafe(no_mangle)]
@@ -24,9 +24,9 @@ pub extern "C" fn ptpm_clock_transit(
     ensures kept { held handle.new.keeping ≡ held handle.old.keeping }
     ensures restored { handle.new.restored ≡ handle.old.restored }
     ensures copies { (d : DataSetsValue) → shown_held handle.old.keeping ≡ Some d → HasPort port d
-        → 15 ≤ length sent.old → messages_in (take result sent.new) ≡ transited port d datagram.now }
+        → length d.ports ≤ length sent.old → messages_in (take result sent.new) ≡ transited port d datagram.now }
     ensures none { (d : DataSetsValue) → shown_held handle.old.keeping ≡ Some d
-        → (HasPort port d → 15 ≤ length sent.old → ⊥) → result ≡ 0 }
+        → (HasPort port d → length d.ports ≤ length sent.old → ⊥) → result ≡ 0 }
     ensures empty { shown_held handle.old.keeping ≡ None → result ≡ 0 }
     ensures count { result ≤ length sent.new }
     ensures whole { All IsWhole (take result sent.new) }

@@ -53,10 +53,10 @@ start_refusal clock ports managers =
     refusal_by (start_by clock ports) (table_refusal (identities (settings.configured managers)))
     (settings.is_zero (record { 0 = clock.identity }))
 
--- ---- why a datagram is not handled: the clock has the port or not, and there is room for this many messages
+-- ---- why a datagram is not handled: no such port, or less room than the clock's most messages
 
-abbrev pub handle_refusal : Bool → ℕ → Option HandleRefusal
-handle_refusal has_port room = first_of ((not has_port, NoPort) ∷ (nat_lt room 15, NoRoom) ∷ [])
+abbrev pub handle_refusal : Bool → ℕ → ℕ → Option HandleRefusal
+handle_refusal has_port most room = first_of ((not has_port, NoPort) ∷ (nat_lt room most, NoRoom) ∷ [])
 
 -- ---- messages
 

@@ -1,5 +1,5 @@
 -- How many messages a clock sends for a datagram at most.
-use Rattle.std.specs.Prelude.{◌≤◌, ℕ, ◌*◌, ◌-◌, Bool, if◌then◌else◌, List, [], ◌∷◌, length, max}
+use Rattle.std.specs.Prelude.{◌≤◌, ℕ, ◌*◌, ◌-◌, List, [], ◌∷◌, length, max}
 use Rattle.std.specs.FinMap.{entries}
 use Rattle.ptpm_codec.specs.declared.identity.PortIdentity.{PortIdentity}
 use Rattle.ptpm_data.specs.Members.{HasPort}
@@ -17,10 +17,6 @@ most_answers (e ∷ es) = max (length e.1.reply.answers) (most_answers es)
 -- A copy for each port but the one that the datagram came in at, and an answer of each port. A kept reply is sent alone.
 abbrev pub most_sent : State → ℕ
 most_sent s = max (2 * length s.sets.ports - 1) (most_answers (entries s.entries))
-
--- how many places a call asks for: as many as the clock can use, or always fifteen
-abbrev pub places_asked : Bool → State → ℕ
-places_asked few s = if few then most_sent s else 15
 
 -- ---- the law: no more are sent
 

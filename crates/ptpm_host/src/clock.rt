@@ -7,6 +7,7 @@ ghost use Rattle.ptpm_table.specs.Managers.{IsFresh};
 ghost use Rattle.ptpm_agent.specs.Agent.{IsTurned};
 ghost use Rattle.ptpm_agent.specs.Turn.{outbox_of, turn};
 ghost use Rattle.ptpm_host.specs.Clock.{IsFreshClock, IsWhole, KeepsBehind, clock_in, handle_refusal, messages_in, start_by, start_refusal, state_in};
+ghost use Rattle.ptpm_host.specs.MostSent.{most_sent};
 ghost use Rattle.ptpm_host.specs.Observing.{IsObserved, observe_refusal, ports_left};
 ghost use Rattle.ptpm_host.specs.Settings.{configured};
 ghost use Rattle.ptpm_data.specs.Start.{unless};
@@ -172,8 +173,8 @@ impl HostedClock {
         ensures new_alone { IfOk result
             (λ h. h.verdict ≢ Verdict.AnsweredNew → self.new.agent.sets ≡ self.old.agent.sets) }
         ensures refusal { MatchResult result
-            (λ _. handle_refusal (has_port port self.old.agent.sets) (length room.old) ≡ None)
-            (λ e. handle_refusal (has_port port self.old.agent.sets) (length room.old) ≡ Some e) }
+            (λ _. handle_refusal (has_port port self.old.agent.sets) (most_sent (state_in self.old)) (length room.old) ≡ None)
+            (λ e. handle_refusal (has_port port self.old.agent.sets) (most_sent (state_in self.old)) (length room.old) ≡ Some e) }
         ensures unchanged { OnErr result (self.new ≡ self.old) }
         ensures untouched { OnErr result (room.new ≡ room.old) }
         ensures clock { clock_in self.new ≡ clock_in self.old }
@@ -182,7 +183,7 @@ impl HostedClock {
         if !self.agent.sets().has_port(port) {
             return Err(HandleRefusal::NoPort);
         }
-        if room.len() < MOST_SENT {
+        if !self.has_room(room.len()) {
             return Err(HandleRefusal::NoRoom);
         }
         self.sent_law();

@@ -3,7 +3,7 @@
 ghost use Rattle.std.specs.Prelude.{◌≡◌, ◌≤◌, nat_le};
 ghost use Rattle.ptpm_data.specs.RequestLaws.{IsSized};
 ghost use Rattle.ptpm_host.specs.Clock.{state_in};
-ghost use Rattle.ptpm_host.specs.MostSent.{most_sent, places_asked};
+ghost use Rattle.ptpm_host.specs.MostSent.{most_sent};
 
 use crate::clock::{HostedClock, MOST_SENT};
 use ptpm_data::data_sets_law;
@@ -35,15 +35,6 @@ impl HostedClock {
     {
         self.sent_law();
         places >= MOST_SENT || places >= self.most_sent()
-    }
-
-    /// How many places a call asks for: as many as the clock can use, or always fifteen. They are enough for whatever it sends.
-    pub fn places_asked(&self, few: bool) -> usize
-        ensures asked { result ≡ places_asked few (state_in self.now) }
-        ensures enough { most_sent (state_in self.now) ≤ result }
-    {
-        self.sent_law();
-        if few { self.most_sent() } else { MOST_SENT }
     }
 
     /// Its data sets have their sizes, and it sends no more than fifteen messages: a law, and nothing is done.

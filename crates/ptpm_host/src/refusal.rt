@@ -36,7 +36,7 @@ pub enum ClockRestoreRefusal {
 pub enum HandleRefusal {
     /// The clock lacks the port.
     NoPort,
-    /// There is room for fewer than fifteen messages.
+    /// There is room for fewer messages than the clock may send.
     NoRoom,
 }
 

@@ -9,7 +9,6 @@ ghost use Rattle.ptpm_agent.specs.Forwarding.{egress_ports, is_forwarded, with_l
 ghost use Rattle.ptpm_host.specs.Clock.{IsWhole, KeepsBehind, messages_in};
 ghost use Rattle.ptpm_host.specs.Transit.{is_past_header, is_unread, transited};
 
-use crate::clock::MOST_SENT;
 use crate::outbox::Outbox;
 use crate::sent::Sent;
 use ptpm_codec::{DecodeError, port_identity_at, u16_at, view};
@@ -17,19 +16,19 @@ use ptpm_data::{DataSets, data_sets_law};
 use ptpm_table::Outgoing;
 
 /// Writes the copies of a datagram that a clock of these data sets passes on unread. They are in the first places of `room`, and
-/// their number is the answer. The places after them stay. None if the clock lacks the port, or if there are fewer than 15 places.
+/// their number is the answer. The places after them stay. None if the clock lacks the port, or if it has more ports than places.
 /// Takes no memory.
 #[tactic(auto, using(crate::specs::OutboxLaws::kept_by_none))]
 pub fn pass_unread(sets: &DataSets, ingress: u16, datagram: &[u8], room: &mut [Sent]) -> usize
-    ensures copies { HasPort ingress sets.now → 15 ≤ length room.old →
+    ensures copies { HasPort ingress sets.now → length sets.now.ports ≤ length room.old →
         messages_in (take result room.new) ≡ transited ingress sets.now datagram.now }
-    ensures none { (HasPort ingress sets.now → 15 ≤ length room.old → ⊥) → result ≡ 0 }
+    ensures none { (HasPort ingress sets.now → length sets.now.ports ≤ length room.old → ⊥) → result ≡ 0 }
     ensures count { result ≤ length room.new }
     ensures whole { All IsWhole (take result room.new) }
     ensures places { drop result room.new ≡ drop result room.old }
     ensures behind { AllZip KeepsBehind room.old room.new }
 {
-    if !sets.has_port(ingress) || room.len() < MOST_SENT {
+    if !sets.has_port(ingress) || room.len() < sets.port_count() as usize {
         return 0;
     }
     match unread(datagram) {
@@ -89,7 +88,7 @@ fn send_on(sets: &DataSets, ingress: u16, datagram: &[u8], size: usize, room: &m
     requires inside { size ≤ length datagram.now }
     requires size { take size datagram.now ≡ message_octets datagram.now }
     requires hops { 0 < boundary_hops datagram.now }
-    requires room { 15 ≤ length room.old }
+    requires room { length sets.now.ports ≤ length room.old }
     ensures copies { messages_in (take result room.new)
         ≡ map (λ port. (port, with_less_hop datagram.now)) (egress_ports ingress sets.now) }
     ensures count { result ≤ length room.new }

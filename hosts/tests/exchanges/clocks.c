@@ -83,7 +83,7 @@ static uint32_t take(struct ptpm_clock *clock, const struct coming *in, struct t
 
 /* Hands a datagram in at the second clock. One that sends at once gets it by ptpm_clock_handle, if it says no more than that takes. */
 static void take_again(struct ptpm_clock *second, const struct coming *in, struct turn *into, size_t places) {
-    bool is_simple = places_to_wait == 0 && places == PTPM_MOST_SENT && in->said.kind == PTPM_AGREES && !in->is_of_owner && !in->is_under_way;
+    bool is_simple = places_to_wait == 0 && in->said.kind == PTPM_AGREES && !in->is_of_owner && !in->is_under_way;
     size_t count = 1;
     if (!is_simple) {
         into->answer = take(second, in, into, places);

@@ -1,7 +1,9 @@
-use Rattle.std.proofs.Common.{arith, ap, length, rules}
+use Rattle.std.proofs.Common.{◌≤◌, arith, ap, length, rules}
+use Rattle.std.proofs.lemmas.Bool.Decides.{nat_tests}
 use Rattle.std.proofs.lemmas.Grind.{common_steps}
 use Rattle.ptpm_data.specs.Members.{HasPort}
 use Rattle.ptpm_host.specs.Clock.{clock_in, state_in}
+use Rattle.ptpm_host.specs.MostSent.{most_sent}
 use Rattle.ptpm_host.proofs.Changing.{sets_stay}
 use Rattle.ptpm_host.proofs.MostSent.{sends_no_more_alone}
 use Rattle.ptpm_host.proofs.clock.HostedClock.handle.Goals as goal
@@ -13,10 +15,10 @@ returns-clause-new_alone c =
 pub handle_into-verdict-requires-clause-room : goal.handle_into-verdict-requires-clause-room
 handle_into-verdict-requires-clause-room c =
     let port : HasPort c.args.port c.args.self.now.agent.sets = first_of (search rules, grind (arith, common_steps)) in
+    let enough : most_sent (state_in c.args.self.now) ≤ length c.args.room.now = first_of (grind (arith, nat_tests), search rules) in
     omega (
       arith,
       sends_no_more_alone (clock_in c.args.self.now) (state_in c.args.self.now) c.args.port c.args.datagram.now c.sent_law.ensures.sized port,
-      c.sent_law.ensures.most,
-      c.if-room-lt-MOST_SENT.false,
+      enough,
       ap (λ places. length places) c.new-places.ensures.room,
     )
