@@ -155,9 +155,15 @@ impl Clock {
     ///
     /// # Errors
     ///
-    /// [`Error::NoPort`]: the clock lacks the port, and nothing was judged.
+    /// [`Error::NoPort`]: the clock lacks the port. [`Error::NoRoom`]: it may send more messages than the outbox has places. Nothing was
+    /// judged.
     #[inline]
-    pub fn handle<'a>(&mut self, port: u16, datagram: &[u8], outbox: &'a mut Outbox) -> Result<Turn<'a>, Error> {
+    pub fn handle<'a, const PLACES: usize>(
+        &mut self,
+        port: u16,
+        datagram: &[u8],
+        outbox: &'a mut Outbox<PLACES>,
+    ) -> Result<Turn<'a>, Error> {
         let mut count = MaybeUninit::uninit();
         let (sent, room) = outbox.room();
         // SAFETY: the datagram may be read, and the places and the count may be written; the places are borrowed mutably, so they

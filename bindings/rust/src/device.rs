@@ -234,8 +234,8 @@ impl<'a> Taken<'a> {
     /// # Safety
     ///
     /// The call writes what is taken unless it is refused, and as many places as that counts.
-    pub(crate) unsafe fn by(
-        outbox: &'a mut Outbox,
+    pub(crate) unsafe fn by<const PLACES: usize>(
+        outbox: &'a mut Outbox<PLACES>,
         call: impl FnOnce(*mut sys::ptpm_sent, usize, *mut sys::ptpm_taken) -> u32,
     ) -> Result<Self, Error> {
         let mut taken = MaybeUninit::uninit();
@@ -271,7 +271,13 @@ impl Clock {
     /// # Errors
     ///
     /// As those of [`Clock::handle`]. [`Error::BadSay`]: it gives an odd number of octets, or more than 1,418.
-    pub fn take<'a>(&mut self, port: u16, datagram: &[u8], say: Say<'_>, outbox: &'a mut Outbox) -> Result<Taken<'a>, Error> {
+    pub fn take<'a, const PLACES: usize>(
+        &mut self,
+        port: u16,
+        datagram: &[u8],
+        say: Say<'_>,
+        outbox: &'a mut Outbox<PLACES>,
+    ) -> Result<Taken<'a>, Error> {
         self.take_of(port, datagram, say, 0, outbox)
     }
 
@@ -281,23 +287,23 @@ impl Clock {
     /// # Errors
     ///
     /// Those of [`Clock::take`].
-    pub fn take_of_owner<'a>(
+    pub fn take_of_owner<'a, const PLACES: usize>(
         &mut self,
         port: u16,
         datagram: &[u8],
         say: Say<'_>,
-        outbox: &'a mut Outbox,
+        outbox: &'a mut Outbox<PLACES>,
     ) -> Result<Taken<'a>, Error> {
         self.take_of(port, datagram, say, 1, outbox)
     }
 
-    fn take_of<'a>(
+    fn take_of<'a, const PLACES: usize>(
         &mut self,
         port: u16,
         datagram: &[u8],
         say: Say<'_>,
         of_owner: u8,
-        outbox: &'a mut Outbox,
+        outbox: &'a mut Outbox<PLACES>,
     ) -> Result<Taken<'a>, Error> {
         let (octets, size, say) = (datagram.as_ptr(), datagram.len(), say.as_in_c());
         // SAFETY: the datagram and what is said may be read, and the places and what is taken may be written; the places are borrowed

@@ -31,7 +31,7 @@
 //!   `unsafe` of its own.
 //! - The stack has room for what the header says of each call, and for 500 octets more. [`Clock::take`] takes 2,000 more, and
 //!   [`Members`] 5,300. Without optimisation a call takes up to three times as much. An [`Outbox`] has 22,140 octets:
-//!   [`Outbox::boxed`] puts them on the heap.
+//!   [`Outbox::boxed`] puts them on the heap, and one of fewer places has 1,476 for each.
 //! - `malloc`, `realloc` and `free` of the program are those of one allocator.
 //!
 //! # Without std, and without a C library

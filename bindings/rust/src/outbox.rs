@@ -8,15 +8,16 @@ use core::iter::FusedIterator;
 use core::mem::MaybeUninit;
 use core::slice;
 
-/// Room for the messages that a clock makes for a datagram, 22,140 octets. It is used again and again.
-pub struct Outbox {
-    places: [MaybeUninit<sys::ptpm_sent>; sys::PTPM_MOST_SENT],
+/// Room for the messages that a clock makes for a datagram, 1,476 octets for each place. Fifteen places are enough for every clock, and
+/// one for a clock of one port ([`Clock::most_sent`](crate::Clock::most_sent)). It is used again and again.
+pub struct Outbox<const PLACES: usize = { sys::PTPM_MOST_SENT }> {
+    places: [MaybeUninit<sys::ptpm_sent>; PLACES],
 }
 
 impl Outbox {
-    /// Room, in a place that the host provides; nothing is written.
+    /// Room for every clock, in a place that the host provides; nothing is written.
     pub const fn new() -> Self {
-        Self { places: [MaybeUninit::uninit(); sys::PTPM_MOST_SENT] }
+        Self::with_places()
     }
 
     /// Room on the heap.
@@ -24,6 +25,18 @@ impl Outbox {
     pub fn boxed() -> Box<Self> {
         // SAFETY: an outbox is made of places that need not be written.
         unsafe { Box::<Self>::new_uninit().assume_init() }
+    }
+}
+
+impl<const PLACES: usize> Outbox<PLACES> {
+    /// Room of this many places, such as `Outbox::<1>::with_places()`, in a place that the host provides; nothing is written.
+    ///
+    /// # Panics
+    ///
+    /// If there is no place.
+    pub const fn with_places() -> Self {
+        assert!(PLACES > 0, "an outbox has a place");
+        Self { places: [MaybeUninit::uninit(); PLACES] }
     }
 
     /// The first place, and how many there are, for a call that writes messages from there on.
@@ -50,7 +63,7 @@ impl Default for Outbox {
     }
 }
 
-impl fmt::Debug for Outbox {
+impl<const PLACES: usize> fmt::Debug for Outbox<PLACES> {
     fn fmt(&self, to: &mut fmt::Formatter<'_>) -> fmt::Result {
         to.debug_struct("Outbox").finish_non_exhaustive()
     }

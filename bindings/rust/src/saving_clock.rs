@@ -85,7 +85,13 @@ impl SavingClock {
     /// Those of [`Clock::take`]. [`Error::Unsaved`]: the clock was never saved, or there is a next message to be taken first, or what
     /// this makes would have no place ([`SavingClock::free`]). [`Error::UnderWay`]: it comes only after the change that is under way
     /// ([`SavingClock::undertake`]). Nothing was judged.
-    pub fn take<'o>(&mut self, port: u16, datagram: &[u8], say: Say<'_>, outbox: &'o mut Outbox) -> Result<Taken<'o>, Error> {
+    pub fn take<'o, const PLACES: usize>(
+        &mut self,
+        port: u16,
+        datagram: &[u8],
+        say: Say<'_>,
+        outbox: &'o mut Outbox<PLACES>,
+    ) -> Result<Taken<'o>, Error> {
         self.clock.take(port, datagram, say, outbox)
     }
 
@@ -94,12 +100,12 @@ impl SavingClock {
     /// # Errors
     ///
     /// Those of [`SavingClock::take`].
-    pub fn take_of_owner<'o>(
+    pub fn take_of_owner<'o, const PLACES: usize>(
         &mut self,
         port: u16,
         datagram: &[u8],
         say: Say<'_>,
-        outbox: &'o mut Outbox,
+        outbox: &'o mut Outbox<PLACES>,
     ) -> Result<Taken<'o>, Error> {
         self.clock.take_of_owner(port, datagram, say, outbox)
     }
@@ -157,7 +163,7 @@ impl SavingClock {
     /// # Errors
     ///
     /// [`Error::NothingUnderWay`], [`Error::BadSay`], and [`Error::Unsaved`] as of [`SavingClock::take`]. The change stays under way.
-    pub fn decide<'o>(&mut self, say: Say<'_>, outbox: &'o mut Outbox) -> Result<Taken<'o>, Error> {
+    pub fn decide<'o, const PLACES: usize>(&mut self, say: Say<'_>, outbox: &'o mut Outbox<PLACES>) -> Result<Taken<'o>, Error> {
         let say = say.as_in_c();
         // SAFETY: what is said may be read, and the places and what is taken may be written; the places are borrowed mutably, so they
         // lie apart from the rest. The call writes them as it says.
@@ -193,7 +199,7 @@ impl SavingClock {
 
     /// The first message that no longer waits for a save: the port that it is to be sent at, and its octets. The host takes all of
     /// them before it hands a datagram in.
-    pub fn next_message<'o>(&mut self, outbox: &'o mut Outbox) -> Option<(u16, &'o [u8])> {
+    pub fn next_message<'o, const PLACES: usize>(&mut self, outbox: &'o mut Outbox<PLACES>) -> Option<(u16, &'o [u8])> {
         let (message, _) = outbox.room();
         // SAFETY: the place may be written; it is borrowed mutably, so it lies apart from the rest.
         let count = unsafe { sys::ptpm_clock_next(self.clock.handle_mut(), message) };

@@ -113,6 +113,14 @@ fn a_saving_clock_shows_what_is_saved() {
 }
 
 #[test]
+fn an_outbox_has_the_places_that_a_clock_can_use() {
+    let (mut clock, get) = (clock(), request(8, "aabbccfffeddee010001", 0, 0, "2005"));
+    assert_eq!(clock.most_sent(), 3);
+    assert_eq!(clock.handle(1, &get, &mut Outbox::<2>::with_places()).map(|_| ()), Err(Error::NoRoom));
+    assert_eq!(clock.handle(1, &get, &mut Outbox::<3>::with_places()).map(|turn| turn.messages.len()), Ok(1));
+}
+
+#[test]
 fn a_change_is_under_way_until_the_device_says() {
     let mut clock = SavingClock::new(clock(), 6).expect("it saves");
     let (mut outbox, mut room) = (Outbox::boxed(), Box::new([0; CLOCK_IMAGE_OCTETS]));

@@ -12,7 +12,7 @@ use ptpm::{clock_memory, give_memory, Clock, ClockSettings, Handled, Identity, O
 
 const BLOCK: usize = clock_memory(0) + 16;
 static mut MEMORY: [MaybeUninit<u8>; BLOCK] = [MaybeUninit::uninit(); BLOCK];
-static mut OUTBOX: Outbox = Outbox::new();
+static mut OUTBOX: Outbox<1> = Outbox::with_places();
 
 /// From 0011223344556677/1 to every port of the clock, number 7 (13.3, 15.4, 15.5).
 const GET: &[u8; 54] = b"\x0d\x12\0\x36\0\0\0\0\0\0\0\0\0\0\0\0\0\0\0\0\x00\x11\x22\x33\x44\x55\x66\x77\0\x01\0\x07\x04\x7f\
