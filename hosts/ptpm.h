@@ -515,7 +515,7 @@ enum { PTPM_MOST_ANSWERS = 512, PTPM_SURVEY_PORT = 65534 };
    it again with the kind in front, such as PTPM_HANDLE_NO_CLOCK for PTPM_NO_CLOCK, so that -Wswitch and debuggers know it. A
    uint32_t holds any answer. */
 
-/* From now on a clock shows no change before it is saved, and a session sends nothing (ptpm_clock_saving, ptpm_session_saving). */
+/* From now on a clock shows no change before it is saved (ptpm_clock_saving). */
 #define PTPM_SAVING 0
 
 /* A datagram is of another domain. */
@@ -553,7 +553,7 @@ enum { PTPM_MOST_ANSWERS = 512, PTPM_SURVEY_PORT = 65534 };
 #define PTPM_TOO_MANY_MANAGERS 51       /* over sixteen */
 #define PTPM_MANAGER_TWICE 52           /* or nobody of an asker is its manager */
 #define PTPM_IDENTITY_IS_ZERO 56        /* the clock's identity is all zeros */
-#define PTPM_UNSAVED 118                /* a clock or a session was changed and not saved, and this comes only after a save */
+#define PTPM_UNSAVED 118                /* a clock was changed and not saved, and this comes only after a save */
 #define PTPM_UNDER_WAY 123              /* a change of the device is under way, and this comes only after ptpm_clock_decide */
 #define PTPM_BAD_CLOCK_ACCURACY 70
 #define PTPM_BAD_LEAP59 88              /* both leaps */
@@ -694,16 +694,14 @@ __extension__ enum PTPM_FOUR_OCTETS(ptpm_begun) {
     PTPM_COUNT_AT_MAXIMUM = 42          /* the session has begun 1,000,000 requests */
 };
 
-/* ptpm_session_send, ptpm_survey_send and ptpm_session_saving. The second is never answered PTPM_IDLE, PTPM_GAVE_UP or PTPM_UNSAVED.
-   The last returns only PTPM_SAVING and PTPM_NO_SESSION. */
+/* ptpm_session_send and ptpm_survey_send. The second is never answered PTPM_IDLE or PTPM_GAVE_UP. */
 __extension__ enum PTPM_FOUR_OCTETS(ptpm_sending) {
     PTPM_SENT = 0,
     PTPM_SEND_NO_ROOM = PTPM_NO_ROOM,   /* for fewer than PTPM_MOST_OCTETS octets */
     PTPM_SEND_NO_SESSION = PTPM_NO_SESSION,
     PTPM_SEND_IDLE = PTPM_IDLE,
     PTPM_GAVE_UP = 44,                  /* no attempts are left */
-    PTPM_SEND_NO_SURVEY = PTPM_NO_SURVEY,
-    PTPM_SEND_UNSAVED = PTPM_UNSAVED
+    PTPM_SEND_NO_SURVEY = PTPM_NO_SURVEY
 };
 
 /* ptpm_session_resume. */
@@ -791,7 +789,7 @@ __extension__ enum PTPM_FOUR_OCTETS(ptpm_saved) {
     PTPM_SAVE_NO_CLOCK = PTPM_NO_CLOCK,
     PTPM_SAVE_NO_ROOM = PTPM_NO_ROOM,   /* for fewer octets than the image has, or than both have with its seal */
     PTPM_SAVE_NO_SESSION = PTPM_NO_SESSION,
-    PTPM_OTHER_IMAGE = 119              /* not the latest image, or it counted; or the session was changed since */
+    PTPM_OTHER_IMAGE = 119              /* not the latest image, or it counted already */
 };
 
 /* ptpm_session_restore, ptpm_clock_restore and ptpm_image_unseal. */
@@ -1212,8 +1210,7 @@ enum ptpm_begun ptpm_session_begin_at(struct ptpm_session *session, uint8_t acti
 /* Makes the message of the unanswered request, and uses one of its attempts. The message has the same octets each time, until
    the session is retuned.
    Takes:   room octets, PTPM_MOST_OCTETS or more.
-   Returns: PTPM_SENT; or why not, and then no attempt is used. PTPM_UNSAVED comes after PTPM_NO_ROOM, and only of a session that saves
-            (ptpm_session_saving).
+   Returns: PTPM_SENT; or why not, and then no attempt is used.
    Writes:  *size, and as many octets from octets on: the message. *size is 0 if the call is refused.
    Caller:  sends the message, and passes in what comes in. */
 enum ptpm_sending ptpm_session_send(struct ptpm_session *session, uint8_t *octets, size_t room, size_t *size);
@@ -1247,32 +1244,6 @@ enum ptpm_session_received ptpm_session_receive(struct ptpm_session *session, co
    Returns: PTPM_SAVED, or why not.
    Writes:  *size, and that number of octets from octets on: the image. If the call is refused, *size is 0 and no octet is written. */
 enum ptpm_saved ptpm_session_image(const struct ptpm_session *session, uint8_t *octets, size_t room, size_t *size);
-
-/* Has a session hand out no request before it is saved. Without it a host has to see to that itself. With it ptpm_session_send is
-   refused with PTPM_UNSAVED after a request was begun or given up, and after an answer. That holds for a new request and for a repeat,
-   until ptpm_session_saved. Nothing else changes: an answer is heard and reported at once. One save covers all that came before it. So
-   one for each request is enough, between its begin and its first send. A session that was just restored is saved. Any other session
-   is not, before its first save. Call it right after the start or the restore.
-   Returns: PTPM_SAVING, or PTPM_NO_SESSION. If the session saves already, nothing changes.
-   Caller:  saves the session after each begin. */
-enum ptpm_sending ptpm_session_saving(struct ptpm_session *session);
-
-/* Like ptpm_session_image, of a session that saves. It also says which state the image is of.
-   Takes:   what ptpm_session_image takes.
-   Returns: what ptpm_session_image returns; PTPM_NO_SESSION also for a session that does not save.
-   Writes:  what ptpm_session_image writes, and *token: a number that is another one after each request that was begun or given up, and
-            after each answer. It is 0 if the call is refused. It says nothing about another session, or about a session before it was
-            restored.
-   Caller:  stores the image, and calls ptpm_session_saved with the token once a restart would find it, whatever happens to the
-            power. */
-enum ptpm_saved ptpm_session_image_of(const struct ptpm_session *session, uint8_t *octets, size_t room, size_t *size, uint64_t *token);
-
-/* Takes the caller's word that a restart would find the image of this token. Then requests are handed out again. What else changed in
-   between does not matter: a domain, or how many attempts are left.
-   Takes:   the token of ptpm_session_image_of.
-   Returns: PTPM_SAVED; or PTPM_NO_SESSION, also for a session that does not save, or PTPM_OTHER_IMAGE, and then nothing changes. With
-            the token of a session that is saved already it returns PTPM_SAVED. */
-enum ptpm_saved ptpm_session_saved(struct ptpm_session *session, uint64_t token);
 
 /* Puts the session of an image in the handle, instead of what it holds, which is then freed. A request that was not answered
    stays open, with all its attempts: send it again.

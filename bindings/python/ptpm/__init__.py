@@ -31,7 +31,6 @@ from .passing import PassedOn, Rate
 from .report import Report
 from .requests import Requests, SessionSettings
 from .saving_clock import Saved, SavingClock
-from .saving_session import SavingSession
 from .seal import newest_image, sealed, unsealed
 from .session import Session
 from .session_file import DamagedFileError, OpenApplyError, SessionFile, SessionFileError, usual_path
@@ -49,7 +48,7 @@ __all__ = [
     "Objection", "ObservedClock",
     "ObservedGrandmaster", "ObservedPort", "OpenApplyError", "ParentDataSet", "PassedOn", "PortDataSet", "PortIdentity",
     "PortMembers", "PortSettings", "PortState", "PtpmError", "Rate", "read_site", "Report", "Requests", "Rights", "Saved", "SavingClock",
-    "SavingSession", "Say", "sealed", "Session", "SessionAnswer", "SessionFile", "SessionFileError", "SessionSettings", "Site", "site",
+    "Say", "sealed", "Session", "SessionAnswer", "SessionFile", "SessionFileError", "SessionSettings", "Site", "site",
     "SiteClock", "SiteError", "Survey", "survey", "SURVEY_PORT", "SurveyAnswer", "SurveySettings", "time_interval", "TimeInterval",
     "TimePropertiesDataSet", "TimeSource", "Transport", "UdpTransport", "UnixTransport", "unsealed", "usual_path",
 ]

@@ -73,8 +73,7 @@ PTPM_OBSERVE_BAD_CLOCK_ACCURACY = 70; PTPM_OBSERVE_BAD_LEAP59 = 88; PTPM_OBSERVE
 PTPM_READ = 0; PTPM_READ_NO_CLOCK = 32; PTPM_READ_NO_PORT = 33; PTPM_READ_NO_ROOM = 34; PTPM_NOT_READABLE = 36
 PTPM_BEGUN = 0; PTPM_BEGIN_NO_MEMORY = 35; PTPM_BEGIN_NO_SESSION = 37; PTPM_BUSY = 38; PTPM_NEEDS_PORT = 39
 PTPM_NOT_PERMITTED = 40; PTPM_BAD_VALUE = 41; PTPM_COUNT_AT_MAXIMUM = 42
-PTPM_SENT = 0; PTPM_SEND_NO_ROOM = 34; PTPM_SEND_NO_SESSION = 37; PTPM_SEND_IDLE = 43; PTPM_GAVE_UP = 44
-PTPM_SEND_NO_SURVEY = 46; PTPM_SEND_UNSAVED = 118
+PTPM_SENT = 0; PTPM_SEND_NO_ROOM = 34; PTPM_SEND_NO_SESSION = 37; PTPM_SEND_IDLE = 43; PTPM_GAVE_UP = 44; PTPM_SEND_NO_SURVEY = 46
 PTPM_RESUMED = 0; PTPM_RESUME_NO_SESSION = 37; PTPM_RESUME_IDLE = 43
 PTPM_GIVEN_UP = 0; PTPM_GIVE_UP_NO_SESSION = 37; PTPM_GIVE_UP_IDLE = 43; PTPM_OUT_OF_REACH = 112
 PTPM_RETUNED = 0; PTPM_RETUNE_NO_SESSION = 37
@@ -357,10 +356,6 @@ CALLS: Dict[str, Tuple[Any, List[Any]]] = {
     "ptpm_session_retune": (c_uint32, [POINTER(ptpm_session), c_uint8]),
     "ptpm_session_receive": (c_uint32, [POINTER(ptpm_session), c_char_p, c_size_t]),
     "ptpm_session_image": (c_uint32, [POINTER(ptpm_session), POINTER(c_uint8), c_size_t, POINTER(c_size_t)]),
-    "ptpm_session_saving": (c_uint32, [POINTER(ptpm_session)]),
-    "ptpm_session_image_of": (c_uint32, [POINTER(ptpm_session), POINTER(c_uint8), c_size_t, POINTER(c_size_t),
-        POINTER(c_uint64)]),
-    "ptpm_session_saved": (c_uint32, [POINTER(ptpm_session), c_uint64]),
     "ptpm_session_restore": (c_uint32, [POINTER(ptpm_session), POINTER(ptpm_session_settings), c_char_p, c_size_t]),
     "ptpm_session_issued": (c_uint64, [POINTER(ptpm_session)]),
     "ptpm_session_report": (c_uint32, [POINTER(ptpm_session), POINTER(c_uint8), c_size_t, POINTER(c_size_t), POINTER(c_uint16)]),

@@ -96,7 +96,7 @@ errors! {
     OtherName = PTPM_OTHER_NAME, "a word is not the name of the member that comes next";
     NoValue = PTPM_NO_VALUE, "a word is no value of the member, or no SET has the member";
     Unsaved = PTPM_UNSAVED, "something is not saved, and this comes only after a save";
-    OtherImage = PTPM_OTHER_IMAGE, "not the latest image, or it counted; or the session was changed since";
+    OtherImage = PTPM_OTHER_IMAGE, "not the latest image, or it counted already";
     NoAsker = PTPM_NO_ASKER, "the handle holds no asker";
     UnderWay = PTPM_UNDER_WAY, "a change of the device is under way, and this comes only after it";
     NothingUnderWay = PTPM_NOTHING_UNDER_WAY, "no change of the device is under way";

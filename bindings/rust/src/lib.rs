@@ -76,7 +76,6 @@ mod passing;
 pub mod refusals;
 mod report;
 mod saving_clock;
-mod saving_session;
 mod seal;
 mod session;
 mod settings;
@@ -111,7 +110,6 @@ pub use refusals::{
 pub use report::Answer;
 pub use report::{Report, MOST_DATA, MOST_OCTETS};
 pub use saving_clock::{ImageToken, Saved, SavingClock};
-pub use saving_session::{SavingSession, UnsavedSession};
 pub use seal::{newest_image, seal, unseal, Sealed, SEAL_OCTETS};
 pub use session::{Action, Session, SessionSettings, SESSION_IMAGE_OCTETS};
 pub use settings::{ClockSettings, DelayMechanism, Manager, PortSettings, PortState, Rights};

@@ -73,7 +73,7 @@ refusals! {
     /// Why no request is begun (`enum ptpm_begun`).
     BeginError { NoMemory NoSession Busy NeedsPort NotPermitted BadValue CountAtMaximum }
     /// Why there is no message to send (`enum ptpm_sending`).
-    SendError { NoRoom NoSession Idle GaveUp NoSurvey Unsaved }
+    SendError { NoRoom NoSession Idle GaveUp NoSurvey }
     /// Why a request gets no more attempts (`enum ptpm_resumed`).
     ResumeError { NoSession Idle }
     /// Why a request is not given up (`enum ptpm_given_up`).

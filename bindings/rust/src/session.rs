@@ -136,11 +136,6 @@ impl Session {
         Ok(session)
     }
 
-    /// The handle, for calls that only a session that saves has.
-    pub(crate) fn handle_mut(&mut self) -> &mut sys::ptpm_session {
-        &mut self.handle
-    }
-
     /// A handle that holds nothing.
     const fn none() -> Self {
         Self { handle: sys::ptpm_session { at: null_mut(), live: false, restored: false } }

@@ -151,7 +151,7 @@ pub const PTPM_BEGIN_NO_SESSION: u32 = 37; pub const PTPM_BUSY: u32 = 38; pub co
 pub const PTPM_NOT_PERMITTED: u32 = 40; pub const PTPM_BAD_VALUE: u32 = 41; pub const PTPM_COUNT_AT_MAXIMUM: u32 = 42;
 pub type ptpm_sending = u32; pub const PTPM_SENT: u32 = 0; pub const PTPM_SEND_NO_ROOM: u32 = 34;
 pub const PTPM_SEND_NO_SESSION: u32 = 37; pub const PTPM_SEND_IDLE: u32 = 43; pub const PTPM_GAVE_UP: u32 = 44;
-pub const PTPM_SEND_NO_SURVEY: u32 = 46; pub const PTPM_SEND_UNSAVED: u32 = 118;
+pub const PTPM_SEND_NO_SURVEY: u32 = 46;
 pub type ptpm_resumed = u32; pub const PTPM_RESUMED: u32 = 0; pub const PTPM_RESUME_NO_SESSION: u32 = 37;
 pub const PTPM_RESUME_IDLE: u32 = 43;
 pub type ptpm_given_up = u32; pub const PTPM_GIVEN_UP: u32 = 0; pub const PTPM_GIVE_UP_NO_SESSION: u32 = 37;
@@ -376,10 +376,6 @@ extern "C" {
     pub fn ptpm_session_retune(session: *mut ptpm_session, domain: u8) -> ptpm_retuned;
     pub fn ptpm_session_receive(session: *mut ptpm_session, datagram: *const u8, size: usize) -> ptpm_session_received;
     pub fn ptpm_session_image(session: *const ptpm_session, octets: *mut u8, room: usize, size: *mut usize) -> ptpm_saved;
-    pub fn ptpm_session_saving(session: *mut ptpm_session) -> ptpm_sending;
-    pub fn ptpm_session_image_of(session: *const ptpm_session, octets: *mut u8, room: usize, size: *mut usize,
-        token: *mut u64) -> ptpm_saved;
-    pub fn ptpm_session_saved(session: *mut ptpm_session, token: u64) -> ptpm_saved;
     pub fn ptpm_session_restore(session: *mut ptpm_session, settings: *const ptpm_session_settings, image: *const u8,
         size: usize) -> ptpm_restored;
     pub fn ptpm_session_issued(session: *const ptpm_session) -> u64;

@@ -2,7 +2,7 @@
 
 use ptpm::{
     Action, AskError, Asker, AskerRestoreError, AskerSettings, Clock, ClockSettings, Earlier, Error, Handed, HandleError,
-    Identity, ManagementId, Manager, Outbox, PortIdentity, PortSettings, QuestionError, Report, Request, Rights, Say, SendError,
+    Identity, ManagementId, Manager, Outbox, PortIdentity, PortSettings, QuestionError, Report, Request, Rights, Say,
     SessionSettings, SetError, Standing, Step, DRAWN_OCTETS, MOST_DATA, MOST_OCTETS, SESSION_IMAGE_OCTETS,
 };
 
@@ -196,5 +196,4 @@ fn refusals_are_told_by_kind() {
     assert_eq!(clock.ask(2, &[]).map(|_| ()).map_err(QuestionError::from), Err(QuestionError::NoPort));
     let get = clock.set(Action::Get, ManagementId::PRIORITY1, 1, &[]).map(|_| ()).map_err(SetError::from);
     assert_eq!(get, Err(SetError::NotPermitted));
-    assert_eq!(SendError::from(Error::Unsaved), SendError::Unsaved);
 }

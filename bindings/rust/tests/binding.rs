@@ -4,8 +4,8 @@
 use ptpm::{
     Action, Clock, ClockMembers, ClockSettings, DelayMechanism, Error, Handled, Identity, Limit, ManagementErrorId, ManagementId,
     Manager, Objection, ObservedClock, ObservedGrandmaster, ObservedPort, Outbox, PortDataSet, PortIdentity, PortMembers,
-    PortSettings, PortState, Received, Report, Rights, Saved, SavingClock, SavingSession, Say, Session, SessionSettings, Survey,
-    SurveySettings, Surveyed, Taken, TimeInterval, CLOCK_IMAGE_OCTETS, MOST_DATA, MOST_OCTETS, MOST_READ, SESSION_IMAGE_OCTETS,
+    PortSettings, PortState, Received, Report, Rights, Saved, SavingClock, Say, Session, SessionSettings, Survey, SurveySettings,
+    Surveyed, Taken, TimeInterval, CLOCK_IMAGE_OCTETS, MOST_DATA, MOST_OCTETS, MOST_READ,
 };
 
 const CLOCK: &str = "aabbccfffeddee01";
@@ -356,21 +356,6 @@ fn a_session_is_answered() {
     assert_eq!(exchanged(&mut session, &mut clock), Ok(Received::Answered));
     assert_eq!(session.report(&mut room), Ok(Report::Done));
     assert_eq!(session.receive(b"\x0d\x12"), Ok(Received::TooShort));
-}
-
-#[test]
-fn a_saving_session_sends_nothing_unsaved() {
-    let settings = SessionSettings::new(port_identity("0011223344556677/1"), identity(CLOCK), 7);
-    let mut session = SavingSession::new(Session::start(&settings).expect("it starts")).expect("it saves");
-    let (mut room, mut image) = ([0; MOST_OCTETS], [0; SESSION_IMAGE_OCTETS]);
-    drop(session.begin(Action::Get, ManagementId::PRIORITY1, 0, &[], &mut image).expect("it begins"));
-    assert_eq!(session.send(&mut room), Err(Error::Unsaved));
-    let unsaved = session.unsaved(&mut image).expect("it has an image");
-    assert_eq!(unsaved.image().len(), 60);
-    assert_eq!(unsaved.saved(), Ok(()));
-    assert_eq!(session.send(&mut room).map(<[u8]>::len), Ok(54));
-    assert_eq!(session.give_up(), Ok(()));
-    assert_eq!(session.send(&mut room), Err(Error::Unsaved));
 }
 
 #[test]

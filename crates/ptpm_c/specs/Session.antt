@@ -2,9 +2,9 @@
 use Rattle.ptpm_manager.specs.declared.receiving.Received.{Received}
 use Rattle.ptpm_manager.specs.Receiving.{left_by}
 use Rattle.ptpm_host.specs.declared.session.HostedSession.{HostedSession}
-use Rattle.ptpm_host.specs.Session.{IsAt, report_after, standing_after}
+use Rattle.ptpm_host.specs.Session.{IsAt, report_after}
 
 -- the session that it holds, after a datagram
 abbrev pub HasHeard : HostedSession → Received → HostedSession → Type 0
 HasHeard s received t =
-    IsAt t (left_by s.session received) (report_after s.report received) (standing_after s.standing received)
+    IsAt t (left_by s.session received) (report_after s.report received)

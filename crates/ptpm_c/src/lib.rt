@@ -42,7 +42,6 @@ mod session;
 mod standing;
 mod survey;
 mod transit;
-mod withholding_session;
 
 use crate::handle::{Handle, held};
 use crate::kept::Hosted;

@@ -6,7 +6,6 @@ ghost use Rattle.ptpm_manager.specs.ImageReading.{session_at};
 ghost use Rattle.ptpm_host.specs.declared.session.HostedSession.{HostedSession};
 ghost use Rattle.ptpm_host.specs.Numbers.{no_room, no_session, restore_number};
 ghost use Rattle.ptpm_host.specs.Session.{IsAt};
-ghost use Rattle.ptpm_host.specs.SessionStanding.{restored_standing};
 ghost use Rattle.ptpm_host.specs.SessionSettings.{settings_refusal};
 ghost use Rattle.ptpm_c.specs.Held.{held, session_held};
 ghost use Rattle.ptpm_c.specs.Numbered.{IsNumberedBy};
@@ -62,7 +61,7 @@ pub extern "C" fn ptpm_session_restore(
 ) -> u32
     ensures restored { result ≡ 0 → IsSomeAnd (session_held handle.new.keeping)
         (λ s.
-        IsAt s (session_at image.now) None restored_standing
+        IsAt s (session_at image.now) None
         × (image.now ≡ session_image s.session)) }
     ensures number { IsNumberedBy restore_number (settings_refusal settings.now image.now) result }
     ensures unchanged { result ≢ 0 → held handle.new.keeping ≡ held handle.old.keeping }

@@ -15,7 +15,6 @@ ghost use Rattle.ptpm_host.specs.declared.refusal.SessionRefusal.{SessionRefusal
 ghost use Rattle.ptpm_host.specs.declared.session.HostedSession.{HostedSession};
 ghost use Rattle.ptpm_host.specs.Numbers.{begin_number, give_up_number, heard_number, no_memory, no_session, report_number, resume_number, send_number, session_number, outcome_number};
 ghost use Rattle.ptpm_host.specs.Session.{HasBegun, IsAt, ask_of, hand_refusal, heard_of, report_refusal};
-ghost use Rattle.ptpm_host.specs.SessionStanding.{changed_standing, started_standing};
 ghost use Rattle.ptpm_host.specs.SessionSettings.{session_refusal, session_start};
 ghost use Rattle.ptpm_host.specs.ReportedOutcome.{reported_error, outcome_octets, reported_of};
 ghost use Rattle.ptpm_c.specs.declared.kept.Hosted.TheVariants.{Nothing};
@@ -40,7 +39,7 @@ pub extern "C" fn ptpm_session_start(
     settings: &SessionSettings,
 ) -> u32
     ensures started { IfSome (session_held handle.new.keeping)
-        (λ s. (result ≡ 0) × IsAt s (session_start settings.now) None started_standing) }
+        (λ s. (result ≡ 0) × IsAt s (session_start settings.now) None) }
     ensures refused { IfNone (session_held handle.new.keeping)
         ((1 ≤ result) × (held handle.new.keeping ≡ Nothing)) }
     ensures number { (e : SessionRefusal)
@@ -128,27 +127,27 @@ pub extern "C" fn ptpm_session_begin_at(
 }
 
 /// Leaves the unanswered request at the head of `octets`, `size` octets: 0, or the number of the refusal. What follows
-/// them stays. A session that saves refuses it while something is unsaved. Takes no memory.
+/// them stays. Takes no memory.
 #[unsafe(no_mangle)]
 pub extern "C" fn ptpm_session_send(handle: &mut Handle, octets: &mut [u8], size: &mut usize) -> u32
     ensures sent { (s : HostedSession)
         → session_held handle.old.keeping ≡ Some s
-        → hand_refusal (length octets.old) s.standing s.session ≡ None
+        → hand_refusal (length octets.old) s.session ≡ None
         → (result ≡ 0)
         × IsSomeAnd (session_held handle.new.keeping)
-        (λ t. IsAt t (sent s.session) s.report s.standing) }
+        (λ t. IsAt t (sent s.session) s.report) }
     ensures octets { (s : HostedSession) (v : Message) → session_held handle.old.keeping ≡ Some s →
-        hand_refusal (length octets.old) s.standing s.session ≡ None → due_message s.session ≡ Some v →
+        hand_refusal (length octets.old) s.session ≡ None → due_message s.session ≡ Some v →
         take size.new octets.new ≡ canonical v }
     ensures within { size.new ≤ length octets.new }
     ensures behind { drop size.new octets.new ≡ drop size.new octets.old }
     ensures refused { (s : HostedSession) (e : SendRefusal)
         → session_held handle.old.keeping ≡ Some s
-        → hand_refusal (length octets.old) s.standing s.session ≡ Some e
+        → hand_refusal (length octets.old) s.session ≡ Some e
         → (result ≡ send_number e)
         × ((size.new ≡ 0)
         × IsSomeAnd (session_held handle.new.keeping)
-        (λ t. IsAt t s.session s.report s.standing)) }
+        (λ t. IsAt t s.session s.report)) }
     ensures empty { session_held handle.old.keeping ≡ None
         → (result ≡ no_session)
         × ((size.new ≡ 0) × (held handle.new.keeping ≡ held handle.old.keeping)) }
@@ -172,7 +171,7 @@ pub extern "C" fn ptpm_session_resume(handle: &mut Handle, attempts: u8) -> u32
         → is_waiting s.session ≡ true
         → (result ≡ 0)
         × IsSomeAnd (session_held handle.new.keeping)
-        (λ t. IsAt t (resumed s.session attempts) s.report s.standing) }
+        (λ t. IsAt t (resumed s.session attempts) s.report) }
     ensures idle { (s : HostedSession)
         → session_held handle.old.keeping ≡ Some s
         → is_waiting s.session ≡ false
@@ -194,7 +193,7 @@ pub extern "C" fn ptpm_session_give_up(handle: &mut Handle) -> u32
         → give_up_refusal s.session ≡ None
         → (result ≡ 0)
         × IsSomeAnd (session_held handle.new.keeping)
-        (λ t. IsAt t (given_up s.session) s.report (changed_standing s.standing)) }
+        (λ t. IsAt t (given_up s.session) s.report) }
     ensures refused { (s : HostedSession) (e : GiveUpRefusal)
         → session_held handle.old.keeping ≡ Some s
         → give_up_refusal s.session ≡ Some e
@@ -215,7 +214,7 @@ pub extern "C" fn ptpm_session_retune(handle: &mut Handle, domain: u8) -> u32
         → session_held handle.old.keeping ≡ Some s
         → (result ≡ 0)
         × IsSomeAnd (session_held handle.new.keeping)
-        (λ t. IsAt t (retuned s.session domain) s.report s.standing) }
+        (λ t. IsAt t (retuned s.session domain) s.report) }
     ensures empty { FindsNoSession handle.old.keeping result handle.new.keeping }
 {
     held!(handle, Hosted::Session(session), NO_SESSION);

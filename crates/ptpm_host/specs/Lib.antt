@@ -34,8 +34,6 @@ pub mod UnderWay
 pub mod KeptBatch
 pub mod SavingClock
 pub mod MostSent
-pub mod SessionStanding
-pub mod SavingSession
 pub mod Device
 pub mod Changing
 pub mod Limits

@@ -231,7 +231,6 @@ give_up_number give_ups.OutOfReach = 112
 
 abbrev pub send_number : SendRefusal → ℕ
 send_number sends.NoRoom = no_room
-send_number sends.Unsaved = unsaved
 send_number (sends.Session refusal) = resume_number refusal
 
 abbrev pub report_number : ReportRefusal → ℕ

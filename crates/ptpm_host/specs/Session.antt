@@ -17,9 +17,7 @@ use Rattle.ptpm_host.specs.declared.refusal.SendRefusal.TheVariants as sends
 use Rattle.ptpm_host.specs.declared.session.Heard.{Heard}
 use Rattle.ptpm_host.specs.declared.session.Heard.TheVariants as heard
 use Rattle.ptpm_host.specs.declared.session.HostedSession.{HostedSession}
-use Rattle.ptpm_host.specs.declared.session_standing.SessionStanding.{SessionStanding}
 use Rattle.ptpm_host.specs.ReportedOutcome.{room_refusal}
-use Rattle.ptpm_host.specs.SessionStanding.{changed_standing, is_withheld}
 
 -- ---- what is asked
 
@@ -36,13 +34,13 @@ ask_of action id port octets = record { action = asked_action action; id = id; p
 
 -- ---- a session as it is kept
 
--- of this value, with this answer to its latest request, and saved so far
-abbrev pub IsAt : HostedSession → SessionValue → Option Report → SessionStanding → Type 0
-IsAt t value report standing = (t.session ≡ value) × (t.report ≡ report) × (t.standing ≡ standing)
+-- of this value, with this answer to its latest request
+abbrev pub IsAt : HostedSession → SessionValue → Option Report → Type 0
+IsAt t value report = (t.session ≡ value) × (t.report ≡ report)
 
 -- the session that was kept, with this request begun, and no answer to it yet
 abbrev pub HasBegun : HostedSession → RequestValue → HostedSession → Type 0
-HasBegun s q t = IsAt t (begun s.session q) None (changed_standing s.standing)
+HasBegun s q t = IsAt t (begun s.session q) None
 
 -- ---- what a call answers that is refused for a reason, and that also asks for memory
 
@@ -53,17 +51,15 @@ pub record IsJudgedBy {T E : Type 0} (first : Option E) (memory : E) (result : R
   pub refused : (e : E) → first ≡ Some e → result ≡ Err e
   pub no_other : IfErr result (λ e. e ≢ memory → first ≡ Some e)
 
--- ---- why nothing is handed out: too little room, then that the session is to be saved first, and then what it is refused for
+-- ---- why nothing is handed out: too little room, and then what it is refused for
 
 abbrev pub message_refusal : ℕ → Option SendRefusal
 message_refusal room = first_of ((nat_lt room 1472, sends.NoRoom) ∷ [])
 
-abbrev pub hand_refusal : ℕ → SessionStanding → SessionValue → Option SendRefusal
-hand_refusal room standing s =
-    option_or (first_of ((nat_lt room 1472, sends.NoRoom) ∷ (is_withheld standing, sends.Unsaved) ∷ []))
-    (option_map sends.Session (send_refusal s))
+abbrev pub hand_refusal : ℕ → SessionValue → Option SendRefusal
+hand_refusal room s = option_or (message_refusal room) (option_map sends.Session (send_refusal s))
 
--- ---- what is made of a datagram, the answer that is kept after it, and whether the session is saved then
+-- ---- what is made of a datagram, and the answer that is kept after it
 
 abbrev pub heard_of : Received → Heard
 heard_of (received.Answered report) = heard.Answered
@@ -72,11 +68,6 @@ heard_of (received.Ignored reason) = heard.Ignored reason
 abbrev pub report_after : Option Report → Received → Option Report
 report_after kept (received.Answered report) = Some report
 report_after kept (received.Ignored reason) = kept
-
--- an answer changes the session
-abbrev pub standing_after : SessionStanding → Received → SessionStanding
-standing_after standing (received.Answered report) = changed_standing standing
-standing_after standing (received.Ignored reason) = standing
 
 -- ---- why no answer is given
 

@@ -35,7 +35,6 @@ mod saving_clock;
 mod sent;
 mod session;
 mod session_settings;
-mod session_standing;
 mod settings;
 mod steps;
 mod survey;

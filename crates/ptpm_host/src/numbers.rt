@@ -331,13 +331,12 @@ pub fn give_up_number(refusal: GiveUpRefusal) -> u32
     }
 }
 
-/// Why no request is handed out, 34, 43, 44 or 118.
+/// Why no request is handed out, 34, 43 or 44.
 pub fn send_number(refusal: SendRefusal) -> u32
     ensures { result ≡ send_number refusal }
 {
     match refusal {
         SendRefusal::NoRoom => NO_ROOM,
-        SendRefusal::Unsaved => UNSAVED,
         SendRefusal::Session(refusal) => resume_number(refusal),
     }
 }

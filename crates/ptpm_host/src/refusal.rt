@@ -102,7 +102,7 @@ pub enum SavingRefusal {
     OutOfMemory(Box<HostedClock>),
 }
 
-/// Why a clock or a session does not count as saved.
+/// Why a clock does not count as saved.
 #[derive(Clone, Copy, Debug, PartialEq, Eq)]
 pub enum SavedRefusal {
     /// The image is of another state.
@@ -154,8 +154,6 @@ pub enum SessionRefusal {
 pub enum SendRefusal {
     /// There is room for fewer than 1,472 octets.
     NoRoom,
-    /// The session is to be saved first.
-    Unsaved,
     /// The session has none to send.
     Session(SendError),
 }

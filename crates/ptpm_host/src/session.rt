@@ -1,6 +1,6 @@
 //! A session with the request that it sends and the answer that it heard, as a host keeps it.
 
-ghost use Rattle.std.specs.Prelude.{◌≡◌, ◌≢◌, ◌≤◌, ◌++◌, ◌∷◌, ◌↔◌, [], false, true, None, Some, IfErr, IfNone, IfOk, IfSome, IsSome, MatchResult, OnErr, OnOk, drop, length, take};
+ghost use Rattle.std.specs.Prelude.{◌≡◌, ◌≤◌, ◌++◌, ◌↔◌, false, true, None, Some, IfErr, IfNone, IfOk, IfSome, IsSome, MatchResult, OnErr, OnOk, drop, length, take};
 ghost use Rattle.ptpm_codec.specs.declared.message.Message.{Message};
 ghost use Rattle.ptpm_codec.specs.Canonical.{canonical};
 ghost use Rattle.ptpm_manager.specs.declared.error.BeginError.{BeginError};
@@ -12,26 +12,20 @@ ghost use Rattle.ptpm_manager.specs.Image.{session_image};
 ghost use Rattle.ptpm_manager.specs.ImageReading.{session_at};
 ghost use Rattle.ptpm_manager.specs.Receiving.{NeedsMemory, left_by, received_of};
 ghost use Rattle.ptpm_manager.specs.Session.{begin_at_refusal, begin_refusal, due_message, give_up_refusal, given_up, is_waiting, resumed, retuned, sent};
-ghost use Rattle.ptpm_saved.specs.Saving.{Comes, Saves};
-ghost use Rattle.ptpm_saved.specs.SavingSession.{Begins, GivesUp, Hears, IsToSend};
-ghost use Rattle.ptpm_host.specs.SavingSession.{AreCalled, note_of};
-ghost use Rattle.ptpm_host.specs.Session.{HasBegun, IsJudgedBy, ask_of, asked_action, hand_refusal, heard_of, report_after, report_refusal, standing_after};
-ghost use Rattle.ptpm_host.specs.SessionStanding.{changed_standing, restored_standing, saved_standing, started_standing, withholding_standing};
+ghost use Rattle.ptpm_host.specs.Session.{HasBegun, IsJudgedBy, ask_of, asked_action, hand_refusal, heard_of, report_after, report_refusal};
 ghost use Rattle.ptpm_host.specs.SessionSettings.{settings_refusal, session_refusal, session_start};
 ghost use Rattle.ptpm_host.specs.ReportedOutcome.{outcome_octets, reported_of, reported_size};
 
-use crate::refusal::{ReportRefusal, SavedRefusal, SendRefusal, SessionRefusal};
+use crate::refusal::{ReportRefusal, SendRefusal, SessionRefusal};
 use crate::reported_outcome::{ReportedOutcome, report_outcome};
 use crate::session_settings::SessionSettings;
-use crate::session_standing::SessionStanding;
 use ptpm_codec::{Action, Buffer, MESSAGE_OCTETS, OutOfMemory};
 use ptpm_manager::{
     BeginError, GiveUpRefusal, Reason, Received, Report, RestoreError, SendError, Session,
 };
 use std::alloc::Global;
 
-/// A session, room for the request that it sends, and the answer to the latest request. Its host may say when it was saved. If it does,
-/// no request is handed out while something is unsaved: what was begun, given up or heard since.
+/// A session, room for the request that it sends, and the answer to the latest request.
 #[derive(Drop)]
 pub struct HostedSession {
     session: Session,
@@ -39,7 +33,6 @@ pub struct HostedSession {
     buffer: Buffer,
     /// None while the latest request is not answered.
     report: Option<Report>,
-    standing: SessionStanding,
 }
 
 /// What a session makes of a datagram.
@@ -56,7 +49,6 @@ impl HostedSession {
     pub fn start(alloc: Global, settings: &SessionSettings) -> Result<HostedSession, SessionRefusal>
         ensures session { IfOk result (λ s. s.session ≡ session_start settings.now) }
         ensures report { IfOk result (λ s. s.report ≡ None) }
-        ensures standing { IfOk result (λ s. s.standing ≡ started_standing) }
         ensures refusal { MatchResult result (λ _. session_refusal settings.now ≡ None)
             (λ e. session_refusal settings.now ≡ Some e) }
     {
@@ -74,7 +66,6 @@ impl HostedSession {
             ),
             buffer: Buffer::new(),
             report: None,
-            standing: SessionStanding::started(),
         })
     }
 
@@ -90,7 +81,6 @@ impl HostedSession {
         ensures session { IfOk result (λ s. s.session ≡ session_at image.now) }
         ensures image { IfOk result (λ s. image.now ≡ session_image s.session) }
         ensures report { IfOk result (λ s. s.report ≡ None) }
-        ensures standing { IfOk result (λ s. s.standing ≡ restored_standing) }
         ensures judged { IsJudgedBy (settings_refusal settings.now image.now)
             RestoreError.OutOfMemory result }
         ensures memory { IfErr result
@@ -108,7 +98,6 @@ impl HostedSession {
             session,
             buffer: Buffer::new(),
             report: None,
-            standing: SessionStanding::restored(),
         })
     }
 
@@ -126,61 +115,6 @@ impl HostedSession {
         self.session.image_into(octets)
     }
 
-    /// What `image` does. Answers also the image's token, by which `saved` knows which state it is of.
-    pub fn image_of(&self, octets: &mut [u8]) -> Option<(usize, u64)>
-        ensures room { IsSome result
-            ↔ (length (session_image self.now.session) ≤ length octets.old) }
-        ensures size { IfSome result (λ r. r.0 ≡ length (session_image self.now.session)) }
-        ensures token { IfSome result (λ r. r.1 ≡ self.now.standing.changes) }
-        ensures octets { IfSome result
-            (λ r. octets.new ≡ session_image self.now.session ++ drop r.0 octets.old) }
-        ensures unchanged { IfNone result (octets.new ≡ octets.old) }
-    {
-        let size = self.image(octets)?;
-        Some((size, u64::from(self.standing.changes)))
-    }
-
-    /// From now on no request is handed out while something is unsaved. A session that was just restored is saved. A session that was
-    /// started is not, before it is saved for the first time. Takes no memory.
-    pub fn withhold(&mut self)
-        ensures { self.new
-            ≡ record self.old { standing = withholding_standing self.old.standing } }
-    {
-        self.standing.withhold();
-    }
-
-    /// Whether its host says when it was saved.
-    pub fn withholds(&self) -> bool
-        ensures { result ≡ self.now.standing.withholds }
-    {
-        self.standing.withholds
-    }
-
-    /// Whether something is unsaved.
-    pub fn is_unsaved(&self) -> bool
-        ensures { result ≡ self.now.standing.is_unsaved }
-    {
-        self.standing.is_unsaved
-    }
-
-    /// Takes its host's word that a restart would find the image of this token. Then requests are handed out again. If it is
-    /// refused, nothing changes. Takes no memory.
-    #[tactic(auto, using(crate::proofs::SessionCalls::saves))]
-    pub fn saved(&mut self, token: u64) -> Result<(), SavedRefusal>
-        ensures called { OnOk result (AreCalled self.old (Saves ∷ []) [] self.new) }
-        ensures saved { OnOk result
-            (self.new ≡ record self.old { standing = saved_standing self.old.standing }) }
-        ensures refusal { MatchResult result (λ _. token ≡ self.old.standing.changes)
-            (λ e. (e ≡ SavedRefusal.OtherImage) × (token ≢ self.old.standing.changes)) }
-        ensures unchanged { OnErr result (self.new ≡ self.old) }
-    {
-        if token != u64::from(self.standing.changes) {
-            return Err(SavedRefusal::OtherImage);
-        }
-        self.standing.save();
-        Ok(())
-    }
-
     /// How many requests were begun.
     pub fn issued(&self) -> u64
         ensures { result ≡ self.now.session.issued }
@@ -192,13 +126,9 @@ impl HostedSession {
     /// The port matters only for an id of a port. The answer to an earlier request is let go. The first reason that holds
     /// is why it is refused, and then nothing changes. Memory is asked only for the request's own copy of the dataField,
     /// and only if nothing else refuses it.
-    #[tactic(auto, using(crate::proofs::SessionCalls::begins))]
     pub fn begin(&mut self, action: u8, id: u16, port: u16, octets: &[u8]) -> Result<(), BeginError>
         ensures begun { OnOk result
             (HasBegun self.old (request_of (ask_of action id port octets.now)) self.new) }
-        ensures called { OnOk result
-            (AreCalled self.old (Comes (Begins (ask_of action id port octets.now)) ∷ []) []
-            self.new) }
         ensures judged { IsJudgedBy
             (begin_refusal self.old.session (ask_of action id port octets.now))
             BeginError.OutOfMemory result }
@@ -207,7 +137,6 @@ impl HostedSession {
         let action = asked_action(action);
         self.session.begin_with(action, id, Some(port), octets)?;
         self.report = None;
-        self.standing.change();
         Ok(())
     }
 
@@ -231,38 +160,28 @@ impl HostedSession {
         let action = asked_action(action);
         self.session.begin_at(action, id, port, octets)?;
         self.report = None;
-        self.standing.change();
         Ok(())
     }
 
     /// Leaves the unanswered request at the head of `octets`, uses one of its attempts, and answers how many octets it has.
-    /// Until `retune` they are the same each time. The octets after them stay. If it is refused, nothing changes. So it is while
-    /// something is unsaved, if its host says when it was saved. Takes no memory.
+    /// Until `retune` they are the same each time. The octets after them stay. If it is refused, nothing changes.
+    /// Takes no memory.
     pub fn send(&mut self, octets: &mut [u8]) -> Result<usize, SendRefusal>
         ensures refusal { MatchResult result
-            (λ _. hand_refusal (length octets.old) self.old.standing self.old.session ≡ None)
-            (λ e. hand_refusal (length octets.old) self.old.standing self.old.session ≡ Some e) }
-        ensures called { self.old.standing.withholds ≡ true →
-            IfOk result
-            (λ n.
-            AreCalled self.old (Comes IsToSend ∷ note_of self.new.session ∷ [])
-            (take n octets.new ∷ []) self.new) }
+            (λ _. hand_refusal (length octets.old) self.old.session ≡ None)
+            (λ e. hand_refusal (length octets.old) self.old.session ≡ Some e) }
         ensures octets { (v : Message) → due_message self.old.session ≡ Some v →
             IfOk result (λ n. take n octets.new ≡ canonical v) }
         ensures within { IfOk result (λ n. n ≤ length octets.new) }
         ensures behind { IfOk result (λ n. drop n octets.new ≡ drop n octets.old) }
         ensures sent { OnOk result (self.new.session ≡ sent self.old.session) }
         ensures report { self.new.report ≡ self.old.report }
-        ensures standing { self.new.standing ≡ self.old.standing }
         ensures size { length octets.new ≡ length octets.old }
         ensures unchanged { OnErr result (self.new.session ≡ self.old.session) }
         ensures untouched { OnErr result (octets.new ≡ octets.old) }
     {
         if octets.len() < MESSAGE_OCTETS {
             return Err(SendRefusal::NoRoom);
-        }
-        if self.standing.is_withheld() {
-            return Err(SendRefusal::Unsaved);
         }
         if let Err(refusal) = self.session.send(&mut self.buffer) {
             return Err(SendRefusal::Session(refusal));
@@ -273,15 +192,11 @@ impl HostedSession {
     }
 
     /// Gives the unanswered request this many attempts, whatever was left. Takes no memory.
-    #[tactic(auto, using(crate::proofs::SessionCalls::resumes))]
     pub fn resume(&mut self, attempts: u8) -> Result<(), SendError>
         ensures refusal { MatchResult result (λ _. is_waiting self.old.session ≡ true)
             (λ e. (e ≡ SendError.Idle) × (is_waiting self.old.session ≡ false)) }
         ensures resumed { OnOk result (self.new.session ≡ resumed self.old.session attempts) }
-        ensures called { OnOk result
-            (AreCalled self.old (note_of self.new.session ∷ []) [] self.new) }
         ensures report { self.new.report ≡ self.old.report }
-        ensures standing { self.new.standing ≡ self.old.standing }
         ensures unchanged { OnErr result (self.new ≡ self.old) }
     {
         self.session.resume(attempts)
@@ -289,37 +204,28 @@ impl HostedSession {
 
     /// Lets the unanswered request go, so that the next can be begun. No answer to it is taken any more. The clock may have carried
     /// it out, or may still, until it takes a later request of this session. Takes no memory.
-    #[tactic(auto, using(crate::proofs::SessionCalls::gives_up))]
     pub fn give_up(&mut self) -> Result<(), GiveUpRefusal>
         ensures refusal { MatchResult result (λ _. give_up_refusal self.old.session ≡ None)
             (λ e. give_up_refusal self.old.session ≡ Some e) }
         ensures given_up { OnOk result (self.new.session ≡ given_up self.old.session) }
-        ensures called { OnOk result (AreCalled self.old (Comes GivesUp ∷ []) [] self.new) }
-        ensures standing { OnOk result (self.new.standing ≡ changed_standing self.old.standing) }
         ensures idle { OnOk result (is_waiting self.new.session ≡ false) }
         ensures report { self.new.report ≡ self.old.report }
         ensures unchanged { OnErr result (self.new ≡ self.old) }
     {
-        self.session.give_up()?;
-        self.standing.change();
-        Ok(())
+        self.session.give_up()
     }
 
     /// From now on requests are sent, and replies expected, in this domain, also of a request that was begun before. Takes
     /// no memory.
-    #[tactic(auto, using(crate::proofs::SessionCalls::retunes))]
     pub fn retune(&mut self, domain: u8)
         ensures session { self.new.session ≡ retuned self.old.session domain }
-        ensures called { AreCalled self.old (note_of self.new.session ∷ []) [] self.new }
         ensures report { self.new.report ≡ self.old.report }
-        ensures standing { self.new.standing ≡ self.old.standing }
     {
         self.session.retune(domain);
     }
 
     /// What the session makes of a datagram: if it answers the unanswered request, that answer is kept, and the next one
     /// can be begun. Memory is asked only for the dataField of a RESPONSE; if it is refused, nothing changes.
-    #[tactic(auto, using(crate::proofs::SessionCalls::hears))]
     pub fn receive(&mut self, datagram: &[u8]) -> Result<Heard, OutOfMemory>
         ensures heard { IfOk result
             (λ h. h ≡ heard_of (received_of self.old.session datagram.now)) }
@@ -329,18 +235,12 @@ impl HostedSession {
         ensures report { OnOk result
             (self.new.report
             ≡ report_after self.old.report (received_of self.old.session datagram.now)) }
-        ensures standing { OnOk result
-            (self.new.standing
-            ≡ standing_after self.old.standing (received_of self.old.session datagram.now)) }
-        ensures called { OnOk result
-            (AreCalled self.old (Comes (Hears datagram.now) ∷ []) [] self.new) }
         ensures memory { OnErr result (NeedsMemory (received_of self.old.session datagram.now)) }
         ensures unchanged { OnErr result (self.new ≡ self.old) }
     {
         match self.session.receive(datagram)? {
             Received::Answered(report) => {
                 self.report = Some(report);
-                self.standing.change();
                 Ok(Heard::Answered)
             }
             Received::Ignored(reason) => Ok(Heard::Ignored(reason)),

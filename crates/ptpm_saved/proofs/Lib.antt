@@ -9,7 +9,6 @@ pub mod SavingLaws
 pub mod SavingClockLaws
 pub mod SavingSessionLaws
 pub mod WrittenLemmas
-pub mod WithholdingLaws
 pub mod NextSessionLaws
 pub mod BatchingLaws
 pub mod BatchingClockLaws

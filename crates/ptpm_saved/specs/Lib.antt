@@ -5,7 +5,6 @@ pub mod Restoring
 pub mod Saving
 pub mod SavingClock
 pub mod SavingSession
-pub mod Withholding
 pub mod Written
 pub mod NextSession
 pub mod Batching

@@ -79,10 +79,3 @@ session_process = record {
   noted = λ s n. resumed (retuned s n.domain) n.attempts;
   back = λ s. record { domain = s.domain; attempts = s.attempts_left };
 }
-
--- while something is unsaved, only a request that is to be sent is held
-abbrev pub held_by_session : SessionInput → Bool
-held_by_session (Begins a) = false
-held_by_session IsToSend = true
-held_by_session GivesUp = false
-held_by_session (Hears datagram) = false

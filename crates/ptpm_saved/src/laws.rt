@@ -11,13 +11,12 @@ ghost use Rattle.ptpm_data.specs.ObservationBack.{Observation};
 ghost use Rattle.ptpm_data.specs.Request.{RequestValue};
 ghost use Rattle.ptpm_table.specs.Managers.{Clock};
 ghost use Rattle.ptpm_saved.specs.NextSession.{CanBeginEach, CanGiveUpEach, IsIdle, IsOver, counted_after, message_with_hops, next_session, with_hops};
-ghost use Rattle.ptpm_saved.specs.Saving.{Device, Event, Happening, IsAsIfPowered, ReportsAsIfPowered, all_messages, all_reports, happen_all, started};
-ghost use Rattle.ptpm_saved.specs.Withholding.{Withholds, called_each, events_of};
+ghost use Rattle.ptpm_saved.specs.Saving.{Event, Happening, IsAsIfPowered, ReportsAsIfPowered, all_messages, all_reports, happen_all, started};
 ghost use Rattle.ptpm_saved.specs.Batching.{Call, IsDevice, all_events, as_device, begun, calls_each};
 ghost use Rattle.ptpm_saved.specs.BatchingClock.{is_of_manager};
 ghost use Rattle.ptpm_manager.specs.Session.{SessionValue};
 ghost use Rattle.ptpm_manager.specs.Setup.{request_message};
-ghost use Rattle.ptpm_saved.specs.SavingSession.{SessionInput, SessionNote, held_by_session, session_process, session_reports};
+ghost use Rattle.ptpm_saved.specs.SavingSession.{SessionInput, SessionNote, session_process, session_reports};
 ghost use Rattle.ptpm_saved.specs.SavingClock.{Datagram, clock_process};
 ghost use Rattle.ptpm_saved.specs.Image.{AreEntries, IsSaved, clock_image, saved_of};
 
@@ -105,18 +104,6 @@ pub fn batching_clock_law()
         (as_device (clock_process c) (calls_each (clock_process c) (is_of_manager c) (begun s) calls)) }
     ensures alone { (c : Clock) (s : State) (e : Entries) (x : Datagram) → is_of_manager c x ≡ false
         → outbox_of (turn c s x.0 x.1) ≡ outbox_of (turn c (record { sets = s.sets; entries = e }) x.0 x.1) }
-{}
-
-/// A session whose host says when it was saved sends nothing while something is unsaved. It still hears and begins meanwhile. Its host
-/// may make any calls, in any order. The calls are events at a session that saves before it asks, so that session's law holds for
-/// them. The premise is that the host says of no image that it is saved before a restart would find it.
-pub fn withholding_session_law()
-    ensures powered { (s : SessionValue) (calls : List (Event SessionInput SessionNote))
-        → IsAsIfPowered session_process s
-        (events_of session_process held_by_session (started s) calls)
-        (called_each session_process held_by_session (started s) calls) }
-    ensures withholds { (d : Device SessionValue (List ℕ)) (x : SessionInput)
-        → Withholds session_process held_by_session d x }
 {}
 
 /// The entries of a table are sixteen at most, in the order of their managers. Their managers are those of the table, and the

@@ -101,29 +101,6 @@ static void run_image(char *words) {
     say_written(answer, "SAVED", size, say_octets);
 }
 
-static void run_saving(char *words) {
-    (void)words;
-    say_outcome(ptpm_session_saving(&session), "SAVING");
-}
-
-/* The image is what `session-image` shows, so only its token is shown, and whether it is another. */
-static void run_image_of(char *words) {
-    static uint8_t image[PTPM_SESSION_IMAGE_OCTETS];
-    size_t size = 1, more = 0, octets = next_room(&words, PTPM_SESSION_IMAGE_OCTETS);
-    uint64_t token = 0xee;
-    clear_room();
-    uint32_t answer = ptpm_session_image_of(&session, room, octets, &size, &token);
-    say("%s %llu\n", answer_name(answer, "SAVED"), (unsigned long long)token);
-    if (!wrote_alone(size)) say("it writes past what it says\n");
-    if (answer == PTPM_SAVED && (ptpm_session_image(&session, image, sizeof image, &more) != PTPM_SAVED || more != size
-                                 || memcmp(room, image, size) != 0)) say("it is another image\n");
-}
-
-/* `session-saved TOKEN`. */
-static void run_saved(char *words) {
-    say_outcome(ptpm_session_saved(&session, (uint64_t)next_number(&words, 0)), "SAVED");
-}
-
 struct restore { struct ptpm_session_settings settings; struct octets image; };
 
 static uint32_t restore(void *given) {
@@ -149,5 +126,5 @@ const struct command session_commands[] = {
     { "session", run_session }, { "begin", run_begin }, { "begin-at", run_begin_at }, { "send", run_send }, { "resume", run_resume },
     { "give-up", run_give_up }, { "retune", run_retune }, { "receive", run_receive }, { "issued", run_issued },
     { "report", run_report }, { "session-image", run_image }, { "restore-session", run_restore }, { "stop-session", run_stop },
-    { "saving-session", run_saving }, { "session-image-of", run_image_of }, { "session-saved", run_saved }, { NULL, NULL },
+    { NULL, NULL },
 };
