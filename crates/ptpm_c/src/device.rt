@@ -287,7 +287,9 @@ pub extern "C" fn ptpm_clock_take(
     }
 }
 
-/// What becomes of a datagram at a clock that sends at once.
+/// What becomes of a datagram at a clock that sends at once. Never inlined: so the stack has either its data sets or those of a clock
+/// that is saved.
+#[inline(never)]
 fn hand_in(
     clock: &mut HostedClock,
     port: u16,

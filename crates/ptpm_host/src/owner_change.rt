@@ -78,7 +78,9 @@ impl HostedClock {
 
 impl HostedClock {
     /// One turn for a datagram of the device's owner, at a port that the clock has, with places enough for whatever it sends. It is
-    /// judged as that of a manager with every right, and nothing of it is kept.
+    /// judged as that of a manager with every right, and nothing of it is kept. Never inlined: so the stack has its table only for the
+    /// owner's datagrams.
+    #[inline(never)]
     pub(crate) fn take_owner_turn(
         &mut self,
         port: u16,
