@@ -8,6 +8,7 @@ use Rattle.std.proofs.lemmas.List.Folds.{list_any_none}
 use Rattle.std.proofs.lemmas.Str.Pattern.{IsSplitOnceResult, split_parts}
 use Rattle.ptpm_plan.specs.Printed.{AreSteps, IsStep, Writes, has_feed}
 use Rattle.ptpm_plan.specs.declared.change.Change.{Change}
+use Rattle.ptpm_plan.specs.declared.surveyed.Surveyed.{Surveyed}
 
 no_feed : (xs : List ℕ) → ((i : ℕ) → i < length xs → get_or xs i 0 ≢ 10) → has_feed xs ≡ false
 no_feed xs h = list_any_none (λ octet. octet == 10) xs (λ k d below.
@@ -22,40 +23,40 @@ pub cut_front : (bs : List ℕ) (r : Option (Bor (List ℕ) × Bor (List ℕ))) 
 cut_front bs None h = tt
 cut_front bs (Some x) h = no_feed x.0.now (split_parts 10 bs (Some x) h (omega arith)).1
 
-one_step : (n m : ℕ) (c : Change) (line : List ℕ) → n ≡ m → IsStep n c line → AreSteps m (c ∷ []) line
-one_step n m c line e h = record {
+one_step : (s : Surveyed) (n m : ℕ) (c : Change) (line : List ℕ) → n ≡ m → IsStep s n c line → AreSteps s m (c ∷ []) line
+one_step s n m c line e h = record {
   first = line;
   others = [];
   is = sym (append-nil line);
-  is_first = subst (λ k. IsStep k c line) e h;
+  is_first = subst (λ k. IsStep s k c line) e h;
   are_others = refl;
 }
 
-steps_more : (n m : ℕ) (cs : List Change) (c : Change) (text line : List ℕ)
-    → m ≡ n + length cs → AreSteps n cs text → IsStep m c line → AreSteps n (cs ++ c ∷ []) (text ++ line)
-steps_more n m [] c text line at h k = subst (AreSteps n (c ∷ [])) (ap (λ xs. xs ++ line) (sym h)) (one_step m n c line (omega (arith, at)) k)
-steps_more n m (x ∷ xs) c text line at h k = record {
+steps_more : (s : Surveyed) (n m : ℕ) (cs : List Change) (c : Change) (text line : List ℕ)
+    → m ≡ n + length cs → AreSteps s n cs text → IsStep s m c line → AreSteps s n (cs ++ c ∷ []) (text ++ line)
+steps_more s n m [] c text line at h k = subst (AreSteps s n (c ∷ [])) (ap (λ xs. xs ++ line) (sym h)) (one_step s m n c line (omega (arith, at)) k)
+steps_more s n m (x ∷ xs) c text line at h k = record {
   first = h.first;
   others = h.others ++ line;
   is = ap (λ ys. ys ++ line) h.is ∙ append_assoc h.first h.others line;
   is_first = h.is_first;
-  are_others = steps_more (n + 1) m xs c h.others line (omega (arith, at)) h.are_others k;
+  are_others = steps_more s (n + 1) m xs c h.others line (omega (arith, at)) h.are_others k;
 }
 
-pub no_steps : (old : Option (List ℕ)) → Writes (AreSteps 1 []) old old
-no_steps old = record { text = []; is = refl; written = Appends-nil old }
+pub no_steps : (s : Surveyed) (old : Option (List ℕ)) → Writes (AreSteps s 1 []) old old
+no_steps s old = record { text = []; is = refl; written = Appends-nil old }
 
-pub step_written : (cs : List Change) (i : ℕ) (c : Change) (old mid new : Option (List ℕ))
+pub step_written : (s : Surveyed) (cs : List Change) (i : ℕ) (c : Change) (old mid new : Option (List ℕ))
     → i < length cs → c ≡ get_or cs i c
-    → Writes (AreSteps 1 (take i cs)) old mid → Writes (IsStep (i + 1) c) mid new
-    → Writes (AreSteps 1 (take (i + 1) cs)) old new
-step_written cs i c old mid new below is h k = record {
+    → Writes (AreSteps s 1 (take i cs)) old mid → Writes (IsStep s (i + 1) c) mid new
+    → Writes (AreSteps s 1 (take (i + 1) cs)) old new
+step_written s cs i c old mid new below is h k = record {
   text = h.text ++ k.text;
-  is = subst (λ xs. AreSteps 1 xs (h.text ++ k.text)) (ap (λ x. take i cs ++ x ∷ []) is ∙ sym (take_more cs i c below))
-      (steps_more 1 (i + 1) (take i cs) c h.text k.text (omega (arith, length-take i cs, below)) h.is k.is);
+  is = subst (λ xs. AreSteps s 1 xs (h.text ++ k.text)) (ap (λ x. take i cs ++ x ∷ []) is ∙ sym (take_more cs i c below))
+      (steps_more s 1 (i + 1) (take i cs) c h.text k.text (omega (arith, length-take i cs, below)) h.is k.is);
   written = Appends-trans old mid new h.text k.text h.written k.written;
 }
 
-pub all_steps : (cs : List Change) (i : ℕ) (old new : Option (List ℕ))
-    → length cs ≤ i → Writes (AreSteps 1 (take i cs)) old new → Writes (AreSteps 1 cs) old new
-all_steps cs i old new past h = subst (λ xs. Writes (AreSteps 1 xs) old new) (take_all i cs past) h
+pub all_steps : (s : Surveyed) (cs : List Change) (i : ℕ) (old new : Option (List ℕ))
+    → length cs ≤ i → Writes (AreSteps s 1 (take i cs)) old new → Writes (AreSteps s 1 cs) old new
+all_steps s cs i old new past h = subst (λ xs. Writes (AreSteps s 1 xs) old new) (take_all i cs past) h

@@ -1,5 +1,5 @@
 -- In which order the changes of a plan are asked (this project's profile).
-use Rattle.std.specs.Prelude.{ℕ, nat_lt, int_lt, not, ◌&&◌, List, find, Option, None, Some, if◌then◌else◌, Bool, true, false}
+use Rattle.std.specs.Prelude.{ℕ, nat_lt, int_lt, not, ◌&&◌, List, [], find, Option, None, Some, if◌then◌else◌, Bool, true, false}
 use Rattle.std.specs.Option.{option_map, option_map_or}
 use Rattle.ptpm_codec.specs.Identity.{same_clock}
 use Rattle.ptpm_codec.specs.Layout.{octet}
@@ -113,3 +113,7 @@ group turns.Unranked = 5
 group (turns.Better after) = 5
 group (turns.Worse best after) = 5
 group (turns.Move hops) = 6
+
+-- that of a change: ranks don't count, since all changes of them are of one group
+abbrev pub group_of : Surveyed → Change → ℕ
+group_of s c = group (turn_by s [] [] (concern_of c.id) c)

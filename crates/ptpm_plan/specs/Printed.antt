@@ -11,6 +11,7 @@ use Rattle.ptpm_commands.specs.Taken.{HasNumbers, line_datagram, taken}
 use Rattle.ptpm_text.specs.Lines.{whole_lines}
 use Rattle.ptpm_plan.specs.Answers.{answer_in}
 use Rattle.ptpm_plan.specs.FileText.{file_of, file_value}
+use Rattle.ptpm_plan.specs.Order.{group_of}
 use Rattle.ptpm_plan.specs.Outcome.{or_changes, status_of}
 use Rattle.ptpm_plan.specs.Planned.{IsPlanOf}
 use Rattle.ptpm_plan.specs.PlannedId.{number_of}
@@ -18,13 +19,15 @@ use Rattle.ptpm_plan.specs.declared.answer.Answer.{Answer}
 use Rattle.ptpm_plan.specs.declared.answers.Answers.{Answers}
 use Rattle.ptpm_plan.specs.declared.change.Change.{Change}
 use Rattle.ptpm_plan.specs.declared.plan.Plan.{Plan}
+use Rattle.ptpm_plan.specs.declared.surveyed.Surveyed.{Surveyed}
 use Rattle.ptpm_plan.specs.declared.wish.PlanFile.{PlanFile}
 
 -- ---- the lines of steps, which `apply` reads
 
--- What a step is: its number, the domain, the clock and the port, the id in hexadecimal, and the dataFields before and after.
-unfoldable pub step_clock : ℕ → Change → List ℕ
-step_clock number c = codes "step " ++ decimal number ++ codes " " ++ decimal c.domain ++ codes " " ++ clock_identity_text c.clock.0
+-- What a step is: its number and group, the domain, the clock and the port, the id in hexadecimal, and the dataFields before and after.
+unfoldable pub step_clock : ℕ → ℕ → Change → List ℕ
+step_clock number group c =
+    codes "step " ++ decimal number ++ codes " " ++ decimal group ++ codes " " ++ decimal c.domain ++ codes " " ++ clock_identity_text c.clock.0
 
 unfoldable pub step_member : Change → List ℕ
 step_member c = codes " " ++ decimal c.port ++ codes " " ++ encode_lower (to_be_bytes w16 (number_of c.id))
@@ -32,16 +35,16 @@ step_member c = codes " " ++ decimal c.port ++ codes " " ++ encode_lower (to_be_
 unfoldable pub step_fields : Change → List ℕ
 step_fields c = codes " " ++ encode_lower c.before.items ++ codes " " ++ encode_lower c.after.items ++ codes " "
 
-abbrev pub step_head : ℕ → Change → List ℕ
-step_head number c = (step_clock number c ++ step_member c) ++ step_fields c
+abbrev pub step_head : Surveyed → ℕ → Change → List ℕ
+step_head s number c = (step_clock number (group_of s c) c ++ step_member c) ++ step_fields c
 
 abbrev pub has_feed : List ℕ → Bool
 has_feed text = list_any (λ octet. octet == 10) text
 
 -- a line that says what a step is, and then has words for a person
-pub record IsStep (number : ℕ) (c : Change) (line : List ℕ) : Type 0 where
+pub record IsStep (s : Surveyed) (number : ℕ) (c : Change) (line : List ℕ) : Type 0 where
   pub words : List ℕ
-  pub is : line ≡ step_head number c ++ words ++ 10 ∷ []
+  pub is : line ≡ step_head s number c ++ words ++ 10 ∷ []
   pub one : has_feed words ≡ false
 
 -- one, and then the others
@@ -53,9 +56,9 @@ pub record Begins (First Others : List ℕ → Type 0) (text : List ℕ) : Type 
   pub are_others : Others others
 
 -- a line for each change, in their order, numbered from this on
-abbrev pub AreSteps : ℕ → List Change → List ℕ → Type 0
-AreSteps number [] text = text ≡ []
-AreSteps number (c ∷ cs) text = Begins (IsStep number c) (AreSteps (number + 1) cs) text
+abbrev pub AreSteps : Surveyed → ℕ → List Change → List ℕ → Type 0
+AreSteps s number [] text = text ≡ []
+AreSteps s number (c ∷ cs) text = Begins (IsStep s number c) (AreSteps s (number + 1) cs) text
 
 -- what was written is of this kind
 pub record Writes (Is : List ℕ → Type 0) (old new : Option (List ℕ)) : Type 0 where

@@ -3,7 +3,7 @@
 
 ghost use Rattle.std.specs.Prelude.{◌≡◌, IfOk, List, Option, Some};
 ghost use Rattle.std.specs.List.Sorted.{IsPermutation, IsSortedByKey, IsStableByKey};
-ghost use Rattle.ptpm_plan.specs.Order.{grows, hops_of, is_best, is_later, is_longer, is_master, is_sender, key_by, order_key, patience, rank_in, rank_turn, stays_best, turn_by, turn_of_interval, turn_of_ranks};
+ghost use Rattle.ptpm_plan.specs.Order.{group, group_of, grows, hops_of, is_best, is_later, is_longer, is_master, is_sender, key_by, order_key, patience, rank_in, rank_turn, stays_best, turn_by, turn_of_interval, turn_of_ranks};
 ghost use Rattle.ptpm_plan.specs.PlannedId.{concern_of};
 
 use crate::best_clock::{Rank, RankedClock, best_in, first_octet, ranks_after, ranks_of};
@@ -197,6 +197,32 @@ fn is_best(domain: u8, clock: ClockIdentity, ranks: &[RankedClock]) -> bool
     ensures { result ≡ is_best domain clock ranks.now }
 {
     best_in(domain, ranks).map_or(false, |best| best.identity == clock)
+}
+
+/// The group of a turn.
+fn group(turn: Turn) -> u8
+    ensures { result ≡ group turn }
+{
+    match turn {
+        Turn::MorePatience => 1,
+        Turn::Sender => 2,
+        Turn::Free => 3,
+        Turn::LessPatience => 4,
+        Turn::Unranked | Turn::Better(_) | Turn::Worse(..) => 5,
+        Turn::Move(_) => 6,
+    }
+}
+
+/// The group of a change, from 1 to 6. All changes of ranks are of one, so the ranks need not be known.
+pub fn group_of(surveyed: &Surveyed, change: &Change) -> u8
+    ensures { result ≡ group_of surveyed.now change.now }
+{
+    let outlook = Outlook {
+        surveyed,
+        before: &[],
+        after: &[],
+    };
+    group(outlook.turn(change))
 }
 
 /// The changes in the order in which they are asked.

@@ -93,7 +93,8 @@ fn print_report<O: Write>(
         PlanForm::Steps => {
             report.print(alloc, out)?;
             writeln!(out)?;
-            print_steps(alloc, report.plan.changes.as_slice(), out)
+            let plan = report.plan;
+            print_steps(alloc, &plan.surveyed, plan.changes.as_slice(), out)
         }
     }
 }

@@ -6,9 +6,11 @@ ghost use Rattle.ptpm_plan.specs.Printed.{AreSteps, IsStep, Writes, has_feed, st
 use crate::answers::Answers;
 use crate::change::Change;
 use crate::digest::{digest_of, push_clock, push_number, push_octets};
+use crate::order::group_of;
 use crate::outcome::{Counted, Why, is_refused, not_reached};
 use crate::places::{Arrow, Values, Who, shown_of};
 use crate::plan::Plan;
+use crate::surveyed::Surveyed;
 use crate::verdict::Verdict;
 use crate::wish::PlanFile;
 use ptpm_commands::Fault;
@@ -131,26 +133,28 @@ impl Report<'_> {
 /// Prints a line for each change with its dataFields.
 pub(crate) fn print_steps<O: Write>(
     alloc: Global,
+    surveyed: &Surveyed,
     changes: &[Change],
     out: &mut O,
 ) -> Result<(), Fault>
-    ensures { OnOk result (Writes (AreSteps 1 changes.now) (O.contents out.old) (O.contents out.new)) }
+    ensures { OnOk result (Writes (AreSteps surveyed.now 1 changes.now) (O.contents out.old) (O.contents out.new)) }
 {
     for place in 0..changes.len() {
-        print_step(alloc, place + 1, &changes[place], out)?;
+        print_step(alloc, surveyed, place + 1, &changes[place], out)?;
     }
     Ok(())
 }
 
 fn print_step<O: Write>(
     alloc: Global,
+    surveyed: &Surveyed,
     number: usize,
     change: &Change,
     out: &mut O,
 ) -> Result<(), Fault>
-    ensures { OnOk result (Writes (IsStep number change.now) (O.contents out.old) (O.contents out.new)) }
+    ensures { OnOk result (Writes (IsStep surveyed.now number change.now) (O.contents out.old) (O.contents out.new)) }
 {
-    let head = step_head(alloc, number, change)?;
+    let head = step_head(alloc, surveyed, number, change)?;
     let words = change_words(alloc, change)?;
     let who = Who(change.clock, change.port);
     let words = format!(in alloc; "{who} {words}")?;
@@ -159,21 +163,33 @@ fn print_step<O: Write>(
 }
 
 /// What a step is, up to its words.
-fn step_head(alloc: Global, number: usize, change: &Change) -> Result<String, AllocError>
-    ensures { IfOk result (λ t. string_bytes t ≡ step_head number change.now) }
+fn step_head(
+    alloc: Global,
+    surveyed: &Surveyed,
+    number: usize,
+    change: &Change,
+) -> Result<String, AllocError>
+    ensures { IfOk result (λ t. string_bytes t ≡ step_head surveyed.now number change.now) }
 {
-    let mut text = step_clock(alloc, number, change)?;
+    let mut text = step_clock(alloc, number, group_of(surveyed, change), change)?;
     text.push_str(step_member(alloc, change)?.as_str())?;
     text.push_str(step_fields(alloc, change)?.as_str())?;
     Ok(text)
 }
 
 #[tactic(auto, unfolding(crate::specs::Printed::step_clock))]
-fn step_clock(alloc: Global, number: usize, change: &Change) -> Result<String, AllocError>
-    ensures { IfOk result (λ t. string_bytes t ≡ step_clock number change.now) }
+fn step_clock(
+    alloc: Global,
+    number: usize,
+    group: u8,
+    change: &Change,
+) -> Result<String, AllocError>
+    ensures { IfOk result (λ t. string_bytes t ≡ step_clock number group change.now) }
 {
     let mut text = String::from_str(alloc, "step ")?;
     push_number(alloc, number, &mut text)?;
+    text.push_str(" ")?;
+    push_number(alloc, usize::from(group), &mut text)?;
     text.push_str(" ")?;
     push_number(alloc, usize::from(change.domain), &mut text)?;
     text.push_str(" ")?;

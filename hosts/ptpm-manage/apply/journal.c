@@ -16,9 +16,6 @@
 /* What a text in a journal is. */
 enum { TEXT_OF_CHECK = 1, SKIPPED_LINE = 2 };
 
-/* No group is known of a step here. Each comes after all before it. */
-enum { LAST_GROUP = 6 };
-
 const char *ending_name(enum ending ending) {
     static const char *const endings[] = {
         "open", "complete", "refused", "answered", "changed", "given up", "rolled back", "stopped", "in part",
@@ -92,7 +89,7 @@ static void write_text(FILE *to, struct journal *journal, uint8_t what, const ch
 
 static void write_step(FILE *to, struct journal *journal, const struct step *step) {
     struct ptpm_journal_record record = {
-        .kind = PTPM_RECORD_STEP, .domain = step->domain, .group = LAST_GROUP, .port = step->port, .id = step->id,
+        .kind = PTPM_RECORD_STEP, .domain = step->domain, .group = step->group, .port = step->port, .id = step->id,
         .first_size = (uint16_t)step->before.size, .second_size = (uint16_t)step->after.size,
     };
     memcpy(record.clock, step->clock, 8);
@@ -152,7 +149,7 @@ static bool take_head(struct journal *journal, const struct ptpm_journal_record 
 
 static bool take_step(struct journal *journal, const struct ptpm_journal_record *record, const uint8_t *octets) {
     struct step *step = &journal->steps[journal->count++];
-    *step = (struct step){ .domain = record->domain, .port = record->port, .id = record->id };
+    *step = (struct step){ .domain = record->domain, .group = record->group, .port = record->port, .id = record->id };
     memcpy(step->clock, record->clock, 8);
     return take_value(&step->before, octets + record->first, record->first_size)
            && take_value(&step->after, octets + record->second, record->second_size);

@@ -17,7 +17,7 @@ struct value { size_t size; uint8_t octets[MOST_VALUE]; };
 
 /* A SET of a member, at a port if it is one of a port, and what the member was before it. */
 struct step {
-    uint8_t clock[8], domain;
+    uint8_t clock[8], domain, group;   /* the group of the order (docs/changing-a-site.md) */
     uint16_t port, id;
     struct value before, after;
 };

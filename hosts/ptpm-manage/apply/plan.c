@@ -22,7 +22,7 @@
 #include <string.h>
 #include <sys/stat.h>
 
-enum { MOST_ARGUMENTS = 5, STEP_WORDS = 8 };
+enum { MOST_ARGUMENTS = 5, STEP_WORDS = 9 };
 
 /* The plan of a pipe: `ptpm plan` reads it for each of its forms. */
 static struct piece piped;
@@ -111,20 +111,22 @@ static bool take_value(struct value *value, const char *text) {
     return *text == '\0' && value->size > 0;
 }
 
-/* A line `step NUMBER DOMAIN IDENTITY PORT ID BEFORE AFTER TEXT`; whether it is one. */
+/* A line `step NUMBER GROUP DOMAIN IDENTITY PORT ID BEFORE AFTER TEXT`; whether it is one. */
 static bool take_step(struct step *step, char *line, size_t number) {
     char *words[STEP_WORDS], *rest = NULL;
     for (int i = 0; i < STEP_WORDS; i++) {
         words[i] = strtok_r(i == 0 ? line : NULL, " ", &rest);
         if (words[i] == NULL) return false;
     }
-    long domain = decimal(words[2], DOMAINS - 1), port = decimal(words[4], UINT16_MAX), id = id_named(words[5]);
-    bool is_clock = ptpm_identity_parse(words[3], strlen(words[3]), step->clock);
+    long group = decimal(words[2], UINT8_MAX), domain = decimal(words[3], DOMAINS - 1), port = decimal(words[5], UINT16_MAX);
+    long id = id_named(words[6]);
+    bool is_clock = ptpm_identity_parse(words[4], strlen(words[4]), step->clock);
+    step->group = (uint8_t)group;
     step->domain = (uint8_t)domain;
     step->port = (uint16_t)port;
     step->id = (uint16_t)id;
-    return strcmp(words[0], "step") == 0 && (size_t)decimal(words[1], LONG_MAX / 10) == number && domain >= 0 && port >= 0 && id >= 0
-           && is_clock && take_value(&step->before, words[6]) && take_value(&step->after, words[7]);
+    return strcmp(words[0], "step") == 0 && (size_t)decimal(words[1], LONG_MAX / 10) == number && group > 0 && domain >= 0 && port >= 0 && id >= 0
+           && is_clock && take_value(&step->before, words[7]) && take_value(&step->after, words[8]);
 }
 
 /* Reads the steps after an empty line, and takes that and them off the text. */

@@ -4,4 +4,4 @@ use Rattle.ptpm_plan.proofs.report.print_steps.Given as goal
 
 abbrev pub invariant-loop-place : goal.invariant-loop-place
 invariant-loop-place g l =
-    Writes (AreSteps 1 (take l.place l.changes)) (g.O.Write.contents l.initial.out) (g.O.Write.contents l.out)
+    Writes (AreSteps l.surveyed 1 (take l.place l.changes)) (g.O.Write.contents l.initial.out) (g.O.Write.contents l.out)
