@@ -102,7 +102,7 @@ void say_started(void) {
         size += (size_t)snprintf(text + size, sizeof text - size, " port %zu at %.128s %s,", i + 1, where, state_of(i + 1));
     }
     if (options->privileges.is_by_default) {
-        say("it is user %s from here on: --user names another, and --user root stays root", options->privileges.user_name);
+        say("dropping privileges to user '%s' (use --user NAME, or --user root to keep root)", options->privileges.user_name);
     }
     say("%s %zu manager%s", text, options->manager_count, options->manager_count == 1 ? "" : "s");
 }

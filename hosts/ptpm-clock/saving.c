@@ -45,7 +45,7 @@ _Noreturn static void end_with(int status) {
 _Noreturn static void refuse_file(const char *why) {
     bool is_right = why == NULL && errno == EACCES && options->privileges.is_by_default;
     say("%s%s: %s", options->state, why != NULL ? "" : kept_fault(), why != NULL ? why : strerror(errno));
-    if (is_right) say("it is user %s here: --user names another, and --user root stays root", options->privileges.user_name);
+    if (is_right) say("running as user '%s' (use --user NAME, or --user root to keep root)", options->privileges.user_name);
     end_with(NOT_OPENED);
 }
 

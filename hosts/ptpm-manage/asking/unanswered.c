@@ -163,6 +163,6 @@ bool tell_unreadable(uint32_t refusal, const uint8_t source[10], const uint8_t *
     if (is_told) return true;
     is_told = true;
     write_identity(clock, datagram + SOURCE_AT);
-    complain("an answer of %s can't be read, and is not taken: %s", clock, answer_name(refusal));
+    complain("malformed reply from %s ignored: %s", clock, answer_name(refusal));
     return true;
 }

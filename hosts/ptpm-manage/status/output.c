@@ -246,7 +246,7 @@ static const char *end_of_link(const char *at) {
 
 void find_output_file(const char *at) {
     struct stat found;
-    if (stat(at, &found) == 0 && !S_ISREG(found.st_mode)) refuse("--output %s: it is no regular file, and would be replaced", at);
+    if (stat(at, &found) == 0 && !S_ISREG(found.st_mode)) refuse("--output %s: not a regular file; refusing to replace it", at);
     path = end_of_link(at);
     file.mode = READABLE_BY_ALL;
     umask(022);
