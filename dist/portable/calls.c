@@ -70,14 +70,11 @@ u32 portable_ptpm_session_begin(address a0, u8 a1, u16 a2, u16 a3, address a4, u
 u32 portable_ptpm_session_begin_at(address a0, u8 a1, u16 a2, u16 a3, address a4, u64 a5);
 u32 portable_ptpm_session_give_up(address a0);
 u32 portable_ptpm_session_image(address a0, address a1, u64 a2, address a3);
-u32 portable_ptpm_session_image_of(address a0, address a1, u64 a2, address a3, address a4);
 u64 portable_ptpm_session_issued(address a0);
 u32 portable_ptpm_session_receive(address a0, address a1, u64 a2);
 u32 portable_ptpm_session_report(address a0, address a1, u64 a2, address a3, address a4);
 u32 portable_ptpm_session_resume(address a0, u8 a1);
 u32 portable_ptpm_session_retune(address a0, u8 a1);
-u32 portable_ptpm_session_saved(address a0, u64 a1);
-u32 portable_ptpm_session_saving(address a0);
 u32 portable_ptpm_session_send(address a0, address a1, u64 a2, address a3);
 void portable_ptpm_session_stop(address a0);
 u32 portable_ptpm_sizes_agree(address a0, u64 a1);
@@ -552,26 +549,6 @@ enum ptpm_saved ptpm_session_image(const struct ptpm_session *session, uint8_t *
     enum ptpm_saved answer = (enum ptpm_saved)portable_ptpm_session_image(ADDRESS(session), ADDRESS(octets), room, ADDRESS(&size_out));
     *size = (size_t)load64(ADDRESS(&size_out));
     return answer;
-}
-
-enum ptpm_sending ptpm_session_saving(struct ptpm_session *session) {
-    fill();
-    return (enum ptpm_sending)portable_ptpm_session_saving(ADDRESS(session));
-}
-
-enum ptpm_saved ptpm_session_image_of(const struct ptpm_session *session, uint8_t *octets, size_t room, size_t *size, uint64_t *token) {
-    fill();
-    u64 size_out = 0;
-    u64 token_out = 0;
-    enum ptpm_saved answer = (enum ptpm_saved)portable_ptpm_session_image_of(ADDRESS(session), ADDRESS(octets), room, ADDRESS(&size_out), ADDRESS(&token_out));
-    *size = (size_t)load64(ADDRESS(&size_out));
-    *token = load64(ADDRESS(&token_out));
-    return answer;
-}
-
-enum ptpm_saved ptpm_session_saved(struct ptpm_session *session, uint64_t token) {
-    fill();
-    return (enum ptpm_saved)portable_ptpm_session_saved(ADDRESS(session), token);
 }
 
 enum ptpm_restored ptpm_session_restore(struct ptpm_session *session, const struct ptpm_session_settings *settings, const uint8_t *image, size_t size) {

@@ -933,110 +933,112 @@ static void f18(address a0, address a1);
 static void f19(address a0, u64 a1);
 static void f20(address a0, address a1, u16 a2, address a3, u64 a4, address a5, u8 a6, address a7, u64 a8);
 static void f21(address a0, address a1, u16 a2, address a3, u64 a4, address a5, u64 a6);
-static u8 f22(address a0, address a1);
+static void f22(address a0, address a1, u16 a2, address a3, u64 a4, address a5, u64 a6);
 static u8 f23(address a0, address a1);
-static struct s1 f24(address a0, address a1, u16 a2, address a3);
-static u8 f25(u16 a0, address a1, u16 a2, address a3);
-static u8 f26(address a0, u64 a1);
-static u8 f27(address a0, u64 a1, address a2, u64 a3);
-static void f28(address a0, u16 a1, address a2, u8 a3, address a4);
-static void f29(address a0, address a1, u8 a2, address a3);
-static void f30(address a0, u16 a1, u16 a2, u16 a3, address a4);
-static u8 f31(address a0, address a1, u64 a2);
-static void f32(address a0, address a1, u64 a2);
-static u64 f33(address a0, u64 a1, u64 a2);
-static void f34(address a0, u8 a1, u8 a2, address a3);
-static void f35(address a0, u8 a1, address a2);
+static u8 f24(address a0, address a1);
+static struct s1 f25(address a0, address a1, u16 a2, address a3);
+static u8 f26(u16 a0, address a1, u16 a2, address a3);
+static u8 f27(address a0, u64 a1);
+static u8 f28(address a0, u64 a1, address a2, u64 a3);
+static void f29(address a0, u16 a1, address a2, u8 a3, address a4);
+static void f30(address a0, address a1, u8 a2, address a3);
+static void f31(address a0, u16 a1, u16 a2, u16 a3, address a4);
+static u8 f32(address a0, address a1, u64 a2);
+static void f33(address a0, address a1, u64 a2);
+static u64 f34(address a0, u64 a1, u64 a2);
+static void f35(address a0, u8 a1, u8 a2, address a3);
 static void f36(address a0, u8 a1, address a2);
-static void f37(address a0, address a1, address a2, u8 a3, u8 a4, address a5);
-static void f38(address a0, address a1, u64 a2);
+static void f37(address a0, u8 a1, address a2);
+static void f38(address a0, address a1, address a2, u8 a3, u8 a4, address a5);
 static void f39(address a0, address a1, u64 a2);
 static void f40(address a0, address a1, u64 a2);
-static void f41(address a0, address a1, address a2);
-static void f42(address a0, u64 a1, address a2, address a3, u16 a4, address a5);
-static void f43(address a0, u8 a1, u16 a2, address a3, address a4, address a5);
-static void f44(address a0, u16 a1, address a2, address a3);
-static void f45(address a0, address a1, address a2);
-static void f46(address a0, address a1);
-static void f47(address a0, address a1, u16 a2, address a3, u64 a4, address a5, u64 a6);
-static struct s1 f48(address a0, address a1, u16 a2, address a3);
-static void f49(address a0, address a1, address a2, u64 a3);
-static void f50(address a0, address a1, u8 a2, address a3);
-static void f51(address a0, u8 a1, address a2);
-static void f52(address a0, address a1, address a2, u8 a3, u8 a4, address a5);
-static void f53(address a0, address a1, u8 a2);
-static void f54(address a0, address a1, address a2);
-static void f55(address a0, u8 a1, address a2);
-static void f56(address a0, address a1, address a2, u8 a3, address a4);
-static void f57(address a0, address a1, u16 a2, address a3, address a4);
-static u8 f58(address a0);
-static u8 f59(address a0, address a1);
-static void f60(address a0, address a1, address a2, u64 a3);
-static void f61(address a0, address a1, u64 a2);
-static void f62(address a0, address a1, address a2);
-static struct s2 f63(address a0, address a1, u64 a2);
+static void f41(address a0, address a1, u64 a2);
+static void f42(address a0, address a1, address a2);
+static void f43(address a0, u64 a1, address a2, address a3, u16 a4, address a5);
+static void f44(address a0, u8 a1, u16 a2, address a3, address a4, address a5);
+static void f45(address a0, u16 a1, address a2, address a3);
+static void f46(address a0, address a1, address a2);
+static void f47(address a0, address a1);
+static void f48(address a0, address a1, u16 a2, address a3, u64 a4, address a5, u64 a6);
+static struct s1 f49(address a0, address a1, u16 a2, address a3);
+static void f50(address a0, address a1, address a2, u64 a3);
+static void f51(address a0, address a1, u8 a2, address a3);
+static void f52(address a0, u8 a1, address a2);
+static void f53(address a0, address a1, address a2, u8 a3, u8 a4, address a5);
+static void f54(address a0, address a1, u8 a2);
+static void f55(address a0, address a1, address a2);
+static void f56(address a0, u8 a1, address a2);
+static void f57(address a0, address a1, address a2, u8 a3, address a4);
+static void f58(address a0, address a1, u16 a2, address a3, address a4);
+static u8 f59(address a0);
+static u8 f60(address a0, address a1);
+static void f61(address a0, address a1, address a2, u64 a3);
+static void f62(address a0, address a1, u64 a2);
+static void f63(address a0, address a1, address a2);
 static struct s2 f64(address a0, address a1, u64 a2);
-static void f65(address a0, address a1);
-static u32 f66(address a0, u16 a1, address a2, u64 a3, address a4, u8 a5, address a6, u64 a7, address a8);
-static u64 f67(u8 a0, u8 a1);
-static void f68(address a0, address a1, address a2, u64 a3, address a4);
-static struct s3 f69(u16 a0, address a1, u64 a2);
-static struct s1 f70(address a0, u64 a1);
-static void f71(address a0, u8 a1, u8 a2);
+static struct s2 f65(address a0, address a1, u64 a2);
+static void f66(address a0, address a1);
+static u32 f67(address a0, u16 a1, address a2, u64 a3, address a4, u8 a5, address a6, u64 a7, address a8);
+static u32 f68(address a0, u16 a1, address a2, u64 a3, address a4, u8 a5, address a6, u64 a7, address a8);
+static u64 f69(u8 a0, u8 a1);
+static void f70(address a0, address a1, address a2, u64 a3, address a4);
+static struct s3 f71(u16 a0, address a1, u64 a2);
 static struct s1 f72(address a0, u64 a1);
-static struct s4 f73(address a0);
-static struct s4 f74(u8 a0, u8 a1);
-static u64 f75(u16 a0, address a1);
-static void f76(u8 a0, u8 a1, address a2);
-static struct s4 f77(u16 a0, address a1, u64 a2);
-static struct s4 f78(address a0, u64 a1);
-static void f79(address a0, u8 a1, u8 a2, address a3, u64 a4);
-static void f80(u64 a0, address a1);
-static struct s3 f81(address a0, u64 a1);
-static struct s3 f82(address a0, u64 a1);
-static void f83(address a0, address a1, u64 a2);
-static u32 f84(address a0, u64 a1, address a2, u64 a3);
+static void f73(address a0, u8 a1, u8 a2);
+static struct s1 f74(address a0, u64 a1);
+static struct s4 f75(address a0);
+static struct s4 f76(u8 a0, u8 a1);
+static u64 f77(u16 a0, address a1);
+static void f78(u8 a0, u8 a1, address a2);
+static struct s4 f79(u16 a0, address a1, u64 a2);
+static struct s4 f80(address a0, u64 a1);
+static void f81(address a0, u8 a1, u8 a2, address a3, u64 a4);
+static void f82(u64 a0, address a1);
+static struct s3 f83(address a0, u64 a1);
+static struct s3 f84(address a0, u64 a1);
 static void f85(address a0, address a1, u64 a2);
-static u8 f86(address a0, address a1);
-static u8 f87(address a0, address a1);
-static u8 f88(address a0);
-static u8 f89(address a0);
-static void f90(address a0, address a1);
-static u8 f91(address a0, u64 a1, address a2);
-static void f92(address a0, address a1, u64 a2);
-static u8 f93(u64 a0, address a1, u64 a2, address a3, u64 a4, u64 a5);
-static void f94(address a0, u32 a1, address a2, u64 a3);
-static u64 f95(address a0, u64 a1, u64 a2);
-static u8 f96(address a0);
-static u8 f97(address a0);
-static u8 f98(address a0, u64 a1);
-static void f99(address a0, address a1, u64 a2, address a3, address a4, u16 a5, u16 a6);
-static struct s1 f100(address a0, u64 a1);
-static void f101(address a0, address a1, u64 a2);
-static void f102(address a0, address a1, u64 a2, address a3, u64 a4, address a5, u64 a6);
-static void f103(address a0);
-static void f104(address a0, address a1, address a2, u64 a3);
-static void f105(address a0, address a1, address a2, u64 a3);
-static u8 f106(address a0, u64 a1, address a2);
-static u8 f107(address a0);
-static void f108(address a0, address a1, u64 a2, address a3);
-static u8 f109(address a0, u64 a1, address a2);
-static u8 f110(address a0, address a1, u64 a2);
-static void f111(address a0, address a1, address a2, u64 a3);
-static u8 f112(address a0, address a1, address a2, u64 a3);
-static u8 f113(address a0, address a1, u64 a2);
-static void f114(address a0, address a1, address a2, u64 a3);
-static struct s5 f115(address a0, address a1);
-static u8 f116(address a0, u64 a1, address a2);
-static u8 f117(address a0, address a1);
-static u8 f118(address a0);
-static u32 f119(address a0, address a1);
-static void f120(address a0, address a1);
-static void f121(address a0, address a1, address a2, address a3, u64 a4);
-static void f122(address a0, address a1, address a2, address a3);
-static void f123(address a0, address a1, u8 a2, u16 a3, u16 a4, address a5, u64 a6);
-static void f124(address a0, address a1, u16 a2, address a3, u64 a4);
-static void f125(address a0, address a1, u16 a2, address a3, u64 a4);
+static u32 f86(address a0, u64 a1, address a2, u64 a3);
+static void f87(address a0, address a1, u64 a2);
+static u8 f88(address a0, address a1);
+static u8 f89(address a0, address a1);
+static u8 f90(address a0);
+static u8 f91(address a0);
+static void f92(address a0, address a1);
+static u8 f93(address a0, u64 a1, address a2);
+static void f94(address a0, address a1, u64 a2);
+static u8 f95(u64 a0, address a1, u64 a2, address a3, u64 a4, u64 a5);
+static void f96(address a0, u32 a1, address a2, u64 a3);
+static u64 f97(address a0, u64 a1, u64 a2);
+static u8 f98(address a0);
+static u8 f99(address a0);
+static u8 f100(address a0, u64 a1);
+static void f101(address a0, address a1, u64 a2, address a3, address a4, u16 a5, u16 a6);
+static struct s1 f102(address a0, u64 a1);
+static void f103(address a0, address a1, u64 a2);
+static void f104(address a0, address a1, u64 a2, address a3, u64 a4, address a5, u64 a6);
+static void f105(address a0);
+static void f106(address a0, address a1, address a2, u64 a3);
+static void f107(address a0, address a1, address a2, u64 a3);
+static u8 f108(address a0, u64 a1, address a2);
+static u8 f109(address a0);
+static void f110(address a0, address a1, u64 a2, address a3);
+static u8 f111(address a0, u64 a1, address a2);
+static u8 f112(address a0, address a1, u64 a2);
+static void f113(address a0, address a1, address a2, u64 a3);
+static u8 f114(address a0, address a1, address a2, u64 a3);
+static u8 f115(address a0, address a1, u64 a2);
+static void f116(address a0, address a1, address a2, u64 a3);
+static struct s5 f117(address a0, address a1);
+static u8 f118(address a0, u64 a1, address a2);
+static u8 f119(address a0, address a1);
+static u8 f120(address a0);
+static u32 f121(address a0, address a1);
+static void f122(address a0, address a1);
+static void f123(address a0, address a1, address a2, address a3, u64 a4);
+static void f124(address a0, address a1, address a2, address a3);
+static void f125(address a0, address a1, u8 a2, u16 a3, u16 a4, address a5, u64 a6);
+static void f126(address a0, address a1, u16 a2, address a3, u64 a4);
+static void f127(address a0, address a1, u16 a2, address a3, u64 a4);
 u64 portable_ptpm_answer_name(u32 a0, address a1, u64 a2);
 u32 portable_ptpm_asker_ask(address a0, u64 a1, u64 a2, u8 a3, u16 a4, u16 a5, address a6, u64 a7, u8 a8, address a9);
 u32 portable_ptpm_asker_earlier(address a0, u8 a1, address a2);
@@ -1098,14 +1100,11 @@ u32 portable_ptpm_session_begin(address a0, u8 a1, u16 a2, u16 a3, address a4, u
 u32 portable_ptpm_session_begin_at(address a0, u8 a1, u16 a2, u16 a3, address a4, u64 a5);
 u32 portable_ptpm_session_give_up(address a0);
 u32 portable_ptpm_session_image(address a0, address a1, u64 a2, address a3);
-u32 portable_ptpm_session_image_of(address a0, address a1, u64 a2, address a3, address a4);
 u64 portable_ptpm_session_issued(address a0);
 u32 portable_ptpm_session_receive(address a0, address a1, u64 a2);
 u32 portable_ptpm_session_report(address a0, address a1, u64 a2, address a3, address a4);
 u32 portable_ptpm_session_resume(address a0, u8 a1);
 u32 portable_ptpm_session_retune(address a0, u8 a1);
-u32 portable_ptpm_session_saved(address a0, u64 a1);
-u32 portable_ptpm_session_saving(address a0);
 u32 portable_ptpm_session_send(address a0, address a1, u64 a2, address a3);
 void portable_ptpm_session_stop(address a0);
 u32 portable_ptpm_sizes_agree(address a0, u64 a1);
@@ -4193,33 +4192,30 @@ L7:;
 }
 
 static void f20(address a0, address a1, u16 a2, address a3, u64 a4, address a5, u8 a6, address a7, u64 a8) {
-    address v9, v33, v34, v35, v36, v37, v38, v39, v40, v41, v42, v43, v44, v45, v46, v47;
-    address v48, v49, v51, v52, v53, v55, v56, v59, v60, v61, v63, v65, v67, v73, v75, v76;
-    address v79, v80, v81, v82, v83, v84, v85, v88, v97, v102, v104, v108, v110, v112, v116, v117;
-    address v119, v122, v125, v127, v129, v131, v133, v135, v137, v147, v148, v149, v150, v151, v152, v154;
-    address v156, v160, v164, v166, v169, v175, v181, v187, v191, v193, v198, v199, v208, v211, v220, v221;
-    address v225, v226, v230, v245, v247, v250, v252, v258, v260, v275, v278, v279, v280, v281, v282, v283;
-    address v284, v285, v286, v287, v288, v289, v290, v291, v292, v293, v298, v299, v309, v310, v312, v315;
-    address v318, v320, v322, v324, v326, v328, v330, v340, v341, v342, v343, v344, v345, v347, v349, v353;
-    address v357, v359, v362, v368, v374, v376, v378, v380, v390, v391, v392, v393, v394, v395, v396, v397;
-    address v398, v399, v400, v403, v405, v407, v408;
-    u8 v10, v11, v12, v13, v22, v24, v25, v28, v29, v30, v31, v50, v57, v58, v62, v66;
-    u8 v68, v87, v89, v90, v91, v92, v93, v94, v95, v96, v98, v100, v101, v103, v106, v107;
-    u8 v109, v111, v114, v115, v118, v120, v121, v126, v128, v130, v132, v153, v158, v159, v161, v162;
-    u8 v163, v165, v167, v168, v171, v172, v173, v174, v178, v179, v180, v182, v183, v184, v185, v190;
-    u8 v194, v197, v203, v206, v209, v212, v213, v224, v227, v229, v231, v232, v235, v236, v237, v238;
-    u8 v246, v248, v249, v251, v253, v259, v261, v297, v300, v302, v307, v308, v311, v313, v314, v319;
-    u8 v321, v323, v325, v346, v351, v352, v354, v355, v356, v358, v360, v361, v364, v365, v366, v367;
-    u8 v371, v372, v373, v375, v377, v379, v381, v402, v404;
-    u64 v14, v15, v16, v17, v18, v20, v21, v23, v26, v27, v32, v54, v64, v74, v77, v78;
-    u64 v86, v99, v105, v113, v123, v124, v134, v136, v138, v155, v157, v170, v176, v188, v189, v192;
-    u64 v200, v201, v202, v204, v205, v207, v210, v218, v222, v223, v228, v233, v234, v239, v240, v274;
-    u64 v294, v295, v296, v301, v306, v316, v317, v327, v329, v331, v348, v350, v363, v369, v401, v406;
-    u16 v19, v69, v70, v71, v72, v139, v140, v141, v142, v143, v144, v145, v146, v177, v186, v195;
-    u16 v196, v214, v215, v216, v217, v219, v241, v242, v243, v244, v254, v255, v256, v257, v262, v263;
-    u16 v264, v265, v266, v267, v268, v269, v273, v276, v277, v303, v304, v305, v332, v333, v334, v335;
-    u16 v336, v337, v338, v339, v370, v382, v383, v384, v385, v386, v387, v388, v389;
-    u32 v270, v271, v272;
+    u8 v9, v10, v19, v21, v22, v25, v26, v28, v29, v41, v43, v49, v51, v54, v56, v59;
+    u8 v60, v62, v64, v67, v68, v71, v73, v74, v79, v81, v83, v85, v106, v111, v112, v114;
+    u8 v115, v116, v118, v120, v121, v124, v125, v126, v127, v131, v132, v133, v135, v136, v137, v138;
+    u8 v143, v147, v150, v156, v159, v162, v165, v166, v177, v180, v182, v184, v185, v188, v189, v190;
+    u8 v191, v199, v201, v202, v204, v206, v212, v214, v250, v253, v255, v260, v261, v264, v266, v267;
+    u8 v272, v274, v276, v278, v299, v304, v305, v307, v308, v309, v311, v313, v314, v317, v318, v319;
+    u8 v320, v324, v325, v326, v328, v330, v332, v334, v355, v357;
+    u64 v11, v12, v13, v14, v15, v17, v18, v20, v23, v24, v27, v47, v53, v58, v66, v76;
+    u64 v77, v87, v89, v91, v108, v110, v123, v129, v141, v142, v145, v153, v154, v155, v157, v158;
+    u64 v160, v163, v171, v175, v176, v181, v186, v187, v192, v193, v227, v247, v248, v249, v254, v259;
+    u64 v269, v270, v280, v282, v284, v301, v303, v316, v322, v354, v359;
+    u16 v16, v92, v93, v94, v95, v96, v97, v98, v99, v130, v139, v148, v149, v167, v168, v169;
+    u16 v170, v172, v194, v195, v196, v197, v207, v208, v209, v210, v215, v216, v217, v218, v219, v220;
+    u16 v221, v222, v226, v229, v230, v256, v257, v258, v285, v286, v287, v288, v289, v290, v291, v292;
+    u16 v323, v335, v336, v337, v338, v339, v340, v341, v342;
+    address v30, v31, v32, v33, v34, v35, v36, v37, v38, v39, v40, v42, v44, v45, v46, v48;
+    address v50, v52, v55, v57, v61, v63, v65, v69, v70, v72, v75, v78, v80, v82, v84, v86;
+    address v88, v90, v100, v101, v102, v103, v104, v105, v107, v109, v113, v117, v119, v122, v128, v134;
+    address v140, v144, v146, v151, v152, v161, v164, v173, v174, v178, v179, v183, v198, v200, v203, v205;
+    address v211, v213, v228, v231, v232, v233, v234, v235, v236, v237, v238, v239, v240, v241, v242, v243;
+    address v244, v245, v246, v251, v252, v262, v263, v265, v268, v271, v273, v275, v277, v279, v281, v283;
+    address v293, v294, v295, v296, v297, v298, v300, v302, v306, v310, v312, v315, v321, v327, v329, v331;
+    address v333, v343, v344, v345, v346, v347, v348, v349, v350, v351, v352, v353, v356, v358, v360, v361;
+    u32 v223, v224, v225;
     u64 block0[3];
     u64 block1[3];
     u64 block2[4];
@@ -4232,660 +4228,690 @@ static void f20(address a0, address a1, u16 a2, address a3, u64 a4, address a5, 
     u64 block9[2];
     u64 block10[2];
     u64 block11[2];
-    u64 block12[324];
-    u64 block13[2];
-    u64 block14[4];
-    u64 block15[55];
-    v33 = ADDRESS(block0);
-    v34 = ADDRESS(block1);
-    v35 = ADDRESS(block2);
-    v36 = ADDRESS(block3);
-    v37 = ADDRESS(block4);
-    v38 = ADDRESS(block5);
-    v39 = ADDRESS(block6);
-    v40 = ADDRESS(block7);
-    v41 = ADDRESS(block8);
-    v42 = ADDRESS(block9);
-    v43 = ADDRESS(block10);
-    v44 = ADDRESS(block11);
-    v45 = ADDRESS(block12);
-    v46 = ADDRESS(block13);
-    v47 = ADDRESS(block14);
-    v48 = ADDRESS(block15);
-    v49 = a5 + 1u * 1u;
-    v50 = load8(v49);
-    v51 = a5 + 8u * 1u;
-    v52 = load_address(v51);
-    v53 = a5 + 16u * 1u;
-    v54 = load64(v53);
-    v55 = v46 + 8u * 1u;
-    v56 = v44 + 8u * 1u;
+    v30 = ADDRESS(block0);
+    v31 = ADDRESS(block1);
+    v32 = ADDRESS(block2);
+    v33 = ADDRESS(block3);
+    v34 = ADDRESS(block4);
+    v35 = ADDRESS(block5);
+    v36 = ADDRESS(block6);
+    v37 = ADDRESS(block7);
+    v38 = ADDRESS(block8);
+    v39 = ADDRESS(block9);
+    v40 = ADDRESS(block10);
+    v41 = load8(a5);
+    v42 = a5 + 1u * 1u;
+    v43 = load8(v42);
+    v44 = a5 + 8u * 1u;
+    v45 = load_address(v44);
+    v46 = a5 + 16u * 1u;
+    v47 = load64(v46);
+    v48 = ADDRESS(block11);
+    memory_set(v48, 0u, 16u);
     if (a6) { goto L1; }
-    else { goto L5; }
+    else { goto L2; }
 L1:;
-    memory_set(v44, 0u, 16u);
-    memory_set(v46, 0u, 16u);
-    memory_set(v47, 0u, 32u);
-    memory_set(v48, 0u, 440u);
-    f8(v47, a3, a4);
-    v57 = load8(v47);
-    v58 = v57 == 0u;
-    if (v58) { goto L2; }
-    else { goto L3; }
+    f21(v48, a1, a2, a3, a4, a7, a8);
+    v49 = load8(v48);
+    v50 = v48 + 1u * 1u;
+    v51 = load8(v50);
+    v52 = v48 + 8u * 1u;
+    v53 = load64(v52);
+    v27 = v53; v28 = v51; v29 = v49; goto L54;
 L2:;
-    v59 = v47 + 8u * 1u;
-    v60 = load_address(v59);
-    v61 = v47 + 24u * 1u;
-    v62 = load8(v61);
-    f18(v48, a1);
-    f46(v45, v48);
-    v63 = v60 + 20u * 1u;
-    v64 = load64(v63);
-    v65 = v60 + 28u * 1u;
-    v66 = load8(v65);
-    v67 = v60 + 29u * 1u;
-    v68 = load8(v67);
-    v69 = (u16)v66;
-    v70 = (u16)((u32)v69 << (8u & 15u));
-    v71 = (u16)v68;
-    v72 = (u16)((u32)v70 | (u32)v71);
-    v73 = v45 + 440u * 1u;
-    v74 = load64(v73);
-    v75 = v45 + 448u * 1u;
-    v76 = v45 + 2584u * 1u;
-    v77 = load64(v76);
-    v78 = (u64)((u64)v77 * (u64)2136u);
-    v79 = v75 + v78 * 1u;
-    memory_set(v79, 0u, 2096u);
-    v80 = v79 + 2096u * 1u;
-    store64(v80, v74);
-    v81 = v79 + 2104u * 1u;
-    store64(v81, v64);
-    v82 = v79 + 2112u * 1u;
-    store16(v82, v72);
-    v83 = v79 + 2114u * 1u;
-    memory_set(v83, 0u, 14u);
-    v84 = v79 + 2128u * 1u;
-    store8(v84, 7u);
-    v85 = v79 + 2129u * 1u;
-    v86 = (u64)((u64)v77 + (u64)1u);
-    memory_set(v85, 0u, 7u);
-    store64(v76, v86);
-    f47(v46, v45, a2, a3, a4, a7, a8);
-    f18(v48, a1);
-    memory_cpy(a1, v45, 440u);
-    v87 = load8(v46);
-    v88 = v46 + 1u * 1u;
-    v89 = load8(v88);
-    v90 = v87 != 5u;
-    v91 = (u8)((u32)v62 & (u32)253u);
-    v92 = v91 == 1u;
-    v93 = (u8)(((u32)v92 | (u32)v90) & UINT64_C(1));
-    v94 = v93 ? v89 : 0u;
-    v95 = v93 ? v87 : 9u;
-    v9 = v55; v10 = v95; v11 = v94; goto L4;
-L3:;
-    f21(v44, a1, a2, a3, a4, a7, a8);
-    v96 = load8(v44);
-    v97 = v44 + 1u * 1u;
-    v98 = load8(v97);
-    v9 = v56; v10 = v96; v11 = v98; goto L4;
-L4:;
-    v99 = load64(v9);
-    v30 = v10; v31 = v11; v32 = v99; goto L57;
-L5:;
-    v100 = load8(a5);
-    memory_set(v43, 0u, 16u);
-    switch (v100) {
-    case 0u: goto L6;
-    case 1u: goto L7;
-    case 2u: goto L11;
-    default: goto L55;
-    }
-L6:;
-    f21(v43, a1, a2, a3, a4, a7, a8);
-    v101 = load8(v43);
-    v102 = v43 + 1u * 1u;
-    v103 = load8(v102);
-    v104 = v43 + 8u * 1u;
-    v105 = load64(v104);
-    v27 = v105; v28 = v103; v29 = v101; goto L56;
-L7:;
-    memory_set(v42, 0u, 16u);
-    memory_set(v41, 0u, 48u);
-    f49(v41, a1, a3, a4);
-    v106 = load8(v41);
-    v107 = v106 == 1u;
-    if (v107) { goto L8; }
-    else { goto L9; }
-L8:;
-    v108 = v41 + 8u * 1u;
-    f53(a1, v108, v50);
-    f21(v42, a1, a2, a3, a4, a7, a8);
-    v12 = 5u; v13 = 0u; goto L10;
-L9:;
-    f21(v42, a1, a2, a3, a4, a7, a8);
-    v109 = load8(v42);
-    v110 = v42 + 1u * 1u;
-    v111 = load8(v110);
-    v12 = v109; v13 = v111; goto L10;
-L10:;
-    v112 = v42 + 8u * 1u;
-    v113 = load64(v112);
-    v27 = v113; v28 = v13; v29 = v12; goto L56;
-L11:;
     memory_set(v40, 0u, 16u);
-    memory_set(v39, 0u, 32u);
-    f8(v39, a3, a4);
-    v114 = load8(v39);
-    v115 = v114 == 0u;
-    if (v115) { goto L12; }
-    else { goto L42; }
-L12:;
-    v116 = v39 + 8u * 1u;
-    memory_cpy(v38, v116, 24u);
-    v117 = v38 + 16u * 1u;
-    v118 = load8(v117);
-    v119 = v38 + 17u * 1u;
-    v120 = load8(v119);
-    v121 = v120 == 0u;
-    v122 = load_address(v38);
-    v123 = v121 ? 52u : 54u;
-    v124 = v121 ? 53u : 55u;
-    v125 = v122 + v123 * 1u;
-    v126 = load8(v125);
-    v127 = v122 + v124 * 1u;
-    v128 = load8(v127);
-    v129 = v122 + 42u * 1u;
-    v130 = load8(v129);
-    v131 = v122 + 43u * 1u;
-    v132 = load8(v131);
-    v133 = v38 + 8u * 1u;
-    v134 = load64(v133);
-    v135 = v122 + 54u * 1u;
-    v136 = (u64)((u64)v134 + (u64)UINT64_C(18446744073709551562));
-    v137 = v121 ? v135 : ADDRESS(c145);
-    v138 = v121 ? v136 : 0u;
-    v139 = (u16)v130;
-    v140 = (u16)((u32)v139 << (8u & 15u));
-    v141 = (u16)v132;
-    v142 = (u16)((u32)v140 | (u32)v141);
-    v143 = (u16)v126;
-    v144 = (u16)((u32)v143 << (8u & 15u));
-    v145 = (u16)v128;
-    v146 = (u16)((u32)v144 | (u32)v145);
-    store8(v37, v118);
-    v147 = v37 + 1u * 1u;
-    store8(v147, 0u);
-    v148 = v37 + 2u * 1u;
-    store16(v148, v146);
-    v149 = v37 + 4u * 1u;
-    store16(v149, v142);
-    v150 = v37 + 6u * 1u;
-    store16(v150, 0u);
-    v151 = v37 + 8u * 1u;
-    store_address(v151, v137);
-    v152 = v37 + 16u * 1u;
-    store64(v152, v138);
-    v153 = f58(v37);
-    if (v153) { goto L13; }
-    else { goto L19; }
-L13:;
-    v154 = v122 + 34u * 1u;
-    v155 = load64(v154);
-    v156 = a1 + 440u * 1u;
-    v157 = load64(v156);
-    v158 = load8(v122);
-    v159 = (u8)((u32)v158 >> (4u & 7u));
-    v160 = v122 + 5u * 1u;
-    v161 = load8(v160);
-    v162 = (u8)((u32)v159 | (u32)v161);
-    v163 = v162 == 0u;
-    if (v163) { goto L14; }
-    else { goto L19; }
-L14:;
-    v164 = v122 + 4u * 1u;
-    v165 = load8(v164);
-    v166 = a1 + 8u * 1u;
-    v167 = load8(v166);
-    v168 = v165 == v167;
-    if (v168) { goto L15; }
-    else { goto L19; }
-L15:;
-    v169 = v122 + 20u * 1u;
-    v170 = load64(v169);
-    v171 = v170 == v157;
-    if (v171) { goto L19; }
-    else { goto L16; }
-L16:;
-    v172 = v155 == v157;
-    v173 = v155 == UINT64_C(18446744073709551615);
-    v174 = (u8)(((u32)v173 | (u32)v172) & UINT64_C(1));
-    if (v174) { goto L17; }
-    else { goto L19; }
-L17:;
-    switch (v142) {
-    case 65535u: goto L20;
-    case 0u: goto L19;
-    default: goto L18;
+    switch (v41) {
+    case 0u: goto L3;
+    case 1u: goto L4;
+    case 2u: goto L8;
+    default: goto L52;
     }
-L18:;
-    v175 = a1 + 432u * 1u;
-    v176 = load64(v175);
-    v177 = (u16)(v176);
-    v178 = v142 > v177;
-    if (v178) { goto L19; }
-    else { goto L20; }
-L19:;
-    goto L42;
-L20:;
-    v179 = f59(a1, v38);
-    v180 = v179 == 0u;
-    if (v180) { goto L21; }
-    else { goto L42; }
-L21:;
-    if (v172) { v18 = 0u; v19 = v146; v20 = v170; v21 = v155; v22 = v165; goto L38; }
-    else { goto L22; }
-L22:;
-    v181 = v122 + 45u * 1u;
-    v182 = load8(v181);
-    v183 = v182 == 0u;
-    v184 = a2 == 0u;
-    v185 = (u8)(((u32)v184 | (u32)v183) & UINT64_C(1));
-    if (v185) { v18 = 0u; v19 = v146; v20 = v170; v21 = v157; v22 = v165; goto L38; }
-    else { goto L23; }
-L23:;
-    v186 = (u16)((u32)a2 + (u32)65535u);
-    v187 = a1 + 432u * 1u;
-    v188 = load64(v187);
-    v189 = (u64)v186;
-    v190 = v188 > v189;
-    if (v190) { goto L24; }
-    else { v18 = 0u; v19 = v146; v20 = v170; v21 = v157; v22 = v165; goto L38; }
-L24:;
-    v191 = a1 + 240u * 1u;
-    v192 = (u64)((u64)v189 * (u64)24u);
-    v193 = v191 + v192 * 1u;
-    v194 = load8(v193);
-    switch (v194) {
-    case 4u: goto L26;
-    case 5u: goto L26;
-    case 7u: goto L26;
-    case 8u: goto L26;
-    case 0u: v18 = 0u; v19 = v146; v20 = v170; v21 = v157; v22 = v165; goto L38;
-    case 1u: v18 = 0u; v19 = v146; v20 = v170; v21 = v157; v22 = v165; goto L38;
-    case 2u: v18 = 0u; v19 = v146; v20 = v170; v21 = v157; v22 = v165; goto L38;
-    case 3u: v18 = 0u; v19 = v146; v20 = v170; v21 = v157; v22 = v165; goto L38;
-    case 6u: v18 = 0u; v19 = v146; v20 = v170; v21 = v157; v22 = v165; goto L38;
-    default: goto L25;
-    }
-L25:;
-    UNREACHABLE;
-L26:;
-    v195 = (u16)(v188);
-    v196 = (u16)((u32)v195 + (u32)1u);
-    v197 = v196 > 1u;
-    if (v197) { goto L27; }
-    else { v18 = 0u; v19 = v146; v20 = v170; v21 = v157; v22 = v165; goto L38; }
-L27:;
-    v198 = a3 + 2u * 1u;
-    v199 = a3 + 3u * 1u;
-    v200 = (u64)a3;
-    v201 = (u64)a2;
-    v202 = (u64)v196;
-    v14 = 0u; v15 = 1u; goto L28;
-L28:;
-    v203 = v15 == v201;
-    if (v203) { v17 = v14; goto L36; }
-    else { goto L29; }
-L29:;
-    v204 = (u64)((u64)v15 + (u64)UINT64_C(18446744073709551615));
-    v205 = load64(v187);
-    v206 = v205 > v204;
-    if (v206) { goto L30; }
-    else { v17 = v14; goto L36; }
-L30:;
-    v207 = (u64)((u64)v204 * (u64)24u);
-    v208 = v191 + v207 * 1u;
-    v209 = load8(v208);
-    switch (v209) {
-    case 4u: goto L32;
-    case 5u: goto L32;
-    case 7u: goto L32;
-    case 8u: goto L32;
-    case 0u: v17 = v14; goto L36;
-    case 1u: v17 = v14; goto L36;
-    case 2u: v17 = v14; goto L36;
-    case 3u: v17 = v14; goto L36;
-    case 6u: v17 = v14; goto L36;
-    default: goto L31;
-    }
-L31:;
-    UNREACHABLE;
-L32:;
-    v210 = (u64)((u64)v14 * (u64)1476u);
-    v211 = a7 + v210 * 1u;
-    v212 = load8(v198);
-    v213 = load8(v199);
-    v214 = (u16)v212;
-    v215 = (u16)((u32)v214 << (8u & 15u));
-    v216 = (u16)v213;
-    v217 = (u16)((u32)v215 | (u32)v216);
-    v218 = (u64)v217;
-    v219 = (u16)(v15);
-    store16(v211, v219);
-    v220 = v211 + 2u * 1u;
-    store16(v220, v217);
-    v221 = v211 + 4u * 1u;
-    v222 = (u64)v221;
-    v223 = (u64)((u64)v222 - (u64)v200);
-    v224 = v223 < v218;
-    if (v224) { v16 = 0u; goto L34; }
-    else { goto L33; }
-L33:;
-    memory_move(v221, a3, v218);
-    goto L35;
-L34:;
-    v225 = v221 + v16 * 1u;
-    v226 = a3 + v16 * 1u;
-    v227 = load8(v226);
-    store8(v225, v227);
-    v228 = (u64)((u64)v16 + (u64)1u);
-    v229 = v228 == v218;
-    if (v229) { goto L35; }
-    else { v16 = v228; goto L34; }
-L35:;
-    v230 = v211 + 49u * 1u;
-    v231 = load8(v230);
-    v232 = (u8)((u32)v231 + (u32)255u);
-    store8(v230, v232);
-    v233 = (u64)((u64)v14 + (u64)1u);
-    v17 = v233; goto L36;
-L36:;
-    v234 = (u64)((u64)v15 + (u64)1u);
-    v235 = v234 == v202;
-    if (v235) { goto L37; }
-    else { v14 = v17; v15 = v234; goto L28; }
-L37:;
-    v236 = load8(v125);
-    v237 = load8(v127);
-    v238 = load8(v164);
-    v239 = load64(v156);
-    v240 = load64(v169);
-    v241 = (u16)v236;
-    v242 = (u16)((u32)v241 << (8u & 15u));
-    v243 = (u16)v237;
-    v244 = (u16)((u32)v242 | (u32)v243);
-    v18 = v17; v19 = v244; v20 = v240; v21 = v239; v22 = v238; goto L38;
-L38:;
-    v245 = v122 + 44u * 1u;
-    v246 = load8(v245);
-    v247 = v122 + 45u * 1u;
-    v248 = load8(v247);
-    v249 = v246 > v248 ? (u8)((u32)v246 - (u32)v248) : 0u;
-    v250 = v122 + 30u * 1u;
-    v251 = load8(v250);
-    v252 = v122 + 31u * 1u;
-    v253 = load8(v252);
-    v254 = (u16)v251;
-    v255 = (u16)((u32)v254 << (8u & 15u));
-    v256 = (u16)v253;
-    v257 = (u16)((u32)v255 | (u32)v256);
-    v258 = v122 + 28u * 1u;
-    v259 = load8(v258);
-    v260 = v122 + 29u * 1u;
-    v261 = load8(v260);
-    v262 = (u16)v259;
-    v263 = (u16)((u32)v262 << (8u & 15u));
-    v264 = (u16)v261;
-    v265 = (u16)((u32)v263 | (u32)v264);
-    v266 = (u16)v22;
-    v267 = swap16(a2);
-    v268 = swap16(v257);
-    v269 = swap16(v265);
-    v270 = (u32)v249;
-    v271 = (u32)((u32)v270 * (u32)257u);
-    v272 = (u32)((u32)v271 | (u32)UINT32_C(131072));
-    v273 = swap16(v19);
-    v274 = (u64)((u64)v18 * (u64)1476u);
-    v275 = a7 + v274 * 1u;
-    store16(v275, a2);
-    v276 = (u16)(v54);
-    v277 = (u16)((u32)v276 + (u32)54u);
-    v278 = v275 + 2u * 1u;
-    store16(v278, v277);
-    v279 = v275 + 4u * 1u;
-    v280 = v275 + 58u * 1u;
-    store16(v279, 4621u);
-    v281 = v275 + 6u * 1u;
-    store16(v281, 13824u);
-    v282 = v275 + 8u * 1u;
-    store16(v282, v266);
-    v283 = v275 + 10u * 1u;
-    memory_set(v283, 0u, 14u);
-    v284 = v275 + 24u * 1u;
-    store64(v284, v21);
-    v285 = v275 + 32u * 1u;
-    store16(v285, v267);
-    v286 = v275 + 34u * 1u;
-    store16(v286, v268);
-    v287 = v275 + 36u * 1u;
-    store16(v287, 32516u);
-    v288 = v275 + 38u * 1u;
-    store64(v288, v20);
-    v289 = v275 + 46u * 1u;
-    store16(v289, v269);
-    v290 = v275 + 48u * 1u;
-    store32(v290, v272);
-    v291 = v275 + 52u * 1u;
-    store16(v291, 256u);
-    v292 = v275 + 54u * 1u;
-    store16(v292, 512u);
-    v293 = v275 + 56u * 1u;
-    store16(v293, v273);
-    v294 = (u64)v280;
-    v295 = (u64)v52;
-    v296 = (u64)((u64)v294 - (u64)v295);
-    v297 = v296 < v54;
-    if (v297) { v23 = 0u; goto L40; }
+L3:;
+    f22(v40, a1, a2, a3, a4, a7, a8);
+    v54 = load8(v40);
+    v55 = v40 + 1u * 1u;
+    v56 = load8(v55);
+    v57 = v40 + 8u * 1u;
+    v58 = load64(v57);
+    v24 = v58; v25 = v56; v26 = v54; goto L53;
+L4:;
+    memory_set(v39, 0u, 16u);
+    memory_set(v38, 0u, 48u);
+    f50(v38, a1, a3, a4);
+    v59 = load8(v38);
+    v60 = v59 == 1u;
+    if (v60) { goto L5; }
+    else { goto L6; }
+L5:;
+    v61 = v38 + 8u * 1u;
+    f54(a1, v61, v43);
+    f22(v39, a1, a2, a3, a4, a7, a8);
+    v9 = 5u; v10 = 0u; goto L7;
+L6:;
+    f22(v39, a1, a2, a3, a4, a7, a8);
+    v62 = load8(v39);
+    v63 = v39 + 1u * 1u;
+    v64 = load8(v63);
+    v9 = v62; v10 = v64; goto L7;
+L7:;
+    v65 = v39 + 8u * 1u;
+    v66 = load64(v65);
+    v24 = v66; v25 = v10; v26 = v9; goto L53;
+L8:;
+    memory_set(v37, 0u, 16u);
+    memory_set(v36, 0u, 32u);
+    f8(v36, a3, a4);
+    v67 = load8(v36);
+    v68 = v67 == 0u;
+    if (v68) { goto L9; }
     else { goto L39; }
-L39:;
-    memory_move(v280, v52, v54);
-    goto L41;
-L40:;
-    v298 = v280 + v23 * 1u;
-    v299 = v52 + v23 * 1u;
-    v300 = load8(v299);
-    store8(v298, v300);
-    v301 = (u64)((u64)v23 + (u64)1u);
-    v302 = v301 == v54;
-    if (v302) { goto L41; }
-    else { v23 = v301; goto L40; }
-L41:;
-    v303 = swap16(v277);
-    store16(v281, v303);
-    store16(v285, v267);
-    v304 = (u16)((u32)v276 + (u32)2u);
-    v305 = swap16(v304);
-    store16(v292, v305);
-    v306 = (u64)((u64)v18 + (u64)1u);
-    v24 = 9u; v25 = 0u; v26 = v306; goto L54;
-L42:;
-    memory_set(v35, 0u, 32u);
-    f8(v35, a3, a4);
-    v307 = load8(v35);
-    v308 = v307 == 0u;
-    if (v308) { goto L43; }
-    else { goto L53; }
-L43:;
-    v309 = v35 + 8u * 1u;
-    memory_cpy(v34, v309, 24u);
-    v310 = v34 + 16u * 1u;
-    v311 = load8(v310);
-    v312 = v34 + 17u * 1u;
-    v313 = load8(v312);
-    v314 = v313 == 0u;
-    v315 = load_address(v34);
-    v316 = v314 ? 52u : 54u;
-    v317 = v314 ? 53u : 55u;
-    v318 = v315 + v316 * 1u;
-    v319 = load8(v318);
-    v320 = v315 + v317 * 1u;
-    v321 = load8(v320);
-    v322 = v315 + 42u * 1u;
-    v323 = load8(v322);
-    v324 = v315 + 43u * 1u;
-    v325 = load8(v324);
-    v326 = v34 + 8u * 1u;
-    v327 = load64(v326);
-    v328 = v315 + 54u * 1u;
-    v329 = (u64)((u64)v327 + (u64)UINT64_C(18446744073709551562));
-    v330 = v314 ? v328 : ADDRESS(c145);
-    v331 = v314 ? v329 : 0u;
-    v332 = (u16)v323;
-    v333 = (u16)((u32)v332 << (8u & 15u));
-    v334 = (u16)v325;
-    v335 = (u16)((u32)v333 | (u32)v334);
-    v336 = (u16)v319;
-    v337 = (u16)((u32)v336 << (8u & 15u));
-    v338 = (u16)v321;
-    v339 = (u16)((u32)v337 | (u32)v338);
-    store8(v33, v311);
-    v340 = v33 + 1u * 1u;
-    store8(v340, 0u);
-    v341 = v33 + 2u * 1u;
-    store16(v341, v339);
-    v342 = v33 + 4u * 1u;
-    store16(v342, v335);
-    v343 = v33 + 6u * 1u;
-    store16(v343, 0u);
-    v344 = v33 + 8u * 1u;
-    store_address(v344, v330);
-    v345 = v33 + 16u * 1u;
-    store64(v345, v331);
-    v346 = f58(v33);
-    if (v346) { goto L44; }
-    else { goto L50; }
-L44:;
-    v347 = v315 + 34u * 1u;
-    v348 = load64(v347);
-    v349 = a1 + 440u * 1u;
-    v350 = load64(v349);
-    v351 = load8(v315);
-    v352 = (u8)((u32)v351 >> (4u & 7u));
-    v353 = v315 + 5u * 1u;
-    v354 = load8(v353);
-    v355 = (u8)((u32)v352 | (u32)v354);
-    v356 = v355 == 0u;
-    if (v356) { goto L45; }
-    else { goto L50; }
-L45:;
-    v357 = v315 + 4u * 1u;
-    v358 = load8(v357);
-    v359 = a1 + 8u * 1u;
-    v360 = load8(v359);
-    v361 = v358 == v360;
-    if (v361) { goto L46; }
-    else { goto L50; }
-L46:;
-    v362 = v315 + 20u * 1u;
-    v363 = load64(v362);
-    v364 = v363 == v350;
-    if (v364) { goto L50; }
-    else { goto L47; }
-L47:;
-    v365 = v348 == v350;
-    v366 = v348 == UINT64_C(18446744073709551615);
-    v367 = (u8)(((u32)v366 | (u32)v365) & UINT64_C(1));
-    if (v367) { goto L48; }
-    else { goto L50; }
-L48:;
-    switch (v335) {
-    case 65535u: goto L51;
-    case 0u: goto L50;
-    default: goto L49;
+L9:;
+    v69 = v36 + 8u * 1u;
+    memory_cpy(v35, v69, 24u);
+    v70 = v35 + 16u * 1u;
+    v71 = load8(v70);
+    v72 = v35 + 17u * 1u;
+    v73 = load8(v72);
+    v74 = v73 == 0u;
+    v75 = load_address(v35);
+    v76 = v74 ? 52u : 54u;
+    v77 = v74 ? 53u : 55u;
+    v78 = v75 + v76 * 1u;
+    v79 = load8(v78);
+    v80 = v75 + v77 * 1u;
+    v81 = load8(v80);
+    v82 = v75 + 42u * 1u;
+    v83 = load8(v82);
+    v84 = v75 + 43u * 1u;
+    v85 = load8(v84);
+    v86 = v35 + 8u * 1u;
+    v87 = load64(v86);
+    v88 = v75 + 54u * 1u;
+    v89 = (u64)((u64)v87 + (u64)UINT64_C(18446744073709551562));
+    v90 = v74 ? v88 : ADDRESS(c145);
+    v91 = v74 ? v89 : 0u;
+    v92 = (u16)v83;
+    v93 = (u16)((u32)v92 << (8u & 15u));
+    v94 = (u16)v85;
+    v95 = (u16)((u32)v93 | (u32)v94);
+    v96 = (u16)v79;
+    v97 = (u16)((u32)v96 << (8u & 15u));
+    v98 = (u16)v81;
+    v99 = (u16)((u32)v97 | (u32)v98);
+    store8(v34, v71);
+    v100 = v34 + 1u * 1u;
+    store8(v100, 0u);
+    v101 = v34 + 2u * 1u;
+    store16(v101, v99);
+    v102 = v34 + 4u * 1u;
+    store16(v102, v95);
+    v103 = v34 + 6u * 1u;
+    store16(v103, 0u);
+    v104 = v34 + 8u * 1u;
+    store_address(v104, v90);
+    v105 = v34 + 16u * 1u;
+    store64(v105, v91);
+    v106 = f59(v34);
+    if (v106) { goto L10; }
+    else { goto L16; }
+L10:;
+    v107 = v75 + 34u * 1u;
+    v108 = load64(v107);
+    v109 = a1 + 440u * 1u;
+    v110 = load64(v109);
+    v111 = load8(v75);
+    v112 = (u8)((u32)v111 >> (4u & 7u));
+    v113 = v75 + 5u * 1u;
+    v114 = load8(v113);
+    v115 = (u8)((u32)v112 | (u32)v114);
+    v116 = v115 == 0u;
+    if (v116) { goto L11; }
+    else { goto L16; }
+L11:;
+    v117 = v75 + 4u * 1u;
+    v118 = load8(v117);
+    v119 = a1 + 8u * 1u;
+    v120 = load8(v119);
+    v121 = v118 == v120;
+    if (v121) { goto L12; }
+    else { goto L16; }
+L12:;
+    v122 = v75 + 20u * 1u;
+    v123 = load64(v122);
+    v124 = v123 == v110;
+    if (v124) { goto L16; }
+    else { goto L13; }
+L13:;
+    v125 = v108 == v110;
+    v126 = v108 == UINT64_C(18446744073709551615);
+    v127 = (u8)(((u32)v126 | (u32)v125) & UINT64_C(1));
+    if (v127) { goto L14; }
+    else { goto L16; }
+L14:;
+    switch (v95) {
+    case 65535u: goto L17;
+    case 0u: goto L16;
+    default: goto L15;
     }
-L49:;
-    v368 = a1 + 432u * 1u;
-    v369 = load64(v368);
-    v370 = (u16)(v369);
-    v371 = v335 > v370;
-    if (v371) { goto L50; }
-    else { goto L51; }
-L50:;
-    goto L53;
-L51:;
-    v372 = f59(a1, v34);
-    v373 = v372 == 1u;
-    if (v373) { goto L52; }
-    else { goto L53; }
-L52:;
-    v374 = v315 + 28u * 1u;
-    v375 = load8(v374);
-    v376 = v315 + 29u * 1u;
-    v377 = load8(v376);
-    v378 = v315 + 30u * 1u;
-    v379 = load8(v378);
-    v380 = v315 + 31u * 1u;
-    v381 = load8(v380);
-    v382 = (u16)v379;
-    v383 = (u16)((u32)v382 << (8u & 15u));
-    v384 = (u16)v381;
-    v385 = (u16)((u32)v383 | (u32)v384);
-    v386 = (u16)v375;
-    v387 = (u16)((u32)v386 << (8u & 15u));
-    v388 = (u16)v377;
-    v389 = (u16)((u32)v387 | (u32)v388);
-    store64(v36, v363);
-    v390 = v36 + 8u * 1u;
-    store16(v390, v389);
-    v391 = v36 + 10u * 1u;
-    store16(v391, v385);
-    v392 = v36 + 12u * 1u;
-    store32(v392, 0u);
-    v393 = v36 + 16u * 1u;
-    store8(v393, v311);
-    v394 = v36 + 17u * 1u;
-    store8(v394, 0u);
-    v395 = v36 + 18u * 1u;
-    store16(v395, v339);
-    v396 = v36 + 20u * 1u;
-    store16(v396, v335);
-    v397 = v36 + 22u * 1u;
-    store16(v397, 0u);
-    v398 = v36 + 24u * 1u;
-    store_address(v398, v330);
-    v399 = v36 + 32u * 1u;
-    store64(v399, v331);
-    f60(a1, v36, v52, v54);
-    f21(v40, a1, a2, a3, a4, a7, a8);
-    v400 = v40 + 8u * 1u;
-    v401 = load64(v400);
-    v24 = 5u; v25 = 0u; v26 = v401; goto L54;
-L53:;
-    f21(v40, a1, a2, a3, a4, a7, a8);
-    v402 = load8(v40);
-    v403 = v40 + 1u * 1u;
-    v404 = load8(v403);
-    v405 = v40 + 8u * 1u;
-    v406 = load64(v405);
-    v24 = v402; v25 = v404; v26 = v406; goto L54;
-L54:;
-    v27 = v26; v28 = v25; v29 = v24; goto L56;
-L55:;
+L15:;
+    v128 = a1 + 432u * 1u;
+    v129 = load64(v128);
+    v130 = (u16)(v129);
+    v131 = v95 > v130;
+    if (v131) { goto L16; }
+    else { goto L17; }
+L16:;
+    goto L39;
+L17:;
+    v132 = f60(a1, v35);
+    v133 = v132 == 0u;
+    if (v133) { goto L18; }
+    else { goto L39; }
+L18:;
+    if (v125) { v15 = 0u; v16 = v99; v17 = v123; v18 = v108; v19 = v118; goto L35; }
+    else { goto L19; }
+L19:;
+    v134 = v75 + 45u * 1u;
+    v135 = load8(v134);
+    v136 = v135 == 0u;
+    v137 = a2 == 0u;
+    v138 = (u8)(((u32)v137 | (u32)v136) & UINT64_C(1));
+    if (v138) { v15 = 0u; v16 = v99; v17 = v123; v18 = v110; v19 = v118; goto L35; }
+    else { goto L20; }
+L20:;
+    v139 = (u16)((u32)a2 + (u32)65535u);
+    v140 = a1 + 432u * 1u;
+    v141 = load64(v140);
+    v142 = (u64)v139;
+    v143 = v141 > v142;
+    if (v143) { goto L21; }
+    else { v15 = 0u; v16 = v99; v17 = v123; v18 = v110; v19 = v118; goto L35; }
+L21:;
+    v144 = a1 + 240u * 1u;
+    v145 = (u64)((u64)v142 * (u64)24u);
+    v146 = v144 + v145 * 1u;
+    v147 = load8(v146);
+    switch (v147) {
+    case 4u: goto L23;
+    case 5u: goto L23;
+    case 7u: goto L23;
+    case 8u: goto L23;
+    case 0u: v15 = 0u; v16 = v99; v17 = v123; v18 = v110; v19 = v118; goto L35;
+    case 1u: v15 = 0u; v16 = v99; v17 = v123; v18 = v110; v19 = v118; goto L35;
+    case 2u: v15 = 0u; v16 = v99; v17 = v123; v18 = v110; v19 = v118; goto L35;
+    case 3u: v15 = 0u; v16 = v99; v17 = v123; v18 = v110; v19 = v118; goto L35;
+    case 6u: v15 = 0u; v16 = v99; v17 = v123; v18 = v110; v19 = v118; goto L35;
+    default: goto L22;
+    }
+L22:;
     UNREACHABLE;
-L56:;
-    v30 = v29; v31 = v28; v32 = v27; goto L57;
-L57:;
-    store8(a0, v30);
-    v407 = a0 + 1u * 1u;
-    store8(v407, v31);
-    v408 = a0 + 8u * 1u;
-    store64(v408, v32);
+L23:;
+    v148 = (u16)(v141);
+    v149 = (u16)((u32)v148 + (u32)1u);
+    v150 = v149 > 1u;
+    if (v150) { goto L24; }
+    else { v15 = 0u; v16 = v99; v17 = v123; v18 = v110; v19 = v118; goto L35; }
+L24:;
+    v151 = a3 + 2u * 1u;
+    v152 = a3 + 3u * 1u;
+    v153 = (u64)a3;
+    v154 = (u64)a2;
+    v155 = (u64)v149;
+    v11 = 0u; v12 = 1u; goto L25;
+L25:;
+    v156 = v12 == v154;
+    if (v156) { v14 = v11; goto L33; }
+    else { goto L26; }
+L26:;
+    v157 = (u64)((u64)v12 + (u64)UINT64_C(18446744073709551615));
+    v158 = load64(v140);
+    v159 = v158 > v157;
+    if (v159) { goto L27; }
+    else { v14 = v11; goto L33; }
+L27:;
+    v160 = (u64)((u64)v157 * (u64)24u);
+    v161 = v144 + v160 * 1u;
+    v162 = load8(v161);
+    switch (v162) {
+    case 4u: goto L29;
+    case 5u: goto L29;
+    case 7u: goto L29;
+    case 8u: goto L29;
+    case 0u: v14 = v11; goto L33;
+    case 1u: v14 = v11; goto L33;
+    case 2u: v14 = v11; goto L33;
+    case 3u: v14 = v11; goto L33;
+    case 6u: v14 = v11; goto L33;
+    default: goto L28;
+    }
+L28:;
+    UNREACHABLE;
+L29:;
+    v163 = (u64)((u64)v11 * (u64)1476u);
+    v164 = a7 + v163 * 1u;
+    v165 = load8(v151);
+    v166 = load8(v152);
+    v167 = (u16)v165;
+    v168 = (u16)((u32)v167 << (8u & 15u));
+    v169 = (u16)v166;
+    v170 = (u16)((u32)v168 | (u32)v169);
+    v171 = (u64)v170;
+    v172 = (u16)(v12);
+    store16(v164, v172);
+    v173 = v164 + 2u * 1u;
+    store16(v173, v170);
+    v174 = v164 + 4u * 1u;
+    v175 = (u64)v174;
+    v176 = (u64)((u64)v175 - (u64)v153);
+    v177 = v176 < v171;
+    if (v177) { v13 = 0u; goto L31; }
+    else { goto L30; }
+L30:;
+    memory_move(v174, a3, v171);
+    goto L32;
+L31:;
+    v178 = v174 + v13 * 1u;
+    v179 = a3 + v13 * 1u;
+    v180 = load8(v179);
+    store8(v178, v180);
+    v181 = (u64)((u64)v13 + (u64)1u);
+    v182 = v181 == v171;
+    if (v182) { goto L32; }
+    else { v13 = v181; goto L31; }
+L32:;
+    v183 = v164 + 49u * 1u;
+    v184 = load8(v183);
+    v185 = (u8)((u32)v184 + (u32)255u);
+    store8(v183, v185);
+    v186 = (u64)((u64)v11 + (u64)1u);
+    v14 = v186; goto L33;
+L33:;
+    v187 = (u64)((u64)v12 + (u64)1u);
+    v188 = v187 == v155;
+    if (v188) { goto L34; }
+    else { v11 = v14; v12 = v187; goto L25; }
+L34:;
+    v189 = load8(v78);
+    v190 = load8(v80);
+    v191 = load8(v117);
+    v192 = load64(v109);
+    v193 = load64(v122);
+    v194 = (u16)v189;
+    v195 = (u16)((u32)v194 << (8u & 15u));
+    v196 = (u16)v190;
+    v197 = (u16)((u32)v195 | (u32)v196);
+    v15 = v14; v16 = v197; v17 = v193; v18 = v192; v19 = v191; goto L35;
+L35:;
+    v198 = v75 + 44u * 1u;
+    v199 = load8(v198);
+    v200 = v75 + 45u * 1u;
+    v201 = load8(v200);
+    v202 = v199 > v201 ? (u8)((u32)v199 - (u32)v201) : 0u;
+    v203 = v75 + 30u * 1u;
+    v204 = load8(v203);
+    v205 = v75 + 31u * 1u;
+    v206 = load8(v205);
+    v207 = (u16)v204;
+    v208 = (u16)((u32)v207 << (8u & 15u));
+    v209 = (u16)v206;
+    v210 = (u16)((u32)v208 | (u32)v209);
+    v211 = v75 + 28u * 1u;
+    v212 = load8(v211);
+    v213 = v75 + 29u * 1u;
+    v214 = load8(v213);
+    v215 = (u16)v212;
+    v216 = (u16)((u32)v215 << (8u & 15u));
+    v217 = (u16)v214;
+    v218 = (u16)((u32)v216 | (u32)v217);
+    v219 = (u16)v19;
+    v220 = swap16(a2);
+    v221 = swap16(v210);
+    v222 = swap16(v218);
+    v223 = (u32)v202;
+    v224 = (u32)((u32)v223 * (u32)257u);
+    v225 = (u32)((u32)v224 | (u32)UINT32_C(131072));
+    v226 = swap16(v16);
+    v227 = (u64)((u64)v15 * (u64)1476u);
+    v228 = a7 + v227 * 1u;
+    store16(v228, a2);
+    v229 = (u16)(v47);
+    v230 = (u16)((u32)v229 + (u32)54u);
+    v231 = v228 + 2u * 1u;
+    store16(v231, v230);
+    v232 = v228 + 4u * 1u;
+    v233 = v228 + 58u * 1u;
+    store16(v232, 4621u);
+    v234 = v228 + 6u * 1u;
+    store16(v234, 13824u);
+    v235 = v228 + 8u * 1u;
+    store16(v235, v219);
+    v236 = v228 + 10u * 1u;
+    memory_set(v236, 0u, 14u);
+    v237 = v228 + 24u * 1u;
+    store64(v237, v18);
+    v238 = v228 + 32u * 1u;
+    store16(v238, v220);
+    v239 = v228 + 34u * 1u;
+    store16(v239, v221);
+    v240 = v228 + 36u * 1u;
+    store16(v240, 32516u);
+    v241 = v228 + 38u * 1u;
+    store64(v241, v17);
+    v242 = v228 + 46u * 1u;
+    store16(v242, v222);
+    v243 = v228 + 48u * 1u;
+    store32(v243, v225);
+    v244 = v228 + 52u * 1u;
+    store16(v244, 256u);
+    v245 = v228 + 54u * 1u;
+    store16(v245, 512u);
+    v246 = v228 + 56u * 1u;
+    store16(v246, v226);
+    v247 = (u64)v233;
+    v248 = (u64)v45;
+    v249 = (u64)((u64)v247 - (u64)v248);
+    v250 = v249 < v47;
+    if (v250) { v20 = 0u; goto L37; }
+    else { goto L36; }
+L36:;
+    memory_move(v233, v45, v47);
+    goto L38;
+L37:;
+    v251 = v233 + v20 * 1u;
+    v252 = v45 + v20 * 1u;
+    v253 = load8(v252);
+    store8(v251, v253);
+    v254 = (u64)((u64)v20 + (u64)1u);
+    v255 = v254 == v47;
+    if (v255) { goto L38; }
+    else { v20 = v254; goto L37; }
+L38:;
+    v256 = swap16(v230);
+    store16(v234, v256);
+    store16(v238, v220);
+    v257 = (u16)((u32)v229 + (u32)2u);
+    v258 = swap16(v257);
+    store16(v245, v258);
+    v259 = (u64)((u64)v15 + (u64)1u);
+    v21 = 9u; v22 = 0u; v23 = v259; goto L51;
+L39:;
+    memory_set(v32, 0u, 32u);
+    f8(v32, a3, a4);
+    v260 = load8(v32);
+    v261 = v260 == 0u;
+    if (v261) { goto L40; }
+    else { goto L50; }
+L40:;
+    v262 = v32 + 8u * 1u;
+    memory_cpy(v31, v262, 24u);
+    v263 = v31 + 16u * 1u;
+    v264 = load8(v263);
+    v265 = v31 + 17u * 1u;
+    v266 = load8(v265);
+    v267 = v266 == 0u;
+    v268 = load_address(v31);
+    v269 = v267 ? 52u : 54u;
+    v270 = v267 ? 53u : 55u;
+    v271 = v268 + v269 * 1u;
+    v272 = load8(v271);
+    v273 = v268 + v270 * 1u;
+    v274 = load8(v273);
+    v275 = v268 + 42u * 1u;
+    v276 = load8(v275);
+    v277 = v268 + 43u * 1u;
+    v278 = load8(v277);
+    v279 = v31 + 8u * 1u;
+    v280 = load64(v279);
+    v281 = v268 + 54u * 1u;
+    v282 = (u64)((u64)v280 + (u64)UINT64_C(18446744073709551562));
+    v283 = v267 ? v281 : ADDRESS(c145);
+    v284 = v267 ? v282 : 0u;
+    v285 = (u16)v276;
+    v286 = (u16)((u32)v285 << (8u & 15u));
+    v287 = (u16)v278;
+    v288 = (u16)((u32)v286 | (u32)v287);
+    v289 = (u16)v272;
+    v290 = (u16)((u32)v289 << (8u & 15u));
+    v291 = (u16)v274;
+    v292 = (u16)((u32)v290 | (u32)v291);
+    store8(v30, v264);
+    v293 = v30 + 1u * 1u;
+    store8(v293, 0u);
+    v294 = v30 + 2u * 1u;
+    store16(v294, v292);
+    v295 = v30 + 4u * 1u;
+    store16(v295, v288);
+    v296 = v30 + 6u * 1u;
+    store16(v296, 0u);
+    v297 = v30 + 8u * 1u;
+    store_address(v297, v283);
+    v298 = v30 + 16u * 1u;
+    store64(v298, v284);
+    v299 = f59(v30);
+    if (v299) { goto L41; }
+    else { goto L47; }
+L41:;
+    v300 = v268 + 34u * 1u;
+    v301 = load64(v300);
+    v302 = a1 + 440u * 1u;
+    v303 = load64(v302);
+    v304 = load8(v268);
+    v305 = (u8)((u32)v304 >> (4u & 7u));
+    v306 = v268 + 5u * 1u;
+    v307 = load8(v306);
+    v308 = (u8)((u32)v305 | (u32)v307);
+    v309 = v308 == 0u;
+    if (v309) { goto L42; }
+    else { goto L47; }
+L42:;
+    v310 = v268 + 4u * 1u;
+    v311 = load8(v310);
+    v312 = a1 + 8u * 1u;
+    v313 = load8(v312);
+    v314 = v311 == v313;
+    if (v314) { goto L43; }
+    else { goto L47; }
+L43:;
+    v315 = v268 + 20u * 1u;
+    v316 = load64(v315);
+    v317 = v316 == v303;
+    if (v317) { goto L47; }
+    else { goto L44; }
+L44:;
+    v318 = v301 == v303;
+    v319 = v301 == UINT64_C(18446744073709551615);
+    v320 = (u8)(((u32)v319 | (u32)v318) & UINT64_C(1));
+    if (v320) { goto L45; }
+    else { goto L47; }
+L45:;
+    switch (v288) {
+    case 65535u: goto L48;
+    case 0u: goto L47;
+    default: goto L46;
+    }
+L46:;
+    v321 = a1 + 432u * 1u;
+    v322 = load64(v321);
+    v323 = (u16)(v322);
+    v324 = v288 > v323;
+    if (v324) { goto L47; }
+    else { goto L48; }
+L47:;
+    goto L50;
+L48:;
+    v325 = f60(a1, v31);
+    v326 = v325 == 1u;
+    if (v326) { goto L49; }
+    else { goto L50; }
+L49:;
+    v327 = v268 + 28u * 1u;
+    v328 = load8(v327);
+    v329 = v268 + 29u * 1u;
+    v330 = load8(v329);
+    v331 = v268 + 30u * 1u;
+    v332 = load8(v331);
+    v333 = v268 + 31u * 1u;
+    v334 = load8(v333);
+    v335 = (u16)v332;
+    v336 = (u16)((u32)v335 << (8u & 15u));
+    v337 = (u16)v334;
+    v338 = (u16)((u32)v336 | (u32)v337);
+    v339 = (u16)v328;
+    v340 = (u16)((u32)v339 << (8u & 15u));
+    v341 = (u16)v330;
+    v342 = (u16)((u32)v340 | (u32)v341);
+    store64(v33, v316);
+    v343 = v33 + 8u * 1u;
+    store16(v343, v342);
+    v344 = v33 + 10u * 1u;
+    store16(v344, v338);
+    v345 = v33 + 12u * 1u;
+    store32(v345, 0u);
+    v346 = v33 + 16u * 1u;
+    store8(v346, v264);
+    v347 = v33 + 17u * 1u;
+    store8(v347, 0u);
+    v348 = v33 + 18u * 1u;
+    store16(v348, v292);
+    v349 = v33 + 20u * 1u;
+    store16(v349, v288);
+    v350 = v33 + 22u * 1u;
+    store16(v350, 0u);
+    v351 = v33 + 24u * 1u;
+    store_address(v351, v283);
+    v352 = v33 + 32u * 1u;
+    store64(v352, v284);
+    f61(a1, v33, v45, v47);
+    f22(v37, a1, a2, a3, a4, a7, a8);
+    v353 = v37 + 8u * 1u;
+    v354 = load64(v353);
+    v21 = 5u; v22 = 0u; v23 = v354; goto L51;
+L50:;
+    f22(v37, a1, a2, a3, a4, a7, a8);
+    v355 = load8(v37);
+    v356 = v37 + 1u * 1u;
+    v357 = load8(v356);
+    v358 = v37 + 8u * 1u;
+    v359 = load64(v358);
+    v21 = v355; v22 = v357; v23 = v359; goto L51;
+L51:;
+    v24 = v23; v25 = v22; v26 = v21; goto L53;
+L52:;
+    UNREACHABLE;
+L53:;
+    v27 = v24; v28 = v25; v29 = v26; goto L54;
+L54:;
+    store8(a0, v29);
+    v360 = a0 + 1u * 1u;
+    store8(v360, v28);
+    v361 = a0 + 8u * 1u;
+    store64(v361, v27);
     return;
 }
 
 static void f21(address a0, address a1, u16 a2, address a3, u64 a4, address a5, u64 a6) {
+    address v7, v10, v11, v12, v13, v14, v15, v16, v19, v20, v21, v22, v24, v26, v28, v34;
+    address v36, v37, v40, v41, v42, v43, v44, v45, v46, v49, v58, v59, v60, v62;
+    u8 v8, v9, v17, v18, v23, v27, v29, v48, v50, v51, v52, v53, v54, v55, v56, v61;
+    u8 v63;
+    u64 v25, v35, v38, v39, v47, v57;
+    u16 v30, v31, v32, v33;
+    u64 block0[2];
+    u64 block1[324];
+    u64 block2[2];
+    u64 block3[55];
+    u64 block4[4];
+    u64 block5[324];
+    u64 block6[55];
+    v10 = ADDRESS(block0);
+    v11 = ADDRESS(block1);
+    v12 = ADDRESS(block2);
+    v13 = ADDRESS(block3);
+    v14 = ADDRESS(block4);
+    v15 = ADDRESS(block5);
+    v16 = ADDRESS(block6);
+    memory_set(v10, 0u, 16u);
+    memory_set(v12, 0u, 16u);
+    memory_set(v14, 0u, 32u);
+    memory_set(v16, 0u, 440u);
+    f8(v14, a3, a4);
+    v17 = load8(v14);
+    v18 = v17 == 0u;
+    if (v18) { goto L1; }
+    else { goto L3; }
+L1:;
+    v19 = v12 + 8u * 1u;
+    v20 = v14 + 8u * 1u;
+    v21 = load_address(v20);
+    v22 = v14 + 24u * 1u;
+    v23 = load8(v22);
+    f18(v16, a1);
+    f47(v15, v16);
+    memory_cpy(v11, v15, 2592u);
+    v24 = v21 + 20u * 1u;
+    v25 = load64(v24);
+    v26 = v21 + 28u * 1u;
+    v27 = load8(v26);
+    v28 = v21 + 29u * 1u;
+    v29 = load8(v28);
+    v30 = (u16)v27;
+    v31 = (u16)((u32)v30 << (8u & 15u));
+    v32 = (u16)v29;
+    v33 = (u16)((u32)v31 | (u32)v32);
+    v34 = v11 + 440u * 1u;
+    v35 = load64(v34);
+    v36 = v11 + 448u * 1u;
+    v37 = v11 + 2584u * 1u;
+    v38 = load64(v37);
+    v39 = (u64)((u64)v38 * (u64)2136u);
+    v40 = v36 + v39 * 1u;
+    memory_set(v40, 0u, 2096u);
+    v41 = v40 + 2096u * 1u;
+    store64(v41, v35);
+    v42 = v40 + 2104u * 1u;
+    store64(v42, v25);
+    v43 = v40 + 2112u * 1u;
+    store16(v43, v33);
+    v44 = v40 + 2114u * 1u;
+    memory_set(v44, 0u, 14u);
+    v45 = v40 + 2128u * 1u;
+    store8(v45, 7u);
+    v46 = v40 + 2129u * 1u;
+    v47 = (u64)((u64)v38 + (u64)1u);
+    memory_set(v46, 0u, 7u);
+    store64(v37, v47);
+    f48(v12, v11, a2, a3, a4, a5, a6);
+    f18(v16, a1);
+    memory_cpy(v13, v11, 440u);
+    memory_cpy(a1, v13, 440u);
+    v48 = load8(v12);
+    v49 = v12 + 1u * 1u;
+    v50 = load8(v49);
+    v51 = v48 != 5u;
+    v52 = (u8)((u32)v23 & (u32)253u);
+    v53 = v52 == 1u;
+    v54 = (u8)(((u32)v53 | (u32)v51) & UINT64_C(1));
+    v55 = v54 ? v50 : 0u;
+    v56 = v54 ? v48 : 9u;
+    v7 = v19; v8 = v56; v9 = v55; goto L2;
+L2:;
+    v57 = load64(v7);
+    store8(a0, v8);
+    v58 = a0 + 1u * 1u;
+    store8(v58, v9);
+    v59 = a0 + 8u * 1u;
+    store64(v59, v57);
+    return;
+L3:;
+    v60 = v10 + 8u * 1u;
+    f22(v10, a1, a2, a3, a4, a5, a6);
+    v61 = load8(v10);
+    v62 = v10 + 1u * 1u;
+    v63 = load8(v62);
+    v7 = v60; v8 = v61; v9 = v63; goto L2;
+}
+
+static void f22(address a0, address a1, u16 a2, address a3, u64 a4, address a5, u64 a6) {
     u16 v7, v47, v48, v49, v50, v57, v58, v59, v69, v70, v71, v72, v78, v82, v88, v89;
     u16 v90, v91, v107, v108, v109, v110, v134, v149, v160;
     u64 v8, v10, v11, v13, v42, v52, v61, v64, v77, v95, v96, v102, v104, v106, v127, v132;
@@ -4942,7 +4968,7 @@ L2:;
     if (v39) { goto L5; }
     else { goto L3; }
 L3:;
-    v40 = f22(a1, v20);
+    v40 = f23(a1, v20);
     if (v40) { goto L4; }
     else { v15 = 1u; goto L35; }
 L4:;
@@ -5064,7 +5090,7 @@ L13:;
     store_address(v115, v105);
     v116 = v19 + 16u * 1u;
     store64(v116, v106);
-    v117 = f24(v60, v18, v91, v19);
+    v117 = f25(v60, v18, v91, v19);
     v118 = v117.m0;
     switch (v118) {
     case 0u: v15 = 9u; goto L35;
@@ -5086,7 +5112,7 @@ L17:;
     v16 = v120; v17 = 0u; goto L36;
 L18:;
     v121 = v117.m1;
-    f28(a1, a2, v27, v121, v22);
+    f29(a1, a2, v27, v121, v22);
     v16 = 0u; v17 = 5u; goto L36;
 L19:;
     v122 = v28 + 44u * 1u;
@@ -5170,7 +5196,7 @@ L30:;
     memory_move(v162, v12, 80u);
     goto L32;
 L31:;
-    f39(v162, v12, v155);
+    f40(v162, v12, v155);
     goto L32;
 L32:;
     v163 = v159 + 8u * 1u;
@@ -5195,7 +5221,7 @@ L34:;
     if (v170) { v16 = 0u; v17 = 6u; goto L36; }
     else { v11 = v169; v12 = v156; v13 = v153; v14 = v152; goto L27; }
 L35:;
-    f43(a1, v15, a2, a3, v27, v22);
+    f44(a1, v15, a2, a3, v27, v22);
     v16 = 0u; v17 = v15; goto L36;
 L36:;
     v171 = load64(v24);
@@ -5207,7 +5233,7 @@ L36:;
     return;
 }
 
-static u8 f22(address a0, address a1) {
+static u8 f23(address a0, address a1) {
     address v2, v4, v9, v10, v11, v12, v14, v16, v21, v24, v26, v28, v37, v41, v44, v46;
     address v52, v57, v59, v61, v63, v69, v70, v71, v72, v73, v74, v75, v76, v77, v80, v82;
     address v85, v89, v92, v94, v96, v98, v100, v102, v103, v104, v105, v106, v107;
@@ -5380,7 +5406,7 @@ L14:;
     store_address(v106, v4);
     v107 = v9 + 16u * 1u;
     store64(v107, v101);
-    v108 = f25(v93, v9, v51, v10);
+    v108 = f26(v93, v9, v51, v10);
     v109 = v108 == 2u;
     v6 = v109; goto L15;
 L15:;
@@ -5391,7 +5417,7 @@ L17:;
     return v8;
 }
 
-static u8 f23(address a0, address a1) {
+static u8 f24(address a0, address a1) {
     u8 v2, v7, v9, v16, v17, v18, v22;
     address v3, v4, v6, v8, v14, v19;
     u64 v5, v15, v20;
@@ -5432,7 +5458,7 @@ L4:;
     return v2;
 }
 
-static struct s1 f24(address a0, address a1, u16 a2, address a3) {
+static struct s1 f25(address a0, address a1, u16 a2, address a3) {
     address v4, v9, v10, v11, v12, v15, v17, v19, v22, v27, v30, v32, v34, v36, v38, v40;
     address v41, v42, v43, v44, v45, v47;
     u64 v5, v13, v18, v23, v24, v39;
@@ -5501,7 +5527,7 @@ L6:;
     store_address(v44, v4);
     v45 = v9 + 16u * 1u;
     store64(v45, v39);
-    v46 = f25(v31, v9, a2, a3);
+    v46 = f26(v31, v9, a2, a3);
     v6 = v46; goto L7;
 L7:;
     v47 = v4 + 2128u * 1u;
@@ -5515,7 +5541,7 @@ L8:;
     return v50;
 }
 
-static u8 f25(u16 a0, address a1, u16 a2, address a3) {
+static u8 f26(u16 a0, address a1, u16 a2, address a3) {
     u64 v4, v28, v31, v61;
     u8 v5, v6, v8, v9, v10, v11, v12, v13, v18, v23, v32, v33, v34, v35, v36, v39;
     u8 v40, v41, v42, v45, v46, v47, v48, v51, v52, v53, v54, v55, v58, v59, v60, v62;
@@ -5614,7 +5640,7 @@ L9:;
     if (v62) { goto L12; }
     else { v4 = v61; goto L8; }
 L10:;
-    v63 = f27(v26, v28, v29, v28);
+    v63 = f28(v26, v28, v29, v28);
     if (v63) { goto L12; }
     else { v5 = 3u; goto L14; }
 L11:;
@@ -5632,7 +5658,7 @@ L15:;
     UNREACHABLE;
 }
 
-static u8 f26(address a0, u64 a1) {
+static u8 f27(address a0, u64 a1) {
     address v2, v3, v4, v7, v8, v11, v12, v15, v16, v19, v20, v23, v24, v27, v28, v31;
     address v32, v37, v38, v42, v43, v47, v48, v52, v53, v57, v58, v62, v63, v67, v68, v72;
     address v73, v77, v78, v82, v83, v87, v88, v92, v93, v97, v98, v102, v103, v107, v108, v112;
@@ -5867,7 +5893,7 @@ static u8 f26(address a0, u64 a1) {
     return v217;
 }
 
-static u8 f27(address a0, u64 a1, address a2, u64 a3) {
+static u8 f28(address a0, u64 a1, address a2, u64 a3) {
     u8 v4, v6, v9, v13, v15, v17, v22, v23, v24, v27, v28, v31, v32, v35, v36, v40;
     u8 v41, v42, v46, v47, v48, v49, v53, v54, v55, v56, v60, v61, v62, v63, v64, v65;
     u8 v66, v67, v68, v69, v70, v71, v72, v73, v74, v78, v79, v80, v81, v83, v88, v89;
@@ -5945,7 +5971,7 @@ L2:;
     if (v72) { goto L3; }
     else { goto L4; }
 L3:;
-    v73 = f26(v18, a1);
+    v73 = f27(v18, a1);
     v17 = v73; goto L22;
 L4:;
     v74 = a1 < 65u;
@@ -6059,7 +6085,7 @@ L22:;
     return v133;
 }
 
-static void f28(address a0, u16 a1, address a2, u8 a3, address a4) {
+static void f29(address a0, u16 a1, address a2, u8 a3, address a4) {
     address v5, v7, v11, v12, v13, v14, v15, v17, v19, v21, v27, v29, v35, v37, v39, v41;
     address v46, v48, v50, v52, v54, v56, v66, v67, v68, v69, v70, v71, v72, v73, v74, v75;
     address v76, v81, v82, v83, v84, v86, v88, v90, v91, v92, v100, v101, v107, v109, v111, v112;
@@ -6205,7 +6231,7 @@ L2:;
     v108 = swap16(v65);
     v109 = v13 + 52u * 1u;
     store16(v109, v108);
-    f29(a0, v12, a3, v13);
+    f30(a0, v12, a3, v13);
     v110 = load8(v74);
     v111 = a0 + 448u * 1u;
     v112 = load_address(v111);
@@ -6277,7 +6303,7 @@ L10:;
     if (v147) { goto L12; }
     else { v10 = v146; goto L10; }
 L11:;
-    f38(v127, v5, v6);
+    f39(v127, v5, v6);
     goto L12;
 L12:;
     v148 = v127 + 2121u * 1u;
@@ -6325,10 +6351,10 @@ L17:;
     memory_move(v150, v158, 80u);
     goto L23;
 L18:;
-    f39(v150, v158, v157);
+    f40(v150, v158, v157);
     goto L23;
 L19:;
-    f40(v150, v158, v157);
+    f41(v150, v158, v157);
     goto L23;
 L20:;
     v167 = v127 + 2088u * 1u;
@@ -6341,13 +6367,13 @@ L21:;
     store64(v167, 0u);
     goto L22;
 L22:;
-    f41(a4, v149, v150);
+    f42(a4, v149, v150);
     goto L23;
 L23:;
     return;
 }
 
-static void f29(address a0, address a1, u8 a2, address a3) {
+static void f30(address a0, address a1, u8 a2, address a3) {
     address v4, v27, v28, v29, v30, v31, v33, v34, v35, v36, v37, v38, v39, v40, v50, v51;
     address v52, v78, v79, v80, v82, v83, v85, v86, v90, v92, v93, v96, v97, v98, v103, v104;
     address v106, v107, v108, v109, v112, v113, v114, v119, v120, v124, v126, v127, v130, v132, v133, v135;
@@ -6616,7 +6642,7 @@ L48:;
     store8(v79, v17);
     v80 = v27 + 3u * 1u;
     store8(v80, v18);
-    v81 = f31(v27, v51, v53);
+    v81 = f32(v27, v51, v53);
     if (v81) { goto L51; }
     else { v19 = 3u; goto L49; }
 L49:;
@@ -6625,7 +6651,7 @@ L49:;
 L50:;
     goto L51;
 L51:;
-    f34(a0, v12, v13, a1);
+    f35(a0, v12, v13, a1);
     if (v8) { goto L53; }
     else { v25 = 0u; v26 = 0u; goto L68; }
 L52:;
@@ -6649,7 +6675,7 @@ L52:;
     v97 = v96 + 2u * 1u;
     store16(v97, 60u);
     v98 = v96 + 4u * 1u;
-    f30(a3, v84, v89, v91, v98);
+    f31(a3, v84, v89, v91, v98);
     v99 = load64(v93);
     v100 = (u64)((u64)v99 + (u64)1u);
     store64(v93, v100);
@@ -6786,10 +6812,10 @@ L66:;
     store64(v138, v160);
     goto L69;
 L67:;
-    f35(a0, v12, a3);
+    f36(a0, v12, a3);
     goto L69;
 L68:;
-    f37(a0, v29, a1, v26, v25, a3);
+    f38(a0, v29, a1, v26, v25, a3);
     goto L69;
 L69:;
     return;
@@ -6811,14 +6837,14 @@ L70:;
     v173 = v172 + 2u * 1u;
     store16(v173, 60u);
     v174 = v172 + 4u * 1u;
-    f30(a3, v163, 2u, v167, v174);
+    f31(a3, v163, 2u, v167, v174);
     v175 = load64(v169);
     v176 = (u64)((u64)v175 + (u64)1u);
     store64(v169, v176);
     goto L69;
 }
 
-static void f30(address a0, u16 a1, u16 a2, u16 a3, address a4) {
+static void f31(address a0, u16 a1, u16 a2, u16 a3, address a4) {
     u64 v5, v7, v8, v9, v14, v16, v17;
     address v6, v11, v12, v19, v20, v21, v23, v25, v26, v28;
     u8 v10, v13, v15, v18;
@@ -6875,7 +6901,7 @@ L6:;
     return;
 }
 
-static u8 f31(address a0, address a1, u64 a2) {
+static u8 f32(address a0, address a1, u64 a2) {
     address v3, v6, v8, v10, v12, v15, v29;
     u64 v4, v17;
     u8 v5, v7, v9, v11, v13, v14, v16, v18, v19, v20, v21, v25, v27, v28, v30, v31;
@@ -6917,7 +6943,7 @@ L3:;
     else { v3 = v15; v4 = v17; goto L4; }
 L4:;
     memory_set(v6, 0u, 24u);
-    f32(v6, v3, v4);
+    f33(v6, v3, v4);
     v19 = load8(v6);
     v20 = v19 == 0u;
     v5 = v20; goto L13;
@@ -6976,7 +7002,7 @@ L14:;
     UNREACHABLE;
 }
 
-static void f32(address a0, address a1, u64 a2) {
+static void f33(address a0, address a1, u64 a2) {
     u64 v3, v4, v5, v6, v7, v8, v9, v10, v11, v12, v13, v14, v15, v17, v21, v33;
     u64 v43, v57, v58, v59, v60, v61, v62, v63, v64, v65, v66, v67, v68, v69, v70, v71;
     u64 v72, v73, v74, v75, v76, v77, v78, v79, v81, v82, v83, v84, v85, v87, v105, v106;
@@ -7270,7 +7296,7 @@ L11:;
     else { v7 = v6; goto L13; }
 L12:;
     v246 = (u64)((u64)v6 + (u64)32u);
-    v247 = f33(v18, v246, a2);
+    v247 = f34(v18, v246, a2);
     v248 = (u64)((u64)a2 - (u64)v247);
     v249 = v248 > 31u;
     if (v249) { v6 = v247; goto L11; }
@@ -7524,7 +7550,7 @@ L45:;
     v13 = 0u; v14 = v403; v15 = a2; goto L36;
 }
 
-static u64 f33(address a0, u64 a1, u64 a2) {
+static u64 f34(address a0, u64 a1, u64 a2) {
     u64 v3, v4, v5, v24, v25, v26, v27, v28, v29, v30, v31, v32, v33, v34, v35, v36;
     u64 v37, v38, v55, v56, v57, v58, v59, v60, v61, v62, v63, v64, v65, v66, v67, v68;
     u64 v69, v86, v87, v88, v89, v90, v91, v92, v93, v94, v95, v96, v97, v98, v99, v100;
@@ -7880,7 +7906,7 @@ L4:;
     return v4;
 }
 
-static void f34(address a0, u8 a1, u8 a2, address a3) {
+static void f35(address a0, u8 a1, u8 a2, address a3) {
     u64 v4, v6, v7, v8, v9, v10, v17, v21, v23, v24, v25, v27, v29, v32, v33, v35;
     u64 v36, v37, v42, v45, v50, v51, v57, v58, v64, v65, v92, v95, v96, v100, v102, v103;
     u64 v106, v112, v115, v119, v121, v122, v129, v132, v134, v136, v137;
@@ -8199,7 +8225,7 @@ L44:;
     UNREACHABLE;
 }
 
-static void f35(address a0, u8 a1, address a2) {
+static void f36(address a0, u8 a1, address a2) {
     u64 v3, v4, v5, v6, v11, v19, v20, v27, v28, v29, v34, v36, v37, v38, v43, v52;
     u64 v53, v55, v63, v64, v71, v72, v73, v78, v80, v81, v82, v87, v96, v97;
     address v7, v9, v10, v12, v13, v15, v16, v17, v18, v21, v24, v25, v26, v31, v32, v40;
@@ -8288,7 +8314,7 @@ L7:;
     goto L15;
 L8:;
     memory_set(v7, 0u, 144u);
-    f36(a0, a1, v7);
+    f37(a0, a1, v7);
     v54 = v7 + 136u * 1u;
     v55 = load64(v54);
     v56 = a2 + 58u * 1u;
@@ -8365,7 +8391,7 @@ L15:;
     return;
 }
 
-static void f36(address a0, u8 a1, address a2) {
+static void f37(address a0, u8 a1, address a2) {
     u64 v3, v5, v6, v7, v8, v9, v10, v11, v12, v13, v14, v15, v19, v20, v24, v27;
     u64 v29, v30, v33, v34, v35, v40, v42, v44, v47, v48, v54, v55, v59, v60, v71, v72;
     u64 v78, v83, v84, v87, v88, v89, v113, v114, v115, v121, v123, v124, v130, v131, v134, v135;
@@ -8975,7 +9001,7 @@ L62:;
     UNREACHABLE;
 }
 
-static void f37(address a0, address a1, address a2, u8 a3, u8 a4, address a5) {
+static void f38(address a0, address a1, address a2, u8 a3, u8 a4, address a5) {
     u16 v6, v7, v17, v21, v22, v40, v42, v43, v51, v56, v74, v75, v88, v89, v94, v95;
     u16 v96, v97, v102, v126, v127, v132, v150, v151, v166, v184, v186, v187, v192, v210, v211;
     u64 v8, v9, v10, v11, v13, v14, v20, v31, v34, v35, v36, v46, v47, v52, v53, v60;
@@ -9045,7 +9071,7 @@ L5:;
     store16(v49, 60u);
     v50 = v48 + 4u * 1u;
     v51 = (u16)(v8);
-    f30(a5, v51, v42, v43, v50);
+    f31(a5, v51, v42, v43, v50);
     v52 = load64(v45);
     v53 = (u64)((u64)v52 + (u64)1u);
     store64(v45, v53);
@@ -9369,7 +9395,7 @@ L37:;
     return;
 }
 
-static void f38(address a0, address a1, u64 a2) {
+static void f39(address a0, address a1, u64 a2) {
     u64 v3, v4, v5, v7, v10, v12, v14, v15, v16, v21, v24, v25, v28, v29, v30, v35;
     u64 v37;
     address v6, v9, v11, v18, v19, v27, v32, v33;
@@ -9448,7 +9474,7 @@ L12:;
     return;
 }
 
-static void f39(address a0, address a1, u64 a2) {
+static void f40(address a0, address a1, u64 a2) {
     u64 v3, v4, v5, v6, v11;
     u8 v7, v10, v12;
     address v8, v9;
@@ -9474,7 +9500,7 @@ L3:;
     return;
 }
 
-static void f40(address a0, address a1, u64 a2) {
+static void f41(address a0, address a1, u64 a2) {
     u64 v3, v4, v5, v7, v10, v12, v14, v15, v16, v21, v24, v25, v28, v29, v30, v35;
     u64 v37;
     address v6, v9, v11, v18, v19, v27, v32, v33;
@@ -9553,7 +9579,7 @@ L12:;
     return;
 }
 
-static void f41(address a0, address a1, address a2) {
+static void f42(address a0, address a1, address a2) {
     u64 v3, v4, v5, v6, v7, v8, v10, v15, v19, v22, v24, v25, v26, v29, v30, v31;
     u64 v36, v38, v41, v42, v43, v48, v50, v53, v54, v55, v60, v62, v65, v66, v67, v72;
     u64 v74, v75;
@@ -9705,7 +9731,7 @@ L21:;
     return;
 }
 
-static void f42(address a0, u64 a1, address a2, address a3, u16 a4, address a5) {
+static void f43(address a0, u64 a1, address a2, address a3, u16 a4, address a5) {
     u64 v6, v8, v15, v17, v19, v22, v40, v41;
     address v7, v9, v11, v12, v13, v14, v16, v20, v21, v23, v25, v26, v28, v34, v36, v38;
     address v39;
@@ -9751,7 +9777,7 @@ L5:;
     memory_move(v26, v7, 80u);
     goto L7;
 L6:;
-    f39(v26, v7, v19);
+    f40(v26, v7, v19);
     goto L7;
 L7:;
     v27 = load8(a3);
@@ -9787,7 +9813,7 @@ L10:;
     return;
 }
 
-static void f43(address a0, u8 a1, u16 a2, address a3, address a4, address a5) {
+static void f44(address a0, u8 a1, u16 a2, address a3, address a4, address a5) {
     address v6, v8, v9, v10, v12, v13, v18, v22, v24, v27, v30, v36, v40, v42, v45, v47;
     address v50, v53, v55, v57, v59, v61, v63, v73, v74, v75, v76, v77, v78, v79, v81, v83;
     address v85, v91, v93, v99, v101, v103, v104, v105, v110, v111, v112, v114, v116, v118, v119, v120;
@@ -9870,7 +9896,7 @@ L6:;
 L7:;
     UNREACHABLE;
 L8:;
-    f44(a0, a2, a3, a5);
+    f45(a0, a2, a3, a5);
     goto L9;
 L9:;
     v44 = a1 == 9u;
@@ -9992,13 +10018,13 @@ L12:;
     v129 = swap16(v72);
     v130 = v9 + 52u * 1u;
     store16(v130, v129);
-    f45(a0, v8, v9);
+    f46(a0, v8, v9);
     goto L13;
 L13:;
     return;
 }
 
-static void f44(address a0, u16 a1, address a2, address a3) {
+static void f45(address a0, u16 a1, address a2, address a3) {
     u64 v4, v5, v7, v15, v16, v17, v19, v20, v22, v26, v27, v35, v39, v40, v45, v50;
     u64 v51, v52;
     address v6, v11, v12, v13, v14, v23, v25, v28, v37, v38, v42, v43, v47;
@@ -10100,7 +10126,7 @@ L11:;
     return;
 }
 
-static void f45(address a0, address a1, address a2) {
+static void f46(address a0, address a1, address a2) {
     address v3, v15, v16, v17, v20, v22, v23, v24, v25, v26, v27, v28, v29, v30, v31, v33;
     address v34, v36, v38, v39, v42, v43, v44, v49, v50, v52, v53, v54, v56, v57, v60, v61;
     address v62, v65, v67, v68, v70, v71, v72, v73, v76, v77, v78, v79, v84, v85, v90, v92;
@@ -10224,7 +10250,7 @@ L22:;
     v43 = v42 + 2u * 1u;
     store16(v43, 60u);
     v44 = v42 + 4u * 1u;
-    f30(a2, v32, v35, v37, v44);
+    f31(a2, v32, v35, v37, v44);
     v45 = load64(v39);
     v46 = (u64)((u64)v45 + (u64)1u);
     store64(v39, v46);
@@ -10263,7 +10289,7 @@ L28:;
     v61 = v60 + 2u * 1u;
     store16(v61, 60u);
     v62 = v60 + 4u * 1u;
-    f30(a2, v51, 6u, v55, v62);
+    f31(a2, v51, 6u, v55, v62);
     v63 = load64(v57);
     v64 = (u64)((u64)v63 + (u64)1u);
     store64(v57, v64);
@@ -10351,14 +10377,14 @@ L38:;
     store64(v73, v95);
     goto L23;
 L39:;
-    f35(a0, v8, a2);
+    f36(a0, v8, a2);
     goto L23;
 L40:;
-    f37(a0, v16, a1, v14, v13, a2);
+    f38(a0, v16, a1, v14, v13, a2);
     goto L23;
 }
 
-static void f46(address a0, address a1) {
+static void f47(address a0, address a1) {
     address v2, v4, v5, v6, v7;
     u64 v3;
     u64 block0[54];
@@ -10376,7 +10402,7 @@ static void f46(address a0, address a1) {
     return;
 }
 
-static void f47(address a0, address a1, u16 a2, address a3, u64 a4, address a5, u64 a6) {
+static void f48(address a0, address a1, u16 a2, address a3, u64 a4, address a5, u64 a6) {
     address v7, v9, v15, v18, v20, v27, v28, v29, v30, v31, v32, v33, v34, v35, v36, v37;
     address v38, v41, v42, v43, v45, v47, v51, v55, v57, v60, v62, v64, v69, v72, v74, v76;
     address v85, v90, v92, v101, v103, v105, v107, v113, v114, v115, v116, v117, v118, v119, v122, v123;
@@ -10623,7 +10649,7 @@ L19:;
     store_address(v149, v7);
     v150 = v31 + 16u * 1u;
     store64(v150, v144);
-    v151 = f25(v136, v31, v97, v32);
+    v151 = f26(v136, v31, v97, v32);
     v152 = v151 == 2u;
     if (v152) { v13 = v89; v14 = v120; goto L56; }
     else { v21 = v70; v22 = 0u; v23 = 1u; goto L72; }
@@ -10716,7 +10742,7 @@ L28:;
     store_address(v199, v189);
     v200 = v34 + 16u * 1u;
     store64(v200, v190);
-    v201 = f48(v69, v33, v179, v34);
+    v201 = f49(v69, v33, v179, v34);
     v202 = v201.m0;
     switch (v202) {
     case 0u: v21 = v70; v22 = 1u; v23 = 9u; goto L72;
@@ -10804,7 +10830,7 @@ L34:;
     v244 = swap16(v194);
     v245 = v30 + 52u * 1u;
     store16(v245, v244);
-    f29(a1, v29, v207, v30);
+    f30(a1, v29, v207, v30);
     v246 = load8(v220);
     v247 = a1 + 448u * 1u;
     v248 = a1 + 2584u * 1u;
@@ -10875,7 +10901,7 @@ L42:;
     if (v282) { goto L44; }
     else { v12 = v281; goto L42; }
 L43:;
-    f38(v262, v189, v190);
+    f39(v262, v189, v190);
     goto L44;
 L44:;
     v283 = v262 + 2121u * 1u;
@@ -10919,10 +10945,10 @@ L49:;
     memory_move(v285, v292, 80u);
     goto L55;
 L50:;
-    f39(v285, v292, v291);
+    f40(v285, v292, v291);
     goto L55;
 L51:;
-    f40(v285, v292, v291);
+    f41(v285, v292, v291);
     goto L55;
 L52:;
     v298 = v262 + 2088u * 1u;
@@ -10935,7 +10961,7 @@ L53:;
     store64(v298, 0u);
     goto L54;
 L54:;
-    f41(v36, v284, v285);
+    f42(v36, v284, v285);
     goto L55;
 L55:;
     v25 = 0u; v26 = 5u; goto L83;
@@ -11018,7 +11044,7 @@ L67:;
     memory_move(v338, v18, 80u);
     goto L69;
 L68:;
-    f39(v338, v18, v331);
+    f40(v338, v18, v331);
     goto L69;
 L69:;
     v339 = v335 + 8u * 1u;
@@ -11099,7 +11125,7 @@ L77:;
 L78:;
     UNREACHABLE;
 L79:;
-    f44(a1, a2, a3, v36);
+    f45(a1, a2, a3, v36);
     if (v22) { goto L81; }
     else { v24 = v23; goto L82; }
 L80:;
@@ -11211,7 +11237,7 @@ L81:;
     v452 = swap16(v395);
     v453 = v28 + 52u * 1u;
     store16(v453, v452);
-    f45(a1, v27, v28);
+    f46(a1, v27, v28);
     v24 = v23; goto L82;
 L82:;
     v25 = 0u; v26 = v24; goto L83;
@@ -11225,7 +11251,7 @@ L83:;
     return;
 }
 
-static struct s1 f48(address a0, address a1, u16 a2, address a3) {
+static struct s1 f49(address a0, address a1, u16 a2, address a3) {
     address v4, v9, v10, v13, v14, v16, v18, v21, v26, v29, v31, v33, v35, v37, v39, v40;
     address v41, v42, v43, v44, v46;
     u64 v5, v11, v17, v22, v23, v38;
@@ -11293,7 +11319,7 @@ L6:;
     store_address(v43, v4);
     v44 = v9 + 16u * 1u;
     store64(v44, v38);
-    v45 = f25(v30, v9, a2, a3);
+    v45 = f26(v30, v9, a2, a3);
     v6 = v45; goto L7;
 L7:;
     v46 = v4 + 2128u * 1u;
@@ -11307,7 +11333,7 @@ L8:;
     return v49;
 }
 
-static void f49(address a0, address a1, address a2, u64 a3) {
+static void f50(address a0, address a1, address a2, u64 a3) {
     address v4, v7, v8, v9, v10, v11, v12, v15, v16, v17, v19, v21, v26, v28, v30, v32;
     address v34, v36, v46, v47, v48, v49, v50, v51, v54, v56, v60, v64, v66, v69, v74, v78;
     address v80, v86, v88, v94, v95, v96, v99, v101, v104, v108, v111, v113, v115, v117, v119, v121;
@@ -11509,7 +11535,7 @@ L14:;
     store_address(v127, v4);
     v128 = v10 + 16u * 1u;
     store64(v128, v122);
-    v129 = f25(v114, v10, v93, v11);
+    v129 = f26(v114, v10, v93, v11);
     v130 = v4 + 2128u * 1u;
     v131 = load8(v130);
     v132 = v129 == 1u;
@@ -11564,7 +11590,7 @@ L16:;
     store8(v153, 1u);
     v154 = v7 + 1137u * 1u;
     memory_set(v154, 0u, 159u);
-    f50(v8, v11, v6, v7);
+    f51(v8, v11, v6, v7);
     v155 = load8(v139);
     v156 = v7 + 1288u * 1u;
     v157 = load64(v156);
@@ -11633,7 +11659,7 @@ L20:;
     goto L17;
 }
 
-static void f50(address a0, address a1, u8 a2, address a3) {
+static void f51(address a0, address a1, u8 a2, address a3) {
     address v4, v25, v26, v27, v28, v29, v31, v32, v33, v34, v35, v36, v37, v38, v48, v49;
     address v50, v76, v77, v78, v80, v81, v84, v85, v86, v87, v91, v92, v95, v96, v97, v99;
     address v101, v102, v105, v106, v107, v108, v110, v111, v114, v115, v116, v117;
@@ -11898,7 +11924,7 @@ L48:;
     store8(v77, v17);
     v78 = v25 + 3u * 1u;
     store8(v78, v18);
-    v79 = f31(v25, v49, v51);
+    v79 = f32(v25, v49, v51);
     if (v79) { goto L51; }
     else { v19 = 3u; goto L49; }
 L49:;
@@ -11907,7 +11933,7 @@ L49:;
 L50:;
     goto L51;
 L51:;
-    f34(a0, v12, v13, a1);
+    f35(a0, v12, v13, a1);
     if (v8) { goto L53; }
     else { v23 = 0u; v24 = 0u; goto L62; }
 L52:;
@@ -11993,10 +12019,10 @@ L60:;
     store64(v102, v109);
     goto L63;
 L61:;
-    f51(a0, v12, a3);
+    f52(a0, v12, a3);
     goto L63;
 L62:;
-    f52(a0, v27, a1, v24, v23, a3);
+    f53(a0, v27, a1, v24, v23, a3);
     goto L63;
 L63:;
     return;
@@ -12018,7 +12044,7 @@ L64:;
     goto L63;
 }
 
-static void f51(address a0, u8 a1, address a2) {
+static void f52(address a0, u8 a1, address a2) {
     address v3, v4, v5, v6, v7, v9, v12, v13, v14, v15, v16, v19, v20, v22, v25, v26;
     address v27, v28, v31, v32;
     u8 v8, v11, v24;
@@ -12066,7 +12092,7 @@ L3:;
     goto L7;
 L4:;
     memory_set(v7, 0u, 144u);
-    f36(a0, a1, v7);
+    f37(a0, a1, v7);
     v22 = v7 + 136u * 1u;
     v23 = load64(v22);
     memory_set(v4, 0u, 144u);
@@ -12097,7 +12123,7 @@ L7:;
     return;
 }
 
-static void f52(address a0, address a1, address a2, u8 a3, u8 a4, address a5) {
+static void f53(address a0, address a1, address a2, u8 a3, u8 a4, address a5) {
     u16 v6, v7, v17, v21, v22, v39, v51, v64, v65, v70, v71, v72, v73, v82, v100, v117;
     u16 v127;
     u64 v8, v20, v31, v32, v35, v36, v44, v47, v48, v55, v58, v59, v61, v63, v75, v76;
@@ -12363,7 +12389,7 @@ L22:;
     return;
 }
 
-static void f53(address a0, address a1, u8 a2) {
+static void f54(address a0, address a1, u8 a2) {
     address v3, v4, v5, v6, v10, v12, v13, v14, v15, v16, v17, v18, v19, v20, v21, v22;
     address v23, v24, v25, v26, v27, v28, v29, v30, v31, v32;
     u8 v7, v8, v9;
@@ -12422,15 +12448,15 @@ static void f53(address a0, address a1, u8 a2) {
     v31 = v3 + 1137u * 1u;
     memory_set(v31, 0u, 159u);
     store8(v6, a2);
-    f54(a0, v5, v3);
+    f55(a0, v5, v3);
     memory_cpy(v4, v3, 1296u);
     v32 = a1 + 10u * 1u;
     v33 = load16(v32);
-    f57(a0, a1, v33, v5, v4);
+    f58(a0, a1, v33, v5, v4);
     return;
 }
 
-static void f54(address a0, address a1, address a2) {
+static void f55(address a0, address a1, address a2) {
     address v3, v10, v11, v12, v15, v17, v18, v19, v20, v21, v22, v23, v24, v28, v30, v31;
     address v34, v35, v36, v37, v39, v41, v42, v45, v46, v47, v48, v50, v52, v53, v56, v57;
     address v58, v59;
@@ -12619,15 +12645,15 @@ L28:;
     store64(v53, v60);
     goto L23;
 L29:;
-    f55(a0, v8, a2);
+    f56(a0, v8, a2);
     goto L23;
 L30:;
     v61 = (u8)v27;
-    f56(a0, v11, a1, v61, a2);
+    f57(a0, v11, a1, v61, a2);
     goto L23;
 }
 
-static void f55(address a0, u8 a1, address a2) {
+static void f56(address a0, u8 a1, address a2) {
     address v3, v5, v7, v8, v11, v12, v13, v14, v16, v18, v19, v22, v23, v24, v25;
     u8 v4, v6, v17;
     u64 v9, v10, v15, v20, v21, v26;
@@ -12656,7 +12682,7 @@ L1:;
     goto L3;
 L2:;
     memory_set(v3, 0u, 144u);
-    f36(a0, a1, v3);
+    f37(a0, a1, v3);
     v16 = a2 + 1296u * 1u;
     v17 = load8(v16);
     v18 = a2 + 8u * 1u;
@@ -12678,7 +12704,7 @@ L3:;
     return;
 }
 
-static void f56(address a0, address a1, address a2, u8 a3, address a4) {
+static void f57(address a0, address a1, address a2, u8 a3, address a4) {
     u16 v5, v6, v9, v13, v14, v26;
     u64 v7, v12, v19, v20, v22, v23, v31, v32;
     address v8, v11, v16, v17, v18, v24, v25, v27, v28, v29, v30;
@@ -12732,7 +12758,7 @@ L5:;
     return;
 }
 
-static void f57(address a0, address a1, u16 a2, address a3, address a4) {
+static void f58(address a0, address a1, u16 a2, address a3, address a4) {
     address v5, v11, v14, v22, v23, v24, v25, v28, v30, v32, v35, v42, v43, v44, v46, v47;
     address v49, v50, v52, v53, v54, v55, v58, v67, v68, v72, v73, v79, v80, v82, v84, v88;
     address v89, v90, v93, v94, v97, v133, v135, v138, v140, v141, v143, v149, v153, v154, v159, v161;
@@ -12835,7 +12861,7 @@ L9:;
     if (v71) { goto L11; }
     else { v8 = v70; goto L9; }
 L10:;
-    f38(v42, v54, v56);
+    f39(v42, v54, v56);
     goto L11;
 L11:;
     v72 = a4 + 8u * 1u;
@@ -13132,7 +13158,7 @@ L48:;
     return;
 }
 
-static u8 f58(address a0) {
+static u8 f59(address a0) {
     u8 v1, v2, v3;
     address v4;
     u16 v5;
@@ -13173,7 +13199,7 @@ L3:;
     return v1;
 }
 
-static u8 f59(address a0, address a1) {
+static u8 f60(address a0, address a1) {
     address v2, v4, v8, v9, v10, v11, v13, v15, v20, v23, v25, v27, v33, v35, v41, v43;
     address v48, v50, v52, v54, v61, v62, v63, v64, v65, v66, v67, v68, v69, v72, v74, v77;
     address v81, v84, v86, v88, v90, v92, v94, v95, v96, v97, v98, v99;
@@ -13313,7 +13339,7 @@ L8:;
     store_address(v98, v4);
     v99 = v8 + 16u * 1u;
     store64(v99, v93);
-    v100 = f25(v85, v8, v40, v9);
+    v100 = f26(v85, v8, v40, v9);
     v6 = v100; goto L9;
 L9:;
     v7 = v6; goto L10;
@@ -13321,7 +13347,7 @@ L10:;
     return v7;
 }
 
-static void f60(address a0, address a1, address a2, u64 a3) {
+static void f61(address a0, address a1, address a2, u64 a3) {
     u8 v4, v25, v28, v32, v33;
     address v5, v6, v7, v8, v9, v10, v11, v12, v13, v14, v15, v16, v17, v18, v19, v20;
     address v21, v22, v23, v24, v26, v29, v30, v31, v34, v35, v36, v37, v38, v39, v40, v41;
@@ -13460,11 +13486,11 @@ L3:;
     store64(v54, 1u);
     v55 = a1 + 10u * 1u;
     v56 = load16(v55);
-    f57(a0, a1, v56, v24, v15);
+    f58(a0, a1, v56, v24, v15);
     return;
 }
 
-static void f61(address a0, address a1, u64 a2) {
+static void f62(address a0, address a1, u64 a2) {
     u64 v3, v4, v5, v6, v7, v9, v12, v14, v16, v17, v19, v21, v23, v24, v25, v28;
     u64 v29, v32, v41, v42, v43, v44, v46;
     address v8, v11, v13, v18, v20, v27, v30, v31, v33, v34, v36, v39, v40;
@@ -13543,7 +13569,7 @@ L10:;
     goto L12;
 L11:;
     v41 = (u64)v35;
-    f39(v40, v36, v41);
+    f40(v40, v36, v41);
     goto L12;
 L12:;
     v42 = load64(v27);
@@ -13561,7 +13587,7 @@ L14:;
     return;
 }
 
-static void f62(address a0, address a1, address a2) {
+static void f63(address a0, address a1, address a2) {
     u64 v3, v5, v7, v8, v12, v13, v15, v16, v18, v19, v20, v22, v23, v24, v25, v27;
     u64 v28, v29, v30, v31, v33, v34, v35, v36, v37, v38, v40, v41, v42, v43, v44, v45;
     u64 v46, v48, v49, v50, v51, v52, v53, v54, v55, v56, v57, v58, v59, v60, v61, v62;
@@ -13709,7 +13735,7 @@ L10:;
     v124 = v8 >= v3;
     v9 = v124; goto L12;
 L11:;
-    v125 = f27(v4, v3, v6, v3);
+    v125 = f28(v4, v3, v6, v3);
     v9 = v125; goto L12;
 L12:;
     v126 = (u8)(((u32)v9 ^ (u32)1u) & UINT64_C(1));
@@ -14560,7 +14586,7 @@ L48:;
     return;
 }
 
-static struct s2 f63(address a0, address a1, u64 a2) {
+static struct s2 f64(address a0, address a1, u64 a2) {
     u64 v3, v4, v14, v16, v19, v23, v24, v25, v27, v30, v32, v34, v58, v59, v60, v65;
     u64 v67;
     u8 v5, v8, v9, v17, v21, v22, v31, v33, v35, v36, v38, v39, v41, v42, v61, v64;
@@ -14575,7 +14601,7 @@ static struct s2 f63(address a0, address a1, u64 a2) {
     if (v9) { goto L1; }
     else { goto L2; }
 L1:;
-    v10 = f64(a0, a1, a2);
+    v10 = f65(a0, a1, a2);
     v6 = v10; goto L9;
 L2:;
     v11 = a0 + 474u * 1u;
@@ -14590,7 +14616,7 @@ L2:;
 L3:;
     v18 = a1 + v16 * 1u;
     v19 = (u64)((u64)a2 - (u64)v16);
-    v20 = f64(a0, v18, v19);
+    v20 = f65(a0, v18, v19);
     v21 = v20.m0;
     v22 = v21 == 1u;
     if (v22) { goto L4; }
@@ -14678,7 +14704,7 @@ L9:;
     return v6;
 }
 
-static struct s2 f64(address a0, address a1, u64 a2) {
+static struct s2 f65(address a0, address a1, u64 a2) {
     u64 v3, v4, v5, v6, v7, v8, v9, v13, v14, v15, v16, v18, v19, v21, v22, v23;
     u64 v24, v25, v27, v30, v34, v35, v36, v37, v38, v39, v48, v52, v53, v55, v58, v66;
     u64 v67, v71, v73, v80, v84, v86, v90, v94, v96, v98, v99, v100, v101, v103, v104, v105;
@@ -14840,7 +14866,7 @@ L19:;
     v112 = a0 + 440u * 1u;
     v113 = (u64)((u64)a2 + (u64)UINT64_C(18446744073709551604));
     memory_set(v43, 0u, 336u);
-    f65(v43, a0);
+    f66(v43, a0);
     v114 = v43 + 328u * 1u;
     v115 = load64(v114);
     v116 = v113 < v115;
@@ -15257,7 +15283,7 @@ L55:;
     return v367;
 }
 
-static void f65(address a0, address a1) {
+static void f66(address a0, address a1) {
     u64 v2, v4, v5, v6, v7, v8, v9, v10, v13, v14, v15, v39, v70, v71, v74, v75;
     u64 v79, v80, v81, v105, v139, v140, v141, v165, v193, v197, v202, v205, v209, v211, v213, v224;
     u64 v225, v228, v229, v231, v232, v236, v237;
@@ -15651,27 +15677,128 @@ L23:;
     return;
 }
 
-static u32 f66(address a0, u16 a1, address a2, u64 a3, address a4, u8 a5, address a6, u64 a7, address a8) {
+static u32 f67(address a0, u16 a1, address a2, u64 a3, address a4, u8 a5, address a6, u64 a7, address a8) {
+    u32 v9, v31, v32, v39, v40;
+    address v10, v11, v12, v13, v14, v15, v18, v20, v22, v23, v24, v26, v28, v30, v33, v35;
+    u8 v16, v17, v19, v21, v25, v27, v34, v36, v37, v38;
+    u64 v29;
+    u64 block0[4];
+    u64 block1[2];
+    u64 block2[3];
+    u64 block3[55];
+    u64 block4[55];
+    u64 block5[2];
+    v10 = ADDRESS(block0);
+    v11 = ADDRESS(block1);
+    v12 = ADDRESS(block2);
+    v13 = ADDRESS(block3);
+    v14 = ADDRESS(block4);
+    v15 = ADDRESS(block5);
+    memory_set(v14, 0u, 440u);
+    memory_set(v15, 0u, 12u);
+    memory_set(a8, 0u, 32u);
+    f18(v14, a0);
+    memory_cpy(v13, v14, 440u);
+    memory_set(v10, 0u, 32u);
+    memory_set(v11, 0u, 16u);
+    store64(v12, 0u);
+    f16(v10, a0, a1, a4, a7);
+    v16 = load8(v10);
+    v17 = v16 == 0u;
+    if (v17) { goto L1; }
+    else { goto L12; }
+L1:;
+    v18 = v10 + 9u * 1u;
+    v19 = load8(v18);
+    v20 = v10 + 8u * 1u;
+    v21 = load8(v20);
+    v22 = v10 + 16u * 1u;
+    store8(v12, v21);
+    v23 = v12 + 1u * 1u;
+    store8(v23, v19);
+    v24 = v12 + 8u * 1u;
+    memory_cpy(v24, v22, 16u);
+    f20(v11, a0, a1, a2, a3, v12, a5, a6, a7);
+    v25 = load8(v11);
+    v26 = v11 + 1u * 1u;
+    v27 = load8(v26);
+    v28 = v11 + 8u * 1u;
+    v29 = load64(v28);
+    store64(a8, v29);
+    f63(v15, a0, v13);
+    v30 = a8 + 16u * 1u;
+    memory_cpy(v30, v15, 12u);
+    switch (v25) {
+    case 0u: goto L2;
+    case 9u: goto L10;
+    case 1u: v9 = 1u; goto L13;
+    case 2u: goto L3;
+    case 3u: goto L4;
+    case 4u: goto L5;
+    case 5u: goto L6;
+    case 6u: goto L7;
+    case 7u: goto L8;
+    case 8u: goto L9;
+    default: goto L11;
+    }
+L2:;
+    v31 = (u32)v27;
+    v32 = (u32)((u32)v31 + (u32)16u);
+    v9 = v32; goto L13;
+L3:;
+    v9 = 2u; goto L13;
+L4:;
+    v9 = 3u; goto L13;
+L5:;
+    v9 = 4u; goto L13;
+L6:;
+    v9 = 5u; goto L13;
+L7:;
+    v9 = 6u; goto L13;
+L8:;
+    v9 = 7u; goto L13;
+L9:;
+    v9 = 8u; goto L13;
+L10:;
+    v9 = 9u; goto L13;
+L11:;
+    UNREACHABLE;
+L12:;
+    v33 = v10 + 2u * 1u;
+    v34 = load8(v33);
+    v35 = v10 + 1u * 1u;
+    v36 = load8(v35);
+    v37 = v36 == 0u;
+    v38 = v34 == 0u;
+    v39 = v38 ? 33u : 34u;
+    v40 = v37 ? v39 : 121u;
+    v9 = v40; goto L13;
+L13:;
+    return v9;
+}
+
+static u32 f68(address a0, u16 a1, address a2, u64 a3, address a4, u8 a5, address a6, u64 a7, address a8) {
     address v9, v11, v14, v22, v31, v32, v33, v34, v35, v36, v37, v38, v39, v40, v41, v42;
-    address v43, v44, v45, v46, v47, v48, v49, v50, v51, v52, v53, v56, v58, v60, v61, v62;
-    address v63, v68, v69, v70, v73, v76, v77, v78, v80, v86, v88, v95, v97, v102, v103, v104;
-    address v105, v106, v110, v112, v114, v120, v123, v124, v125, v127, v130, v134, v137, v142, v143, v144;
-    address v145, v146, v150, v152, v154, v160, v163, v164, v165, v167, v170, v174, v177, v182, v184, v186;
-    address v191, v192, v193, v198, v201, v202, v203, v207, v208, v215, v216, v217, v218, v219, v221, v223;
-    address v225, v228, v229, v230, v231, v232, v233, v236, v237, v244, v249, v250, v251, v253, v255, v262;
-    address v263, v264, v265, v272, v273, v274, v277, v279;
-    u64 v10, v12, v16, v17, v18, v19, v20, v21, v23, v24, v25, v28, v29, v72, v96, v98;
-    u64 v107, v108, v111, v121, v126, v131, v147, v148, v151, v161, v166, v171, v178, v183, v185, v187;
-    u64 v188, v189, v194, v195, v196, v197, v199, v205, v206, v209, v210, v211, v224, v234, v245, v246;
-    u64 v247, v248, v256, v258, v259, v260, v261, v266, v267, v268, v270;
-    u8 v13, v15, v26, v27, v54, v55, v57, v59, v64, v65, v66, v67, v74, v75, v79, v81;
-    u8 v87, v89, v94, v99, v100, v101, v109, v113, v115, v122, v129, v132, v133, v135, v136, v138;
-    u8 v139, v140, v141, v149, v153, v155, v162, v169, v172, v173, v175, v176, v179, v180, v181, v190;
-    u8 v200, v204, v212, v213, v214, v220, v222, v226, v227, v235, v238, v239, v240, v241, v242, v243;
-    u8 v252, v254, v257, v269, v271, v278, v280, v281, v282;
-    u32 v30, v275, v276, v283, v284;
-    u16 v71, v82, v83, v84, v85, v90, v91, v92, v93, v116, v117, v118, v119, v128, v156, v157;
-    u16 v158, v159, v168;
+    address v43, v44, v45, v46, v47, v48, v49, v50, v51, v52, v53, v54, v57, v59, v61, v62;
+    address v63, v68, v74, v75, v76, v79, v82, v83, v84, v86, v92, v94, v101, v103, v108, v109;
+    address v110, v111, v112, v116, v118, v120, v126, v129, v130, v131, v133, v136, v140, v143, v145, v146;
+    address v150, v152, v159, v160, v167, v168, v169, v170, v171, v175, v177, v179, v185, v188, v189, v190;
+    address v192, v195, v199, v202, v207, v209, v211, v216, v217, v218, v223, v226, v227, v228, v232, v233;
+    address v240, v241, v242, v243, v244, v246, v248, v250, v253, v254, v255, v256, v257, v258, v261, v262;
+    address v269, v274, v275, v276, v278, v280, v287, v288, v289, v290, v297, v298, v299, v302, v304;
+    u64 v10, v12, v16, v17, v18, v19, v20, v21, v23, v24, v25, v28, v29, v78, v102, v104;
+    u64 v113, v114, v117, v127, v132, v137, v148, v149, v172, v173, v176, v186, v191, v196, v203, v208;
+    u64 v210, v212, v213, v214, v219, v220, v221, v222, v224, v230, v231, v234, v235, v236, v249, v259;
+    u64 v270, v271, v272, v273, v281, v283, v284, v285, v286, v291, v292, v293, v295;
+    u8 v13, v15, v26, v27, v55, v56, v58, v60, v64, v65, v66, v67, v69, v70, v71, v72;
+    u8 v73, v80, v81, v85, v87, v93, v95, v100, v105, v106, v107, v115, v119, v121, v128, v135;
+    u8 v138, v139, v141, v142, v144, v147, v151, v153, v158, v161, v162, v163, v164, v165, v166, v174;
+    u8 v178, v180, v187, v194, v197, v198, v200, v201, v204, v205, v206, v215, v225, v229, v237, v238;
+    u8 v239, v245, v247, v251, v252, v260, v263, v264, v265, v266, v267, v268, v277, v279, v282, v294;
+    u8 v296, v303, v305, v306, v307;
+    u32 v30, v300, v301, v308, v309;
+    u16 v77, v88, v89, v90, v91, v96, v97, v98, v99, v122, v123, v124, v125, v134, v154, v155;
+    u16 v156, v157, v181, v182, v183, v184, v193;
     u64 block0[2];
     u64 block1[3];
     u64 block2[2];
@@ -15691,9 +15818,10 @@ static u32 f66(address a0, u16 a1, address a2, u64 a3, address a4, u8 a5, addres
     u64 block16[4];
     u64 block17[4];
     u64 block18[4];
-    u64 block19[2];
+    u64 block19[4];
     u64 block20[2];
     u64 block21[2];
+    u64 block22[2];
     v31 = ADDRESS(block0);
     v32 = ADDRESS(block1);
     v33 = ADDRESS(block2);
@@ -15716,466 +15844,501 @@ static u32 f66(address a0, u16 a1, address a2, u64 a3, address a4, u8 a5, addres
     v50 = ADDRESS(block19);
     v51 = ADDRESS(block20);
     v52 = ADDRESS(block21);
-    memory_set(v52, 0u, 12u);
+    v53 = ADDRESS(block22);
+    memory_set(v53, 0u, 12u);
     memory_set(a8, 0u, 32u);
-    memory_set(v49, 0u, 32u);
-    memory_set(v50, 0u, 12u);
+    memory_set(v50, 0u, 32u);
     memory_set(v51, 0u, 12u);
-    v53 = load_address(a0);
-    f16(v49, v53, a1, a4, a7);
-    v54 = load8(v49);
-    v55 = v54 == 0u;
-    if (v55) { goto L1; }
-    else { goto L57; }
+    memory_set(v52, 0u, 12u);
+    v54 = load_address(a0);
+    f16(v50, v54, a1, a4, a7);
+    v55 = load8(v50);
+    v56 = v55 == 0u;
+    if (v56) { goto L1; }
+    else { goto L60; }
 L1:;
-    v56 = v49 + 8u * 1u;
-    v57 = load8(v56);
-    v58 = v49 + 9u * 1u;
-    v59 = load8(v58);
-    v60 = v49 + 16u * 1u;
-    if (a5) { goto L2; }
-    else { goto L3; }
-L2:;
-    v61 = a0 + 953u * 1u;
-    v14 = v61; v15 = 1u; goto L29;
-L3:;
+    v57 = v50 + 8u * 1u;
+    v58 = load8(v57);
+    v59 = v50 + 9u * 1u;
+    v60 = load8(v59);
+    v61 = v50 + 16u * 1u;
     v62 = load_address(a0);
     v63 = v62 + 472u * 1u;
     v64 = load8(v63);
     v65 = v64 == 1u;
-    if (v65) { goto L4; }
-    else { goto L20; }
+    if (v65) { goto L2; }
+    else { goto L23; }
+L2:;
+    if (a5) { goto L3; }
+    else { goto L5; }
+L3:;
+    memory_set(v49, 0u, 32u);
+    f8(v49, a2, a3);
+    v66 = load8(v49);
+    v67 = v66 == 0u;
+    v68 = v49 + 24u * 1u;
+    v69 = load8(v68);
+    v70 = v69 == 1u;
+    v71 = v67 ? v70 : 0u;
+    if (v71) { goto L20; }
+    else { goto L4; }
 L4:;
+    goto L22;
+L5:;
     memory_set(v47, 0u, 32u);
     memory_set(v48, 0u, 32u);
     f8(v47, a2, a3);
-    v66 = load8(v47);
-    v67 = v66 == 0u;
-    if (v67) { goto L5; }
-    else { goto L7; }
-L5:;
-    v68 = v47 + 8u * 1u;
-    v69 = load_address(v68);
-    v70 = v62 + 476u * 1u;
-    v71 = load16(v70);
-    v72 = (u64)v71;
-    v73 = v62 + 478u * 1u;
-    f8(v48, v73, v72);
-    v74 = load8(v48);
-    v75 = v74 == 0u;
-    if (v75) { goto L6; }
-    else { goto L7; }
+    v72 = load8(v47);
+    v73 = v72 == 0u;
+    if (v73) { goto L6; }
+    else { goto L8; }
 L6:;
-    v76 = v48 + 8u * 1u;
-    v77 = load_address(v76);
-    v78 = v69 + 28u * 1u;
-    v79 = load8(v78);
-    v80 = v69 + 29u * 1u;
-    v81 = load8(v80);
-    v82 = (u16)v79;
-    v83 = (u16)((u32)v82 << (8u & 15u));
-    v84 = (u16)v81;
-    v85 = (u16)((u32)v83 | (u32)v84);
-    v86 = v77 + 28u * 1u;
-    v87 = load8(v86);
-    v88 = v77 + 29u * 1u;
-    v89 = load8(v88);
-    v90 = (u16)v87;
-    v91 = (u16)((u32)v90 << (8u & 15u));
-    v92 = (u16)v89;
-    v93 = (u16)((u32)v91 | (u32)v92);
-    v94 = v85 == v93;
-    if (v94) { goto L8; }
-    else { goto L7; }
+    v74 = v47 + 8u * 1u;
+    v75 = load_address(v74);
+    v76 = v62 + 476u * 1u;
+    v77 = load16(v76);
+    v78 = (u64)v77;
+    v79 = v62 + 478u * 1u;
+    f8(v48, v79, v78);
+    v80 = load8(v48);
+    v81 = v80 == 0u;
+    if (v81) { goto L7; }
+    else { goto L8; }
 L7:;
-    goto L18;
+    v82 = v48 + 8u * 1u;
+    v83 = load_address(v82);
+    v84 = v75 + 28u * 1u;
+    v85 = load8(v84);
+    v86 = v75 + 29u * 1u;
+    v87 = load8(v86);
+    v88 = (u16)v85;
+    v89 = (u16)((u32)v88 << (8u & 15u));
+    v90 = (u16)v87;
+    v91 = (u16)((u32)v89 | (u32)v90);
+    v92 = v83 + 28u * 1u;
+    v93 = load8(v92);
+    v94 = v83 + 29u * 1u;
+    v95 = load8(v94);
+    v96 = (u16)v93;
+    v97 = (u16)((u32)v96 << (8u & 15u));
+    v98 = (u16)v95;
+    v99 = (u16)((u32)v97 | (u32)v98);
+    v100 = v91 == v99;
+    if (v100) { goto L9; }
+    else { goto L8; }
 L8:;
-    v95 = v77 + 20u * 1u;
-    v96 = load64(v95);
-    v97 = v69 + 20u * 1u;
-    v98 = load64(v97);
-    v99 = v98 == v96;
-    if (v99) { goto L9; }
-    else { goto L18; }
+    goto L19;
 L9:;
+    v101 = v83 + 20u * 1u;
+    v102 = load64(v101);
+    v103 = v75 + 20u * 1u;
+    v104 = load64(v103);
+    v105 = v104 == v102;
+    if (v105) { goto L10; }
+    else { goto L19; }
+L10:;
     memory_set(v46, 0u, 32u);
     f8(v46, a2, a3);
-    v100 = load8(v46);
-    v101 = v100 == 0u;
-    if (v101) { goto L10; }
-    else { goto L16; }
-L10:;
-    v102 = v46 + 8u * 1u;
-    v103 = load_address(v102);
-    v104 = load_address(a0);
-    v105 = v104 + 440u * 1u;
-    v106 = v103 + 34u * 1u;
-    v107 = load64(v106);
-    v108 = load64(v105);
-    v109 = v107 == v108;
-    if (v109) { goto L11; }
-    else { goto L16; }
+    v106 = load8(v46);
+    v107 = v106 == 0u;
+    if (v107) { goto L11; }
+    else { goto L17; }
 L11:;
-    v110 = v103 + 20u * 1u;
-    v111 = load64(v110);
-    v112 = v103 + 28u * 1u;
-    v113 = load8(v112);
-    v114 = v103 + 29u * 1u;
-    v115 = load8(v114);
-    v116 = (u16)v113;
-    v117 = (u16)((u32)v116 << (8u & 15u));
-    v118 = (u16)v115;
-    v119 = (u16)((u32)v117 | (u32)v118);
-    v120 = v104 + 456u * 1u;
-    v121 = load64(v120);
-    v122 = v121 == 0u;
-    if (v122) { goto L16; }
-    else { goto L12; }
+    v108 = v46 + 8u * 1u;
+    v109 = load_address(v108);
+    v110 = load_address(a0);
+    v111 = v110 + 440u * 1u;
+    v112 = v109 + 34u * 1u;
+    v113 = load64(v112);
+    v114 = load64(v111);
+    v115 = v113 == v114;
+    if (v115) { goto L12; }
+    else { goto L17; }
 L12:;
-    v123 = v104 + 448u * 1u;
-    v124 = load_address(v123);
-    v9 = v124; v10 = v121; goto L13;
+    v116 = v109 + 20u * 1u;
+    v117 = load64(v116);
+    v118 = v109 + 28u * 1u;
+    v119 = load8(v118);
+    v120 = v109 + 29u * 1u;
+    v121 = load8(v120);
+    v122 = (u16)v119;
+    v123 = (u16)((u32)v122 << (8u & 15u));
+    v124 = (u16)v121;
+    v125 = (u16)((u32)v123 | (u32)v124);
+    v126 = v110 + 456u * 1u;
+    v127 = load64(v126);
+    v128 = v127 == 0u;
+    if (v128) { goto L17; }
+    else { goto L13; }
 L13:;
-    v125 = v9 + 2136u * 1u;
-    v126 = (u64)((u64)v10 + (u64)UINT64_C(18446744073709551615));
-    v127 = v9 + 2112u * 1u;
-    v128 = load16(v127);
-    v129 = v119 == v128;
-    if (v129) { goto L14; }
-    else { goto L15; }
+    v129 = v110 + 448u * 1u;
+    v130 = load_address(v129);
+    v9 = v130; v10 = v127; goto L14;
 L14:;
-    v130 = v9 + 2104u * 1u;
-    v131 = load64(v130);
-    v132 = v111 == v131;
-    if (v132) { goto L17; }
-    else { goto L15; }
+    v131 = v9 + 2136u * 1u;
+    v132 = (u64)((u64)v10 + (u64)UINT64_C(18446744073709551615));
+    v133 = v9 + 2112u * 1u;
+    v134 = load16(v133);
+    v135 = v125 == v134;
+    if (v135) { goto L15; }
+    else { goto L16; }
 L15:;
-    v133 = v126 == 0u;
-    if (v133) { goto L16; }
-    else { v9 = v125; v10 = v126; goto L13; }
+    v136 = v9 + 2104u * 1u;
+    v137 = load64(v136);
+    v138 = v117 == v137;
+    if (v138) { goto L18; }
+    else { goto L16; }
 L16:;
-    goto L18;
+    v139 = v132 == 0u;
+    if (v139) { goto L17; }
+    else { v9 = v131; v10 = v132; goto L14; }
 L17:;
     goto L19;
 L18:;
-    v134 = load_address(a0);
-    memory_set(v45, 0u, 48u);
-    f49(v45, v134, a2, a3);
-    v135 = load8(v45);
-    v136 = v135 == 1u;
-    if (v136) { goto L19; }
-    else { goto L20; }
+    goto L21;
 L19:;
-    v30 = 123u; goto L59;
+    v140 = load_address(a0);
+    memory_set(v45, 0u, 48u);
+    f50(v45, v140, a2, a3);
+    v141 = load8(v45);
+    v142 = v141 == 1u;
+    if (v142) { goto L21; }
+    else { goto L23; }
 L20:;
-    v137 = a0 + 953u * 1u;
-    v138 = load8(v137);
-    v139 = (u8)((v138) & UINT64_C(1));
-    if (v139) { goto L21; }
-    else { v14 = v137; v15 = 1u; goto L29; }
-L21:;
-    memory_set(v44, 0u, 32u);
-    f8(v44, a2, a3);
-    v140 = load8(v44);
-    v141 = v140 == 0u;
-    if (v141) { goto L22; }
-    else { v13 = 0u; goto L28; }
-L22:;
-    v142 = v44 + 8u * 1u;
-    v143 = load_address(v142);
-    v144 = load_address(a0);
-    v145 = v144 + 440u * 1u;
-    v146 = v143 + 34u * 1u;
-    v147 = load64(v146);
-    v148 = load64(v145);
-    v149 = v147 == v148;
-    if (v149) { goto L23; }
-    else { v13 = 0u; goto L28; }
-L23:;
-    v150 = v143 + 20u * 1u;
-    v151 = load64(v150);
-    v152 = v143 + 28u * 1u;
+    v143 = v49 + 25u * 1u;
+    v144 = load8(v143);
+    v145 = v49 + 8u * 1u;
+    v146 = load_address(v145);
+    v147 = v144 == 0u;
+    v148 = v147 ? 52u : 54u;
+    v149 = v147 ? 53u : 55u;
+    v150 = v146 + v148 * 1u;
+    v151 = load8(v150);
+    v152 = v146 + v149 * 1u;
     v153 = load8(v152);
-    v154 = v143 + 29u * 1u;
-    v155 = load8(v154);
+    v154 = (u16)v151;
+    v155 = (u16)((u32)v154 << (8u & 15u));
     v156 = (u16)v153;
-    v157 = (u16)((u32)v156 << (8u & 15u));
-    v158 = (u16)v155;
-    v159 = (u16)((u32)v157 | (u32)v158);
-    v160 = v144 + 456u * 1u;
-    v161 = load64(v160);
-    v162 = v161 == 0u;
-    if (v162) { v13 = 0u; goto L28; }
+    v157 = (u16)((u32)v155 | (u32)v156);
+    v158 = v157 == 8199u;
+    if (v158) { goto L21; }
+    else { goto L22; }
+L21:;
+    v30 = 123u; goto L62;
+L22:;
+    v159 = a0 + 953u * 1u;
+    v14 = v159; v15 = 1u; goto L32;
+L23:;
+    v160 = a0 + 953u * 1u;
+    v161 = load8(v160);
+    v162 = (u8)((v161) & UINT64_C(1));
+    v163 = (u8)(((u32)v162 ^ (u32)1u) & UINT64_C(1));
+    v164 = (u8)(((u32)a5 | (u32)v163) & UINT64_C(1));
+    if (v164) { v14 = v160; v15 = 1u; goto L32; }
     else { goto L24; }
 L24:;
-    v163 = v144 + 448u * 1u;
-    v164 = load_address(v163);
-    v11 = v164; v12 = v161; goto L25;
+    memory_set(v44, 0u, 32u);
+    f8(v44, a2, a3);
+    v165 = load8(v44);
+    v166 = v165 == 0u;
+    if (v166) { goto L25; }
+    else { v13 = 0u; goto L31; }
 L25:;
-    v165 = v11 + 2136u * 1u;
-    v166 = (u64)((u64)v12 + (u64)UINT64_C(18446744073709551615));
-    v167 = v11 + 2112u * 1u;
-    v168 = load16(v167);
-    v169 = v159 == v168;
-    if (v169) { goto L26; }
-    else { goto L27; }
+    v167 = v44 + 8u * 1u;
+    v168 = load_address(v167);
+    v169 = load_address(a0);
+    v170 = v169 + 440u * 1u;
+    v171 = v168 + 34u * 1u;
+    v172 = load64(v171);
+    v173 = load64(v170);
+    v174 = v172 == v173;
+    if (v174) { goto L26; }
+    else { v13 = 0u; goto L31; }
 L26:;
-    v170 = v11 + 2104u * 1u;
-    v171 = load64(v170);
-    v172 = v151 == v171;
-    if (v172) { v13 = 1u; goto L28; }
+    v175 = v168 + 20u * 1u;
+    v176 = load64(v175);
+    v177 = v168 + 28u * 1u;
+    v178 = load8(v177);
+    v179 = v168 + 29u * 1u;
+    v180 = load8(v179);
+    v181 = (u16)v178;
+    v182 = (u16)((u32)v181 << (8u & 15u));
+    v183 = (u16)v180;
+    v184 = (u16)((u32)v182 | (u32)v183);
+    v185 = v169 + 456u * 1u;
+    v186 = load64(v185);
+    v187 = v186 == 0u;
+    if (v187) { v13 = 0u; goto L31; }
     else { goto L27; }
 L27:;
-    v173 = v166 == 0u;
-    if (v173) { v13 = 0u; goto L28; }
-    else { v11 = v165; v12 = v166; goto L25; }
+    v188 = v169 + 448u * 1u;
+    v189 = load_address(v188);
+    v11 = v189; v12 = v186; goto L28;
 L28:;
-    v14 = v137; v15 = v13; goto L29;
+    v190 = v11 + 2136u * 1u;
+    v191 = (u64)((u64)v12 + (u64)UINT64_C(18446744073709551615));
+    v192 = v11 + 2112u * 1u;
+    v193 = load16(v192);
+    v194 = v184 == v193;
+    if (v194) { goto L29; }
+    else { goto L30; }
 L29:;
-    v174 = a0 + 955u * 1u;
-    v175 = load8(v174);
-    v176 = (u8)((v175) & UINT64_C(1));
-    if (v176) { goto L30; }
-    else { goto L58; }
+    v195 = v11 + 2104u * 1u;
+    v196 = load64(v195);
+    v197 = v176 == v196;
+    if (v197) { v13 = 1u; goto L31; }
+    else { goto L30; }
 L30:;
-    v177 = a0 + 928u * 1u;
-    v178 = load64(v177);
-    v179 = v178 != 0u;
-    v180 = (u8)(((u32)v15 ^ (u32)1u) & UINT64_C(1));
-    v181 = (u8)(((u32)v179 | (u32)v180) & UINT64_C(1));
-    if (v181) { goto L36; }
-    else { goto L31; }
+    v198 = v191 == 0u;
+    if (v198) { v13 = 0u; goto L31; }
+    else { v11 = v190; v12 = v191; goto L28; }
 L31:;
-    v182 = a0 + 896u * 1u;
-    v183 = load64(v182);
-    v184 = a0 + 920u * 1u;
-    v185 = load64(v184);
-    v186 = a0 + 912u * 1u;
-    v187 = load64(v186);
-    v188 = (u64)((u64)v183 - (u64)v185);
-    v189 = (u64)((u64)v188 + (u64)v187);
-    v190 = v189 > 14u;
-    if (v190) { goto L37; }
-    else { goto L32; }
+    v14 = v160; v15 = v13; goto L32;
 L32:;
-    v191 = load_address(a0);
-    memory_set(v43, 0u, 40u);
-    v192 = v191 + 440u * 1u;
-    f17(v43, v192);
-    v193 = v191 + 432u * 1u;
-    v194 = load64(v193);
-    v195 = (u64)((u64)v194 << (1u & 63u));
-    v196 = (u64)((u64)v195 & (u64)UINT64_C(131070));
-    v197 = (u64)((u64)v196 + (u64)UINT64_C(18446744073709551615));
-    v198 = v43 + 32u * 1u;
-    v199 = load64(v198);
-    v200 = v199 == 0u;
-    if (v200) { v18 = v197; goto L35; }
-    else { goto L33; }
+    v199 = a0 + 955u * 1u;
+    v200 = load8(v199);
+    v201 = (u8)((v200) & UINT64_C(1));
+    if (v201) { goto L33; }
+    else { goto L61; }
 L33:;
-    v201 = v43 + 16u * 1u;
-    v202 = load_address(v43);
-    v16 = v197; v17 = 0u; goto L34;
+    v202 = a0 + 928u * 1u;
+    v203 = load64(v202);
+    v204 = v203 != 0u;
+    v205 = (u8)(((u32)v15 ^ (u32)1u) & UINT64_C(1));
+    v206 = (u8)(((u32)v204 | (u32)v205) & UINT64_C(1));
+    if (v206) { goto L39; }
+    else { goto L34; }
 L34:;
-    v203 = v201 + v17 * 1u;
-    v204 = load8(v203);
-    v205 = (u64)v204;
-    v206 = (u64)((u64)v205 * (u64)2136u);
-    v207 = v202 + v206 * 1u;
-    v208 = v207 + 1440u * 1u;
-    v209 = load64(v208);
-    v210 = v16 > v209 ? v16 : v209;
-    v211 = (u64)((u64)v17 + (u64)1u);
-    v212 = v211 == v199;
-    if (v212) { v18 = v210; goto L35; }
-    else { v16 = v210; v17 = v211; goto L34; }
+    v207 = a0 + 896u * 1u;
+    v208 = load64(v207);
+    v209 = a0 + 920u * 1u;
+    v210 = load64(v209);
+    v211 = a0 + 912u * 1u;
+    v212 = load64(v211);
+    v213 = (u64)((u64)v208 - (u64)v210);
+    v214 = (u64)((u64)v213 + (u64)v212);
+    v215 = v214 > 14u;
+    if (v215) { goto L40; }
+    else { goto L35; }
 L35:;
-    v213 = v18 > v189;
-    if (v213) { goto L58; }
-    else { goto L37; }
+    v216 = load_address(a0);
+    memory_set(v43, 0u, 40u);
+    v217 = v216 + 440u * 1u;
+    f17(v43, v217);
+    v218 = v216 + 432u * 1u;
+    v219 = load64(v218);
+    v220 = (u64)((u64)v219 << (1u & 63u));
+    v221 = (u64)((u64)v220 & (u64)UINT64_C(131070));
+    v222 = (u64)((u64)v221 + (u64)UINT64_C(18446744073709551615));
+    v223 = v43 + 32u * 1u;
+    v224 = load64(v223);
+    v225 = v224 == 0u;
+    if (v225) { v18 = v222; goto L38; }
+    else { goto L36; }
 L36:;
-    v214 = (u8)(((u32)v15 | (u32)v179) & UINT64_C(1));
-    if (v214) { goto L58; }
-    else { goto L37; }
+    v226 = v43 + 16u * 1u;
+    v227 = load_address(v43);
+    v16 = v222; v17 = 0u; goto L37;
 L37:;
-    if (v15) { goto L39; }
-    else { goto L38; }
+    v228 = v226 + v17 * 1u;
+    v229 = load8(v228);
+    v230 = (u64)v229;
+    v231 = (u64)((u64)v230 * (u64)2136u);
+    v232 = v227 + v231 * 1u;
+    v233 = v232 + 1440u * 1u;
+    v234 = load64(v233);
+    v235 = v16 > v234 ? v16 : v234;
+    v236 = (u64)((u64)v17 + (u64)1u);
+    v237 = v236 == v224;
+    if (v237) { v18 = v235; goto L38; }
+    else { v16 = v235; v17 = v236; goto L37; }
 L38:;
+    v238 = v18 > v214;
+    if (v238) { goto L61; }
+    else { goto L40; }
+L39:;
+    v239 = (u8)(((u32)v15 | (u32)v204) & UINT64_C(1));
+    if (v239) { goto L61; }
+    else { goto L40; }
+L40:;
+    if (v15) { goto L42; }
+    else { goto L41; }
+L41:;
     memory_set(v41, 0u, 16u);
     store64(v42, 0u);
-    v215 = load_address(a0);
-    v216 = a0 + 8u * 1u;
-    memory_cpy(v40, v215, 440u);
-    memory_move(v215, v216, 440u);
-    memory_cpy(v216, v40, 440u);
-    v217 = load_address(a0);
-    store8(v42, v57);
-    v218 = v42 + 1u * 1u;
-    store8(v218, v59);
-    v219 = v42 + 8u * 1u;
-    memory_cpy(v219, v60, 16u);
-    f20(v41, v217, a1, a2, a3, v42, 0u, a6, a7);
-    v220 = load8(v41);
-    v221 = v41 + 1u * 1u;
-    v222 = load8(v221);
-    v223 = v41 + 8u * 1u;
-    v224 = load64(v223);
-    v225 = load_address(a0);
-    memory_cpy(v39, v225, 440u);
-    memory_move(v225, v216, 440u);
-    memory_cpy(v216, v39, 440u);
-    memory_set(v52, 0u, 12u);
-    v26 = v220; v27 = v222; v28 = v224; v29 = 0u; goto L46;
-L39:;
-    v226 = load8(v14);
-    v227 = (u8)((v226) & UINT64_C(1));
-    if (v227) { goto L40; }
-    else { goto L41; }
-L40:;
+    v240 = load_address(a0);
+    v241 = a0 + 8u * 1u;
+    memory_cpy(v40, v240, 440u);
+    memory_move(v240, v241, 440u);
+    memory_cpy(v241, v40, 440u);
+    v242 = load_address(a0);
+    store8(v42, v58);
+    v243 = v42 + 1u * 1u;
+    store8(v243, v60);
+    v244 = v42 + 8u * 1u;
+    memory_cpy(v244, v61, 16u);
+    f20(v41, v242, a1, a2, a3, v42, 0u, a6, a7);
+    v245 = load8(v41);
+    v246 = v41 + 1u * 1u;
+    v247 = load8(v246);
+    v248 = v41 + 8u * 1u;
+    v249 = load64(v248);
+    v250 = load_address(a0);
+    memory_cpy(v39, v250, 440u);
+    memory_move(v250, v241, 440u);
+    memory_cpy(v241, v39, 440u);
+    memory_set(v53, 0u, 12u);
+    v26 = v245; v27 = v247; v28 = v249; v29 = 0u; goto L49;
+L42:;
+    v251 = load8(v14);
+    v252 = (u8)((v251) & UINT64_C(1));
+    if (v252) { goto L43; }
+    else { goto L44; }
+L43:;
     memory_set(v35, 0u, 16u);
     memory_set(v36, 0u, 440u);
     store64(v37, 0u);
     memory_set(v38, 0u, 12u);
-    v228 = load_address(a0);
-    f18(v36, v228);
+    v253 = load_address(a0);
+    f18(v36, v253);
     memory_cpy(v34, v36, 440u);
-    v229 = load_address(a0);
-    store8(v37, v57);
-    v230 = v37 + 1u * 1u;
-    store8(v230, v59);
-    v231 = v37 + 8u * 1u;
-    memory_cpy(v231, v60, 16u);
-    f20(v35, v229, a1, a2, a3, v37, a5, a6, a7);
-    v232 = a0 + 888u * 1u;
-    v233 = v35 + 8u * 1u;
-    v234 = load64(v233);
-    f61(v232, a6, v234);
-    v235 = load8(v35);
-    v236 = v35 + 1u * 1u;
-    v237 = a0 + 954u * 1u;
-    v238 = load8(v237);
-    v239 = (u8)((v238) & UINT64_C(1));
-    v240 = v235 == 5u;
-    v241 = (u8)(((u32)v240 | (u32)v239) & UINT64_C(1));
-    v242 = (u8)v241;
-    store8(v237, v242);
-    v243 = load8(v236);
-    v244 = load_address(a0);
-    f62(v38, v244, v34);
-    v245 = (u64)v235;
-    v246 = (u64)v243;
-    v247 = (u64)((u64)v246 << (8u & 63u));
-    v248 = (u64)((u64)v247 | (u64)v245);
-    memory_cpy(v50, v38, 12u);
-    v22 = v50; v23 = v248; v24 = 0u; v25 = v234; goto L45;
-L41:;
+    v254 = load_address(a0);
+    store8(v37, v58);
+    v255 = v37 + 1u * 1u;
+    store8(v255, v60);
+    v256 = v37 + 8u * 1u;
+    memory_cpy(v256, v61, 16u);
+    f20(v35, v254, a1, a2, a3, v37, a5, a6, a7);
+    v257 = a0 + 888u * 1u;
+    v258 = v35 + 8u * 1u;
+    v259 = load64(v258);
+    f62(v257, a6, v259);
+    v260 = load8(v35);
+    v261 = v35 + 1u * 1u;
+    v262 = a0 + 954u * 1u;
+    v263 = load8(v262);
+    v264 = (u8)((v263) & UINT64_C(1));
+    v265 = v260 == 5u;
+    v266 = (u8)(((u32)v265 | (u32)v264) & UINT64_C(1));
+    v267 = (u8)v266;
+    store8(v262, v267);
+    v268 = load8(v261);
+    v269 = load_address(a0);
+    f63(v38, v269, v34);
+    v270 = (u64)v260;
+    v271 = (u64)v268;
+    v272 = (u64)((u64)v271 << (8u & 63u));
+    v273 = (u64)((u64)v272 | (u64)v270);
+    memory_cpy(v51, v38, 12u);
+    v22 = v51; v23 = v273; v24 = 0u; v25 = v259; goto L48;
+L44:;
     memory_set(v31, 0u, 16u);
     store64(v32, 0u);
     memory_set(v33, 0u, 12u);
-    v249 = load_address(a0);
-    store8(v32, v57);
-    v250 = v32 + 1u * 1u;
-    store8(v250, v59);
-    v251 = v32 + 8u * 1u;
-    memory_cpy(v251, v60, 16u);
-    f20(v31, v249, a1, a2, a3, v32, a5, a6, a7);
-    v252 = load8(v31);
-    v253 = v31 + 1u * 1u;
-    v254 = load8(v253);
-    v255 = v31 + 8u * 1u;
-    v256 = load64(v255);
-    v257 = v252 == 5u;
-    if (v257) { goto L43; }
-    else { goto L42; }
-L42:;
-    v258 = (u64)v254;
-    v259 = (u64)((u64)v258 << (8u & 63u));
-    v260 = (u64)v252;
-    v261 = (u64)((u64)v259 | (u64)v260);
-    memory_set(v51, 0u, 12u);
-    v19 = v261; v20 = v256; v21 = 0u; goto L44;
-L43:;
-    v262 = a0 + 888u * 1u;
-    f61(v262, a6, v256);
-    store8(v14, 1u);
-    v263 = a0 + 954u * 1u;
-    store8(v263, 1u);
-    v264 = load_address(a0);
-    v265 = a0 + 8u * 1u;
-    f62(v33, v264, v265);
-    v266 = (u64)v254;
-    v267 = (u64)((u64)v266 << (8u & 63u));
-    v268 = (u64)((u64)v267 | (u64)5u);
-    memory_cpy(v51, v33, 12u);
-    v19 = v268; v20 = 0u; v21 = v256; goto L44;
-L44:;
-    v22 = v51; v23 = v19; v24 = v20; v25 = v21; goto L45;
+    v274 = load_address(a0);
+    store8(v32, v58);
+    v275 = v32 + 1u * 1u;
+    store8(v275, v60);
+    v276 = v32 + 8u * 1u;
+    memory_cpy(v276, v61, 16u);
+    f20(v31, v274, a1, a2, a3, v32, a5, a6, a7);
+    v277 = load8(v31);
+    v278 = v31 + 1u * 1u;
+    v279 = load8(v278);
+    v280 = v31 + 8u * 1u;
+    v281 = load64(v280);
+    v282 = v277 == 5u;
+    if (v282) { goto L46; }
+    else { goto L45; }
 L45:;
-    v269 = (u8)(v23);
-    v270 = (u64)((u64)v23 >> (8u & 63u));
-    v271 = (u8)(v270);
-    memory_cpy(v52, v22, 12u);
-    v26 = v269; v27 = v271; v28 = v24; v29 = v25; goto L46;
+    v283 = (u64)v279;
+    v284 = (u64)((u64)v283 << (8u & 63u));
+    v285 = (u64)v277;
+    v286 = (u64)((u64)v284 | (u64)v285);
+    memory_set(v52, 0u, 12u);
+    v19 = v286; v20 = v281; v21 = 0u; goto L47;
 L46:;
-    store64(a8, v28);
-    v272 = a8 + 8u * 1u;
-    store64(v272, v29);
-    v273 = a8 + 16u * 1u;
-    memory_cpy(v273, v52, 12u);
-    v274 = a8 + 28u * 1u;
-    store32(v274, 0u);
-    switch (v26) {
-    case 0u: goto L47;
-    case 9u: goto L55;
-    case 1u: v30 = 1u; goto L59;
-    case 2u: goto L48;
-    case 3u: goto L49;
-    case 4u: goto L50;
-    case 5u: goto L51;
-    case 6u: goto L52;
-    case 7u: goto L53;
-    case 8u: goto L54;
-    default: goto L56;
-    }
+    v287 = a0 + 888u * 1u;
+    f62(v287, a6, v281);
+    store8(v14, 1u);
+    v288 = a0 + 954u * 1u;
+    store8(v288, 1u);
+    v289 = load_address(a0);
+    v290 = a0 + 8u * 1u;
+    f63(v33, v289, v290);
+    v291 = (u64)v279;
+    v292 = (u64)((u64)v291 << (8u & 63u));
+    v293 = (u64)((u64)v292 | (u64)5u);
+    memory_cpy(v52, v33, 12u);
+    v19 = v293; v20 = 0u; v21 = v281; goto L47;
 L47:;
-    v275 = (u32)v27;
-    v276 = (u32)((u32)v275 + (u32)16u);
-    v30 = v276; goto L59;
+    v22 = v52; v23 = v19; v24 = v20; v25 = v21; goto L48;
 L48:;
-    v30 = 2u; goto L59;
+    v294 = (u8)(v23);
+    v295 = (u64)((u64)v23 >> (8u & 63u));
+    v296 = (u8)(v295);
+    memory_cpy(v53, v22, 12u);
+    v26 = v294; v27 = v296; v28 = v24; v29 = v25; goto L49;
 L49:;
-    v30 = 3u; goto L59;
+    store64(a8, v28);
+    v297 = a8 + 8u * 1u;
+    store64(v297, v29);
+    v298 = a8 + 16u * 1u;
+    memory_cpy(v298, v53, 12u);
+    v299 = a8 + 28u * 1u;
+    store32(v299, 0u);
+    switch (v26) {
+    case 0u: goto L50;
+    case 9u: goto L58;
+    case 1u: v30 = 1u; goto L62;
+    case 2u: goto L51;
+    case 3u: goto L52;
+    case 4u: goto L53;
+    case 5u: goto L54;
+    case 6u: goto L55;
+    case 7u: goto L56;
+    case 8u: goto L57;
+    default: goto L59;
+    }
 L50:;
-    v30 = 4u; goto L59;
+    v300 = (u32)v27;
+    v301 = (u32)((u32)v300 + (u32)16u);
+    v30 = v301; goto L62;
 L51:;
-    v30 = 5u; goto L59;
+    v30 = 2u; goto L62;
 L52:;
-    v30 = 6u; goto L59;
+    v30 = 3u; goto L62;
 L53:;
-    v30 = 7u; goto L59;
+    v30 = 4u; goto L62;
 L54:;
-    v30 = 8u; goto L59;
+    v30 = 5u; goto L62;
 L55:;
-    v30 = 9u; goto L59;
+    v30 = 6u; goto L62;
 L56:;
-    UNREACHABLE;
+    v30 = 7u; goto L62;
 L57:;
-    v277 = v49 + 1u * 1u;
-    v278 = load8(v277);
-    v279 = v49 + 2u * 1u;
-    v280 = load8(v279);
-    v281 = v278 == 0u;
-    v282 = v280 == 0u;
-    v283 = v282 ? 33u : 34u;
-    v284 = v281 ? v283 : 121u;
-    v30 = v284; goto L59;
+    v30 = 8u; goto L62;
 L58:;
-    v30 = 118u; goto L59;
+    v30 = 9u; goto L62;
 L59:;
+    UNREACHABLE;
+L60:;
+    v302 = v50 + 1u * 1u;
+    v303 = load8(v302);
+    v304 = v50 + 2u * 1u;
+    v305 = load8(v304);
+    v306 = v303 == 0u;
+    v307 = v305 == 0u;
+    v308 = v307 ? 33u : 34u;
+    v309 = v306 ? v308 : 121u;
+    v30 = v309; goto L62;
+L61:;
+    v30 = 118u; goto L62;
+L62:;
     return v30;
 }
 
-static u64 f67(u8 a0, u8 a1) {
+static u64 f69(u8 a0, u8 a1) {
     u64 v2, v4, v5, v6, v12, v17, v18, v19, v20;
     address v3, v7, v8, v9, v10, v13, v15;
     u8 v11, v14, v16;
@@ -16277,7 +16440,7 @@ L22:;
     return v20;
 }
 
-static void f68(address a0, address a1, address a2, u64 a3, address a4) {
+static void f70(address a0, address a1, address a2, u64 a3, address a4) {
     u64 v5, v7, v10, v11, v13, v14, v16, v20, v21, v22, v79, v82, v88, v89, v90, v91;
     u64 v93, v95, v98, v99, v102, v302, v316, v317, v324, v325;
     address v6, v28, v29, v30, v31, v33, v35, v37, v39, v41, v44, v49, v52, v53, v80, v81;
@@ -16424,7 +16587,7 @@ L13:;
     else { goto L21; }
 L14:;
     memory_set(v28, 0u, 24u);
-    f32(v28, v29, v13);
+    f33(v28, v29, v13);
     v85 = load8(v28);
     v86 = v85 == 0u;
     if (v86) { goto L15; }
@@ -16485,7 +16648,7 @@ L24:;
     default: v23 = v34; v24 = 3u; v25 = 1u; v26 = v32; v27 = v36; goto L71;
     }
 L25:;
-    v107 = f69(127u, a2, a3);
+    v107 = f71(127u, a2, a3);
     v108 = v107.m0;
     v109 = (u8)((v108) & UINT64_C(1));
     if (v109) { goto L26; }
@@ -16495,7 +16658,7 @@ L26:;
     v111 = (u8)(v110);
     v18 = 0u; v19 = v111; v20 = 1u; goto L66;
 L27:;
-    v112 = f69(32767u, a2, a3);
+    v112 = f71(32767u, a2, a3);
     v113 = v112.m0;
     v114 = (u8)((v113) & UINT64_C(1));
     if (v114) { goto L28; }
@@ -16508,7 +16671,7 @@ L28:;
     v119 = (u8)(v118);
     v18 = v119; v19 = v117; v20 = 2u; goto L66;
 L29:;
-    v120 = f70(a2, a3);
+    v120 = f72(a2, a3);
     v121 = v120.m0;
     v122 = (u8)((v121) & UINT64_C(1));
     if (v122) { goto L30; }
@@ -16519,7 +16682,7 @@ L30:;
     v125 = v124 ? v42 : 0u;
     v18 = 0u; v19 = v125; v20 = 1u; goto L66;
 L31:;
-    v126 = f70(a2, a3);
+    v126 = f72(a2, a3);
     v127 = v126.m0;
     v128 = (u8)((v127) & UINT64_C(1));
     if (v128) { goto L32; }
@@ -16529,7 +16692,7 @@ L32:;
     v130 = (u8)((u32)v129 & (u32)1u);
     v18 = 0u; v19 = v130; v20 = 1u; goto L66;
 L33:;
-    v131 = f72(a2, a3);
+    v131 = f74(a2, a3);
     v132 = v131.m0;
     v133 = v132 == 1u;
     v134 = v131.m1;
@@ -16794,7 +16957,7 @@ L60:;
     if (v303) { v15 = 254u; goto L39; }
     else { v16 = v302; goto L59; }
 L61:;
-    v304 = f72(a2, a3);
+    v304 = f74(a2, a3);
     v17 = v304; goto L62;
 L62:;
     v305 = v17.m0;
@@ -16805,7 +16968,7 @@ L63:;
     v307 = v17.m1;
     v18 = 0u; v19 = v307; v20 = 1u; goto L66;
 L64:;
-    v308 = f72(a2, a3);
+    v308 = f74(a2, a3);
     v309 = v308.m0;
     v310 = v309 == 1u;
     if (v310) { goto L65; }
@@ -16858,7 +17021,7 @@ L71:;
     return;
 }
 
-static struct s3 f69(u16 a0, address a1, u64 a2) {
+static struct s3 f71(u16 a0, address a1, u64 a2) {
     u64 v3, v5, v6, v7, v8, v48, v50, v60, v62, v63, v65, v66, v71, v79, v81, v82;
     u64 v84, v85;
     u32 v4, v15, v20, v22, v23, v24, v28, v30, v31, v32, v33, v34, v38, v39, v40, v41;
@@ -17012,7 +17175,7 @@ L21:;
     return v93;
 }
 
-static struct s1 f70(address a0, u64 a1) {
+static struct s1 f72(address a0, u64 a1) {
     u64 v2, v3, v4, v34, v58, v60, v61, v63, v64;
     u8 v5, v6, v8, v9, v10, v11, v12, v13, v15, v16, v17, v18, v19, v20, v22, v23;
     u8 v24, v25, v26, v27, v28, v29, v30, v31, v32, v33, v35, v37, v39, v40, v41, v42;
@@ -17134,7 +17297,7 @@ L14:;
     return v70;
 }
 
-static void f71(address a0, u8 a1, u8 a2) {
+static void f73(address a0, u8 a1, u8 a2) {
     u64 v3, v5, v9, v12, v14, v18, v20, v21, v24, v26, v27, v30, v32;
     address v4, v10, v11, v13, v19, v22, v23, v25, v28, v29, v31, v33, v34;
     u8 v6, v7, v8, v15, v16, v17;
@@ -17229,7 +17392,7 @@ L18:;
     UNREACHABLE;
 }
 
-static struct s1 f72(address a0, u64 a1) {
+static struct s1 f74(address a0, u64 a1) {
     u8 v2, v3, v4, v7, v8, v9, v10, v11, v12, v13, v15, v16, v18, v20, v21, v22;
     u8 v23, v24, v25, v26, v27, v28, v29, v30, v31, v32, v33, v34, v35, v36, v37, v38;
     u8 v39, v40, v41, v42, v43, v44, v45, v47, v48, v49, v50, v51, v53, v56, v60, v61;
@@ -17357,7 +17520,7 @@ L20:;
     return v67;
 }
 
-static struct s4 f73(address a0) {
+static struct s4 f75(address a0) {
     u64 v1, v10;
     address v2, v4, v6, v9;
     u8 v3, v5, v7;
@@ -17424,7 +17587,7 @@ L1:;
     v5 = load8(v4);
     v6 = a0 + 1u * 1u;
     v7 = load8(v6);
-    v8 = f74(v7, v5);
+    v8 = f76(v7, v5);
     v9 = v8.m0;
     v10 = v8.m1;
     v1 = v10; v2 = v9; goto L53;
@@ -17540,7 +17703,7 @@ L54:;
     UNREACHABLE;
 }
 
-static struct s4 f74(u8 a0, u8 a1) {
+static struct s4 f76(u8 a0, u8 a1) {
     u64 v2, v4, v6, v7;
     address v3, v5, v8, v9;
     struct s4 v10, v11;
@@ -17663,7 +17826,7 @@ L35:;
     UNREACHABLE;
 }
 
-static u64 f75(u16 a0, address a1) {
+static u64 f77(u16 a0, address a1) {
     u64 v2, v4, v12, v22;
     address v3, v6, v8, v13, v16, v19;
     u8 v5, v7, v9, v10, v11, v14, v15, v17, v18, v20, v21, v23;
@@ -17774,7 +17937,7 @@ L27:;
     UNREACHABLE;
 }
 
-static void f76(u8 a0, u8 a1, address a2) {
+static void f78(u8 a0, u8 a1, address a2) {
     u64 v3, v4, v5, v6, v7, v14, v19, v21, v23, v27, v29, v30, v31, v36, v42, v44;
     u64 v46, v50, v52, v53, v56, v64, v66, v74;
     address v8, v11, v12, v13, v15, v18, v20, v26, v28, v33, v34, v38, v41, v43, v49, v51;
@@ -17784,7 +17947,7 @@ static void f76(u8 a0, u8 a1, address a2) {
     u64 block0[3];
     v8 = ADDRESS(block0);
     memory_set(v8, 0u, 24u);
-    f71(v8, a0, a1);
+    f73(v8, a0, a1);
     v9 = load8(v8);
     v10 = v9 == 1u;
     if (v10) { goto L1; }
@@ -17914,7 +18077,7 @@ L18:;
     return;
 }
 
-static struct s4 f77(u16 a0, address a1, u64 a2) {
+static struct s4 f79(u16 a0, address a1, u64 a2) {
     u8 v3, v4, v9, v11, v12, v17, v22, v25, v27, v30, v31, v32, v33, v36, v38, v40;
     u8 v45, v48, v49, v51, v52;
     u64 v5, v6, v8, v10, v13, v14, v15, v16, v19, v21, v24, v26, v28, v29, v35, v37;
@@ -17998,7 +18161,7 @@ L19:;
 L20:;
     v3 = 11u; v4 = 4u; goto L21;
 L21:;
-    v10 = f67(v3, v4);
+    v10 = f69(v3, v4);
     v11 = a2 == v10;
     if (v11) { goto L23; }
     else { v7 = ADDRESS(c145); v8 = 0u; goto L53; }
@@ -18072,7 +18235,7 @@ L41:;
 L42:;
     v5 = 6u; v6 = 8u; goto L49;
 L43:;
-    v20 = f78(a1, a2);
+    v20 = f80(a1, a2);
     v21 = v20.m1;
     v22 = v21 == 0u;
     if (v22) { v7 = ADDRESS(c145); v8 = 0u; goto L53; }
@@ -18145,7 +18308,7 @@ L53:;
     return v63;
 }
 
-static struct s4 f78(address a0, u64 a1) {
+static struct s4 f80(address a0, u64 a1) {
     u64 v2, v3, v5, v7, v11, v13, v16, v20, v21, v23, v24, v26, v29, v31, v34, v36;
     u64 v40, v41, v43, v44, v47, v50, v52, v58, v60, v63, v66, v68, v71, v73;
     address v4, v6, v9, v10, v15, v18, v25, v28, v30, v33, v35, v38, v45, v46, v49, v51;
@@ -18253,7 +18416,7 @@ L10:;
     return v75;
 }
 
-static void f79(address a0, u8 a1, u8 a2, address a3, u64 a4) {
+static void f81(address a0, u8 a1, u8 a2, address a3, u64 a4) {
     u64 v5, v7, v8, v10, v11, v13, v14, v16, v17, v18, v20, v22, v24, v25, v26, v28;
     u64 v30, v33, v35, v36, v40, v42, v43, v44, v45, v49, v50, v52, v53, v54, v55, v56;
     u64 v58, v59, v60, v62, v63, v64, v75, v76, v78, v79, v80, v81, v82, v85, v87, v88;
@@ -18741,10 +18904,10 @@ L49:;
     v339.m1 = v22;
     v31 = v339; goto L60;
 L50:;
-    v340 = f78(a3, a4);
+    v340 = f80(a3, a4);
     v31 = v340; goto L60;
 L51:;
-    v341 = f78(a3, a4);
+    v341 = f80(a3, a4);
     v342 = v341.m0;
     v343 = v341.m1;
     v344 = v343 == 0u;
@@ -18884,7 +19047,7 @@ L66:;
     UNREACHABLE;
 }
 
-static void f80(u64 a0, address a1) {
+static void f82(u64 a0, address a1) {
     u64 v2, v3, v4, v5, v6, v7, v8, v11, v12, v13, v14, v20, v28, v30, v42, v44;
     u64 v45, v57, v68, v70, v72, v80, v85, v87, v89, v93;
     address v9, v21, v23, v25, v26, v27, v31, v33, v35, v36, v43, v46, v48, v50, v51, v58;
@@ -19031,7 +19194,7 @@ L13:;
     return;
 }
 
-static struct s3 f81(address a0, u64 a1) {
+static struct s3 f83(address a0, u64 a1) {
     u64 v2, v4, v5, v8, v12, v27;
     address v3, v9, v14, v16;
     u8 v6, v11, v13, v15, v17, v18, v19, v20, v21, v22, v23, v24, v25, v26, v28;
@@ -19144,7 +19307,7 @@ L26:;
     return v30;
 }
 
-static struct s3 f82(address a0, u64 a1) {
+static struct s3 f84(address a0, u64 a1) {
     u8 v2, v3, v4, v5, v7, v8, v9, v11, v12, v13, v14, v15, v16, v17, v18, v19;
     u8 v20, v21, v22, v23, v24, v25, v26, v27, v29, v31, v32, v33, v34, v35, v36, v37;
     u8 v38, v39, v40, v41, v42, v43, v44, v45, v46, v47;
@@ -19267,7 +19430,7 @@ L22:;
     return v53;
 }
 
-static void f83(address a0, address a1, u64 a2) {
+static void f85(address a0, address a1, u64 a2) {
     u8 v3, v6, v7, v8, v11, v12, v13, v18, v20, v21, v23, v24, v26, v29, v31, v32;
     u8 v33, v34, v35, v36, v37, v38, v39, v40, v41, v42, v43, v44, v45, v46, v47, v50;
     u8 v60, v62, v63, v64, v65, v66, v67, v68, v69, v70, v71, v72, v73, v74, v75, v76;
@@ -19457,7 +19620,7 @@ L34:;
     v3 = v13; v4 = v14; goto L5;
 }
 
-static u32 f84(address a0, u64 a1, address a2, u64 a3) {
+static u32 f86(address a0, u64 a1, address a2, u64 a3) {
     u32 v4, v6, v7, v9, v13, v14, v15, v17, v18, v19, v20, v22, v23, v24, v25, v27;
     u32 v28, v29, v30, v32, v33, v34, v35, v37, v38, v39, v40, v42, v43, v44, v45, v47;
     u32 v48, v49, v50, v52, v53, v54, v60, v61, v62, v64, v65, v66, v67, v69, v70, v71;
@@ -19577,7 +19740,7 @@ L4:;
     return v104;
 }
 
-static void f85(address a0, address a1, u64 a2) {
+static void f87(address a0, address a1, u64 a2) {
     u32 v3, v31, v32, v33, v34, v35, v36, v37, v38, v39, v40, v41, v73, v74, v75, v77;
     u32 v78, v79, v80, v82, v83, v84, v85, v87, v88, v89, v90, v92, v93, v94, v95, v97;
     u32 v98, v99, v100, v102, v103, v104, v105, v107, v108, v109, v110, v112, v113, v114, v117, v118;
@@ -19611,7 +19774,7 @@ L1:;
     if (v19) { goto L4; }
     else { goto L2; }
 L2:;
-    v20 = f27(a1, 4u, ADDRESS(c318), 4u);
+    v20 = f28(a1, 4u, ADDRESS(c318), 4u);
     if (v20) { goto L5; }
     else { goto L4; }
 L3:;
@@ -19668,7 +19831,7 @@ L6:;
     if (v60) { goto L11; }
     else { goto L7; }
 L7:;
-    v61 = f27(v46, 4u, ADDRESS(c317), 4u);
+    v61 = f28(v46, 4u, ADDRESS(c317), 4u);
     if (v61) { goto L8; }
     else { goto L11; }
 L8:;
@@ -19804,7 +19967,7 @@ L12:;
     goto L3;
 }
 
-static u8 f86(address a0, address a1) {
+static u8 f88(address a0, address a1) {
     u64 v2, v3, v15, v18, v22, v25, v35, v36, v43, v50, v52, v55, v71, v76, v79, v87;
     u64 v90, v98, v104, v106, v114, v117;
     u8 v4, v5, v6, v8, v11, v12, v13, v19, v20, v26, v28, v29, v37, v38, v40, v41;
@@ -20067,7 +20230,7 @@ L40:;
     UNREACHABLE;
 }
 
-static u8 f87(address a0, address a1) {
+static u8 f89(address a0, address a1) {
     u16 v2, v3, v4, v19, v21, v23;
     u8 v5, v9, v10, v11, v15, v17, v33, v34, v36, v37, v38, v44, v45, v61, v62, v65;
     u8 v76, v78, v79, v81, v82, v83, v89, v90, v95, v97, v98, v99, v100, v101, v103, v104;
@@ -20142,7 +20305,7 @@ L5:;
     if (v44) { goto L6; }
     else { v6 = v43; goto L8; }
 L6:;
-    v45 = f88(v39);
+    v45 = f90(v39);
     if (v45) { goto L7; }
     else { v10 = 1u; goto L32; }
 L7:;
@@ -20174,7 +20337,7 @@ L8:;
     if (v61) { goto L9; }
     else { v7 = v60; goto L13; }
 L9:;
-    v62 = f89(v56);
+    v62 = f91(v56);
     if (v62) { goto L10; }
     else { goto L11; }
 L10:;
@@ -20303,7 +20466,7 @@ L33:;
     UNREACHABLE;
 }
 
-static u8 f88(address a0) {
+static u8 f90(address a0) {
     u8 v1, v5, v10, v14, v15, v21, v26;
     struct pair v2, v19, v23, v24;
     address v3, v6, v16, v28;
@@ -20356,7 +20519,7 @@ L6:;
     v1 = 1u; goto L1;
 }
 
-static u8 f89(address a0) {
+static u8 f91(address a0) {
     u8 v1, v5, v10, v14, v15, v19, v23;
     struct pair v2, v17, v20, v21;
     address v3, v6, v16, v25;
@@ -20406,7 +20569,7 @@ L6:;
     v1 = 1u; goto L1;
 }
 
-static void f90(address a0, address a1) {
+static void f92(address a0, address a1) {
     u64 v2, v8, v11, v39, v40, v41, v42, v43, v44, v45, v46, v47, v48, v49, v50, v51;
     u64 v52, v53, v54, v55, v56, v57, v58, v59, v60, v61, v66, v67, v68, v73, v74, v75;
     u64 v77, v79, v81, v82, v83, v84, v85, v86, v87, v88, v89, v91, v109, v110, v111, v112;
@@ -20976,7 +21139,7 @@ L17:;
     goto L2;
 }
 
-static u8 f91(address a0, u64 a1, address a2) {
+static u8 f93(address a0, u64 a1, address a2) {
     address v3, v7, v8, v10, v14, v21, v24, v27, v30, v33, v36, v39, v42, v45, v48, v51;
     address v54, v57, v60, v63, v66, v69, v72, v75, v78, v81, v84, v87, v90, v93, v96, v99;
     address v102, v105, v108, v111, v114;
@@ -21215,7 +21378,7 @@ L38:;
     return v5;
 }
 
-static void f92(address a0, address a1, u64 a2) {
+static void f94(address a0, address a1, u64 a2) {
     u64 v3, v4, v5, v11, v12, v13, v32, v40, v42, v50, v62, v63, v79, v89, v98, v99;
     u16 v6, v7, v8, v9, v14, v15, v16, v17, v37, v38, v39, v47, v48, v49, v51, v56;
     u16 v57, v58, v59, v60, v68, v69, v70, v71, v84, v85, v86, v87, v94, v95, v96, v97;
@@ -21374,7 +21537,7 @@ L7:;
     return;
 }
 
-static u8 f93(u64 a0, address a1, u64 a2, address a3, u64 a4, u64 a5) {
+static u8 f95(u64 a0, address a1, u64 a2, address a3, u64 a4, u64 a5) {
     u64 v6, v8, v12, v13, v16, v17, v18, v19, v20, v21, v22, v24, v25, v26, v27, v28;
     u64 v31, v32, v35, v36, v37, v40, v41, v42, v43, v44, v45, v46, v47, v48, v49, v50;
     u64 v51, v52, v54, v55, v56, v58, v59, v61, v69, v72, v84, v86, v88, v90, v91, v92;
@@ -21520,7 +21683,7 @@ L13:;
     v7 = 1u; goto L10;
 }
 
-static void f94(address a0, u32 a1, address a2, u64 a3) {
+static void f96(address a0, u32 a1, address a2, u64 a3) {
     u64 v4, v5, v6, v7, v8, v9, v10, v12, v14, v15, v27, v44, v45, v46, v47, v48;
     u64 v49, v50, v51, v52, v53, v54, v55, v56, v57, v58, v59, v60, v61, v62, v63, v64;
     u64 v65, v66, v67, v68, v69, v70, v71, v72, v74, v75, v76, v94, v95, v96, v97, v98;
@@ -21814,7 +21977,7 @@ L7:;
     else { v6 = v5; goto L9; }
 L8:;
     v251 = (u64)((u64)v5 + (u64)32u);
-    v252 = f95(v16, v251, a3);
+    v252 = f97(v16, v251, a3);
     v253 = (u64)((u64)a3 - (u64)v252);
     v254 = v253 > 31u;
     if (v254) { v5 = v252; goto L7; }
@@ -21951,7 +22114,7 @@ L19:;
     v358 = (u64)((u64)v10 + (u64)1u);
     v359 = a2 + v358 * 1u;
     v360 = (u64)((u64)a3 - (u64)v358);
-    f83(v17, a2, v10);
+    f85(v17, a2, v10);
     v361 = load8(v17);
     v362 = v361 == 1u;
     if (v362) { goto L21; }
@@ -22006,7 +22169,7 @@ L27:;
     v11 = 1u; v12 = v366; v13 = v385; goto L20;
 }
 
-static u64 f95(address a0, u64 a1, u64 a2) {
+static u64 f97(address a0, u64 a1, u64 a2) {
     u64 v3, v4, v5, v10, v11, v28, v29, v30, v31, v32, v33, v34, v35, v36, v37, v38;
     u64 v39, v40, v41, v42, v43, v44, v45, v46, v47, v48, v49, v50, v51, v52, v53, v70;
     u64 v71, v72, v73, v74, v75, v76, v77, v78, v79, v80, v81, v82, v83, v84, v85, v86;
@@ -22400,7 +22563,7 @@ L4:;
     return v4;
 }
 
-static u8 f96(address a0) {
+static u8 f98(address a0) {
     u64 v1, v6, v11, v13, v15, v16, v18, v20, v24, v25, v27, v29, v32, v34, v38, v40;
     u64 v41, v43, v45, v49, v50, v52, v54, v57, v59;
     struct pair v2, v3, v26, v30, v31, v51, v55, v56;
@@ -22413,7 +22576,7 @@ static u8 f96(address a0) {
     else { v1 = v6; goto L3; }
 L1:;
     v8 = a0 + 48u * 1u;
-    v9 = f97(v8);
+    v9 = f99(v8);
     v10 = (u8)((v9) & UINT64_C(1));
     if (v10) { v4 = 1u; goto L17; }
     else { goto L2; }
@@ -22517,7 +22680,7 @@ L17:;
     return v4;
 }
 
-static u8 f97(address a0) {
+static u8 f99(address a0) {
     u64 v1, v2, v3, v5, v7, v8, v9, v10, v12, v13, v14, v15, v19, v22, v23, v24;
     u64 v25, v32, v34, v35, v36, v39, v40, v47, v118, v119, v121, v124, v127, v128, v131, v133;
     u64 v134, v135, v136, v138, v139, v141, v142, v144, v150, v151, v153, v155, v158, v160, v162, v163;
@@ -22842,7 +23005,7 @@ L30:;
     if (v190) { goto L31; }
     else { v9 = v7; v10 = 0u; goto L33; }
 L31:;
-    v191 = f98(a0, v3);
+    v191 = f100(a0, v3);
     if (v191) { goto L32; }
     else { goto L36; }
 L32:;
@@ -23033,7 +23196,7 @@ L44:;
     return v16;
 }
 
-static u8 f98(address a0, u64 a1) {
+static u8 f100(address a0, u64 a1) {
     u8 v2, v7, v12, v16, v17, v23, v28;
     struct pair v3, v21, v25, v26;
     address v4, v8, v18, v30;
@@ -23087,7 +23250,7 @@ L6:;
     v2 = 1u; goto L1;
 }
 
-static void f99(address a0, address a1, u64 a2, address a3, address a4, u16 a5, u16 a6) {
+static void f101(address a0, address a1, u64 a2, address a3, address a4, u16 a5, u16 a6) {
     u8 v7, v16, v19, v24, v30, v31, v32, v36, v41, v53, v54, v55, v57, v58, v59, v61;
     u8 v62, v63, v65, v66, v67, v68, v70, v71, v73, v74, v75, v77, v78, v79, v80, v84;
     u8 v86, v90, v92, v94, v96, v98, v100, v102, v104, v106, v108, v110, v112, v114, v116, v118;
@@ -23159,7 +23322,7 @@ L1:;
     if (v67) { v16 = 0u; goto L38; }
     else { goto L2; }
 L2:;
-    v68 = f27(a1, 4u, (ADDRESS(c332) + 8u * 1u), 4u);
+    v68 = f28(a1, 4u, (ADDRESS(c332) + 8u * 1u), 4u);
     if (v68) { goto L3; }
     else { v16 = 0u; goto L38; }
 L3:;
@@ -23484,7 +23647,7 @@ L24:;
     if (v293) { goto L27; }
     else { goto L33; }
 L25:;
-    v294 = f27(a1, v254, v43, v254);
+    v294 = f28(a1, v254, v43, v254);
     v295 = v263 == v260;
     v296 = (u8)(((u32)v295 & (u32)v294) & UINT64_C(1));
     if (v296) { goto L27; }
@@ -23545,7 +23708,7 @@ L32:;
 L33:;
     goto L39;
 L34:;
-    v329 = f27(v262, v263, v259, v260);
+    v329 = f28(v262, v263, v259, v260);
     if (v329) { goto L36; }
     else { goto L39; }
 L35:;
@@ -23707,14 +23870,14 @@ L50:;
     goto L37;
 }
 
-static struct s1 f100(address a0, u64 a1) {
+static struct s1 f102(address a0, u64 a1) {
     address v2, v5;
     u8 v3, v4, v6, v7;
     struct s1 v8, v9;
     u64 block0[26];
     v2 = ADDRESS(block0);
     memory_set(v2, 0u, 208u);
-    f101(v2, a0, a1);
+    f103(v2, a0, a1);
     v3 = load8(v2);
     v4 = v3 == 0u;
     v5 = v2 + 1u * 1u;
@@ -23727,7 +23890,7 @@ static struct s1 f100(address a0, u64 a1) {
     return v9;
 }
 
-static void f101(address a0, address a1, u64 a2) {
+static void f103(address a0, address a1, u64 a2) {
     u64 v3, v4, v6, v15, v17, v26, v29, v30, v38, v39, v41;
     address v5, v7, v8, v9, v10, v12, v13, v16, v18, v20, v22, v23, v24, v25, v32, v33;
     address v35, v42, v44, v45, v46, v47, v48;
@@ -23834,7 +23997,7 @@ L14:;
     goto L1;
 }
 
-static void f102(address a0, address a1, u64 a2, address a3, u64 a4, address a5, u64 a6) {
+static void f104(address a0, address a1, u64 a2, address a3, u64 a4, address a5, u64 a6) {
     u8 v7, v8, v9, v16, v17, v18, v20, v21, v22, v23, v25, v26, v27, v29, v30, v31;
     u8 v33, v34, v35, v36, v38, v39, v41, v42, v43, v45, v49, v50, v51, v57, v58, v61;
     u64 v10, v19, v44, v47, v48, v60, v62;
@@ -23851,9 +24014,9 @@ static void f102(address a0, address a1, u64 a2, address a3, u64 a4, address a5,
     v14 = ADDRESS(block3);
     memory_set(v12, 0u, 440u);
     memory_set(v13, 0u, 40u);
-    f103(v12);
+    f105(v12);
     memory_cpy(v11, v12, 440u);
-    v15 = f100(a3, a4);
+    v15 = f102(a3, a4);
     v16 = v15.m0;
     v17 = v16 == 1u;
     if (v17) { goto L1; }
@@ -23888,7 +24051,7 @@ L4:;
     if (v35) { v7 = 1u; v8 = 2u; v9 = 0u; v10 = 0u; goto L12; }
     else { goto L5; }
 L5:;
-    v36 = f27(a5, 4u, (ADDRESS(c332) + 8u * 1u), 4u);
+    v36 = f28(a5, 4u, (ADDRESS(c332) + 8u * 1u), 4u);
     if (v36) { goto L6; }
     else { v7 = 1u; v8 = 2u; v9 = 0u; v10 = 0u; goto L12; }
 L6:;
@@ -23904,7 +24067,7 @@ L7:;
     if (v42) { goto L8; }
     else { v7 = 1u; v8 = 2u; v9 = 2u; v10 = 0u; goto L12; }
 L8:;
-    v43 = f106(a5, a6, v11);
+    v43 = f108(a5, a6, v11);
     if (v43) { goto L9; }
     else { v7 = 1u; v8 = 2u; v9 = 3u; v10 = 0u; goto L12; }
 L9:;
@@ -23921,7 +24084,7 @@ L10:;
     else { v7 = 1u; v8 = 2u; v9 = 5u; v10 = 0u; goto L12; }
 L11:;
     store64(v14, v19);
-    f114(v13, v14, a3, a4);
+    f116(v13, v14, a3, a4);
     v50 = load8(v13);
     v51 = v50 == 0u;
     if (v51) { goto L13; }
@@ -23937,7 +24100,7 @@ L12:;
     return;
 L13:;
     v55 = v13 + 8u * 1u;
-    v56 = f115(v11, v55);
+    v56 = f117(v11, v55);
     v57 = v56.m0;
     v58 = v57 == 0u;
     v59 = v56.m1;
@@ -23947,7 +24110,7 @@ L13:;
     v7 = v57; v8 = v61; v9 = 0u; v10 = v62; goto L12;
 }
 
-static void f103(address a0) {
+static void f105(address a0) {
     address v1, v2, v3, v4, v5, v6, v7, v8, v9, v10, v11, v12, v13, v14, v15, v16;
     address v17, v18, v19, v20, v21, v22, v23, v24, v25, v28;
     u8 v26, v27;
@@ -24004,7 +24167,7 @@ static void f103(address a0) {
     store8(v24, 1u);
     v25 = v3 + 20u * 1u;
     store32(v25, 0u);
-    f104(v2, v1, v3, 1u);
+    f106(v2, v1, v3, 1u);
     v26 = load8(v2);
     v27 = v26 == 0u;
     if (v27) { goto L1; }
@@ -24018,7 +24181,7 @@ L2:;
     UNREACHABLE;
 }
 
-static void f104(address a0, address a1, address a2, u64 a3) {
+static void f106(address a0, address a1, address a2, u64 a3) {
     u64 v4, v16, v33, v34, v35, v36, v39, v42, v43, v46, v52, v54, v71, v73;
     address v5, v6, v7, v8, v9, v10, v11, v12, v15, v17, v19, v21, v23, v25, v27, v29;
     address v31, v32, v38, v40, v41, v48, v49, v51, v53, v55, v57, v58, v59, v61, v62, v64;
@@ -24053,7 +24216,7 @@ static void f104(address a0, address a1, address a2, u64 a3) {
     memory_set(v10, 0u, 10u);
     memory_set(v11, 0u, 150u);
     memory_set(v12, 0u, 202u);
-    f105(v8, a1, a2, a3);
+    f107(v8, a1, a2, a3);
     v13 = load8(v8);
     v14 = v13 == 0u;
     if (v14) { goto L1; }
@@ -24295,7 +24458,7 @@ L9:;
     goto L8;
 }
 
-static void f105(address a0, address a1, address a2, u64 a3) {
+static void f107(address a0, address a1, address a2, u64 a3) {
     address v4, v6, v8, v13, v14, v15, v16, v17, v18, v19, v23, v24, v25, v26, v27, v30;
     address v31, v36, v51, v52, v53, v54, v55, v56, v57, v58, v59, v60, v61, v62, v63, v64;
     address v65, v66, v67, v68, v69, v70, v71, v72, v73, v74, v75, v76, v77, v78, v79, v80;
@@ -24353,7 +24516,7 @@ L2:;
     else { goto L3; }
 L3:;
     memory_set(v17, 0u, 24u);
-    f32(v17, v26, v32);
+    f33(v17, v26, v32);
     v34 = load8(v17);
     v35 = v34 == 0u;
     if (v35) { goto L4; }
@@ -24826,7 +24989,7 @@ L36:;
     goto L10;
 }
 
-static u8 f106(address a0, u64 a1, address a2) {
+static u8 f108(address a0, u64 a1, address a2) {
     u8 v3, v5, v8, v11, v13, v18, v21, v24, v29, v33, v34;
     address v4, v6, v9, v14, v15, v25, v26, v30, v31, v32;
     u64 v7, v10, v12, v16, v17, v19, v20, v22, v23, v27, v28;
@@ -24879,17 +25042,17 @@ L5:;
     store_address(v31, v26);
     v32 = v4 + 16u * 1u;
     store64(v32, v28);
-    v33 = f107(v4);
+    v33 = f109(v4);
     if (v33) { goto L6; }
     else { v3 = 0u; goto L7; }
 L6:;
-    v34 = f109(a0, a1, a2);
+    v34 = f111(a0, a1, a2);
     v3 = v34; goto L7;
 L7:;
     return v3;
 }
 
-static u8 f107(address a0) {
+static u8 f109(address a0) {
     u8 v1, v3, v6, v7, v8, v9, v10, v11, v12, v13, v14, v15, v19, v20, v40, v54;
     u8 v55, v57, v60, v61, v62, v63, v64, v65, v66, v67, v68, v69, v70, v71, v72, v73;
     u8 v74, v75, v76, v77, v81, v82, v83, v84, v85, v86, v87, v88, v89, v90, v91, v92;
@@ -24965,7 +25128,7 @@ L3:;
     v51 = v18 + 16u * 1u;
     v52 = v18 + 48u * 1u;
     v53 = v18 + 56u * 1u;
-    f108(v18, v42, v39, v17);
+    f110(v18, v42, v39, v17);
     v54 = load8(v18);
     v55 = v54 == 1u;
     if (v55) { goto L4; }
@@ -24988,7 +25151,7 @@ L5:;
     v67 = load8(v43);
     v2 = v58; v3 = 1u; v4 = v56; v5 = v59; v6 = v60; v7 = v61; v8 = v62; v9 = v63; v10 = v64; v11 = v65; v12 = v66; v13 = v67; goto L6;
 L6:;
-    f108(v18, v2, v4, v17);
+    f110(v18, v2, v4, v17);
     v68 = load8(v18);
     v69 = v68 == 1u;
     if (v69) { goto L7; }
@@ -25072,7 +25235,7 @@ L19:;
     v1 = v108; goto L1;
 }
 
-static void f108(address a0, address a1, u64 a2, address a3) {
+static void f110(address a0, address a1, u64 a2, address a3) {
     u8 v4, v12, v13, v18, v28, v31, v34, v38, v42, v45, v48, v51, v52, v54, v57, v60;
     u8 v63, v66, v70, v73, v76, v79, v82, v83, v85, v89, v92, v93, v94, v95, v96, v97;
     u8 v98, v102, v108, v109, v115, v119, v122, v126, v129, v130, v132, v134, v135, v136, v137, v141;
@@ -25498,7 +25661,7 @@ L60:;
     goto L2;
 }
 
-static u8 f109(address a0, u64 a1, address a2) {
+static u8 f111(address a0, u64 a1, address a2) {
     u8 v3, v5, v9, v11, v13, v14, v26, v27, v29, v30, v31, v33, v34, v35, v37, v38;
     u8 v39, v40, v41, v42;
     address v4, v6, v15, v16, v17, v18, v19, v20, v21, v22, v23, v24, v25, v28, v32, v36;
@@ -25562,19 +25725,19 @@ L2:;
 L3:;
     v3 = 0u; goto L1;
 L4:;
-    v40 = f27(a0, 12u, v4, 12u);
+    v40 = f28(a0, 12u, v4, 12u);
     if (v40) { goto L5; }
     else { v3 = 0u; goto L1; }
 L5:;
-    v41 = f110(a2, v6, v7);
+    v41 = f112(a2, v6, v7);
     if (v41) { goto L6; }
     else { v3 = 0u; goto L1; }
 L6:;
-    v42 = f113(a2, v6, v7);
+    v42 = f115(a2, v6, v7);
     v3 = v42; goto L1;
 }
 
-static u8 f110(address a0, address a1, u64 a2) {
+static u8 f112(address a0, address a1, u64 a2) {
     u8 v3, v6, v9, v11, v14, v17, v20, v21, v22, v25;
     address v4, v5, v7, v12, v13, v23, v24;
     u64 v8, v10, v15, v16, v18, v19;
@@ -25609,7 +25772,7 @@ L3:;
     if (v20) { v3 = 0u; goto L5; }
     else { goto L4; }
 L4:;
-    f111(v5, a1, v12, v10);
+    f113(v5, a1, v12, v10);
     v21 = load8(v5);
     v22 = v21 == 1u;
     if (v22) { goto L6; }
@@ -25620,11 +25783,11 @@ L6:;
     v23 = v13 + 1u * 1u;
     v24 = v5 + 8u * 1u;
     memory_cpy(v4, v24, 248u);
-    v25 = f112(a0, v4, v23, v19);
+    v25 = f114(a0, v4, v23, v19);
     v3 = v25; goto L5;
 }
 
-static void f111(address a0, address a1, address a2, u64 a3) {
+static void f113(address a0, address a1, address a2, u64 a3) {
     address v4, v5, v6, v8, v9, v10, v11, v13, v15, v19, v21, v23, v25, v27, v31, v36;
     address v42, v44, v46, v48, v50, v52, v54, v56, v81, v83, v85, v87, v89, v91, v93, v95;
     address v121, v123, v129, v133, v135, v141, v143, v145, v147, v160, v162, v164, v166, v168, v170, v174;
@@ -25959,7 +26122,7 @@ L3:;
     goto L1;
 }
 
-static u8 f112(address a0, address a1, address a2, u64 a3) {
+static u8 f114(address a0, address a1, address a2, u64 a3) {
     u64 v4, v6, v48, v67, v125, v147, v148, v149, v150, v151, v152, v153, v154, v155, v156, v157;
     u64 v158, v159, v160, v161, v162, v163, v164, v165, v166, v167, v168, v169, v179, v190, v300, v326;
     u64 v327, v328, v329, v332, v335, v336, v339, v346, v348, v357, v370, v372;
@@ -26398,7 +26561,7 @@ L5:;
     v295 = v57 + 192u * 1u;
     store64(v295, v6);
     memory_set(v53, 0u, 208u);
-    f105(v53, a1, v57, v6);
+    f107(v53, a1, v57, v6);
     v296 = load8(v53);
     v297 = v296 == 0u;
     if (v297) { goto L6; }
@@ -26625,7 +26788,7 @@ L14:;
     return v49;
 }
 
-static u8 f113(address a0, address a1, u64 a2) {
+static u8 f115(address a0, address a1, u64 a2) {
     u8 v3, v5, v8, v12, v14, v16, v17, v23, v27, v28, v29, v30, v31, v35, v36, v37;
     u8 v41, v42, v43, v44, v45, v46, v47, v48, v51, v52, v55, v56, v59, v60, v64, v65;
     u8 v66, v70, v71, v72, v73, v77, v78, v79, v80, v84, v85, v86, v87, v88, v89, v90;
@@ -26645,7 +26808,7 @@ static u8 f113(address a0, address a1, u64 a2) {
     v19 = ADDRESS(block1);
     v20 = ADDRESS(block2);
     memory_set(v19, 0u, 336u);
-    f65(v19, a0);
+    f66(v19, a0);
     memory_cpy(v20, v19, 336u);
     v21 = v20 + 328u * 1u;
     v22 = load64(v21);
@@ -26746,7 +26909,7 @@ L6:;
     if (v96) { goto L7; }
     else { goto L8; }
 L7:;
-    v97 = f26(v18, v22);
+    v97 = f27(v18, v22);
     v16 = v97; goto L26;
 L8:;
     v98 = v22 < 65u;
@@ -26862,7 +27025,7 @@ L27:;
     return v17;
 }
 
-static void f114(address a0, address a1, address a2, u64 a3) {
+static void f116(address a0, address a1, address a2, u64 a3) {
     u64 v4, v6, v8, v10, v17, v20, v23, v25, v27, v31, v38;
     u8 v5, v13, v14, v18, v19, v24, v30, v39;
     address v7, v9, v11, v12, v15, v16, v26, v28, v29, v32, v33, v34, v35, v36, v37, v40;
@@ -26876,7 +27039,7 @@ static void f114(address a0, address a1, address a2, u64 a3) {
     v11 = ADDRESS(block1);
     v12 = ADDRESS(block2);
     memory_set(v12, 0u, 208u);
-    f101(v12, a2, a3);
+    f103(v12, a2, a3);
     v13 = load8(v12);
     v14 = v13 == 0u;
     if (v14) { goto L1; }
@@ -26943,7 +27106,7 @@ L7:;
     UNREACHABLE;
 }
 
-static struct s5 f115(address a0, address a1) {
+static struct s5 f117(address a0, address a1) {
     u8 v2, v17, v26;
     address v3, v4, v5, v7, v8, v9, v11, v13, v14, v19, v20, v21, v22, v23, v24, v25;
     u64 v6, v10, v12, v16, v18;
@@ -27002,7 +27165,7 @@ L4:;
     return v28;
 }
 
-static u8 f116(address a0, u64 a1, address a2) {
+static u8 f118(address a0, u64 a1, address a2) {
     address v3, v7, v12, v13, v23, v24, v25, v29, v30, v31;
     u8 v4, v6, v9, v11, v16, v19, v22, v28, v32;
     u64 v5, v8, v10, v14, v15, v17, v18, v20, v21, v26, v27;
@@ -27055,14 +27218,14 @@ L5:;
     store_address(v30, v25);
     v31 = v3 + 16u * 1u;
     store64(v31, v27);
-    v32 = f117(v3, a2);
+    v32 = f119(v3, a2);
     return v32;
 L6:;
     TRAP;
     UNREACHABLE;
 }
 
-static u8 f117(address a0, address a1) {
+static u8 f119(address a0, address a1) {
     address v2, v6, v10, v11, v12, v13, v14, v15, v16, v17, v18, v19, v20, v21, v22, v23;
     address v24, v25, v26, v27, v28, v29, v32, v34, v35, v36, v37, v38, v39, v40, v41, v42;
     address v43, v46, v50, v53, v55, v58;
@@ -27131,7 +27294,7 @@ L1:;
     v43 = v11 + 16u * 1u;
     v2 = v35; v3 = v33; v4 = 0u; v5 = 0u; goto L2;
 L2:;
-    f108(v12, v2, v3, v10);
+    f110(v12, v2, v3, v10);
     v44 = load8(v12);
     v45 = v44 == 1u;
     if (v45) { goto L3; }
@@ -27169,7 +27332,7 @@ L7:;
     else { v6 = v53; v7 = v54; goto L5; }
 L8:;
     v62 = load16(v42);
-    f57(a1, v36, v62, v43, v10);
+    f58(a1, v36, v62, v43, v10);
     v8 = 0u; goto L9;
 L9:;
     v63 = (u8)((u32)v8 + (u32)v4);
@@ -27184,7 +27347,7 @@ L11:;
     return v9;
 }
 
-static u8 f118(address a0) {
+static u8 f120(address a0) {
     u8 v1, v5, v10, v14, v15, v21, v26;
     struct pair v2, v19, v23, v24;
     address v3, v6, v16, v28;
@@ -27237,7 +27400,7 @@ L6:;
     v1 = 1u; goto L1;
 }
 
-static u32 f119(address a0, address a1) {
+static u32 f121(address a0, address a1) {
     u64 v2, v10, v12, v16, v18, v22, v24, v28, v30, v32, v34, v36, v38, v56, v58, v67;
     u64 v72, v76, v82;
     u32 v3;
@@ -27410,7 +27573,7 @@ L18:;
     return v3;
 }
 
-static void f120(address a0, address a1) {
+static void f122(address a0, address a1) {
     u64 v2, v4, v30, v34, v64, v68, v81, v82, v84, v85;
     u16 v3, v8, v23, v27, v42, v56, v66, v73, v74, v87, v88, v90, v91, v98, v99, v103;
     u16 v105, v106;
@@ -27689,7 +27852,7 @@ L3:;
     return;
 }
 
-static void f121(address a0, address a1, address a2, address a3, u64 a4) {
+static void f123(address a0, address a1, address a2, address a3, u64 a4) {
     u8 v5, v7, v8, v10, v11, v14, v16, v17, v25, v27, v30, v32, v33, v34, v36, v38;
     u8 v39, v40, v42, v45, v49, v51, v53, v54, v55, v57, v59, v61, v62, v63, v67, v68;
     u8 v69, v70, v71, v72, v73, v74, v75, v79, v80, v82, v83, v84, v85, v87, v89, v94;
@@ -27819,7 +27982,7 @@ L11:;
     else { goto L12; }
 L12:;
     v90 = a1 + 192u * 1u;
-    f122(v19, a2, a1, v90);
+    f124(v19, a2, a1, v90);
     v91 = v19 + 20u * 1u;
     v92 = load64(v91);
     v93 = v19 + 34u * 1u;
@@ -27888,7 +28051,7 @@ L21:;
     else { v12 = v126; v13 = v127; goto L19; }
 L22:;
     memory_cpy(v20, v18, 16u);
-    f122(v21, a2, a1, v90);
+    f124(v21, a2, a1, v90);
     memory_cpy(v90, v21, 36u);
     v129 = load8(a2);
     v130 = load8(v31);
@@ -28068,7 +28231,7 @@ L28:;
     goto L27;
 }
 
-static void f122(address a0, address a1, address a2, address a3) {
+static void f124(address a0, address a1, address a2, address a3) {
     u64 v4, v6, v7, v8, v18, v20, v24, v26, v28, v30, v49, v50, v51, v52, v53, v54;
     u64 v55, v56, v57, v58, v59, v60, v64, v66, v67, v69, v71, v90, v91, v92, v93, v94;
     u64 v95, v96, v97, v98, v99, v100, v101, v103, v107, v109;
@@ -28236,13 +28399,14 @@ L6:;
     return;
 }
 
-static void f123(address a0, address a1, u8 a2, u16 a3, u16 a4, address a5, u64 a6) {
-    u8 v7, v8, v15, v16, v20, v24, v25, v30, v31, v32, v40, v41, v62, v63, v66, v67;
-    u8 v68, v69;
+static void f125(address a0, address a1, u8 a2, u16 a3, u16 a4, address a5, u64 a6) {
+    u8 v7, v8, v15, v16, v20, v24, v25, v30, v31, v32, v41, v42, v43, v44, v45, v46;
+    u8 v50, v51, v72, v73, v76, v77, v78, v79;
     address v9, v10, v11, v12, v13, v14, v17, v21, v22, v23, v26, v27, v28, v33, v34, v35;
-    address v36, v37, v38, v39, v42, v43, v44, v45, v46, v47, v48, v49, v50, v51, v52, v53;
-    address v54, v55, v56, v57, v58, v59, v60, v61, v64, v70, v71, v72, v73, v74;
-    u64 v18, v29, v65;
+    address v36, v37, v38, v39, v40, v47, v48, v49, v52, v53, v54, v55, v56, v57, v58, v59;
+    address v60, v61, v62, v63, v64, v65, v66, v67, v68, v69, v70, v71, v74, v80, v81, v82;
+    address v83, v84;
+    u64 v18, v29, v75;
     u16 v19;
     u64 block0[162];
     u64 block1[3];
@@ -28325,80 +28489,99 @@ L8:;
     store_address(v38, a5);
     v39 = v10 + 16u * 1u;
     store64(v39, a6);
+    v40 = a1 + 472u * 1u;
+    v41 = load8(v40);
+    v42 = v41 == 1u;
+    v43 = v16 == 1u;
+    v44 = (u8)(((u32)v43 & (u32)v42) & UINT64_C(1));
+    v45 = a3 == 8199u;
+    v46 = (u8)(((u32)v45 & (u32)v44) & UINT64_C(1));
+    if (v46) { goto L9; }
+    else { goto L10; }
+L9:;
+    store8(a0, 1u);
+    v47 = a0 + 1u * 1u;
+    store8(v47, 3u);
+    v48 = a0 + 2u * 1u;
+    store8(v48, 0u);
+    v49 = a0 + 4u * 1u;
+    memory_set(v49, 0u, 12u);
+    goto L2;
+L10:;
     f18(v12, a1);
     memory_cpy(v11, v12, 440u);
-    v40 = v16 == 3u;
-    v41 = v40 ? 4u : 2u;
-    store8(v9, v41);
-    v42 = v9 + 1u * 1u;
-    store8(v42, 0u);
-    v43 = v9 + 2u * 1u;
-    store16(v43, a3);
-    v44 = v9 + 4u * 1u;
-    store32(v44, 0u);
-    v45 = v9 + 8u * 1u;
-    store64(v45, 0u);
-    v46 = v9 + 16u * 1u;
-    store8(v46, 1u);
-    v47 = v9 + 17u * 1u;
-    memory_set(v47, 0u, 159u);
-    v48 = v9 + 176u * 1u;
-    store8(v48, 1u);
-    v49 = v9 + 177u * 1u;
-    memory_set(v49, 0u, 159u);
-    v50 = v9 + 336u * 1u;
-    store8(v50, 1u);
-    v51 = v9 + 337u * 1u;
-    memory_set(v51, 0u, 159u);
-    v52 = v9 + 496u * 1u;
-    store8(v52, 1u);
-    v53 = v9 + 497u * 1u;
-    memory_set(v53, 0u, 159u);
-    v54 = v9 + 656u * 1u;
-    store8(v54, 1u);
-    v55 = v9 + 657u * 1u;
-    memory_set(v55, 0u, 159u);
-    v56 = v9 + 816u * 1u;
+    v50 = v16 == 3u;
+    v51 = v50 ? 4u : 2u;
+    store8(v9, v51);
+    v52 = v9 + 1u * 1u;
+    store8(v52, 0u);
+    v53 = v9 + 2u * 1u;
+    store16(v53, a3);
+    v54 = v9 + 4u * 1u;
+    store32(v54, 0u);
+    v55 = v9 + 8u * 1u;
+    store64(v55, 0u);
+    v56 = v9 + 16u * 1u;
     store8(v56, 1u);
-    v57 = v9 + 817u * 1u;
+    v57 = v9 + 17u * 1u;
     memory_set(v57, 0u, 159u);
-    v58 = v9 + 976u * 1u;
+    v58 = v9 + 176u * 1u;
     store8(v58, 1u);
-    v59 = v9 + 977u * 1u;
+    v59 = v9 + 177u * 1u;
     memory_set(v59, 0u, 159u);
-    v60 = v9 + 1136u * 1u;
+    v60 = v9 + 336u * 1u;
     store8(v60, 1u);
-    v61 = v9 + 1137u * 1u;
+    v61 = v9 + 337u * 1u;
     memory_set(v61, 0u, 159u);
-    f50(a1, v10, 7u, v9);
-    v62 = load8(v46);
-    v63 = load8(v47);
-    v64 = v9 + 1288u * 1u;
-    v65 = load64(v64);
-    v66 = v65 != 0u;
-    v67 = v62 == 2u;
-    v68 = v66 ? v67 : 0u;
-    v69 = (u8)v68;
-    if (v68) { v7 = 3u; v8 = v63; goto L10; }
-    else { goto L9; }
-L9:;
-    f62(v14, a1, v11);
-    v70 = v13 + 1u * 1u;
-    memory_cpy(v70, v14, 12u);
-    v7 = 0u; v8 = 0u; goto L10;
-L10:;
-    v71 = v13 + 1u * 1u;
-    store8(a0, v69);
-    v72 = a0 + 1u * 1u;
-    store8(v72, v7);
-    v73 = a0 + 2u * 1u;
-    store8(v73, v8);
-    v74 = a0 + 4u * 1u;
-    memory_cpy(v74, v71, 12u);
+    v62 = v9 + 496u * 1u;
+    store8(v62, 1u);
+    v63 = v9 + 497u * 1u;
+    memory_set(v63, 0u, 159u);
+    v64 = v9 + 656u * 1u;
+    store8(v64, 1u);
+    v65 = v9 + 657u * 1u;
+    memory_set(v65, 0u, 159u);
+    v66 = v9 + 816u * 1u;
+    store8(v66, 1u);
+    v67 = v9 + 817u * 1u;
+    memory_set(v67, 0u, 159u);
+    v68 = v9 + 976u * 1u;
+    store8(v68, 1u);
+    v69 = v9 + 977u * 1u;
+    memory_set(v69, 0u, 159u);
+    v70 = v9 + 1136u * 1u;
+    store8(v70, 1u);
+    v71 = v9 + 1137u * 1u;
+    memory_set(v71, 0u, 159u);
+    f51(a1, v10, 7u, v9);
+    v72 = load8(v56);
+    v73 = load8(v57);
+    v74 = v9 + 1288u * 1u;
+    v75 = load64(v74);
+    v76 = v75 != 0u;
+    v77 = v72 == 2u;
+    v78 = v76 ? v77 : 0u;
+    v79 = (u8)v78;
+    if (v78) { v7 = 4u; v8 = v73; goto L12; }
+    else { goto L11; }
+L11:;
+    f63(v14, a1, v11);
+    v80 = v13 + 1u * 1u;
+    memory_cpy(v80, v14, 12u);
+    v7 = 0u; v8 = 0u; goto L12;
+L12:;
+    v81 = v13 + 1u * 1u;
+    store8(a0, v79);
+    v82 = a0 + 1u * 1u;
+    store8(v82, v7);
+    v83 = a0 + 2u * 1u;
+    store8(v83, v8);
+    v84 = a0 + 4u * 1u;
+    memory_cpy(v84, v81, 12u);
     goto L2;
 }
 
-static void f124(address a0, address a1, u16 a2, address a3, u64 a4) {
+static void f126(address a0, address a1, u16 a2, address a3, u64 a4) {
     u16 v5, v7, v8, v9, v10, v23, v31, v33, v37, v39, v45, v82, v83, v84, v85, v86;
     u16 v87, v88, v89, v119, v131, v132, v133, v134, v135, v136, v137, v138, v139;
     u64 v6, v22, v29, v43, v66, v67, v77, v79, v81, v98, v100, v113, v118;
@@ -28443,7 +28626,7 @@ L3:;
     memory_set(v25, 0u, 153u);
     goto L2;
 L4:;
-    f49(v17, a1, a3, a4);
+    f50(v17, a1, a3, a4);
     v26 = load8(v17);
     v27 = v26 == 1u;
     if (v27) { goto L5; }
@@ -28552,7 +28735,7 @@ L9:;
     store_address(v94, v80);
     v95 = v13 + 16u * 1u;
     store64(v95, v81);
-    v96 = f58(v13);
+    v96 = f59(v13);
     if (v96) { goto L10; }
     else { goto L16; }
 L10:;
@@ -28603,7 +28786,7 @@ L15:;
 L16:;
     v6 = 0u; v7 = 0u; v8 = 0u; v9 = 0u; v10 = 0u; v11 = 0u; v12 = 0u; goto L19;
 L17:;
-    v121 = f59(a1, v14);
+    v121 = f60(a1, v14);
     v122 = v121 < 2u;
     if (v122) { goto L18; }
     else { v6 = 0u; v7 = 0u; v8 = 0u; v9 = 0u; v10 = 0u; v11 = 0u; v12 = 0u; goto L19; }
@@ -28654,7 +28837,7 @@ L19:;
     goto L2;
 }
 
-static void f125(address a0, address a1, u16 a2, address a3, u64 a4) {
+static void f127(address a0, address a1, u16 a2, address a3, u64 a4) {
     address v5, v7, v8, v9, v10, v11, v12, v13, v16, v19, v20, v21, v22, v23, v27, v29;
     address v31, v37, v40, v41, v42, v44, v47, v52, v53, v55, v56, v59, v60, v61, v62, v63;
     address v65, v67, v70, v71, v72, v73;
@@ -28741,7 +28924,7 @@ L9:;
 L10:;
     return;
 L11:;
-    f124(v11, v7, a2, a3, a4);
+    f126(v11, v7, a2, a3, a4);
     v51 = load8(v11);
     store8(a0, v51);
     v52 = a0 + 1u * 1u;
@@ -28763,7 +28946,7 @@ L12:;
     memory_move(v19, v61, 440u);
     memory_cpy(v61, v9, 440u);
     v62 = load_address(a1);
-    f124(v12, v62, a2, a3, a4);
+    f126(v12, v62, a2, a3, a4);
     v63 = load_address(a1);
     memory_cpy(v8, v63, 440u);
     memory_move(v63, v61, 440u);
@@ -31830,7 +32013,7 @@ L12:;
     v87 = v28 + 888u * 1u;
     v88 = v11 + 8u * 1u;
     v89 = load64(v88);
-    f61(v87, v20, v89);
+    f62(v87, v20, v89);
     v90 = load_address(v28);
     v91 = v90 + 472u * 1u;
     v92 = v28 + 953u * 1u;
@@ -31844,7 +32027,7 @@ L12:;
     v96 = v11 + 1u * 1u;
     v97 = load8(v96);
     v98 = load_address(v28);
-    f62(v14, v98, v10);
+    f63(v14, v98, v10);
     store64(a4, 0u);
     v99 = a4 + 8u * 1u;
     store64(v99, v89);
@@ -31986,336 +32169,373 @@ L5:;
 }
 
 u32 portable_ptpm_clock_handle(address a0, u16 a1, address a2, u64 a3, address a4, u64 a5, address a6) {
-    u16 v7, v36, v63, v64, v65, v66, v73, v74, v75, v87, v90, v91, v92, v98, v99, v100;
-    u16 v101, v117, v118, v119, v120, v121, v142, v162, v163;
-    u64 v8, v10, v19, v22, v35, v58, v68, v77, v83, v105, v106, v112, v114, v116, v135, v140;
-    u64 v145, v148, v153, v154, v155, v157, v170, v172, v173, v174, v175;
-    address v9, v12, v13, v14, v15, v16, v17, v20, v23, v24, v25, v28, v31, v32, v34, v39;
-    address v40, v43, v44, v47, v51, v53, v57, v59, v61, v67, v69, v71, v76, v80, v82, v85;
-    address v88, v93, v94, v96, v102, v107, v109, v111, v113, v115, v122, v123, v124, v125, v126, v127;
-    address v130, v132, v134, v137, v138, v139, v141, v144, v149, v158, v165, v166, v167, v168, v169, v171;
-    u32 v11, v151, v152;
-    u8 v18, v21, v26, v27, v29, v30, v33, v37, v38, v41, v42, v45, v46, v48, v49, v50;
-    u8 v52, v54, v55, v56, v60, v62, v70, v72, v78, v79, v81, v84, v86, v89, v95, v97;
-    u8 v103, v104, v108, v110, v129, v131, v133, v136, v143, v146, v147, v150, v156, v159, v160, v161;
-    u8 v164;
-    struct s1 v128;
-    u64 block0[1];
-    u64 block1[2];
-    u64 block2[3];
+    u64 v7, v8, v9, v11, v13, v23, v26, v39, v44, v45, v46, v48, v54, v55, v58, v59;
+    u64 v60, v82, v92, v101, v107, v129, v130, v136, v138, v140, v159, v164, v169, v172, v177, v178;
+    u64 v179, v181, v194, v196, v197, v198, v199;
+    u16 v10, v40, v87, v88, v89, v90, v97, v98, v99, v111, v114, v115, v116, v122, v123, v124;
+    u16 v125, v141, v142, v143, v144, v145, v166, v186, v187;
+    address v12, v15, v16, v17, v18, v19, v20, v21, v24, v27, v28, v29, v32, v35, v36, v38;
+    address v43, v47, v50, v51, v52, v56, v57, v63, v64, v67, v68, v71, v75, v77, v81, v83;
+    address v85, v91, v93, v95, v100, v104, v106, v109, v112, v117, v118, v120, v126, v131, v133, v135;
+    address v137, v139, v146, v147, v148, v149, v150, v151, v154, v156, v158, v161, v162, v163, v165, v168;
+    address v173, v182, v189, v190, v191, v192, v193, v195;
+    u32 v14, v175, v176;
+    u8 v22, v25, v30, v31, v33, v34, v37, v41, v42, v49, v53, v61, v62, v65, v66, v69;
+    u8 v70, v72, v73, v74, v76, v78, v79, v80, v84, v86, v94, v96, v102, v103, v105, v108;
+    u8 v110, v113, v119, v121, v127, v128, v132, v134, v153, v155, v157, v160, v167, v170, v171, v174;
+    u8 v180, v183, v184, v185, v188;
+    struct s1 v152;
+    u64 block0[5];
+    u64 block1[1];
+    u64 block2[2];
     u64 block3[3];
-    u64 block4[4];
-    u64 block5[3];
-    v12 = ADDRESS(block0);
-    v13 = ADDRESS(block1);
-    v14 = ADDRESS(block2);
-    v15 = ADDRESS(block3);
-    v16 = ADDRESS(block4);
-    v17 = ADDRESS(block5);
-    v18 = a2 == 0u;
-    v19 = v18 ? 4096u : 0u;
-    v20 = a2 + v19 * 1u;
-    v21 = a4 == 0u;
-    v22 = v21 ? 4096u : 0u;
-    v23 = a4 + v22 * 1u;
+    u64 block4[3];
+    u64 block5[4];
+    u64 block6[3];
+    v15 = ADDRESS(block0);
+    v16 = ADDRESS(block1);
+    v17 = ADDRESS(block2);
+    v18 = ADDRESS(block3);
+    v19 = ADDRESS(block4);
+    v20 = ADDRESS(block5);
+    v21 = ADDRESS(block6);
+    v22 = a2 == 0u;
+    v23 = v22 ? 4096u : 0u;
+    v24 = a2 + v23 * 1u;
+    v25 = a4 == 0u;
+    v26 = v25 ? 4096u : 0u;
+    v27 = a4 + v26 * 1u;
     store64(a6, 0u);
-    v24 = a0 + 9u * 1u;
-    store8(v24, 0u);
-    v25 = a0 + 8u * 1u;
-    v26 = load8(v25);
-    v27 = (u8)((v26) & UINT64_C(1));
-    if (v27) { goto L1; }
-    else { v11 = 32u; goto L36; }
+    v28 = a0 + 9u * 1u;
+    store8(v28, 0u);
+    v29 = a0 + 8u * 1u;
+    v30 = load8(v29);
+    v31 = (u8)((v30) & UINT64_C(1));
+    if (v31) { goto L1; }
+    else { v14 = 32u; goto L40; }
 L1:;
-    v28 = load_address(a0);
-    v29 = load8(v28);
-    v30 = v29 == 1u;
-    if (v30) { goto L2; }
-    else { v11 = 32u; goto L36; }
+    v32 = load_address(a0);
+    v33 = load8(v32);
+    v34 = v33 == 1u;
+    if (v34) { goto L2; }
+    else { v14 = 32u; goto L40; }
 L2:;
-    v31 = v28 + 8u * 1u;
-    v32 = load_address(v31);
+    v35 = v32 + 8u * 1u;
+    v36 = load_address(v35);
     store64(a6, 0u);
-    v33 = a1 == 0u;
-    if (v33) { goto L35; }
+    v37 = a1 == 0u;
+    if (v37) { goto L39; }
     else { goto L3; }
 L3:;
-    v34 = v32 + 432u * 1u;
-    v35 = load64(v34);
-    v36 = (u16)(v35);
-    v37 = a1 > v36;
-    if (v37) { goto L35; }
+    v38 = v36 + 432u * 1u;
+    v39 = load64(v38);
+    v40 = (u16)(v39);
+    v41 = a1 > v40;
+    if (v41) { goto L39; }
     else { goto L4; }
 L4:;
-    v38 = a5 < 15u;
-    if (v38) { goto L34; }
+    v42 = a5 > 14u;
+    if (v42) { goto L9; }
     else { goto L5; }
 L5:;
-    store_address(v17, v23);
-    v39 = v17 + 8u * 1u;
-    store64(v39, a5);
-    v40 = v17 + 16u * 1u;
-    store64(v40, 0u);
-    memory_set(v16, 0u, 32u);
-    f8(v16, v20, a3);
-    v41 = load8(v16);
-    v42 = v41 == 0u;
-    if (v42) { goto L6; }
-    else { goto L25; }
+    memory_set(v15, 0u, 40u);
+    v43 = v36 + 440u * 1u;
+    f17(v15, v43);
+    v44 = (u64)((u64)v39 << (1u & 63u));
+    v45 = (u64)((u64)v44 & (u64)UINT64_C(131070));
+    v46 = (u64)((u64)v45 + (u64)UINT64_C(18446744073709551615));
+    v47 = v15 + 32u * 1u;
+    v48 = load64(v47);
+    v49 = v48 == 0u;
+    if (v49) { v9 = v46; goto L8; }
+    else { goto L6; }
 L6:;
-    v43 = v16 + 8u * 1u;
-    memory_cpy(v15, v43, 24u);
-    v44 = load_address(v15);
-    v45 = load8(v44);
-    v46 = (u8)((u32)v45 >> (4u & 7u));
-    v47 = v44 + 5u * 1u;
-    v48 = load8(v47);
-    v49 = (u8)((u32)v46 | (u32)v48);
-    v50 = v49 == 0u;
-    if (v50) { goto L7; }
-    else { goto L24; }
+    v50 = v15 + 16u * 1u;
+    v51 = load_address(v15);
+    v7 = v46; v8 = 0u; goto L7;
 L7:;
-    v51 = v44 + 4u * 1u;
-    v52 = load8(v51);
-    v53 = v32 + 8u * 1u;
-    v54 = load8(v53);
-    v55 = v52 == v54;
-    if (v55) { goto L10; }
-    else { goto L8; }
-L8:;
-    v56 = f22(v32, v15);
-    if (v56) { goto L9; }
-    else { goto L24; }
-L9:;
-    v57 = v44 + 20u * 1u;
+    v52 = v50 + v8 * 1u;
+    v53 = load8(v52);
+    v54 = (u64)v53;
+    v55 = (u64)((u64)v54 * (u64)2136u);
+    v56 = v51 + v55 * 1u;
+    v57 = v56 + 1440u * 1u;
     v58 = load64(v57);
-    v59 = v44 + 28u * 1u;
-    v60 = load8(v59);
-    v61 = v44 + 29u * 1u;
-    v62 = load8(v61);
-    v63 = (u16)v60;
-    v64 = (u16)((u32)v63 << (8u & 15u));
-    v65 = (u16)v62;
-    v66 = (u16)((u32)v64 | (u32)v65);
-    v7 = v66; v8 = v58; goto L18;
+    v59 = v7 > v58 ? v7 : v58;
+    v60 = (u64)((u64)v8 + (u64)1u);
+    v61 = v60 == v48;
+    if (v61) { v9 = v59; goto L8; }
+    else { v7 = v59; v8 = v60; goto L7; }
+L8:;
+    v62 = v9 > a5;
+    if (v62) { goto L38; }
+    else { goto L9; }
+L9:;
+    store_address(v21, v27);
+    v63 = v21 + 8u * 1u;
+    store64(v63, a5);
+    v64 = v21 + 16u * 1u;
+    store64(v64, 0u);
+    memory_set(v20, 0u, 32u);
+    f8(v20, v24, a3);
+    v65 = load8(v20);
+    v66 = v65 == 0u;
+    if (v66) { goto L10; }
+    else { goto L29; }
 L10:;
-    v67 = v44 + 20u * 1u;
-    v68 = load64(v67);
-    v69 = v44 + 28u * 1u;
-    v70 = load8(v69);
-    v71 = v44 + 29u * 1u;
+    v67 = v20 + 8u * 1u;
+    memory_cpy(v19, v67, 24u);
+    v68 = load_address(v19);
+    v69 = load8(v68);
+    v70 = (u8)((u32)v69 >> (4u & 7u));
+    v71 = v68 + 5u * 1u;
     v72 = load8(v71);
-    v73 = (u16)v70;
-    v74 = (u16)((u32)v73 << (8u & 15u));
-    v75 = (u16)v72;
-    v76 = v32 + 440u * 1u;
-    v77 = load64(v76);
-    v78 = v68 == v77;
-    if (v78) { goto L26; }
-    else { goto L11; }
+    v73 = (u8)((u32)v70 | (u32)v72);
+    v74 = v73 == 0u;
+    if (v74) { goto L11; }
+    else { goto L28; }
 L11:;
-    v79 = f23(v32, v15);
-    if (v79) { goto L12; }
-    else { goto L27; }
+    v75 = v68 + 4u * 1u;
+    v76 = load8(v75);
+    v77 = v36 + 8u * 1u;
+    v78 = load8(v77);
+    v79 = v76 == v78;
+    if (v79) { goto L14; }
+    else { goto L12; }
 L12:;
-    v80 = v15 + 16u * 1u;
-    v81 = load8(v80);
-    switch (v81) {
-    case 2u: goto L28;
-    case 4u: goto L28;
-    case 0u: goto L14;
-    case 1u: goto L14;
-    case 3u: goto L14;
-    default: goto L13;
-    }
+    v80 = f23(v36, v19);
+    if (v80) { goto L13; }
+    else { goto L28; }
 L13:;
-    UNREACHABLE;
+    v81 = v68 + 20u * 1u;
+    v82 = load64(v81);
+    v83 = v68 + 28u * 1u;
+    v84 = load8(v83);
+    v85 = v68 + 29u * 1u;
+    v86 = load8(v85);
+    v87 = (u16)v84;
+    v88 = (u16)((u32)v87 << (8u & 15u));
+    v89 = (u16)v86;
+    v90 = (u16)((u32)v88 | (u32)v89);
+    v10 = v90; v11 = v82; goto L22;
 L14:;
-    v82 = v44 + 34u * 1u;
-    v83 = load64(v82);
-    v84 = v83 == v77;
-    if (v84) { goto L16; }
+    v91 = v68 + 20u * 1u;
+    v92 = load64(v91);
+    v93 = v68 + 28u * 1u;
+    v94 = load8(v93);
+    v95 = v68 + 29u * 1u;
+    v96 = load8(v95);
+    v97 = (u16)v94;
+    v98 = (u16)((u32)v97 << (8u & 15u));
+    v99 = (u16)v96;
+    v100 = v36 + 440u * 1u;
+    v101 = load64(v100);
+    v102 = v92 == v101;
+    if (v102) { goto L30; }
     else { goto L15; }
 L15:;
-    goto L33;
+    v103 = f24(v36, v19);
+    if (v103) { goto L16; }
+    else { goto L31; }
 L16:;
-    v85 = v44 + 43u * 1u;
-    v86 = load8(v85);
-    v87 = (u16)v86;
-    v88 = v44 + 42u * 1u;
-    v89 = load8(v88);
-    v90 = (u16)v89;
-    v91 = (u16)((u32)v90 << (8u & 15u));
-    v92 = (u16)((u32)v74 | (u32)v75);
-    store64(v13, v68);
-    v93 = v13 + 8u * 1u;
-    store16(v93, v92);
-    v94 = v44 + 30u * 1u;
-    v95 = load8(v94);
-    v96 = v44 + 31u * 1u;
-    v97 = load8(v96);
-    v98 = (u16)v95;
-    v99 = (u16)((u32)v98 << (8u & 15u));
-    v100 = (u16)v97;
-    v101 = (u16)((u32)v99 | (u32)v100);
-    v102 = v15 + 17u * 1u;
-    v103 = load8(v102);
-    v104 = v103 == 0u;
-    v105 = v104 ? 52u : 54u;
-    v106 = v104 ? 53u : 55u;
-    v107 = v44 + v105 * 1u;
-    v108 = load8(v107);
-    v109 = v44 + v106 * 1u;
-    v110 = load8(v109);
-    v111 = v15 + 8u * 1u;
-    v112 = load64(v111);
-    v113 = v44 + 54u * 1u;
-    v114 = (u64)((u64)v112 + (u64)UINT64_C(18446744073709551562));
-    v115 = v104 ? v113 : ADDRESS(c145);
-    v116 = v104 ? v114 : 0u;
-    v117 = (u16)((u32)v91 | (u32)v87);
-    v118 = (u16)v108;
-    v119 = (u16)((u32)v118 << (8u & 15u));
-    v120 = (u16)v110;
-    v121 = (u16)((u32)v119 | (u32)v120);
-    store8(v14, v81);
-    v122 = v14 + 1u * 1u;
-    store8(v122, 0u);
-    v123 = v14 + 2u * 1u;
-    store16(v123, v121);
-    v124 = v14 + 4u * 1u;
-    store16(v124, v117);
-    v125 = v14 + 6u * 1u;
-    store16(v125, 0u);
-    v126 = v14 + 8u * 1u;
-    store_address(v126, v115);
-    v127 = v14 + 16u * 1u;
-    store64(v127, v116);
-    v128 = f24(v76, v13, v101, v14);
-    v129 = v128.m0;
-    switch (v129) {
-    case 0u: goto L33;
-    case 1u: goto L29;
-    case 2u: v7 = v92; v8 = v68; goto L18;
-    case 3u: goto L32;
-    case 4u: goto L31;
+    v104 = v19 + 16u * 1u;
+    v105 = load8(v104);
+    switch (v105) {
+    case 2u: goto L32;
+    case 4u: goto L32;
+    case 0u: goto L18;
+    case 1u: goto L18;
+    case 3u: goto L18;
     default: goto L17;
     }
 L17:;
     UNREACHABLE;
 L18:;
-    v130 = v44 + 44u * 1u;
-    v131 = load8(v130);
-    v132 = v44 + 45u * 1u;
-    v133 = load8(v132);
-    v134 = v32 + 456u * 1u;
-    v135 = load64(v134);
-    v136 = v135 == 0u;
-    if (v136) { goto L23; }
+    v106 = v68 + 34u * 1u;
+    v107 = load64(v106);
+    v108 = v107 == v101;
+    if (v108) { goto L20; }
     else { goto L19; }
 L19:;
-    v137 = v32 + 448u * 1u;
-    v138 = load_address(v137);
-    v9 = v138; v10 = v135; goto L20;
+    goto L37;
 L20:;
-    v139 = v9 + 2136u * 1u;
-    v140 = (u64)((u64)v10 + (u64)UINT64_C(18446744073709551615));
-    v141 = v9 + 2112u * 1u;
-    v142 = load16(v141);
-    v143 = v7 == v142;
-    if (v143) { goto L21; }
-    else { goto L22; }
+    v109 = v68 + 43u * 1u;
+    v110 = load8(v109);
+    v111 = (u16)v110;
+    v112 = v68 + 42u * 1u;
+    v113 = load8(v112);
+    v114 = (u16)v113;
+    v115 = (u16)((u32)v114 << (8u & 15u));
+    v116 = (u16)((u32)v98 | (u32)v99);
+    store64(v17, v92);
+    v117 = v17 + 8u * 1u;
+    store16(v117, v116);
+    v118 = v68 + 30u * 1u;
+    v119 = load8(v118);
+    v120 = v68 + 31u * 1u;
+    v121 = load8(v120);
+    v122 = (u16)v119;
+    v123 = (u16)((u32)v122 << (8u & 15u));
+    v124 = (u16)v121;
+    v125 = (u16)((u32)v123 | (u32)v124);
+    v126 = v19 + 17u * 1u;
+    v127 = load8(v126);
+    v128 = v127 == 0u;
+    v129 = v128 ? 52u : 54u;
+    v130 = v128 ? 53u : 55u;
+    v131 = v68 + v129 * 1u;
+    v132 = load8(v131);
+    v133 = v68 + v130 * 1u;
+    v134 = load8(v133);
+    v135 = v19 + 8u * 1u;
+    v136 = load64(v135);
+    v137 = v68 + 54u * 1u;
+    v138 = (u64)((u64)v136 + (u64)UINT64_C(18446744073709551562));
+    v139 = v128 ? v137 : ADDRESS(c145);
+    v140 = v128 ? v138 : 0u;
+    v141 = (u16)((u32)v115 | (u32)v111);
+    v142 = (u16)v132;
+    v143 = (u16)((u32)v142 << (8u & 15u));
+    v144 = (u16)v134;
+    v145 = (u16)((u32)v143 | (u32)v144);
+    store8(v18, v105);
+    v146 = v18 + 1u * 1u;
+    store8(v146, 0u);
+    v147 = v18 + 2u * 1u;
+    store16(v147, v145);
+    v148 = v18 + 4u * 1u;
+    store16(v148, v141);
+    v149 = v18 + 6u * 1u;
+    store16(v149, 0u);
+    v150 = v18 + 8u * 1u;
+    store_address(v150, v139);
+    v151 = v18 + 16u * 1u;
+    store64(v151, v140);
+    v152 = f25(v100, v17, v125, v18);
+    v153 = v152.m0;
+    switch (v153) {
+    case 0u: goto L37;
+    case 1u: goto L33;
+    case 2u: v10 = v116; v11 = v92; goto L22;
+    case 3u: goto L36;
+    case 4u: goto L35;
+    default: goto L21;
+    }
 L21:;
-    v144 = v9 + 2104u * 1u;
-    v145 = load64(v144);
-    v146 = v8 == v145;
-    if (v146) { goto L30; }
-    else { goto L22; }
+    UNREACHABLE;
 L22:;
-    v147 = v140 == 0u;
-    if (v147) { goto L23; }
-    else { v9 = v139; v10 = v140; goto L20; }
+    v154 = v68 + 44u * 1u;
+    v155 = load8(v154);
+    v156 = v68 + 45u * 1u;
+    v157 = load8(v156);
+    v158 = v36 + 456u * 1u;
+    v159 = load64(v158);
+    v160 = v159 == 0u;
+    if (v160) { goto L27; }
+    else { goto L23; }
 L23:;
+    v161 = v36 + 448u * 1u;
+    v162 = load_address(v161);
+    v12 = v162; v13 = v159; goto L24;
+L24:;
+    v163 = v12 + 2136u * 1u;
+    v164 = (u64)((u64)v13 + (u64)UINT64_C(18446744073709551615));
+    v165 = v12 + 2112u * 1u;
+    v166 = load16(v165);
+    v167 = v10 == v166;
+    if (v167) { goto L25; }
+    else { goto L26; }
+L25:;
+    v168 = v12 + 2104u * 1u;
+    v169 = load64(v168);
+    v170 = v11 == v169;
+    if (v170) { goto L34; }
+    else { goto L26; }
+L26:;
+    v171 = v164 == 0u;
+    if (v171) { goto L27; }
+    else { v12 = v163; v13 = v164; goto L24; }
+L27:;
     TRAP;
     UNREACHABLE;
-L24:;
-    f43(v32, 1u, a1, v20, v43, v17);
-    v148 = load64(v40);
-    store64(a6, v148);
-    v11 = 1u; goto L36;
-L25:;
-    v149 = v16 + 1u * 1u;
-    v150 = load8(v149);
-    store64(a6, 0u);
-    v151 = (u32)v150;
-    v152 = (u32)((u32)v151 + (u32)16u);
-    v11 = v152; goto L36;
-L26:;
-    f43(v32, 2u, a1, v20, v43, v17);
-    v153 = load64(v40);
-    store64(a6, v153);
-    v11 = 2u; goto L36;
-L27:;
-    f43(v32, 3u, a1, v20, v43, v17);
-    v154 = load64(v40);
-    store64(a6, v154);
-    v11 = 3u; goto L36;
 L28:;
-    f43(v32, 4u, a1, v20, v43, v17);
-    v155 = load64(v40);
-    store64(a6, v155);
-    v11 = 4u; goto L36;
-L29:;
-    v156 = v128.m1;
-    f28(v32, a1, v43, v156, v17);
-    v157 = load64(v40);
-    store64(a6, v157);
-    v11 = 5u; goto L36;
-L30:;
-    store64(v12, 0u);
-    v158 = v9 + 2121u * 1u;
-    v159 = load8(v158);
-    v160 = (u8)((v159) & UINT64_C(1));
-    v161 = (u8)(((u32)v160 ^ (u32)1u) & UINT64_C(1));
-    v162 = v160 ? 0u : a1;
-    v163 = (u16)v161;
-    v164 = v131 > v133 ? (u8)((u32)v131 - (u32)v133) : 0u;
-    store8(v12, v52);
-    v165 = v12 + 2u * 1u;
-    store16(v165, v163);
-    v166 = v12 + 4u * 1u;
-    store16(v166, v162);
-    v167 = v12 + 6u * 1u;
-    store8(v167, v164);
-    v168 = v9 + 1432u * 1u;
-    v169 = v9 + 1440u * 1u;
-    v170 = load64(v169);
-    v171 = v9 + 1448u * 1u;
-    f42(v168, v170, v171, v12, a1, v17);
-    v172 = load64(v40);
+    f44(v36, 1u, a1, v24, v67, v21);
+    v172 = load64(v64);
     store64(a6, v172);
-    v11 = 6u; goto L36;
+    v14 = 1u; goto L40;
+L29:;
+    v173 = v20 + 1u * 1u;
+    v174 = load8(v173);
+    store64(a6, 0u);
+    v175 = (u32)v174;
+    v176 = (u32)((u32)v175 + (u32)16u);
+    v14 = v176; goto L40;
+L30:;
+    f44(v36, 2u, a1, v24, v67, v21);
+    v177 = load64(v64);
+    store64(a6, v177);
+    v14 = 2u; goto L40;
 L31:;
-    f43(v32, 7u, a1, v20, v43, v17);
-    v173 = load64(v40);
-    store64(a6, v173);
-    v11 = 7u; goto L36;
+    f44(v36, 3u, a1, v24, v67, v21);
+    v178 = load64(v64);
+    store64(a6, v178);
+    v14 = 3u; goto L40;
 L32:;
-    f43(v32, 8u, a1, v20, v43, v17);
-    v174 = load64(v40);
-    store64(a6, v174);
-    v11 = 8u; goto L36;
+    f44(v36, 4u, a1, v24, v67, v21);
+    v179 = load64(v64);
+    store64(a6, v179);
+    v14 = 4u; goto L40;
 L33:;
-    f43(v32, 9u, a1, v20, v43, v17);
-    v175 = load64(v40);
-    store64(a6, v175);
-    v11 = 9u; goto L36;
+    v180 = v152.m1;
+    f29(v36, a1, v67, v180, v21);
+    v181 = load64(v64);
+    store64(a6, v181);
+    v14 = 5u; goto L40;
 L34:;
-    v11 = 34u; goto L36;
+    store64(v16, 0u);
+    v182 = v12 + 2121u * 1u;
+    v183 = load8(v182);
+    v184 = (u8)((v183) & UINT64_C(1));
+    v185 = (u8)(((u32)v184 ^ (u32)1u) & UINT64_C(1));
+    v186 = v184 ? 0u : a1;
+    v187 = (u16)v185;
+    v188 = v155 > v157 ? (u8)((u32)v155 - (u32)v157) : 0u;
+    store8(v16, v76);
+    v189 = v16 + 2u * 1u;
+    store16(v189, v187);
+    v190 = v16 + 4u * 1u;
+    store16(v190, v186);
+    v191 = v16 + 6u * 1u;
+    store8(v191, v188);
+    v192 = v12 + 1432u * 1u;
+    v193 = v12 + 1440u * 1u;
+    v194 = load64(v193);
+    v195 = v12 + 1448u * 1u;
+    f43(v192, v194, v195, v16, a1, v21);
+    v196 = load64(v64);
+    store64(a6, v196);
+    v14 = 6u; goto L40;
 L35:;
-    v11 = 33u; goto L36;
+    f44(v36, 7u, a1, v24, v67, v21);
+    v197 = load64(v64);
+    store64(a6, v197);
+    v14 = 7u; goto L40;
 L36:;
-    return v11;
+    f44(v36, 8u, a1, v24, v67, v21);
+    v198 = load64(v64);
+    store64(a6, v198);
+    v14 = 8u; goto L40;
+L37:;
+    f44(v36, 9u, a1, v24, v67, v21);
+    v199 = load64(v64);
+    store64(a6, v199);
+    v14 = 9u; goto L40;
+L38:;
+    v14 = 34u; goto L40;
+L39:;
+    v14 = 33u; goto L40;
+L40:;
+    return v14;
 }
 
 u32 portable_ptpm_clock_image(address a0, address a1, u64 a2, address a3) {
@@ -32357,7 +32577,7 @@ L4:;
     UNREACHABLE;
 L5:;
     v17 = load_address(v4);
-    v18 = f63(v17, v8, a2);
+    v18 = f64(v17, v8, a2);
     v19 = v18.m0;
     v20 = v19 == 1u;
     if (v20) { goto L6; }
@@ -32400,7 +32620,7 @@ L2:;
     v20 = load_address(v19);
     memory_set(v9, 0u, 440u);
     v21 = load_address(v20);
-    v22 = f63(v21, v12, a2);
+    v22 = f64(v21, v12, a2);
     v23 = v22.m0;
     v24 = (u8)((v23) & UINT64_C(1));
     if (v24) { goto L3; }
@@ -32571,7 +32791,7 @@ L6:;
     goto L8;
 L7:;
     v27 = (u64)v21;
-    f39(v26, v22, v27);
+    f40(v26, v22, v27);
     goto L8;
 L8:;
     v28 = load64(v15);
@@ -33242,144 +33462,52 @@ L2:;
 }
 
 u32 portable_ptpm_clock_take(address a0, u16 a1, address a2, u64 a3, address a4, u8 a5, address a6, u64 a7, address a8) {
-    u32 v9, v10, v47, v48, v55, v56, v59;
-    address v11, v12, v13, v14, v15, v16, v19, v22, v23, v24, v27, v30, v31, v34, v36, v38;
-    address v39, v40, v42, v44, v46, v49, v51, v57, v58;
-    u8 v17, v20, v25, v26, v28, v29, v32, v33, v35, v37, v41, v43, v50, v52, v53, v54;
-    u64 v18, v21, v45;
-    u64 block0[4];
-    u64 block1[2];
-    u64 block2[3];
-    u64 block3[55];
-    u64 block4[55];
-    u64 block5[2];
-    v11 = ADDRESS(block0);
-    v12 = ADDRESS(block1);
-    v13 = ADDRESS(block2);
-    v14 = ADDRESS(block3);
-    v15 = ADDRESS(block4);
-    v16 = ADDRESS(block5);
-    v17 = a2 == 0u;
-    v18 = v17 ? 4096u : 0u;
-    v19 = a2 + v18 * 1u;
-    v20 = a6 == 0u;
-    v21 = v20 ? 4096u : 0u;
-    v22 = a6 + v21 * 1u;
+    u32 v9, v25, v28;
+    u8 v10, v13, v18, v19, v21, v22;
+    u64 v11, v14;
+    address v12, v15, v16, v17, v20, v23, v24, v26, v27;
+    v10 = a2 == 0u;
+    v11 = v10 ? 4096u : 0u;
+    v12 = a2 + v11 * 1u;
+    v13 = a6 == 0u;
+    v14 = v13 ? 4096u : 0u;
+    v15 = a6 + v14 * 1u;
     memory_set(a8, 0u, 32u);
-    v23 = a0 + 9u * 1u;
-    store8(v23, 0u);
-    v24 = a0 + 8u * 1u;
-    v25 = load8(v24);
-    v26 = (u8)((v25) & UINT64_C(1));
-    if (v26) { goto L1; }
-    else { v10 = 32u; goto L18; }
+    v16 = a0 + 9u * 1u;
+    store8(v16, 0u);
+    v17 = a0 + 8u * 1u;
+    v18 = load8(v17);
+    v19 = (u8)((v18) & UINT64_C(1));
+    if (v19) { goto L1; }
+    else { v9 = 32u; goto L5; }
 L1:;
-    v27 = load_address(a0);
-    v28 = a5 == 1u;
-    v29 = load8(v27);
-    switch (v29) {
+    v20 = load_address(a0);
+    v21 = a5 == 1u;
+    v22 = load8(v20);
+    switch (v22) {
     case 1u: goto L2;
-    case 4u: goto L16;
-    case 0u: v10 = 32u; goto L18;
-    case 2u: v10 = 32u; goto L18;
-    case 3u: v10 = 32u; goto L18;
-    case 5u: v10 = 32u; goto L18;
-    case 6u: v10 = 32u; goto L18;
-    default: goto L17;
+    case 4u: goto L3;
+    case 0u: v9 = 32u; goto L5;
+    case 2u: v9 = 32u; goto L5;
+    case 3u: v9 = 32u; goto L5;
+    case 5u: v9 = 32u; goto L5;
+    case 6u: v9 = 32u; goto L5;
+    default: goto L4;
     }
 L2:;
-    v30 = v27 + 8u * 1u;
-    v31 = load_address(v30);
-    memory_set(v15, 0u, 440u);
-    memory_set(v16, 0u, 12u);
-    memory_set(a8, 0u, 32u);
-    f18(v15, v31);
-    memory_cpy(v14, v15, 440u);
-    memory_set(v11, 0u, 32u);
-    memory_set(v12, 0u, 16u);
-    store64(v13, 0u);
-    f16(v11, v31, a1, a4, a7);
-    v32 = load8(v11);
-    v33 = v32 == 0u;
-    if (v33) { goto L3; }
-    else { goto L14; }
+    v23 = v20 + 8u * 1u;
+    v24 = load_address(v23);
+    v25 = f67(v24, a1, v12, a3, a4, v21, v15, a7, a8);
+    v9 = v25; goto L5;
 L3:;
-    v34 = v11 + 9u * 1u;
-    v35 = load8(v34);
-    v36 = v11 + 8u * 1u;
-    v37 = load8(v36);
-    v38 = v11 + 16u * 1u;
-    store8(v13, v37);
-    v39 = v13 + 1u * 1u;
-    store8(v39, v35);
-    v40 = v13 + 8u * 1u;
-    memory_cpy(v40, v38, 16u);
-    f20(v12, v31, a1, v19, a3, v13, v28, v22, a7);
-    v41 = load8(v12);
-    v42 = v12 + 1u * 1u;
-    v43 = load8(v42);
-    v44 = v12 + 8u * 1u;
-    v45 = load64(v44);
-    store64(a8, v45);
-    f62(v16, v31, v14);
-    v46 = a8 + 16u * 1u;
-    memory_cpy(v46, v16, 12u);
-    switch (v41) {
-    case 0u: goto L4;
-    case 9u: goto L12;
-    case 1u: v9 = 1u; goto L15;
-    case 2u: goto L5;
-    case 3u: goto L6;
-    case 4u: goto L7;
-    case 5u: goto L8;
-    case 6u: goto L9;
-    case 7u: goto L10;
-    case 8u: goto L11;
-    default: goto L13;
-    }
+    v26 = v20 + 8u * 1u;
+    v27 = load_address(v26);
+    v28 = f68(v27, a1, v12, a3, a4, v21, v15, a7, a8);
+    v9 = v28; goto L5;
 L4:;
-    v47 = (u32)v43;
-    v48 = (u32)((u32)v47 + (u32)16u);
-    v9 = v48; goto L15;
+    UNREACHABLE;
 L5:;
-    v9 = 2u; goto L15;
-L6:;
-    v9 = 3u; goto L15;
-L7:;
-    v9 = 4u; goto L15;
-L8:;
-    v9 = 5u; goto L15;
-L9:;
-    v9 = 6u; goto L15;
-L10:;
-    v9 = 7u; goto L15;
-L11:;
-    v9 = 8u; goto L15;
-L12:;
-    v9 = 9u; goto L15;
-L13:;
-    UNREACHABLE;
-L14:;
-    v49 = v11 + 2u * 1u;
-    v50 = load8(v49);
-    v51 = v11 + 1u * 1u;
-    v52 = load8(v51);
-    v53 = v52 == 0u;
-    v54 = v50 == 0u;
-    v55 = v54 ? 33u : 34u;
-    v56 = v53 ? v55 : 121u;
-    v9 = v56; goto L15;
-L15:;
-    v10 = v9; goto L18;
-L16:;
-    v57 = v27 + 8u * 1u;
-    v58 = load_address(v57);
-    v59 = f66(v58, a1, v19, a3, a4, v28, v22, a7, a8);
-    v10 = v59; goto L18;
-L17:;
-    UNREACHABLE;
-L18:;
-    return v10;
+    return v9;
 }
 
 u32 portable_ptpm_clock_unsaved(address a0) {
@@ -33622,7 +33750,7 @@ L4:;
     if (v138) { goto L7; }
     else { v10 = v136; v11 = v137; v12 = v135; goto L3; }
 L5:;
-    f32(v79, v9, v11);
+    f33(v79, v9, v11);
     v139 = load8(v79);
     v140 = v139 == 0u;
     if (v140) { goto L6; }
@@ -33839,7 +33967,7 @@ L30:;
     v52 = 11u; v53 = 4u; goto L31;
 L31:;
     memory_set(v78, 0u, 144u);
-    v232 = f67(v52, v53);
+    v232 = f69(v52, v53);
     v233 = v232 > 130u;
     if (v233) { goto L33; }
     else { goto L32; }
@@ -33949,7 +34077,7 @@ L52:;
     store8(v241, v263);
     v264 = load8(v244);
     store8(v243, v264);
-    v265 = f73(v75);
+    v265 = f75(v75);
     v266 = v265.m0;
     v267 = v265.m1;
     v268 = v257 == v267;
@@ -33983,7 +34111,7 @@ L55:;
 L56:;
     v61 = v264; v62 = v263; v63 = v262; v64 = 2u; goto L58;
 L57:;
-    f68(v76, v74, v259, v261, v78);
+    f70(v76, v74, v259, v261, v78);
     v285 = load8(v76);
     v286 = load8(v245);
     v287 = load8(v246);
@@ -33997,7 +34125,7 @@ L58:;
 L59:;
     goto L62;
 L60:;
-    f68(v77, v54, v51, v50, v78);
+    f70(v77, v54, v51, v50, v78);
     v291 = load8(v77);
     v292 = v77 + 1u * 1u;
     v293 = load8(v292);
@@ -34044,7 +34172,7 @@ L69:;
     store8(v304, v67);
     v305 = v72 + 2u * 1u;
     store8(v305, v68);
-    v306 = f75(a0, v72);
+    v306 = f77(a0, v72);
     v69 = 0u; v70 = v306; v71 = 116u; goto L71;
 L70:;
     store8(v73, v66);
@@ -34052,7 +34180,7 @@ L70:;
     store8(v307, v67);
     v308 = v73 + 2u * 1u;
     store8(v308, v68);
-    v309 = f75(a0, v73);
+    v309 = f77(a0, v73);
     v69 = 0u; v70 = v309; v71 = 117u; goto L71;
 L71:;
     store64(a5, v69);
@@ -34156,7 +34284,7 @@ L19:;
     if (v35) { goto L20; }
     else { goto L49; }
 L20:;
-    f76(1u, 1u, v19);
+    f78(1u, 1u, v19);
     v36 = load8(v31);
     v37 = v36 == 1u;
     if (v37) { goto L21; }
@@ -34192,7 +34320,7 @@ L25:;
     store64(v32, v6);
     goto L26;
 L26:;
-    f76(1u, 2u, v19);
+    f78(1u, 2u, v19);
     v51 = load8(v31);
     v52 = v51 == 1u;
     if (v52) { goto L27; }
@@ -34228,7 +34356,7 @@ L31:;
     store64(v32, v8);
     goto L32;
 L32:;
-    f76(1u, 3u, v19);
+    f78(1u, 3u, v19);
     v66 = load8(v31);
     v67 = v66 == 1u;
     if (v67) { goto L33; }
@@ -34264,7 +34392,7 @@ L37:;
     store64(v32, v10);
     goto L38;
 L38:;
-    f76(1u, 4u, v19);
+    f78(1u, 4u, v19);
     v81 = load8(v31);
     v82 = v81 == 1u;
     if (v82) { goto L39; }
@@ -34300,7 +34428,7 @@ L43:;
     store64(v32, v12);
     goto L44;
 L44:;
-    f76(1u, 254u, v19);
+    f78(1u, 254u, v19);
     v96 = load8(v31);
     v97 = v96 == 1u;
     if (v97) { goto L45; }
@@ -34532,7 +34660,7 @@ u64 portable_ptpm_field_text(u16 a0, address a1, u64 a2, address a3, u64 a4) {
     store64(v217, 1u);
     v218 = v209 + 24u * 1u;
     store64(v218, 0u);
-    v219 = f77(a0, v212, a2);
+    v219 = f79(a0, v212, a2);
     v220 = v219.m0;
     v221 = v219.m1;
     v222 = v221 == 0u;
@@ -34713,7 +34841,7 @@ L26:;
     store8(v208, v294);
     store8(v223, v296);
     store8(v224, v298);
-    v315 = f73(v208);
+    v315 = f75(v208);
     v316 = v315.m0;
     v317 = v315.m1;
     v318 = v41 == 1u;
@@ -34870,7 +34998,7 @@ L50:;
     if (v388) { v176 = v86; v177 = v87; v178 = v88; v179 = v89; v180 = v90; v181 = v91; v182 = v92; v183 = v93; v184 = v94; v185 = v95; v186 = v96; v187 = v97; goto L186; }
     else { v70 = v86; v71 = v87; v72 = v88; v73 = v89; v74 = v90; v75 = v91; v76 = v92; v77 = v93; v78 = v94; v79 = v95; v80 = v96; v81 = v97; v82 = v98; v83 = v387; goto L44; }
 L51:;
-    f79(v207, v302, v304, v306, v307);
+    f81(v207, v302, v304, v306, v307);
     v389 = load8(v207);
     v390 = load8(v225);
     v391 = load8(v226);
@@ -34896,7 +35024,7 @@ L51:;
     default: goto L184;
     }
 L52:;
-    f80(v395, v209);
+    f82(v395, v209);
     goto L185;
 L53:;
     memory_set(v204, 0u, 40u);
@@ -35107,7 +35235,7 @@ L78:;
     goto L79;
 L79:;
     v514 = (u64)((u64)v504 >> (16u & 63u));
-    f80(v514, v209);
+    f82(v514, v209);
     v515 = load8(v217);
     v516 = v515 == 1u;
     if (v516) { goto L80; }
@@ -35136,7 +35264,7 @@ L84:;
     v525 = (u32)((u32)v123 * (u32)10u);
     v526 = (u32)((u32)v525 >> (16u & 31u));
     v527 = (u64)v526;
-    f80(v527, v209);
+    f82(v527, v209);
     v528 = (u32)((u32)v525 & (u32)65534u);
     v529 = v528 == 0u;
     v530 = (u8)((u32)v124 + (u32)255u);
@@ -35288,10 +35416,10 @@ L105:;
     goto L106;
 L106:;
     v599 = (u64)((u64)v562 & (u64)65535u);
-    f80(v599, v209);
+    f82(v599, v209);
     goto L185;
 L107:;
-    f76(v390, v391, v209);
+    f78(v390, v391, v209);
     goto L185;
 L108:;
     v600 = v104 == 1u;
@@ -35337,7 +35465,7 @@ L113:;
     goto L114;
 L114:;
     v618 = (u64)v391;
-    f80(v618, v209);
+    f82(v618, v209);
     v619 = load8(v217);
     v620 = v619 == 1u;
     if (v620) { goto L115; }
@@ -35992,7 +36120,7 @@ u32 portable_ptpm_id_named(address a0, u64 a1) {
     v2 = a0 == 0u;
     v3 = v2 ? 4096u : 0u;
     v4 = a0 + v3 * 1u;
-    v5 = f81(v4, a1);
+    v5 = f83(v4, a1);
     v6 = v5.m0;
     v7 = v6 == 1u;
     v8 = v5.m1;
@@ -36030,13 +36158,13 @@ L2:;
 L3:;
     v11 = v5 + 2u * 1u;
     v12 = (u64)((u64)a1 + (u64)UINT64_C(18446744073709551614));
-    v13 = f82(v11, v12);
+    v13 = f84(v11, v12);
     v2 = v13; goto L5;
 L4:;
-    v14 = f81(v5, a1);
+    v14 = f83(v5, a1);
     v15 = v14.m0;
     v16 = v14.m1;
-    v17 = f82(v5, a1);
+    v17 = f84(v5, a1);
     v18 = v17.m0;
     v19 = v17.m1;
     v20 = (u8)((v15) & UINT64_C(1));
@@ -36069,7 +36197,7 @@ u8 portable_ptpm_identity_parse(address a0, u64 a1, address a2) {
     v8 = a0 + v7 * 1u;
     memory_set(v5, 0u, 9u);
     memory_set(v4, 0u, 24u);
-    f32(v4, v8, a1);
+    f33(v4, v8, a1);
     v9 = load8(v4);
     v10 = v9 == 0u;
     if (v10) { goto L2; }
@@ -36081,7 +36209,7 @@ L2:;
     v12 = load_address(v11);
     v13 = v4 + 16u * 1u;
     v14 = load64(v13);
-    f83(v5, v12, v14);
+    f85(v5, v12, v14);
     v15 = load8(v5);
     v16 = v15 == 1u;
     if (v16) { goto L3; }
@@ -36120,7 +36248,7 @@ L1:;
     v18 = v7 + 4u * 1u;
     store64(v18, v17);
     store64(v16, 12u);
-    v19 = f84(v14, a2, v7, 12u);
+    v19 = f86(v14, a2, v7, 12u);
     v20 = swap32(v19);
     v21 = v7 + 12u * 1u;
     store32(v21, v20);
@@ -36146,7 +36274,7 @@ u32 portable_ptpm_image_unseal(address a0, u64 a1, address a2, address a3) {
     memory_set(v5, 0u, 24u);
     store64(a2, 0u);
     store64(a3, 0u);
-    f85(v5, v8, a1);
+    f87(v5, v8, a1);
     v9 = load8(v5);
     v10 = v9 == 0u;
     if (v10) { goto L1; }
@@ -36475,7 +36603,7 @@ L20:;
     if (v239) { goto L50; }
     else { goto L21; }
 L21:;
-    v240 = f86(v221, v60);
+    v240 = f88(v221, v60);
     if (v240) { goto L22; }
     else { goto L51; }
 L22:;
@@ -36760,7 +36888,7 @@ L45:;
     v382 = (u64)((u64)v51 - (u64)v366);
     v383 = swap32(v369);
     store32(v53, v383);
-    v384 = f84(v53, 4u, v376, v382);
+    v384 = f86(v53, 4u, v376, v382);
     v385 = (u64)((u64)v51 + (u64)UINT64_C(18446744073709543398));
     v386 = v385 < 4u;
     if (v386) { goto L47; }
@@ -36779,7 +36907,7 @@ L47:;
     if (v392) { goto L52; }
     else { goto L48; }
 L48:;
-    v393 = f87(v221, v60);
+    v393 = f89(v221, v60);
     v394 = v393 == 0u;
     if (v394) { goto L49; }
     else { goto L53; }
@@ -36913,7 +37041,7 @@ L4:;
     if (v62) { v5 = v49; goto L8; }
     else { goto L5; }
 L5:;
-    v63 = f27(v37, 4u, ADDRESS(c319), 4u);
+    v63 = f28(v37, 4u, ADDRESS(c319), 4u);
     if (v63) { v6 = 4u; goto L9; }
     else { goto L71; }
 L6:;
@@ -36989,7 +37117,7 @@ L15:;
     v107 = swap32(v106);
     v108 = swap32(v70);
     store32(v34, v108);
-    v109 = f84(v34, 4u, v67, v88);
+    v109 = f86(v34, 4u, v67, v88);
     v110 = v107 == v109;
     if (v110) { goto L31; }
     else { goto L71; }
@@ -37203,7 +37331,7 @@ L51:;
     if (v198) { goto L55; }
     else { goto L52; }
 L52:;
-    f90(v31, v151);
+    f92(v31, v151);
     v199 = load8(v31);
     v200 = v199 == 1u;
     if (v200) { goto L53; }
@@ -37235,7 +37363,7 @@ L53:;
     store16(v218, v211);
     v219 = v32 + 28u * 1u;
     store32(v219, v213);
-    v220 = f86(v45, v32);
+    v220 = f88(v45, v32);
     if (v220) { goto L58; }
     else { goto L70; }
 L54:;
@@ -37270,7 +37398,7 @@ L58:;
     store16(v233, v211);
     v234 = v33 + 28u * 1u;
     store32(v234, v213);
-    v235 = f87(v45, v33);
+    v235 = f89(v45, v33);
     v236 = v235 == 0u;
     if (v236) { goto L59; }
     else { goto L72; }
@@ -37278,7 +37406,7 @@ L59:;
     v237 = load32(v69);
     v238 = swap32(v237);
     store32(v30, v238);
-    v239 = f84(v30, 4u, v67, v88);
+    v239 = f86(v30, 4u, v67, v88);
     store32(v69, v239);
     v240 = (u8)(v207);
     v241 = (u64)((u64)v207 >> (8u & 63u));
@@ -37600,11 +37728,11 @@ u16 portable_ptpm_limits_say(address a0, u64 a1, address a2) {
     default: goto L11;
     }
 L1:;
-    v11 = f91(v8, a1, a2);
+    v11 = f93(v8, a1, a2);
     if (v11) { v5 = 6u; goto L12; }
     else { goto L11; }
 L2:;
-    v12 = f91(v8, a1, a2);
+    v12 = f93(v8, a1, a2);
     if (v12) { v5 = 5u; goto L12; }
     else { goto L3; }
 L3:;
@@ -37679,7 +37807,7 @@ u32 portable_ptpm_member_kind(u16 a0, address a1, u64 a2, u64 a3) {
     v7 = v6 ? 4096u : 0u;
     v8 = a1 + v7 * 1u;
     memory_set(v5, 0u, 24u);
-    v9 = f77(a0, v8, a2);
+    v9 = f79(a0, v8, a2);
     v10 = v9.m1;
     v11 = a3 < v10;
     if (v11) { goto L1; }
@@ -37697,7 +37825,7 @@ L1:;
     v21 = (u64)v20;
     v22 = v8 + v21 * 1u;
     v23 = (u64)((u64)a2 - (u64)v21);
-    f79(v5, v16, v18, v22, v23);
+    f81(v5, v16, v18, v22, v23);
     v24 = load8(v5);
     switch (v24) {
     case 0u: v4 = 1u; goto L12;
@@ -37766,7 +37894,7 @@ L3:;
     memory_set(v17, 0u, 24u);
     v26 = (u64)((u64)v5 * (u64)a2);
     v27 = v20 + v26 * 1u;
-    f85(v17, v27, a2);
+    f87(v17, v27, a2);
     v28 = load8(v17);
     v29 = v28 == 0u;
     if (v29) { goto L5; }
@@ -37820,7 +37948,7 @@ L1:;
     v12 = a1 + v11 * 1u;
     v13 = (u8)(v8);
     memory_set(v7, 0u, 24u);
-    f32(v7, v12, a2);
+    f33(v7, v12, a2);
     v14 = load8(v7);
     v15 = v14 == 0u;
     if (v15) { goto L2; }
@@ -37844,7 +37972,7 @@ L2:;
 L3:;
     v29 = v25 + v3 * 1u;
     v30 = load8(v29);
-    f71(v6, v13, v30);
+    f73(v6, v13, v30);
     v31 = load8(v6);
     v32 = v31 == 1u;
     if (v32) { goto L4; }
@@ -37991,7 +38119,7 @@ u32 portable_ptpm_other_id_named(address a0, u64 a1) {
     v7 = v6 ? 4096u : 0u;
     v8 = a0 + v7 * 1u;
     memory_set(v5, 0u, 24u);
-    f32(v5, v8, a1);
+    f33(v5, v8, a1);
     v9 = load8(v5);
     v10 = v9 == 0u;
     if (v10) { goto L1; }
@@ -38059,7 +38187,7 @@ u8 portable_ptpm_passed_on_is_first(address a0, address a1, u64 a2, u64 a3, u64 
     v8 = v7 ? 4096u : 0u;
     v9 = a1 + v8 * 1u;
     v10 = load64(a0);
-    f92(v6, v9, a2);
+    f94(v6, v9, a2);
     v11 = load8(v6);
     v12 = v11 == 1u;
     if (v12) { goto L1; }
@@ -38067,7 +38195,7 @@ u8 portable_ptpm_passed_on_is_first(address a0, address a1, u64 a2, u64 a3, u64 
 L1:;
     v13 = a0 + 8u * 1u;
     v14 = v6 + 8u * 1u;
-    v15 = f93(v10, v13, 4096u, v14, a3, a4);
+    v15 = f95(v10, v13, 4096u, v14, a3, a4);
     v5 = v15; goto L2;
 L2:;
     return v5;
@@ -38090,14 +38218,14 @@ L1:;
     v14 = a3 == 0u;
     v15 = v14 ? 4096u : 0u;
     v16 = a3 + v15 * 1u;
-    f92(v8, v16, a4);
+    f94(v8, v16, a4);
     v17 = load8(v8);
     v18 = v17 == 1u;
     if (v18) { goto L2; }
     else { v7 = 0u; goto L3; }
 L2:;
     v19 = v8 + 8u * 1u;
-    v20 = f93(a0, v11, a2, v19, a5, a6);
+    v20 = f95(a0, v11, a2, v19, a5, a6);
     v7 = v20; goto L3;
 L3:;
     return v7;
@@ -38140,7 +38268,7 @@ u8 portable_ptpm_port_identity_parse(address a0, u64 a1, address a2, address a3)
     v11 = v10 ? 4096u : 0u;
     v12 = a0 + v11 * 1u;
     memory_set(v9, 0u, 24u);
-    f32(v9, v12, a1);
+    f33(v9, v12, a1);
     v13 = load8(v9);
     v14 = v13 == 0u;
     if (v14) { goto L2; }
@@ -38154,7 +38282,7 @@ L2:;
     v18 = load64(v17);
     memory_set(v7, 0u, 12u);
     memory_set(v8, 0u, 12u);
-    f94(v7, 47u, v16, v18);
+    f96(v7, 47u, v16, v18);
     v19 = load8(v7);
     v20 = v19 == 1u;
     v21 = v8 + 10u * 1u;
@@ -38168,7 +38296,7 @@ L3:;
     v25 = load16(v21);
     v4 = v25; v5 = v24; goto L5;
 L4:;
-    f94(v8, 45u, v16, v18);
+    f96(v8, 45u, v16, v18);
     v26 = load8(v8);
     v27 = v8 + 2u * 1u;
     v28 = load64(v27);
@@ -38224,11 +38352,11 @@ u8 portable_ptpm_rate_take(address a0, u64 a1) {
 }
 
 u32 portable_ptpm_session_begin(address a0, u8 a1, u16 a2, u16 a3, address a4, u64 a5) {
-    u32 v6, v37, v38, v43;
+    u32 v6, v39;
     u8 v7, v11, v12, v14, v15, v18, v19, v21, v22, v24, v26, v31, v32, v33, v34, v35;
-    u8 v40;
-    u64 v8, v30, v41;
-    address v9, v10, v13, v16, v17, v23, v25, v27, v28, v29, v36, v39, v42;
+    u8 v36;
+    u64 v8, v30, v37;
+    address v9, v10, v13, v16, v17, v23, v25, v27, v28, v29, v38;
     struct s1 v20;
     v7 = a4 == 0u;
     v8 = v7 ? 4096u : 0u;
@@ -38237,13 +38365,13 @@ u32 portable_ptpm_session_begin(address a0, u8 a1, u16 a2, u16 a3, address a4, u
     v11 = load8(v10);
     v12 = (u8)((v11) & UINT64_C(1));
     if (v12) { goto L1; }
-    else { v6 = 37u; goto L7; }
+    else { v6 = 37u; goto L6; }
 L1:;
     v13 = load_address(a0);
     v14 = load8(v13);
     v15 = v14 == 2u;
     if (v15) { goto L2; }
-    else { v6 = 37u; goto L7; }
+    else { v6 = 37u; goto L6; }
 L2:;
     v16 = v13 + 8u * 1u;
     v17 = load_address(v16);
@@ -38253,7 +38381,7 @@ L2:;
     v21 = v20.m0;
     v22 = v21 == 0u;
     if (v22) { goto L3; }
-    else { goto L6; }
+    else { goto L5; }
 L3:;
     v23 = v17 + 1576u * 1u;
     v24 = load8(v23);
@@ -38270,37 +38398,29 @@ L3:;
     v33 = v31 ? 1u : v32;
     v34 = v30 == 0u;
     v35 = v33 ? 1u : v34;
-    if (v35) { goto L5; }
+    if (v35) { v6 = 0u; goto L6; }
     else { goto L4; }
 L4:;
     portable_rattle_dealloc(v28);
-    goto L5;
+    v6 = 0u; goto L6;
 L5:;
-    v36 = v17 + 1624u * 1u;
-    v37 = load32(v36);
-    v38 = (u32)((u32)v37 + (u32)1u);
-    store32(v36, v38);
-    v39 = v17 + 1628u * 1u;
-    store8(v39, 1u);
-    v6 = 0u; goto L7;
+    v36 = v20.m1;
+    v37 = (u64)v36;
+    v38 = ADDRESS(c357) + v37 * 4u;
+    v39 = load32(v38);
+    v6 = v39; goto L6;
 L6:;
-    v40 = v20.m1;
-    v41 = (u64)v40;
-    v42 = ADDRESS(c357) + v41 * 4u;
-    v43 = load32(v42);
-    v6 = v43; goto L7;
-L7:;
     return v6;
 }
 
 u32 portable_ptpm_session_begin_at(address a0, u8 a1, u16 a2, u16 a3, address a4, u64 a5) {
     u8 v6, v8, v11, v15, v16, v18, v19, v22, v23, v25, v26, v30, v31, v33, v34, v35;
-    u8 v43, v44, v45, v47, v49, v54, v55, v56, v57, v58, v63, v64;
+    u8 v43, v44, v45, v47, v49, v54, v55, v56, v57, v58, v59, v60;
     struct s1 v7, v42;
-    u32 v9, v60, v61, v67;
+    u32 v9, v63;
     address v10, v13, v14, v17, v20, v21, v24, v27, v36, v37, v38, v39, v40, v41, v46, v48;
-    address v50, v51, v52, v59, v62, v66;
-    u64 v12, v32, v53, v65;
+    address v50, v51, v52, v62;
+    u64 v12, v32, v53, v61;
     u16 v28, v29;
     u64 block0[3];
     v10 = ADDRESS(block0);
@@ -38311,13 +38431,13 @@ u32 portable_ptpm_session_begin_at(address a0, u8 a1, u16 a2, u16 a3, address a4
     v15 = load8(v14);
     v16 = (u8)((v15) & UINT64_C(1));
     if (v16) { goto L1; }
-    else { v9 = 37u; goto L13; }
+    else { v9 = 37u; goto L12; }
 L1:;
     v17 = load_address(a0);
     v18 = load8(v17);
     v19 = v18 == 2u;
     if (v19) { goto L2; }
-    else { v9 = 37u; goto L13; }
+    else { v9 = 37u; goto L12; }
 L2:;
     v20 = v17 + 8u * 1u;
     v21 = load_address(v20);
@@ -38347,7 +38467,7 @@ L5:;
     if (v35) { goto L7; }
     else { v6 = 3u; goto L6; }
 L6:;
-    v7 = (struct s1){ 1u, 0u }; v8 = v6; goto L11;
+    v7 = (struct s1){ 1u, 0u }; v8 = v6; goto L10;
 L7:;
     store8(v10, v23);
     v36 = v10 + 1u * 1u;
@@ -38367,7 +38487,7 @@ L7:;
     v44 = v42.m1;
     v45 = v43 == 0u;
     if (v45) { goto L8; }
-    else { v7 = v42; v8 = v44; goto L11; }
+    else { v7 = v42; v8 = v44; goto L10; }
 L8:;
     v46 = v21 + 1576u * 1u;
     v47 = load8(v46);
@@ -38384,56 +38504,48 @@ L8:;
     v56 = v54 ? 1u : v55;
     v57 = v53 == 0u;
     v58 = v56 ? 1u : v57;
-    if (v58) { goto L10; }
+    if (v58) { v7 = v42; v8 = 0u; goto L10; }
     else { goto L9; }
 L9:;
     portable_rattle_dealloc(v51);
-    goto L10;
+    v7 = v42; v8 = 0u; goto L10;
 L10:;
-    v59 = v21 + 1624u * 1u;
-    v60 = load32(v59);
-    v61 = (u32)((u32)v60 + (u32)1u);
-    store32(v59, v61);
-    v62 = v21 + 1628u * 1u;
-    store8(v62, 1u);
-    v7 = v42; v8 = 0u; goto L11;
+    v59 = v7.m0;
+    v60 = v59 == 0u;
+    if (v60) { v9 = 0u; goto L12; }
+    else { goto L11; }
 L11:;
-    v63 = v7.m0;
-    v64 = v63 == 0u;
-    if (v64) { v9 = 0u; goto L13; }
-    else { goto L12; }
+    v61 = (u64)v8;
+    v62 = ADDRESS(c357) + v61 * 4u;
+    v63 = load32(v62);
+    v9 = v63; goto L12;
 L12:;
-    v65 = (u64)v8;
-    v66 = ADDRESS(c357) + v65 * 4u;
-    v67 = load32(v66);
-    v9 = v67; goto L13;
-L13:;
     return v9;
 }
 
 u32 portable_ptpm_session_give_up(address a0) {
-    u32 v1, v25, v26;
-    address v2, v5, v8, v9, v10, v13, v15, v19, v20, v21, v24, v27;
+    u32 v1;
+    address v2, v5, v8, v9, v10, v13, v15, v19, v20, v21;
     u8 v3, v4, v6, v7, v11, v12, v18, v23;
     u64 v14, v16, v17, v22;
     v2 = a0 + 8u * 1u;
     v3 = load8(v2);
     v4 = (u8)((v3) & UINT64_C(1));
     if (v4) { goto L1; }
-    else { v1 = 37u; goto L7; }
+    else { v1 = 37u; goto L6; }
 L1:;
     v5 = load_address(a0);
     v6 = load8(v5);
     v7 = v6 == 2u;
     if (v7) { goto L2; }
-    else { v1 = 37u; goto L7; }
+    else { v1 = 37u; goto L6; }
 L2:;
     v8 = v5 + 8u * 1u;
     v9 = load_address(v8);
     v10 = v9 + 48u * 1u;
     v11 = load8(v10);
     v12 = v11 == 0u;
-    if (v12) { v1 = 43u; goto L7; }
+    if (v12) { v1 = 43u; goto L6; }
     else { goto L3; }
 L3:;
     v13 = v9 + 32u * 1u;
@@ -38442,7 +38554,7 @@ L3:;
     v16 = load64(v15);
     v17 = (u64)((u64)v14 - (u64)v16);
     v18 = v17 > 32766u;
-    if (v18) { v1 = 112u; goto L7; }
+    if (v18) { v1 = 112u; goto L6; }
     else { goto L4; }
 L4:;
     v19 = v9 + 64u * 1u;
@@ -38451,20 +38563,12 @@ L4:;
     v22 = load64(v21);
     v23 = v22 == 0u;
     memory_set(v10, 0u, 40u);
-    if (v23) { goto L6; }
+    if (v23) { v1 = 0u; goto L6; }
     else { goto L5; }
 L5:;
     portable_rattle_dealloc(v20);
-    goto L6;
+    v1 = 0u; goto L6;
 L6:;
-    v24 = v9 + 1624u * 1u;
-    v25 = load32(v24);
-    v26 = (u32)((u32)v25 + (u32)1u);
-    store32(v24, v26);
-    v27 = v9 + 1628u * 1u;
-    store8(v27, 1u);
-    v1 = 0u; goto L7;
-L7:;
     return v1;
 }
 
@@ -38505,54 +38609,6 @@ L4:;
     return v4;
 }
 
-u32 portable_ptpm_session_image_of(address a0, address a1, u64 a2, address a3, address a4) {
-    u32 v5, v25;
-    u8 v6, v10, v11, v13, v14, v18, v19, v21, v22;
-    u64 v7, v23, v26;
-    address v8, v9, v12, v15, v16, v17, v24;
-    struct s2 v20;
-    v6 = a1 == 0u;
-    v7 = v6 ? 4096u : 0u;
-    v8 = a1 + v7 * 1u;
-    store64(a3, 0u);
-    store64(a4, 0u);
-    v9 = a0 + 8u * 1u;
-    v10 = load8(v9);
-    v11 = (u8)((v10) & UINT64_C(1));
-    if (v11) { goto L1; }
-    else { v5 = 37u; goto L5; }
-L1:;
-    v12 = load_address(a0);
-    v13 = load8(v12);
-    v14 = v13 == 2u;
-    if (v14) { goto L2; }
-    else { v5 = 37u; goto L5; }
-L2:;
-    v15 = v12 + 8u * 1u;
-    v16 = load_address(v15);
-    v17 = v16 + 1629u * 1u;
-    v18 = load8(v17);
-    v19 = (u8)((v18) & UINT64_C(1));
-    if (v19) { goto L3; }
-    else { v5 = 37u; goto L5; }
-L3:;
-    v20 = f10(v16, v8, a2);
-    v21 = v20.m0;
-    v22 = (u8)((v21) & UINT64_C(1));
-    if (v22) { goto L4; }
-    else { v5 = 34u; goto L5; }
-L4:;
-    v23 = v20.m1;
-    v24 = v16 + 1624u * 1u;
-    v25 = load32(v24);
-    v26 = (u64)v25;
-    store64(a3, v23);
-    store64(a4, v26);
-    v5 = 0u; goto L5;
-L5:;
-    return v5;
-}
-
 u64 portable_ptpm_session_issued(address a0) {
     u64 v1, v11;
     address v2, v5, v8, v9, v10;
@@ -38579,11 +38635,11 @@ L3:;
 }
 
 u32 portable_ptpm_session_receive(address a0, address a1, u64 a2) {
-    u32 v3, v47, v48, v52, v53;
+    u32 v3, v48, v49;
     address v4, v7, v8, v11, v14, v15, v17, v19, v21, v24, v26, v29, v31, v33, v34, v36;
-    address v37, v38, v39, v46, v49, v50;
+    address v37, v38, v39, v46;
     u8 v5, v9, v10, v12, v13, v16, v20, v23, v25, v27, v28, v32, v35, v41, v42, v43;
-    u8 v44, v45, v51;
+    u8 v44, v45, v47;
     u64 v6, v18, v40;
     u16 v22, v30;
     u64 block0[7];
@@ -38616,7 +38672,7 @@ L2:;
     v22 = load16(v21);
     v23 = v16 == 0u;
     if (v23) { goto L3; }
-    else { goto L7; }
+    else { goto L6; }
 L3:;
     v24 = v4 + 8u * 1u;
     v25 = load8(v24);
@@ -38648,25 +38704,19 @@ L4:;
     v43 = v41 ? 1u : v42;
     v44 = v40 == 0u;
     v45 = v43 ? 1u : v44;
-    if (v45) { goto L6; }
+    if (v45) { goto L7; }
     else { goto L5; }
 L5:;
     portable_rattle_dealloc(v38);
-    goto L6;
+    goto L7;
 L6:;
-    v46 = v15 + 1624u * 1u;
-    v47 = load32(v46);
-    v48 = (u32)((u32)v47 + (u32)1u);
-    store32(v46, v48);
-    v49 = v15 + 1628u * 1u;
-    store8(v49, 1u);
-    v3 = 0u; goto L17;
-L7:;
     v3 = 35u; goto L17;
+L7:;
+    v3 = 0u; goto L17;
 L8:;
-    v50 = v4 + 9u * 1u;
-    v51 = load8(v50);
-    switch (v51) {
+    v46 = v4 + 9u * 1u;
+    v47 = load8(v46);
+    switch (v47) {
     case 0u: goto L9;
     case 1u: v3 = 1u; goto L17;
     case 2u: goto L10;
@@ -38678,9 +38728,9 @@ L8:;
     default: goto L16;
     }
 L9:;
-    v52 = (u32)v27;
-    v53 = (u32)((u32)v52 + (u32)16u);
-    v3 = v53; goto L17;
+    v48 = (u32)v27;
+    v49 = (u32)((u32)v48 + (u32)16u);
+    v3 = v49; goto L17;
 L10:;
     v3 = 10u; goto L17;
 L11:;
@@ -38835,79 +38885,15 @@ L3:;
     return v2;
 }
 
-u32 portable_ptpm_session_saved(address a0, u64 a1) {
-    u32 v2, v15;
-    address v3, v6, v9, v10, v11, v14, v18;
-    u8 v4, v5, v7, v8, v12, v13, v17;
-    u64 v16;
-    v3 = a0 + 8u * 1u;
-    v4 = load8(v3);
-    v5 = (u8)((v4) & UINT64_C(1));
-    if (v5) { goto L1; }
-    else { v2 = 37u; goto L5; }
-L1:;
-    v6 = load_address(a0);
-    v7 = load8(v6);
-    v8 = v7 == 2u;
-    if (v8) { goto L2; }
-    else { v2 = 37u; goto L5; }
-L2:;
-    v9 = v6 + 8u * 1u;
-    v10 = load_address(v9);
-    v11 = v10 + 1629u * 1u;
-    v12 = load8(v11);
-    v13 = (u8)((v12) & UINT64_C(1));
-    if (v13) { goto L3; }
-    else { v2 = 37u; goto L5; }
-L3:;
-    v14 = v10 + 1624u * 1u;
-    v15 = load32(v14);
-    v16 = (u64)v15;
-    v17 = a1 == v16;
-    if (v17) { goto L4; }
-    else { v2 = 119u; goto L5; }
-L4:;
-    v18 = v10 + 1628u * 1u;
-    store8(v18, 0u);
-    v2 = 0u; goto L5;
-L5:;
-    return v2;
-}
-
-u32 portable_ptpm_session_saving(address a0) {
-    u32 v1;
-    address v2, v5, v8, v9, v10;
-    u8 v3, v4, v6, v7;
-    v2 = a0 + 8u * 1u;
-    v3 = load8(v2);
-    v4 = (u8)((v3) & UINT64_C(1));
-    if (v4) { goto L1; }
-    else { v1 = 37u; goto L3; }
-L1:;
-    v5 = load_address(a0);
-    v6 = load8(v5);
-    v7 = v6 == 2u;
-    if (v7) { goto L2; }
-    else { v1 = 37u; goto L3; }
-L2:;
-    v8 = v5 + 8u * 1u;
-    v9 = load_address(v8);
-    v10 = v9 + 1629u * 1u;
-    store8(v10, 1u);
-    v1 = 0u; goto L3;
-L3:;
-    return v1;
-}
-
 u32 portable_ptpm_session_send(address a0, address a1, u64 a2, address a3) {
-    u64 v4, v8, v36, v43, v54, v74, v75, v76, v77, v82;
+    u64 v4, v8, v30, v37, v48, v68, v69, v70, v71, v76;
     u32 v5;
-    address v6, v9, v10, v13, v16, v17, v19, v22, v25, v26, v29, v32, v33, v35, v37, v42;
-    address v44, v46, v49, v51, v52, v53, v55, v56, v57, v58, v59, v60, v61, v62, v63, v64;
-    address v65, v66, v67, v68, v69, v70, v73, v79, v80;
-    u8 v7, v11, v12, v14, v15, v18, v20, v21, v23, v24, v27, v28, v30, v31, v34, v47;
-    u8 v48, v71, v72, v78, v81, v83;
-    u16 v38, v39, v40, v41, v45, v50;
+    address v6, v9, v10, v13, v16, v17, v19, v20, v23, v26, v27, v29, v31, v36, v38, v40;
+    address v43, v45, v46, v47, v49, v50, v51, v52, v53, v54, v55, v56, v57, v58, v59, v60;
+    address v61, v62, v63, v64, v67, v73, v74;
+    u8 v7, v11, v12, v14, v15, v18, v21, v22, v24, v25, v28, v41, v42, v65, v66, v72;
+    u8 v75, v77;
+    u16 v32, v33, v34, v35, v39, v44;
     u64 block0[7];
     v6 = ADDRESS(block0);
     v7 = a1 == 0u;
@@ -38918,133 +38904,121 @@ u32 portable_ptpm_session_send(address a0, address a1, u64 a2, address a3) {
     v11 = load8(v10);
     v12 = (u8)((v11) & UINT64_C(1));
     if (v12) { goto L1; }
-    else { v5 = 37u; goto L13; }
+    else { v5 = 37u; goto L11; }
 L1:;
     v13 = load_address(a0);
     v14 = load8(v13);
     v15 = v14 == 2u;
     if (v15) { goto L2; }
-    else { v5 = 37u; goto L13; }
+    else { v5 = 37u; goto L11; }
 L2:;
     v16 = v13 + 8u * 1u;
     v17 = load_address(v16);
     v18 = a2 < 1472u;
-    if (v18) { v5 = 34u; goto L13; }
+    if (v18) { v5 = 34u; goto L11; }
     else { goto L3; }
 L3:;
-    v19 = v17 + 1629u * 1u;
-    v20 = load8(v19);
-    v21 = (u8)((v20) & UINT64_C(1));
-    if (v21) { goto L4; }
-    else { goto L5; }
+    v19 = v17 + 96u * 1u;
+    v20 = v17 + 48u * 1u;
+    v21 = load8(v20);
+    v22 = v21 == 1u;
+    if (v22) { goto L5; }
+    else { goto L4; }
 L4:;
-    v22 = v17 + 1628u * 1u;
-    v23 = load8(v22);
-    v24 = (u8)((v23) & UINT64_C(1));
-    if (v24) { v5 = 118u; goto L13; }
-    else { goto L5; }
+    v5 = 43u; goto L11;
 L5:;
-    v25 = v17 + 96u * 1u;
-    v26 = v17 + 48u * 1u;
-    v27 = load8(v26);
-    v28 = v27 == 1u;
-    if (v28) { goto L6; }
-    else { goto L12; }
+    v23 = v17 + 88u * 1u;
+    v24 = load8(v23);
+    v25 = v24 == 0u;
+    if (v25) { goto L10; }
+    else { goto L6; }
 L6:;
-    v29 = v17 + 88u * 1u;
-    v30 = load8(v29);
-    v31 = v30 == 0u;
-    if (v31) { goto L11; }
+    v26 = v17 + 56u * 1u;
+    v27 = v17 + 24u * 1u;
+    v28 = load8(v27);
+    v29 = v17 + 32u * 1u;
+    v30 = load64(v29);
+    v31 = v17 + 20u * 1u;
+    v32 = load16(v31);
+    v33 = (u16)(v30);
+    v34 = (u16)((u32)v33 + (u32)65535u);
+    v35 = (u16)((u32)v34 + (u32)v32);
+    v36 = v17 + 10u * 1u;
+    v37 = load64(v36);
+    v38 = v17 + 60u * 1u;
+    v39 = load16(v38);
+    v40 = v17 + 22u * 1u;
+    v41 = load8(v40);
+    v42 = load8(v26);
+    v43 = v17 + 58u * 1u;
+    v44 = load16(v43);
+    v45 = v17 + 64u * 1u;
+    v46 = load_address(v45);
+    v47 = v17 + 72u * 1u;
+    v48 = load64(v47);
+    store16(v6, 0u);
+    v49 = v6 + 2u * 1u;
+    store8(v49, v28);
+    v50 = v6 + 3u * 1u;
+    store8(v50, 0u);
+    v51 = v6 + 4u * 1u;
+    memory_cpy(v51, v17, 10u);
+    v52 = v6 + 14u * 1u;
+    store16(v52, v35);
+    v53 = v6 + 16u * 1u;
+    store64(v53, v37);
+    v54 = v6 + 24u * 1u;
+    store16(v54, v39);
+    v55 = v6 + 26u * 1u;
+    store8(v55, v41);
+    v56 = v6 + 27u * 1u;
+    store8(v56, v41);
+    v57 = v6 + 28u * 1u;
+    store32(v57, 0u);
+    v58 = v6 + 32u * 1u;
+    store8(v58, 0u);
+    v59 = v6 + 33u * 1u;
+    store8(v59, v42);
+    v60 = v6 + 34u * 1u;
+    store16(v60, v44);
+    v61 = v6 + 36u * 1u;
+    store16(v61, 0u);
+    v62 = v6 + 38u * 1u;
+    store16(v62, 0u);
+    v63 = v6 + 40u * 1u;
+    store_address(v63, v46);
+    v64 = v6 + 48u * 1u;
+    store64(v64, v48);
+    f3(v6, v19);
+    v65 = load8(v23);
+    v66 = (u8)((u32)v65 + (u32)255u);
+    store8(v23, v66);
+    v67 = v17 + 1568u * 1u;
+    v68 = load64(v67);
+    v69 = (u64)v9;
+    v70 = (u64)v19;
+    v71 = (u64)((u64)v69 - (u64)v70);
+    v72 = v71 < v68;
+    if (v72) { v4 = 0u; goto L8; }
     else { goto L7; }
 L7:;
-    v32 = v17 + 56u * 1u;
-    v33 = v17 + 24u * 1u;
-    v34 = load8(v33);
-    v35 = v17 + 32u * 1u;
-    v36 = load64(v35);
-    v37 = v17 + 20u * 1u;
-    v38 = load16(v37);
-    v39 = (u16)(v36);
-    v40 = (u16)((u32)v39 + (u32)65535u);
-    v41 = (u16)((u32)v40 + (u32)v38);
-    v42 = v17 + 10u * 1u;
-    v43 = load64(v42);
-    v44 = v17 + 60u * 1u;
-    v45 = load16(v44);
-    v46 = v17 + 22u * 1u;
-    v47 = load8(v46);
-    v48 = load8(v32);
-    v49 = v17 + 58u * 1u;
-    v50 = load16(v49);
-    v51 = v17 + 64u * 1u;
-    v52 = load_address(v51);
-    v53 = v17 + 72u * 1u;
-    v54 = load64(v53);
-    store16(v6, 0u);
-    v55 = v6 + 2u * 1u;
-    store8(v55, v34);
-    v56 = v6 + 3u * 1u;
-    store8(v56, 0u);
-    v57 = v6 + 4u * 1u;
-    memory_cpy(v57, v17, 10u);
-    v58 = v6 + 14u * 1u;
-    store16(v58, v41);
-    v59 = v6 + 16u * 1u;
-    store64(v59, v43);
-    v60 = v6 + 24u * 1u;
-    store16(v60, v45);
-    v61 = v6 + 26u * 1u;
-    store8(v61, v47);
-    v62 = v6 + 27u * 1u;
-    store8(v62, v47);
-    v63 = v6 + 28u * 1u;
-    store32(v63, 0u);
-    v64 = v6 + 32u * 1u;
-    store8(v64, 0u);
-    v65 = v6 + 33u * 1u;
-    store8(v65, v48);
-    v66 = v6 + 34u * 1u;
-    store16(v66, v50);
-    v67 = v6 + 36u * 1u;
-    store16(v67, 0u);
-    v68 = v6 + 38u * 1u;
-    store16(v68, 0u);
-    v69 = v6 + 40u * 1u;
-    store_address(v69, v52);
-    v70 = v6 + 48u * 1u;
-    store64(v70, v54);
-    f3(v6, v25);
-    v71 = load8(v29);
-    v72 = (u8)((u32)v71 + (u32)255u);
-    store8(v29, v72);
-    v73 = v17 + 1568u * 1u;
-    v74 = load64(v73);
-    v75 = (u64)v9;
-    v76 = (u64)v25;
-    v77 = (u64)((u64)v75 - (u64)v76);
-    v78 = v77 < v74;
-    if (v78) { v4 = 0u; goto L9; }
-    else { goto L8; }
+    memory_move(v9, v19, v68);
+    goto L9;
 L8:;
-    memory_move(v9, v25, v74);
-    goto L10;
+    v73 = v9 + v4 * 1u;
+    v74 = v19 + v4 * 1u;
+    v75 = load8(v74);
+    store8(v73, v75);
+    v76 = (u64)((u64)v4 + (u64)1u);
+    v77 = v76 == v68;
+    if (v77) { goto L9; }
+    else { v4 = v76; goto L8; }
 L9:;
-    v79 = v9 + v4 * 1u;
-    v80 = v25 + v4 * 1u;
-    v81 = load8(v80);
-    store8(v79, v81);
-    v82 = (u64)((u64)v4 + (u64)1u);
-    v83 = v82 == v74;
-    if (v83) { goto L10; }
-    else { v4 = v82; goto L9; }
+    store64(a3, v68);
+    v5 = 0u; goto L11;
 L10:;
-    store64(a3, v74);
-    v5 = 0u; goto L13;
+    v5 = 44u; goto L11;
 L11:;
-    v5 = 44u; goto L13;
-L12:;
-    v5 = 43u; goto L13;
-L13:;
     return v5;
 }
 
@@ -39349,7 +39323,7 @@ L18:;
     if (v163) { goto L21; }
     else { v21 = v162; goto L17; }
 L19:;
-    v164 = f27(v8, v9, v15, v9);
+    v164 = f28(v8, v9, v15, v9);
     if (v164) { goto L21; }
     else { v22 = 3u; goto L26; }
 L20:;
@@ -40321,7 +40295,7 @@ L40:;
     if (v569) { goto L41; }
     else { v16 = v446; v17 = v445; goto L43; }
 L41:;
-    v570 = f96(v102);
+    v570 = f98(v102);
     v571 = v570 == 0u;
     if (v571) { goto L42; }
     else { goto L49; }
@@ -40862,7 +40836,7 @@ L10:;
     v100 = v38 + 8u * 1u;
     store16(v100, v79);
     store64(v39, v68);
-    f99(v37, v64, a4, v38, v39, v73, v5);
+    f101(v37, v64, a4, v38, v39, v73, v5);
     v101 = load8(v37);
     v102 = v101 == 0u;
     if (v102) { goto L11; }
@@ -41390,7 +41364,7 @@ L1:;
     if (v40) { goto L19; }
     else { goto L2; }
 L2:;
-    v41 = f27(v25, 4u, (ADDRESS(c332) + 8u * 1u), 4u);
+    v41 = f28(v25, 4u, (ADDRESS(c332) + 8u * 1u), 4u);
     if (v41) { goto L3; }
     else { goto L19; }
 L3:;
@@ -41468,7 +41442,7 @@ L6:;
     store8(v89, v58);
     v90 = v19 + 15u * 1u;
     store8(v90, v60);
-    v91 = f27(v25, 16u, v19, 16u);
+    v91 = f28(v25, 16u, v19, 16u);
     v92 = v66 >= v64;
     v93 = v91 ? v92 : 0u;
     if (v93) { goto L7; }
@@ -41516,13 +41490,13 @@ L12:;
     else { goto L14; }
 L13:;
     memory_set(v17, 0u, 16u);
-    f102(v17, a1, a2, v22, a4, v94, v95);
+    f104(v17, a1, a2, v22, a4, v94, v95);
     v116 = load8(v17);
     v117 = v116 == 0u;
     if (v117) { goto L17; }
     else { goto L18; }
 L14:;
-    v118 = f100(v22, a4);
+    v118 = f102(v22, a4);
     v119 = v118.m0;
     v120 = v119 == 1u;
     if (v120) { goto L15; }
@@ -41539,7 +41513,7 @@ L17:;
     v124 = v17 + 8u * 1u;
     v125 = load64(v124);
     v126 = (address)v125;
-    v127 = f116(v94, v95, v126);
+    v127 = f118(v94, v95, v126);
     memory_set(v16, 0u, 184u);
     memory_cpy(v16, v65, v64);
     v128 = (u16)v60;
@@ -41564,7 +41538,7 @@ L18:;
     else { v10 = v134; v11 = v136; goto L27; }
 L19:;
     memory_set(v15, 0u, 16u);
-    f102(v15, a1, a2, v22, a4, v25, a6);
+    f104(v15, a1, a2, v22, a4, v25, a6);
     v140 = load8(v15);
     v141 = v140 == 0u;
     if (v141) { goto L20; }
@@ -41573,7 +41547,7 @@ L20:;
     v142 = v15 + 8u * 1u;
     v143 = load64(v142);
     v144 = (address)v143;
-    v145 = f116(v25, a6, v144);
+    v145 = f118(v25, a6, v144);
     v8 = v145; v9 = v143; goto L22;
 L21:;
     v146 = v15 + 2u * 1u;
@@ -41770,7 +41744,7 @@ L4:;
     if (v65) { goto L5; }
     else { v9 = v6; v10 = v7; goto L7; }
 L5:;
-    v66 = f118(v22);
+    v66 = f120(v22);
     if (v66) { goto L6; }
     else { goto L8; }
 L6:;
@@ -42028,14 +42002,14 @@ L11:;
     store8(v247, v204);
     v248 = v24 + 243u * 1u;
     memory_set(v248, 0u, 5u);
-    f104(v23, v24, v13, v12);
+    f106(v23, v24, v13, v12);
     v249 = load8(v23);
     v250 = v249 == 0u;
     if (v250) { goto L12; }
     else { goto L13; }
 L12:;
     v251 = v23 + 8u * 1u;
-    f101(v25, v35, a5);
+    f103(v25, v35, a5);
     v252 = load8(v25);
     v253 = v252 == 0u;
     if (v253) { goto L15; }
@@ -42137,7 +42111,7 @@ L27:;
     store64(v293, v269);
     v294 = v29 + 24u * 1u;
     store64(v294, v269);
-    v295 = f115(v27, v29);
+    v295 = f117(v27, v29);
     v296 = v295.m0;
     v297 = v296 == 0u;
     v298 = v295.m1;
@@ -42461,7 +42435,7 @@ u32 portable_ptpm_session_restore(address a0, address a1, address a2, u64 a3) {
     v20 = load16(v19);
     v21 = a1 + 4u * 1u;
     v22 = load16(v21);
-    f99(v5, v12, a3, v6, v7, v20, v22);
+    f101(v5, v12, a3, v6, v7, v20, v22);
     v23 = load8(v5);
     v24 = v23 == 0u;
     if (v24) { goto L1; }
@@ -42485,7 +42459,7 @@ L1:;
     v38 = load64(v37);
     v39 = v5 + 96u * 1u;
     v40 = load64(v39);
-    v41 = portable_rattle_alloc(1632u, 8u);
+    v41 = portable_rattle_alloc(1624u, 8u);
     v42 = v41.m0;
     v43 = (u8)((v42) & UINT64_C(1));
     if (v43) { goto L3; }
@@ -42518,7 +42492,7 @@ L3:;
     v58 = v50 + 88u * 1u;
     store64(v58, v40);
     v59 = v50 + 96u * 1u;
-    memory_set(v59, 0u, 1536u);
+    memory_set(v59, 0u, 1528u);
     v60 = portable_rattle_alloc(16u, 8u);
     v61 = v60.m0;
     v62 = (u8)((v61) & UINT64_C(1));
@@ -42601,13 +42575,13 @@ L14:;
 u32 portable_ptpm_session_start(address a0, address a1) {
     u32 v2;
     address v3, v4, v8, v10, v11, v13, v18, v24, v26, v28, v30, v35, v37, v38, v39, v40;
-    address v41, v42, v43, v44, v45, v46, v51, v52, v53, v57, v59, v60, v61, v62, v63, v64;
-    address v65, v66, v67, v69, v73;
-    u8 v5, v6, v7, v15, v16, v17, v20, v21, v22, v25, v29, v31, v34, v49, v54, v55;
-    u8 v56, v68, v71, v72, v75, v76, v77, v78, v79, v80, v81;
-    u64 v9, v12, v14, v33, v36, v48, v50, v58, v70, v74;
+    address v41, v42, v43, v44, v45, v50, v51, v52, v56, v58, v59, v60, v61, v62, v63, v64;
+    address v65, v66, v68, v72;
+    u8 v5, v6, v7, v15, v16, v17, v20, v21, v22, v25, v29, v31, v34, v48, v53, v54;
+    u8 v55, v67, v70, v71, v74, v75, v76, v77, v78, v79, v80;
+    u64 v9, v12, v14, v33, v36, v47, v49, v57, v69, v73;
     u16 v19, v23, v27;
-    struct pair v32, v47;
+    struct pair v32, v46;
     v3 = load_address(a0);
     v4 = a0 + 8u * 1u;
     v5 = load8(v4);
@@ -42663,7 +42637,7 @@ L8:;
     v29 = load8(v28);
     v30 = a1 + 24u * 1u;
     v31 = load8(v30);
-    v32 = portable_rattle_alloc(1632u, 8u);
+    v32 = portable_rattle_alloc(1624u, 8u);
     v33 = v32.m0;
     v34 = (u8)((v33) & UINT64_C(1));
     if (v34) { goto L9; }
@@ -42688,76 +42662,74 @@ L9:;
     v44 = v37 + 24u * 1u;
     store8(v44, v25);
     v45 = v37 + 25u * 1u;
-    v46 = v37 + 1624u * 1u;
     memory_set(v45, 0u, 1599u);
-    store64(v46, UINT64_C(4294967296));
-    v47 = portable_rattle_alloc(16u, 8u);
-    v48 = v47.m0;
-    v49 = (u8)((v48) & UINT64_C(1));
-    if (v49) { goto L10; }
+    v46 = portable_rattle_alloc(16u, 8u);
+    v47 = v46.m0;
+    v48 = (u8)((v47) & UINT64_C(1));
+    if (v48) { goto L10; }
     else { goto L13; }
 L10:;
-    v50 = v47.m1;
-    v51 = (address)v50;
-    store64(v51, 2u);
-    v52 = v51 + 8u * 1u;
-    store64(v52, v36);
-    v53 = load_address(a0);
-    v54 = load8(v4);
-    v55 = (u8)((v54) & UINT64_C(1));
+    v49 = v46.m1;
+    v50 = (address)v49;
+    store64(v50, 2u);
+    v51 = v50 + 8u * 1u;
+    store64(v51, v36);
+    v52 = load_address(a0);
+    v53 = load8(v4);
+    v54 = (u8)((v53) & UINT64_C(1));
     memory_set(a0, 0u, 16u);
-    if (v55) { goto L11; }
+    if (v54) { goto L11; }
     else { goto L12; }
 L11:;
-    v56 = load8(v53);
-    v57 = v53 + 8u * 1u;
-    v58 = load64(v57);
-    portable_rattle_dealloc(v53);
-    v59 = (address)v58;
-    f12(v56, v59);
+    v55 = load8(v52);
+    v56 = v52 + 8u * 1u;
+    v57 = load64(v56);
+    portable_rattle_dealloc(v52);
+    v58 = (address)v57;
+    f12(v55, v58);
     goto L12;
 L12:;
-    store64(a0, v50);
+    store64(a0, v49);
     store8(v4, 1u);
-    v60 = a0 + 9u * 1u;
-    memory_set(v60, 0u, 7u);
+    v59 = a0 + 9u * 1u;
+    memory_set(v59, 0u, 7u);
     v2 = 0u; goto L18;
 L13:;
-    v61 = v37 + 1616u * 1u;
-    v62 = v37 + 1600u * 1u;
-    v63 = v37 + 1592u * 1u;
-    v64 = v37 + 1576u * 1u;
-    v65 = v37 + 80u * 1u;
-    v66 = v37 + 64u * 1u;
-    v67 = v37 + 48u * 1u;
-    v68 = load8(v67);
-    v69 = load_address(v66);
-    v70 = load64(v65);
-    v71 = load8(v64);
-    v72 = load8(v63);
-    v73 = load_address(v62);
-    v74 = load64(v61);
+    v60 = v37 + 1616u * 1u;
+    v61 = v37 + 1600u * 1u;
+    v62 = v37 + 1592u * 1u;
+    v63 = v37 + 1576u * 1u;
+    v64 = v37 + 80u * 1u;
+    v65 = v37 + 64u * 1u;
+    v66 = v37 + 48u * 1u;
+    v67 = load8(v66);
+    v68 = load_address(v65);
+    v69 = load64(v64);
+    v70 = load8(v63);
+    v71 = load8(v62);
+    v72 = load_address(v61);
+    v73 = load64(v60);
     portable_rattle_dealloc(v37);
-    v75 = v68 == 0u;
-    v76 = v70 == 0u;
-    v77 = v75 ? 1u : v76;
-    if (v77) { goto L15; }
+    v74 = v67 == 0u;
+    v75 = v69 == 0u;
+    v76 = v74 ? 1u : v75;
+    if (v76) { goto L15; }
     else { goto L14; }
 L14:;
-    portable_rattle_dealloc(v69);
+    portable_rattle_dealloc(v68);
     goto L15;
 L15:;
-    v78 = v71 == 0u;
-    if (v78) { v2 = 35u; goto L18; }
+    v77 = v70 == 0u;
+    if (v77) { v2 = 35u; goto L18; }
     else { goto L16; }
 L16:;
-    v79 = v72 != 0u;
-    v80 = v74 == 0u;
-    v81 = v79 ? 1u : v80;
-    if (v81) { v2 = 35u; goto L18; }
+    v78 = v71 != 0u;
+    v79 = v73 == 0u;
+    v80 = v78 ? 1u : v79;
+    if (v80) { v2 = 35u; goto L18; }
     else { goto L17; }
 L17:;
-    portable_rattle_dealloc(v73);
+    portable_rattle_dealloc(v72);
     v2 = 35u; goto L18;
 L18:;
     return v2;
@@ -42844,7 +42816,7 @@ L3:;
     memory_set(v43, 0u, 24u);
     v44 = v4 + 136u * 1u;
     store64(v44, UINT64_C(2611923443488327891));
-    v45 = f119(a0, v4);
+    v45 = f121(a0, v4);
     v2 = v45; goto L4;
 L4:;
     return v2;
@@ -42944,7 +42916,7 @@ L6:;
     memory_set(v48, 0u, 24u);
     v49 = v5 + 136u * 1u;
     store64(v49, UINT64_C(2611923443488327891));
-    v50 = f119(a0, v5);
+    v50 = f121(a0, v5);
     v3 = v50; goto L7;
 L7:;
     return v3;
@@ -43230,9 +43202,9 @@ L53:;
     if (v123) { goto L54; }
     else { v20 = v122; goto L53; }
 L54:;
-    f120(v56, a1);
+    f122(v56, a1);
     memory_set(v54, 0u, 24u);
-    f121(v54, v92, v56, v55, a3);
+    f123(v54, v92, v56, v55, a3);
     v124 = load8(v54);
     v125 = v54 + 1u * 1u;
     v126 = load8(v125);
@@ -43272,7 +43244,7 @@ L56:;
     if (v155) { v36 = 0u; v37 = 1u; v38 = 0u; v39 = 0u; v40 = 0u; v41 = 0u; v42 = 0u; v43 = 0u; v44 = 0u; v45 = 0u; v46 = 0u; v47 = 0u; v48 = 0u; goto L64; }
     else { goto L57; }
 L57:;
-    f120(v52, a1);
+    f122(v52, a1);
     memory_set(v51, 0u, 200u);
     v156 = a3 == 0u;
     if (v156) { goto L60; }
@@ -43315,7 +43287,7 @@ L59:;
     else { v34 = v181; goto L59; }
 L60:;
     memory_set(v50, 0u, 24u);
-    f121(v50, v151, v52, v51, a3);
+    f123(v50, v151, v52, v51, a3);
     v183 = load8(v50);
     v184 = v50 + 1u * 1u;
     v185 = load8(v184);
@@ -43348,9 +43320,9 @@ L61:;
     v208 = v53 + 16u * 1u;
     v209 = load64(v208);
     v210 = v150 + 8u * 1u;
-    f121(v53, v210, v52, v51, a3);
+    f123(v53, v210, v52, v51, a3);
     v211 = v150 + 448u * 1u;
-    f121(v53, v211, v52, v51, a3);
+    f123(v53, v211, v52, v51, a3);
     v212 = v150 + 952u * 1u;
     v213 = load8(v212);
     v214 = (u8)((v213) & UINT64_C(1));
@@ -43536,7 +43508,7 @@ L28:;
 L29:;
     v8 = 11u; v9 = 4u; goto L37;
 L30:;
-    f36(v6, v7, v13);
+    f37(v6, v7, v13);
     v34 = load64(v33);
     v11 = v34; goto L43;
 L31:;
@@ -43680,14 +43652,14 @@ L46:;
 }
 
 u64 portable_ptpm_clock_transit(address a0, u16 a1, address a2, u64 a3, address a4, u64 a5) {
-    address v6, v11, v14, v17, v18, v21, v23, v24, v25, v26, v27, v29, v37, v41, v43, v52;
-    address v55, v57, v60, v63, v66, v73, v75, v88, v91, v93, v94, v97;
-    u64 v7, v8, v9, v10, v13, v16, v30, v45, v46, v47, v48, v49, v61, v64, v70, v71;
-    u64 v74, v81, v82, v84, v85, v87, v90, v98, v99;
-    u8 v12, v15, v19, v20, v22, v28, v32, v33, v34, v35, v36, v38, v39, v40, v42, v44;
-    u8 v50, v51, v53, v54, v56, v58, v59, v62, v65, v67, v68, v72, v76, v79, v83, v86;
-    u8 v89, v95, v96, v100;
-    u16 v31, v69, v77, v78, v80, v92;
+    address v6, v11, v14, v17, v18, v21, v23, v24, v25, v26, v27, v29, v38, v42, v44, v53;
+    address v56, v58, v61, v64, v67, v74, v76, v89, v92, v94, v95, v98;
+    u64 v7, v8, v9, v10, v13, v16, v30, v33, v46, v47, v48, v49, v50, v62, v65, v71;
+    u64 v72, v75, v82, v83, v85, v86, v88, v91, v99, v100;
+    u8 v12, v15, v19, v20, v22, v28, v32, v34, v35, v36, v37, v39, v40, v41, v43, v45;
+    u8 v51, v52, v54, v55, v57, v59, v60, v63, v66, v68, v69, v73, v77, v80, v84, v87;
+    u8 v90, v96, v97, v101;
+    u16 v31, v70, v78, v79, v81, v93;
     u64 block0[4];
     v11 = ADDRESS(block0);
     v12 = a2 == 0u;
@@ -43734,85 +43706,86 @@ L6:;
     v30 = load64(v29);
     v31 = (u16)(v30);
     v32 = a1 > v31;
-    v33 = a5 < 15u;
-    v34 = (u8)(((u32)v33 | (u32)v32) & UINT64_C(1));
-    if (v34) { v10 = 0u; goto L32; }
+    v33 = (u64)((u64)v30 & (u64)65535u);
+    v34 = a5 < v33;
+    v35 = (u8)(((u32)v32 | (u32)v34) & UINT64_C(1));
+    if (v35) { v10 = 0u; goto L32; }
     else { goto L7; }
 L7:;
     memory_set(v11, 0u, 32u);
     f8(v11, v14, a3);
-    v35 = load8(v11);
-    v36 = v35 == 1u;
-    if (v36) { goto L8; }
+    v36 = load8(v11);
+    v37 = v36 == 1u;
+    if (v37) { goto L8; }
     else { goto L9; }
 L8:;
-    v37 = v11 + 1u * 1u;
-    v38 = load8(v37);
-    v39 = (u8)((u32)v38 & (u32)252u);
-    v40 = v39 == 4u;
-    if (v40) { goto L10; }
+    v38 = v11 + 1u * 1u;
+    v39 = load8(v38);
+    v40 = (u8)((u32)v39 & (u32)252u);
+    v41 = v40 == 4u;
+    if (v41) { goto L10; }
     else { goto L9; }
 L9:;
     v10 = 0u; goto L32;
 L10:;
-    v41 = v14 + 2u * 1u;
-    v42 = load8(v41);
-    v43 = v14 + 3u * 1u;
-    v44 = load8(v43);
-    v45 = (u64)v42;
-    v46 = (u64)((u64)v45 << (8u & 63u));
-    v47 = (u64)v44;
-    v48 = (u64)((u64)v46 | (u64)v47);
-    v49 = load64(v6);
-    v50 = load8(v14);
-    v51 = v50 < 16u;
-    if (v51) { goto L11; }
+    v42 = v14 + 2u * 1u;
+    v43 = load8(v42);
+    v44 = v14 + 3u * 1u;
+    v45 = load8(v44);
+    v46 = (u64)v43;
+    v47 = (u64)((u64)v46 << (8u & 63u));
+    v48 = (u64)v45;
+    v49 = (u64)((u64)v47 | (u64)v48);
+    v50 = load64(v6);
+    v51 = load8(v14);
+    v52 = v51 < 16u;
+    if (v52) { goto L11; }
     else { v10 = 0u; goto L32; }
 L11:;
-    v52 = v14 + 5u * 1u;
-    v53 = load8(v52);
-    v54 = v53 == 0u;
-    if (v54) { goto L12; }
+    v53 = v14 + 5u * 1u;
+    v54 = load8(v53);
+    v55 = v54 == 0u;
+    if (v55) { goto L12; }
     else { v10 = 0u; goto L32; }
 L12:;
-    v55 = v14 + 4u * 1u;
-    v56 = load8(v55);
-    v57 = v6 + 8u * 1u;
-    v58 = load8(v57);
-    v59 = v56 == v58;
-    if (v59) { goto L13; }
+    v56 = v14 + 4u * 1u;
+    v57 = load8(v56);
+    v58 = v6 + 8u * 1u;
+    v59 = load8(v58);
+    v60 = v57 == v59;
+    if (v60) { goto L13; }
     else { v10 = 0u; goto L32; }
 L13:;
-    v60 = v14 + 20u * 1u;
-    v61 = load64(v60);
-    v62 = v61 == v49;
-    if (v62) { v10 = 0u; goto L32; }
+    v61 = v14 + 20u * 1u;
+    v62 = load64(v61);
+    v63 = v62 == v50;
+    if (v63) { v10 = 0u; goto L32; }
     else { goto L14; }
 L14:;
-    v63 = v14 + 34u * 1u;
-    v64 = load64(v63);
-    v65 = v64 == v49;
-    if (v65) { v10 = 0u; goto L32; }
+    v64 = v14 + 34u * 1u;
+    v65 = load64(v64);
+    v66 = v65 == v50;
+    if (v66) { v10 = 0u; goto L32; }
     else { goto L15; }
 L15:;
-    v66 = v14 + 45u * 1u;
-    v67 = load8(v66);
-    v68 = v67 == 0u;
-    if (v68) { v10 = 0u; goto L32; }
+    v67 = v14 + 45u * 1u;
+    v68 = load8(v67);
+    v69 = v68 == 0u;
+    if (v69) { v10 = 0u; goto L32; }
     else { goto L16; }
 L16:;
-    v69 = (u16)((u32)a1 + (u32)65535u);
-    v70 = load64(v29);
-    v71 = (u64)v69;
-    v72 = v70 > v71;
-    if (v72) { goto L17; }
+    v70 = (u16)((u32)a1 + (u32)65535u);
+    v71 = load64(v29);
+    v72 = (u64)v70;
+    v73 = v71 > v72;
+    if (v73) { goto L17; }
     else { v10 = 0u; goto L32; }
 L17:;
-    v73 = v6 + 240u * 1u;
-    v74 = (u64)((u64)v71 * (u64)24u);
-    v75 = v73 + v74 * 1u;
-    v76 = load8(v75);
-    switch (v76) {
+    v74 = v6 + 240u * 1u;
+    v75 = (u64)((u64)v72 * (u64)24u);
+    v76 = v74 + v75 * 1u;
+    v77 = load8(v76);
+    switch (v77) {
     case 4u: goto L19;
     case 5u: goto L19;
     case 7u: goto L19;
@@ -43827,31 +43800,31 @@ L17:;
 L18:;
     UNREACHABLE;
 L19:;
-    v77 = (u16)(v70);
-    v78 = (u16)((u32)v77 + (u32)1u);
-    v79 = v78 > 1u;
-    if (v79) { goto L20; }
+    v78 = (u16)(v71);
+    v79 = (u16)((u32)v78 + (u32)1u);
+    v80 = v79 > 1u;
+    if (v80) { goto L20; }
     else { v10 = 0u; goto L32; }
 L20:;
-    v80 = (u16)(v48);
-    v81 = (u64)a1;
-    v82 = (u64)v78;
+    v81 = (u16)(v49);
+    v82 = (u64)a1;
+    v83 = (u64)v79;
     v7 = 1u; v8 = 0u; goto L21;
 L21:;
-    v83 = v7 == v81;
-    if (v83) { v9 = v8; goto L31; }
+    v84 = v7 == v82;
+    if (v84) { v9 = v8; goto L31; }
     else { goto L22; }
 L22:;
-    v84 = (u64)((u64)v7 + (u64)UINT64_C(18446744073709551615));
-    v85 = load64(v29);
-    v86 = v85 > v84;
-    if (v86) { goto L23; }
+    v85 = (u64)((u64)v7 + (u64)UINT64_C(18446744073709551615));
+    v86 = load64(v29);
+    v87 = v86 > v85;
+    if (v87) { goto L23; }
     else { v9 = v8; goto L31; }
 L23:;
-    v87 = (u64)((u64)v84 * (u64)24u);
-    v88 = v73 + v87 * 1u;
-    v89 = load8(v88);
-    switch (v89) {
+    v88 = (u64)((u64)v85 * (u64)24u);
+    v89 = v74 + v88 * 1u;
+    v90 = load8(v89);
+    switch (v90) {
     case 4u: goto L25;
     case 5u: goto L25;
     case 7u: goto L25;
@@ -43866,43 +43839,43 @@ L23:;
 L24:;
     UNREACHABLE;
 L25:;
-    v90 = (u64)((u64)v8 * (u64)1476u);
-    v91 = v17 + v90 * 1u;
-    v92 = (u16)(v7);
-    store16(v91, v92);
-    v93 = v91 + 2u * 1u;
-    store16(v93, v80);
-    v94 = v91 + 4u * 1u;
-    switch (v80) {
+    v91 = (u64)((u64)v8 * (u64)1476u);
+    v92 = v17 + v91 * 1u;
+    v93 = (u16)(v7);
+    store16(v92, v93);
+    v94 = v92 + 2u * 1u;
+    store16(v94, v81);
+    v95 = v92 + 4u * 1u;
+    switch (v81) {
     case 54u: goto L26;
     case 56u: goto L27;
     case 80u: goto L28;
     default: goto L29;
     }
 L26:;
-    memory_move(v94, v14, 54u);
+    memory_move(v95, v14, 54u);
     goto L30;
 L27:;
-    memory_move(v94, v14, 56u);
+    memory_move(v95, v14, 56u);
     goto L30;
 L28:;
-    memory_move(v94, v14, 80u);
+    memory_move(v95, v14, 80u);
     goto L30;
 L29:;
-    f39(v94, v14, v48);
+    f40(v95, v14, v49);
     goto L30;
 L30:;
-    v95 = load8(v66);
-    v96 = (u8)((u32)v95 + (u32)255u);
-    v97 = v91 + 49u * 1u;
-    store8(v97, v96);
-    v98 = (u64)((u64)v8 + (u64)1u);
-    v9 = v98; goto L31;
+    v96 = load8(v67);
+    v97 = (u8)((u32)v96 + (u32)255u);
+    v98 = v92 + 49u * 1u;
+    store8(v98, v97);
+    v99 = (u64)((u64)v8 + (u64)1u);
+    v9 = v99; goto L31;
 L31:;
-    v99 = (u64)((u64)v7 + (u64)1u);
-    v100 = v99 == v82;
-    if (v100) { v10 = v9; goto L32; }
-    else { v7 = v99; v8 = v9; goto L21; }
+    v100 = (u64)((u64)v7 + (u64)1u);
+    v101 = v100 == v83;
+    if (v101) { v10 = v9; goto L32; }
+    else { v7 = v100; v8 = v9; goto L21; }
 L32:;
     return v10;
 }
@@ -43934,24 +43907,24 @@ u32 portable_ptpm_clock_set(address a0, u8 a1, u16 a2, u16 a3, address a4, u64 a
     v18 = load8(v17);
     v19 = (u8)((v18) & UINT64_C(1));
     if (v19) { goto L1; }
-    else { v8 = 32u; goto L17; }
+    else { v8 = 32u; goto L19; }
 L1:;
     v20 = load_address(a0);
     v21 = load8(v20);
     switch (v21) {
     case 1u: goto L2;
-    case 4u: goto L9;
-    case 0u: v8 = 32u; goto L17;
-    case 2u: v8 = 32u; goto L17;
-    case 3u: v8 = 32u; goto L17;
-    case 5u: v8 = 32u; goto L17;
-    case 6u: v8 = 32u; goto L17;
-    default: goto L16;
+    case 4u: goto L10;
+    case 0u: v8 = 32u; goto L19;
+    case 2u: v8 = 32u; goto L19;
+    case 3u: v8 = 32u; goto L19;
+    case 5u: v8 = 32u; goto L19;
+    case 6u: v8 = 32u; goto L19;
+    default: goto L18;
     }
 L2:;
     v22 = v20 + 8u * 1u;
     v23 = load_address(v22);
-    f123(v10, v23, a1, a2, a3, v14, a5);
+    f125(v10, v23, a1, a2, a3, v14, a5);
     v24 = load8(v10);
     v25 = v10 + 1u * 1u;
     v26 = load8(v25);
@@ -43966,38 +43939,41 @@ L2:;
 L3:;
     v30 = v10 + 4u * 1u;
     memory_cpy(a6, v30, 12u);
-    v8 = 0u; goto L17;
+    v8 = 0u; goto L19;
 L4:;
     switch (v26) {
-    case 3u: goto L5;
-    case 0u: v8 = 33u; goto L17;
+    case 4u: goto L5;
+    case 0u: v8 = 33u; goto L19;
     case 1u: goto L6;
     case 2u: goto L7;
-    default: goto L8;
+    case 3u: goto L8;
+    default: goto L9;
     }
 L5:;
     v31 = (u64)v28;
     v32 = ADDRESS(c360) + v31 * 2u;
     v33 = load16(v32);
     store16(a7, v33);
-    v8 = 26u; goto L17;
+    v8 = 26u; goto L19;
 L6:;
-    v8 = 40u; goto L17;
+    v8 = 40u; goto L19;
 L7:;
-    v8 = 41u; goto L17;
+    v8 = 41u; goto L19;
 L8:;
-    UNREACHABLE;
+    v8 = 123u; goto L19;
 L9:;
+    UNREACHABLE;
+L10:;
     v34 = v20 + 8u * 1u;
     v35 = load_address(v34);
     memory_set(v9, 0u, 16u);
     v36 = load_address(v35);
-    f123(v9, v36, a1, a2, a3, v14, a5);
+    f125(v9, v36, a1, a2, a3, v14, a5);
     v37 = load8(v9);
     v38 = v37 == 0u;
-    if (v38) { goto L10; }
-    else { goto L11; }
-L10:;
+    if (v38) { goto L11; }
+    else { goto L12; }
+L11:;
     v39 = v9 + 4u * 1u;
     v40 = v35 + 953u * 1u;
     store8(v40, 1u);
@@ -44007,8 +43983,8 @@ L10:;
     memory_cpy(v42, v39, 12u);
     store16(a7, 0u);
     memory_cpy(a6, v42, 12u);
-    v8 = 0u; goto L17;
-L11:;
+    v8 = 0u; goto L19;
+L12:;
     v43 = v9 + 2u * 1u;
     v44 = load8(v43);
     v45 = v9 + 1u * 1u;
@@ -44017,27 +43993,30 @@ L11:;
     store64(v15, 0u);
     store16(a7, 0u);
     switch (v46) {
-    case 3u: goto L12;
-    case 0u: v8 = 33u; goto L17;
-    case 1u: goto L13;
-    case 2u: goto L14;
-    default: goto L15;
+    case 4u: goto L13;
+    case 0u: v8 = 33u; goto L19;
+    case 1u: goto L14;
+    case 2u: goto L15;
+    case 3u: goto L16;
+    default: goto L17;
     }
-L12:;
+L13:;
     v47 = (u64)v44;
     v48 = ADDRESS(c360) + v47 * 2u;
     v49 = load16(v48);
     store16(a7, v49);
-    v8 = 26u; goto L17;
-L13:;
-    v8 = 40u; goto L17;
+    v8 = 26u; goto L19;
 L14:;
-    v8 = 41u; goto L17;
+    v8 = 40u; goto L19;
 L15:;
-    UNREACHABLE;
+    v8 = 41u; goto L19;
 L16:;
-    UNREACHABLE;
+    v8 = 123u; goto L19;
 L17:;
+    UNREACHABLE;
+L18:;
+    UNREACHABLE;
+L19:;
     return v8;
 }
 
@@ -44076,7 +44055,7 @@ L1:;
 L2:;
     v18 = v16 + 8u * 1u;
     v19 = load_address(v18);
-    f124(v8, v19, a1, v12, a3);
+    f126(v8, v19, a1, v12, a3);
     v20 = load8(v8);
     v21 = v20 == 0u;
     if (v21) { goto L3; }
@@ -44109,7 +44088,7 @@ L7:;
 L8:;
     v29 = v16 + 8u * 1u;
     v30 = load_address(v29);
-    f125(v9, v30, a1, v12, a3);
+    f127(v9, v30, a1, v12, a3);
     v31 = load8(v9);
     v32 = v31 == 0u;
     if (v32) { goto L9; }
@@ -44351,7 +44330,7 @@ L6:;
     if (v34) { goto L7; }
     else { goto L16; }
 L7:;
-    f125(v10, v22, a1, v14, a3);
+    f127(v10, v22, a1, v14, a3);
     v35 = load8(v10);
     v36 = v35 == 0u;
     if (v36) { goto L8; }
@@ -44362,7 +44341,7 @@ L8:;
     v39 = v10 + 4u * 1u;
     v40 = load_address(v22);
     memory_set(v9, 0u, 48u);
-    f49(v9, v40, v14, a3);
+    f50(v9, v40, v14, a3);
     v41 = load8(v9);
     v42 = v41 == 1u;
     if (v42) { goto L10; }
