@@ -1,5 +1,5 @@
 -- What an asker's desk does, its session does in the network: move by move, and one after another.
-use Rattle.ptpm_network.proofs.Common.{arith, lt-ltb, by_test, nat_lt, ◌≡◌, ℕ, ◌+◌, ◌<◌, ◌≤◌, ◌==◌, ◌^◌, ◌||◌, ◌&&◌, not, Bool, true, false, if◌then◌else◌, List, [], ◌∷◌, ◌++◌, map, length-append, Option, Some, None, is_some, option_map, option_or, Result, result_err, refl, sym, ◌∙◌, ap, subst, eqb-true, eq-eqb, true≢false, cond-true, cond-false, or_left, or_right, le-leb, leb-true, false_from_ne_true, nat_le, first_of, all_append, all_weaker, AllByRecursion, Contains, Ask, Report, RequestValue, SessionValue, ask_refusal, begin_refusal, begun, count_limit, due_message, is_waiting, number_of, received_of, resumed, retuned, send_refusal, sent, target_port, is_of_port, IsDataField, every_port, Begin, BeginRefused, Deliver, Refusal, Resume, Retune, Send, SendRefused, no_room, no_session, with_place, AtSession, Network, manager, peers, Held, Happened, network_event, nothing_to_resume, sent_posted}
+use Rattle.ptpm_network.proofs.Common.{arith, lt-ltb, by_test, nat_lt, ◌≡◌, ℕ, ◌+◌, ◌<◌, ◌≤◌, ◌==◌, ◌^◌, ◌||◌, ◌&&◌, not, Bool, true, false, if◌then◌else◌, List, [], ◌∷◌, ◌++◌, map, length-append, Option, Some, None, is_some, option_map, option_or, Result, result_err, refl, sym, ◌∙◌, ap, subst, eqb-true, eq-eqb, true≢false, cond-true, cond-false, or_left, or_right, le-leb, leb-true, false_from_ne_true, nat_le, first_of, all_append, all_weaker, AllByRecursion, inl, inr, Contains, Ask, Report, RequestValue, SessionValue, ask_refusal, begin_refusal, begun, count_limit, due_message, is_waiting, number_of, received_of, resumed, retuned, send_refusal, sent, target_port, is_of_port, IsDataField, every_port, Begin, BeginRefused, Deliver, Refusal, Resume, Retune, Send, SendRefused, no_room, no_session, with_place, AtSession, Network, manager, peers, Held, Happened, network_event, nothing_to_resume, sent_posted}
 use Rattle.ptpm_codec.specs.Message.{is_data_field}
 use Rattle.std.proofs.lemmas.List.Elements.{Contains-append_left, Contains-push}
 use Rattle.ptpm_manager.specs.declared.error.BeginError.TheVariants as begin_errors
@@ -15,6 +15,7 @@ use Rattle.ptpm_manager.specs.Session.{fresh, give_up_refusal, given_up, reach_l
 use Rattle.ptpm_network.specs.GivingUp.{IsKeptReport}
 use Rattle.ptpm_network.proofs.Worth.{session-named}
 use Rattle.ptpm_restarts.specs.ActsAsIfNever.{ActsAsIfNever, IsPossibleAct}
+use Rattle.ptpm_restarts.specs.Asked.{Sometime, TellsAt}
 use Rattle.ptpm_restarts.specs.DeskIncidents.{AreStepsOf, CanBegin, CanBeginIt, Comes, DeskStep, Elsewhere, IsUnsent, IsFrameFor, IsHeardReported, IsIgnored, IsKeptReply, IsMirrored, IsNoteReported, IsOfDesk, IsReported, IsSetUpFor, IsStepOf, IsStored, LeavesSaved, Mirrors, Moves, SaveInTime, desk_moves, begins_first, desk_incidents, heard_incidents, incidents_at, moves_at, unbegun, with_unbegun}
 use Rattle.ptpm_restarts.specs.Incidents.{CrashSession, GivesUp, Happens, Incident, SaveSession, after_incidents, comes_in, delivered, incident, lets_go, refused}
 use Rattle.ptpm_restarts.specs.Restarting.{RestartingNetwork, SessionLog, hears, held_frames, initial_restarting, log_told, running, sends, with_log}
@@ -28,7 +29,7 @@ use Rattle.ptpm_restarts.proofs.Worth.{delivers-to}
 use Rattle.ptpm_restarts.proofs.DeskSessions.{answered-like, begins-like, due-like, fresh-like, given_up-like, latest-like, next-mirrored, next-taken, none-unbegun, received-like, rests-like, rests-too, sent-like, setup-of, stored-like, tuned, tuned-there, waits-for, waits-too}
 use Rattle.ptpm_asker.proofs.Allowed.{is_allowed}
 use Rattle.ptpm_asker.specs.Allowed.{Input, Opening, all_moves, begins_driven, desk_of}
-use Rattle.ptpm_asker.specs.Desk.{AreAllowed, Begins, Continues, Crashes, Desk, HasIt, Heard, Hears, IsBegun, IsHeard, IsLetGo, IsTold, LetsGo, Move, Note, Notes, Resumes, Retunes, Returns, Run, Saves, Sends, Starts, TakesBack, heard_after, known_after, moved, moved_by, new_run, reopened}
+use Rattle.ptpm_asker.specs.Desk.{AreAllowed, Begins, Continues, Crashes, Desk, HasIt, Heard, Hears, IsBegun, IsHeard, IsLetGo, IsTold, LetsGo, Move, Note, Notes, Resumes, Retunes, Returns, Run, Saves, Sends, Starts, TakesBack, heard_after, known_after, latest_number, moved, moved_by, new_run, reopened}
 use Rattle.ptpm_manager.specs.Receiving.{left_by}
 
 -- ---- one session of a network
@@ -196,6 +197,25 @@ module _ (N : Network) (s : ℕ) (place : s < N.sessions) (k : RestartingNetwork
       ∙ ap (delivered N j) f.at ∙ ap (comes_in N j f.held) f.end ∙ ap (hears j s) heard
       ∙ ap (λ (y : Stored SessionLog). record (with_log j s (changed y (log_told y.live report))) { told = with_place k.told s (k.told s ++ report ∷ []) }) (at-here x)
       ∙ (λ i. record (at-again x (changed x (log_told x.live report)) i) { told = with_place k.told s (k.told s ++ report ∷ []) })
+
+  first-sometime : (P : RestartingNetwork → Incident → Type 0) (x : Stored SessionLog) (o : Option RequestValue) (rest : List Incident)
+      → CanBeginIt x.live.session o → Sometime N P (at (with_begun x o)) rest
+      → Sometime N P (at x) (begins_first s o ++ rest)
+  first-sometime P x None rest can later = later
+  first-sometime P x (Some q) rest can later = inr (subst (λ (j : RestartingNetwork). Sometime N P j rest) (sym (begins-on x q can)) later)
+
+  told-on : (x : Stored SessionLog) (domain n : ℕ) (datagram : List ℕ) (report : Report) (q : RequestValue)
+      → IsFrameFor s k n datagram → received_of (retuned x.live.session domain) datagram ≡ received.Answered report
+      → x.live.session.unanswered ≡ Some q → report.index ≡ x.live.session.issued
+      → Sometime N (TellsAt N s q report) (at x) (Happens (Retune s domain) ∷ Happens (Deliver n) ∷ [])
+  told-on x domain n datagram report q f is under index =
+      let z : Stored SessionLog = tuned_to domain x in
+      let live : ((at z).session s).live.session ≡ retuned x.live.session domain = ap (λ (y : Stored SessionLog). y.live.session) (at-here z) in
+      inr (inl (subst (λ (j : RestartingNetwork). TellsAt N s q report j (Happens (Deliver n))) (sym (tunes domain x)) (record {
+        under_way = ap (λ (v : SessionValue). v.unanswered) live ∙ under;
+        index_is = index ∙ sym (ap (λ (v : SessionValue). v.issued) live);
+        told = ap (λ (j : RestartingNetwork). j.told s) (delivers-on z n datagram report f is) ∙ here k.told s (k.told s ++ report ∷ []);
+      })))
 
   gives-up-on : (x : Stored SessionLog) → give_up_refusal x.live.session ≡ None
       → incident N (at x) (GivesUp s) ≡ at (changed x (session_with x (given_up x.live.session)))
@@ -388,7 +408,14 @@ module _ (own : Setup) (told : List Report) where
 
 -- ---- one step
 
-record Done (N : Network) (s : ℕ) (d : Desk) (k : RestartingNetwork) (x : DeskStep) : Type 0 where
+-- the request that this outcome is reported of, under this number
+pub record Tells (N : Network) (s : ℕ) (k : RestartingNetwork) (is : List Incident) (q : RequestValue) (number : ℕ) (outcome : Outcome) : Type 0 where
+  pub report : Report
+  pub told : Sometime N (TellsAt N s q report) k is
+  pub says : report.outcome ≡ outcome
+  pub of_number : number_of (N.session s).setup.first report.index ≡ number
+
+pub record Done (N : Network) (s : ℕ) (d : Desk) (k : RestartingNetwork) (x : DeskStep) : Type 0 where
   pub mirrors : Mirrors N s (moved_by d (moves_at x)) (after_incidents N k (incidents_at s d k x))
   pub saved : LeavesSaved N s d k x (after_incidents N k (incidents_at s d k x))
   pub possible : AllByRecursion IsPossibleAct (incidents_at s d k x)
@@ -476,12 +503,30 @@ module _ (N : Network) (s : ℕ) (place : s < N.sessions) (d : Desk) (k : Restar
       (subst (IsOfDesk own (hearing own (k.told s) d x h (received.Answered report)) y) (sym (here k.told s (k.told s ++ answer ∷ [])))
       (hears-desk own (k.told s) d x h datagram report answer e refl)))
 
+  pub comes-told : (n : ℕ) (datagram : List ℕ) (report : Report) (q : RequestValue) → received_of d.live datagram ≡ received.Answered report
+      → IsFrameFor s k n datagram → d.live.unanswered ≡ Some q
+      → Tells N s k (incidents_at s d k (Comes n datagram)) q (latest_number d.live) report.outcome
+  comes-told n datagram report q e f under =
+      let answer : Report = record { index = value_of.issued; outcome = report.outcome } in
+      let P : RestartingNetwork → Incident → Type 0 = TellsAt N s q answer in
+      record {
+        report = answer;
+        told = subst (λ (y : Received). Sometime N P k (heard_incidents s d x.live.session n y)) (sym e)
+            (subst (λ (j : RestartingNetwork). Sometime N P j (heard_incidents s d x.live.session n (received.Answered report))) (at-own N s place k)
+            (first-sometime N s place k P x o (Happens (Retune s d.live.domain) ∷ Happens (Deliver n) ∷ []) h.live.can_begin
+            (told-on N s place k (with_begun x o) d.live.domain n datagram answer q f
+            (received-like own d.live x.live.session o d.live.domain h.live datagram report e) (sym h.live.like.request ∙ under) refl)));
+        says = refl;
+        of_number = ap (λ (setup : Setup). number_of setup.first value_of.issued) (sym (setup-of x.live.session o ∙ h.live.set_up))
+            ∙ sym (latest-like own d.live x.live.session o d.live.domain h.live (waits-for own d.live x.live.session o d.live.domain h.live datagram report e));
+      }
+
   possible-comes : (n : ℕ) (y : Received) → AllByRecursion IsPossibleAct (heard_incidents s d x.live.session n y)
   possible-comes n (received.Ignored reason) = tt
   possible-comes n (received.Answered report) =
       possible-first s x.live.session o (Happens (Retune s d.live.domain) ∷ Happens (Deliver n) ∷ []) h.live.can_begin (tt, (tt, tt))
 
-  one-done : (w : DeskStep) → AreAllowed d (moves_at w) → IsStepOf N s d k w → Done N s d k w
+  pub one-done : (w : DeskStep) → AreAllowed d (moves_at w) → IsStepOf N s d k w → Done N s d k w
   one-done (Moves (Begins tag q)) a p = record { mirrors = begins-desk own (k.told s) d x h tag q a.0.0 p.0 p.1 p.2; saved = tt; possible = tt }
   one-done (Moves Saves) a p = record {
     mirrors = is-of-desk N s place k own (moved d Saves) (SaveSession s ∷ []) (saved x) refl (saves-desk own (k.told s) d x h);
@@ -535,11 +580,11 @@ module _ (N : Network) (s : ℕ) (place : s < N.sessions) (d : Desk) (k : Restar
 
 -- ---- one after another
 
-moved-append : (d : Desk) (ms ns : List Move) → moved_by d (ms ++ ns) ≡ moved_by (moved_by d ms) ns
+pub moved-append : (d : Desk) (ms ns : List Move) → moved_by d (ms ++ ns) ≡ moved_by (moved_by d ms) ns
 moved-append d [] ns = refl
 moved-append d (m ∷ ms) ns = moved-append (moved d m) ms ns
 
-allowed-parts : (d : Desk) (ms ns : List Move) → AreAllowed d (ms ++ ns) → AreAllowed d ms × AreAllowed (moved_by d ms) ns
+pub allowed-parts : (d : Desk) (ms ns : List Move) → AreAllowed d (ms ++ ns) → AreAllowed d ms × AreAllowed (moved_by d ms) ns
 allowed-parts d [] ns a = (tt, a)
 allowed-parts d (m ∷ ms) ns a = let parts = allowed-parts (moved d m) ms ns a.1 in ((a.0, parts.0), parts.1)
 

@@ -12,6 +12,7 @@ pub mod Again
 pub mod Undone
 pub mod Laws
 pub mod Acting
+pub mod Asking
 pub mod ActRuns
 pub mod HostsLowering
 pub mod LoweringBeside

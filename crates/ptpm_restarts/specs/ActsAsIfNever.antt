@@ -1,9 +1,11 @@
 -- What restarts change where sessions also give up and hosts observe their clocks: still nothing but which messages come. The network
 -- is as one that never crashed and went through some of the same acts, in the same order. So each manager may rely there on what
 -- `IsServedInOrder` says, and what was reported to it here is what was kept there for its request.
-use Rattle.std.specs.Prelude.{◌≡◌, ℕ, ◌<◌, List, [], ◌∷◌, Option, Some, option_and_then}
+use Rattle.std.specs.Prelude.{◌≡◌, ℕ, ◌+◌, ◌-◌, ◌<◌, List, [], ◌∷◌, Option, Some, slice_get, option_and_then}
 use Rattle.std.specs.List.{AllByRecursion, Contains}
 use Rattle.ptpm_data.specs.ObservationLaws.{IsSizedObservation}
+use Rattle.ptpm_data.specs.Request.{RequestValue}
+use Rattle.ptpm_manager.specs.declared.report.Report.{Report}
 use Rattle.ptpm_network.specs.ByManager.{Account}
 use Rattle.ptpm_network.specs.Events.{IsInRange}
 use Rattle.ptpm_network.specs.GivingUp as acts
@@ -11,6 +13,7 @@ use Rattle.ptpm_network.specs.GivingUp.{Act, HasHistory, IsKeptReport, network_a
 use Rattle.ptpm_network.specs.Network.{IsNetwork, Network, manager}
 use Rattle.ptpm_network.specs.RunningNetwork.{Held, RunningNetwork, initial_network}
 use Rattle.ptpm_restarts.specs.AsIfNever.{AreTimely, IsSame}
+use Rattle.ptpm_restarts.specs.Asked.{BeginsAt, Sometime, TellsAt}
 use Rattle.ptpm_restarts.specs.Incidents.{GivesUp, Happens, Incident, Observes}
 use Rattle.ptpm_restarts.specs.Restarting.{RestartingNetwork, held_frames, initial_restarting, running}
 
@@ -67,3 +70,9 @@ pub record ActsAsIfNever (N : Network) (is : List Incident) (k : RestartingNetwo
   -- What is reported there was reported here, once or more. Whatever was reported here is the reply that was given there.
   pub reported : (s : ℕ) → AllByRecursion (Contains (k.told s)) (network.reports s)
   pub kept : (s : ℕ) → s < N.sessions → AllByRecursion (IsKeptReport (manager N s) (account s).accepted) (k.told s)
+  -- Each request that was begun there was begun here, under the same index. Whatever was reported here is to the request that was under
+  -- way here. It is the one that was begun there under the report's index.
+  pub begun : (s j : ℕ) (q : RequestValue) → s < N.sessions → slice_get (account s).begun j ≡ Some q
+      → Sometime N (BeginsAt N s q (j + 1)) (initial_restarting N) is
+  pub asked : (s : ℕ) (q : RequestValue) (report : Report) → s < N.sessions → Sometime N (TellsAt N s q report) (initial_restarting N) is
+      → Contains (k.told s) report × (slice_get (account s).begun (report.index - 1) ≡ Some q)

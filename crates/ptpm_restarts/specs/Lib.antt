@@ -2,6 +2,7 @@ pub mod Storage
 pub mod Restarting
 pub mod Incidents
 pub mod AsIfNever
+pub mod Asked
 pub mod GoingOn
 pub mod ActsAsIfNever
 pub mod HostsLowering
