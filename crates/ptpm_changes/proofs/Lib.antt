@@ -1,0 +1,4 @@
+pub mod Rising
+pub mod Told
+pub mod Carried
+pub mod Ordered

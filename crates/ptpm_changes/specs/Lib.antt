@@ -1,0 +1,3 @@
+pub mod CarriedOut
+pub mod Lane
+pub mod Change

@@ -1,0 +1,7 @@
+//! A change of several clocks in a network whose clocks and sessions save, and crash at any moment: what its journal says, and what the
+//! clocks carried out. It has only definitions and laws.
+#![tactic(auto)]
+
+mod laws;
+
+pub use laws::{carried_out_in_order, told_is_carried_out};
