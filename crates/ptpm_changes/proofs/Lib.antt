@@ -2,3 +2,4 @@ pub mod Rising
 pub mod Told
 pub mod Carried
 pub mod Ordered
+pub mod Only

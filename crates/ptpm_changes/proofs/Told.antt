@@ -299,7 +299,7 @@ module _ (steps : ℕ → RequestValue) (T : RequestValue → ℕ → Outcome �
 
 -- ---- one step of the desk, and all
 
-noted-parts : (steps : ℕ → RequestValue) (d : Desk) (w : Watch) (ms ns : List Move) → AreNotedSo steps d w (ms ++ ns)
+pub noted-parts : (steps : ℕ → RequestValue) (d : Desk) (w : Watch) (ms ns : List Move) → AreNotedSo steps d w (ms ++ ns)
     → AreNotedSo steps d w ms × AreNotedSo steps (moved_by d ms) (watched_by d w ms) ns
 noted-parts steps d w [] ns a = (tt, a)
 noted-parts steps d w (m ∷ ms) ns a =

@@ -1,14 +1,17 @@
 //! What a journal says is so. Each law is the contract of a function that does nothing, and speaks only of the definitions.
 
-ghost use Rattle.std.specs.Prelude.{◌≡◌, ◌⊎◌, ℕ, List, true};
+ghost use Rattle.std.specs.Prelude.{◌≡◌, ◌⊎◌, ℕ, List, Some, true};
 ghost use Rattle.std.specs.List.{Contains};
+ghost use Rattle.ptpm_codec.specs.SequenceNumber.{number_of};
 ghost use Rattle.ptpm_data.specs.Request.{RequestValue};
+ghost use Rattle.ptpm_agent.specs.Once.{Accepted, kept_reply};
 ghost use Rattle.ptpm_manager.specs.declared.report.Outcome.{Outcome};
-ghost use Rattle.ptpm_network.specs.Network.{Network};
+ghost use Rattle.ptpm_network.specs.Network.{Network, manager};
 ghost use Rattle.ptpm_asker.specs.Desk.{IsTold};
 ghost use Rattle.ptpm_asker.specs.Question.{is_question};
 ghost use Rattle.ptpm_journal.specs.declared.record.Note.{Note};
 ghost use Rattle.ptpm_journal.specs.declared.record.Step.{Step};
+ghost use Rattle.ptpm_apply.specs.Steps.{IsNoted};
 ghost use Rattle.ptpm_apply.specs.Watching.{Sent};
 ghost use Rattle.ptpm_restarts.specs.ActsAsIfNever.{ActsAsIfNever};
 ghost use Rattle.ptpm_restarts.specs.Incidents.{Incident};
@@ -31,6 +34,15 @@ pub fn told_is_carried_out()
         (k : RestartingNetwork) (a : ActsAsIfNever N is k) (tag number : ℕ) (outcome : Outcome) →
         IsLane N s steps is l → Contains (notes_of l) (IsTold tag number outcome) →
         IsCarriedOut N s (a.account s) (steps tag) number outcome }
+{}
+
+/// Nothing else is carried out. Each request of the session that its clock carried out is a question, or a step that is noted as begun
+/// under its number.
+pub fn only_steps_are_carried_out()
+    ensures { (N : Network) (s : ℕ) (steps : ℕ → RequestValue) (is : List Incident) (l : Lane)
+        (k : RestartingNetwork) (a : ActsAsIfNever N is k) (index : ℕ) (entry : Accepted) →
+        IsLane N s steps is l → kept_reply (manager N s) index (a.account s).accepted ≡ Some entry →
+        IsNoted steps (notes_of l) (record { number = number_of (N.session s).setup.first index; request = entry.request }) }
 {}
 
 /// Steps are carried out in their order, at one clock and over several. At any moment let a message have left. It is a question, or has

@@ -4,4 +4,4 @@
 
 mod laws;
 
-pub use laws::{carried_out_in_order, told_is_carried_out};
+pub use laws::{carried_out_in_order, only_steps_are_carried_out, told_is_carried_out};

@@ -15,9 +15,10 @@ use Rattle.ptpm_manager.specs.Session.{fresh, give_up_refusal, given_up, reach_l
 use Rattle.ptpm_network.specs.GivingUp.{IsKeptReport}
 use Rattle.ptpm_network.proofs.Worth.{session-named}
 use Rattle.ptpm_restarts.specs.ActsAsIfNever.{ActsAsIfNever, IsPossibleAct}
-use Rattle.ptpm_restarts.specs.Asked.{Sometime, TellsAt}
-use Rattle.ptpm_restarts.specs.DeskIncidents.{AreStepsOf, CanBegin, CanBeginIt, Comes, DeskStep, Elsewhere, IsUnsent, IsFrameFor, IsHeardReported, IsIgnored, IsKeptReply, IsMirrored, IsNoteReported, IsOfDesk, IsReported, IsSetUpFor, IsStepOf, IsStored, LeavesSaved, Mirrors, Moves, SaveInTime, desk_moves, begins_first, desk_incidents, heard_incidents, incidents_at, moves_at, unbegun, with_unbegun}
+use Rattle.ptpm_restarts.specs.Asked.{BeginsAt, Sometime, TellsAt}
+use Rattle.ptpm_restarts.specs.DeskIncidents.{AreStepsOf, CanBegin, CanBeginIt, Comes, DeskStep, Elsewhere, IsUnsent, IsFrameFor, IsHeardReported, IsIgnored, IsKeptReply, IsMirrored, IsMirroredBut, IsNoteReported, IsOfDesk, IsReported, IsSetUpFor, IsStepOf, IsStored, LeavesSaved, Mirrors, Moves, SaveInTime, desk_moves, begins_first, desk_incidents, heard_incidents, incidents_at, moves_at, unbegun, with_unbegun}
 use Rattle.ptpm_restarts.specs.Incidents.{CrashSession, GivesUp, Happens, Incident, SaveSession, after_incidents, comes_in, delivered, incident, lets_go, refused}
+use Rattle.ptpm_restarts.specs.Restarting as restarting
 use Rattle.ptpm_restarts.specs.Restarting.{RestartingNetwork, SessionLog, hears, held_frames, initial_restarting, log_told, running, sends, with_log}
 use Rattle.ptpm_restarts.specs.Storage.{Stored, changed, noted, restored, saved, saved_as}
 use Rattle.ptpm_restarts.proofs.Again.{after-append}
@@ -520,6 +521,85 @@ module _ (N : Network) (s : ℕ) (place : s < N.sessions) (d : Desk) (k : Restar
         of_number = ap (λ (setup : Setup). number_of setup.first value_of.issued) (sym (setup-of x.live.session o ∙ h.live.set_up))
             ∙ sym (latest-like own d.live x.live.session o d.live.domain h.live (waits-for own d.live x.live.session o d.live.domain h.live datagram report e));
       }
+
+  -- ---- what is begun
+
+  abbrev Begun : RequestValue → ℕ → Type 0
+  Begun q index = (d.live.unanswered ≡ Some q) × (number_of own.first index ≡ latest_number d.live)
+
+  abbrev BeginsIt : RequestValue → ℕ → RestartingNetwork → Incident → Type 0
+  BeginsIt q index = BeginsAt N s q index
+
+  -- no request is begun by these
+  abbrev BeginsNone : List Incident → Type 0
+  BeginsNone is = (q : RequestValue) (index : ℕ) (j : RestartingNetwork) → Sometime N (BeginsIt q index) j is → ⊥
+
+  begins-it : (p q : RequestValue) (index : ℕ) → IsMirroredBut own d.live x.live.session (Some p)
+      → BeginsAt N s q index k (Happens (Begin s (ask_of p.action p.id (Some p.port) p.octets)))
+      → Begun q index
+  begins-it p q index m at =
+      let asks : ask_of p.action p.id (Some p.port) p.octets ≡ at.ask = (let e = at.is in cc) in
+      let same : p ≡ q = sym (asked-again x.live.session.setup.ports p m.can_begin.request) ∙ ap request_of asks ∙ at.request_is in
+      (m.like.request ∙ ap (λ (r : RequestValue). Some r) same,
+      ap (λ (i : ℕ). number_of own.first i) at.index_is
+      ∙ ap (λ (setup : Setup). number_of setup.first (x.live.session.issued + 1)) (sym m.set_up)
+      ∙ sym (latest-like own d.live x.live.session (Some p) d.live.domain m (ap (λ (r : Option RequestValue). is_some r) m.like.request)))
+
+  begins-first : (p : Option RequestValue) (rest : List Incident) (q : RequestValue) (index : ℕ) → IsMirroredBut own d.live x.live.session p
+      → BeginsNone rest → Sometime N (BeginsIt q index) k (begins_first s p ++ rest)
+      → Begun q index
+  begins-first None rest q index m none z = absurd (none q index k z)
+  begins-first (Some p) rest q index m none (inl at) = begins-it p q index m at
+  begins-first (Some p) rest q index m none (inr later) = absurd (none q index _ later)
+
+  not-begin : (i : Incident) → ((ask : Ask) → i ≡ Happens (Begin s ask) → ⊥) → (is : List Incident) → BeginsNone is → BeginsNone (i ∷ is)
+  not-begin i not is none q index j (inl at) = not at.ask at.is
+  not-begin i not is none q index j (inr later) = none q index (incident N j i) later
+
+  begins-nothing : BeginsNone []
+  begins-nothing q index j z = z
+
+  elsewhere-begins : (i : Incident) (q : RequestValue) (index : ℕ) → (incident N k i).session s ≡ k.session s → BeginsAt N s q index k i → ⊥
+  elsewhere-begins i q index stays at =
+      let next : RestartingNetwork = restarting.begins k s (begun x.live.session (request_of at.ask)) in
+      let is : incident N k i ≡ next = ap (incident N k) at.is ∙ unless-none (refused N k (Begin s at.ask)) k next at.taken in
+      let more : (next.session s).live.session.issued ≡ x.live.session.issued + 1 =
+      ap (λ (y : Stored SessionLog). y.live.session.issued) (here k.session s (changed x (session_with x (begun x.live.session (request_of at.ask))))) in
+      let same : (next.session s).live.session.issued ≡ x.live.session.issued =
+      ap (λ (j : RestartingNetwork). (j.session s).live.session.issued) (sym is) ∙ ap (λ (y : Stored SessionLog). y.live.session.issued) stays in
+      omega arith
+
+  begins-heard : (n : ℕ) (y : Received) (q : RequestValue) (index : ℕ) → Sometime N (BeginsIt q index) k (heard_incidents s d x.live.session n y) → Begun q index
+  begins-heard n (received.Ignored reason) q index z = absurd z
+  begins-heard n (received.Answered report) q index z =
+      begins-first o (Happens (Retune s d.live.domain) ∷ Happens (Deliver n) ∷ []) q index h.live
+      (not-begin (Happens (Retune s d.live.domain)) (λ ask e. cc) (Happens (Deliver n) ∷ []) (not-begin (Happens (Deliver n)) (λ ask e. cc) [] begins-nothing)) z
+
+  -- what its session begins by a step of the desk is what the desk has under way, under the same number
+  pub begins-of : (w : DeskStep) (q : RequestValue) (index : ℕ) → IsStepOf N s d k w → Sometime N (BeginsAt N s q index) k (incidents_at s d k w)
+      → (d.live.unanswered ≡ Some q) × (number_of own.first index ≡ latest_number d.live)
+  begins-of (Moves Sends) q index step z =
+      begins-first o (SaveSession s ∷ Happens (Retune s d.live.domain) ∷ Happens (Resume s 1) ∷ Happens (Send s) ∷ []) q index h.live
+      (not-begin (SaveSession s) (λ ask e. cc) (Happens (Retune s d.live.domain) ∷ Happens (Resume s 1) ∷ Happens (Send s) ∷ [])
+      (not-begin (Happens (Retune s d.live.domain)) (λ ask e. cc) (Happens (Resume s 1) ∷ Happens (Send s) ∷ [])
+      (not-begin (Happens (Resume s 1)) (λ ask e. cc) (Happens (Send s) ∷ []) (not-begin (Happens (Send s)) (λ ask e. cc) [] begins-nothing)))) z
+  begins-of (Moves LetsGo) q index step z =
+      begins-first o (GivesUp s ∷ []) q index h.live (not-begin (GivesUp s) (λ ask e. cc) [] begins-nothing) z
+  begins-of (Moves Saves) q index step z = absurd (not-begin (SaveSession s) (λ ask e. cc) [] begins-nothing q index k z)
+  begins-of (Moves Crashes) q index step z = absurd (not-begin (CrashSession s) (λ ask e. cc) [] begins-nothing q index k z)
+  begins-of (Moves (Begins tag request)) q index step z = absurd z
+  begins-of (Moves (Hears datagram)) q index step z = absurd z
+  begins-of (Moves (Notes note)) q index step z = absurd z
+  begins-of (Moves (Resumes attempts)) q index step z = absurd z
+  begins-of (Moves (Retunes domain)) q index step z = absurd z
+  begins-of (Moves Returns) q index step z = absurd z
+  begins-of (Moves (Starts setup domain)) q index step z = absurd z
+  begins-of (Moves (Continues setup)) q index step z = absurd z
+  begins-of (Moves (TakesBack setup)) q index step z = absurd z
+  begins-of (Comes n datagram) q index step z = begins-heard n (received_of d.live datagram) q index z
+  begins-of IsUnsent q index step z = absurd z
+  begins-of (Elsewhere i) q index step (inl at) = absurd (elsewhere-begins i q index step.session at)
+  begins-of (Elsewhere i) q index step (inr later) = absurd later
 
   possible-comes : (n : ℕ) (y : Received) → AllByRecursion IsPossibleAct (heard_incidents s d x.live.session n y)
   possible-comes n (received.Ignored reason) = tt
