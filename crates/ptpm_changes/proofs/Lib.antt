@@ -3,3 +3,4 @@ pub mod Told
 pub mod Carried
 pub mod Ordered
 pub mod Only
+pub mod Resumed

@@ -1,3 +1,4 @@
 pub mod CarriedOut
 pub mod Lane
 pub mod Change
+pub mod Resume

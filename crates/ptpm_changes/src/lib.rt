@@ -3,5 +3,7 @@
 #![tactic(auto)]
 
 mod laws;
+mod resuming;
 
 pub use laws::{carried_out_in_order, only_steps_are_carried_out, told_is_carried_out};
+pub use resuming::resume_can_end;

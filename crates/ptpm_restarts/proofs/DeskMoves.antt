@@ -436,7 +436,7 @@ module _ (N : Network) (s : ℕ) (place : s < N.sessions) (d : Desk) (k : Restar
   abbrev o : Option RequestValue
   o = unbegun d.live x.live.session
 
-  abbrev value_of : SessionValue
+  abbrev pub value_of : SessionValue
   value_of = with_unbegun x.live.session o
 
   sends-done : is_waiting d.live ≡ true → HasIt d.file d.live → no_room (held_frames k) ≡ None → Done N s d k (Moves Sends)
@@ -465,6 +465,30 @@ module _ (N : Network) (s : ℕ) (place : s < N.sessions) (d : Desk) (k : Restar
         };
         possible = possible-first s x.live.session o (SaveSession s ∷ Happens (Retune s d.live.domain) ∷ tail) h.live.can_begin (tt, (tt, (tt, (tt, tt))));
       }
+
+  -- before its first message leaves
+  pub ready : is_waiting d.live ≡ true
+      → (after_incidents N k (begins_first s o ++ SaveSession s ∷ Happens (Retune s d.live.domain) ∷ Happens (Resume s 1) ∷ [])).session s
+      ≡ saved_as (session_with x (resumed (retuned value_of d.live.domain) 1))
+  ready waits =
+      let X : Stored SessionLog = with_begun x o in
+      let y : Stored SessionLog = saved_as (session_with x (resumed (retuned value_of d.live.domain) 1)) in
+      let waiting : is_waiting value_of ≡ true = waits-too own d.live x.live.session o h.live waits in
+      let tail : List Incident = Happens (Resume s 1) ∷ [] in
+      let is : after_incidents N k (begins_first s o ++ SaveSession s ∷ Happens (Retune s d.live.domain) ∷ tail) ≡ with_log k s y =
+      from-own N s place k (begins_first s o ++ SaveSession s ∷ Happens (Retune s d.live.domain) ∷ tail)
+      ∙ first-on N s place k x o (SaveSession s ∷ Happens (Retune s d.live.domain) ∷ tail) h.live.can_begin
+      ∙ ap (λ (j : RestartingNetwork). after_incidents N j (Happens (Retune s d.live.domain) ∷ tail)) (becomes N s place k saved X)
+      ∙ ap (λ (j : RestartingNetwork). after_incidents N j tail) (tunes N s place k d.live.domain (saved X))
+      ∙ tries N s place k (tuned_to d.live.domain (saved X)) waiting in
+      ap (λ (j : RestartingNetwork). j.session s) is ∙ at-here N s place k y
+
+  pub ready-request : is_waiting d.live ≡ true → (value_of.unanswered ≡ d.live.unanswered)
+      × (number_of own.first value_of.issued ≡ latest_number d.live) × (is_waiting value_of ≡ true)
+  ready-request waits = (sym h.live.like.request,
+      ap (λ (setup : Setup). number_of setup.first value_of.issued) (sym (setup-of x.live.session o ∙ h.live.set_up))
+      ∙ sym (latest-like own d.live x.live.session o d.live.domain h.live waits),
+      waits-too own d.live x.live.session o h.live waits)
 
   lets-go-done : x.live.session.issued + 1 < x.live.session.reported + reach_limit → Done N s d k (Moves LetsGo)
   lets-go-done near = record {
