@@ -1,14 +1,11 @@
 -- What is noted as the answer to a step was carried out, and what precedes a step before any message of it left.
-use Rattle.ptpm_network.proofs.Common.{arith, ◌≡◌, ◌⊎◌, inl, inr, ℕ, ◌+◌, ◌-◌, ◌<◌, ◌==◌, Bool, true, false, if◌then◌else◌, by_test, List, [], ◌∷◌, Option, Some, None, refl, sym, ◌∙◌, ap, subst, cond-true, cond-false, eqb-true, AllByRecursion, Contains, Accepted, Report, RequestValue, kept_reply, outcome_in, slice_get, same_Some, Network, manager}
+use Rattle.ptpm_network.proofs.Common.{◌≡◌, ℕ, List, [], ◌∷◌, Option, Some, None, refl, sym, ◌∙◌, ap, subst, AllByRecursion, Contains, Accepted, Report, RequestValue, kept_reply, outcome_in, same_Some, Network, manager}
 use Rattle.ptpm_data.specs.Reply.{Answer, ReplyValue}
 use Rattle.ptpm_table.specs.Rendering.{answer_body}
 use Rattle.ptpm_manager.specs.declared.report.Outcome.{Outcome}
-use Rattle.ptpm_network.specs.ByManager.{Account}
 use Rattle.ptpm_network.specs.GivingUp.{IsKeptReport}
 use Rattle.ptpm_network.specs.State.{reports_by, reports_of}
-use Rattle.ptpm_asker.specs.Desk.{Begins, Continues, Crashes, Desk, Hears, IsBegun, IsTold, LetsGo, Move, Note, Notes, Resumes, Retunes, Returns, Saves, Sends, Starts, TakesBack, moved}
-use Rattle.ptpm_asker.specs.Question.{is_question}
-use Rattle.ptpm_apply.specs.Resuming.{desk_after, opened_desk}
+use Rattle.ptpm_asker.specs.Desk.{Begins, Continues, Crashes, Desk, Hears, IsTold, LetsGo, Move, Notes, Resumes, Retunes, Returns, Saves, Sends, Starts, TakesBack, moved}
 use Rattle.ptpm_apply.specs.Steps.{IsAsked, IsNoted}
 use Rattle.ptpm_apply.specs.Watching.{Sent, Watch, nothing_seen, watched}
 use Rattle.ptpm_apply.proofs.InTurn.{begun_before}

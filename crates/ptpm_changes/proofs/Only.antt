@@ -1,5 +1,5 @@
 -- Nothing is carried out for a session of the change but questions and steps that are noted as begun.
-use Rattle.ptpm_network.proofs.Common.{arith, ◌≡◌, ◌⊎◌, inl, inr, ℕ, ◌+◌, ◌-◌, ◌<◌, true, List, [], ◌∷◌, ◌++◌, Option, Some, None, refl, sym, ◌∙◌, ap, subst, Accepted, RequestValue, SessionValue, kept_reply, number_of, slice_get, Network, manager}
+use Rattle.ptpm_network.proofs.Common.{arith, ◌≡◌, ◌⊎◌, inl, inr, ℕ, ◌+◌, ◌-◌, ◌<◌, true, List, [], ◌∷◌, Option, Some, None, refl, sym, subst, Accepted, RequestValue, SessionValue, kept_reply, number_of, Network, manager}
 use Rattle.std.specs.List.{Contains}
 use Rattle.std.proofs.lemmas.List.Elements.{Contains-append_right}
 use Rattle.ptpm_manager.specs.declared.receiving.Received.{Received}
@@ -7,11 +7,11 @@ use Rattle.ptpm_manager.specs.declared.receiving.Received.TheVariants as receive
 use Rattle.ptpm_manager.specs.Receiving.{left_by, received_of}
 use Rattle.ptpm_asker.specs.Desk.{AreAllowed, Begins, Continues, Crashes, Desk, Hears, IsAllowed, IsBegun, IsFree, IsFreeOf, IsKnownNew, IsLetGo, IsTold, LetsGo, Move, Note, Notes, Resumes, Retunes, Returns, Saves, SaysBegun, Sends, Starts, TakesBack, latest_number, moved, moved_by, next_number, reopened}
 use Rattle.ptpm_asker.specs.Question.{is_question}
-use Rattle.ptpm_apply.specs.Steps.{IsAsked, IsNoted}
+use Rattle.ptpm_apply.specs.Steps.{IsNoted}
 use Rattle.ptpm_apply.specs.Watching.{Sent, Watch, nothing_seen, watched, watched_by}
 use Rattle.ptpm_restarts.specs.ActsAsIfNever.{ActsAsIfNever}
 use Rattle.ptpm_restarts.specs.Asked.{BeginsAt, Sometime}
-use Rattle.ptpm_restarts.specs.DeskIncidents.{AreStepsOf, Comes, DeskStep, Elsewhere, IsStepOf, IsUnsent, Mirrors, Moves, desk_incidents, desk_moves, incidents_at, moves_at}
+use Rattle.ptpm_restarts.specs.DeskIncidents.{AreStepsOf, DeskStep, Mirrors, desk_incidents, desk_moves, incidents_at, moves_at}
 use Rattle.ptpm_restarts.specs.Incidents.{Incident, after_incidents}
 use Rattle.ptpm_restarts.specs.Restarting.{RestartingNetwork, initial_restarting}
 use Rattle.ptpm_restarts.proofs.ActRuns.{served-among-acts}

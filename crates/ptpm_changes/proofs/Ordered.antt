@@ -1,10 +1,9 @@
 -- What precedes a step is done before a message of it leaves.
-use Rattle.ptpm_network.proofs.Common.{◌≡◌, ◌⊎◌, inl, inr, ℕ, ◌==◌, true, false, if◌then◌else◌, by_test, List, [], ◌∷◌, refl, sym, ◌∙◌, ap, subst, cond-true, cond-false, eqb-true, Contains, RequestValue, Network}
+use Rattle.ptpm_network.proofs.Common.{◌≡◌, ◌⊎◌, inl, inr, ℕ, ◌==◌, true, by_test, List, [], ◌∷◌, sym, ◌∙◌, ap, subst, cond-true, cond-false, eqb-true, Contains, RequestValue, Network}
 use Rattle.ptpm_asker.specs.Question.{is_question}
 use Rattle.ptpm_apply.specs.Steps.{IsNoted}
 use Rattle.ptpm_apply.specs.Watching.{Sent}
 use Rattle.ptpm_journal.specs.declared.record.Step.{Step}
-use Rattle.ptpm_journal.specs.declared.record.Mark.{Mark}
 use Rattle.ptpm_journal.specs.declared.record.Mark.TheVariants as marks
 use Rattle.ptpm_journal.specs.declared.record.Note.{Note}
 use Rattle.ptpm_journal.specs.declared.record.Note.TheVariants as notes
@@ -16,7 +15,7 @@ use Rattle.ptpm_restarts.specs.ActsAsIfNever.{ActsAsIfNever}
 use Rattle.ptpm_restarts.specs.Incidents.{Incident}
 use Rattle.ptpm_restarts.specs.Restarting.{RestartingNetwork}
 use Rattle.ptpm_changes.specs.CarriedOut.{IsCarriedOut}
-use Rattle.ptpm_changes.specs.Change.{IsChange, IsDone, IsInOrder, IsToldAt}
+use Rattle.ptpm_changes.specs.Change.{IsChange, IsDone, IsInOrder}
 use Rattle.ptpm_changes.specs.Lane.{Lane, messages_of, notes_of}
 use Rattle.ptpm_changes.proofs.Carried.{carried-out, messages-noted}
 

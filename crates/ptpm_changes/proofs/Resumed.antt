@@ -1,10 +1,9 @@
 -- A step whose request the session's file has is under way again once the program is opened again, and is answered along a way.
-use Rattle.ptpm_network.proofs.Common.{arith, ◌≡◌, ℕ, ◌+◌, ◌<◌, ◌≤◌, true, List, [], ◌∷◌, ◌++◌, length, Option, Some, None, is_some, refl, sym, ◌∙◌, ap, subst, all_append, AllByRecursion, RequestValue, SessionValue, is_waiting, number_of, resumed, retuned, Resume, Retune, Network, frames_limit}
+use Rattle.ptpm_network.proofs.Common.{arith, ◌≡◌, ℕ, ◌<◌, true, List, [], ◌∷◌, ◌++◌, Option, Some, None, is_some, refl, sym, ◌∙◌, ap, subst, all_append, AllByRecursion, RequestValue, SessionValue, is_waiting, number_of, resumed, retuned, append-nil, append_assoc, Resume, Retune, Send, Network}
 use Rattle.ptpm_manager.specs.Session.{anew}
-use Rattle.ptpm_network.specs.Way.{Hop, IsWay, LinksHaveAtMost, made_each_way}
-use Rattle.ptpm_asker.specs.Desk.{Crashes, Desk, Retunes, latest_number, moved, reopened}
-use Rattle.ptpm_restarts.specs.AsIfNever.{AreTimely, IsAsIfNever, IsPossible, IsPromisedRestarting, IsTimely}
-use Rattle.ptpm_restarts.specs.DeskIncidents.{CanBeginIt, DeskStep, IsMirrored, Mirrors, Moves, begins_first, unbegun, with_unbegun}
+use Rattle.ptpm_asker.specs.Desk.{Crashes, Desk, Retunes, Sends, latest_number, moved, reopened}
+use Rattle.ptpm_restarts.specs.AsIfNever.{AreTimely, IsAsIfNever, IsPossible, IsPromisedRestarting}
+use Rattle.ptpm_restarts.specs.DeskIncidents.{CanBeginIt, Mirrors, Moves, begins_first, desk_incidents, unbegun, with_unbegun}
 use Rattle.ptpm_restarts.specs.Incidents.{CrashSession, Happens, Incident, SaveSession, after_incidents, incident}
 use Rattle.ptpm_restarts.specs.Restarting.{RestartingNetwork, SessionLog, initial_restarting}
 use Rattle.ptpm_restarts.specs.Storage.{Stored, restored, saved_as}
@@ -101,3 +100,14 @@ can-be-answered N s is d f q domain place p h has under =
     }) in
     answered-along N s place d k f q domain h has under (is ++ more)
     (subst (λ (j : RestartingNetwork). IsAsIfNever N (is ++ more) j) (after-append N (initial_restarting N) is more) never)
+
+-- up to the message these are the incidents of the desk's moves
+pub of-desk : (N : Network) (s : ℕ) (k : RestartingNetwork) (d : Desk) (f : SessionValue) (domain : ℕ) → d.file ≡ Some f
+    → desk_incidents N s d k (Moves Crashes ∷ Moves (Retunes domain) ∷ Moves Sends ∷ []) ≡ opened_again s f k domain ++ Happens (Send s) ∷ []
+of-desk N s k d f domain has =
+    let before : List Incident = SaveSession s ∷ Happens (Retune s domain) ∷ Happens (Resume s 1) ∷ [] in
+    let all : List Incident = SaveSession s ∷ Happens (Retune s domain) ∷ Happens (Resume s 1) ∷ Happens (Send s) ∷ [] in
+    let stored : ((incident N k (CrashSession s)).session s).live.session ≡ (k.session s).stored.session =
+    ap (λ (y : Stored SessionLog). y.live.session) (here k.session s (restored (k.session s))) in
+    (λ i. CrashSession s ∷ append-nil (begins_first s (unbegun (retuned (reopened (has i) d.live) domain) (stored i)) ++ all) i)
+    ∙ ap (λ (is : List Incident). CrashSession s ∷ is) (sym (append_assoc (begins_first s (unbegun f (k.session s).stored.session)) before (Happens (Send s) ∷ [])))

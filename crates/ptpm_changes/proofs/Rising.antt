@@ -1,6 +1,5 @@
 -- Of what is accepted under indexes that rise each index has one entry at most, and none has the index 0.
-use Rattle.ptpm_network.proofs.Common.{by_test, arith, ◌≡◌, ℕ, ◌<◌, ◌≤◌, ◌==◌, ◌&&◌, Bool, true, false, List, [], ◌∷◌, Option, Some, None, refl, sym, ◌∙◌, ap, cond-true, cond-false, eqb-true, and_parts, Accepted, PortIdentity, greatest, kept_reply, same_identity, entries_of}
-use Rattle.std.specs.List.{filter, find}
+use Rattle.ptpm_network.proofs.Common.{by_test, arith, ◌≡◌, ℕ, ◌<◌, ◌==◌, ◌&&◌, Bool, List, [], ◌∷◌, Some, refl, sym, ◌∙◌, ap, cond-true, cond-false, eqb-true, and_parts, Accepted, PortIdentity, greatest, kept_reply, same_identity, entries_of}
 use Rattle.ptpm_network.specs.GivingUp.{AreRising}
 use Rattle.ptpm_network.proofs.Accepting.{greatest-grows, greatest-same}
 

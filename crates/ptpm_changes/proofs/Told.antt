@@ -12,11 +12,11 @@ use Rattle.ptpm_asker.specs.Desk.{AreAllowed, Begins, Continues, Crashes, Desk, 
 use Rattle.ptpm_asker.specs.Question.{asks_question, is_question}
 use Rattle.ptpm_apply.specs.Watching.{Watch, answered_after, watched, watched_by}
 use Rattle.ptpm_restarts.specs.DeskIncidents.{AreStepsOf, Comes, DeskStep, Elsewhere, IsIgnored, IsStepOf, IsUnsent, Mirrors, Moves, desk_incidents, desk_moves, incidents_at, moves_at}
-use Rattle.ptpm_restarts.specs.Asked.{Sometime, TellsAt}
+use Rattle.ptpm_restarts.specs.Asked.{TellsAt}
 use Rattle.ptpm_restarts.specs.Incidents.{Incident, after_incidents}
 use Rattle.ptpm_restarts.specs.Restarting.{RestartingNetwork}
 use Rattle.ptpm_restarts.proofs.Asking.{sometime-first, sometime-later}
-use Rattle.ptpm_restarts.proofs.DeskMoves.{Done, Tells, allowed-parts, comes-told, moved-append, one-done}
+use Rattle.ptpm_restarts.proofs.DeskMoves.{Tells, allowed-parts, comes-told, moved-append, one-done}
 use Rattle.ptpm_restarts.proofs.DeskSessions.{waits-too}
 use Rattle.ptpm_changes.specs.Lane.{AreNotedSo, IsNotedSo}
 

@@ -1,5 +1,5 @@
 -- A change of several clocks: its steps, one journal, and what happens at each clock.
-use Rattle.std.specs.Prelude.{◌≡◌, ◌⊎◌, ℕ, true, List}
+use Rattle.std.specs.Prelude.{◌≡◌, ℕ, List}
 use Rattle.std.specs.List.{Contains}
 use Rattle.ptpm_data.specs.Request.{RequestValue}
 use Rattle.ptpm_manager.specs.declared.report.Outcome.{Outcome}
@@ -7,7 +7,6 @@ use Rattle.ptpm_manager.specs.declared.report.Outcome.TheVariants as outcomes
 use Rattle.ptpm_network.specs.ByManager.{Account}
 use Rattle.ptpm_network.specs.Network.{Network}
 use Rattle.ptpm_asker.specs.Desk.{IsBegun, IsTold}
-use Rattle.ptpm_asker.specs.Question.{is_question}
 use Rattle.ptpm_restarts.specs.Incidents.{Incident}
 use Rattle.ptpm_journal.specs.declared.record.Step.{Step}
 use Rattle.ptpm_journal.specs.declared.record.Note.{Note}
@@ -17,7 +16,7 @@ use Rattle.ptpm_journal.specs.declared.record.Outcome.TheVariants as noted_outco
 use Rattle.ptpm_journal.specs.InOrder.{AreAllowed, HasNote, Precedes}
 use Rattle.ptpm_apply.specs.Watching.{Sent}
 use Rattle.ptpm_changes.specs.CarriedOut.{IsCarriedOut}
-use Rattle.ptpm_changes.specs.Lane.{IsLane, Lane, messages_of, notes_of}
+use Rattle.ptpm_changes.specs.Lane.{IsLane, Lane, notes_of}
 
 -- what a journal says of an answer: that it has a value, or which error
 abbrev pub Says : noted.Outcome → ℕ → Outcome → Type 0

@@ -10,7 +10,7 @@ use Rattle.ptpm_network.specs.Way.{Hop, IsWay, LinksHaveAtMost, made_each_way}
 use Rattle.ptpm_restarts.specs.AsIfNever.{IsAsIfNever}
 use Rattle.ptpm_restarts.specs.DeskIncidents.{begins_first, unbegun}
 use Rattle.ptpm_restarts.specs.GoingOn.{IsAnsweredAgain}
-use Rattle.ptpm_restarts.specs.Incidents.{CrashSession, Happens, Incident, SaveSession, after_incidents}
+use Rattle.ptpm_restarts.specs.Incidents.{CrashSession, Happens, Incident, SaveSession}
 use Rattle.ptpm_restarts.specs.Restarting.{RestartingNetwork, held_frames}
 
 -- The program crashes and is opened again with the session that the file has. If no message of its request left before, the request is

@@ -1,5 +1,5 @@
-//! A change of several clocks in a network whose clocks and sessions save, and crash at any moment: what its journal says, and what the
-//! clocks carried out. It has only definitions and laws.
+//! A change of several clocks, in a network whose clocks and sessions save, and crash at any moment. What its journal says was carried
+//! out, and in which order. It has only definitions and laws.
 #![tactic(auto)]
 
 mod laws;

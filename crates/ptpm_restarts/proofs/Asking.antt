@@ -1,5 +1,5 @@
 -- What a session asked here, it asked where the network never crashes: the requests that it began, and those that its reports are to.
-use Rattle.ptpm_network.proofs.Common.{by_test, arith, nat_lt, ◌≡◌, ℕ, ◌+◌, ◌-◌, ◌<◌, ◌==◌, ◌⊎◌, inl, inr, zero, suc, Bool, true, false, if◌then◌else◌, List, [], ◌∷◌, ◌++◌, length, length-append, Option, Some, None, refl, sym, ◌∙◌, ap, subst, cond-true, cond-false, eqb-true, slice_get, Contains, Ask, Report, RequestValue, SessionValue, State, begun, received_of, Event, Begin, Send, Resume, Retune, Deliver, Replay, Stranger, Refusal, frame_at, with_place, Network, Held, RunningNetwork, at_place}
+use Rattle.ptpm_network.proofs.Common.{by_test, arith, ◌≡◌, ℕ, ◌+◌, ◌-◌, ◌<◌, ◌==◌, ◌⊎◌, inl, inr, zero, suc, Bool, true, false, if◌then◌else◌, List, [], ◌∷◌, ◌++◌, length, length-append, Option, Some, None, refl, sym, ◌∙◌, ap, subst, cond-true, cond-false, eqb-true, slice_get, Contains, Ask, Report, RequestValue, SessionValue, State, begun, received_of, Event, Begin, Send, Resume, Retune, Deliver, Replay, Stranger, Refusal, frame_at, with_place, Network, Held, RunningNetwork, at_place}
 use Rattle.std.proofs.lemmas.List.Elements.{Contains-append_left}
 use Rattle.ptpm_manager.specs.declared.error.GiveUpRefusal.{GiveUpRefusal}
 use Rattle.ptpm_manager.specs.declared.receiving.Received.TheVariants as received
@@ -12,7 +12,7 @@ use Rattle.ptpm_network.proofs.GivingUp.{Works}
 use Rattle.ptpm_network.proofs.Lists.{get_append}
 use Rattle.ptpm_restarts.specs.ActsAsIfNever.{IsSameAct}
 use Rattle.ptpm_restarts.specs.AsIfNever.{IsSame, IsTimely, is_late_in}
-use Rattle.ptpm_restarts.specs.Asked.{BeginsAt, Sometime, TellsAt}
+use Rattle.ptpm_restarts.specs.Asked.{BeginsAt, Sometime}
 use Rattle.ptpm_restarts.specs.Incidents.{CrashClock, CrashSession, GivesUp, Happens, Incident, Observes, SaveClock, SaveSession, after_incidents, incident, lets_go, refused, unless}
 use Rattle.ptpm_restarts.specs.Restarting.{RestartingNetwork, SessionLog, begins, log_of, log_with, sent_or_waiting}
 use Rattle.ptpm_restarts.specs.Storage.{Stored, changed}

@@ -9,7 +9,7 @@ use Rattle.ptpm_network.specs.Network.{Network}
 use Rattle.ptpm_restarts.specs.Incidents.{Happens, Incident, incident, refused}
 use Rattle.ptpm_restarts.specs.Restarting.{RestartingNetwork}
 
--- it is so of one of these incidents, where it happens
+-- this holds for one of these incidents as it happens
 abbrev pub Sometime : Network → (RestartingNetwork → Incident → Type 0) → RestartingNetwork → List Incident → Type 0
 Sometime N P k [] = ⊥
 Sometime N P k (i ∷ is) = P k i ⊎ Sometime N P (incident N k i) is

@@ -1,5 +1,5 @@
-use Rattle.ptpm_changes.proofs.Resumed.{can-be-answered}
+use Rattle.ptpm_changes.proofs.Resumed.{can-be-answered, of-desk}
 use Rattle.ptpm_changes.proofs.resuming.resume_can_end.Goals as goal
 
 pub returns : goal.returns
-returns c = can-be-answered
+returns c = record { moves = of-desk; answered = can-be-answered }
