@@ -224,7 +224,7 @@ def answers_to_others(port):
     """A SET is lost, and another run of this host asks for the same id with the same number, in no session. The answer to that one
     is none to the SET."""
     me = ("-m", MANAGER + "/1")
-    for who, words in [((), ("survey", "PRIORITY1")), (me, ("survey", "PRIORITY1")), (me, ("--target", ME + "-20", "get", "PRIORITY1"))]:
+    for who, words in [((), ("survey", "PRIORITY1")), (me, ("survey", "PRIORITY1")), (me, ("--target", ME + "-300", "get", "PRIORITY1"))]:
         port.sent()
         other = start("manage", *who, "-i", port.name, "-a", "1", "-t", str(3000 * SLOW), *words, stdout=subprocess.PIPE, text=True)
         asked = next_sent(port, lambda request: request[52:54] == b"\x20\x05")
