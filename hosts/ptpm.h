@@ -300,7 +300,7 @@ struct ptpm_session { void *at; PTPM_TO_EIGHT bool live; bool restored; };
    the number after the last that it began. */
 struct ptpm_session_settings {
     uint16_t port;                      /* portNumber of the manager */
-    uint16_t target_ports;              /* how many ports the managed clock has, 1 to 8 */
+    uint16_t target_ports;              /* how many ports the managed clock has at most, 1 to 255 */
     uint16_t first;                     /* the sequenceId of the first request */
     uint8_t clock[8];                   /* clockIdentity of the manager, not all ones */
     uint8_t target[8];                  /* clockIdentity of the managed clock, another one, and neither all ones nor all zeros */
@@ -501,7 +501,7 @@ enum { PTPM_RECORD_OCTETS = 8221 };
 enum { PTPM_SEAL_OCTETS = 16 };
 
 /* The most ports whose answers a survey keeps. The portNumber that a survey has if its host gives none. */
-enum { PTPM_MOST_ANSWERS = 512, PTPM_SURVEY_PORT = 65534 };
+enum { PTPM_MOST_ANSWERS = 16384, PTPM_SURVEY_PORT = 65534 };
 
 /* What calls return. 0 says that the call was done. 1 to 31 say what became of a datagram or of a request. From 32 on the call was
    refused (ptpm_is_refusal). 48 to 63 say why nothing starts, or an observation is refused. 64 to 101 say which member is out of
@@ -577,7 +577,7 @@ __extension__ enum PTPM_FOUR_OCTETS(ptpm_started) {
     PTPM_START_NO_MEMORY = PTPM_NO_MEMORY,
     PTPM_START_OTHER_SIZES = PTPM_OTHER_SIZES,
     PTPM_NO_PORTS = 48,
-    PTPM_TOO_MANY_PORTS = 49,           /* over eight */
+    PTPM_TOO_MANY_PORTS = 49,           /* of a clock over eight, of a session over 255 */
     PTPM_START_GRANDMASTER_DIFFERS = PTPM_GRANDMASTER_DIFFERS,
     PTPM_START_TOO_MANY_MANAGERS = PTPM_TOO_MANY_MANAGERS,
     PTPM_START_MANAGER_TWICE = PTPM_MANAGER_TWICE,

@@ -34,13 +34,15 @@ extern "C" {
 /* Enough for an asker, whatever its requests and their answers are. */
 #define PTPM_ASKER_MEMORY 13424
 
-/* The most that a survey takes that has kept a number of answers, 1 to 512, each with a number of octets of dataField. Its
+/* The most that a survey takes that has kept a number of answers, 1 to 16,384, each with a number of octets of dataField. Its
    tables have room for a power of two of answers, and move as they grow. How much of the gaps is used again depends on the
    answers. */
 #define PTPM_SURVEY_MEMORY(answers, octets) \
     (1088 + 130 * PTPM_SURVEY_PLACES(answers) + (size_t)(answers) * (((size_t)(octets) + ((octets) < 1) + 31) / 16 * 16))
 #define PTPM_SURVEY_PLACES(answers) \
-    ((answers) > 256 ? (size_t)512 : (answers) > 128 ? (size_t)256 : (answers) > 64 ? (size_t)128 : (answers) > 32 ? (size_t)64 : \
+    ((answers) > 8192 ? (size_t)16384 : (answers) > 4096 ? (size_t)8192 : (answers) > 2048 ? (size_t)4096 : \
+     (answers) > 1024 ? (size_t)2048 : (answers) > 512 ? (size_t)1024 : (answers) > 256 ? (size_t)512 : \
+     (answers) > 128 ? (size_t)256 : (answers) > 64 ? (size_t)128 : (answers) > 32 ? (size_t)64 : \
      (answers) > 16 ? (size_t)32 : (answers) > 8 ? (size_t)16 : (size_t)8)
 
 /* Gives the library its memory, before the first call that needs some, and again only while no handle holds anything.

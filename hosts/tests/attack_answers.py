@@ -1,6 +1,7 @@
 """What a clock may answer to what manage.c asks it alone: another value than was asked, or an error from another of its ports. What a
 run reports as done is what it asked."""
 import os
+import random
 import shutil
 import subprocess
 import time
@@ -136,30 +137,62 @@ def errors_of_other_ports():
     check("nor is a value of another port", site.status == 3)
 
 
+def port_of(request):
+    """The port of the clock that it names."""
+    return int.from_bytes(request[42:44], "big")
+
+
 @by_both
-def ports_above_eight():
-    """A switch with 24 ports: one of them is named, answers, and refuses."""
+def ports_of_a_switch():
+    """A switch with many ports: one of them is named, answers, and refuses."""
     def reply(request, port):
         return [response(request, request[52:54] + (request[54:] or b"\x03\0"), port=port)]
     for words, printed in [(("-T", ME + "-20", "get", "LOG_SYNC_INTERVAL"), "logSyncInterval 3"), (("--target", ME, "-p", "20", "set",
                             "LOG_SYNC_INTERVAL", "-2"), "logSyncInterval -2"), (("--target", ME + "-65534", "set", "LOG_SYNC_INTERVAL", "1"), "logSyncInterval 1")]:
-        site = Site(lambda request: reply(request, int.from_bytes(request[42:44], "big")), *words)
-        named = {int.from_bytes(request[42:44], "big") for request in site.requests}
+        site = Site(lambda request: reply(request, port_of(request)), *words)
+        named = {port_of(request) for request in site.requests}
         check(f"{words} is asked of that port", (site.status, site.lines()) == (0, [printed]) and named == {65534 if "65534" in str(words) else 20})
-    for port in [1, 8, 21]:
-        site = Site(lambda request: reply(request, port), "--target", ME + "-20", "-a", "2", "-t", "50", "get", "LOG_SYNC_INTERVAL")
-        check(f"an answer of port {port} is none of port 20", site.status == 3)
-        site = Site(lambda request: reply(request, port), "--target", ME + "-20", "get", "PRIORITY1")
+    for named, port in [(20, 1), (20, 21), (300, 1), (300, 255), (300, 301)]:
+        site = Site(lambda request: reply(request, port), "--target", f"{ME}-{named}", "-a", "2", "-t", "50", "get", "LOG_SYNC_INTERVAL")
+        check(f"an answer of port {port} is none of port {named}", site.status == 3)
+        site = Site(lambda request: reply(request, port), "--target", f"{ME}-{named}", "get", "PRIORITY1")
         check("but it is for an id of the clock", site.status == 0 and site.lines() == ["priority1 3"])
 
     def refusal(request):
         octets = bytearray(response(request, b"\0\6" + request[52:54] + bytes(4), 2))
         octets[46] = 4                                              # ACKNOWLEDGE
         return [bytes(octets)]
-    site = Site(refusal, "-m", MANAGER + "/1", "--target", ME + "-20", "command", "DISABLE_PORT")
+    site = Site(refusal, "-m", MANAGER + "/1", "--target", ME + "-300", "command", "DISABLE_PORT")
     check("a refusal of a manager's COMMAND there counts", (site.status, site.lines()) == (1, ["refused NOT_SUPPORTED"]))
-    site = Site(lambda request: [], "--target", ME + "-20", "-k", os.path.join(work, "number"), "get", "LOG_SYNC_INTERVAL")
-    check("no session is kept of it", site.status == 2 and site.requests == [] and os.listdir(work).count("number") == 0)
+    site = Site(lambda request: [], "--target", ME + "-256", "-k", os.path.join(work, "number"), "get", "LOG_SYNC_INTERVAL")
+    check("no session is kept of a port above 255", site.status == 2 and site.requests == [] and os.listdir(work).count("number") == 0)
+
+
+@by_both
+def sets_at_a_switch_that_loses():
+    """SETs at port 20 of a switch, which takes each number once and keeps its answer. Three of ten requests are lost, and as many answers."""
+    lots, taken, values, wrong = random.Random(7), {}, [], []
+
+    def answers(request):
+        number = request[20:32]                                     # of this manager
+        if lots.random() < 0.3:
+            return []
+        if number not in taken:
+            values.extend([request[54]] if request[46] == 1 else [])
+            field = request[54:] if request[46] == 1 else bytes(20)
+            taken[number] = (request, response(request, request[52:54] + field, port=20))
+        wrong.extend([request] if request != taken[number][0] or port_of(request) != 20 else [])
+        return [] if lots.random() < 0.3 else [taken[number][1]]
+    wanted, ends, sent = list(range(100, 120)), [], 0
+    for value in wanted:
+        site = Site(answers, "-m", MANAGER + "/1", "-w", "0", "-t", "20", "-k", os.path.join(work, "number"), "--target", ME + "-20",
+                    "set", "ANNOUNCE_RECEIPT_TIMEOUT", str(value))
+        ends.append((site.status, site.lines()))
+        sent += len(site.requests)
+    check(f"each SET there is answered: {ends}", ends == [(0, [f"announceReceiptTimeout {value}"]) for value in wanted])
+    check(f"each is carried out once, in its order: {values}", values == wanted)
+    check(f"each number is of one request at that port: {wrong}", wrong == [])
+    check("and some were sent again", sent > len(taken) > len(wanted))
 
 
 def asked_at(wire, answers, *words):
@@ -281,4 +314,5 @@ def namesakes():
     wire.remove()
 
 
-ATTACKS = [names_of_this_host, namesakes, blind_answers, guessed_numbers, answers_in_another_way, values_that_were_not_asked, values_of_an_earlier_run, errors_of_other_ports, ports_above_eight]
+ATTACKS = [names_of_this_host, namesakes, blind_answers, guessed_numbers, answers_in_another_way, values_that_were_not_asked, values_of_an_earlier_run, errors_of_other_ports, ports_of_a_switch,
+           sets_at_a_switch_that_loses]

@@ -19,7 +19,7 @@ def words_of(number, *words):
     return [MANAGE, "-m", MANAGER + "/1", "-u", path, "-k", number, "--target", ME, *words]
 
 
-def image(first, begun, request=b"", manager=MANAGER + "0001", clock=ME, ports=8, hops=1, attempts=30, domain=0):
+def image(first, begun, request=b"", manager=MANAGER + "0001", clock=ME, ports=255, hops=1, attempts=30, domain=0):
     """What the file has of a session that began this many requests from a number on; the latest is under way if it is given: its
     action, id, port, the size of the dataField, and the dataField."""
     body = (bytes.fromhex(manager + clock) + bytes([ports]) + first.to_bytes(2, "big") + bytes([hops, attempts, domain])
@@ -74,7 +74,7 @@ def files_without_a_session():
         (b"7\n", "NOT_AN_IMAGE"), (b"ptpn" + whole[4:], "NOT_AN_IMAGE"), (whole + b"\0", "DAMAGED"), (whole * 40, "DAMAGED")]
     refused += [(sealed(content), name) for content, name in [
         (whole[:5] + b"\2" + whole[6:], "OTHER_VERSION"), (whole[:4] + b"\1" + whole[5:], "OTHER_KIND"),
-        (whole[:6] + b"\1" + whole[7:], "DAMAGED"), (image(7, 1000001), "DAMAGED"), (image(7, 2, ports=9), "DAMAGED"),
+        (whole[:6] + b"\1" + whole[7:], "DAMAGED"), (image(7, 1000001), "DAMAGED"), (image(7, 2, ports=0), "DAMAGED"),
         (image(7, 1, set_of(50))[:36] + bytes(16) + b"\1" + set_of(50), "DAMAGED"), (image(7, 2, ports=2), "OTHER_SESSION"),
         (image(7, 2, manager=MANAGER + "0002"), "OTHER_SESSION"), (image(7, 2, clock=OTHER), "OTHER_SESSION"),
         (image(7, 2, set_of(50), clock=OTHER), "OTHER_SESSION")]]
@@ -98,6 +98,8 @@ def sessions():
             (image(200, 999999), (), image((200 + 999999) % 65536, 2, attempts=3)),
             (image(20000, 2, hops=4, attempts=1), (), image(20002, 2, attempts=3)),
             (image(20100, 2, domain=5), (), image(20100, 4)),
+            (image(20150, 2, ports=8), (), image(20150, 4)),        # of an earlier version
+            (image(20170, 2, set_of(79), ports=8), (), image(20170, 4)),
             (image(20200, 2, set_of(78)), ("--give-up",), image(20200, 4))]:
         write_session(content)
         done = two.is_honest(*words)
@@ -105,6 +107,7 @@ def sessions():
         told = [line for line in two.said.splitlines() if "of an earlier run" in line or "priority2 7" in line]
         lead = "ptpm-manage: set PRIORITY2 of an earlier run, number "
         wanted = {77: [lead + "101, had no answer yet, and was sent again:", "ptpm-manage: priority2 77"],
+                  79: [lead + "20171, had no answer yet, and was sent again:", "ptpm-manage: priority2 79"],
                   78: [lead + "20201, is let go: a get shows whether it was carried out"]}
         value = content[-2] if len(content) > 53 else 0
         check("what was under way is reported", told == wanted.get(value, []))
@@ -221,7 +224,7 @@ def answers_to_others(port):
     """A SET is lost, and another run of this host asks for the same id with the same number, in no session. The answer to that one
     is none to the SET."""
     me = ("-m", MANAGER + "/1")
-    for who, words in [((), ("survey", "PRIORITY1")), (me, ("survey", "PRIORITY1")), (me, ("--target", ME + "-20", "get", "PRIORITY1"))]:
+    for who, words in [((), ("survey", "PRIORITY1")), (me, ("survey", "PRIORITY1")), (me, ("--target", ME + "-300", "get", "PRIORITY1"))]:
         port.sent()
         other = start("manage", *who, "-i", port.name, "-a", "1", "-t", str(3000 * SLOW), *words, stdout=subprocess.PIPE, text=True)
         asked = next_sent(port, lambda request: request[52:54] == b"\x20\x05")

@@ -9,7 +9,7 @@
 #include <string.h>
 
 enum { CLOCKS = 3, PORTS = 8, MANAGERS = 16, TIMES = 10000, MOST_FIELD = 1418, HEAD = 54 };
-enum { ROOM = CLOCKS * PTPM_CLOCK_MEMORY + 4 * PTPM_SESSION_MEMORY + PTPM_SURVEY_MEMORY(512, 1418) };
+enum { ROOM = CLOCKS * PTPM_CLOCK_MEMORY + 4 * PTPM_SESSION_MEMORY + PTPM_SURVEY_MEMORY(PTPM_MOST_ANSWERS, 1418) };
 
 static const uint8_t manager[8] = { 0x00, 0x11, 0x22, 0x33, 0x44, 0x55, 0x66, 0x77 };
 static const uint8_t target[8] = { 0xaa, 0xbb, 0xcc, 0xff, 0xfe, 0xdd, 0xee, 0x01 };
@@ -276,16 +276,16 @@ static void roomy_survey(unsigned answers, size_t size, size_t room) {
     stop_all();
 }
 
-/* A survey keeps 512 of a thousand answers. In a small block it keeps fewer, and each of these is read. */
-static void thousand_answers(void) {
+/* A survey keeps 16,384 of 17,000 answers. Of a thousand it keeps fewer in a small block, and each of these is read. */
+static void many_answers(void) {
     unsigned full = 0, refused = 0;
     struct ptpm_source source;
     size_t size, kept, read = 0;
     uint16_t error;
-    ptpm_memory_give(block, PTPM_SURVEY_MEMORY(512, 130));
+    ptpm_memory_give(block, PTPM_SURVEY_MEMORY(PTPM_MOST_ANSWERS, 130));
     start_survey();
-    for (uint16_t i = 0; i < 1000; i++) full += survey_receive(i, 130) == PTPM_FULL;
-    check(full == 488 && ptpm_survey_count(&survey) == 512, "512 of a thousand answers are kept");
+    for (uint16_t i = 0; i < 17000; i++) full += survey_receive(i, 130) == PTPM_FULL;
+    check(full == 616 && ptpm_survey_count(&survey) == 16384, "16,384 of 17,000 answers are kept");
     stop_all();
     ptpm_memory_give(block, PTPM_SURVEY_MEMORY(20, 130));
     start_survey();
@@ -347,7 +347,7 @@ static void side_by_side(void) {
 }
 
 int main(void) {
-    static const unsigned answers[] = { 1, 8, 9, 16, 17, 100, 257, 512 };
+    static const unsigned answers[] = { 1, 8, 9, 16, 17, 100, 257, 512, 513, 5000, PTPM_MOST_ANSWERS };
     static const size_t sizes[] = { 0, 2, 130, MOST_FIELD };
     for (int i = 0; i < MANAGERS; i++) {
         memcpy(managers[i].clock, manager, 8);
@@ -366,7 +366,7 @@ int main(void) {
     for (size_t i = 0; i < sizeof answers / sizeof *answers; i++)
         for (size_t k = 0; k < sizeof sizes / sizeof *sizes; k++)
             roomy_survey(answers[i], sizes[k], PTPM_SURVEY_MEMORY(answers[i], sizes[k]));
-    thousand_answers();
+    many_answers();
     refused_in_turn();
     side_by_side();
     clock_managers = 1;

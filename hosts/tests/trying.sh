@@ -127,7 +127,7 @@ refuses() { # what it says on standard error, and that nothing is asked or print
 
 session_from() { # a number, and perhaps a manager and a clock: the file of their session, which begins there
     python3 -c 'import sys, zlib
-octets = bytes.fromhex("7074706d0201000000000029%s0001%s08%04x011e00%034x" % (sys.argv[2], sys.argv[3], int(sys.argv[1]), 0)) + b"ptps" + bytes(8)
+octets = bytes.fromhex("7074706d0201000000000029%s0001%sff%04x011e00%034x" % (sys.argv[2], sys.argv[3], int(sys.argv[1]), 0)) + b"ptps" + bytes(8)
 sys.stdout.buffer.write(octets + zlib.crc32(octets).to_bytes(4, "big"))' \
         "$1" "${2:-000000fffe000010}" "${3:-$identity}"
 }

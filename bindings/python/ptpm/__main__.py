@@ -163,7 +163,7 @@ class Task:
 
     @property
     def is_numbered(self) -> bool:
-        """Whether who asks is the same in each run, so that a clock may have kept an answer of his. Nothing is kept of a port above 8,
+        """Whether who asks is the same in each run, so that a clock may have kept an answer of his. Nothing is kept of a port above 255,
         which no clock of ptpm has."""
         words = self.words
         by_one_manager = words.manager is not None or words.numbers is not None

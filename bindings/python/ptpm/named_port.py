@@ -1,4 +1,4 @@
-"""The port that a request names. A session of the library knows eight ports of a clock; other clocks, such as a switch, have more."""
+"""The port that a request names. A session of the library knows 255 ports of a clock; other clocks may have more."""
 
 from __future__ import annotations
 
@@ -7,7 +7,7 @@ from typing import Iterator
 from .session_image import EVERY_PORT
 
 # The last port that a session of the library names: no clock of ptpm has more.
-SESSION_PORTS = 8
+SESSION_PORTS = 255
 
 # A tlvType (14.1): its TLV has a managementErrorId before the managementId (15.5.4).
 _MANAGEMENT_ERROR_STATUS = 2
@@ -17,7 +17,7 @@ _SOURCE, _TARGET, _CLOCK, _SIZE = 20, 34, 8, 10
 
 
 def is_beyond_session(port: int) -> bool:
-    """Whether a port is above those of a session, such as one of a switch. Nothing that is asked of it is kept."""
+    """Whether a port is above those of a session. Nothing that is asked of it is kept."""
     return SESSION_PORTS < port < EVERY_PORT
 
 
@@ -32,7 +32,7 @@ def _is_error_of(datagram: bytes, clock: bytes) -> bool:
 
 
 class NamedPort:
-    """A port above 8 takes the place of port 8 in what goes out, and gives it back in what comes in."""
+    """A port above 255 takes the place of port 255 in what goes out, and gives it back in what comes in."""
 
     def __init__(self, port: int = 0) -> None:
         self.named = port

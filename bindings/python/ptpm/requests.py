@@ -12,7 +12,7 @@ from .answers import SessionAnswer, done, judged, written
 from .clock import port_number
 from .identity import Identity, IdentityLike, PortIdentity, PortIdentityLike
 from .ids import Action, IdLike, id_of
-from .named_port import NamedPort, not_kept
+from .named_port import SESSION_PORTS, NamedPort, not_kept
 from .report import Report, told_by
 from .session_image import EVERY_PORT, Request, unanswered
 from .settings import write_number, write_octets
@@ -29,7 +29,7 @@ class SessionSettings:
     domain: int = 0
     hops: int = 1
     attempts: int = 30
-    target_ports: int = 8
+    target_ports: int = SESSION_PORTS
 
     def as_in_c(self) -> header.ptpm_session_settings:
         """As the library takes them."""
@@ -48,7 +48,7 @@ class Requests(Handle):
     """One request at a time to one clock. A caller that uses these calls directly is responsible for the numbers. A request
     with one that was used before is answered with what the clock kept.
 
-    A port above 8 takes the place of port 8 in what goes out, and gives it back in what comes in."""
+    A port above 255 takes the place of port 255 in what goes out, and gives it back in what comes in."""
 
     def __init__(self, settings: SessionSettings) -> None:
         super().__init__(header.ptpm_session, library.ptpm_session_stop)
@@ -114,8 +114,8 @@ class Requests(Handle):
 
     def image(self) -> bytes:
         """The session's image: what a host saves before it sends a request, and after it has reported an answer. How many attempts
-        are left, and the answer to the latest request, are not in it. There is none (ValueError) while a request to a port above 8
-        is unanswered: another session would ask port 8."""
+        are left, and the answer to the latest request, are not in it. There is none (ValueError) while a request to a port above 255
+        is unanswered: another session would ask port 255."""
         octets = self._image()
         if self._port.beyond and unanswered(octets) is not None:
             raise not_kept(self._port.beyond)

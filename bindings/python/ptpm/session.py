@@ -22,7 +22,7 @@ from .nobody import ask_as_nobody, draw, refuse_nobody
 from .report import Report
 from .requests import Requests, SessionSettings, begin_request
 from .session_file import DamagedFileError, SessionFile
-from .session_image import EVERY_PORT, Request, domain_of, first_number, is_same, latest_number, unanswered
+from .session_image import EVERY_PORT, Request, domain_of, first_number, is_same, latest_number, of_this_version, unanswered
 from .transport import Transport
 
 
@@ -59,7 +59,7 @@ class Session(Requests):
         """The domain in which it is sent again."""
         super().__init__(replace(settings, first=draw()) if settings.first is None else settings)
         if octets is not None:
-            self._open(octets)
+            self._open(of_this_version(octets, self.settings.target_ports))
         elif settings.first is not None:
             self._saved = self._image()
         if file is not None:
@@ -246,7 +246,7 @@ class Session(Requests):
     ) -> Report:
         """Asks until it is answered; `timeout` is how long each answer is waited for, in seconds. `value` is a dataField, the
         value of an id's one member, or the value of each member by its name. A port that is not 0 is named to the clock, whatever
-        the id. One above 8 is asked only without a file, else it is a ValueError. If no answer came, NoAnswer says whether the
+        the id. One above 255 is asked only without a file, else it is a ValueError. If no answer came, NoAnswer says whether the
         request itself was sent; if it was, `go_on` asks the same again."""
         judge_seconds("timeout", timeout)
         number = id_of(named)

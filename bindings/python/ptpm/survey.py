@@ -50,7 +50,7 @@ class SurveySettings:
 
 
 class Survey(Handle):
-    """What a survey asks, and its answers: the first of each port, of 512 ports at most.
+    """What a survey asks, and its answers: the first of each port, of 16,384 ports at most.
 
     A session of the same portIdentity may treat an answer as its own. So the manager here has no session: it is another port number
     of the same clockIdentity, and with port 0 it is SURVEY_PORT.

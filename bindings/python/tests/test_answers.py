@@ -108,8 +108,8 @@ class AnswersOfOthers(Folder):
 
         self.assertEqual(str(self.ask(error, "LOG_SYNC_INTERVAL", 1, 2)), "refused NOT_SUPPORTED")
 
-    def test_a_port_above_eight(self) -> None:
-        """One of a switch: it is named, answers and refuses, and no other port answers for it."""
+    def test_a_port_of_a_switch(self) -> None:
+        """It is named, answers and refuses, and no other port answers for it."""
 
         def named(request: bytes) -> bytes:
             return response(request, request[52:54] + (request[54:] or b"\x03\0"), 1, int.from_bytes(request[42:44], "big"))
@@ -118,31 +118,31 @@ class AnswersOfOthers(Folder):
             is_get = request[46] == ptpm.Action.GET
             return named(request) if is_get else response(request, b"\0\x06" + request[52:54] + bytes(4), 2)
 
-        for port in (9, 20, 65534):
+        for port in (9, 255, 256, 65534):
             self.assertEqual(ptpm.get(Way(named), CLOCK, "LOG_SYNC_INTERVAL", port).members, {"logSyncInterval": 3})
             self.assertEqual(self.ask(named, "LOG_SYNC_INTERVAL", -2, port).members, {"logSyncInterval": -2})
-        self.assertEqual(str(self.ask(error, "LOG_SYNC_INTERVAL", 1, 20)), "refused NOT_SUPPORTED")
-        for port in (1, 8, 21):
+            self.assertEqual(str(self.ask(error, "LOG_SYNC_INTERVAL", 1, port)), "refused NOT_SUPPORTED")
+        for named_port, port in ((20, 1), (20, 21), (300, 1), (300, 255)):
             with self.assertRaises(ptpm.NoAnswer):
                 other = lambda request: response(request, request[52:54] + b"\x03\0", 1, port)  # noqa: E731, B023
-                ptpm.get(Way(other), CLOCK, "LOG_SYNC_INTERVAL", 20, attempts=2, timeout=0.02)
+                ptpm.get(Way(other), CLOCK, "LOG_SYNC_INTERVAL", named_port, attempts=2, timeout=0.02)
 
-    def test_nothing_is_kept_of_a_port_above_eight(self) -> None:
-        """A file or an image would name port 8 for it."""
+    def test_nothing_is_kept_of_a_port_above_255(self) -> None:
+        """A file or an image would name port 255 for it."""
         sent: List[bytes] = []
         path, settings = f"{self.folder}/numbers", ptpm.SessionSettings(MANAGER, CLOCK, 7)
         with ptpm.SessionFile(MANAGER, CLOCK, path) as file, ptpm.Session(settings, file, wait=0) as session:
-            with self.assertRaisesRegex(ValueError, "port 20: no session is kept of a port above 8"):
-                session.ask(Way(lambda request: sent.append(request) or request), ptpm.Action.SET, "LOG_SYNC_INTERVAL", 1, 20)
+            with self.assertRaisesRegex(ValueError, "port 300: no session is kept of a port above 255"):
+                session.ask(Way(lambda request: sent.append(request) or request), ptpm.Action.SET, "LOG_SYNC_INTERVAL", 1, 300)
         self.assertEqual((sent, os.path.exists(path)), ([], False))
         requests = ptpm.Requests(settings)
-        requests.begin(ptpm.Action.GET, "LOG_SYNC_INTERVAL", b"", 20)
-        self.assertRaisesRegex(ValueError, "port 20", requests.image)
+        requests.begin(ptpm.Action.GET, "LOG_SYNC_INTERVAL", b"", 300)
+        self.assertRaisesRegex(ValueError, "port 300", requests.image)
         self.assertTrue(requests.is_busy())
         requests.give_up()
         self.assertEqual(len(requests.image()), len(ptpm.Requests(settings).image()))
 
-    def test_the_command_line_asks_a_port_above_eight_in_no_session(self) -> None:
+    def test_the_command_line_asks_a_port_above_255_in_no_session(self) -> None:
         with socket.socket(socket.AF_UNIX, socket.SOCK_DGRAM) as switch:
             path, asked = f"{self.folder}/switch", []
             switch.bind(path)
@@ -150,22 +150,22 @@ class AnswersOfOthers(Folder):
             def answer() -> None:
                 request, peer = switch.recvfrom(2048)
                 asked.append((request[20:30], request[42:44]))
-                switch.sendto(response(request, request[52:54] + b"\x01\0", 1, 20), peer)
+                switch.sendto(response(request, request[52:54] + b"\x01\0", 1, 300), peer)
 
             for words in (["set", "LOG_SYNC_INTERVAL", "1"], ["get", "LOG_SYNC_INTERVAL"]):
                 clock = threading.Thread(target=answer)
                 clock.start()
-                words = [sys.executable, "-m", "ptpm", "-u", path, "-m", MANAGER, "-T", CLOCK, "-p", "20", *words]
+                words = [sys.executable, "-m", "ptpm", "-u", path, "-m", MANAGER, "-T", CLOCK, "-p", "300", *words]
                 ran = subprocess.run(words, capture_output=True, text=True, check=False)
                 clock.join()
                 self.assertEqual((ran.returncode, ran.stdout, ran.stderr), (0, "logSyncInterval 1\n", ""))
         manager = bytes.fromhex(MANAGER.replace("/", "000"))
-        self.assertEqual([port for _, port in asked], [b"\0\x14"] * 2)
+        self.assertEqual([port for _, port in asked], [b"\1\x2c"] * 2)
         self.assertEqual(([who == manager for who, _ in asked], asked[1][0][8] >= 0xF0), ([True, False], True))
         self.assertFalse(os.path.exists(f"{self.folder}/state"))
-        for words, why in ((["-k", f"{self.folder}/numbers"], "--numbers: no session is kept of a port above 8, which no clock of ptpm has"),
+        for words, why in ((["-k", f"{self.folder}/numbers"], "--numbers: no session is kept of a port above 255, which no clock of ptpm has"),
                            (["--give-up"], "--give-up: no session is kept of what is asked")):
-            words = [sys.executable, "-m", "ptpm", "-u", path, *words, "-T", CLOCK, "-p", "20", "get", "LOG_SYNC_INTERVAL"]
+            words = [sys.executable, "-m", "ptpm", "-u", path, *words, "-T", CLOCK, "-p", "300", "get", "LOG_SYNC_INTERVAL"]
             ran = subprocess.run(words, capture_output=True, text=True, check=False)
             self.assertEqual((ran.returncode, ran.stdout, ran.stderr), (2, "", f"ptpm: {why}\n"))
 

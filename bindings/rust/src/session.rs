@@ -32,7 +32,7 @@ pub struct SessionSettings {
     pub manager: PortIdentity,
     /// The managed clock: another one, and neither all ones nor all zeros.
     pub target: Identity,
-    /// How many ports the managed clock has, 1 to 8.
+    /// How many ports the managed clock has at most, 1 to 255.
     pub target_ports: u16,
     /// The sequenceId of the first request.
     pub first: u16,
@@ -45,9 +45,9 @@ pub struct SessionSettings {
 }
 
 impl SessionSettings {
-    /// A session of a manager with a clock of up to eight ports, in domain 0, over one boundary clock at most, with 30 attempts.
+    /// A session of a manager with a clock of up to 255 ports, in domain 0, over one boundary clock at most, with 30 attempts.
     pub const fn new(manager: PortIdentity, target: Identity, first: u16) -> Self {
-        Self { manager, target, target_ports: 8, first, domain: 0, hops: 1, attempts: 30 }
+        Self { manager, target, target_ports: 255, first, domain: 0, hops: 1, attempts: 30 }
     }
 
     /// As the library takes them.

@@ -51,7 +51,7 @@ impl SurveySettings {
     }
 }
 
-/// What a survey asks, and its answers: the first of each port, of 512 ports at most.
+/// What a survey asks, and its answers: the first of each port, of 16,384 ports at most.
 ///
 /// ```
 /// use ptpm::{DefaultDataSet, ManagementId, Survey, SurveySettings, MOST_OCTETS};

@@ -89,7 +89,7 @@ pub const PTPM_SESSION_IMAGE_OCTETS: usize = 1478;
 pub const PTPM_CLOCK_IMAGE_OCTETS: usize = 27385;
 pub const PTPM_RECORD_OCTETS: u32 = 8221;
 pub const PTPM_SEAL_OCTETS: usize = 16;
-pub const PTPM_MOST_ANSWERS: usize = 512; pub const PTPM_SURVEY_PORT: u16 = 65534;
+pub const PTPM_MOST_ANSWERS: usize = 16384; pub const PTPM_SURVEY_PORT: u16 = 65534;
 pub const PTPM_SAVING: u32 = 0; pub const PTPM_OTHER_DOMAIN: u32 = 1; pub const PTPM_NOT_A_REPLY: u32 = 10;
 pub const PTPM_OTHER_TARGET: u32 = 11; pub const PTPM_OTHER_SOURCE: u32 = 12; pub const PTPM_OTHER_NUMBER: u32 = 14;
 pub const PTPM_OTHER_CONTENT: u32 = 15; pub const PTPM_TOO_SHORT: u32 = 16; pub const PTPM_NOT_MANAGEMENT: u32 = 17;

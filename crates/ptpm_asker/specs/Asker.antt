@@ -3,6 +3,7 @@ use Rattle.std.specs.Prelude.{◌≡◌, ◌≤◌, ℕ, Bool, true, false, List
 use Rattle.ptpm_codec.specs.Layout.{number_at, octet}
 use Rattle.ptpm_manager.specs.declared.ask.Ask.{Ask}
 use Rattle.ptpm_manager.specs.declared.setup.Setup.{Setup}
+use Rattle.ptpm_manager.specs.declared.setup.TheConstants.{TARGET_PORTS}
 use Rattle.ptpm_manager.specs.Session.{SessionValue, fresh}
 use Rattle.ptpm_manager.specs.Setup.{AreTwoClocks}
 use Rattle.ptpm_asker.specs.declared.asker.Asker.TheInside.{Inside}
@@ -76,7 +77,7 @@ asker_value i = record {
 pub record AreSettings (s : Settings) : Type 0 where
   pub clocks : AreTwoClocks s.me.clock s.target
   pub some_port : 1 ≤ s.ports
-  pub few_ports : s.ports ≤ 8
+  pub few_ports : s.ports ≤ TARGET_PORTS
 
 -- what is wanted is an ask that by itself is not refused
 abbrev pub IsJudged : ℕ → Option Ask → Type 0

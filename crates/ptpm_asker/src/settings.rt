@@ -16,7 +16,7 @@ pub struct Settings {
     pub me: PortIdentity,
     /// The clock that is managed.
     pub target: ClockIdentity,
-    /// How many ports that clock has, 1 to 8.
+    /// How many ports that clock has at most, 1 to 255.
     pub ports: u16,
     /// Both hop fields of a request, in a session that begins here.
     pub hops: u8,

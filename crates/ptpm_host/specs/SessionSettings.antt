@@ -6,6 +6,7 @@ use Rattle.ptpm_codec.specs.Identity.{every_clock, same_clock}
 use Rattle.ptpm_codec.specs.Ordered.{first_of}
 use Rattle.ptpm_manager.specs.declared.error.RestoreError.{RestoreError}
 use Rattle.ptpm_manager.specs.declared.setup.Setup.{Setup}
+use Rattle.ptpm_manager.specs.declared.setup.TheConstants.{TARGET_PORTS}
 use Rattle.ptpm_manager.specs.Restoring.{restore_refusal}
 use Rattle.ptpm_manager.specs.Session.{SessionValue, fresh}
 use Rattle.ptpm_host.specs.Settings.{is_zero}
@@ -32,15 +33,15 @@ setup_of s = record {
 abbrev pub session_start : SessionSettings → SessionValue
 session_start s = fresh (setup_of s) s.domain
 
--- A manager and its clock are two clocks, and neither has the identity that means every clock (15.3.1). The clock has one to
--- eight ports, and its identity is not all zeros (this project's profile).
+-- A manager and its clock are two clocks, and neither has the identity that means every clock (15.3.1). The clock has 1
+-- to 255 ports, and its identity is not all zeros (this project's profile).
 abbrev pub session_refusal : SessionSettings → Option SessionRefusal
 session_refusal s = first_of (
     (same_clock (manager_port s).clock every_clock, refusals.ManagerIsEvery)
     ∷ (same_clock (target_clock s) every_clock, refusals.TargetIsEvery)
     ∷ (same_clock (manager_port s).clock (target_clock s), refusals.SameClock)
     ∷ (nat_lt s.target_ports 1, refusals.NoPorts)
-    ∷ (nat_lt 8 s.target_ports, refusals.TooManyPorts)
+    ∷ (nat_lt TARGET_PORTS s.target_ports, refusals.TooManyPorts)
     ∷ (is_zero (target_clock s), refusals.TargetIsZero)
     ∷ [])
 

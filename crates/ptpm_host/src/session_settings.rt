@@ -7,6 +7,7 @@ ghost use Rattle.ptpm_host.specs.SessionSettings.{manager_port, session_refusal,
 use crate::refusal::SessionRefusal;
 use crate::settings::NO_IDENTITY;
 use ptpm_codec::{ClockIdentity, PortIdentity};
+use ptpm_manager::TARGET_PORTS;
 
 /// One manager, the clock that it manages, and how its requests are numbered and sent.
 #[repr(C)]
@@ -14,7 +15,7 @@ use ptpm_codec::{ClockIdentity, PortIdentity};
 pub struct SessionSettings {
     /// portNumber of the manager.
     pub port: u16,
-    /// How many ports the managed clock has, 1 to 8.
+    /// How many ports the managed clock has at most, 1 to 255.
     pub target_ports: u16,
     /// The sequenceId of the first request.
     pub first: u16,
@@ -63,7 +64,7 @@ impl SessionSettings {
         if self.target_ports < 1 {
             return Err(SessionRefusal::NoPorts);
         }
-        if self.target_ports > 8 {
+        if self.target_ports > TARGET_PORTS {
             return Err(SessionRefusal::TooManyPorts);
         }
         if target == NO_IDENTITY {

@@ -170,7 +170,7 @@ impl HostedSurvey {
         self.survey.receive(datagram)
     }
 
-    /// How many answers are kept, at most 512.
+    /// How many answers are kept, at most 16,384.
     pub fn count(&self) -> usize
         ensures { result ≡ length self.now.survey.answers }
     {

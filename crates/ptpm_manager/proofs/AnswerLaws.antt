@@ -12,7 +12,7 @@ use Rattle.ptpm_codec.specs.Identity.{same_identity}
 use Rattle.ptpm_codec.proofs.IdentityLaws.{same_identity-true}
 use Rattle.ptpm_manager.specs.declared.enquiry.Enquiry.{Enquiry}
 use Rattle.ptpm_manager.specs.declared.receiving.Reason.{Reason}
-use Rattle.ptpm_manager.specs.Answers.{Answer, answer_of_heard, firsts, first_of_each_source, has_answered, heard, kept_by}
+use Rattle.ptpm_manager.specs.Answers.{Answer, answer_limit, answer_of_heard, firsts, first_of_each_source, has_answered, heard, kept_by}
 
 -- whether a look-up in a list of entries finds something
 pub is_some-lookup : {K X : Type 0} (test : K → Bool) (es : List (K × X))
@@ -85,42 +85,42 @@ firsts-snoc (x ∷ xs) a = ap (λ kept. x ∷ filter (λ b. not (same_identity b
 
 -- one more answer, if there is room for it, and if there is none
 
-kept-small : (kept : List Answer) (a : Answer) → length kept < 512
-    → kept_by kept (Ok a) ≡ take 512 (cond (has_answered a.0 kept) kept (kept ++ a ∷ []))
+kept-small : (kept : List Answer) (a : Answer) → length kept < answer_limit
+    → kept_by kept (Ok a) ≡ take answer_limit (cond (has_answered a.0 kept) kept (kept ++ a ∷ []))
 kept-small kept a room =
     elim (has_answered a.0 kept)
-    as (λ b. cond b kept (cond (nat_lt (length kept) 512) (kept ++ a ∷ []) kept) ≡ take 512 (cond b kept (kept ++ a ∷ []))) [
-      | true ↦ sym (take_all 512 kept (omega arith))
-      | false ↦ cond-true _ (kept ++ a ∷ []) kept (lt-ltb (length kept) 512 room)
-          ∙ sym (take_all 512 (kept ++ a ∷ []) (omega (arith, length-append kept (a ∷ []))))
+    as (λ b. cond b kept (cond (nat_lt (length kept) answer_limit) (kept ++ a ∷ []) kept) ≡ take answer_limit (cond b kept (kept ++ a ∷ []))) [
+      | true ↦ sym (take_all answer_limit kept (omega arith))
+      | false ↦ cond-true _ (kept ++ a ∷ []) kept (lt-ltb (length kept) answer_limit room)
+          ∙ sym (take_all answer_limit (kept ++ a ∷ []) (omega (arith, length-append kept (a ∷ []))))
     ]
 
 kept-full : (answers : List Answer) (a : Answer)
-    → 512 ≤ length answers
+    → answer_limit ≤ length answers
     → kept_by answers (Ok a) ≡ answers
 kept-full answers a full =
-    elim (has_answered a.0 answers) as (λ b. cond b answers (cond (nat_lt (length answers) 512) (answers ++ a ∷ []) answers) ≡ answers)
-    [ true ↦ refl | false ↦ cond-false _ (answers ++ a ∷ []) answers (le-ltb (length answers) 512 full) ]
+    elim (has_answered a.0 answers) as (λ b. cond b answers (cond (nat_lt (length answers) answer_limit) (answers ++ a ∷ []) answers) ≡ answers)
+    [ true ↦ refl | false ↦ cond-false _ (answers ++ a ∷ []) answers (le-ltb (length answers) answer_limit full) ]
 
 taken-full : (kept : List Answer) (a : Answer) (b : Bool)
-    → 512 ≤ length kept
-    → take 512 (cond b kept (kept ++ a ∷ [])) ≡ take 512 kept
+    → answer_limit ≤ length kept
+    → take answer_limit (cond b kept (kept ++ a ∷ [])) ≡ take answer_limit kept
 taken-full kept a true full = refl
-taken-full kept a false full = take-append-le 512 kept (a ∷ []) full
+taken-full kept a false full = take-append-le answer_limit kept (a ∷ []) full
 
-kept-firsts : (answers kept : List Answer) (a : Answer) → answers ≡ take 512 kept
-    → kept_by answers (Ok a) ≡ take 512 (cond (has_answered a.0 kept) kept (kept ++ a ∷ []))
+kept-firsts : (answers kept : List Answer) (a : Answer) → answers ≡ take answer_limit kept
+    → kept_by answers (Ok a) ≡ take answer_limit (cond (has_answered a.0 kept) kept (kept ++ a ∷ []))
 kept-firsts answers kept a h =
     ⊎_elim
-    (λ (room : length kept < 512). ap (λ l. kept_by l (Ok a)) (h ∙ take_all 512 kept (omega arith)) ∙ kept-small kept a room)
-    (λ (full : 512 ≤ length kept).
-    kept-full answers a (omega (arith, ap length h, length-take-le 512 kept full)) ∙ h ∙ sym (taken-full kept a _ full))
-    (cases_lt (length kept) 512)
+    (λ (room : length kept < answer_limit). ap (λ l. kept_by l (Ok a)) (h ∙ take_all answer_limit kept (omega arith)) ∙ kept-small kept a room)
+    (λ (full : answer_limit ≤ length kept).
+    kept-full answers a (omega (arith, ap length h, length-take-le answer_limit kept full)) ∙ h ∙ sym (taken-full kept a _ full))
+    (cases_lt (length kept) answer_limit)
 
-kept-heard : (answers xs : List Answer) (r : Result Answer Reason) → answers ≡ take 512 (firsts xs)
-    → kept_by answers r ≡ take 512 (firsts (xs ++ filter_map answer_of_heard (r ∷ [])))
-kept-heard answers xs (Ok a) h = kept-firsts answers (firsts xs) a h ∙ sym (ap (take 512) (firsts-snoc xs a))
-kept-heard answers xs (Err reason) h = h ∙ sym (ap (λ l. take 512 (firsts l)) (append-nil xs))
+kept-heard : (answers xs : List Answer) (r : Result Answer Reason) → answers ≡ take answer_limit (firsts xs)
+    → kept_by answers r ≡ take answer_limit (firsts (xs ++ filter_map answer_of_heard (r ∷ [])))
+kept-heard answers xs (Ok a) h = kept-firsts answers (firsts xs) a h ∙ sym (ap (take answer_limit) (firsts-snoc xs a))
+kept-heard answers xs (Err reason) h = h ∙ sym (ap (λ l. take answer_limit (firsts l)) (append-nil xs))
 
 -- one more datagram
 pub first_of_each_source-snoc : (e : Enquiry) (datagrams : List (List ℕ)) (d : List ℕ)
@@ -130,7 +130,7 @@ pub first_of_each_source-snoc : (e : Enquiry) (datagrams : List (List ℕ)) (d :
 unfolding first_of_each_source
 first_of_each_source-snoc e datagrams d answers h =
     kept-heard answers (filter_map (λ x. answer_of_heard (heard e x)) datagrams) (heard e d) h
-    ∙ sym (ap (λ l. take 512 (firsts l)) (filter_map-append (λ x. answer_of_heard (heard e x)) datagrams (d ∷ [])))
+    ∙ sym (ap (λ l. take answer_limit (firsts l)) (filter_map-append (λ x. answer_of_heard (heard e x)) datagrams (d ∷ [])))
 
 -- the same, if the datagram was heard as r, and this is what is left of the answers
 pub first_of_each_source-left : (e : Enquiry) (datagrams : List (List ℕ)) (d : List ℕ)

@@ -17,6 +17,7 @@ use Rattle.ptpm_codec.proofs.CanonicalLaws.{by_eight}
 use Rattle.ptpm_data.specs.ManagementId.{is_of_port}
 use Rattle.ptpm_data.specs.Request.{RequestValue}
 use Rattle.ptpm_manager.specs.declared.setup.Setup.{Setup}
+use Rattle.ptpm_manager.specs.declared.setup.TheConstants.{TARGET_PORTS}
 use Rattle.ptpm_manager.specs.Ask.{IsAskedOf, is_target_of, names_port}
 use Rattle.ptpm_manager.specs.Image.{SessionFits, SetupFits, UnansweredFits, body_front, body_image, data_field_of, image_front, image_head, image_of, request_front, request_image, session_front, session_image, session_kind, setup_image, unanswered_image}
 use Rattle.ptpm_manager.specs.ImageReading.{count_at, request_action, request_at, session_at, setup_at}
@@ -110,7 +111,7 @@ action_back actions.Response request = cc
 action_back actions.Command request = refl
 action_back actions.Acknowledge request = cc
 
-port_small : (ports : ℕ) (q : RequestValue) → ports ≤ 8 → IsAskedOf ports q → q.port < 2 ^ 16
+port_small : (ports : ℕ) (q : RequestValue) → ports ≤ TARGET_PORTS → IsAskedOf ports q → q.port < 2 ^ 16
 port_small ports q few request = ⊎_elim
     (λ (named : (1 ≤ q.port) × (q.port ≤ ports)). let most = named.1 in omega arith)
     (λ (every : (is_of_port q.id ≡ false) × (q.port ≡ every_port)). let is = every.1 in omega arith)
@@ -152,7 +153,7 @@ saved_of setup domain issued reported unanswered = record {
 
 session_back : (setup : Setup) (domain issued reported : ℕ) (unanswered : Option RequestValue)
     → SetupFits setup
-    → setup.ports ≤ 8
+    → setup.ports ≤ TARGET_PORTS
     → issued ≤ count_limit
     → reported ≤ count_limit
     → UnansweredFits unanswered
@@ -245,7 +246,7 @@ long setup domain issued reported (Some asked) fits =
 
 setup_true : (setup : Setup) → IsSetup setup → is_setup setup ≡ true
 setup_true setup c =
-    rw (c.clocks.me_is_one, c.clocks.target_is_one, c.clocks.apart, le-leb 1 setup.ports c.some_port, le-leb setup.ports 8 c.few_ports) refl
+    rw (c.clocks.me_is_one, c.clocks.target_is_one, c.clocks.apart, le-leb 1 setup.ports c.some_port, le-leb setup.ports TARGET_PORTS c.few_ports) refl
 
 data_field_true : (octets : List ℕ) → IsDataField octets → is_data_field octets ≡ true
 data_field_true octets d = and_from _ _ (eq-eqb _ _ d.even) (le-leb _ 1418 d.small)

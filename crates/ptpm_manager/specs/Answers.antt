@@ -42,9 +42,9 @@ firsts (a ∷ further) = a ∷ filter (λ b. not (same_identity b.0 a.0)) (first
 
 -- how many ports a survey keeps at most
 abbrev pub answer_limit : ℕ
-answer_limit = 512
+answer_limit = 16384
 
--- of the datagrams that are not ignored, the first of each source, as source and outcome, in order, and at most 512
+-- of the datagrams that are not ignored, the first of each source, as source and outcome, in order, and at most 16,384
 unfoldable pub first_of_each_source : Enquiry → List (List ℕ) → List Answer
 first_of_each_source e datagrams = take answer_limit (firsts (filter_map (λ d. answer_of_heard (heard e d)) datagrams))
 

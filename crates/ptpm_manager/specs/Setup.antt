@@ -9,6 +9,7 @@ use Rattle.ptpm_codec.specs.Identity.{every_clock, same_clock, same_identity}
 use Rattle.ptpm_codec.specs.SequenceNumber.{number_of}
 use Rattle.ptpm_data.specs.Request.{RequestValue}
 use Rattle.ptpm_manager.specs.declared.setup.Setup.{Setup}
+use Rattle.ptpm_manager.specs.declared.setup.TheConstants.{TARGET_PORTS}
 
 -- a session and its clock are two clocks, and neither is the identity that means every clock
 pub record AreTwoClocks (me target : ClockIdentity) : Type 0 where
@@ -16,17 +17,17 @@ pub record AreTwoClocks (me target : ClockIdentity) : Type 0 where
   pub target_is_one : same_clock target every_clock ≡ false
   pub apart : same_clock me target ≡ false
 
--- what each session is set up with: another clock than its own, which has one to eight ports
+-- what each session is set up with: another clock than its own, which has 1 to 255 ports
 pub record IsSetup (setup : Setup) : Type 0 where
   pub clocks : AreTwoClocks setup.me.clock setup.target
   pub some_port : 1 ≤ setup.ports
-  pub few_ports : setup.ports ≤ 8
+  pub few_ports : setup.ports ≤ TARGET_PORTS
 
 -- the same as a test
 abbrev pub is_setup : Setup → Bool
 is_setup setup =
     not (same_clock setup.me.clock every_clock) && not (same_clock setup.target every_clock)
-    && not (same_clock setup.me.clock setup.target) && nat_le 1 setup.ports && nat_le setup.ports 8
+    && not (same_clock setup.me.clock setup.target) && nat_le 1 setup.ports && nat_le setup.ports TARGET_PORTS
 
 -- whether it is that of this manager with this clock of this many ports, whose first request has this number
 abbrev pub is_setup_of : PortIdentity → ClockIdentity → ℕ → ℕ → Setup → Bool

@@ -12,7 +12,7 @@ use ptpm_codec::{OutOfMemory, PortIdentity, View};
 use std::alloc::Global;
 
 /// How many answers a survey keeps at most (this project's profile).
-pub const ANSWERS: usize = 512;
+pub const ANSWERS: usize = 16_384;
 
 /// Keeps the answer that a message is, if it is the first of its port and there is room.
 pub(crate) fn keep(

@@ -9,7 +9,7 @@ ghost use Rattle.ptpm_manager.specs.Session.{IsConsistent};
 
 use crate::saved::Saved;
 use crate::session::Session;
-use crate::setup::Setup;
+use crate::setup::{Setup, TARGET_PORTS};
 use arrayvec::ArrayVec;
 use ptpm_codec::{DATA_FIELD_OCTETS, put, put_u16};
 use ptpm_data::Request;
@@ -204,7 +204,7 @@ fn put_u32(front: &mut Front, number: u32)
 #[tactic(auto, unfolding(crate::specs::Image::setup_image, ptpm_codec::specs::Canonical::port_identity_octets))]
 fn put_setup(body: &mut Body, setup: &Setup)
     requires room { array_vec_len body.old + 23 ≤ BODY_OCTETS }
-    requires ports { setup.now.ports ≤ 8 }
+    requires ports { setup.now.ports ≤ TARGET_PORTS }
     ensures items { body.new.items ≡ body.old.items ++ setup_image setup.now }
     ensures len { array_vec_len body.new ≡ array_vec_len body.old + 23 }
 {

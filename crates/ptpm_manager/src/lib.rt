@@ -23,4 +23,5 @@ pub use image::SESSION_OCTETS;
 pub use receiving::{Reason, Received, Surveyed};
 pub use report::{Outcome, Report};
 pub use session::Session;
+pub use setup::TARGET_PORTS;
 pub use survey::Survey;

@@ -66,7 +66,7 @@ pub enum Surveyed {
     Taken,
     /// Its port has answered before, and that answer stays.
     Again,
-    /// It is of a further port, and 512 have answered.
+    /// It is of a further port, and 16,384 have answered.
     Full,
     /// It is no answer to the survey, and changes nothing.
     Ignored(Reason),

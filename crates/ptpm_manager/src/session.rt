@@ -16,7 +16,7 @@ use crate::error::{BeginError, GiveUpRefusal, SendError};
 use crate::receiving::{Reason, Received, no_reply_to};
 use crate::report::{Report, outcome_in};
 use crate::saved::Saved;
-use crate::setup::Setup;
+use crate::setup::{Setup, TARGET_PORTS};
 use ptpm_codec::{Action, Buffer, ClockIdentity, OutOfMemory, PortIdentity, View, encode, view};
 use ptpm_data::Request;
 use std::alloc::Global;
@@ -64,7 +64,7 @@ impl Session {
     ghost use Rattle.ptpm_manager.specs.Session.{IsConsistent, anew, begin_at_refusal, begin_refusal, begun, count_limit, due_message, fresh, give_up_refusal, given_up, is_waiting, over_count, resumed, retuned, send_refusal, sent};
     ghost use Rattle.ptpm_manager.specs.Setup.{AreTwoClocks};
 
-    /// A session of `me` that has begun nothing, with a target of one to eight ports, in a domain. Neither clock is all ones,
+    /// A session of `me` that has begun nothing, with a target of 1 to 255 ports, in a domain. Neither clock is all ones,
     /// and they are two. The k-th request, counted from 1, has sequence number (first + k - 1) mod 65,536. Each request has
     /// `hops` in both hop fields, and may be sent `attempts` times, 0 to 255. Takes no memory: `alloc` is kept for the octets of
     /// requests and answers.
@@ -80,7 +80,7 @@ impl Session {
     ) -> Session
         requires clocks { AreTwoClocks me.clock target }
         requires some_port { 1 ≤ ports }
-        requires few_ports { ports ≤ 8 }
+        requires few_ports { ports ≤ TARGET_PORTS }
         ensures { result ≡ fresh (record { me = me; target = target; ports = ports; first = first; hops = hops; attempts = attempts }) domain }
     {
         Session {

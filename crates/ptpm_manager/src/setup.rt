@@ -8,6 +8,9 @@ ghost use Rattle.ptpm_manager.specs.Setup.{IsSetup, is_setup, is_setup_of, reque
 use crate::ask::Pending;
 use ptpm_codec::{ClockIdentity, Draft, DraftBody, PortIdentity};
 
+/// How many ports a session takes its clock to have at most: its image has one octet for them.
+pub const TARGET_PORTS: u16 = 255;
+
 /// What is settled once for all requests of a session.
 #[derive(Clone, Copy, Debug)]
 pub(crate) struct Setup {
@@ -35,7 +38,7 @@ impl Setup {
             && self.target != ClockIdentity::EVERY
             && self.me.clock != self.target
             && 1 <= self.ports
-            && self.ports <= 8
+            && self.ports <= TARGET_PORTS
     }
 
     /// Whether it is that of this manager with this clock of this many ports, whose first request has this number.

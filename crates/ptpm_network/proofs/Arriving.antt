@@ -159,7 +159,7 @@ joins-own N w c port f n r place j =
     let v : Message = request_at N s j.of.k says.domain says.hops says.request in
     let has : names_port (ports N c) says.request.port ≡ true = (copy_parts (N.clock c) (ports N c) v (j.of.read v says.message.read)).port in
     let one : IsForOne (ports N c) q = subst (IsForOne (ports N c)) (sym j.of.request)
-    (for_one-there (expected_ports N s) (ports N c) says.request says.asked.one (n.are_sessions s says.place).at_most_eight has) in
+    (for_one-there (expected_ports N s) (ports N c) says.request says.asked.one (n.are_sessions s says.place).few_ports has) in
     record {
       index = subst (λ i. i ≤ length (w.session s).begun) (sym j.of.index) says.within;
       begun_as = ap (λ i. slice_get (w.session s).begun (i - 1)) j.of.index ∙ says.begun_as ∙ ap Some (sym j.of.request);

@@ -244,7 +244,7 @@ begins-honest N r t a n h place id e =
     let value = h.sessions t place in
     let fine = (begin-not_refused (r.session t) a e).1 in
     let asked : IsAsked (expected_ports N t) (ask.request_of a) =
-    asked-not_refused (expected_ports N t) a session.at_most_eight id
+    asked-not_refused (expected_ports N t) a session.few_ports id
     (subst (λ p. ask_refusal p a ≡ None) (ap (λ (x : Setup). x.ports) value.setup) fine) in grind arith
 
 module _ (N : Network) (n : IsNetwork N) (r : RunningNetwork) (h : IsHonest N r) where

@@ -103,7 +103,7 @@ begins-reached N w s a n r place id e =
     let parts = begin-not_refused (session_value (N.session s) (w.session s)) a (option_map-none BeginRefused (begin_refusal (session_value (N.session s) (w.session s)) a) e) in
     let idle = idle-not_waiting (N.session s) (w.session s) (le_trans at.accepted_before at.begun_before) parts.0 in
     let asked : IsAsked (expected_ports N s) (ask.request_of a) =
-    asked-not_refused (expected_ports N s) a (n.are_sessions s place).at_most_eight id parts.1 in
+    asked-not_refused (expected_ports N s) a (n.are_sessions s place).few_ports id parts.1 in
     session-changes N w s _ (λ i q h. grind (arith, get_append))
     (in_step-begun (manager N s) (expected_ports N s) (accepted_at_target N w s) (w.session s) (ask.request_of a) (N.session s).setup.attempts asked (eqb-true _ _ idle) at) r
 

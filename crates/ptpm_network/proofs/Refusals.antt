@@ -1,6 +1,7 @@
 -- What an event that is not refused shows.
 use Rattle.ptpm_network.proofs.Common.{by_test, arith, ◌≡◌, ℕ, ◌<◌, ◌≤◌, ◌-◌, ◌^◌, Option, Some, None, true, false, refl, sym, ◌∙◌, ap, length, cond-false, true≢false, nat_lt, option_map, is_some, first_of-none, option_or-none, Ask, ask_refusal, SessionValue, begin_refusal, is_waiting, IsAsked, SessionState, is_idle, session_value, SessionStart, eqb-false}
 use Rattle.ptpm_data.proofs.OwnOctets.{some_at}
+use Rattle.ptpm_manager.specs.declared.setup.TheConstants.{TARGET_PORTS}
 use Rattle.ptpm_manager.specs.Ask.{request_of}
 use Rattle.ptpm_manager.proofs.AskLaws.{request_of-permitted}
 
@@ -11,7 +12,7 @@ option_map-none f (Some a) e = absurd (cc)
 -- ---- an ask that is not refused
 
 pub asked-not_refused : (ports : ℕ) (a : Ask)
-    → ports ≤ 8 → a.id < 2 ^ 16 → ask_refusal ports a ≡ None
+    → ports ≤ TARGET_PORTS → a.id < 2 ^ 16 → ask_refusal ports a ≡ None
     → IsAsked ports (request_of a)
 asked-not_refused ports a few id e = grind (arith, request_of-permitted)
 

@@ -9,6 +9,7 @@ use Rattle.ptpm_data.specs.RequestLaws.{IsFieldWithin, IsSized, field_limit}
 use Rattle.ptpm_data.proofs.FieldSizes.{of_id}
 use Rattle.ptpm_data.proofs.Observed.{observed-ports, observed-sized}
 use Rattle.ptpm_data.proofs.ReplyLemmas.{answers_of, reply_of-one}
+use Rattle.ptpm_manager.specs.declared.setup.TheConstants.{TARGET_PORTS}
 
 -- ---- data sets of a number of ports
 
@@ -101,7 +102,7 @@ read_answered q ports d s = reply_of-answers q (read_refusal q) d (sized ports d
 
 -- a port that a manager takes a clock to have, and that a clock has
 pub for_one-there : (expected ports : ℕ) (q : RequestValue)
-    → IsForOne expected q → expected ≤ 8 → names_port ports q.port ≡ true
+    → IsForOne expected q → expected ≤ TARGET_PORTS → names_port ports q.port ≡ true
     → IsForOne ports q
 for_one-there expected ports q one few named = λ is. ⊎_elim
     (λ (every : q.port == every_port ≡ true). absurd (omega (arith, (one is).1, eqb-true q.port every_port every, few)))

@@ -164,7 +164,7 @@ module _ (N : Network) (n : IsNetwork N) (s : ℕ) (place : s < N.sessions) (r :
         answers = grind (arith, reply-answers);
         one = once (request_of v) ((N.clock c).rights v.source) (ports N c) (r.clock c).sets clock.sets
             (for_one-there (expected_ports N s) (ports N c) (request_of v) (subst (λ (q : RequestValue). IsForOne (expected_ports N s) q) (sym request) says.asked.one)
-            (n.are_sessions s place).at_most_eight (subst (λ p. names_port p v.target.port ≡ true) clock.sets.ports_are parts.port));
+            (n.are_sessions s place).few_ports (subst (λ p. names_port p v.target.port ≡ true) clock.sets.ports_are parts.port));
       }
 
   held-here : HasEnd N (AtPort (N.session s).target port)

@@ -8,6 +8,7 @@ use Rattle.ptpm_data.specs.Members.{DataSetsValue}
 use Rattle.ptpm_table.specs.Entries.{is_known}
 use Rattle.ptpm_agent.specs.Turn.{Clock}
 use Rattle.ptpm_manager.specs.declared.setup.Setup.{Setup}
+use Rattle.ptpm_manager.specs.declared.setup.TheConstants.{TARGET_PORTS}
 use Rattle.ptpm_network.specs.DataSets.{AreDataSets}
 
 -- The end at which a message is sent or comes in: a port of a clock, or a session. Each is given by its place in the
@@ -69,7 +70,7 @@ pub record IsClock (N : Network) (c : ℕ) : Type 0 where
   pub at_most_eight : ports N c ≤ 8
   pub start : AreDataSets (ports N c) (N.start c)
 
--- A session with one of the clocks for its target, set up with that clock's identity. It takes the clock to have one to eight ports,
+-- A session with one of the clocks for its target, set up with that clock's identity. It takes the clock to have 1 to 255 ports,
 -- whatever the clock has.
 pub record IsSession (N : Network) (s : ℕ) : Type 0 where
   pub identity : PortIdentityFits (manager N s)
@@ -77,7 +78,7 @@ pub record IsSession (N : Network) (s : ℕ) : Type 0 where
   pub exists : (N.session s).target < N.clocks
   pub target : (N.session s).setup.target ≡ (N.clock (N.session s).target).identity
   pub some_port : 1 ≤ expected_ports N s
-  pub at_most_eight : expected_ports N s ≤ 8
+  pub few_ports : expected_ports N s ≤ TARGET_PORTS
 
 -- a link of 2 to 16 ends, and each end is there
 pub record IsLink (N : Network) (link : List End) : Type 0 where

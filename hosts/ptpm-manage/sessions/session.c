@@ -140,7 +140,9 @@ void open_session(struct kept_session *session, const struct task *task) {
         session->has_file = false;
         break;
     case BROKEN_SESSION_FILE: refuse_octets(PTPM_DAMAGED);
-    case SESSION_FILE: open_octets(session, task, octets, size);
+    case SESSION_FILE:
+        take_former_image(octets, size);
+        open_octets(session, task, octets, size);
     }
 }
 

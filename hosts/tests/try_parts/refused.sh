@@ -61,7 +61,7 @@ $to_utc -32769 leap61 0 leap59 0 currentUtcOffsetValid 1|currentUtcOffset -32769
 -i near0 --give-up --target $to get PRIORITY1|--give-up: no session is kept of what is asked
 -i near0 --give-up apply $work/site.toml|--give-up: of a plan it is of resume alone
 -i near0 --target $to get PORT_DATA_SET|nothing was asked: NEEDS_PORT
--i near0 --target $to -p 9 -k $work/nine get PRIORITY1|no session is kept of a port above 8
+-i near0 --target $to -p 256 -k $work/other get PRIORITY1|no session is kept of a port above 255
 -i near0 --target $to get PRIORITY1 PRIORITY2|get takes one managementId: PRIORITY2 is asked for by a run of its own
 -i near0 --target $to -p all set PRIORITY1 1|--port all goes with get alone
 -i near0 -p all survey PRIORITY1|--port all goes with get alone
