@@ -5,9 +5,11 @@
 #include "output.h"
 #include "ptp4l_check.h"
 #include "ptp4l_mute.h"
+#include "ptp4l_settings.h"
 #include <poll.h>
 #include <signal.h>
 #include <stdlib.h>
+#include <string.h>
 
 enum { LOOK_AGAIN = 500 };      /* milliseconds after which it is seen whether the ptp4l is still there */
 
@@ -19,9 +21,16 @@ void start_changes(const struct options *given) {
     if (options->state == NULL) say("without -s a SET may be made again after a restart of this program");
 }
 
-/* The SETs that a ptp4l takes. */
-static bool is_of_ptp4l(const struct ptpm_question *asked) {
-    return asked->action == PTPM_SET && (asked->id == PTPM_ID_PRIORITY1 || asked->id == PTPM_ID_PRIORITY2);
+static bool is_of_ptp4l(const struct ptpm_question *asked) { return asked->action == PTPM_SET && id_at_ptp4l(asked->id) != 0; }
+
+/* Reads a dataField of the ptp4l's life that was asked last; whether it has at least this size, and the first octets of it. */
+static bool read_field(uint16_t id, uint8_t *field, size_t size) {
+    struct ptp4l_answer answer;
+    uint16_t number;
+    if (!ask_ptp4l(options->settings.identity, PTPM_GET, id, EVERY_PORT, NULL, 0, &number)) return false;
+    if (!hear_ptp4l(number, milliseconds() + PTP4L_PATIENCE, &answer) || answer.error != 0 || answer.size < size) return false;
+    memcpy(field, answer.field, size);
+    return true;
 }
 
 /* What is answered without the ptp4l: to a SET of NULL_PTP_MANAGEMENT, which changes nothing, and to what no ptp4l takes. */
@@ -32,16 +41,37 @@ static const struct ptpm_say *say_alone(const struct ptpm_question *asked) {
     return asked->id == PTPM_ID_NULL_PTP_MANAGEMENT ? &agreement : &refusal;
 }
 
+/* The UTC properties that a ptp4l shows are those of its grandmaster. It takes them if this is itself. */
+static enum judged judge_utc(const struct ptpm_say **say) {
+    static const struct ptpm_say refusal = { .kind = PTPM_OBJECTS, .error = PTPM_ERROR_NOT_SETABLE };
+    enum { GRANDMASTER_AT = 24, PARENT_OCTETS = 32 };
+    uint8_t parent[PARENT_OCTETS];
+    if (!read_field(PTPM_ID_PARENT_DATA_SET, parent, sizeof parent)) return IS_LOST;
+    if (memcmp(parent + GRANDMASTER_AT, options->settings.identity, sizeof options->settings.identity) == 0) return MAY_BE_ASKED;
+    *say = &refusal;
+    return IS_SAID;
+}
+
 enum judged judge_change(const struct ptpm_question *asked, const struct ptpm_say **say) {
     if (is_probing()) return IS_TOO_EARLY;
     if (!is_ptp4l_mute()) return IS_LOST;
     *say = say_alone(asked);
-    return *say != NULL ? IS_SAID : MAY_BE_ASKED;
+    if (*say != NULL) return IS_SAID;
+    return asked->id == PTPM_ID_UTC_PROPERTIES ? judge_utc(say) : MAY_BE_ASKED;
+}
+
+/* Asks once. What is set beside what is asked for was read right before. */
+static bool ask_once(const struct ptpm_question *asked) {
+    uint8_t settings[SETTINGS_OCTETS];
+    uint16_t id = id_at_ptp4l(asked->id), *number = &under_way.number;
+    if (id == asked->id) return ask_ptp4l(options->settings.identity, PTPM_SET, id, asked->port, asked->octets, asked->size, number);
+    if (!read_field(id, settings, sizeof settings)) return false;
+    put_members(settings, asked);
+    return ask_ptp4l(options->settings.identity, PTPM_SET, id, asked->port, settings, sizeof settings, number);
 }
 
 bool ask_for_change(const struct ptpm_question *asked) {
-    uint16_t *number = &under_way.number;
-    if (!ask_ptp4l(options->settings.identity, asked->action, asked->id, asked->port, asked->octets, asked->size, number)) return false;
+    if (!ask_once(asked)) return false;
     under_way.is_there = true;
     under_way.life = ptp4l_life();
     under_way.look = milliseconds() + LOOK_AGAIN;
@@ -55,9 +85,9 @@ static void decide(uint16_t error) {
     take_word(&say);
 }
 
-/* Whether an answer has the value that is asked for: the first octet of these ids. What follows is reserved. */
+/* Whether an answer has the value that is asked for. */
 static bool has_value(const struct ptp4l_answer *answer, const struct ptpm_question *asked) {
-    return answer->error == 0 && answer->id == asked->id && answer->size > 0 && answer->field[0] == asked->octets[0];
+    return answer->error == 0 && answer->id == id_at_ptp4l(asked->id) && has_members(answer->field, answer->size, asked);
 }
 
 void take_answer_to_change(const struct ptp4l_answer *answer) {
@@ -93,7 +123,7 @@ static bool ask_for_value(const struct ptpm_question *asked, uint16_t *number) {
         case IS_NOT_THERE: case IS_ANOTHER_CLOCK: return false;
         case IS_CLOSED: case HAS_OTHER_PORTS: refuse_to_look();
         case IS_OURS:
-            if (get_from_ptp4l(asked->id, asked->port, number)) return true;
+            if (get_from_ptp4l(id_at_ptp4l(asked->id), asked->port, number)) return true;
             break;
         case IS_SILENT: break;
         }

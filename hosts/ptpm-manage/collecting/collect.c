@@ -27,8 +27,8 @@ enum { STEP = 50, DOMAIN_STEP = 4, BURST = 128, MOST_SILENT = 128, DOMAINS_AT_ON
 enum { SLOW = 2000 };
 
 /* Every clock is asked again whether it is there. That ends if QUIET_ROUNDS brought nothing new, and a clock is missed less than once in
-   MOST_MISSED collections. A round lasts 300 ms at least, so that a clock is found that was silent for half a second. One of a plan lasts 500 ms.
-   If answers are lost a round has several censuses. */
+   MOST_MISSED collections. Round N of one census does not end before N times 300 ms. So a clock is found that was silent for half a second.
+   For a plan it is 500 ms. If answers are lost a round has several censuses, and what is lacking is asked again between them. */
 enum { QUIET_ROUNDS = 2, MOST_MISSED = 1000, ROUND = 300, ROUND_OF_PLAN = 500, MOST_ROUNDS = 10, CENSUSES_OF_LOSSY = 3 };
 
 /* A socket without room is tried again this often, this many milliseconds apart. A silence that never comes is waited for this
@@ -80,8 +80,6 @@ static size_t expected_count;
 
 /* What is asked for a plan is read by nobody who wants to know what else was heard. */
 static bool is_site(void) { return collected == &of_site; }
-
-static int64_t least_round(void) { return is_site() ? ROUND : ROUND_OF_PLAN; }
 
 static bool is_of_port(unsigned id) {
     for (size_t i = 0; i < sizeof of_ports / sizeof *of_ports; i++) {
@@ -261,15 +259,13 @@ static bool send_when_room(const uint8_t *message, size_t size, bool is_written)
     return false;
 }
 
-/* Asks every clock for the ids, or in the censuses, of a number of requests, one after the other. */
-static void ask_every(size_t first, unsigned count, bool is_census) {
-    for (unsigned id = 0; id < count && !stopped && !has_no_transport; id++) {
-        int64_t end = milliseconds() + STEP;
-        for (size_t i = first; i < request_count; i++) {
-            if (requests[i].id == id) send_when_room(requests[i].message, requests[i].size, !is_census);
-        }
-        if (id + 1 < count) hear_until(end);
+/* Asks every clock for an id, or in a census: the requests from a place on that are of it. When the next of them may go out. */
+static int64_t ask_every(size_t first, unsigned id) {
+    int64_t end = milliseconds() + STEP;
+    for (size_t i = first; i < request_count; i++) {
+        if (requests[i].id == id) send_when_room(requests[i].message, requests[i].size, !requests[i].is_census);
     }
+    return end;
 }
 
 static const struct request *request_of(struct domain domain, unsigned id) {
@@ -406,8 +402,11 @@ struct rounds {
     int round, quiet;                   /* the later round that it is; how many of the latest brought nothing new */
     size_t with_census;                 /* how many later rounds had one */
     unsigned asked;                     /* how often every clock was asked something */
-    int64_t begun;                      /* when the latest round was */
+    int64_t begun;                      /* when the first one was */
 };
+
+/* When the latest round may end. */
+static int64_t least_end(const struct rounds *rounds) { return rounds->begun + (rounds->round + 1) * (is_site() ? ROUND : ROUND_OF_PLAN); }
 
 /* Whether no clock is missing, as far as the rounds show. Of what every clock is asked a part has no answer. A clock that is asked N times is
    missed by this part to the power N. */
@@ -431,12 +430,16 @@ static bool start_censuses(const struct task *task, const struct rounds *rounds,
 static unsigned take_census(const struct task *task, struct rounds *rounds) {
     size_t first = request_count;
     unsigned censuses = lost_share() > 0 ? CENSUSES_OF_LOSSY : 1;
-    rounds->begun = milliseconds();
+    int64_t next = milliseconds();
     if (!start_censuses(task, rounds, censuses)) {
         rounds->round = MOST_ROUNDS;
         return 0;
     }
-    ask_every(first, censuses, true);
+    for (unsigned census = 0; census < censuses && !stopped && !has_no_transport; census++) {
+        hear_until(next);
+        if (census > 0 && rounds->round <= task->settings.attempts && count_lacking() <= BURST) ask_lacking();
+        next = ask_every(first, census);
+    }
     rounds->asked += censuses;
     rounds->with_census++;
     return censuses;
@@ -455,7 +458,7 @@ static bool ask_again(const struct task *task, struct rounds *rounds) {
     if (lacks > 0 && !is_found) hear_until(milliseconds() + STEP);
     unsigned censuses = is_found ? 0 : take_census(task, rounds);
     hear_until_quiet(task);
-    if (censuses > 0) hear_until(rounds->begun + least_round());
+    if (censuses == 1) hear_until(least_end(rounds));
     end_round(censuses);
     stop_requests(base);
     let_go += let_go_of_silent(MOST_SILENT);
@@ -487,9 +490,13 @@ static bool ask_in(const struct task *task, const struct domain *domains, size_t
     show_progress("%zu clocks so far; asking from domain %s on", seen_count(), first);
     begin_rounds();
     is_absent_let_go = false;
-    ask_every(0, (unsigned)collected->count, false);
+    int64_t next = rounds.begun;
+    for (unsigned id = 0; id < collected->count && !stopped && !has_no_transport; id++) {
+        hear_until(next);
+        next = ask_every(0, id);
+    }
     hear_until_quiet(task);
-    hear_until(rounds.begun + least_round());
+    hear_until(least_end(&rounds));
     do rounds.round++;
     while (!stopped && !has_no_transport && ask_again(task, &rounds));
     wait_for_slow(task);
