@@ -4,7 +4,7 @@ use Rattle.ptpm_agent.proofs.Egress.{copies_up_to-all, length-copies_up_to_but_o
 use Rattle.ptpm_network.proofs.Answering.{keeps_due}
 use Rattle.ptpm_network.proofs.Arriving.{IsCopyOf, arrives-reached, is_copy_of}
 use Rattle.ptpm_network.proofs.Frames.{IsHeard, heard-frame}
-use Rattle.ptpm_network.proofs.Reaching.{frame_at-is, step-reached, after-step, after-delivery, strange-comes}
+use Rattle.ptpm_network.proofs.Reaching.{frame_at-is, step-reached, after-step, after-delivery, strange-comes, first-reached}
 use Rattle.ptpm_network.proofs.Requests.{read_few}
 use Rattle.ptpm_network.proofs.Schedule.{reached}
 
@@ -152,3 +152,5 @@ run-within N w (e ∷ es) n r i within =
     (after-step (λ (u : NetworkState). length u.frames ≤ 400000) N w e within (λ none. happens-within N w e n r i.0 none within))
 
 -- ---- from where a list of events leads
+
+pub ruleset at_most_225_frames_laws = (happens-few, run-within, first-reached)

@@ -68,3 +68,5 @@ pub copy-delivered : (N : Network) (w : NetworkState) (n c port : ℕ) (f : Fram
     (due_messages (N.clock c) copy (due_reply (N.clock c) (history N w c) copy))
 unfolding happens
 copy-delivered N w n c port f copy at = grind (arith, delivers_copy, forwarded-copy, copy_parts)
+
+pub ruleset one_reply_kept_laws = (latest-kept, older-none, copy-delivered)

@@ -438,3 +438,5 @@ module _ (N : Network) (r : RunningNetwork) (n : IsNetwork N) (h : IsHonest N r)
       (λ y. subst (IsHonest N) (same_Some _ next (sym (cond-true (nat_lt c N.clocks) (Some (after_observation r c o)) None y) ∙ is))
       (observed-honest N r c o h (ltb-true c N.clocks y) i))
       (λ n. none-some next (sym (cond-false (nat_lt c N.clocks) (Some (after_observation r c o)) None n) ∙ is))
+
+pub ruleset managers_that_give_up_are_served_laws = (served-in-order, clock-stays, observed-only)

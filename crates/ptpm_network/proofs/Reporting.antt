@@ -62,3 +62,5 @@ answered-after N past r s hops port ends at place busy attempts way all room =
     let first : ℕ → PortIdentity → ℕ = first_of_sessions N N.sessions in
     let given : AreFirsts N first = firsts N at.promised.network in
     running-answered N past first r s hops port ends at.promised.network at.promised.in_range given (at.stands first given) place busy attempts way all room
+
+pub ruleset running_networks_report_laws = (index-after, worth-after)

@@ -57,3 +57,7 @@ taken-append N w (e ∷ es) fs whole = by_test (is_none (refusal N w e))
     (λ y. let rest : taken N (step N w e) es ≡ es = cc (rw y at whole) in
     cond-true _ _ _ y ∙ ap (λ (ts : List Event). e ∷ ts) (taken-append N (step N w e) es fs rest))
     (λ n. absurd (cc (rw n at whole)))
+
+pub ruleset events_appended_laws = (run-append, in_time-parts, in_time-append)
+
+pub ruleset events_taken_laws = (taken-whole, taken-in_range, taken-in_time, taken-append)

@@ -41,3 +41,5 @@ pub refused-leaves : (N : Network) (w : NetworkState) (c : ℕ) (x : Delivery) (
 refused-leaves N w c x copy r a error is due has refused =
     ap (λ (h : History). h.sets) (history-here N w c x ∙ ap (after_arrival (N.clock c) (history N w c)) is)
     ∙ refused-copy (N.clock c) (history N w c) copy r a error due has refused
+
+pub ruleset strangers_change_nothing_laws = (strangers-leave)

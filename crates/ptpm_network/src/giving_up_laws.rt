@@ -22,6 +22,7 @@ ghost use Rattle.ptpm_network.specs.RunningNetwork.{RunningNetwork};
 ///
 /// Giving up changes no clock. An observation moves the data sets of its clock as `at_most_once_observed` of ptpm_agent says, and
 /// changes nothing else. What events change at a clock is what `requests_carried_out` says.
+#[tactic(auto, using(crate::proofs::GivingUp::decided, crate::proofs::GivingUp::managers_that_give_up_are_served_laws))]
 pub fn managers_that_give_up_are_served()
     ensures served { (N : Network) (s : ℕ) (r : RunningNetwork) (a : Account) →
         HasHistory N s r a → IsServedInOrder N s r a }

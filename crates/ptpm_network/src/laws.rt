@@ -23,6 +23,7 @@ ghost use Rattle.ptpm_network.specs.Stands.{AreFirsts, Stands};
 ghost use Rattle.ptpm_network.specs.State.{Frame, NetworkState, accepted_at_target, copies_at, greatest_accepted, history, initial_state, is_late, issued, outcomes_kept, session_value};
 
 /// The invariant holds after every list of events, late deliveries among them.
+#[tactic(auto, using(crate::proofs::Schedule::reached))]
 pub fn every_schedule()
     ensures { (N : Network) (es : List Event) →
         IsNetwork N → AllByRecursion IsInRange es →
@@ -72,6 +73,7 @@ pub fn hops_lost()
 
 /// An event makes at most 225 frames. At most 15 messages leave a clock in a turn: seven copies that are passed on and eight
 /// answers. A link takes each of them to at most 15 other ends. So there are never over 400,000 frames.
+#[tactic(auto, using(crate::proofs::Schedule::reached, crate::proofs::Counting::at_most_225_frames_laws))]
 pub fn at_most_225_frames()
     ensures event { (N : Network) (es : List Event) (e : Event) →
         IsNetwork N → AllByRecursion IsInRange es →
@@ -156,6 +158,7 @@ pub fn answers_by_octets()
 /// Of a list of events those before the first that is refused are taken. That is the whole list if none of it is refused in its
 /// turn. What the other laws ask of a list holds for those that are taken. Of two lists, one after another, the first is taken
 /// and what is taken of the second, if the first is taken whole.
+#[tactic(auto, using(crate::proofs::Taking::events_taken_laws))]
 pub fn events_taken()
     ensures whole { (N : Network) (w : NetworkState) (es : List Event) →
         ((front rest : List Event) (e : Event) → es ≡ front ++ e ∷ rest
@@ -172,6 +175,7 @@ pub fn events_taken()
 
 /// Two lists of events happen one after another: the second goes on from the state to which the first leads. If neither has a
 /// late delivery, both together have none.
+#[tactic(auto, using(crate::proofs::Taking::events_appended_laws))]
 pub fn events_appended()
     ensures run { (N : Network) (w : NetworkState) (front rest : List Event) →
         run N w (front ++ rest) ≡ run N (run N w front) rest }

@@ -45,6 +45,7 @@ pub fn reported_exactly_once()
 /// - the reports of a session are of its requests 1, 2, 3, .. in their order;
 /// - each is worth what it is in the machine. Its request was carried out exactly once, and the report gives the one answer that
 ///   the clock made then.
+#[tactic(auto, using(crate::proofs::Reporting::running_networks_report_laws))]
 pub fn running_networks_report()
     ensures in_order { (N : Network) (past : List Event) (r : RunningNetwork) (s i : ℕ)
         (report : Report) →
