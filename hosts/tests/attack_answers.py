@@ -170,7 +170,8 @@ def ports_of_a_switch():
 
 @by_both
 def sets_at_a_switch_that_loses():
-    """SETs at port 20 of a switch, which takes each number once and keeps its answer. Three of ten requests are lost, and as many answers."""
+    """SETs at port 20 of a switch, which takes each number once and keeps its answer. Three of ten requests are lost, and as many
+    answers."""
     lots, taken, values, wrong = random.Random(7), {}, [], []
 
     def answers(request):
@@ -334,5 +335,5 @@ def namesakes():
     wire.remove()
 
 
-ATTACKS = [names_of_this_host, namesakes, blind_answers, guessed_numbers, answers_in_another_way, values_that_were_not_asked, values_of_an_earlier_run, errors_of_other_ports, ports_of_a_switch,
-           sets_at_a_switch_that_loses, a_plan_for_a_switch]
+ATTACKS = [names_of_this_host, namesakes, blind_answers, guessed_numbers, answers_in_another_way, values_that_were_not_asked,
+           values_of_an_earlier_run, errors_of_other_ports, ports_of_a_switch, sets_at_a_switch_that_loses, a_plan_for_a_switch]
