@@ -9,7 +9,7 @@ import time
 import attacking
 from attack_collect import Site, changed
 from attack_wire import Wire, frame_four
-from attacking import MANAGER, ME, SLOW, by_both, check, response, run, start, work
+from attacking import MANAGER, ME, SLOW, by_both, check, response, run, start, work, write
 
 NOT_AS_ASKED = 5
 
@@ -170,7 +170,8 @@ def ports_of_a_switch():
 
 @by_both
 def sets_at_a_switch_that_loses():
-    """SETs at port 20 of a switch, which takes each number once and keeps its answer. Three of ten requests are lost, and as many answers."""
+    """SETs at port 20 of a switch, which takes each number once and keeps its answer. Three of ten requests are lost, and as many
+    answers."""
     lots, taken, values, wrong = random.Random(7), {}, [], []
 
     def answers(request):
@@ -193,6 +194,26 @@ def sets_at_a_switch_that_loses():
     check(f"each is carried out once, in its order: {values}", values == wanted)
     check(f"each number is of one request at that port: {wrong}", wrong == [])
     check("and some were sent again", sent > len(taken) > len(wanted))
+
+
+def a_plan_for_a_switch():
+    """A plan that changes port 20 of a switch. The program `ptpm` is a script here, which prints the plan."""
+    step = f"step 1 2 0 {ME} 20 200b 0000 fd00 {ME}/20 LOG_SYNC_INTERVAL 0 -> -3"
+    folder, state, value = os.path.join(work, "programs"), os.path.join(work, "state"), [bytes(2)]
+    os.mkdir(folder)
+    write("programs/ptpm", f"#!/bin/sh\n[ $2 = --asks ] || printf 'plan 12345678: 1 change at 1 clock\\n\\n{step}\\n'\n")
+    os.chmod(os.path.join(folder, "ptpm"), 0o755)
+
+    def answers(request):
+        if request[46] == 1:
+            value[0] = request[54:56]
+        return [response(request, request[52:54] + (value[0] if request[52:54] == b"\x20\x0b" else bytes(20)), port=20)]
+    site = Site(answers, "-m", MANAGER + "/1", "-w", "0", "apply", write("site.toml", "version = 1\n"),
+                env=dict(os.environ, PATH=folder + ":" + os.environ["PATH"], XDG_STATE_HOME=state))
+    check("a plan for port 20 is applied", site.status == 0 and "1 of 1 done" in site.read(0) and value == [b"\xfd\0"])
+    sets = [(request[20:30].hex(), port_of(request)) for request in site.requests if request[46] == 1]
+    check(f"by the manager, at that port: {sets}", set(sets) == {(MANAGER + "0001", 20)})
+    check("in the session of the clock", os.path.exists(os.path.join(state, "ptpm", f"{MANAGER}-1.{ME}")))
 
 
 def asked_at(wire, answers, *words):
@@ -314,5 +335,5 @@ def namesakes():
     wire.remove()
 
 
-ATTACKS = [names_of_this_host, namesakes, blind_answers, guessed_numbers, answers_in_another_way, values_that_were_not_asked, values_of_an_earlier_run, errors_of_other_ports, ports_of_a_switch,
-           sets_at_a_switch_that_loses]
+ATTACKS = [names_of_this_host, namesakes, blind_answers, guessed_numbers, answers_in_another_way, values_that_were_not_asked,
+           values_of_an_earlier_run, errors_of_other_ports, ports_of_a_switch, sets_at_a_switch_that_loses, a_plan_for_a_switch]
