@@ -149,12 +149,13 @@ module _ (N : Network) (s : ℕ) (place : s < N.sessions) (steps : ℕ → Reque
       let step = one-done N s place d k h x now.0 steps_of.0 in
       subst (λ (e : Desk). NotedAs e q index) (sym (moved-append d (moves_at x) (desk_moves xs)))
       (elim (sometime-cases N (BeginsAt N s q index) k (incidents_at s d k x) (desk_incidents N s next after xs) z) [
-      inl here ↦
-        let begun = begins-of N s place d k h x q index steps_of.0 here in
-        stay-noted (desk_moves xs) next steps (message (number_of (N.session s).setup.first index) q)
-        (stay-noted (moves_at x) d steps (message (number_of (N.session s).setup.first index) q)
-        (subst (λ (n : ℕ). IsNoted steps d.notes (message n q)) (sym begun.1) (noted.live q begun.0)))
-      | inr later ↦ begun-noted xs next after (watched_by d w (moves_at x)) step.mirrors (noted-after (moves_at x) d w steps noted now.0 parts.0) now.1 steps_of.1 parts.1 q index later ])
+        | inl here ↦
+            let begun = begins-of N s place d k h x q index steps_of.0 here in
+            stay-noted (desk_moves xs) next steps (message (number_of (N.session s).setup.first index) q)
+            (stay-noted (moves_at x) d steps (message (number_of (N.session s).setup.first index) q)
+            (subst (λ (n : ℕ). IsNoted steps d.notes (message n q)) (sym begun.1) (noted.live q begun.0)))
+        | inr later ↦ begun-noted xs next after (watched_by d w (moves_at x)) step.mirrors (noted-after (moves_at x) d w steps noted now.0 parts.0) now.1 steps_of.1 parts.1 q index later
+      ])
 
 -- ---- from the start
 

@@ -31,8 +31,8 @@ pub record IsToldAt (l : Lane) (step : ℕ) (says : noted.Outcome) (error : ℕ)
   pub noted : Contains (notes_of l) (IsTold step number outcome)
   pub is_said : Says says error outcome
 
--- Each step asks a request, in the session with its clock. At each clock a lane is what happened; what is noted there is in the journal, and
--- the journal has no other answers. Each note of the journal is one that a run may make.
+-- Each step asks a request, in the session with its clock. At each clock a lane is what happened. What is noted there is in the journal,
+-- and the journal has no other answers. Each note of the journal is one that a run may make.
 pub record IsChange (N : Network) (requests : ℕ → RequestValue) (steps : ℕ → Step) (session_of : ℕ → ℕ) (lane : ℕ → Lane)
     (journal : List Note) (is : List Incident) : Type 0 where
   pub allowed : AreAllowed steps journal

@@ -1,11 +1,13 @@
 //! What a journal says is so. Each law is the contract of a function that does nothing, and speaks only of the definitions.
 
-ghost use Rattle.std.specs.Prelude.{◌≡◌, ◌⊎◌, ℕ, List, Some, true};
+ghost use Rattle.std.specs.Prelude.{◌≡◌, ◌⊎◌, ◌<◌, [], ℕ, List, None, Some, true};
 ghost use Rattle.std.specs.List.{Contains};
 ghost use Rattle.ptpm_codec.specs.SequenceNumber.{number_of};
 ghost use Rattle.ptpm_data.specs.Request.{RequestValue};
 ghost use Rattle.ptpm_agent.specs.Once.{Accepted, kept_reply};
 ghost use Rattle.ptpm_manager.specs.declared.report.Outcome.{Outcome};
+ghost use Rattle.ptpm_manager.specs.declared.setup.Setup.{Setup};
+ghost use Rattle.ptpm_manager.specs.Session.{fresh};
 ghost use Rattle.ptpm_network.specs.Network.{Network, manager};
 ghost use Rattle.ptpm_asker.specs.Desk.{IsTold};
 ghost use Rattle.ptpm_asker.specs.Question.{is_question};
@@ -14,6 +16,7 @@ ghost use Rattle.ptpm_journal.specs.declared.record.Step.{Step};
 ghost use Rattle.ptpm_apply.specs.Steps.{IsNoted};
 ghost use Rattle.ptpm_apply.specs.Watching.{Sent};
 ghost use Rattle.ptpm_restarts.specs.ActsAsIfNever.{ActsAsIfNever};
+ghost use Rattle.ptpm_restarts.specs.DeskIncidents.{IsSetUpFor};
 ghost use Rattle.ptpm_restarts.specs.Incidents.{Incident};
 ghost use Rattle.ptpm_restarts.specs.Restarting.{RestartingNetwork};
 ghost use Rattle.ptpm_changes.specs.CarriedOut.{IsCarriedOut};
@@ -21,7 +24,8 @@ ghost use Rattle.ptpm_changes.specs.Change.{IsChange, IsInOrder};
 ghost use Rattle.ptpm_changes.specs.Lane.{IsLane, Lane, messages_of, notes_of};
 
 /// What is noted as the answer to a step is true, wherever programs, sessions and clocks crash. The clock of the step carried the
-/// step's request out, once, as the one of the number that was noted. Its one answer then is the one that was noted.
+/// step's request out, once, as the one of the number that was noted. Its one answer then is the one that was noted. A new session without
+/// a file is where this begins.
 ///
 /// The premises, beside those of `restarts_among_acts` and `allowed_saves_in_time` of ptpm_restarts:
 /// - when the change begins, nothing is under way in the session's file, but perhaps a question;
@@ -30,7 +34,10 @@ ghost use Rattle.ptpm_changes.specs.Lane.{IsLane, Lane, messages_of, notes_of};
 /// - what is noted as the answer to a step is what was heard, if the latest note has the step as begun under its number. What is heard
 ///   of a question is not noted.
 pub fn told_is_carried_out()
-    ensures { (N : Network) (s : ℕ) (steps : ℕ → RequestValue) (is : List Incident) (l : Lane)
+    ensures first { (N : Network) (s : ℕ) (steps : ℕ → RequestValue) (setup : Setup) (domain : ℕ) →
+        s < N.sessions → IsSetUpFor (N.session s).setup setup → setup.first ≡ (N.session s).setup.first →
+        IsLane N s steps [] (record { file = None; value = fresh setup domain; happened = [] }) }
+    ensures told { (N : Network) (s : ℕ) (steps : ℕ → RequestValue) (is : List Incident) (l : Lane)
         (k : RestartingNetwork) (a : ActsAsIfNever N is k) (tag number : ℕ) (outcome : Outcome) →
         IsLane N s steps is l → Contains (notes_of l) (IsTold tag number outcome) →
         IsCarriedOut N s (a.account s) (steps tag) number outcome }

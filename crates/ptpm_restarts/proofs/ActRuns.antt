@@ -89,9 +89,10 @@ asked-next : (N : Network) (r : RunningNetwork) (a b : ℕ → Account) (k : Res
     → (w : Went N r b (incident N k i) is)
     → (s : ℕ) (q : RequestValue) (report : Report) → s < N.sessions → Sometime N (TellsAt N s q report) k (i ∷ is)
     → Contains ((after_incidents N (incident N k i) is).told s) report × (slice_get (w.account s).begun (report.index - 1) ≡ Some q)
-asked-next N r a b k i is now more w s q report place (inl at) =
-    (w.on.told s report (subst (λ (told : List Report). Contains told report) (sym at.told) (Contains-push (k.told s) report)),
-    w.on.stays s (report.index - 1) q (more s (report.index - 1) q ((now s).asked q report place at.under_way at.index_is at.told)))
+asked-next N r a b k i is now more w s q report place (inl at) = (
+  w.on.told s report (subst (λ (told : List Report). Contains told report) (sym at.told) (Contains-push (k.told s) report)),
+  w.on.stays s (report.index - 1) q (more s (report.index - 1) q ((now s).asked q report place at.under_way at.index_is at.told)),
+)
 asked-next N r a b k i is now more w s q report place (inr later) = w.on.asked s q report place later
 
 same-act-later : (xs ys us vs : List Held) (i : Incident) (x : Act) → Stay xs us → Stay ys vs → IsSameAct xs ys i x → IsSameAct us vs i x
@@ -153,8 +154,9 @@ went-act N r next a k i x is timely now fresh happens' same stay w = record {
     kept = w.on.kept;
     stays = λ s j q at. w.on.stays s j q (act-stays N s r x (a s) j q at);
     begun = λ s j q place at. elim (w.on.begun s j q place at) [
-        inl there ↦ elim (fresh s j q place there) [ inl before ↦ inl before | inr here ↦ inr (inl here) ]
-        | inr later ↦ inr (inr later) ];
+      | inl there ↦ elim (fresh s j q place there) [ inl before ↦ inl before | inr here ↦ inr (inl here) ]
+      | inr later ↦ inr (inr later)
+    ];
     told = λ s report has. w.on.told s report ((now s).stays report has);
     asked = asked-next N next a (accounts_after N r x a) k i is now (λ s j q at. act-stays N s r x (a s) j q at) w;
   };

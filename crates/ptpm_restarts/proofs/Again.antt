@@ -260,6 +260,7 @@ answered-again N is k s hops port ends a place waits attempts way all room =
       led = after-append N one (saves k.waiting) (Happens (Send s) ∷ handed_in_saved ds);
       timely = (tt, timely-append N one (saves k.waiting) (Happens (Send s) ∷ handed_in_saved ds) save.timely ((λ fine. refl), handed'.timely));
       report = reported.report;
+      index = reported.index ∙ sym (ap (λ (v : SessionValue). v.issued) value);
       reports = handed'.at.stands.reports s place ∙ reported.reports
           ∙ ap (λ (xs : List Report). xs ++ reported.report ∷ []) (sym (at.stands.reports s place) ∙ ap (λ (l : SessionLog). l.reports) (live s));
       idle = ap (λ (v : SessionValue). is_waiting v) (handed'.at.stands.sessions s place) ∙ idle;

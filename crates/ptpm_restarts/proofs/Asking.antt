@@ -174,14 +174,15 @@ module _ (N : Network) (lc ls : ℕ → Bool) (k : RestartingNetwork) (r next : 
       let counts = counts-by N lc ls k r next s ask (refused N k (Begin s ask)) refl h
       (subst (λ (d : Event). IsBeside lc ls (incident N k (Happens d)) next) event g) more in
       elim (last-or a.begun (request_of ask) j q (ap (λ (l : List RequestValue). slice_get l j) (sym with_it) ∙ is)) [
-      inl before ↦ inl before
-      | inr last ↦ inr (record {
-        ask = ask;
-        is = ap (λ (d : Event). Happens d) event;
-        taken = counts.taken;
-        request_is = last.1;
-        index_is = ap (λ n. n + 1) (last.0 ∙ sym issued ∙ counts.same);
-      }) ])
+        | inl before ↦ inl before
+        | inr last ↦ inr (record {
+          ask = ask;
+          is = ap (λ (d : Event). Happens d) event;
+          taken = counts.taken;
+          request_is = last.1;
+          index_is = ap (λ n. n + 1) (last.0 ∙ sym issued ∙ counts.same);
+        })
+      ])
       (λ n. inl (ap (λ (l : List RequestValue). slice_get l j) (sym (cond-false (t == s) (a.begun ++ request_of ask ∷ []) a.begun n)) ∙ is))
   begun-event e _ j q same g counted is = inl is
 

@@ -485,10 +485,12 @@ module _ (N : Network) (s : ℕ) (place : s < N.sessions) (d : Desk) (k : Restar
 
   pub ready-request : is_waiting d.live ≡ true → (value_of.unanswered ≡ d.live.unanswered)
       × (number_of own.first value_of.issued ≡ latest_number d.live) × (is_waiting value_of ≡ true)
-  ready-request waits = (sym h.live.like.request,
-      ap (λ (setup : Setup). number_of setup.first value_of.issued) (sym (setup-of x.live.session o ∙ h.live.set_up))
-      ∙ sym (latest-like own d.live x.live.session o d.live.domain h.live waits),
-      waits-too own d.live x.live.session o h.live waits)
+  ready-request waits = (
+    sym h.live.like.request,
+    ap (λ (setup : Setup). number_of setup.first value_of.issued) (sym (setup-of x.live.session o ∙ h.live.set_up))
+        ∙ sym (latest-like own d.live x.live.session o d.live.domain h.live waits),
+    waits-too own d.live x.live.session o h.live waits,
+  )
 
   lets-go-done : x.live.session.issued + 1 < x.live.session.reported + reach_limit → Done N s d k (Moves LetsGo)
   lets-go-done near = record {
@@ -563,11 +565,12 @@ module _ (N : Network) (s : ℕ) (place : s < N.sessions) (d : Desk) (k : Restar
       → Begun q index
   begins-it p q index m at =
       let asks : ask_of p.action p.id (Some p.port) p.octets ≡ at.ask = (let e = at.is in cc) in
-      let same : p ≡ q = sym (asked-again x.live.session.setup.ports p m.can_begin.request) ∙ ap request_of asks ∙ at.request_is in
-      (m.like.request ∙ ap (λ (r : RequestValue). Some r) same,
-      ap (λ (i : ℕ). number_of own.first i) at.index_is
-      ∙ ap (λ (setup : Setup). number_of setup.first (x.live.session.issued + 1)) (sym m.set_up)
-      ∙ sym (latest-like own d.live x.live.session (Some p) d.live.domain m (ap (λ (r : Option RequestValue). is_some r) m.like.request)))
+      let same : p ≡ q = sym (asked-again x.live.session.setup.ports p m.can_begin.request) ∙ ap request_of asks ∙ at.request_is in (
+        m.like.request ∙ ap (λ (r : RequestValue). Some r) same,
+        ap (λ (i : ℕ). number_of own.first i) at.index_is
+            ∙ ap (λ (setup : Setup). number_of setup.first (x.live.session.issued + 1)) (sym m.set_up)
+            ∙ sym (latest-like own d.live x.live.session (Some p) d.live.domain m (ap (λ (r : Option RequestValue). is_some r) m.like.request)),
+      )
 
   begins-first : (p : Option RequestValue) (rest : List Incident) (q : RequestValue) (index : ℕ) → IsMirroredBut own d.live x.live.session p
       → BeginsNone rest → Sometime N (BeginsIt q index) k (begins_first s p ++ rest)

@@ -37,7 +37,7 @@ handed_in_saved [] = []
 handed_in_saved (d ∷ ds) = Happens (Deliver d.0) ∷ save_at d.1 ∷ handed_in_saved ds
 
 -- First the session saves, and each clock at which a frame waits. Then the session sends its request. One copy each way comes in
--- at the ends of the way and at last at the session, and each end saves then. The session reports the answer and waits for
+-- at the ends of the way and at last at the session, and each end saves then. The session reports the answer to it and waits for
 -- nothing. Nothing else happens meanwhile.
 pub record IsAnsweredAgain (N : Network) (k : RestartingNetwork) (s : ℕ) (hops : List Hop) (port : ℕ) : Type 0 where
   pub deliveries : List (ℕ × End)
@@ -46,6 +46,7 @@ pub record IsAnsweredAgain (N : Network) (k : RestartingNetwork) (s : ℕ) (hops
   pub led : after_incidents N k (saves_first k s ++ Happens (Send s) ∷ handed_in_saved deliveries) ≡ end
   pub timely : AreTimely N k (saves_first k s ++ Happens (Send s) ∷ handed_in_saved deliveries)
   pub report : Report
+  pub index : report.index ≡ (k.session s).live.session.issued
   pub reports : (end.session s).live.reports ≡ (k.session s).live.reports ++ report ∷ []
   pub idle : is_waiting (end.session s).live.session ≡ false
 

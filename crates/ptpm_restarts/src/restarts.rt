@@ -44,7 +44,9 @@ pub fn restarts_lose_messages_alone()
 /// - each session has an account of acts there. So `managers_that_give_up_are_served` of ptpm_network says what its manager may rely on.
 ///   Each of its requests is carried out once at most, in their order. None is decided anew once a later one is reported;
 /// - what is reported there was reported here, once or more. All that was ever reported here is the reply that is kept in the account,
-///   so an answer that is reported again is the same.
+///   so an answer that is reported again is the same;
+/// - each request that was begun there was begun here. Whatever was reported here is to the request that was under way here, and there that
+///   one has the report's index.
 ///
 /// To give up a request is a change. If that is not saved before a crash, the request is under way again. Nothing is saved for an
 /// observation.
