@@ -1019,7 +1019,8 @@ enum ptpm_asking ptpm_clock_under_way(const struct ptpm_clock *clock, struct ptp
 /* Does what ptpm_clock_take does with the datagram that is under way, at its port. Then nothing is under way, and the clock is unsaved:
    its messages wait for a save.
    Takes:   what the device says; and room places, as ptpm_clock_take.
-   Returns: what ptpm_clock_take returns; or why not, and then the change stays under way. The first of these: PTPM_NO_CLOCK, also for
+   Returns: what ptpm_clock_take returns, but never PTPM_HANDLE_OTHER_DOMAIN: the clock stays in the domain of what is under way. Or
+            why not, and then the change stays under way. The first of these: PTPM_NO_CLOCK, also for
             a clock that does not save, PTPM_NOTHING_UNDER_WAY, PTPM_NO_ROOM, PTPM_BAD_SAY, and PTPM_UNSAVED as at ptpm_clock_take.
    Writes:  what ptpm_clock_take writes.
    Caller:  after PTPM_UNSAVED takes the messages that were released or saves the clock, and calls it again. If the device has the change

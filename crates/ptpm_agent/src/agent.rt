@@ -1,12 +1,13 @@
 //! One clock's management agent, over any reply table.
 
-ghost use Rattle.std.specs.Prelude.{◌≡◌, ◌≢◌, ◌≤◌, ◌+◌, ◌++◌, ◌∷◌, [], false, ℕ, List, All, IsTrue, Ok, Some, IfOk, OnOk, OnErr, length};
+ghost use Rattle.std.specs.Prelude.{◌≡◌, ◌≢◌, ◌≤◌, ◌+◌, ◌++◌, ◌∷◌, [], false, true, ℕ, List, All, IsTrue, Ok, Some, IfOk, OnOk, OnErr, length};
 ghost use Rattle.std.specs.FinMap as fin;
 ghost use Rattle.ptpm_codec.specs.declared.identity.PortIdentity.{PortIdentity};
 ghost use Rattle.ptpm_codec.specs.Layout.{message_octets};
 ghost use Rattle.ptpm_codec.specs.Message.{IsDataField, IsRequestAction, IsValid};
 ghost use Rattle.ptpm_codec.specs.Reading.{reading};
 ghost use Rattle.ptpm_codec.specs.Spelling.{Spells};
+ghost use Rattle.ptpm_data.specs.Changed.{changed};
 ghost use Rattle.ptpm_data.specs.Changes.{IsTargetPort, changed_by};
 ghost use Rattle.ptpm_data.specs.Members.{HasPort};
 ghost use Rattle.ptpm_data.specs.Observation.{left_disabled, observation_refusal};
@@ -27,10 +28,10 @@ ghost use Rattle.ptpm_agent.specs.Turn.{carried_out, is_accepted_repeat, judged,
 
 use crate::forwarding::forward;
 use crate::verdict::Verdict;
-use ptpm_codec::{ClockIdentity, Octets, OutOfMemory, PortIdentity, View, view};
+use ptpm_codec::{Action, ClockIdentity, Octets, OutOfMemory, PortIdentity, View, view};
 use ptpm_data::{
-    ClockObservation, DataSets, ObservationError, PortObservation, PortsLeftDisabled, Reply,
-    Request, Rights, data_sets_law,
+    ChangedMembers, ClockObservation, DataSets, ObservationError, PortObservation,
+    PortsLeftDisabled, Reply, Request, Rights, data_sets_law,
 };
 use ptpm_table::{Heard, Look, Outbox, Outgoing, ReplyTable, Sender, SlotTable, SureTable, render};
 use std::mem;
@@ -432,17 +433,67 @@ impl<T: SureTable + Drop> Agent<T> {
         ensures grown { O.grown out.old out.new }
         ensures clock { clock_of T.owner self.new ≡ clock_of T.owner self.old }
     {
+        self.turn_into::<O, false>(ingress, datagram, out).0
+    }
+
+    /// Does what `handle_into` does, and answers which members have another value after it. Only a manager's new SET or COMMAND may
+    /// change one. So for any other message none is compared, and the data sets are not copied.
+    #[inline(always)]
+    pub fn change_into<O: Outgoing>(
+        &mut self,
+        ingress: u16,
+        datagram: &[u8],
+        out: &mut O,
+    ) -> (Verdict, ChangedMembers)
+        requires port { HasPort ingress self.old.sets }
+        requires empty { O.sent out.old ≡ [] }
+        requires room { length (outbox_of (turn
+            (clock_of T.owner self.old) (state_of T.entries self.old) ingress datagram.now))
+            ≤ O.most out.old }
+        ensures turned { IsTurned (turn
+            (clock_of T.owner self.old) (state_of T.entries self.old) ingress datagram.now)
+            result.0 (O.sent out.new) (state_of T.entries self.new) }
+        ensures members { result.1 ≡ changed self.old.sets self.new.sets }
+        ensures grown { O.grown out.old out.new }
+        ensures clock { clock_of T.owner self.new ≡ clock_of T.owner self.old }
+    {
+        self.turn_into::<O, true>(ingress, datagram, out)
+    }
+
+    /// One turn. It answers what has changed if its caller `ASKS` that; otherwise nothing is compared.
+    #[inline(always)]
+    fn turn_into<O: Outgoing, const ASKS: bool>(
+        &mut self,
+        ingress: u16,
+        datagram: &[u8],
+        out: &mut O,
+    ) -> (Verdict, ChangedMembers)
+        requires port { HasPort ingress self.old.sets }
+        requires empty { O.sent out.old ≡ [] }
+        requires room { length (outbox_of (turn
+            (clock_of T.owner self.old) (state_of T.entries self.old) ingress datagram.now))
+            ≤ O.most out.old }
+        ensures turned { IsTurned (turn
+            (clock_of T.owner self.old) (state_of T.entries self.old) ingress datagram.now)
+            result.0 (O.sent out.new) (state_of T.entries self.new) }
+        ensures members { ASKS ≡ true → result.1 ≡ changed self.old.sets self.new.sets }
+        ensures grown { O.grown out.old out.new }
+        ensures clock { clock_of T.owner self.new ≡ clock_of T.owner self.old }
+    {
         let message = match view(datagram) {
             Ok(message) => message,
-            Err(cause) => return Verdict::Malformed(cause),
+            Err(cause) => return (Verdict::Malformed(cause), ChangedMembers::NONE),
         };
         let (verdict, rights) = self.judge(&message);
         match verdict {
-            Verdict::AnsweredNew => self.accept(ingress, &message, rights, out),
+            Verdict::AnsweredNew => {
+                let members = self.accept_asked::<O, ASKS>(ingress, &message, rights, out);
+                return (verdict, members);
+            }
             Verdict::AnsweredRepeat => self.table.send_again(&heard_of(&message), ingress, out),
             _ => self.answer(verdict, ingress, datagram, &message, out),
         }
-        verdict
+        (verdict, ChangedMembers::NONE)
     }
 
     /// Handles the datagrams of a list in their order, each as it comes in at its port. The outbox then holds what is sent for
@@ -481,6 +532,112 @@ impl<T: SureTable + Drop> Agent<T> {
             let arrival = &datagrams[place];
             self.handle(arrival.0, arrival.1.as_slice(), out);
         }
+    }
+
+    /// Does what `accept` does, and compares nothing unless its caller `ASKS`.
+    #[inline(always)]
+    fn accept_asked<O: Outgoing, const ASKS: bool>(
+        &mut self,
+        ingress: u16,
+        message: &View<'_>,
+        rights: Rights,
+        out: &mut O,
+    ) -> ChangedMembers
+        requires new { judged
+            (clock_of T.owner self.old) (state_of T.entries self.old) message.now
+            ≡ Verdict.AnsweredNew }
+        requires rights { rights ≡ (clock_of T.owner self.old).rights message.now.source }
+        requires valid { IsValid message.now }
+        requires empty { O.sent out.old ≡ [] }
+        requires room { length (new_reply
+            (clock_of T.owner self.old) (state_of T.entries self.old) message.now).answers
+            ≤ O.most out.old }
+        ensures accepted { state_of T.entries self.new ≡ carried_out
+            (clock_of T.owner self.old) (state_of T.entries self.old) message.now }
+        ensures sent { O.sent out.new
+            ≡ rendered (clock_of T.owner self.old).identity (heard_of message.now)
+            (new_reply (clock_of T.owner self.old) (state_of T.entries self.old) message.now)
+            ingress }
+        ensures members { ASKS ≡ true → result ≡ changed self.old.sets self.new.sets }
+        ensures grown { O.grown out.old out.new }
+        ensures clock { clock_of T.owner self.new ≡ clock_of T.owner self.old }
+    {
+        if ASKS {
+            return self.accept_telling(ingress, message, rights, out);
+        }
+        self.accept(ingress, message, rights, out);
+        ChangedMembers::NONE
+    }
+
+    /// Does what `accept` does, and answers which members have another value after it. A GET changes none.
+    #[inline(always)]
+    fn accept_telling<O: Outgoing>(
+        &mut self,
+        ingress: u16,
+        message: &View<'_>,
+        rights: Rights,
+        out: &mut O,
+    ) -> ChangedMembers
+        requires new { judged
+            (clock_of T.owner self.old) (state_of T.entries self.old) message.now
+            ≡ Verdict.AnsweredNew }
+        requires rights { rights ≡ (clock_of T.owner self.old).rights message.now.source }
+        requires valid { IsValid message.now }
+        requires empty { O.sent out.old ≡ [] }
+        requires room { length (new_reply
+            (clock_of T.owner self.old) (state_of T.entries self.old) message.now).answers
+            ≤ O.most out.old }
+        ensures accepted { state_of T.entries self.new ≡ carried_out
+            (clock_of T.owner self.old) (state_of T.entries self.old) message.now }
+        ensures sent { O.sent out.new
+            ≡ rendered (clock_of T.owner self.old).identity (heard_of message.now)
+            (new_reply (clock_of T.owner self.old) (state_of T.entries self.old) message.now)
+            ingress }
+        ensures members { result ≡ changed self.old.sets self.new.sets }
+        ensures grown { O.grown out.old out.new }
+        ensures clock { clock_of T.owner self.new ≡ clock_of T.owner self.old }
+    {
+        match message.action() {
+            Action::Get => {
+                self.accept(ingress, message, rights, out);
+                ChangedMembers::NONE
+            }
+            _ => self.accept_change(ingress, message, rights, out),
+        }
+    }
+
+    /// Does what `accept` does, and compares the data sets with a copy of those before. Never inlined: so the stack has that copy for
+    /// a change alone.
+    #[inline(never)]
+    fn accept_change<O: Outgoing>(
+        &mut self,
+        ingress: u16,
+        message: &View<'_>,
+        rights: Rights,
+        out: &mut O,
+    ) -> ChangedMembers
+        requires new { judged
+            (clock_of T.owner self.old) (state_of T.entries self.old) message.now
+            ≡ Verdict.AnsweredNew }
+        requires rights { rights ≡ (clock_of T.owner self.old).rights message.now.source }
+        requires valid { IsValid message.now }
+        requires empty { O.sent out.old ≡ [] }
+        requires room { length (new_reply
+            (clock_of T.owner self.old) (state_of T.entries self.old) message.now).answers
+            ≤ O.most out.old }
+        ensures accepted { state_of T.entries self.new ≡ carried_out
+            (clock_of T.owner self.old) (state_of T.entries self.old) message.now }
+        ensures sent { O.sent out.new
+            ≡ rendered (clock_of T.owner self.old).identity (heard_of message.now)
+            (new_reply (clock_of T.owner self.old) (state_of T.entries self.old) message.now)
+            ingress }
+        ensures members { result ≡ changed self.old.sets self.new.sets }
+        ensures grown { O.grown out.old out.new }
+        ensures clock { clock_of T.owner self.new ≡ clock_of T.owner self.old }
+    {
+        let before = self.sets.copy();
+        self.accept(ingress, message, rights, out);
+        self.sets.changed_since(&before)
     }
 
     /// Carries out a new request, keeps it with its reply, and sends the messages of the reply.

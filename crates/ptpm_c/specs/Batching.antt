@@ -68,12 +68,10 @@ TakesCall w port datagram say of_owner before number taken after left =
     → say_in say ≡ Ok o
     → IsSomeAnd left (IsTakenTo w o of_owner port datagram number taken (messages_in (take taken.count after)))
 
--- what it reports as changed is what the call changed, at a clock that is some batch
+-- what it reports as changed is what the call changed
 abbrev pub ReportsCall : SavingClock → ℕ → List ℕ → Say → Bool → List Sent → Taken → Option SavingClock → Type 0
 ReportsCall w port datagram say of_owner before taken left =
     why_not_taken w port datagram say of_owner before ≡ None
-    → (b : ClockBatch) (count : ℕ)
-    → IsAsBatch w b count
     → IsSomeAnd left (λ x. taken.changed ≡ changed w.clock.value.agent.sets x.clock.value.agent.sets)
 
 -- if something does, the first reason is named, nothing is sent, and the clock stays

@@ -287,9 +287,8 @@ pub extern "C" fn ptpm_clock_take(
     }
 }
 
-/// What becomes of a datagram at a clock that sends at once. Never inlined: so the stack has either its data sets or those of a clock
-/// that is saved.
-#[inline(never)]
+/// What becomes of a datagram at a clock that sends at once.
+#[inline(always)]
 fn hand_in(
     clock: &mut HostedClock,
     port: u16,
@@ -308,11 +307,10 @@ fn hand_in(
     ensures places { ArePlaced taken.new sent.old sent.new }
 {
     *taken = Taken::nothing();
-    let before = clock.sets().copy();
     match clock.take(port, datagram, say, of_owner, sent) {
         Ok(handled) => {
             taken.count = handled.count as u64;
-            taken.changed = clock.sets().changed_since(&before);
+            taken.changed = handled.changed;
             verdict_number(handled.verdict)
         }
         Err(refusal) => said_number(refusal),

@@ -1,12 +1,16 @@
 -- What a clock asks of its device: each change that it undertook, at the first save that has it (this project's profile).
-use Rattle.std.specs.Prelude.{◌&&◌, ◌||◌, ℕ, Bool, true, false, not, is_some, List, [], ◌∷◌, ◌++◌, drop, take, if◌then◌else◌, Option, Some, None}
+use Rattle.std.specs.Prelude.{◌≡◌, ◌==◌, ◌&&◌, ◌||◌, ℕ, Bool, true, false, not, is_some, List, [], ◌∷◌, ◌++◌, drop, take, if◌then◌else◌, Option, Some, None}
+use Rattle.ptpm_codec.specs.declared.message.Message.{Message}
 use Rattle.ptpm_codec.specs.Layout.{message_octets}
+use Rattle.ptpm_codec.specs.Reading.{message_of}
 use Rattle.ptpm_data.specs.ObservationBack.{Observation}
 use Rattle.ptpm_agent.specs.Turn.{Clock}
 use Rattle.ptpm_saved.specs.Saving.{Came, Happening, IsPartOf, Noted, after_all, all_reports, what_counts}
 use Rattle.ptpm_saved.specs.SavingClock.{Datagram}
 use Rattle.ptpm_saved.specs.Batching.{Call, Confirms, all_events, begun, calls}
-use Rattle.ptpm_host.specs.Coming.{ClockBatch, ClockState, Coming, Decides, Undertakes, coming_process, is_held_by, undertakes}
+use Rattle.ptpm_device.specs.Asking.{asked}
+use Rattle.ptpm_host.specs.Changing.{moves_domain, moves_domain_in}
+use Rattle.ptpm_host.specs.Coming.{Changed, ClockBatch, ClockState, Coming, Decides, Heard, OfOwner, Undertakes, coming_process, is_held_by, undertakes}
 
 -- ---- what is undertaken
 
@@ -54,3 +58,20 @@ AsksAtMostOnce c s each =
     IsPartOf (all_asked c (begun s) each)
     (all_reports (undertakings c) (coming_process c) s
     (what_counts (coming_process c) s (all_events (coming_process c) (is_held_by c) (begun s) each)))
+
+-- ---- its domain
+
+-- what is under way came in the clock's domain
+abbrev pub IsInItsDomain : ClockState → Type 0
+IsInItsDomain s = (x : Datagram) (v : Message)
+    → s.under_way ≡ Some x
+    → message_of x.1 ≡ Some v
+    → (v.sdo == 0 ≡ true) × (v.domain == s.state.sets.default.domain ≡ true)
+
+-- what a clock takes while a change is under way: no other change of a manager, and of the owner no SET of DOMAIN
+abbrev pub is_taken_meanwhile : Clock → ClockState → Coming → Bool
+is_taken_meanwhile c s (Heard port datagram say) = not (is_some (asked c s.state datagram))
+is_taken_meanwhile c s (OfOwner port datagram) = not (moves_domain_in (message_of datagram))
+is_taken_meanwhile c s (Changed request) = not (moves_domain request)
+is_taken_meanwhile c s (Undertakes port datagram) = true
+is_taken_meanwhile c s (Decides say) = true

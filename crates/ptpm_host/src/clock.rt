@@ -2,6 +2,7 @@
 
 ghost use Rattle.std.specs.Prelude.{◌≡◌, ◌≢◌, ◌≤◌, Ok, None, Some, IfErr, IfOk, MatchResult, OnErr, OnOk, All, [], drop, length, take};
 ghost use Rattle.std.specs.List.{AllZip};
+ghost use Rattle.ptpm_data.specs.Changed.{changed};
 ghost use Rattle.ptpm_data.specs.Members.{HasPort, has_port};
 ghost use Rattle.ptpm_table.specs.Managers.{IsFresh};
 ghost use Rattle.ptpm_agent.specs.Agent.{IsTurned};
@@ -19,6 +20,7 @@ use crate::outbox::Outbox;
 use crate::refusal::{HandleRefusal, StartRefusal};
 use crate::sent::Sent;
 use crate::settings::{ClockSettings, ManagerSettings, PortSettings};
+use crate::taken::Taken;
 use crate::under_way::UnderWay;
 use ptpm_agent::{Agent, Verdict};
 use ptpm_codec::OutOfMemory;
@@ -152,8 +154,8 @@ impl HostedClock {
 
     /// What becomes of a datagram that comes in at a port: one turn of the clock. What it sends is written into the first places
     /// of `room`. The places after them stay as they are, and so does what follows each message. If it is refused, nothing
-    /// changes. The data sets change only with the verdict `AnsweredNew`. A host that acts on what changed keeps a copy of them,
-    /// and then asks `sets` what has changed since. Takes no memory. It is inlined, so that a host pays nothing for the call.
+    /// changes. The data sets change only with the verdict `AnsweredNew`. A host that acts on what changed calls `take` instead.
+    /// Takes no memory. It is inlined, so that a host pays nothing for the call.
     #[inline(always)]
     #[tactic(auto, using(crate::specs::OutboxLaws::kept_by_none))]
     pub fn handle(
@@ -199,7 +201,7 @@ impl HostedClock {
     /// code once, beside the call that does no more.
     #[inline(never)]
     #[tactic(auto, using(crate::specs::OutboxLaws::kept_by_none))]
-    pub(crate) fn take_turn(&mut self, port: u16, datagram: &[u8], room: &mut [Sent]) -> Handled
+    pub(crate) fn take_turn(&mut self, port: u16, datagram: &[u8], room: &mut [Sent]) -> Taken
         requires port { HasPort port self.old.agent.sets }
         requires room { length (outbox_of (turn (clock_in self.old) (state_in self.old) port datagram.now))
             ≤ length room.old }
@@ -211,14 +213,18 @@ impl HostedClock {
         ensures behind { AllZip KeepsBehind room.old room.new }
         ensures new_alone { result.verdict ≢ Verdict.AnsweredNew →
             self.new.agent.sets ≡ self.old.agent.sets }
+        ensures members { result.changed ≡ changed self.old.agent.sets self.new.agent.sets }
+        ensures waiting { result.waiting ≡ 0 }
         ensures clock { clock_in self.new ≡ clock_in self.old }
         ensures under_way { self.new.under_way ≡ self.old.under_way }
     {
         let mut outbox = Outbox::new(room);
-        let verdict = self.agent.handle_into(port, datagram, &mut outbox);
-        Handled {
+        let (verdict, changed) = self.agent.change_into(port, datagram, &mut outbox);
+        Taken {
             verdict,
             count: outbox.count(),
+            waiting: 0,
+            changed,
         }
     }
 

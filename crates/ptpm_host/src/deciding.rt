@@ -3,6 +3,7 @@
 ghost use Rattle.std.specs.Prelude.{◌≡◌, ◌≢◌, ◌≤◌, All, IfErr, IfOk, IfSome, IsTrue, MatchResult, None, Ok, OnErr, OnOk, Some, drop, is_ok, is_some, length, take};
 ghost use Rattle.std.specs.List.{AllZip};
 ghost use Rattle.ptpm_codec.specs.Message.{IsDataField};
+ghost use Rattle.ptpm_data.specs.Changed.{changed, no_members};
 ghost use Rattle.ptpm_data.specs.Members.{HasPort, has_port};
 ghost use Rattle.ptpm_agent.specs.Agent.{IsTurned};
 ghost use Rattle.ptpm_agent.specs.Turn.{outbox_of};
@@ -14,13 +15,15 @@ ghost use Rattle.ptpm_host.specs.Coming.{turn_of};
 ghost use Rattle.ptpm_host.specs.Device.{Answers, IsGiven, said_refusal, said_value, say_in};
 ghost use Rattle.ptpm_host.specs.MostSent.{most_sent};
 
-use crate::clock::{Handled, HostedClock};
+use crate::clock::HostedClock;
 use crate::device::{Asking, Question, Said, Say};
 use crate::outbox::Outbox;
 use crate::refusal::{HandleRefusal, SaidRefusal};
 use crate::sent::Sent;
+use crate::taken::Taken;
 use ptpm_agent::Verdict;
 use ptpm_codec::ErrorId;
+use ptpm_data::ChangedMembers;
 use ptpm_device::{answer_value, ask, ask_value, keep_value, object};
 use ptpm_table::Outgoing;
 
@@ -67,7 +70,7 @@ impl HostedClock {
         say: &Say,
         of_owner: bool,
         room: &mut [Sent],
-    ) -> Result<Handled, SaidRefusal>
+    ) -> Result<Taken, SaidRefusal>
         ensures turned { IfOk result
             (λ h.
             (o : says.Say)
@@ -80,6 +83,11 @@ impl HostedClock {
         ensures behind { AllZip KeepsBehind room.old room.new }
         ensures new_alone { IfOk result
             (λ h. h.verdict ≢ Verdict.AnsweredNew → self.new.agent.sets ≡ self.old.agent.sets) }
+        ensures members { IfOk result
+            (λ h. h.changed ≡ changed self.old.agent.sets self.new.agent.sets) }
+        ensures members_alone { IfOk result
+            (λ h. h.verdict ≢ Verdict.AnsweredNew → h.changed ≡ no_members) }
+        ensures waiting { IfOk result (λ h. h.waiting ≡ 0) }
         ensures refusal { MatchResult result
             (λ _. said_refusal (has_port port self.old.agent.sets) (most_sent (state_in self.old)) (length room.old) say.now ≡ None)
             (λ e. said_refusal (has_port port self.old.agent.sets) (most_sent (state_in self.old)) (length room.old) say.now ≡ Some e) }
@@ -93,7 +101,8 @@ impl HostedClock {
     }
 
     /// One turn, with what the device says or as the owner's, at a port that the clock has, with places enough for whatever it
-    /// sends.
+    /// sends. It is inlined with `take_said`, so that a datagram of which the device says nothing pays for no call but its turn.
+    #[inline(always)]
     pub(crate) fn carry_out(
         &mut self,
         port: u16,
@@ -101,7 +110,7 @@ impl HostedClock {
         said: Said<'_>,
         of_owner: bool,
         room: &mut [Sent],
-    ) -> Handled
+    ) -> Taken
         requires port { HasPort port self.old.agent.sets }
         requires room { most_sent (state_in self.old) ≤ length room.old }
         requires given { IsGiven said }
@@ -115,6 +124,9 @@ impl HostedClock {
         ensures behind { AllZip KeepsBehind room.old room.new }
         ensures new_alone { result.verdict ≢ Verdict.AnsweredNew →
             self.new.agent.sets ≡ self.old.agent.sets }
+        ensures members { result.changed ≡ changed self.old.agent.sets self.new.agent.sets }
+        ensures members_alone { result.verdict ≢ Verdict.AnsweredNew → result.changed ≡ no_members }
+        ensures waiting { result.waiting ≡ 0 }
         ensures ports { length self.new.agent.sets.ports ≡ length self.old.agent.sets.ports }
         ensures clock { clock_in self.new ≡ clock_in self.old }
         ensures under_way { self.new.under_way ≡ self.old.under_way }
@@ -155,13 +167,8 @@ impl HostedClock {
     }
 
     /// One turn with what the device says, at a port that the clock has, with places enough for whatever it sends.
-    fn take_said(
-        &mut self,
-        port: u16,
-        datagram: &[u8],
-        said: Said<'_>,
-        room: &mut [Sent],
-    ) -> Handled
+    #[inline(always)]
+    fn take_said(&mut self, port: u16, datagram: &[u8], said: Said<'_>, room: &mut [Sent]) -> Taken
         requires port { HasPort port self.old.agent.sets }
         requires room { most_sent (state_in self.old) ≤ length room.old }
         requires given { IsGiven said }
@@ -174,6 +181,8 @@ impl HostedClock {
         ensures behind { AllZip KeepsBehind room.old room.new }
         ensures new_alone { result.verdict ≢ Verdict.AnsweredNew →
             self.new.agent.sets ≡ self.old.agent.sets }
+        ensures members { result.changed ≡ changed self.old.agent.sets self.new.agent.sets }
+        ensures waiting { result.waiting ≡ 0 }
         ensures clock { clock_in self.new ≡ clock_in self.old }
         ensures under_way { self.new.under_way ≡ self.old.under_way }
     {
@@ -186,13 +195,14 @@ impl HostedClock {
     }
 
     /// One turn with an objection of the device.
+    #[inline(never)]
     fn take_objection(
         &mut self,
         port: u16,
         datagram: &[u8],
         error: ErrorId,
         room: &mut [Sent],
-    ) -> Handled
+    ) -> Taken
         requires port { HasPort port self.old.agent.sets }
         requires room { length (outbox_of (turn_said
             (clock_in self.old) (state_in self.old) (says.Objects error) port datagram.now)) ≤ length room.old }
@@ -205,28 +215,27 @@ impl HostedClock {
         ensures behind { AllZip KeepsBehind room.old room.new }
         ensures new_alone { result.verdict ≢ Verdict.AnsweredNew →
             self.new.agent.sets ≡ self.old.agent.sets }
+        ensures members { result.changed ≡ changed self.old.agent.sets self.new.agent.sets }
+        ensures waiting { result.waiting ≡ 0 }
         ensures clock { clock_in self.new ≡ clock_in self.old }
         ensures under_way { self.new.under_way ≡ self.old.under_way }
     {
         let objected = object(&mut self.agent, datagram, error);
         let handled = self.take_turn(port, datagram, room);
         if objected {
-            return Handled {
+            return Taken {
                 verdict: Verdict::AnsweredNew,
                 count: handled.count,
+                waiting: 0,
+                changed: handled.changed,
             };
         }
         handled
     }
 
     /// One turn with a value that the device gives.
-    fn take_value(
-        &mut self,
-        port: u16,
-        datagram: &[u8],
-        octets: &[u8],
-        room: &mut [Sent],
-    ) -> Handled
+    #[inline(never)]
+    fn take_value(&mut self, port: u16, datagram: &[u8], octets: &[u8], room: &mut [Sent]) -> Taken
         requires port { HasPort port self.old.agent.sets }
         requires room { length (outbox_of (turn_said
             (clock_in self.old) (state_in self.old) (says.Gives octets.now) port datagram.now)) ≤ length room.old }
@@ -240,21 +249,27 @@ impl HostedClock {
         ensures behind { AllZip KeepsBehind room.old room.new }
         ensures new_alone { result.verdict ≢ Verdict.AnsweredNew →
             self.new.agent.sets ≡ self.old.agent.sets }
+        ensures members { result.changed ≡ changed self.old.agent.sets self.new.agent.sets }
+        ensures waiting { result.waiting ≡ 0 }
         ensures clock { clock_in self.new ≡ clock_in self.old }
         ensures under_way { self.new.under_way ≡ self.old.under_way }
     {
         if let Some(count) = self.answer_value(port, datagram, octets, room) {
-            return Handled {
+            return Taken {
                 verdict: Verdict::AnsweredUnnumbered,
                 count,
+                waiting: 0,
+                changed: ChangedMembers::NONE,
             };
         }
         let is_kept = keep_value(&mut self.agent, datagram, octets);
         let handled = self.take_turn(port, datagram, room);
         if is_kept {
-            return Handled {
+            return Taken {
                 verdict: Verdict::AnsweredNew,
                 count: handled.count,
+                waiting: 0,
+                changed: handled.changed,
             };
         }
         handled

@@ -30,8 +30,9 @@ ghost use Rattle.ptpm_data.specs.ObservationBack.{Observation};
 ghost use Rattle.ptpm_table.specs.declared.serial.Serial.TheVariants.{Newer};
 ghost use Rattle.ptpm_table.specs.Entries.{Entry};
 ghost use Rattle.ptpm_table.specs.Serial.{serial_of};
+ghost use Rattle.ptpm_agent.specs.Observing.{moved_state};
 ghost use Rattle.ptpm_agent.specs.Turn.{Clock, judged};
-ghost use Rattle.ptpm_device.specs.Saying.{Say};
+ghost use Rattle.ptpm_device.specs.Saying.{Say, turn_said};
 ghost use Rattle.ptpm_saved.specs.Batching.{Call, IsDevice, all_events, as_device, begun, calls_each};
 ghost use Rattle.ptpm_saved.specs.Saving.{IsAsIfPowered};
 ghost use Rattle.ptpm_saved.specs.SavingClock.{Datagram};
@@ -39,7 +40,7 @@ ghost use Rattle.ptpm_host.specs.Coming.{ClockBatch, ClockState, Coming, Decides
 ghost use Rattle.ptpm_host.specs.KeptBatch.{IsGivenOut};
 ghost use Rattle.ptpm_host.specs.PassedOnLaw.{NotTwice};
 ghost use Rattle.ptpm_host.specs.RateLaw.{WithinRate};
-ghost use Rattle.ptpm_host.specs.Undertaking.{AsksAtMostOnce};
+ghost use Rattle.ptpm_host.specs.Undertaking.{AsksAtMostOnce, IsInItsDomain, is_taken_meanwhile};
 
 /// The number of a verdict, of a reason and of a refusal has its name, in words of capitals: `ANSWERED_NEW` for `AnsweredNew`.
 /// A malformed datagram has the name of its cause. The number of a member has its name after `BAD_`. A managementErrorId that
@@ -135,4 +136,23 @@ pub fn undertaken_at_most_once()
         → judged c s.state v ≡ Verdict.AnsweredNew
         → IsSomeAnd (get (after_coming c s (Decides say)).state.entries v.source)
         (λ e. e.number ≡ v.number) }
+{}
+
+/// A clock stays in the domain of the change that is under way: by what it takes meanwhile, and by what its host observes. So the
+/// decision never answers OtherDomain.
+pub fn decided_in_its_domain()
+    ensures undertaken { (c : Clock) (s : ClockState) (port : ℕ) (datagram : List ℕ)
+        → undertakes c s datagram ≡ true
+        → IsInItsDomain (after_coming c s (Undertakes port datagram)) }
+    ensures stays { (c : Clock) (s : ClockState) (x : Coming)
+        → is_taken_meanwhile c s x ≡ true
+        → IsInItsDomain s
+        → IsInItsDomain (after_coming c s x) }
+    ensures observed { (s : ClockState) (o : Observation)
+        → IsInItsDomain s
+        → IsInItsDomain (record s { state = moved_state o.clock o.ports s.state }) }
+    ensures decided { (c : Clock) (s : ClockState) (x : Datagram) (say : Say)
+        → IsInItsDomain s
+        → s.under_way ≡ Some x
+        → (turn_said c s.state say x.0 x.1).verdict ≢ Verdict.OtherDomain }
 {}

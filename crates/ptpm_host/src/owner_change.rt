@@ -13,11 +13,12 @@ ghost use Rattle.ptpm_host.specs.Changing.{IsChangedHere, change_refusal, is_tar
 ghost use Rattle.ptpm_host.specs.Clock.{IsWhole, KeepsBehind, clock_in, messages_in, state_in};
 ghost use Rattle.ptpm_host.specs.MostSent.{most_sent};
 
-use crate::clock::{Handled, HostedClock};
+use crate::clock::HostedClock;
 use crate::outbox::Outbox;
 use crate::refusal::ChangeRefusal;
 use crate::sent::Sent;
 use crate::session::asked_action;
+use crate::taken::Taken;
 use ptpm_agent::{Agent, Verdict};
 use ptpm_codec::{Action, PortIdentity, is_data_field, view};
 use ptpm_data::{ChangedMembers, DataSets, Request, Rights};
@@ -81,12 +82,7 @@ impl HostedClock {
     /// judged as that of a manager with every right, and nothing of it is kept. Never inlined: so the stack has its table only for the
     /// owner's datagrams.
     #[inline(never)]
-    pub(crate) fn take_owner_turn(
-        &mut self,
-        port: u16,
-        datagram: &[u8],
-        room: &mut [Sent],
-    ) -> Handled
+    pub(crate) fn take_owner_turn(&mut self, port: u16, datagram: &[u8], room: &mut [Sent]) -> Taken
         requires port { HasPort port self.old.agent.sets }
         requires room { most_sent (state_in self.old) ≤ length room.old }
         ensures turned { IsTurned (owner_turn (clock_in self.old) (state_in self.old) port datagram.now)
@@ -95,6 +91,8 @@ impl HostedClock {
         ensures whole { All IsWhole (take result.count room.new) }
         ensures places { drop result.count room.new ≡ drop result.count room.old }
         ensures behind { AllZip KeepsBehind room.old room.new }
+        ensures members { result.changed ≡ changed self.old.agent.sets self.new.agent.sets }
+        ensures waiting { result.waiting ≡ 0 }
         ensures clock { clock_in self.new ≡ clock_in self.old }
         ensures under_way { self.new.under_way ≡ self.old.under_way }
     {
@@ -108,9 +106,11 @@ impl HostedClock {
         let mut sets = self.agent.sets().copy();
         owned.swap_sets(&mut sets);
         self.agent.swap_sets(&mut sets);
-        Handled {
+        Taken {
             verdict: owner_verdict(handled.verdict, message.action()),
             count: handled.count,
+            waiting: 0,
+            changed: handled.changed,
         }
     }
 }
@@ -123,7 +123,7 @@ fn take_owned(
     port: u16,
     datagram: &[u8],
     room: &mut [Sent],
-) -> Handled
+) -> Taken
     requires port { HasPort port owned.old.sets }
     requires room { length (outbox_of (turn
         (clock_of ⟦<SlotTable<1> as ReplyTable>⟧.owner owned.old)
@@ -138,12 +138,15 @@ fn take_owned(
     ensures whole { All IsWhole (take result.count room.new) }
     ensures places { drop result.count room.new ≡ drop result.count room.old }
     ensures behind { AllZip KeepsBehind room.old room.new }
+    ensures members { result.changed ≡ changed owned.old.sets owned.new.sets }
 {
     let mut outbox = Outbox::new(room);
-    let verdict = owned.handle_into(port, datagram, &mut outbox);
-    Handled {
+    let (verdict, changed) = owned.change_into(port, datagram, &mut outbox);
+    Taken {
         verdict,
         count: outbox.count(),
+        waiting: 0,
+        changed,
     }
 }
 

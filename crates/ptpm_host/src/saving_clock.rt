@@ -3,7 +3,7 @@
 ghost use Rattle.std.specs.Prelude.{◌≡◌, ◌+◌, ◌≤◌, length};
 ghost use Rattle.ptpm_host.specs.Queue.{queued};
 
-use crate::clock::{Handled, HostedClock};
+use crate::clock::HostedClock;
 use crate::device::{Asking, Question, Said, Say};
 use crate::observing::{ObservedClock, ObservedPort, port_observations};
 use crate::owner_change::asks_to_move;
@@ -13,6 +13,7 @@ use crate::refusal::{
     UndertakeRefusal,
 };
 use crate::sent::Sent;
+use crate::taken::Taken;
 use crate::under_way::{UnderWay, first_message};
 use ptpm_agent::Verdict;
 use ptpm_codec::view;
@@ -27,9 +28,11 @@ use std::alloc::Global;
 pub struct SavingClock {
     /// The clock as it is. Images are made of it.
     clock: Box<HostedClock>,
-    /// The data sets that others are shown: those of the clock while nothing waits.
+    /// The data sets that others are shown: those of the clock while nothing waits. It is a copy, since the clock goes on changing
+    /// while it is saved.
     shown: DataSets,
-    /// Those of the latest image, with what was observed since. They are shown once it is saved.
+    /// Those of the latest image, with what was observed since. They are shown once it is saved. `image` makes this copy, and `saved`
+    /// copies it, since the next image may come before the next save.
     copied: DataSets,
     queue: Queue,
     /// How many messages were released, and not taken out yet. They come first.
@@ -71,18 +74,6 @@ pub enum Saved {
     Saved,
     /// It asks its device for what is under way.
     ActNow,
-}
-
-/// What became of a datagram.
-#[derive(Clone, Copy, Debug)]
-pub struct Taken {
-    pub verdict: Verdict,
-    /// How many messages are sent for it at once.
-    pub count: usize,
-    /// How many wait for a save.
-    pub waiting: usize,
-    /// The members of the clock that it has changed.
-    pub changed: ChangedMembers,
 }
 
 impl SavingClock {
@@ -243,7 +234,7 @@ impl SavingClock {
         ensures verdict { IfOk result (λ t. (o : says.Say) → say_in say.now ≡ Ok o → t.verdict
             ≡ (turn_of (clock_in self.old.clock.value)
             (state_asked self.old port datagram.now of_owner) port datagram.now o of_owner).verdict) }
-        ensures members { IfOk result (λ t. (b : ClockBatch) (count : ℕ) → IsAsBatch self.old b count → t.changed
+        ensures members { IfOk result (λ t. t.changed
             ≡ changed self.old.clock.value.agent.sets self.new.clock.value.agent.sets) }
         ensures new_alone { IfOk result (λ t. t.verdict ≢ Verdict.AnsweredNew
             → t.changed ≡ no_members) }
@@ -430,7 +421,6 @@ impl SavingClock {
         ensures blanked { AreBlanked result.waiting room.old room.new }
         ensures clock { clock_in self.new.clock.value ≡ clock_in self.old.clock.value }
     {
-        let before = self.clock.sets().copy();
         let handled = self
             .clock
             .carry_out(under_way.port, under_way.message(), said, false, room);
@@ -443,7 +433,7 @@ impl SavingClock {
             verdict: handled.verdict,
             count: 0,
             waiting: handled.count,
-            changed: self.clock.sets().changed_since(&before),
+            changed: handled.changed,
         }
     }
 
@@ -491,7 +481,12 @@ impl SavingClock {
         self.clock.agent.swap_sets(&mut self.shown);
         let handled = self.clock.carry_out(port, datagram, said, false, room);
         self.clock.agent.swap_sets(&mut self.shown);
-        Taken::at_once(&handled)
+        Taken {
+            verdict: handled.verdict,
+            count: handled.count,
+            waiting: 0,
+            changed: ChangedMembers::NONE,
+        }
     }
 
     /// Carries a datagram out while nothing waits. If that changes the clock, its messages wait.
@@ -514,7 +509,7 @@ impl SavingClock {
             (messages_in (take result.count room.new)) self.new }
         ensures verdict { result.verdict ≡ (turn_of (clock_in self.old.clock.value)
             (state_in self.old.clock.value) port datagram.now (said_value said.entry) of_owner).verdict }
-        ensures members { (b : ClockBatch) (count : ℕ) → IsAsBatch self.old b count → result.changed
+        ensures members { result.changed
             ≡ changed self.old.clock.value.agent.sets self.new.clock.value.agent.sets }
         ensures new_alone { result.verdict ≢ Verdict.AnsweredNew → result.changed ≡ no_members }
         ensures still { self.new.waits ≡ is_new result.verdict }
@@ -532,7 +527,7 @@ impl SavingClock {
     {
         let handled = self.clock.carry_out(port, datagram, said, of_owner, room);
         if handled.verdict != Verdict::AnsweredNew {
-            return Taken::at_once(&handled);
+            return handled;
         }
         self.queue.take_over(room, handled.count);
         self.waits = true;
@@ -541,7 +536,7 @@ impl SavingClock {
             verdict: handled.verdict,
             count: 0,
             waiting: handled.count,
-            changed: self.clock.sets().changed_since(&self.shown),
+            changed: handled.changed,
         }
     }
 
@@ -577,7 +572,6 @@ impl SavingClock {
         ensures clock { clock_in self.new.clock.value ≡ clock_in self.old.clock.value }
         ensures under_way { self.new.clock.value.under_way ≡ self.old.clock.value.under_way }
     {
-        let before = self.clock.sets().copy();
         let handled = self.clock.carry_out(port, datagram, said, of_owner, room);
         self.queue.take_over(room, handled.count);
         self.is_changed = self.is_changed_by(handled.verdict);
@@ -585,7 +579,7 @@ impl SavingClock {
             verdict: handled.verdict,
             count: 0,
             waiting: handled.count,
-            changed: self.clock.sets().changed_since(&before),
+            changed: handled.changed,
         }
     }
 
@@ -798,24 +792,5 @@ impl SavingClock {
         self.queue.take_first(sent);
         self.ready -= 1;
         true
-    }
-}
-
-impl Taken {
-    ghost use Rattle.ptpm_data.specs.Changed.{no_members};
-
-    /// Nothing was changed, and nothing waits.
-    fn at_once(handled: &Handled) -> Taken
-        ensures verdict { result.verdict ≡ handled.now.verdict }
-        ensures count { result.count ≡ handled.now.count }
-        ensures waiting { result.waiting ≡ 0 }
-        ensures changed { result.changed ≡ no_members }
-    {
-        Taken {
-            verdict: handled.verdict,
-            count: handled.count,
-            waiting: 0,
-            changed: ChangedMembers::NONE,
-        }
     }
 }

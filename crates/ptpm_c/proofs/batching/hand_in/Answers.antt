@@ -21,4 +21,4 @@ pub returns-in-Err-clause-places : goal.returns-in-Err-clause-places
 returns-in-Err-clause-places c = unchanged_places _ _ _ c.nothing.ensures c.in-Err.ensures.untouched
 
 pub returns-in-Ok-clause-changed : goal.returns-in-Ok-clause-changed
-returns-in-Ok-clause-changed c = λ none b count as_batch. c.in-Ok.ensures.members b count as_batch
+returns-in-Ok-clause-changed c = λ none. c.in-Ok.ensures.members

@@ -1,5 +1,7 @@
 use Rattle.std.proofs.Common.{◌∙◌, ap, length, sym, true, false}
+use Rattle.ptpm_data.specs.Changed.{changed}
 use Rattle.ptpm_data.specs.Members.{DataSetsValue}
+use Rattle.ptpm_data.proofs.Differing.{nothing_changed}
 use Rattle.ptpm_agent.specs.Turn.{State}
 use Rattle.ptpm_device.specs.Saying as says
 use Rattle.ptpm_saved.specs.SavingClock.{is_new}
@@ -40,3 +42,16 @@ pub returns-else-of_owner-clause-ports : goal.returns-else-of_owner-clause-ports
 returns-else-of_owner-clause-ports c =
     ap (λ (d : DataSetsValue). length d.ports) c.take_said.ensures.turned.sets_are
     ∙ turn_of-ports (clock_in c.args.self.now) (state_in c.args.self.now) c.args.port c.args.datagram.now (said_value c.args.said) false
+
+pub returns-then-of_owner-clause-members_alone : goal.returns-then-of_owner-clause-members_alone
+returns-then-of_owner-clause-members_alone c = λ other.
+    let still = c.take_owner_turn.ensures.turned.sets_are
+    ∙ ap (λ (s : State). s.sets) (turn_of-unchanged (clock_in c.args.self.now) (state_in c.args.self.now) c.args.port c.args.datagram.now says.Agrees true
+    (ap is_new (sym c.take_owner_turn.ensures.turned.verdict_is) ∙ not_new c.take_owner_turn.result.verdict other)) in
+    c.take_owner_turn.ensures.members ∙ ap (λ (d : DataSetsValue). changed c.args.self.now.agent.sets d) still
+    ∙ sym (nothing_changed c.args.self.now.agent.sets)
+
+pub returns-else-of_owner-clause-members_alone : goal.returns-else-of_owner-clause-members_alone
+returns-else-of_owner-clause-members_alone c = λ other.
+    c.take_said.ensures.members ∙ ap (λ (d : DataSetsValue). changed c.args.self.now.agent.sets d) (c.take_said.ensures.new_alone other)
+    ∙ sym (nothing_changed c.args.self.now.agent.sets)

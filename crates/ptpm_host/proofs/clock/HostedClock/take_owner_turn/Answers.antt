@@ -6,6 +6,7 @@ use Rattle.ptpm_host.proofs.ComingLaws.{owner_unread}
 use Rattle.ptpm_host.proofs.MostSent.{sends_no_more_alone}
 use Rattle.ptpm_agent.proofs.Turns.{message_of-reading}
 use Rattle.ptpm_codec.specs.Reading.{message_of}
+use Rattle.ptpm_data.specs.Changed.{changed}
 use Rattle.ptpm_data.specs.Members.{DataSetsValue}
 use Rattle.ptpm_data.specs.Rights.{all_rights}
 use Rattle.ptpm_table.specs.Managers.{Clock, clock_with}
@@ -46,3 +47,9 @@ returns-clause-turned c =
     (λ i. record { sets = sets i; entries = c.admit.ensures.table.nothing_kept i })
     c.take_owned-handled.ensures.turned
     (c.owner_verdict.ensures c.in-Ok.message (sym c.action.ensures)) left (ap entries_of_block c.swap_sets-2.ensures.table)
+
+pub returns-clause-members : goal.returns-clause-members
+returns-clause-members c =
+    let sets : c.admit.new.self.sets ≡ c.args.self.now.agent.sets = first_of (search rules, cc) in
+    let left : c.take_owned-handled.new.owned.sets ≡ c.swap_sets-2.new.self.sets = first_of (search rules, cc) in
+    c.take_owned-handled.ensures.members ∙ (λ i. changed (sets i) (left i))

@@ -1,5 +1,6 @@
 use Rattle.std.proofs.Common.{◌≡◌, ◌∙◌, ◌≤◌, arith, false, length, subst, sym}
 use Rattle.ptpm_agent.specs.Turn.{outbox_of, turn}
+use Rattle.ptpm_data.proofs.Differing.{nothing_changed}
 use Rattle.ptpm_device.specs.Asking.{wanted_once}
 use Rattle.ptpm_device.proofs.Said.{turned_kept, turned_ungiven}
 use Rattle.ptpm_host.specs.Clock.{clock_in, state_in}
@@ -27,3 +28,6 @@ take_turn-handled-requires-clause-room c =
     (sym same)
     (given_fits (clock_in c.args.self.now) (state_in c.args.self.now) c.args.octets.now c.args.port c.args.datagram.now _ _ (length c.args.room.now)
     c.keep_value-is_kept.ensures.number once c.keep_value-is_kept.ensures.clock c.keep_value-is_kept.ensures.kept c.requires.room)
+
+pub returns-in-Some-clause-members : goal.returns-in-Some-clause-members
+returns-in-Some-clause-members c = nothing_changed c.args.self.now.agent.sets

@@ -12,7 +12,7 @@ use Rattle.ptpm_host.specs.SavingClock.{LeadsTo, called_at}
 use Rattle.ptpm_host.proofs.saving_clock.SavingClock.take.Goals as goal
 
 pub returns-then-not-is_for_live-clause-members : goal.returns-then-not-is_for_live-clause-members
-returns-then-not-is_for_live-clause-members c = λ b count as_batch.
+returns-then-not-is_for_live-clause-members c =
     c.take_shown.ensures.changed ∙ nothing_changed c.args.self.now.clock.value.agent.sets
     ∙ ap (λ d. changed c.args.self.now.clock.value.agent.sets d) (sym c.take_shown.ensures.sets)
 

@@ -38,6 +38,6 @@ returns-clause-called c = λ b count as_batch.
 
 pub returns-clause-members : goal.returns-clause-members
 returns-clause-members c =
-    let before : c.copy-before.result ≡ c.args.self.now.clock.value.agent.sets = first_of (search rules, cc) in
-    let now : c.sets-2.result.now ≡ c.deref_mut-2.result.now.agent.sets = first_of (search rules, cc) in
-    c.changed_since.ensures ∙ (λ i. changed (before i) (now i))
+    let own : c.deref_mut.result.now ≡ c.args.self.now.clock.value = first_of (search rules, cc) in
+    let now : c.carry_out-handled.new.self.agent.sets ≡ c.deref_mut-2.result.now.agent.sets = first_of (search rules, cc) in
+    c.carry_out-handled.ensures.members ∙ (λ i. changed (own i).agent.sets (now i))

@@ -1,7 +1,6 @@
 use Rattle.std.proofs.Common.{◌≡◌, ◌≢◌, ◌∙◌, ap, arith, refl, rules, sym, take, true}
 use Rattle.std.proofs.lemmas.Grind.{common_steps}
 use Rattle.ptpm_data.specs.Changed.{changed}
-use Rattle.ptpm_data.proofs.Differing.{nothing_changed}
 use Rattle.ptpm_agent.specs.declared.verdict.Verdict.TheVariants as verdicts
 use Rattle.ptpm_host.specs.declared.clock.HostedClock.{HostedClock}
 use Rattle.ptpm_host.specs.Clock.{clock_in, messages_in}
@@ -9,7 +8,7 @@ use Rattle.ptpm_host.specs.Device.{said_value}
 use Rattle.ptpm_host.specs.Queue.{queued}
 use Rattle.ptpm_host.specs.SavingClock.{request_under_way}
 use Rattle.ptpm_host.proofs.AskedCalls.{asks_called, led_to}
-use Rattle.ptpm_host.proofs.SavingCalls.{first_turn, new_turn, or_new, shown_live}
+use Rattle.ptpm_host.proofs.SavingCalls.{first_turn, new_turn, or_new}
 use Rattle.ptpm_host.proofs.saving_clock.SavingClock.take_first.Goals as goal
 
 pub returns-then-ne-clause-called : goal.returns-then-ne-clause-called
@@ -18,8 +17,8 @@ returns-then-ne-clause-called c = λ b count as_batch.
     let other : c.carry_out-handled.result.verdict ≢ verdicts.AnsweredNew = first_of (search rules, grind (arith, common_steps)) in
     led_to _ _ _ count
     (first_turn c.args.self.now c.deref_mut.result.now c.carry_out-handled.new.self c.args.port c.args.datagram.now (said_value c.args.said) c.args.of_owner
-    c.carry_out-handled.result.verdict (messages_in (take c.at_once.result.count c.carry_out-handled.new.room)) own
-    (rw c.at_once.ensures.count c.carry_out-handled.ensures.turned) c.carry_out-handled.ensures.clock c.carry_out-handled.ensures.under_way b count as_batch.kept
+    c.carry_out-handled.result.verdict (messages_in (take c.carry_out-handled.result.count c.carry_out-handled.new.room)) own
+    c.carry_out-handled.ensures.turned c.carry_out-handled.ensures.clock c.carry_out-handled.ensures.under_way b count as_batch.kept
     c.requires.ready c.requires.waits other)
     (asks_called c.args.self.now _ b count as_batch c.args.port c.args.datagram.now (said_value c.args.said) c.args.of_owner (record {
       clock = c.carry_out-handled.ensures.clock ∙ ap clock_in own;
@@ -29,12 +28,9 @@ returns-then-ne-clause-called c = λ b count as_batch.
     }))
 
 pub returns-then-ne-clause-members : goal.returns-then-ne-clause-members
-returns-then-ne-clause-members c = λ b count as_batch.
+returns-then-ne-clause-members c =
     let own : c.deref_mut.result.now ≡ c.args.self.now.clock.value = first_of (search rules, cc) in
-    let other : c.carry_out-handled.result.verdict ≢ verdicts.AnsweredNew = first_of (search rules, grind (arith, common_steps)) in
-    c.at_once.ensures.changed ∙ nothing_changed c.args.self.now.clock.value.agent.sets
-    ∙ ap (λ d. changed c.args.self.now.clock.value.agent.sets d)
-    (sym (c.carry_out-handled.ensures.new_alone other ∙ ap (λ (h : HostedClock). h.agent.sets) own))
+    c.carry_out-handled.ensures.members ∙ ap (λ (h : HostedClock). changed h.agent.sets c.carry_out-handled.new.self.agent.sets) own
 
 pub returns-clause-called : goal.returns-clause-called
 returns-clause-called c = λ b count as_batch.
@@ -53,6 +49,6 @@ returns-clause-called c = λ b count as_batch.
     }))
 
 pub returns-clause-members : goal.returns-clause-members
-returns-clause-members c = λ b count as_batch.
-    let now : c.sets.result.now ≡ c.carry_out-handled.new.self.agent.sets = first_of (search rules, cc) in
-    c.changed_since.ensures ∙ (λ i. changed (shown_live c.args.self.now b count as_batch.kept c.requires.waits i) (now i))
+returns-clause-members c =
+    let own : c.deref_mut.result.now ≡ c.args.self.now.clock.value = first_of (search rules, cc) in
+    c.carry_out-handled.ensures.members ∙ ap (λ (h : HostedClock). changed h.agent.sets c.carry_out-handled.new.self.agent.sets) own

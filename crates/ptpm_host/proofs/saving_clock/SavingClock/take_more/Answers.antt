@@ -1,8 +1,6 @@
 use Rattle.std.proofs.Common.{◌≡◌, ◌∙◌, ap, refl, rules, sym, take}
 use Rattle.std.proofs.lemmas.Grind.{common_steps}
 use Rattle.ptpm_data.specs.Changed.{changed}
-use Rattle.ptpm_data.proofs.Differing.{nothing_changed}
-use Rattle.ptpm_agent.specs.declared.verdict.Verdict.TheVariants as verdicts
 use Rattle.ptpm_host.specs.declared.clock.HostedClock.{HostedClock}
 use Rattle.ptpm_host.specs.Clock.{clock_in, messages_in}
 use Rattle.ptpm_host.specs.Device.{said_value}
@@ -29,15 +27,5 @@ returns-clause-called c = λ b count as_batch.
 
 pub returns-clause-members : goal.returns-clause-members
 returns-clause-members c =
-    let before : c.copy-before.result ≡ c.args.self.now.clock.value.agent.sets = first_of (search rules, cc) in
-    let now : c.sets-2.result.now ≡ c.carry_out-handled.new.self.agent.sets = first_of (search rules, cc) in
-    c.changed_since.ensures ∙ (λ i. changed (before i) (now i))
-
-pub returns-clause-new_alone : goal.returns-clause-new_alone
-returns-clause-new_alone c = λ other.
     let own : c.deref_mut.result.now ≡ c.args.self.now.clock.value = first_of (search rules, cc) in
-    let before : c.copy-before.result ≡ c.args.self.now.clock.value.agent.sets = first_of (search rules, cc) in
-    let now : c.sets-2.result.now ≡ c.carry_out-handled.new.self.agent.sets = first_of (search rules, cc) in
-    let same : c.carry_out-handled.new.self.agent.sets ≡ c.args.self.now.clock.value.agent.sets =
-    c.carry_out-handled.ensures.new_alone other ∙ (λ i. (own i).agent.sets) in
-    c.changed_since.ensures ∙ (λ i. changed (before i) ((now ∙ same) i)) ∙ sym (nothing_changed c.args.self.now.clock.value.agent.sets)
+    c.carry_out-handled.ensures.members ∙ ap (λ (h : HostedClock). changed h.agent.sets c.carry_out-handled.new.self.agent.sets) own

@@ -22,8 +22,8 @@ returns-clause-called c = λ b count as_batch.
     let under_way = turned ∙ kept in
     led_to _ _ _ count
     (shown_turn c.args.self.now c.deref_mut-2.result.now c.carry_out-handled.new.self last c.swap_sets-2.new.sets c.args.port c.args.datagram.now
-    (said_value c.args.said) c.carry_out-handled.result.verdict (messages_in (take c.at_once.result.count c.carry_out-handled.new.room))
-    with_table with_sets (rw c.at_once.ensures.count c.carry_out-handled.ensures.turned) c.carry_out-handled.ensures.clock back table now under_way c.requires.other
+    (said_value c.args.said) c.carry_out-handled.result.verdict (messages_in (take c.carry_out-handled.result.count c.carry_out-handled.new.room))
+    with_table with_sets c.carry_out-handled.ensures.turned c.carry_out-handled.ensures.clock back table now under_way c.requires.other
     b count as_batch.kept c.requires.ready)
     (asks_called c.args.self.now _ b count as_batch c.args.port c.args.datagram.now (said_value c.args.said) false (record {
       clock = ap owner_of_block table ∙ c.carry_out-handled.ensures.clock ∙ ap owner_of_block with_table;
@@ -43,7 +43,7 @@ returns-clause-new c =
     let turned : c.deref_mut-3.result.now.under_way ≡ c.carry_out-handled.new.self.under_way = first_of (search rules, cc) in
     let kept : c.carry_out-handled.new.self.under_way ≡ c.args.self.now.clock.value.under_way = first_of (search rules, cc) in
     let under_way = turned ∙ kept in
-    rw c.at_once.ensures.verdict (shown_not_new c.args.self.now c.deref_mut-2.result.now c.carry_out-handled.new.self last c.swap_sets-2.new.sets c.args.port
+    shown_not_new c.args.self.now c.deref_mut-2.result.now c.carry_out-handled.new.self last c.swap_sets-2.new.sets c.args.port
     c.args.datagram.now (said_value c.args.said) c.carry_out-handled.result.verdict
     (messages_in (take c.carry_out-handled.result.count c.carry_out-handled.new.room)) with_table with_sets c.carry_out-handled.ensures.turned
-    c.carry_out-handled.ensures.clock back table now under_way c.requires.other)
+    c.carry_out-handled.ensures.clock back table now under_way c.requires.other

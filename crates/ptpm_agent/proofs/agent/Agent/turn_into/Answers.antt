@@ -8,11 +8,12 @@ use Rattle.ptpm_codec.specs.declared.identity.PortIdentity.{PortIdentity}
 use Rattle.ptpm_agent.specs.Addressing.{heard_of}
 use Rattle.ptpm_agent.specs.Forwarding.{forwarded}
 use Rattle.ptpm_agent.specs.Turn.{carried_out, new_reply, reply_by, reply_messages}
+use Rattle.ptpm_data.proofs.Differing.{nothing_changed}
 use Rattle.ptpm_agent.proofs.MostSent.{rendered_count}
-use Rattle.ptpm_agent.proofs.agent.Agent.handle_into.Goals as goal
+use Rattle.ptpm_agent.proofs.agent.Agent.turn_into.Goals as goal
 
-pub accept-requires-clause-room : goal.accept-requires-clause-room
-accept-requires-clause-room g c =
+pub accept_asked-members-requires-clause-room : goal.accept_asked-members-requires-clause-room
+accept_asked-members-requires-clause-room g c =
     let clock = g.T.ReplyTable.owner c.args.self.now.table in
     let state = state_of g.T.ReplyTable.entries c.args.self.now in
     let v = c.in-Ok.message in
@@ -60,9 +61,9 @@ pub returns-in-AnsweredNew-clause-turned : goal.returns-in-AnsweredNew-clause-tu
 returns-in-AnsweredNew-clause-turned g c =
     let clock = g.T.ReplyTable.owner c.args.self.now.table in
     let state = state_of g.T.ReplyTable.entries c.args.self.now in
-    turned_new clock state c.args.ingress c.args.datagram.now c.in-Ok.message c.judge-verdict.result.0 (g.O.Outgoing.sent c.accept.new.out)
-    (state_of g.T.ReplyTable.entries c.accept.new.self)
-    (sym c.view.ensures.exact ∙ c.in-Ok.is) c.judge-verdict.ensures.verdict c.in-AnsweredNew.is c.accept.ensures.sent c.accept.ensures.accepted
+    turned_new clock state c.args.ingress c.args.datagram.now c.in-Ok.message c.judge-verdict.result.0 (g.O.Outgoing.sent c.accept_asked-members.new.out)
+    (state_of g.T.ReplyTable.entries c.accept_asked-members.new.self)
+    (sym c.view.ensures.exact ∙ c.in-Ok.is) c.judge-verdict.ensures.verdict c.in-AnsweredNew.is c.accept_asked-members.ensures.sent c.accept_asked-members.ensures.accepted
 
 pub returns-in-AnsweredRepeat-clause-turned : goal.returns-in-AnsweredRepeat-clause-turned
 returns-in-AnsweredRepeat-clause-turned g c =
@@ -82,3 +83,12 @@ returns-in_default-clause-turned g c =
     (state_of g.T.ReplyTable.entries c.args.self.now) c.args.ingress c.args.datagram.now c.in-Ok.message
     c.judge-verdict.result.0 (g.O.Outgoing.sent c.answer.new.out) (state_of g.T.ReplyTable.entries c.args.self.now)
     (sym c.view.ensures.exact ∙ c.in-Ok.is) c.judge-verdict.ensures.verdict c.in_default.not-AnsweredNew c.answer.ensures.sent refl
+
+pub returns-in-Err-clause-members : goal.returns-in-Err-clause-members
+returns-in-Err-clause-members g c = λ asks. nothing_changed c.args.self.now.sets
+
+pub returns-in-AnsweredRepeat-clause-members : goal.returns-in-AnsweredRepeat-clause-members
+returns-in-AnsweredRepeat-clause-members g c = λ asks. nothing_changed c.args.self.now.sets
+
+pub returns-in_default-clause-members : goal.returns-in_default-clause-members
+returns-in_default-clause-members g c = λ asks. nothing_changed c.args.self.now.sets
