@@ -1,4 +1,4 @@
-//! A change of several clocks, step by step. It does no input or output: it is told what came of an action, and hands out the next one.
+//! A change of several clocks, step by step. It does no input or output: it takes what came of an action, and hands out the next one.
 
 use crate::action::{Action, Why};
 use crate::choice::{Choice, TurnError};
