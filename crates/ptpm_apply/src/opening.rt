@@ -38,11 +38,7 @@ impl Rollout {
 
     /// A change with the journal that a file has, and how many octets of it were written whole. It is refused for the first reason that holds.
     /// If a step is given up, the change can only be given up.
-    pub fn open(
-        alloc: Global,
-        octets: &[u8],
-        choice: Choice,
-    ) -> Result<(Rollout, usize), OpenError>
+    pub fn open(alloc: Global, octets: &[u8], choice: Choice) -> Result<(Rollout, usize), OpenError>
         ensures read { IfOk result (λ r. AreRead octets.now r.1 r.0.journal r.0.crc) }
         ensures goes_on { IfOk result (λ r. goes_on r.0.journal ≡ true) }
         ensures fresh { IfOk result (λ r. (r.0.stage ≡ Stage.Fresh) × (r.0.seen ≡ 0) × (r.0.is_changed ≡ false)) }

@@ -26,4 +26,4 @@ returns-in-None c =
     subst (λ (b : Option ℕ). SeesTo c.args.time c.args.self.now c.args.lane c.args.standing b c.args.changes c.go_on-in-None.new.self)
     (sym c.in-None.is)
     (rest c.args.standing c.args.time c.args.lane c.args.self.now c.go_on-in-None.new.self c.args.changes c.in_default.not-Told
-      c.in_default.not-OfAnother c.in_default.not-Unknown c.go_on-in-None.ensures)
+    c.in_default.not-OfAnother c.in_default.not-Unknown c.go_on-in-None.ensures)
