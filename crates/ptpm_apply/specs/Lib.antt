@@ -1,3 +1,4 @@
+pub mod Value
 pub mod InFile
 pub mod Standing
 pub mod Watching

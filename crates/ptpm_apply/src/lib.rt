@@ -1,12 +1,27 @@
 //! What a change of several clocks from one file may rely on: its journal, and the files of the sessions in which it asks.
 #![tactic(auto)]
 
+mod action;
+mod choice;
+mod event;
 mod in_file;
+mod lane;
 mod laws;
 mod noted;
+mod opening;
+mod planned;
+mod rollout;
+mod stage;
 mod standing;
+#[cfg(test)]
+mod tests;
+mod value;
 
+pub use action::{Action, Over, Why};
+pub use choice::{Choice, OpenError, TurnError};
+pub use event::Event;
 pub use in_file::InFile;
 pub use laws::{begun_before_sent, standing_is_right, steps_in_turn};
 pub use noted::{Begun, Noted};
+pub use rollout::Rollout;
 pub use standing::{Standing, find_standing};

@@ -118,6 +118,15 @@ MayTake s (records.Policy time policy) = goes_on s ≡ true
 MayTake s (records.End time ending step) = (goes_on s ≡ true) × (may_end s.marks ending step ≡ true)
 MayTake s (records.Text what) = goes_on s ≡ true
 
+-- only a step takes memory
+abbrev pub is_step : Record → Bool
+is_step (records.Head head) = false
+is_step (records.Step step port id) = true
+is_step (records.Note time note) = false
+is_step (records.Policy time policy) = false
+is_step (records.End time ending step) = false
+is_step (records.Text what) = false
+
 -- the flag of steps in one row
 abbrev pub is_in_one_row : Option Head → Bool
 is_in_one_row None = false

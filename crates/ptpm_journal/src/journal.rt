@@ -4,7 +4,7 @@ ghost use Rattle.std.specs.Prelude.{◌≡◌, length};
 
 use crate::ending::may_end;
 use crate::error::{AddError, NextError};
-use crate::framing::{Frame, crc_after, frame_at, framed};
+use crate::framing::{Frame, RECORD_OCTETS, crc_after, frame_at, framed};
 use crate::marking::{is_allowed, mark};
 use crate::order::{MOVES, next_step};
 use crate::reading::{Found, Next, found_in, is_short};
@@ -36,7 +36,7 @@ impl Journal {
     ghost use Rattle.std.specs.Prelude.{◌≢◌, ◌≤◌, ◌<◌, ◌+◌, ◌++◌, ◌∷◌, [], ℕ, Err, IfNone, IfOk, IfSome, IsErr, IsTrue, None, Ok, OnErr, OnOk, Some, drop, false, slice_get, true};
     ghost use Rattle.ptpm_journal.specs.declared.record.Mark.{Mark};
     ghost use Rattle.ptpm_journal.specs.Order.{IsAllowedAt, MayBegin, marked};
-    ghost use Rattle.ptpm_journal.specs.Journal.{MayTake, State, goes_on, has_all, is_in_one_row, lacks_step, placed, taken};
+    ghost use Rattle.ptpm_journal.specs.Journal.{MayTake, State, goes_on, has_all, is_in_one_row, is_step, lacks_step, placed, taken};
     ghost use Rattle.ptpm_journal.specs.State.{state_of};
     ghost use Rattle.ptpm_journal.specs.declared.error.AddError.{AddError};
     ghost use Rattle.ptpm_journal.specs.declared.error.NextError.{NextError};
@@ -116,6 +116,7 @@ impl Journal {
         requires { MayTake (state_of self.old) entry }
         ensures taken { OnOk result (state_of self.new ≡ taken (state_of self.old) entry) }
         ensures unchanged { OnErr result (state_of self.new ≡ state_of self.old) }
+        ensures memory { OnErr result (is_step entry ≡ true) }
         ensures crc { self.new.crc ≡ self.old.crc }
     {
         match entry {
@@ -192,7 +193,7 @@ impl Journal {
     }
 
     /// Takes a record with its two groups of octets, and leaves its octets at the head of `octets`: how many they are. If it is refused,
-    /// nothing changes.
+    /// nothing changes. Only a step asks for memory.
     pub fn add(
         &mut self,
         entry: Record,
@@ -212,6 +213,8 @@ impl Journal {
             → is_short (kind_of entry) (length first.now) (length second.now) ≡ false }
         ensures no_room { result ≡ Err AddError.NoRoom → length octets.old
             < length (lead_of self.old.head ++ framed self.old.crc (body_of entry first.now second.now)) }
+        ensures ample { result ≡ Err AddError.NoRoom → length octets.old < RECORD_OCTETS }
+        ensures memory { result ≡ Err AddError.OutOfMemory → is_step entry ≡ true }
         ensures unchanged { OnErr result ((state_of self.new ≡ state_of self.old)
             × (self.new.crc ≡ self.old.crc) × (octets.new ≡ octets.old)) }
     {

@@ -1,0 +1,32 @@
+//! What a run of a change is to do, and why it can't.
+
+/// What a run is to do.
+#[derive(Clone, Copy, Debug, PartialEq, Eq)]
+pub enum Choice {
+    /// It ends at the first clock that is silent, has another value, or does not do what is asked.
+    Stop,
+    /// Such a clock holds only what has to come after its steps.
+    KeepGoing,
+    /// It sends nothing, and ends the change.
+    GiveUp,
+    /// It sees to what an earlier run left of the steps, and to nothing else.
+    Settle,
+}
+
+/// Why a journal is not gone on with.
+#[derive(Clone, Copy, Debug, PartialEq, Eq)]
+pub enum OpenError {
+    OtherVersion,
+    Damaged,
+    /// It has its end.
+    Ended,
+    OutOfMemory,
+}
+
+/// Why an event is refused.
+#[derive(Clone, Copy, Debug, PartialEq, Eq)]
+pub enum TurnError {
+    /// It answers no action that is due.
+    OutOfTurn,
+    OutOfMemory,
+}
