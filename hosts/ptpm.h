@@ -484,18 +484,7 @@ enum {
 /* What an earlier run left under way. */
 enum { PTPM_NOTHING_LEFT = 0, PTPM_QUESTION_LEFT = 1, PTPM_GET_LEFT = 2, PTPM_CHANGE_LEFT = 3 };
 
-/* What became of the step that a change of several clocks began last in a session. */
-enum {
-    PTPM_STEP_NONE_LEFT = 0,            /* no step is uncertain, and no request under way */
-    PTPM_STEP_UNDER_WAY = 1,            /* it may have been carried out: it is sent again, with its number */
-    PTPM_STEP_NEVER_BEGUN = 2,          /* no message of it left: that is noted, and it is asked */
-    PTPM_STEP_NUMBER_TAKEN = 3,         /* nor here: another program took its number, and its request comes first */
-    PTPM_STEP_UNKNOWN = 4,              /* another program used the session since, or the file is gone: nothing is asked */
-    PTPM_STEP_TOLD = 5,                 /* the request under way is that of a step whose answer is noted: it is given up, or sent again */
-    PTPM_STEP_OF_ANOTHER = 6            /* it is another program's, and comes first */
-};
-
-/* No sequenceId; and what ptpm_number_named returns if no number has the name. */
+/* What ptpm_number_named returns if no number has the name. */
 enum { PTPM_NO_NUMBER = 65536 };
 
 #undef PTPM_TO_EIGHT
@@ -1579,9 +1568,6 @@ enum ptpm_journaled ptpm_journal_next(struct ptpm_journal *journal, const uint8_
 /* Returns: what the journal says of a step, PTPM_MARK_UNTOUCHED and on. */
 uint32_t ptpm_journal_mark(const struct ptpm_journal *journal, uint16_t step);
 
-/* Returns: the first step that may be begun now, or PTPM_NO_STEP. */
-uint16_t ptpm_journal_next_step(const struct ptpm_journal *journal);
-
 /* Ends what the handle holds, if it holds anything. The handle then holds nothing, and may be started again. NULL as for
    ptpm_clock_stop. */
 void ptpm_journal_stop(struct ptpm_journal *journal);
@@ -1624,15 +1610,6 @@ static inline void ptpm_rollout_stop_any(struct ptpm_rollout *rollout) {
 }
 
 #define ptpm_rollout_stop(rollout) ptpm_rollout_stop_any(rollout)
-
-/* Says what became of the step that a change of several clocks began last in a session, after a crash too. A step is a SET. A journal notes
-   when it is begun, and what is answered.
-   Takes:   the number with which the journal has a step as begun without an answer. The step's managementId, port or 0, and the size
-            octets of its dataField. The number of the latest step whose answer the journal has. PTPM_NO_NUMBER stands for a number that
-            it lacks. And the image in the session's file, or no octets if there is no file.
-   Returns: PTPM_STEP_NONE_LEFT to PTPM_STEP_OF_ANOTHER. */
-uint32_t ptpm_step_standing(uint32_t begun, uint16_t id, uint16_t port, const uint8_t *octets, size_t size, uint32_t told,
-                            const uint8_t *image, size_t image_size);
 
 /* Seals an image: writes `ptps`, the count of saves and the CRC-32 of all before it after the image. By them damage is found.
    Takes:   room octets: the image is the first size octets. And the count, one more at each save. A host calls ptpm_image_seal,

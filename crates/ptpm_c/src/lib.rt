@@ -1,4 +1,4 @@
-//! A clock, and a manager's session, asker or survey, and a journal, for hosts in C: a static library of calls over `ptpm_host`. `hosts/ptpm.h` is
+//! A clock, and a manager's session, asker or survey, and a change of several clocks with its journal, for hosts in C: a static library of calls over `ptpm_host`. `hosts/ptpm.h` is
 //! its header.
 #![tactic(auto)]
 
@@ -35,11 +35,11 @@ mod kept;
 mod limits;
 mod names;
 mod network;
+mod rollout;
 mod saving;
 mod saving_clock;
 mod sealing;
 mod session;
-mod standing;
 mod survey;
 mod transit;
 

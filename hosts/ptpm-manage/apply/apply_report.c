@@ -327,11 +327,11 @@ void print_dry_run(const struct journal *back, bool is_json) {
     clear_progress();
     if (is_json) {
         begin_member();
-        printf("\"rollsBack\":\"%s\"", back->rolls_back);
+        printf("\"apply\":null,\"rollsBack\":\"%s\",\"end\":\"not begun\"", back->rolls_back);
         print_steps_as_json("steps", back, false);
         return;
     }
-    printf("rollback of %s: %zu step%s\n", back->rolls_back, back->count, back->count == 1 ? "" : "s");
+    printf("rollback %s: not begun: %zu step%s\n", back->rolls_back, back->count, back->count == 1 ? "" : "s");
     for (size_t i = 0; i < back->count; i++) {
         printf("  %zu ", i + 1);
         write_member_name(stdout, &back->steps[i]);
