@@ -927,6 +927,7 @@ __extension__ enum PTPM_FOUR_OCTETS(ptpm_rolled) {
     PTPM_ROLLED = 0,
     PTPM_ROLLOUT_NO_ROOM = PTPM_NO_ROOM,                /* ptpm_rollout_record */
     PTPM_ROLLOUT_NO_MEMORY = PTPM_NO_MEMORY,
+    PTPM_ROLLOUT_BAD_VALUE = PTPM_BAD_VALUE,            /* ptpm_rollout_open: there is no such choice */
     PTPM_ROLLOUT_OTHER_VERSION = PTPM_OTHER_VERSION,    /* ptpm_rollout_open: another version wrote the journal */
     PTPM_ROLLOUT_DAMAGED = PTPM_DAMAGED,                /* ptpm_rollout_open: no run makes this journal */
     PTPM_ROLLOUT_NO_ROLLOUT = PTPM_NO_ROLLOUT,
@@ -1579,7 +1580,7 @@ static inline void ptpm_journal_stop_any(struct ptpm_journal *journal) {
 #define ptpm_journal_stop(journal) ptpm_journal_stop_any(journal)
 
 /* Opens a change of several clocks from its journal, instead of what the handle holds. It goes on where the journal ends.
-   Takes:   the octets of the journal's file; a new one has the head and the steps alone. And PTPM_STOP_AT_FAILURE, PTPM_KEEP_GOING,
+   Takes:   the octets of the journal's file; a new one has only the head and the steps. And PTPM_STOP_AT_FAILURE, PTPM_KEEP_GOING,
             PTPM_GIVE_UP or PTPM_SETTLE_ALONE. A journal with PTPM_RECORD_LET_GO is given up in any case.
    Returns: PTPM_ROLLED, or why not, and then the handle holds what it held.
    Writes:  *whole: how many octets are whole records. The host cuts off what follows.

@@ -87,7 +87,7 @@ static void say_unanswered(const struct desk *desk, const struct journal *journa
     else say_silence_at(desk, &journal->steps[desk->step], is_uncertain);
 }
 
-/* No answer came. A step that this run has begun, and of which no message left, was not begun: the session was saved without it. */
+/* No answer came. If no message of a step left that this run has begun, the session was saved without it. */
 static struct event end_unanswered(struct desk *desk, const struct journal *journal) {
     const struct driver *driver = &desk->driver;
     bool is_unsent = desk->is_begun_now && driver->handed.what == PTPM_FAILED && !driver->handed.was_sent;
