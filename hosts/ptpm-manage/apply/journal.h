@@ -83,7 +83,7 @@ bool continue_journal(struct journal *journal);
 bool may_be_open(const char *path);
 
 /* Notes a record that the rollout made, and synchronizes it; whether it could. Ends the program with status 4 if no run makes that note
-   there. *told is the step whose answer it is, or NO_STEP. */
+   there. After it *told is the step that is answered, or NO_STEP. */
 bool note_record(struct journal *journal, const uint8_t *octets, size_t size, long *told);
 
 /* The same for an end at no step. */

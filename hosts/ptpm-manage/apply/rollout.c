@@ -124,8 +124,10 @@ static struct event note(struct run *run) {
     return plain_event(PTPM_EVENT_DONE);
 }
 
-static struct event leave(const struct desk *desk) {
+/* No step of the clock is to come: other runs may ask it. */
+static struct event leave(struct desk *desk) {
     remove_mark(desk->session.file->path);
+    leave_session_file(desk->session.file);
     return plain_event(PTPM_EVENT_DONE);
 }
 
