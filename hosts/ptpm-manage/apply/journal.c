@@ -294,14 +294,14 @@ static bool append(struct journal *journal, const uint8_t *octets, size_t size) 
     return is_noted;
 }
 
-bool note_record(struct journal *journal, const uint8_t *octets, size_t size, long *told) {
+bool note_record(struct journal *journal, const uint8_t *octets, size_t size, long *answered) {
     struct ptpm_journal_record record;
     size_t taken;
-    *told = NO_STEP;
+    *answered = NO_STEP;
     if (!append(journal, octets, size)) return false;
     enum ptpm_journaled answer = ptpm_journal_next(&journal->kept, octets, size, &record, &taken);
     if (answer != PTPM_JOURNALED) refuse_storage("%s: %s: no run notes that here", journal->path, answer_name(answer));
-    if (record.kind == PTPM_RECORD_TOLD) *told = record.step;
+    if (record.kind == PTPM_RECORD_TOLD) *answered = record.step;
     return take_record(journal, &record, octets);
 }
 

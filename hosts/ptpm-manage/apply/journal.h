@@ -83,8 +83,8 @@ bool continue_journal(struct journal *journal);
 bool may_be_open(const char *path);
 
 /* Notes a record that the rollout made, and synchronizes it; whether it could. Ends the program with status 4 if no run makes that note
-   there. After it *told is the step that is answered, or NO_STEP. */
-bool note_record(struct journal *journal, const uint8_t *octets, size_t size, long *told);
+   there. *answered is the step that it says is answered, or NO_STEP. */
+bool note_record(struct journal *journal, const uint8_t *octets, size_t size, long *answered);
 
 /* The same for an end at no step. */
 bool note_end(struct journal *journal, enum ending ending);

@@ -114,13 +114,13 @@ static struct event check_before(const struct run *run, long step) {
 static struct event note(struct run *run) {
     static uint8_t octets[PTPM_RECORD_OCTETS];
     size_t size;
-    long told;
+    long answered;
     ptpm_rollout_record(&run->rollout, octets, sizeof octets, &size);
-    if (!note_record(run->journal, octets, size, &told)) {
+    if (!note_record(run->journal, octets, size, &answered)) {
         say_not_noted(run->journal);
         return plain_event(PTPM_EVENT_NOT_WRITTEN);
     }
-    if (told != NO_STEP) say_step(run->journal, told);
+    if (answered != NO_STEP) say_step(run->journal, answered);
     return plain_event(PTPM_EVENT_DONE);
 }
 
