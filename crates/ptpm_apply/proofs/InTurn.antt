@@ -1,4 +1,4 @@
--- Steps that are sent are noted as begun, and in a journal in their turn.
+-- Steps that are sent are noted as begun, and those before them are done.
 use Rattle.std.proofs.Common.{◌≡◌, ◌∙◌, zero, suc, ◌≤◌, ◌<◌, ◌⊎◌, ℕ, true, List, [], ◌∷◌, ◌++◌, Option, Some, None, inl, inr, refl, sym, subst, arith}
 use Rattle.std.specs.List.{AllByRecursion, Contains}
 use Rattle.std.proofs.lemmas.List.Elements.{Contains-append_cases, Contains-append_right}
@@ -11,7 +11,11 @@ use Rattle.ptpm_manager.specs.Session.{SessionValue}
 use Rattle.ptpm_asker.specs.Desk.{AreAllowed, Begins, Continues, Crashes, Desk, Hears, IsAllowed, IsBegun, IsFree, IsFreeOf, IsKnownNew, IsLetGo, IsTold, LetsGo, Move, Note, Notes, Resumes, Retunes, Returns, Saves, SaysBegun, Sends, Starts, TakesBack, latest_number, moved, moved_by, next_number, reopened}
 use Rattle.ptpm_asker.specs.Question.{is_question}
 use Rattle.ptpm_apply.specs.Resuming.{desk_after, opened_desk}
-use Rattle.ptpm_apply.specs.Steps.{AreAsked, AreInTurn, IsAsked, IsInTurn, IsNoted, told_count}
+use Rattle.ptpm_journal.proofs.InOrder.{begun_in_order}
+use Rattle.ptpm_journal.specs.declared.record.Note.{Note as Noted}
+use Rattle.ptpm_journal.specs.declared.record.Step.{Step}
+use Rattle.ptpm_journal.specs.InOrder.{AreAllowed as AreNotesAllowed}
+use Rattle.ptpm_apply.specs.Steps.{AreAsked, HasBegun, IsAsked, IsNoted, IsSentInOrder}
 use Rattle.ptpm_apply.specs.Watching.{Sent, sent_at, sent_by, sent_in}
 
 abbrev message : ℕ → RequestValue → Sent
@@ -184,89 +188,29 @@ begun_before steps file s moves free may asked =
 
 -- ---- a journal
 
-only_one : (note other : Note) (notes : List Note)
-    → Contains (note ∷ []) other ⊎ Contains notes other
-    → (note ≡ other) ⊎ Contains notes other
-only_one note other notes (inr there) = inr there
-only_one note other notes (inl (zero, within, is)) = inl is
-only_one note other notes (inl (suc k, within, is)) = absurd (omega arith)
+begun_of : (requests : ℕ → RequestValue) (steps : ℕ → Step) (journal : List Noted) (notes : List Note) (m : Sent)
+    → AreNotesAllowed steps journal
+    → HasBegun journal notes
+    → IsNoted requests notes m
+    → (is_question m.request ≡ true) ⊎ IsSentInOrder requests steps journal m
+begun_of requests steps journal notes m may has (inl asks) = inl asks
+begun_of requests steps journal notes m may has (inr it) =
+    let begun = has it.tag m.number it.noted in
+    inr (record {
+      tag = it.tag;
+      is_step = it.is_step;
+      begun = begun;
+      done = λ u p. begun_in_order steps journal may it.tag m.number u begun p;
+    })
 
--- the note is the latest, or among the others
-latest_or : (note other : Note) (notes : List Note) → Contains (note ∷ notes) other → (note ≡ other) ⊎ Contains notes other
-latest_or note other notes h = only_one note other notes (Contains-append_cases (note ∷ []) notes other h)
-
-begun_by : (note : Note) (further : List Note) (tag number : ℕ)
-    → AreInTurn (note ∷ further)
-    → (note ≡ IsBegun tag number) ⊎ (tag ≤ told_count further)
-    → tag ≤ told_count (note ∷ further)
-begun_by (IsBegun t n) further tag number turn (inl is) = let same : t ≡ tag = cc in let at = turn.0 in omega arith
-begun_by (IsBegun t n) further tag number turn (inr before) = before
-begun_by (IsTold t n outcome) further tag number turn (inl is) = cc
-begun_by (IsTold t n outcome) further tag number turn (inr before) = omega arith
-begun_by (IsLetGo n) further tag number turn h = absurd turn
-
-rest_in_turn : (note : Note) (further : List Note) → AreInTurn (note ∷ further) → AreInTurn further
-rest_in_turn (IsBegun t n) further turn = turn.1
-rest_in_turn (IsTold t n outcome) further turn = turn.1
-rest_in_turn (IsLetGo n) further turn = absurd turn
-
-or_to : {P Q R : Type 0} → (Q → R) → P ⊎ Q → P ⊎ R
-or_to f (inl p) = inl p
-or_to f (inr q) = inr (f q)
-
-begun_in_turn : (journal : List Note) (tag number : ℕ) → AreInTurn journal → Contains journal (IsBegun tag number) → tag ≤ told_count journal
-begun_in_turn [] tag number turn there = absurd (let w = there.1 in omega arith)
-begun_in_turn (note ∷ further) tag number turn there =
-    begun_by note further tag number turn
-    (or_to (λ (h : Contains further (IsBegun tag number)). begun_in_turn further tag number (rest_in_turn note further turn) h)
-    (latest_or note (IsBegun tag number) further there))
-
-said_in_turn : (notes : List Note) (tag number : ℕ) → AreInTurn notes → SaysBegun notes tag number → tag ≡ told_count notes
-said_in_turn [] tag number turn says = absurd says
-said_in_turn (IsBegun t n ∷ further) tag number turn says = sym says.0 ∙ turn.0
-said_in_turn (IsTold t n outcome ∷ further) tag number turn says = absurd says
-said_in_turn (IsLetGo n ∷ further) tag number turn says = absurd says
-
-told_by : (note : Note) (further : List Note) (tag number : ℕ) (outcome : Outcome)
-    → AreInTurn (note ∷ further)
-    → (note ≡ IsTold tag number outcome) ⊎ (tag < told_count further)
-    → tag < told_count (note ∷ further)
-told_by (IsBegun t n) further tag number outcome turn (inl is) = cc
-told_by (IsBegun t n) further tag number outcome turn (inr before) = before
-told_by (IsTold t n o) further tag number outcome turn (inl is) =
-    let same : t ≡ tag = cc in let at = said_in_turn further t n turn.1 turn.0 in omega arith
-told_by (IsTold t n o) further tag number outcome turn (inr before) = omega arith
-told_by (IsLetGo n) further tag number outcome turn h = absurd turn
-
-pub told_in_turn : (journal : List Note) (tag number : ℕ) (outcome : Outcome)
-    → AreInTurn journal
-    → Contains journal (IsTold tag number outcome)
-    → tag < told_count journal
-told_in_turn [] tag number outcome turn there = absurd (let w = there.1 in omega arith)
-told_in_turn (note ∷ further) tag number outcome turn there =
-    told_by note further tag number outcome turn
-    (or_to (λ (h : Contains further (IsTold tag number outcome)). told_in_turn further tag number outcome (rest_in_turn note further turn) h)
-    (latest_or note (IsTold tag number outcome) further there))
-
-in_turn : (steps : ℕ → RequestValue) (journal notes : List Note) (m : Sent)
-    → AreInTurn journal
-    → ((note : Note) → Contains notes note → Contains journal note)
-    → IsNoted steps notes m
-    → (is_question m.request ≡ true) ⊎ IsInTurn steps journal m
-in_turn steps journal notes m turn has (inl asks) = inl asks
-in_turn steps journal notes m turn has (inr it) = inr (record {
-  tag = it.tag;
-  is_step = it.is_step;
-  at_most_next = begun_in_turn journal it.tag m.number turn (has (IsBegun it.tag m.number) it.noted);
-})
-
-pub sent_in_turn : (steps : ℕ → RequestValue) (journal : List Note) (file : Option SessionValue) (s : SessionValue) (moves : List Move)
-    → AreInTurn journal
-    → ((note : Note) → Contains (desk_after file s moves).notes note → Contains journal note)
+pub sent_in_order : (requests : ℕ → RequestValue) (steps : ℕ → Step) (journal : List Noted)
+    (file : Option SessionValue) (s : SessionValue) (moves : List Move)
+    → AreNotesAllowed steps journal
+    → HasBegun journal (desk_after file s moves).notes
     → IsFree file
     → AreAllowed (opened_desk file s) moves
-    → AreAsked steps moves
-    → AllByRecursion (λ (m : Sent). (is_question m.request ≡ true) ⊎ IsInTurn steps journal m) (sent_in (opened_desk file s) moves)
-sent_in_turn steps journal file s moves turn has free may asked =
-    all_to _ _ (λ m h. in_turn steps journal (desk_after file s moves).notes m turn has h) (sent_in (opened_desk file s) moves)
-    (begun_before steps file s moves free may asked)
+    → AreAsked requests moves
+    → AllByRecursion (λ (m : Sent). (is_question m.request ≡ true) ⊎ IsSentInOrder requests steps journal m) (sent_in (opened_desk file s) moves)
+sent_in_order requests steps journal file s moves allowed has free may asked =
+    all_to _ _ (λ m h. begun_of requests steps journal (desk_after file s moves).notes m allowed has h) (sent_in (opened_desk file s) moves)
+    (begun_before requests file s moves free may asked)

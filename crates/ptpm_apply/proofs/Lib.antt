@@ -2,3 +2,5 @@ pub mod InTurn
 pub mod Requests
 pub mod Resumed
 pub mod Watches
+pub mod Moves
+pub mod Runs

@@ -1,6 +1,12 @@
 pub mod Value
+pub mod Rollout
+pub mod Going
+pub mod Turning
 pub mod InFile
 pub mod Standing
 pub mod Watching
 pub mod Resuming
 pub mod Steps
+pub mod Moves
+pub mod Runs
+pub mod Opening

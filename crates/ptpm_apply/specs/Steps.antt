@@ -1,8 +1,13 @@
 -- The steps of a change of several clocks: SETs that are asked one after the other. Each is named by its place, from 0 on.
-use Rattle.std.specs.Prelude.{◌≡◌, ◌≤◌, ◌⊎◌, ℕ, ◌+◌, true, List, [], ◌∷◌}
+use Rattle.std.specs.Prelude.{◌≡◌, ◌⊎◌, ℕ, true, List}
 use Rattle.std.specs.List.{AllByRecursion, Contains}
 use Rattle.ptpm_data.specs.Request.{RequestValue}
-use Rattle.ptpm_asker.specs.Desk.{Begins, IsBegun, IsLetGo, IsTold, Move, Note, SaysBegun}
+use Rattle.ptpm_journal.specs.declared.record.Mark.TheVariants as marks
+use Rattle.ptpm_journal.specs.declared.record.Note.{Note as Noted}
+use Rattle.ptpm_journal.specs.declared.record.Note.TheVariants as noted
+use Rattle.ptpm_journal.specs.declared.record.Step.{Step}
+use Rattle.ptpm_journal.specs.InOrder.{HasNote, Precedes, mark_in}
+use Rattle.ptpm_asker.specs.Desk.{Begins, IsBegun, Move, Note}
 use Rattle.ptpm_asker.specs.Question.{is_question}
 use Rattle.ptpm_apply.specs.Watching.{Sent}
 
@@ -26,23 +31,13 @@ IsNoted steps notes m = (is_question m.request ≡ true) ⊎ IsOfStep steps note
 
 -- ---- a journal
 
--- how many answers to steps are noted
-abbrev pub told_count : List Note → ℕ
-told_count [] = 0
-told_count (IsBegun tag number ∷ further) = told_count further
-told_count (IsTold tag number outcome ∷ further) = told_count further + 1
-told_count (IsLetGo number ∷ further) = told_count further
+-- it has what a session noted as begun
+abbrev pub HasBegun : List Noted → List Note → Type 0
+HasBegun journal notes = (tag number : ℕ) → Contains notes (IsBegun tag number) → HasNote journal (noted.Begun tag number)
 
--- Steps are noted in their turn: the first without an answer is begun, once or again, and then its answer is noted. Nothing is given
--- up.
-abbrev pub AreInTurn : List Note → Type 0
-AreInTurn [] = Unit {0}
-AreInTurn (IsBegun tag number ∷ further) = (tag ≡ told_count further) × AreInTurn further
-AreInTurn (IsTold tag number outcome ∷ further) = SaysBegun further tag number × AreInTurn further
-AreInTurn (IsLetGo number ∷ further) = ⊥
-
--- a message with one of the steps whose answers are noted, or with the next one
-pub record IsInTurn (steps : ℕ → RequestValue) (journal : List Note) (m : Sent) : Type 0 where
+-- a message with a step that the journal has as begun under its number; and each step that has to be done before it is done
+pub record IsSentInOrder (requests : ℕ → RequestValue) (steps : ℕ → Step) (journal : List Noted) (m : Sent) : Type 0 where
   pub tag : ℕ
-  pub is_step : m.request ≡ steps tag
-  pub at_most_next : tag ≤ told_count journal
+  pub is_step : m.request ≡ requests tag
+  pub begun : HasNote journal (noted.Begun tag m.number)
+  pub done : (u : ℕ) → Precedes steps u tag → mark_in journal u ≡ marks.Done

@@ -59,7 +59,7 @@ pub enum Over {
 }
 
 /// Why a journal stays open.
-#[derive(Clone, Copy, Debug, PartialEq, Eq)]
+#[derive(Clone, Copy)]
 pub enum Why {
     /// A clock gave no answer.
     Silent,

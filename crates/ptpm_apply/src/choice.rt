@@ -1,7 +1,7 @@
 //! What a run of a change is to do, and why it can't.
 
 /// What a run is to do.
-#[derive(Clone, Copy, Debug, PartialEq, Eq)]
+#[derive(Clone, Copy)]
 pub enum Choice {
     /// It ends at the first clock that is silent, has another value, or does not do what is asked.
     Stop,
@@ -14,7 +14,7 @@ pub enum Choice {
 }
 
 /// Why a journal is not gone on with.
-#[derive(Clone, Copy, Debug, PartialEq, Eq)]
+#[derive(Clone, Copy)]
 pub enum OpenError {
     OtherVersion,
     Damaged,
@@ -24,7 +24,7 @@ pub enum OpenError {
 }
 
 /// Why an event is refused.
-#[derive(Clone, Copy, Debug, PartialEq, Eq)]
+#[derive(Clone, Copy)]
 pub enum TurnError {
     /// It answers no action that is due.
     OutOfTurn,

@@ -1,16 +1,28 @@
 //! What a journal and the file of a session show after any crash. Each law is the contract of a function that does nothing, and
 //! speaks of the definitions alone. The moves of an asker and its driver are allowed (`asker_is_allowed` of ptpm_asker).
 
-ghost use Rattle.std.specs.Prelude.{◌≡◌, ◌<◌, ℕ, ◌⊎◌, List, ◌∷◌, Option, Some, false, true};
-ghost use Rattle.std.specs.List.{AllByRecursion, Contains};
+ghost use Rattle.std.specs.Prelude.{◌≡◌, ◌<◌, ℕ, ◌⊎◌, List, ◌∷◌, length, Option, Some, false, true};
+ghost use Rattle.std.specs.List.{AllByRecursion};
 ghost use Rattle.ptpm_data.specs.Request.{RequestValue};
 ghost use Rattle.ptpm_manager.specs.declared.report.Outcome.{Outcome};
 ghost use Rattle.ptpm_manager.specs.Session.{SessionValue};
 ghost use Rattle.ptpm_asker.specs.Desk.{AreAllowed, HasRequest, IsBegun, IsFree, IsTold, Move, Note};
 ghost use Rattle.ptpm_asker.specs.Question.{is_question};
 ghost use Rattle.ptpm_apply.specs.Resuming.{HasNotLeft, desk_after, noted_begun, noted_told, opened_desk, standing_at, watch_after};
-ghost use Rattle.ptpm_apply.specs.Steps.{AreAsked, AreInTurn, IsInTurn, IsNoted, told_count};
+ghost use Rattle.ptpm_journal.specs.declared.record.Note.{Note as Noted};
+ghost use Rattle.ptpm_journal.specs.declared.record.Step.{Step};
+ghost use Rattle.ptpm_journal.specs.InOrder.{AreAllowed as AreNotesAllowed};
+ghost use Rattle.ptpm_apply.specs.Steps.{AreAsked, HasBegun, IsNoted, IsSentInOrder};
 ghost use Rattle.ptpm_apply.specs.Watching.{Sent, sent_in};
+ghost use Rattle.ptpm_journal.specs.declared.record.Ending.TheVariants as endings;
+ghost use Rattle.ptpm_apply.specs.declared.event.Event.{Event};
+ghost use Rattle.ptpm_apply.specs.declared.stage.Stage.TheVariants as stages;
+ghost use Rattle.ptpm_apply.specs.declared.stage.Then.TheVariants as thens;
+ghost use Rattle.ptpm_apply.specs.Going.{AreDone};
+ghost use Rattle.ptpm_apply.specs.Moves.{IsFit, IsMove};
+ghost use Rattle.ptpm_apply.specs.Rollout.{RolloutValue};
+ghost use Rattle.ptpm_apply.specs.Runs.{IsRun, Turn, WasRead};
+ghost use Rattle.ptpm_apply.specs.Turning.{Turned};
 
 use crate::standing::Standing;
 
@@ -54,16 +66,28 @@ pub fn begun_before_sent()
         AllByRecursion (IsNoted steps (desk_after file s moves).notes) (sent_in (opened_desk file s) moves) }
 {}
 
-/// What is sent are the steps whose answers are noted, and the next one at most. Let a journal have the notes of the sessions with
-/// several clocks, and let steps be noted there in their turn. Then each message that such a session hands out has a question, or a
-/// step whose answer is noted, or the next step. Those whose answers are noted are the first ones.
-pub fn steps_in_turn()
-    ensures sent { (steps : ℕ → RequestValue) (journal : List Note)
+/// Whatever is sent is in order. Let each note of a journal be one that a run may make after those before it, and let the journal have what
+/// a session noted as begun. Then each message that the session hands out has a question, or a step that the journal has as begun under
+/// its number; and each step that has to be done before it is done.
+pub fn sent_in_order()
+    ensures { (requests : ℕ → RequestValue) (steps : ℕ → Step) (journal : List Noted)
         (file : Option SessionValue) (s : SessionValue) (moves : List Move) →
-        AreInTurn journal →
-        ((note : Note) → Contains (desk_after file s moves).notes note → Contains journal note) →
-        IsFree file → AreAllowed (opened_desk file s) moves → AreAsked steps moves →
-        AllByRecursion (λ (m : Sent). (is_question m.request ≡ true) ⊎ IsInTurn steps journal m) (sent_in (opened_desk file s) moves) }
-    ensures told { (journal : List Note) (tag number : ℕ) (outcome : Outcome) →
-        AreInTurn journal → Contains journal (IsTold tag number outcome) → tag < told_count journal }
+        AreNotesAllowed steps journal → HasBegun journal (desk_after file s moves).notes →
+        IsFree file → AreAllowed (opened_desk file s) moves → AreAsked requests moves →
+        AllByRecursion (λ (m : Sent). (is_question m.request ≡ true) ⊎ IsSentInOrder requests steps journal m)
+        (sent_in (opened_desk file s) moves) }
+{}
+
+/// Each turn of a change is a move that it may make. A record is handed out only where its journal takes it, and nothing else changes the
+/// journal. A step is asked only where it may be begun, and right after its member was read as the plan has it. At the end members are
+/// read in order, once all steps are done.
+pub fn turns_are_moves()
+    ensures { (time : ℕ) (o : RolloutValue) (e : Event) (v : RolloutValue) → IsFit o → Turned time o e v → IsMove o e v }
+{}
+
+/// A change ends as complete only if each step is done, and if after that each member was read with the value that was asked.
+pub fn complete_was_read()
+    ensures { (turns : List Turn) (o v : RolloutValue) (e : Event) (step : Option ℕ) → IsRun o turns → IsMove o e v
+        → v.stage ≡ stages.Noting (thens.End endings.Complete step) → (place : ℕ) → place < length o.steps
+        → AreDone o.journal × WasRead o.journal (record { before = o; event = e } ∷ turns) place }
 {}

@@ -4,10 +4,15 @@
 mod action;
 mod choice;
 mod event;
+mod finding;
+mod going;
+mod heard;
+mod hearing;
 mod in_file;
 mod lane;
 mod laws;
 mod noted;
+mod noting;
 mod opening;
 mod planned;
 mod rollout;
@@ -21,7 +26,9 @@ pub use action::{Action, Over, Why};
 pub use choice::{Choice, OpenError, TurnError};
 pub use event::Event;
 pub use in_file::InFile;
-pub use laws::{begun_before_sent, standing_is_right, steps_in_turn};
+pub use laws::{
+    begun_before_sent, complete_was_read, sent_in_order, standing_is_right, turns_are_moves,
+};
 pub use noted::{Begun, Noted};
 pub use rollout::Rollout;
 pub use standing::{Standing, find_standing};

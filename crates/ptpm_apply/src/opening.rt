@@ -1,5 +1,9 @@
 //! How a change begins, or goes on: with what its journal has.
 
+ghost use Rattle.std.specs.Prelude.{◌≡◌, ◌≤◌, ◌+◌, length, IfOk};
+ghost use Rattle.ptpm_journal.specs.State.{state_of};
+ghost use Rattle.ptpm_apply.specs.Opening.{AreRead};
+
 use crate::choice::{Choice, OpenError};
 use crate::lane::Lane;
 use crate::planned::Planned;
@@ -11,27 +15,52 @@ use std::alloc::{AllocError, Global};
 /// How many octets frame a record's body.
 const FRAME_OCTETS: usize = 6;
 
+/// The most steps of a journal.
+const STEPS: usize = 65_535;
+
+/// What a file has.
+#[derive(Drop)]
+struct Reading {
+    journal: Journal,
+    steps: Vec<Planned>,
+    numbers: Vec<u16>,
+    /// How many octets were written whole.
+    whole: usize,
+}
+
 impl Rollout {
+    ghost use Rattle.std.specs.Prelude.{◌≡◌, ◌⊎◌, false, true, IfOk};
+    ghost use Rattle.ptpm_journal.specs.Journal.{goes_on};
+    ghost use Rattle.ptpm_apply.specs.declared.choice.Choice.{Choice};
+    ghost use Rattle.ptpm_apply.specs.declared.stage.Stage.{Stage};
+    ghost use Rattle.ptpm_apply.specs.Opening.{AreRead};
+
     /// A change with the journal that a file has, and how many octets of it were written whole. It is refused for the first reason that holds.
     /// A change of which a step is given up can only be given up.
     pub fn open(
         alloc: Global,
         octets: &[u8],
         choice: Choice,
-    ) -> Result<(Rollout, usize), OpenError> {
-        let mut journal = Journal::new(alloc);
-        let mut steps = Vec::new(alloc);
-        let mut numbers = Vec::new(alloc);
-        let mut whole = 0;
-        while let Some(next) = journal.next(&octets[whole..]).map_err(refusal_of)? {
-            let record = &octets[whole + next.lead..];
-            take(alloc, &mut steps, &mut numbers, next, &record[2..]).map_err(no_memory)?;
-            whole += next.lead + next.size + FRAME_OCTETS;
-        }
+    ) -> Result<(Rollout, usize), OpenError>
+        ensures read { IfOk result (λ r. AreRead octets.now r.1 r.0.journal r.0.crc) }
+        ensures goes_on { IfOk result (λ r. goes_on r.0.journal ≡ true) }
+        ensures fresh { IfOk result (λ r. (r.0.stage ≡ Stage.Fresh) × (r.0.seen ≡ 0) × (r.0.is_changed ≡ false)) }
+        ensures choice { IfOk result (λ r. (r.0.choice ≡ choice) ⊎ (r.0.choice ≡ Choice.GiveUp)) }
+    {
+        let reading = read(alloc, octets)?;
+        let Reading {
+            journal,
+            steps,
+            numbers,
+            whole,
+        } = reading;
         if !journal.may_take(Record::Text { what: 0 }) {
             return Err(OpenError::Ended);
         }
-        if steps.len() > 65_535 {
+        let Ok(lanes) = lanes_of(alloc, steps.as_slice()) else {
+            return Err(OpenError::OutOfMemory);
+        };
+        if steps.len() > STEPS || lanes.len() > STEPS {
             return Err(OpenError::Damaged);
         }
         let choice = if has_let_go(&journal, steps.len() as u16) {
@@ -39,8 +68,9 @@ impl Rollout {
         } else {
             choice
         };
-        let lanes = lanes_of(alloc, steps.as_slice()).map_err(no_memory)?;
-        let room = vec![in alloc; 0; RECORD_OCTETS].map_err(no_memory)?;
+        let Ok(room) = vec![in alloc; 0; RECORD_OCTETS] else {
+            return Err(OpenError::OutOfMemory);
+        };
         let rollout = Rollout {
             alloc,
             choice,
@@ -58,16 +88,41 @@ impl Rollout {
     }
 }
 
+/// Reads the records of a file.
+fn read(alloc: Global, octets: &[u8]) -> Result<Reading, OpenError>
+    ensures { IfOk result (λ r. AreRead octets.now r.whole (state_of r.journal) r.journal.crc) }
+{
+    let mut journal = Journal::new(alloc);
+    let mut steps = Vec::new(alloc);
+    let mut numbers = Vec::new(alloc);
+    let mut whole = 0;
+    'records: loop {
+        let (_, rest) = octets.split_at(whole);
+        let next = match journal.next(rest) {
+            Ok(Some(next)) => next,
+            Ok(None) => break,
+            Err(refusal) => return Err(refusal_of(refusal)),
+        };
+        let (_, body) = rest.split_at(next.lead + 2);
+        if take(alloc, &mut steps, &mut numbers, next, body).is_err() {
+            return Err(OpenError::OutOfMemory);
+        }
+        whole = whole + next.lead + next.size + FRAME_OCTETS;
+    }
+    Ok(Reading {
+        journal,
+        steps,
+        numbers,
+        whole,
+    })
+}
+
 fn refusal_of(refusal: NextError) -> OpenError {
     match refusal {
         NextError::OtherVersion => OpenError::OtherVersion,
         NextError::Damaged => OpenError::Damaged,
         NextError::OutOfMemory => OpenError::OutOfMemory,
     }
-}
-
-fn no_memory(_: AllocError) -> OpenError {
-    OpenError::OutOfMemory
 }
 
 /// Takes a step, or the number under which one is begun.
@@ -77,7 +132,10 @@ fn take(
     numbers: &mut Vec<u16>,
     next: Next,
     body: &[u8],
-) -> Result<(), AllocError> {
+) -> Result<(), AllocError>
+    requires first { next.found.first + next.found.first_size ≤ length body.now }
+    requires second { next.found.second + next.found.second_size ≤ length body.now }
+{
     let found = next.found;
     match found.entry {
         Record::Step { step, port, id } => {

@@ -30,7 +30,7 @@ pub enum Stage {
     },
     /// That a record is on the disk.
     Noting {
-        then: Then,
+        next: Then,
     },
     /// Whether it may go on at another clock.
     Checking {
@@ -86,8 +86,13 @@ pub enum Then {
 }
 
 impl Stage {
+    ghost use Rattle.std.specs.Prelude.{◌≡◌};
+    ghost use Rattle.ptpm_apply.specs.Turning.{answers, awaits_answer, awaits_done, awaits_value};
+
     /// Whether an event answers what is waited for.
-    pub fn is_answered_by(self, event: &Event<'_>) -> bool {
+    pub fn is_answered_by(self, event: &Event<'_>) -> bool
+        ensures { result ≡ answers self event.now }
+    {
         match event {
             Event::Begin => matches!(self, Stage::Fresh),
             Event::Found { .. } => matches!(self, Stage::Looking { .. }),
@@ -106,18 +111,24 @@ impl Stage {
     }
 
     /// Whether the answer to a request is waited for.
-    fn is_asked(self) -> bool {
+    fn is_asked(self) -> bool
+        ensures { result ≡ awaits_answer self }
+    {
         matches!(
             self,
             Stage::Settling { .. } | Stage::Yielding { .. } | Stage::Answering { .. }
         )
     }
 
-    fn is_read(self) -> bool {
+    fn is_read(self) -> bool
+        ensures { result ≡ awaits_value self }
+    {
         matches!(self, Stage::Reading { .. } | Stage::Verifying { .. })
     }
 
-    fn is_to_be_done(self) -> bool {
+    fn is_to_be_done(self) -> bool
+        ensures { result ≡ awaits_done self }
+    {
         matches!(
             self,
             Stage::LettingGo { .. }

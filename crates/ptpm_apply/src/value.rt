@@ -1,6 +1,6 @@
 //! Whether a member has a value.
 
-ghost use Rattle.std.specs.Prelude.{◌≡◌, IfOk, string_bytes};
+ghost use Rattle.std.specs.Prelude.{◌≡◌, [], IfOk, string_bytes};
 ghost use Rattle.ptpm_members.specs.FieldText.{field_text};
 ghost use Rattle.ptpm_apply.specs.Value.{is_same};
 

@@ -1,0 +1,14 @@
+use Rattle.std.proofs.Common.{◌∙◌, None, Some, ap, refl, sym}
+use Rattle.ptpm_journal.specs.declared.record.Ending.TheVariants as endings
+use Rattle.ptpm_apply.specs.Going.{Ends}
+use Rattle.ptpm_apply.specs.Rollout.{RolloutValue}
+use Rattle.ptpm_apply.proofs.rollout.Rollout.go_on_in_row.Goals as goal
+
+pub returns-then-self : goal.returns-then-self
+returns-then-self c =
+    Ends endings.Changed None c.end.ensures
+    (refl, sym (ap (λ (o : RolloutValue). o.is_changed) c.self.view_is) ∙ c.if-self.true) c.requires.seen
+
+pub returns-in-Some : goal.returns-in-Some
+returns-in-Some c =
+    Ends c.in-Some.ending (Some c.in-Some.step) c.end-in-Some.ensures (c.in-Some.ensures {u = tt} c.requires.stops) c.requires.seen

@@ -1,0 +1,102 @@
+-- What comes next in a change of several clocks.
+use Rattle.std.specs.Prelude.{◌≡◌, ◌≢◌, ◌≤◌, ◌<◌, ◌⊎◌, ◌-◌, ℕ, Bool, true, false, length, Option, None, Some, slice_get, slice_set, List}
+use Rattle.ptpm_journal.specs.declared.record.Ending.{Ending}
+use Rattle.ptpm_journal.specs.declared.record.Ending.TheVariants as endings
+use Rattle.ptpm_journal.specs.declared.record.Mark.TheVariants as marks
+use Rattle.ptpm_journal.specs.declared.record.Record.TheVariants as records
+use Rattle.ptpm_journal.specs.Journal.{MayTake, State}
+use Rattle.ptpm_apply.specs.declared.action.Over.TheVariants as overs
+use Rattle.ptpm_apply.specs.declared.action.Why.{Why}
+use Rattle.ptpm_apply.specs.declared.action.Why.TheVariants as whys
+use Rattle.ptpm_apply.specs.declared.choice.Choice.{Choice}
+use Rattle.ptpm_apply.specs.declared.choice.Choice.TheVariants as choices
+use Rattle.ptpm_apply.specs.declared.lane.Lane.{Lane}
+use Rattle.ptpm_apply.specs.declared.stage.Stage.TheVariants as stages
+use Rattle.ptpm_apply.specs.Rollout.{CanBegin, RolloutValue, at, clock_in, clock_of, ended, held, is_held_at, lane_of}
+
+-- every lane was looked at
+abbrev pub AreSeen : RolloutValue → Type 0
+AreSeen o = length o.lanes ≤ o.seen
+
+-- a run may begin it now, and its clock is not held
+pub record IsNext (o : RolloutValue) (step : ℕ) : Type 0 where
+  pub can : CanBegin o.journal step
+  pub free : is_held_at o step ≡ false
+
+-- no step is next
+abbrev pub HasNoNext : RolloutValue → Type 0
+HasNoNext o = (step : ℕ) → step < length o.steps → IsNext o step → ⊥
+
+-- each step is done, and the journal goes on
+abbrev pub AreDone : State → Type 0
+AreDone s = MayTake s (records.End 0 endings.Complete 65535)
+
+-- another clock than that of the step before
+abbrev pub IsElsewhere : RolloutValue → ℕ → Type 0
+IsElsewhere o step = (0 < step) × (clock_of o step ≢ clock_of o (step - 1))
+
+-- a step of it is untouched, or has no answer
+pub record IsToCome (o : RolloutValue) (lane step : ℕ) : Type 0 where
+  pub here : clock_of o step ≡ clock_in o lane
+  pub open_yet : (slice_get o.journal.marks step ≡ Some marks.Untouched) ⊎ (slice_get o.journal.marks step ≡ Some marks.Begun)
+
+abbrev pub left_lane : List Lane → ℕ → Option Lane → List Lane
+left_lane lanes lane None = lanes
+left_lane lanes lane (Some l) = slice_set lanes lane (record l { is_left = true })
+
+-- its mark is gone
+abbrev pub left : RolloutValue → ℕ → RolloutValue
+left o lane = record o { lanes = left_lane o.lanes lane (slice_get o.lanes lane); stage = stages.Leaving lane }
+
+-- Why a run ends a change of itself. Of the first step that was refused, or answered by another value, that is the end, unless it keeps
+-- going.
+abbrev pub EndsBy : RolloutValue → Ending → Option ℕ → Type 0
+EndsBy o endings.Complete step = length o.steps ≡ 0
+EndsBy o endings.Refused None = ⊥
+EndsBy o endings.Refused (Some step) = (o.choice ≡ choices.Stop) × (slice_get o.journal.marks step ≡ Some marks.Refused)
+EndsBy o endings.Answered None = ⊥
+EndsBy o endings.Answered (Some step) = (o.choice ≡ choices.Stop) × (slice_get o.journal.marks step ≡ Some marks.Answered)
+EndsBy o endings.Changed step = (step ≡ None) × (o.is_changed ≡ true)
+EndsBy o endings.GivenUp step = o.choice ≡ choices.GiveUp
+EndsBy o endings.RolledBack step = ⊥
+EndsBy o endings.Stopped step = ⊥
+EndsBy o endings.InPart step = (step ≡ None) × (o.choice ≡ choices.KeepGoing) × HasNoNext o
+
+-- First each lane is looked at, in order; then comes the next step, and after the last one its members are read.
+pub data Going (time : ℕ) (o v : RolloutValue) : Type 0 where
+  Looks : (lane : ℕ) → v ≡ at o (stages.Looking lane) → o.seen ≤ lane → lane < length o.lanes
+      → (o.choice ≢ choices.Settle → lane ≡ o.seen) → Going time o v
+  Checks : (step : ℕ) → v ≡ at o (stages.Checking step) → AreSeen o → IsNext o step → IsElsewhere o step → Going time o v
+  Reads : (step : ℕ) → v ≡ at o (stages.Reading step) → AreSeen o → IsNext o step → (IsElsewhere o step → ⊥) → Going time o v
+  Leaves : (lane : ℕ) → v ≡ left o lane → AreSeen o → o.choice ≡ choices.KeepGoing
+      → ((step : ℕ) → step < length o.steps → IsToCome o lane step → ⊥) → Going time o v
+  Verifies : v ≡ at o (stages.Verifying 0) → AreSeen o → AreDone o.journal → o.is_changed ≡ false → 0 < length o.steps → Going time o v
+  Ends : (ending : Ending) (step : Option ℕ) → v ≡ ended time o ending step → EndsBy o ending step → AreSeen o → Going time o v
+  Waits : v ≡ at o (stages.Over (overs.Open whys.Silent None)) → AreSeen o → o.choice ≡ choices.Stop → HasNoNext o
+      → (AreDone o.journal → ⊥) → Going time o v
+  Settles : v ≡ at o (stages.Over overs.Settled) → o.choice ≡ choices.Settle → Going time o v
+
+-- ---- a clock that gives no answer, or has another value
+
+abbrev pub FailingBy : Choice → ℕ → RolloutValue → Why → ℕ → Option ℕ → RolloutValue → Type 0
+FailingBy choices.Stop time o why lane step v = v ≡ at o (stages.Over (overs.Open why step))
+FailingBy choices.KeepGoing time o why lane step v = Going time (held o lane) v
+FailingBy choices.GiveUp time o why lane step v = v ≡ at o (stages.Over (overs.Open why step))
+FailingBy choices.Settle time o why lane step v = v ≡ at o (stages.Over (overs.Open why step))
+
+-- the run ends, or the clock is held
+abbrev pub Failing : ℕ → RolloutValue → Why → ℕ → Option ℕ → RolloutValue → Type 0
+Failing time o why lane step v = FailingBy o.choice time o why lane step v
+
+abbrev pub FailingAt : ℕ → RolloutValue → ℕ → RolloutValue → Type 0
+FailingAt time o step v = Failing time o whys.Silent (lane_of o step) (Some step) v
+
+abbrev pub ChangingBy : Choice → ℕ → RolloutValue → ℕ → RolloutValue → Type 0
+ChangingBy choices.Stop time o step v = v ≡ ended time o endings.Changed (Some step)
+ChangingBy choices.KeepGoing time o step v = Going time (held o (lane_of o step)) v
+ChangingBy choices.GiveUp time o step v = v ≡ ended time o endings.Changed (Some step)
+ChangingBy choices.Settle time o step v = v ≡ ended time o endings.Changed (Some step)
+
+-- the change ends, or the clock is held
+abbrev pub ChangingAt : ℕ → RolloutValue → ℕ → RolloutValue → Type 0
+ChangingAt time o step v = ChangingBy o.choice time o step v
