@@ -1,11 +1,14 @@
 //! The calls of a rollout for hosts in C, each one of `ptpm_apply`.
 
-ghost use Rattle.std.specs.Prelude.{◌≡◌, ◌≢◌, ◌≤◌, ◌++◌, ◌↔◌, IsSomeAnd, None, Some, drop, false, length};
+ghost use Rattle.std.specs.Prelude.{◌≡◌, ◌≢◌, ◌≤◌, ◌++◌, ◌↔◌, ◌⊎◌, IsSomeAnd, None, Some, drop, false, length, true};
+ghost use Rattle.ptpm_journal.specs.Journal.{goes_on};
 ghost use Rattle.ptpm_apply.specs.declared.choice.Choice.{Choice};
 ghost use Rattle.ptpm_apply.specs.declared.event.Event.{Event};
+ghost use Rattle.ptpm_apply.specs.declared.stage.Stage.{Stage};
+ghost use Rattle.ptpm_apply.specs.Opening.{AreRead};
 ghost use Rattle.ptpm_apply.specs.Rollout.{RolloutValue};
-ghost use Rattle.ptpm_apply.specs.Turning.{Turned, action_of};
-ghost use Rattle.ptpm_host.specs.Numbers.{no_memory, no_room};
+ghost use Rattle.ptpm_apply.specs.Turning.{Turned, action_of, answers};
+ghost use Rattle.ptpm_host.specs.Numbers.{no_room};
 ghost use Rattle.ptpm_host.specs.Rollout.{choice_of, event_of, no_action, no_choice, no_rollout, out_of_turn, plain_action};
 ghost use Rattle.ptpm_c.specs.declared.kept.Hosted.TheVariants.{Nothing};
 ghost use Rattle.ptpm_c.specs.Held.{held};
@@ -28,9 +31,13 @@ pub extern "C" fn ptpm_rollout_open(
     choice: u32,
     whole: &mut usize,
 ) -> u32
+    ensures opened { (c : Choice) → choice_of choice ≡ Some c → result ≡ 0
+        → IsSomeAnd (rollout_held handle.new.keeping)
+        (λ r. AreRead journal.now whole.new r.journal r.crc × (goes_on r.journal ≡ true)
+        × (r.stage ≡ Stage.Fresh) × (r.seen ≡ 0) × (r.is_changed ≡ false)
+        × ((r.choice ≡ c) ⊎ (r.choice ≡ Choice.GiveUp))) }
     ensures no_choice { choice_of choice ≡ None → result ≡ no_choice }
     ensures unchanged { result ≢ 0 → (whole.new ≡ 0) × (held handle.new.keeping ≡ held handle.old.keeping) }
-    ensures within { whole.new ≤ length journal.now }
 {
     *whole = 0;
     let Some(choice) = choice_of(choice) else {
@@ -65,6 +72,9 @@ pub extern "C" fn ptpm_rollout_turn(
         → (e : Event) × (event_of event.now octets.entry ≡ Some e)
         × IsSomeAnd (rollout_held handle.new.keeping)
         (λ s. Turned event.now.time r e s × (action.new ≡ plain_action (action_of s s.stage))) }
+    ensures out_of_turn { (r : RolloutValue) (e : Event) → rollout_held handle.old.keeping ≡ Some r
+        → event_of event.now octets.entry ≡ Some e
+        → result ≡ out_of_turn ↔ (answers r.stage e ≡ false) }
     ensures no_event { (r : RolloutValue) → rollout_held handle.old.keeping ≡ Some r
         → event_of event.now octets.entry ≡ None → result ≡ out_of_turn }
     ensures unchanged { (r : RolloutValue) → rollout_held handle.old.keeping ≡ Some r → result ≢ 0
