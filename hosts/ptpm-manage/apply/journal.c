@@ -104,7 +104,8 @@ static void write_step(FILE *to, struct journal *journal, const struct step *ste
 static void write_beginning(FILE *to, struct journal *journal) {
     struct ptpm_journal_record head = {
         .kind = PTPM_RECORD_HEAD, .flags = journal->keeps_going ? PTPM_KEEPS_GOING : PTPM_IN_ONE_ROW, .together = 1,
-        .port = journal->manager_port, .count = (uint16_t)journal->count, .first_size = (uint16_t)strlen(journal->name), .second_size = (uint16_t)strlen(journal->rolls_back),
+        .port = journal->manager_port, .count = (uint16_t)journal->count,
+        .first_size = (uint16_t)strlen(journal->name), .second_size = (uint16_t)strlen(journal->rolls_back),
     };
     memcpy(head.clock, journal->manager, 8);
     add(journal, &head, journal->name, journal->rolls_back);
