@@ -52,7 +52,7 @@ noting o x v e entry octets next like may verified h =
 ending_by : (b : Bool) (o x v : RolloutValue) (e : Event) (time : ℕ) (ending : Ending) (step : Option ℕ) → IsAlike o x
     → IsReadAll o e ending → (b ≡ true → MayTake o.journal (records.End time ending (place_of step)))
     → v ≡ (if b then noted_with x (records.End time ending (place_of step)) [] (thens.End ending step)
-          else at x (stages.Over (overs.Open whys.Silent step)))
+    else at x (stages.Over (overs.Open whys.Silent step)))
     → IsMove o e v
 ending_by true o x v e time ending step like all may h =
     noting o x v e (records.End time ending (place_of step)) [] (thens.End ending step) like (may refl) all h
@@ -64,7 +64,7 @@ ending_moves : (o x v : RolloutValue) (e : Event) (time : ℕ) (ending : Ending)
 ending_moves o x v e time ending step like all h =
     ending_by (goes_on x.journal && may_end x.journal.marks ending (place_of step)) o x v e time ending step like all
     (λ t. subst (λ (s : State). MayTake s (records.End time ending (place_of step))) like.journal
-      (and_parts (goes_on x.journal) (may_end x.journal.marks ending (place_of step)) t))
+    (and_parts (goes_on x.journal) (may_end x.journal.marks ending (place_of step)) t))
     h
 
 read_all : (o x : RolloutValue) (e : Event) (ending : Ending) (step : Option ℕ) → IsAlike o x → EndsBy x ending step → IsReadAll o e ending

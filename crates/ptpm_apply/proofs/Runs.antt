@@ -23,13 +23,14 @@ read_below (t ∷ ts) o step run is =
       | inl first ↦
           (subst (λ (s : State). AreDone s) (sym move.0) first.1, λ k below. absurd (omega (arith, first.0)))
       | inr next ↦
-          let earlier = read_below ts t.before next.last run.1 next.read in
-          (subst (λ (s : State). AreDone s) (sym move.0) earlier.0,
+          let earlier = read_below ts t.before next.last run.1 next.read in (
+            subst (λ (s : State). AreDone s) (sym move.0) earlier.0,
             λ k below. subst (λ (s : State). WasRead s (t ∷ ts) k) (sym move.0)
-              (elim (split k next.last (subst (λ (n : ℕ). k < n) next.is_next below)) [
-                | inl less ↦ inr (earlier.1 k less)
-                | inr same ↦ inl (refl, subst (λ (n : ℕ). t.before.stage ≡ stages.Verifying n) (sym same) next.read, next.wanted)
-              ]))
+                (elim (split k next.last (subst (λ (n : ℕ). k < n) next.is_next below)) [
+                  | inl less ↦ inr (earlier.1 k less)
+                  | inr same ↦ inl (refl, subst (λ (n : ℕ). t.before.stage ≡ stages.Verifying n) (sym same) next.read, next.wanted)
+                ]),
+          )
     ]
 
 pub complete_was_read : (ts : List Turn) (o v : RolloutValue) (e : Event) (step : Option ℕ) → IsRun o ts → IsMove o e v
@@ -40,9 +41,11 @@ complete_was_read ts o v e step run h is k below =
     elim move.1 [
       | inl none ↦ absurd (omega (arith, none, below))
       | inr last ↦
-          let earlier = read_below ts o last.last run last.read in
-          (earlier.0, elim (split k last.last (omega (arith, last.is_last, below))) [
-            | inl less ↦ inr (earlier.1 k less)
-            | inr same ↦ inl (refl, subst (λ (n : ℕ). o.stage ≡ stages.Verifying n) (sym same) last.read, last.wanted)
-          ])
+          let earlier = read_below ts o last.last run last.read in (
+            earlier.0,
+            elim (split k last.last (omega (arith, last.is_last, below))) [
+              | inl less ↦ inr (earlier.1 k less)
+              | inr same ↦ inl (refl, subst (λ (n : ℕ). o.stage ≡ stages.Verifying n) (sym same) last.read, last.wanted)
+            ],
+          )
     ]

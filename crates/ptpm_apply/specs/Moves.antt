@@ -47,7 +47,7 @@ pub record IsReadBefore (o : RolloutValue) (e : Event) (step : ℕ) : Type 0 whe
   pub read : o.stage ≡ stages.Verifying last
   pub wanted : is_wanted o e ≡ true
 
--- A step is asked only where it may be begun, and its member was just read as the plan has it. At the end members are read in order, from the
+-- A step is asked only if it may be begun, and its member was just read as the plan has it. At the end members are read in order, from the
 -- first on, once all steps are done. Nothing but a record that is handed out changes the journal.
 abbrev pub IsEnded : RolloutValue → Over → Type 0
 IsEnded o (overs.Ended ending step) = o.stage ≡ stages.Noting (thens.End ending step)

@@ -35,7 +35,7 @@ IsNoted steps notes m = (is_question m.request ≡ true) ⊎ IsOfStep steps note
 abbrev pub HasBegun : List Noted → List Note → Type 0
 HasBegun journal notes = (tag number : ℕ) → Contains notes (IsBegun tag number) → HasNote journal (noted.Begun tag number)
 
--- a message with a step that the journal has as begun under its number; and each step that has to be done before it is done
+-- a message with a step that the journal has as begun under its number. Each step that has to be done before it is done
 pub record IsSentInOrder (requests : ℕ → RequestValue) (steps : ℕ → Step) (journal : List Noted) (m : Sent) : Type 0 where
   pub tag : ℕ
   pub is_step : m.request ≡ requests tag

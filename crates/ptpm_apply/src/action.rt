@@ -34,7 +34,7 @@ pub enum Action {
     },
     /// The record is appended to the journal, and synchronized.
     Note,
-    /// The asker is told that its note is made, and driven further.
+    /// The asker hears that its note is made, and is driven further.
     GoOn {
         lane: u16,
     },

@@ -44,7 +44,7 @@ impl Rollout {
         }
     }
 
-    /// What became of a step that may be begun, by the number of the latest step that has an answer and by the image of the session's file.
+    /// What became of a step, by the number of the latest step with an answer and by the image of the session's file.
     #[tactic(auto, unfolding(crate::specs::Turning::standing_at))]
     fn standing_at(&self, step: Option<u16>, told: Option<u16>, image: &[u8]) -> Standing
         ensures { result ≡ standing_at self.now step told image.now }
@@ -155,7 +155,7 @@ impl Rollout {
             Standing::OfAnother => self.yield_to(lane, changes),
             Standing::Unknown => self.fail(time, Why::Unknown, lane, begun),
             Standing::NothingLeft => self.go_on(time),
-            Standing::UnderWay | Standing::NeverBegun | Standing::NumberTaken => match begun {
+            _ => match begun {
                 Some(step) => self.see_to_step(time, lane, standing, step, changes),
                 None => self.go_on(time),
             },
@@ -201,9 +201,7 @@ impl Rollout {
             Standing::UnderWay => {
                 self.note(time, Note::LetGo { step }, &[], Then::LetGo { lane });
             }
-            Standing::NothingLeft | Standing::Unknown | Standing::Told | Standing::OfAnother => {
-                self.note(time, Note::LetGo { step }, &[], Then::GoOn);
-            }
+            _ => self.note(time, Note::LetGo { step }, &[], Then::GoOn),
         }
     }
 
@@ -213,11 +211,7 @@ impl Rollout {
     {
         match standing {
             Standing::UnderWay | Standing::Told => self.stage = Stage::LettingGo { lane },
-            Standing::NothingLeft
-            | Standing::NeverBegun
-            | Standing::NumberTaken
-            | Standing::Unknown
-            | Standing::OfAnother => self.go_on(time),
+            _ => self.go_on(time),
         }
     }
 

@@ -51,10 +51,7 @@ impl Rollout {
     {
         match self.stage {
             Stage::Noting { next } => self.follow(time, next),
-            Stage::LettingGo { .. } | Stage::Resting { .. } | Stage::Leaving { .. } => {
-                self.go_on(time);
-            }
-            _ => unreachable!(),
+            _ => self.go_on(time),
         }
     }
 

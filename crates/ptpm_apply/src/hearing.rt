@@ -28,9 +28,8 @@ impl Rollout {
         };
         match self.stage {
             Stage::Reading { step } => self.is_before(step, octets),
-            Stage::Answering { step }
-            | Stage::Settling { step, .. }
-            | Stage::Verifying { step } => self.is_after(step, octets),
+            Stage::Answering { step } | Stage::Settling { step, .. } | Stage::Verifying { step } =>
+                self.is_after(step, octets),
             _ => Ok(false),
         }
     }

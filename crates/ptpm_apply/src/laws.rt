@@ -66,9 +66,9 @@ pub fn begun_before_sent()
         AllByRecursion (IsNoted steps (desk_after file s moves).notes) (sent_in (opened_desk file s) moves) }
 {}
 
-/// Whatever is sent is in order. Let each note of a journal be one that a run may make after those before it, and let the journal have what
-/// a session noted as begun. Then each message that the session hands out has a question, or a step that the journal has as begun under
-/// its number; and each step that has to be done before it is done.
+/// Whatever is sent is in order. Let each note of a journal be one that a run may make after those before it. Let the journal have what a
+/// session noted as begun. Then each message that the session hands out has a question, or a step that the journal has as begun under its
+/// number. Each step that has to be done before that step is done.
 pub fn sent_in_order()
     ensures { (requests : ℕ → RequestValue) (steps : ℕ → Step) (journal : List Noted)
         (file : Option SessionValue) (s : SessionValue) (moves : List Move) →
@@ -78,8 +78,8 @@ pub fn sent_in_order()
         (sent_in (opened_desk file s) moves) }
 {}
 
-/// Each turn of a change is a move that it may make. A record is handed out only where its journal takes it, and nothing else changes the
-/// journal. A step is asked only where it may be begun, and right after its member was read as the plan has it. At the end members are
+/// Each turn of a change is a move that it may make. A record is handed out only if its journal takes it, and nothing else changes the
+/// journal. A step is asked only if it may be begun, and right after its member was read as the plan has it. At the end members are
 /// read in order, once all steps are done.
 pub fn turns_are_moves()
     ensures { (time : ℕ) (o : RolloutValue) (e : Event) (v : RolloutValue) → IsFit o → Turned time o e v → IsMove o e v }

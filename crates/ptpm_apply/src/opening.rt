@@ -1,8 +1,9 @@
 //! How a change begins, or goes on: with what its journal has.
 
-ghost use Rattle.std.specs.Prelude.{◌≡◌, ◌≤◌, ◌+◌, length, IfOk};
+ghost use Rattle.std.specs.Prelude.{◌≡◌, ◌≤◌, ◌⊎◌, ◌+◌, length, IfOk, IsTrue};
+ghost use Rattle.ptpm_apply.specs.declared.choice.Choice.{Choice};
 ghost use Rattle.ptpm_journal.specs.State.{state_of};
-ghost use Rattle.ptpm_apply.specs.Opening.{AreRead};
+ghost use Rattle.ptpm_apply.specs.Opening.{AreRead, IsBelow};
 
 use crate::choice::{Choice, OpenError};
 use crate::lane::Lane;
@@ -29,22 +30,20 @@ struct Reading {
 }
 
 impl Rollout {
-    ghost use Rattle.std.specs.Prelude.{◌≡◌, ◌⊎◌, false, true, IfOk};
+    ghost use Rattle.std.specs.Prelude.{◌≡◌, ◌⊎◌, false, true, IfOk, IsTrue};
     ghost use Rattle.ptpm_journal.specs.Journal.{goes_on};
     ghost use Rattle.ptpm_apply.specs.declared.choice.Choice.{Choice};
     ghost use Rattle.ptpm_apply.specs.declared.stage.Stage.{Stage};
-    ghost use Rattle.ptpm_apply.specs.Opening.{AreRead};
+    ghost use Rattle.ptpm_apply.specs.Opening.{AreApart, AreCovered, AreRead};
 
     /// A change with the journal that a file has, and how many octets of it were written whole. It is refused for the first reason that holds.
-    /// A change of which a step is given up can only be given up.
-    pub fn open(
-        alloc: Global,
-        octets: &[u8],
-        choice: Choice,
-    ) -> Result<(Rollout, usize), OpenError>
+    /// If a step is given up, the change can only be given up.
+    pub fn open(alloc: Global, octets: &[u8], choice: Choice) -> Result<(Rollout, usize), OpenError>
         ensures read { IfOk result (λ r. AreRead octets.now r.1 r.0.journal r.0.crc) }
         ensures goes_on { IfOk result (λ r. goes_on r.0.journal ≡ true) }
         ensures fresh { IfOk result (λ r. (r.0.stage ≡ Stage.Fresh) × (r.0.seen ≡ 0) × (r.0.is_changed ≡ false)) }
+        ensures covered { IfOk result (λ r. AreCovered r.0) }
+        ensures apart { IfOk result (λ r. AreApart r.0) }
         ensures choice { IfOk result (λ r. (r.0.choice ≡ choice) ⊎ (r.0.choice ≡ Choice.GiveUp)) }
     {
         let reading = read(alloc, octets)?;
@@ -63,11 +62,7 @@ impl Rollout {
         if steps.len() > STEPS || lanes.len() > STEPS {
             return Err(OpenError::Damaged);
         }
-        let choice = if has_let_go(&journal, steps.len() as u16) {
-            Choice::GiveUp
-        } else {
-            choice
-        };
+        let choice = choice_of(choice, has_let_go(&journal, steps.len() as u16));
         let Ok(room) = vec![in alloc; 0; RECORD_OCTETS] else {
             return Err(OpenError::OutOfMemory);
         };
@@ -84,7 +79,51 @@ impl Rollout {
             room,
             size: 0,
         };
-        Ok((rollout, whole))
+        if rollout.are_covered() && rollout.are_apart() {
+            Ok((rollout, whole))
+        } else {
+            Err(OpenError::Damaged)
+        }
+    }
+
+    /// Whether the clock of each step is a lane.
+    fn are_covered(&self) -> bool
+        ensures { IsTrue result → AreCovered self.now }
+    {
+        for step in 0..self.step_count() {
+            if !self.is_of(step, self.lane_of(step)) {
+                return false;
+            }
+        }
+        true
+    }
+
+    /// Whether lanes are in the order of their identities, each once.
+    fn are_apart(&self) -> bool
+        ensures { IsTrue result → AreApart self.now }
+    {
+        for lane in 1..self.lane_count() {
+            if !is_below(self.lane(lane - 1), self.lane(lane)) {
+                return false;
+            }
+        }
+        true
+    }
+}
+
+/// What is to be done. If a step is given up, that is all that can be done.
+fn choice_of(choice: Choice, has_let_go: bool) -> Choice
+    ensures { (result ≡ choice) ⊎ (result ≡ Choice.GiveUp) }
+{
+    if has_let_go { Choice::GiveUp } else { choice }
+}
+
+fn is_below(one: Option<u64>, other: Option<u64>) -> bool
+    ensures { IsTrue result → IsBelow one other }
+{
+    match (one, other) {
+        (Some(one), Some(other)) => one < other,
+        _ => false,
     }
 }
 

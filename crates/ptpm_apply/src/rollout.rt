@@ -1,4 +1,4 @@
-//! A change of several clocks, step by step. It does no input or output: it is told what came of an action, and hands out the next one.
+//! A change of several clocks, step by step. It does no input or output: it takes what came of an action, and hands out the next one.
 
 use crate::action::{Action, Why};
 use crate::choice::{Choice, TurnError};
@@ -43,11 +43,11 @@ impl Model for Rollout {
 }
 
 impl Rollout {
-    ghost use Rattle.std.specs.Prelude.{◌≡◌, ◌≤◌, ◌↔◌, OnErr, IfOk, Err, Some, false, true, length, slice_get};
+    ghost use Rattle.std.specs.Prelude.{◌≡◌, ◌≤◌, ◌↔◌, OnErr, OnOk, IfOk, Err, Some, false, true, length, slice_get};
     ghost use Rattle.std.specs.Option.{option_copied};
     ghost use Rattle.ptpm_apply.specs.declared.choice.TurnError.{TurnError};
     ghost use Rattle.ptpm_apply.specs.Rollout.{clock_in, clock_of, domain_of, lane_of, last_domain};
-    ghost use Rattle.ptpm_apply.specs.Moves.{IsFit};
+    ghost use Rattle.ptpm_apply.specs.Moves.{IsMove};
     ghost use Rattle.ptpm_apply.specs.Turning.{Turned, action_of, answers, is_wanted};
 
     /// Takes what came of the latest action, at a time in seconds since 1970, and hands out the next one. If it is refused, nothing
@@ -57,7 +57,7 @@ impl Rollout {
         ensures action { IfOk result (λ a. a ≡ action_of self.new self.new.stage) }
         ensures out_of_turn { result ≡ Err TurnError.OutOfTurn ↔ (answers self.old.stage event.entry ≡ false) }
         ensures unchanged { OnErr result (self.new ≡ self.old) }
-        ensures fit { IsFit self.old × IsFit self.new }
+        ensures moves { OnOk result (IsMove self.old event.entry self.new) }
     {
         if !self.stage.is_answered_by(&event) {
             return Err(TurnError::OutOfTurn);
