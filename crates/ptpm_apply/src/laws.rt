@@ -19,10 +19,9 @@ ghost use Rattle.ptpm_apply.specs.declared.event.Event.{Event};
 ghost use Rattle.ptpm_apply.specs.declared.stage.Stage.TheVariants as stages;
 ghost use Rattle.ptpm_apply.specs.declared.stage.Then.TheVariants as thens;
 ghost use Rattle.ptpm_apply.specs.Going.{AreDone};
-ghost use Rattle.ptpm_apply.specs.Moves.{IsFit, IsMove};
+ghost use Rattle.ptpm_apply.specs.Moves.{IsMove};
 ghost use Rattle.ptpm_apply.specs.Rollout.{RolloutValue};
 ghost use Rattle.ptpm_apply.specs.Runs.{IsRun, Turn, WasRead};
-ghost use Rattle.ptpm_apply.specs.Turning.{Turned};
 
 use crate::standing::Standing;
 
@@ -76,13 +75,6 @@ pub fn sent_in_order()
         IsFree file → AreAllowed (opened_desk file s) moves → AreAsked requests moves →
         AllByRecursion (λ (m : Sent). (is_question m.request ≡ true) ⊎ IsSentInOrder requests steps journal m)
         (sent_in (opened_desk file s) moves) }
-{}
-
-/// Each turn of a change is a move that it may make. A record is handed out only if its journal takes it, and nothing else changes the
-/// journal. A step is asked only if it may be begun, and right after its member was read as the plan has it. At the end members are
-/// read in order, once all steps are done.
-pub fn turns_are_moves()
-    ensures { (time : ℕ) (o : RolloutValue) (e : Event) (v : RolloutValue) → IsFit o → Turned time o e v → IsMove o e v }
 {}
 
 /// A change ends as complete only if each step is done, and if after that each member was read with the value that was asked.

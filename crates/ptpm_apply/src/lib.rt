@@ -18,17 +18,13 @@ mod planned;
 mod rollout;
 mod stage;
 mod standing;
-#[cfg(test)]
-mod tests;
 mod value;
 
 pub use action::{Action, Over, Why};
 pub use choice::{Choice, OpenError, TurnError};
 pub use event::Event;
 pub use in_file::InFile;
-pub use laws::{
-    begun_before_sent, complete_was_read, sent_in_order, standing_is_right, turns_are_moves,
-};
+pub use laws::{begun_before_sent, complete_was_read, sent_in_order, standing_is_right};
 pub use noted::{Begun, Noted};
 pub use rollout::Rollout;
 pub use standing::{Standing, find_standing};
