@@ -417,21 +417,74 @@ enum {
     PTPM_MARK_NONE = 6                  /* there is no such step */
 };
 
+/* A change of several clocks, as it goes on from its journal. A lane is a clock of it: the lanes are in the order of the clockIdentities. All
+   zeros hold none. */
+struct ptpm_rollout { void *at; PTPM_TO_EIGHT bool live; bool restored; };
+
+/* How it goes on: it stops where a step fails, goes on at other clocks, or is given up, which sends nothing. Or it only sees to what an
+   earlier run left of its steps, for one that is to be rolled back. */
+enum { PTPM_STOP_AT_FAILURE = 0, PTPM_KEEP_GOING = 1, PTPM_GIVE_UP = 2, PTPM_SETTLE_ALONE = 3 };
+
+/* What an action came to. A member that its kind lacks is not read. */
+struct ptpm_rollout_event {
+    PTPM_AT_EIGHT uint64_t time;        /* in seconds since 1970, for what is noted */
+    uint32_t what;                      /* one of the names below */
+    uint16_t number;                    /* PTPM_EVENT_BEGINS: the sequenceId */
+    uint16_t error;                     /* PTPM_EVENT_REFUSED: the managementErrorId */
+};
+
+enum {
+    PTPM_EVENT_BEGIN = 0,               /* the first */
+    PTPM_EVENT_FOUND = 1,               /* to PTPM_DO_LOOK: the octets are what the session's file has; none without a file */
+    PTPM_EVENT_BEGINS = 2,              /* to PTPM_DO_ASK: the asker handed out PTPM_NOTE_BEGUN */
+    PTPM_EVENT_UNSENT = 3,              /* the asker failed, and no message of the step left in this run */
+    PTPM_EVENT_VALUE = 4,               /* the clock answered: the octets are the dataField */
+    PTPM_EVENT_REFUSED = 5,
+    PTPM_EVENT_SILENT = 6,              /* there was no answer */
+    PTPM_EVENT_DONE = 7,                /* it is on the disk, or nothing is left to say */
+    PTPM_EVENT_PASSES = 8,              /* to PTPM_DO_CHECK: it goes on, or not */
+    PTPM_EVENT_STOPS = 9,
+    PTPM_EVENT_NOT_WRITTEN = 10,        /* a file could not be written; to any action */
+    PTPM_EVENT_INTERRUPTED = 11         /* the host ends; to any action */
+};
+
+/* What the host does next. */
+struct ptpm_rollout_action {
+    uint32_t what;                      /* one of the names below */
+    uint16_t lane;
+    uint16_t step;                      /* PTPM_NO_STEP if there is none */
+    uint8_t domain;                     /* PTPM_DO_SETTLE, PTPM_DO_READ */
+    uint8_t ending;                     /* PTPM_DO_END: how it ended, or 0 if it is open, */
+    uint8_t why;                        /* and then why */
+    uint8_t zero;
+};
+
+enum {
+    PTPM_DO_LOOK = 1,                   /* hand in what the file of the lane's session has */
+    PTPM_DO_SETTLE = 2,                 /* send again what an earlier run left; without a step, what another program left */
+    PTPM_DO_LET_GO = 3,                 /* give up what is under way in the session, and save that */
+    PTPM_DO_READ = 4,                   /* read the member of the step in this domain, by nobody */
+    PTPM_DO_CHECK = 5,                  /* the step is the first one at another clock: whether it goes on */
+    PTPM_DO_ASK = 6,                    /* ask the step */
+    PTPM_DO_NOTE = 7,                   /* append the record to the journal's file, and synchronize it */
+    PTPM_DO_GO_ON = 8,                  /* the note is made: ptpm_asker_noted, and what comes then */
+    PTPM_DO_LEAVE = 9,                  /* no step of the lane is to come */
+    PTPM_DO_END = 10                    /* it is over */
+};
+
+/* Why a change stays open. */
+enum {
+    PTPM_OPEN_SILENT = 1,               /* an answer is missing */
+    PTPM_OPEN_UNKNOWN = 2,              /* another program used the session of a step without an answer, or its file is gone */
+    PTPM_OPEN_NOT_WRITTEN = 3,
+    PTPM_OPEN_INTERRUPTED = 4,
+    PTPM_OPEN_SETTLED = 5               /* it was opened with PTPM_SETTLE_ALONE, and nothing of it is uncertain */
+};
+
 /* What an earlier run left under way. */
 enum { PTPM_NOTHING_LEFT = 0, PTPM_QUESTION_LEFT = 1, PTPM_GET_LEFT = 2, PTPM_CHANGE_LEFT = 3 };
 
-/* What became of the step that a change of several clocks began last in a session. */
-enum {
-    PTPM_STEP_NONE_LEFT = 0,            /* no step is uncertain, and no request under way */
-    PTPM_STEP_UNDER_WAY = 1,            /* it may have been carried out: it is sent again, with its number */
-    PTPM_STEP_NEVER_BEGUN = 2,          /* no message of it left: that is noted, and it is asked */
-    PTPM_STEP_NUMBER_TAKEN = 3,         /* nor here: another program took its number, and its request comes first */
-    PTPM_STEP_UNKNOWN = 4,              /* another program used the session since, or the file is gone: nothing is asked */
-    PTPM_STEP_TOLD = 5,                 /* the request under way is that of a step whose answer is noted: it is given up, or sent again */
-    PTPM_STEP_OF_ANOTHER = 6            /* it is another program's, and comes first */
-};
-
-/* No sequenceId; and what ptpm_number_named returns if no number has the name. */
+/* What ptpm_number_named returns if no number has the name. */
 enum { PTPM_NO_NUMBER = 65536 };
 
 #undef PTPM_TO_EIGHT
@@ -484,6 +537,9 @@ PTPM_HAS_SIZE(ptpm_asker_settings, 36);
 PTPM_HAS_SIZE(ptpm_handed, 24);
 PTPM_HAS_SIZE(ptpm_journal, 16);
 PTPM_HAS_SIZE(ptpm_journal_record, 48);
+PTPM_HAS_SIZE(ptpm_rollout, 16);
+PTPM_HAS_SIZE(ptpm_rollout_event, 16);
+PTPM_HAS_SIZE(ptpm_rollout_action, 12);
 #undef PTPM_HAS_SIZE
 
 /* The most messages that a clock sends for a datagram. The most octets of a dataField of its own. The most octets of a message, its
@@ -507,8 +563,8 @@ enum { PTPM_MOST_ANSWERS = 16384, PTPM_SURVEY_PORT = 65534 };
    refused (ptpm_is_refusal). 48 to 63 say why nothing starts, or an observation is refused. 64 to 101 say which member is out of
    its range. 104 to 110 say why a restore is refused. 112 says that a request can't be given up. 113 to 117 say why words are no
    dataField. 118 and 119 say that something is not saved. 120 says that a handle holds no asker. 121 and 122 say
-   that what a device says is not taken. 123 and 124 say that a change of the device is under way, or none. 126 to 129 say why a
-   record of a journal is not taken.
+   that what a device says is not taken. 123 and 124 say that a change of the device is under way, or none. 126 to 132 say why a
+   record of a journal, or an event of a rollout, is not taken.
 
    Each kind of call has a type for its answers. With -Wenum-compare gcc, g++ and clang++ warn if an answer is compared with a
    name of another kind. A name that several kinds of calls return is a plain number, and compares with each type. Each type has
@@ -548,6 +604,7 @@ enum { PTPM_MOST_ANSWERS = 16384, PTPM_SURVEY_PORT = 65534 };
 #define PTPM_NO_SURVEY 46               /* the handle holds none */
 #define PTPM_NO_ASKER 120               /* the handle holds none */
 #define PTPM_NO_JOURNAL 126             /* the handle holds none */
+#define PTPM_NO_ROLLOUT 130             /* the handle holds none */
 #define PTPM_OTHER_SIZES 47             /* a struct of the caller has another size than the library's */
 #define PTPM_GRANDMASTER_DIFFERS 50     /* a clock is its own grandmaster, with another priority or quality */
 #define PTPM_TOO_MANY_MANAGERS 51       /* over sixteen */
@@ -865,6 +922,19 @@ __extension__ enum PTPM_FOUR_OCTETS(ptpm_journaled) {
     PTPM_JOURNAL_WHOLE = 129            /* ptpm_journal_next: there is no further record; octets that are left were torn */
 };
 
+/* The calls of a rollout. */
+__extension__ enum PTPM_FOUR_OCTETS(ptpm_rolled) {
+    PTPM_ROLLED = 0,
+    PTPM_ROLLOUT_NO_ROOM = PTPM_NO_ROOM,                /* ptpm_rollout_record */
+    PTPM_ROLLOUT_NO_MEMORY = PTPM_NO_MEMORY,
+    PTPM_ROLLOUT_BAD_VALUE = PTPM_BAD_VALUE,            /* ptpm_rollout_open: there is no such choice */
+    PTPM_ROLLOUT_OTHER_VERSION = PTPM_OTHER_VERSION,    /* ptpm_rollout_open: another version wrote the journal */
+    PTPM_ROLLOUT_DAMAGED = PTPM_DAMAGED,                /* ptpm_rollout_open: no run makes this journal */
+    PTPM_ROLLOUT_NO_ROLLOUT = PTPM_NO_ROLLOUT,
+    PTPM_HAS_ENDED = 131,               /* ptpm_rollout_open: the journal has an end */
+    PTPM_OUT_OF_TURN = 132              /* ptpm_rollout_turn: the event answers no action that is due */
+};
+
 /* So the header refuses a compiler that does not take these forms. */
 #define PTPM_IS_WIDE(name) typedef char name##_has_not_four_octets[sizeof(enum name) == 4 ? 1 : -1]
 PTPM_IS_WIDE(ptpm_started);
@@ -885,6 +955,7 @@ PTPM_IS_WIDE(ptpm_parsed);
 PTPM_IS_WIDE(ptpm_asker_restored);
 PTPM_IS_WIDE(ptpm_asked);
 PTPM_IS_WIDE(ptpm_journaled);
+PTPM_IS_WIDE(ptpm_rolled);
 PTPM_IS_WIDE(ptpm_asking);
 PTPM_IS_WIDE(ptpm_set_here);
 #undef PTPM_IS_WIDE
@@ -916,7 +987,8 @@ static inline enum ptpm_started ptpm_header_agrees(void) {
         sizeof(struct ptpm_survey), sizeof(struct ptpm_survey_settings), sizeof(struct ptpm_source), sizeof(struct ptpm_passed_on),
         sizeof(struct ptpm_rate), sizeof(struct ptpm_asker), sizeof(struct ptpm_asker_settings), sizeof(struct ptpm_handed),
         sizeof(struct ptpm_question), sizeof(struct ptpm_say), sizeof(struct ptpm_limit), sizeof(struct ptpm_taken),
-        sizeof(struct ptpm_journal), sizeof(struct ptpm_journal_record)
+        sizeof(struct ptpm_journal), sizeof(struct ptpm_journal_record), sizeof(struct ptpm_rollout), sizeof(struct ptpm_rollout_event),
+        sizeof(struct ptpm_rollout_action)
     };
     return ptpm_sizes_agree(sizes, sizeof sizes / sizeof *sizes);
 }
@@ -1498,9 +1570,6 @@ enum ptpm_journaled ptpm_journal_next(struct ptpm_journal *journal, const uint8_
 /* Returns: what the journal says of a step, PTPM_MARK_UNTOUCHED and on. */
 uint32_t ptpm_journal_mark(const struct ptpm_journal *journal, uint16_t step);
 
-/* Returns: the first step that may be begun now, or PTPM_NO_STEP. */
-uint16_t ptpm_journal_next_step(const struct ptpm_journal *journal);
-
 /* Ends what the handle holds, if it holds anything. The handle then holds nothing, and may be started again. NULL as for
    ptpm_clock_stop. */
 void ptpm_journal_stop(struct ptpm_journal *journal);
@@ -1511,14 +1580,38 @@ static inline void ptpm_journal_stop_any(struct ptpm_journal *journal) {
 
 #define ptpm_journal_stop(journal) ptpm_journal_stop_any(journal)
 
-/* Says what became of the step that a change of several clocks began last in a session, after a crash too. A step is a SET. A journal notes
-   when it is begun, and what is answered.
-   Takes:   the number with which the journal has a step as begun without an answer. The step's managementId, port or 0, and the size
-            octets of its dataField. The number of the latest step whose answer the journal has. PTPM_NO_NUMBER stands for a number that
-            it lacks. And the image in the session's file, or no octets if there is no file.
-   Returns: PTPM_STEP_NONE_LEFT to PTPM_STEP_OF_ANOTHER. */
-uint32_t ptpm_step_standing(uint32_t begun, uint16_t id, uint16_t port, const uint8_t *octets, size_t size, uint32_t told,
-                            const uint8_t *image, size_t image_size);
+/* Opens a change of several clocks from its journal, instead of what the handle holds. It goes on where the journal ends.
+   Takes:   the octets of the journal's file; a new one has only the head and the steps. And PTPM_STOP_AT_FAILURE, PTPM_KEEP_GOING,
+            PTPM_GIVE_UP or PTPM_SETTLE_ALONE. A journal with PTPM_RECORD_LET_GO is given up in any case.
+   Returns: PTPM_ROLLED, or why not, and then the handle holds what it held.
+   Writes:  *whole: how many octets are whole records. The host cuts off what follows.
+   Memory:  for what the journal has, until the rollout is stopped.
+   Caller:  stops the rollout. */
+enum ptpm_rolled ptpm_rollout_open(struct ptpm_rollout *rollout, const uint8_t *journal, size_t size, uint32_t choice, size_t *whole);
+
+/* Hands in what the last action came to, and gives the next one.
+   Takes:   first PTPM_EVENT_BEGIN. The octets are of PTPM_EVENT_FOUND and PTPM_EVENT_VALUE.
+   Returns: PTPM_ROLLED, or why not, and then nothing changes.
+   Writes:  *action, all 0 if it is refused.
+   Memory:  for the record that is to be noted. */
+enum ptpm_rolled ptpm_rollout_turn(struct ptpm_rollout *rollout, const struct ptpm_rollout_event *event, const uint8_t *octets, size_t size,
+                                   struct ptpm_rollout_action *action);
+
+/* Gives the record that PTPM_DO_NOTE asks for.
+   Takes:   room octets: PTPM_RECORD_OCTETS are always enough.
+   Returns: PTPM_ROLLED, or why not.
+   Writes:  *size, and as many octets from octets on. *size is 0 if it is refused, and no octet is written. */
+enum ptpm_rolled ptpm_rollout_record(const struct ptpm_rollout *rollout, uint8_t *octets, size_t room, size_t *size);
+
+/* Ends what the handle holds, if it holds anything. The handle then holds nothing, and may be started again. NULL as for
+   ptpm_clock_stop. */
+void ptpm_rollout_stop(struct ptpm_rollout *rollout);
+
+static inline void ptpm_rollout_stop_any(struct ptpm_rollout *rollout) {
+    if (rollout) ptpm_rollout_stop(rollout);
+}
+
+#define ptpm_rollout_stop(rollout) ptpm_rollout_stop_any(rollout)
 
 /* Seals an image: writes `ptps`, the count of saves and the CRC-32 of all before it after the image. By them damage is found.
    Takes:   room octets: the image is the first size octets. And the count, one more at each save. A host calls ptpm_image_seal,

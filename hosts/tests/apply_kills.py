@@ -23,6 +23,7 @@ KILLS, LOSES, FAILS = ENDS = ("KILLS", "LOSES", "FAILS")     # what may become o
 MOST_CALLS, FEW_CALLS = 25, 12                      # of a step and what comes before it; of what comes before it
 GIVE_UPS = 0.15                                     # of the runs after the first
 SETTLED = 0.1                                       # by then what was on its way has come in,
+MOST_LATE, LATE = 5, "no answer of"                 # runs that are left alone, and what one says to which a clock gave none
 MOST_SAVING, COPIES = 10, 1                         # and a clock has saved, and judged it; and copies, if it judges them
 
 
@@ -264,20 +265,36 @@ class Points(Changes):
             if is_taken and step["after"] != REFUSED_FIELD:
                 self.has[IDENTITIES.index(step["clock"]), step["port"], step["id"]] = step["after"]
 
+    def noted(self, path):
+        """The journal after a run, beside what the clocks took and what was reported."""
+        time.sleep(SETTLED)
+        journal = Journal(path)
+        self.places[journal.place()] += 1
+        self.check(journal)
+        self.check_report(journal)
+        return journal
+
+    def ended(self, path, more):
+        """The journal after a run that is left alone. On a busy machine a clock may answer late: then a further run goes on."""
+        for _ in range(MOST_LATE):
+            self.is_killed_at(0, KILLS, *more)
+            journal = self.noted(path)
+            if journal.end or LATE not in self.said():
+                break
+            self.counts["runs without an answer"] += 1
+        return journal
+
     def point(self, call):
         """Whether the apply was killed at this call, and so goes on beyond it."""
         path, more = self.make(call), []
         self.is_after_kill = False
         is_killed = self.is_killed_at(call, self.chance.choice(ENDS[:2]))
-        for at in (None, *(self.chance.randrange(1, self.chance.choice((FEW_CALLS, MOST_CALLS))) for _ in range(3)), 0):
+        for at in (None, *(self.chance.randrange(1, self.chance.choice((FEW_CALLS, MOST_CALLS))) for _ in range(3))):
             if at is not None:
                 self.is_killed_at(at, self.chance.choice(ENDS), *more)
             more = ["--give-up"] if self.chance.random() < GIVE_UPS else []
-            time.sleep(SETTLED)
-            journal = Journal(path)
-            self.places[journal.place()] += 1
-            self.check(journal)
-            self.check_report(journal)
+            self.noted(path)
+        journal = self.ended(path, more)
         self.check_end(journal)
         self.now_has(journal)
         return is_killed

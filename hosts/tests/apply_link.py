@@ -94,6 +94,7 @@ class Middle(threading.Thread):
         self.hushed = None                  # the identity of a clock whose answers are lost, to one id or (empty) to all,
         self.hushed_for = 0.0               # and for how many seconds from the next request on
         self.hushed_until = 0.0
+        self.dead = set()                   # the identities of clocks to which no request passes, and from which no answer does
         self.before = None                  # called with each request before it passes on
         self.is_over = False
 
@@ -103,13 +104,15 @@ class Middle(threading.Thread):
             self.before(request)
         if request is not None and self.hushed is not None and not self.hushed_until:
             self.hushed_until = time.monotonic() + self.hushed_for
-        if not self.is_cut:
+        if not self.is_cut and (request is None or request.target not in self.dead):
             self.to_clocks.pass_on(frame)
 
     def hush(self, identity, seconds, id):
         self.hushed, self.hushed_for, self.hushed_until = (bytes.fromhex(identity), bytes.fromhex(id)), seconds, 0.0
 
     def is_hushed(self, frame):
+        if frame[HEADERS + 20:HEADERS + 28].hex() in self.dead:
+            return True
         is_of_id = time.monotonic() < self.hushed_until and frame[HEADERS + 52:HEADERS + 54].startswith(self.hushed[1])
         return is_of_id and frame[HEADERS + 20:HEADERS + 28] == self.hushed[0]
 

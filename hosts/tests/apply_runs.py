@@ -19,7 +19,7 @@ STRANGER = "another program has used its session"
 KINDS = HEAD, STEP, BEGUN, NOT_BEGUN, LET_GO, TOLD, POLICY, END, TEXT = range(1, 10)
 NAMES = {"begun": BEGUN, "not_begun": NOT_BEGUN, "let_go": LET_GO, "told": TOLD, "end": END}
 OUTCOMES = ["", "done", "refused", "answered"]
-ENDINGS = ["", "complete", "refused", "answered", "changed", "given up", "rolled back", "stopped"]
+ENDINGS = ["", "complete", "refused", "answered", "changed", "given up", "rolled back", "stopped", "in part"]
 ERRORS = {0: "", 4: " WRONG_VALUE", 6: " NOT_SUPPORTED"}
 IN_ONE_ROW, LAST_GROUP, NO_STEP, TIME = 2, 6, 65535, 1767225600
 MAGIC = b"PTPJ"

@@ -30,6 +30,7 @@ from .observation import ObservedClock, ObservedGrandmaster, ObservedPort
 from .passing import PassedOn, Rate
 from .report import Report
 from .requests import Requests, SessionSettings
+from .rollout import Rollout
 from .saving_clock import Saved, SavingClock
 from .seal import newest_image, sealed, unsealed
 from .session import Session
@@ -47,7 +48,7 @@ __all__ = [
     "Handled", "id_name", "id_of", "Identity", "Lack", "Limit", "ManagementId", "Manager", "members", "newest_image", "NoAnswer",
     "Objection", "ObservedClock",
     "ObservedGrandmaster", "ObservedPort", "OpenApplyError", "ParentDataSet", "PassedOn", "PortDataSet", "PortIdentity",
-    "PortMembers", "PortSettings", "PortState", "PtpmError", "Rate", "read_site", "Report", "Requests", "Rights", "Saved", "SavingClock",
+    "PortMembers", "PortSettings", "PortState", "PtpmError", "Rate", "read_site", "Report", "Requests", "Rights", "Rollout", "Saved", "SavingClock",
     "Say", "sealed", "Session", "SessionAnswer", "SessionFile", "SessionFileError", "SessionSettings", "Site", "site",
     "SiteClock", "SiteError", "Survey", "survey", "SURVEY_PORT", "SurveyAnswer", "SurveySettings", "time_interval", "TimeInterval",
     "TimePropertiesDataSet", "TimeSource", "Transport", "UdpTransport", "UnixTransport", "unsealed", "usual_path",

@@ -29,9 +29,14 @@ PTPM_END_ROLLED_BACK = 6; PTPM_END_STOPPED = 7; PTPM_END_IN_PART = 8
 PTPM_NO_STEP = 65535
 PTPM_MARK_UNTOUCHED = 0; PTPM_MARK_BEGUN = 1; PTPM_MARK_DONE = 2; PTPM_MARK_REFUSED = 3; PTPM_MARK_ANSWERED = 4
 PTPM_MARK_LET_GO = 5; PTPM_MARK_NONE = 6
+PTPM_STOP_AT_FAILURE = 0; PTPM_KEEP_GOING = 1; PTPM_GIVE_UP = 2; PTPM_SETTLE_ALONE = 3
+PTPM_EVENT_BEGIN = 0; PTPM_EVENT_FOUND = 1; PTPM_EVENT_BEGINS = 2; PTPM_EVENT_UNSENT = 3; PTPM_EVENT_VALUE = 4
+PTPM_EVENT_REFUSED = 5; PTPM_EVENT_SILENT = 6; PTPM_EVENT_DONE = 7; PTPM_EVENT_PASSES = 8; PTPM_EVENT_STOPS = 9
+PTPM_EVENT_NOT_WRITTEN = 10; PTPM_EVENT_INTERRUPTED = 11
+PTPM_DO_LOOK = 1; PTPM_DO_SETTLE = 2; PTPM_DO_LET_GO = 3; PTPM_DO_READ = 4; PTPM_DO_CHECK = 5; PTPM_DO_ASK = 6; PTPM_DO_NOTE = 7
+PTPM_DO_GO_ON = 8; PTPM_DO_LEAVE = 9; PTPM_DO_END = 10
+PTPM_OPEN_SILENT = 1; PTPM_OPEN_UNKNOWN = 2; PTPM_OPEN_NOT_WRITTEN = 3; PTPM_OPEN_INTERRUPTED = 4; PTPM_OPEN_SETTLED = 5
 PTPM_NOTHING_LEFT = 0; PTPM_QUESTION_LEFT = 1; PTPM_GET_LEFT = 2; PTPM_CHANGE_LEFT = 3
-PTPM_STEP_NONE_LEFT = 0; PTPM_STEP_UNDER_WAY = 1; PTPM_STEP_NEVER_BEGUN = 2; PTPM_STEP_NUMBER_TAKEN = 3; PTPM_STEP_UNKNOWN = 4
-PTPM_STEP_TOLD = 5; PTPM_STEP_OF_ANOTHER = 6
 PTPM_NO_NUMBER = 65536
 PTPM_MOST_SENT = 15; PTPM_MOST_READ = 130; PTPM_MOST_OCTETS = 1472; PTPM_SESSION_IMAGE_OCTETS = 1478
 PTPM_CLOCK_IMAGE_OCTETS = 27385
@@ -42,9 +47,9 @@ PTPM_SAVING = 0; PTPM_OTHER_DOMAIN = 1; PTPM_NOT_A_REPLY = 10; PTPM_OTHER_TARGET
 PTPM_OTHER_NUMBER = 14; PTPM_OTHER_CONTENT = 15; PTPM_TOO_SHORT = 16; PTPM_NOT_MANAGEMENT = 17; PTPM_BAD_VERSION = 18
 PTPM_BAD_LENGTH = 19; PTPM_BAD_ACTION = 20; PTPM_BAD_TLV_TYPE = 21; PTPM_BAD_TLV_LENGTH = 22; PTPM_BAD_TEXT = 23
 PTPM_NO_CLOCK = 32; PTPM_NO_PORT = 33; PTPM_NO_ROOM = 34; PTPM_NO_MEMORY = 35; PTPM_NO_SESSION = 37; PTPM_IDLE = 43
-PTPM_NO_SURVEY = 46; PTPM_NO_ASKER = 120; PTPM_NO_JOURNAL = 126; PTPM_OTHER_SIZES = 47; PTPM_GRANDMASTER_DIFFERS = 50
-PTPM_TOO_MANY_MANAGERS = 51; PTPM_MANAGER_TWICE = 52; PTPM_IDENTITY_IS_ZERO = 56; PTPM_UNSAVED = 118; PTPM_UNDER_WAY = 123
-PTPM_BAD_CLOCK_ACCURACY = 70; PTPM_BAD_LEAP59 = 88; PTPM_BAD_STATE = 94
+PTPM_NO_SURVEY = 46; PTPM_NO_ASKER = 120; PTPM_NO_JOURNAL = 126; PTPM_NO_ROLLOUT = 130; PTPM_OTHER_SIZES = 47
+PTPM_GRANDMASTER_DIFFERS = 50; PTPM_TOO_MANY_MANAGERS = 51; PTPM_MANAGER_TWICE = 52; PTPM_IDENTITY_IS_ZERO = 56
+PTPM_UNSAVED = 118; PTPM_UNDER_WAY = 123; PTPM_BAD_CLOCK_ACCURACY = 70; PTPM_BAD_LEAP59 = 88; PTPM_BAD_STATE = 94
 PTPM_STARTED = 0; PTPM_START_NO_MEMORY = 35; PTPM_START_OTHER_SIZES = 47; PTPM_NO_PORTS = 48; PTPM_TOO_MANY_PORTS = 49
 PTPM_START_GRANDMASTER_DIFFERS = 50; PTPM_START_TOO_MANY_MANAGERS = 51; PTPM_START_MANAGER_TWICE = 52; PTPM_MANAGER_IS_EVERY = 53
 PTPM_TARGET_IS_EVERY = 54; PTPM_SAME_CLOCK = 55; PTPM_START_IDENTITY_IS_ZERO = 56; PTPM_TARGET_IS_ZERO = 57
@@ -106,6 +111,9 @@ PTPM_ASK_NOT_PERMITTED = 40; PTPM_ASK_BAD_VALUE = 41; PTPM_ASK_COUNT_AT_MAXIMUM 
 PTPM_ASK_OUT_OF_REACH = 112; PTPM_ASK_NO_ASKER = 120
 PTPM_JOURNALED = 0; PTPM_JOURNAL_NO_ROOM = 34; PTPM_JOURNAL_NO_MEMORY = 35; PTPM_JOURNAL_OTHER_VERSION = 105
 PTPM_JOURNAL_DAMAGED = 107; PTPM_JOURNAL_NO_JOURNAL = 126; PTPM_NO_RECORD = 127; PTPM_NOT_ALLOWED = 128; PTPM_JOURNAL_WHOLE = 129
+PTPM_ROLLED = 0; PTPM_ROLLOUT_NO_ROOM = 34; PTPM_ROLLOUT_NO_MEMORY = 35; PTPM_ROLLOUT_BAD_VALUE = 41
+PTPM_ROLLOUT_OTHER_VERSION = 105; PTPM_ROLLOUT_DAMAGED = 107; PTPM_ROLLOUT_NO_ROLLOUT = 130; PTPM_HAS_ENDED = 131
+PTPM_OUT_OF_TURN = 132
 PTPM_NO_ID = 65536; PTPM_MOST_NAME = 27
 PTPM_PORT_STATES = 1; PTPM_DELAY_MECHANISMS = 2; PTPM_TIME_SOURCES = 3
 PTPM_MOST_FIELD_TEXT = 5034
@@ -301,6 +309,19 @@ class ptpm_journal_record(Structure):
         ("together", c_uint8), ("domain", c_uint8), ("group", c_uint8), ("what", c_uint8), ("zero", c_uint8 * 2)]
 
 
+class ptpm_rollout(Structure):
+    _fields_ = [("at", c_void_p), ("live", c_bool), ("restored", c_bool)]
+
+
+class ptpm_rollout_event(Structure):
+    _fields_ = [("time", c_uint64), ("what", c_uint32), ("number", c_uint16), ("error", c_uint16)]
+
+
+class ptpm_rollout_action(Structure):
+    _fields_ = [("what", c_uint32), ("lane", c_uint16), ("step", c_uint16), ("domain", c_uint8), ("ending", c_uint8),
+        ("why", c_uint8), ("zero", c_uint8)]
+
+
 class ptpm_source(Structure):
     _fields_ = [("clock", c_uint8 * 8), ("port", c_uint16)]
 
@@ -389,9 +410,12 @@ CALLS: Dict[str, Tuple[Any, List[Any]]] = {
         POINTER(c_uint8), c_size_t, POINTER(c_size_t)]),
     "ptpm_journal_next": (c_uint32, [POINTER(ptpm_journal), c_char_p, c_size_t, POINTER(ptpm_journal_record), POINTER(c_size_t)]),
     "ptpm_journal_mark": (c_uint32, [POINTER(ptpm_journal), c_uint16]),
-    "ptpm_journal_next_step": (c_uint16, [POINTER(ptpm_journal)]),
     "ptpm_journal_stop": (None, [POINTER(ptpm_journal)]),
-    "ptpm_step_standing": (c_uint32, [c_uint32, c_uint16, c_uint16, c_char_p, c_size_t, c_uint32, c_char_p, c_size_t]),
+    "ptpm_rollout_open": (c_uint32, [POINTER(ptpm_rollout), c_char_p, c_size_t, c_uint32, POINTER(c_size_t)]),
+    "ptpm_rollout_turn": (c_uint32, [POINTER(ptpm_rollout), POINTER(ptpm_rollout_event), c_char_p, c_size_t,
+        POINTER(ptpm_rollout_action)]),
+    "ptpm_rollout_record": (c_uint32, [POINTER(ptpm_rollout), POINTER(c_uint8), c_size_t, POINTER(c_size_t)]),
+    "ptpm_rollout_stop": (None, [POINTER(ptpm_rollout)]),
     "ptpm_image_seal_in": (c_uint32, [POINTER(c_uint8), c_size_t, c_size_t, c_uint64, POINTER(c_size_t)]),
     "ptpm_image_unseal": (c_uint32, [c_char_p, c_size_t, POINTER(c_uint64), POINTER(c_size_t)]),
     "ptpm_newest_image_in": (c_size_t, [c_char_p, c_size_t, c_size_t, POINTER(c_uint64), POINTER(c_size_t)]),
@@ -422,5 +446,5 @@ STRUCTS: List[Type[Structure]] = [
     ptpm_clock, ptpm_clock_settings, ptpm_port_settings, ptpm_observed_clock, ptpm_observed_port, ptpm_manager_settings,
     ptpm_sent, ptpm_changed, ptpm_session, ptpm_session_settings, ptpm_survey, ptpm_survey_settings, ptpm_source, ptpm_passed_on,
     ptpm_rate, ptpm_asker, ptpm_asker_settings, ptpm_handed, ptpm_question, ptpm_say, ptpm_limit, ptpm_taken, ptpm_journal,
-    ptpm_journal_record
+    ptpm_journal_record, ptpm_rollout, ptpm_rollout_event, ptpm_rollout_action
 ]

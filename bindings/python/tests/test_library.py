@@ -542,6 +542,23 @@ class Texts(unittest.TestCase):
         with self.assertRaisesRegex(ValueError, "only be read"):
             ptpm.data_field(ptpm.ManagementId.DEFAULT_DATA_SET, 1)
 
+    def test_a_rollout_says_what_is_done_next(self) -> None:
+        journal = bytes.fromhex("5054504a001501020201001122334455667700070002036f6e6500c57eb3bb001702aabbccfffeddee010002000020050002"
+                                "800000024000e363edf8001702aabbccfffeddee02000200012009000201000002000012a3de78")
+        rollout = ptpm.Rollout(journal + bytes(1))
+        self.assertEqual(rollout.whole, len(journal))
+        action = rollout.turn(header.PTPM_EVENT_BEGIN)
+        self.assertEqual((action.what, action.lane, action.step), (header.PTPM_DO_LOOK, 0, header.PTPM_NO_STEP))
+        with self.assertRaisesRegex(ptpm.Error, "OUT_OF_TURN"):
+            rollout.turn(header.PTPM_EVENT_DONE)
+        self.assertEqual(rollout.turn(header.PTPM_EVENT_FOUND).lane, 1)
+        self.assertEqual(rollout.turn(header.PTPM_EVENT_FOUND).what, header.PTPM_DO_READ)
+        self.assertEqual(rollout.turn(header.PTPM_EVENT_VALUE, bytes.fromhex("8000")).what, header.PTPM_DO_ASK)
+        self.assertEqual(rollout.turn(header.PTPM_EVENT_BEGINS, number=1001).what, header.PTPM_DO_NOTE)
+        self.assertEqual(rollout.record()[:7].hex(), "000d03000003e9")
+        with self.assertRaisesRegex(ptpm.Error, "DAMAGED"):
+            ptpm.Rollout(journal[:80])
+
     def test_values_have_the_types_of_their_members(self) -> None:
         octets = bytes.fromhex("4142434445464748" "0001" "0a" "ff" "0000000000018000" "01" "03" "00" "02" "02" "12")
         self.assertEqual(

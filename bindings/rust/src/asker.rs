@@ -132,65 +132,6 @@ pub enum Earlier {
     Change(u8),
 }
 
-/// The step that a change of several clocks began last in a session, as its journal has it. A step is a SET.
-#[derive(Clone, Copy, Debug, PartialEq, Eq)]
-pub struct Step<'a> {
-    /// The number with which the journal has it as begun without an answer.
-    pub begun: Option<u16>,
-    /// What is set.
-    pub id: ManagementId,
-    /// A port of the clock, or 0.
-    pub port: u16,
-    /// The dataField.
-    pub octets: &'a [u8],
-    /// The number of the latest step whose answer the journal has.
-    pub told: Option<u16>,
-}
-
-/// What became of such a step.
-#[derive(Clone, Copy, Debug, PartialEq, Eq, Hash)]
-#[non_exhaustive]
-pub enum Standing {
-    /// No step is uncertain, and no request under way.
-    NoneLeft,
-    /// It may have been carried out: it is sent again, with its number.
-    UnderWay,
-    /// No message of it left: that is noted, and it is asked.
-    NeverBegun,
-    /// Nor here: another program took its number, and its request comes first.
-    NumberTaken,
-    /// Another program used the session since, or the file is gone: nothing is asked.
-    Unknown,
-    /// The request under way is that of a step whose answer is noted: it is given up, or sent again.
-    Told,
-    /// It is another program's, and comes first.
-    OfAnother,
-    /// A number that a newer library answers.
-    Other(u32),
-}
-
-impl Step<'_> {
-    /// What became of it, after a crash too. The image is the one in the session's file, or no octets if there is no file.
-    pub fn standing(&self, image: &[u8]) -> Standing {
-        let number = |noted: Option<u16>| noted.map_or(sys::PTPM_NO_NUMBER, u32::from);
-        let (begun, told) = (number(self.begun), number(self.told));
-        let (field, size) = (self.octets.as_ptr(), self.octets.len());
-        // SAFETY: the dataField and the image may be read.
-        let standing =
-            unsafe { sys::ptpm_step_standing(begun, self.id.0, self.port, field, size, told, image.as_ptr(), image.len()) };
-        match standing {
-            sys::PTPM_STEP_NONE_LEFT => Standing::NoneLeft,
-            sys::PTPM_STEP_UNDER_WAY => Standing::UnderWay,
-            sys::PTPM_STEP_NEVER_BEGUN => Standing::NeverBegun,
-            sys::PTPM_STEP_NUMBER_TAKEN => Standing::NumberTaken,
-            sys::PTPM_STEP_UNKNOWN => Standing::Unknown,
-            sys::PTPM_STEP_TOLD => Standing::Told,
-            sys::PTPM_STEP_OF_ANOTHER => Standing::OfAnother,
-            other => Standing::Other(other),
-        }
-    }
-}
-
 /// A session that is handed what came in, what time it is and what was done, and hands out what is to be done next. It sends nothing
 /// before its host has saved it, and nothing leaves the file before the host has noted its answer. So a request of an earlier run is
 /// settled, and none is carried out twice.

@@ -104,6 +104,9 @@ errors! {
     NoRecord = PTPM_NO_RECORD, "a record has no such kind, outcome or ending, or too many octets";
     NotAllowed = PTPM_NOT_ALLOWED, "no run makes this record here";
     JournalWhole = PTPM_JOURNAL_WHOLE, "there is no further record";
+    NoRollout = PTPM_NO_ROLLOUT, "the handle holds no rollout";
+    HasEnded = PTPM_HAS_ENDED, "the journal has an end";
+    OutOfTurn = PTPM_OUT_OF_TURN, "the event answers no action that is due";
     BadSay = PTPM_BAD_SAY, "what a device says is of no kind, has an error that no device gives, or gives what is no dataField";
 }
 

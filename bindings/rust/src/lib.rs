@@ -85,7 +85,7 @@ pub mod sys;
 mod time_interval;
 
 pub use answers::{Handled, Received, Surveyed};
-pub use asker::{Asker, AskerSettings, Earlier, Handed, Request, Standing, Step, DRAWN_OCTETS};
+pub use asker::{Asker, AskerSettings, Earlier, Handed, Request, DRAWN_OCTETS};
 pub use changed::{Changed, ClockMembers, PortMembers};
 pub use clock::{Clock, Ports, Turn, CLOCK_IMAGE_OCTETS, MOST_READ};
 #[cfg(feature = "alloc")]
@@ -103,8 +103,8 @@ pub use outbox::{Messages, Outbox};
 pub use passing::{PassedOn, Rate};
 pub use refusals::{
     AskError, AskerRestoreError, BeginError, GiveUpError, HandleError, JournalError, ObserveError, ParseError, QuestionError,
-    ReadError, ReceiveError, ReportError, RestoreError, ResumeError, RetuneError, SaveError, SendError, SetError, StartError,
-    SurveyError,
+    ReadError, ReceiveError, ReportError, RestoreError, ResumeError, RetuneError, RolloutError, SaveError, SendError, SetError,
+    StartError, SurveyError,
 };
 #[cfg(feature = "alloc")]
 pub use report::Answer;

@@ -101,6 +101,8 @@ refusals! {
     AskError { NoRoom NoMemory Busy NeedsPort NotPermitted BadValue CountAtMaximum Idle OutOfReach NoAsker }
     /// Why a call of a journal is refused (`enum ptpm_journaled`).
     JournalError { NoRoom NoMemory OtherVersion Damaged NoJournal NoRecord NotAllowed JournalWhole }
+    /// Why a call of a rollout is refused (`enum ptpm_rolled`).
+    RolloutError { NoRoom NoMemory BadValue OtherVersion Damaged NoRollout HasEnded OutOfTurn }
     /// Why words are no dataField (`enum ptpm_parsed`).
     ParseError { NoRoom NotWords UnknownId WordCount OtherName NoValue }
 }

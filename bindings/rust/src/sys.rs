@@ -78,11 +78,20 @@ pub const PTPM_NO_STEP: u32 = 65535;
 pub const PTPM_MARK_UNTOUCHED: u32 = 0; pub const PTPM_MARK_BEGUN: u32 = 1; pub const PTPM_MARK_DONE: u32 = 2;
 pub const PTPM_MARK_REFUSED: u32 = 3; pub const PTPM_MARK_ANSWERED: u32 = 4; pub const PTPM_MARK_LET_GO: u32 = 5;
 pub const PTPM_MARK_NONE: u32 = 6;
+pub const PTPM_STOP_AT_FAILURE: u32 = 0; pub const PTPM_KEEP_GOING: u32 = 1; pub const PTPM_GIVE_UP: u32 = 2;
+pub const PTPM_SETTLE_ALONE: u32 = 3;
+pub const PTPM_EVENT_BEGIN: u32 = 0; pub const PTPM_EVENT_FOUND: u32 = 1; pub const PTPM_EVENT_BEGINS: u32 = 2;
+pub const PTPM_EVENT_UNSENT: u32 = 3; pub const PTPM_EVENT_VALUE: u32 = 4; pub const PTPM_EVENT_REFUSED: u32 = 5;
+pub const PTPM_EVENT_SILENT: u32 = 6; pub const PTPM_EVENT_DONE: u32 = 7; pub const PTPM_EVENT_PASSES: u32 = 8;
+pub const PTPM_EVENT_STOPS: u32 = 9; pub const PTPM_EVENT_NOT_WRITTEN: u32 = 10; pub const PTPM_EVENT_INTERRUPTED: u32 = 11;
+pub const PTPM_DO_LOOK: u32 = 1; pub const PTPM_DO_SETTLE: u32 = 2; pub const PTPM_DO_LET_GO: u32 = 3;
+pub const PTPM_DO_READ: u32 = 4; pub const PTPM_DO_CHECK: u32 = 5; pub const PTPM_DO_ASK: u32 = 6;
+pub const PTPM_DO_NOTE: u32 = 7; pub const PTPM_DO_GO_ON: u32 = 8; pub const PTPM_DO_LEAVE: u32 = 9;
+pub const PTPM_DO_END: u32 = 10;
+pub const PTPM_OPEN_SILENT: u32 = 1; pub const PTPM_OPEN_UNKNOWN: u32 = 2; pub const PTPM_OPEN_NOT_WRITTEN: u32 = 3;
+pub const PTPM_OPEN_INTERRUPTED: u32 = 4; pub const PTPM_OPEN_SETTLED: u32 = 5;
 pub const PTPM_NOTHING_LEFT: u32 = 0; pub const PTPM_QUESTION_LEFT: u32 = 1; pub const PTPM_GET_LEFT: u32 = 2;
 pub const PTPM_CHANGE_LEFT: u32 = 3;
-pub const PTPM_STEP_NONE_LEFT: u32 = 0; pub const PTPM_STEP_UNDER_WAY: u32 = 1; pub const PTPM_STEP_NEVER_BEGUN: u32 = 2;
-pub const PTPM_STEP_NUMBER_TAKEN: u32 = 3; pub const PTPM_STEP_UNKNOWN: u32 = 4; pub const PTPM_STEP_TOLD: u32 = 5;
-pub const PTPM_STEP_OF_ANOTHER: u32 = 6;
 pub const PTPM_NO_NUMBER: u32 = 65536;
 pub const PTPM_MOST_SENT: usize = 15; pub const PTPM_MOST_READ: usize = 130; pub const PTPM_MOST_OCTETS: usize = 1472;
 pub const PTPM_SESSION_IMAGE_OCTETS: usize = 1478;
@@ -98,10 +107,10 @@ pub const PTPM_BAD_TLV_TYPE: u32 = 21; pub const PTPM_BAD_TLV_LENGTH: u32 = 22; 
 pub const PTPM_NO_CLOCK: u32 = 32; pub const PTPM_NO_PORT: u32 = 33; pub const PTPM_NO_ROOM: u32 = 34;
 pub const PTPM_NO_MEMORY: u32 = 35; pub const PTPM_NO_SESSION: u32 = 37; pub const PTPM_IDLE: u32 = 43;
 pub const PTPM_NO_SURVEY: u32 = 46; pub const PTPM_NO_ASKER: u32 = 120; pub const PTPM_NO_JOURNAL: u32 = 126;
-pub const PTPM_OTHER_SIZES: u32 = 47; pub const PTPM_GRANDMASTER_DIFFERS: u32 = 50; pub const PTPM_TOO_MANY_MANAGERS: u32 = 51;
-pub const PTPM_MANAGER_TWICE: u32 = 52; pub const PTPM_IDENTITY_IS_ZERO: u32 = 56; pub const PTPM_UNSAVED: u32 = 118;
-pub const PTPM_UNDER_WAY: u32 = 123; pub const PTPM_BAD_CLOCK_ACCURACY: u32 = 70; pub const PTPM_BAD_LEAP59: u32 = 88;
-pub const PTPM_BAD_STATE: u32 = 94;
+pub const PTPM_NO_ROLLOUT: u32 = 130; pub const PTPM_OTHER_SIZES: u32 = 47; pub const PTPM_GRANDMASTER_DIFFERS: u32 = 50;
+pub const PTPM_TOO_MANY_MANAGERS: u32 = 51; pub const PTPM_MANAGER_TWICE: u32 = 52; pub const PTPM_IDENTITY_IS_ZERO: u32 = 56;
+pub const PTPM_UNSAVED: u32 = 118; pub const PTPM_UNDER_WAY: u32 = 123; pub const PTPM_BAD_CLOCK_ACCURACY: u32 = 70;
+pub const PTPM_BAD_LEAP59: u32 = 88; pub const PTPM_BAD_STATE: u32 = 94;
 pub type ptpm_started = u32; pub const PTPM_STARTED: u32 = 0; pub const PTPM_START_NO_MEMORY: u32 = 35;
 pub const PTPM_START_OTHER_SIZES: u32 = 47; pub const PTPM_NO_PORTS: u32 = 48; pub const PTPM_TOO_MANY_PORTS: u32 = 49;
 pub const PTPM_START_GRANDMASTER_DIFFERS: u32 = 50; pub const PTPM_START_TOO_MANY_MANAGERS: u32 = 51;
@@ -204,6 +213,10 @@ pub type ptpm_journaled = u32; pub const PTPM_JOURNALED: u32 = 0; pub const PTPM
 pub const PTPM_JOURNAL_NO_MEMORY: u32 = 35; pub const PTPM_JOURNAL_OTHER_VERSION: u32 = 105;
 pub const PTPM_JOURNAL_DAMAGED: u32 = 107; pub const PTPM_JOURNAL_NO_JOURNAL: u32 = 126; pub const PTPM_NO_RECORD: u32 = 127;
 pub const PTPM_NOT_ALLOWED: u32 = 128; pub const PTPM_JOURNAL_WHOLE: u32 = 129;
+pub type ptpm_rolled = u32; pub const PTPM_ROLLED: u32 = 0; pub const PTPM_ROLLOUT_NO_ROOM: u32 = 34;
+pub const PTPM_ROLLOUT_NO_MEMORY: u32 = 35; pub const PTPM_ROLLOUT_BAD_VALUE: u32 = 41;
+pub const PTPM_ROLLOUT_OTHER_VERSION: u32 = 105; pub const PTPM_ROLLOUT_DAMAGED: u32 = 107;
+pub const PTPM_ROLLOUT_NO_ROLLOUT: u32 = 130; pub const PTPM_HAS_ENDED: u32 = 131; pub const PTPM_OUT_OF_TURN: u32 = 132;
 pub const PTPM_NO_ID: u32 = 65536; pub const PTPM_MOST_NAME: usize = 27;
 pub const PTPM_PORT_STATES: u32 = 1; pub const PTPM_DELAY_MECHANISMS: u32 = 2; pub const PTPM_TIME_SOURCES: u32 = 3;
 pub const PTPM_MOST_FIELD_TEXT: usize = 5034;
@@ -281,6 +294,13 @@ pub struct ptpm_journal { pub at: *mut c_void, pub live: bool, pub restored: boo
 pub struct ptpm_journal_record { pub time: u64, pub first: u32, pub second: u32, pub first_size: u16, pub second_size: u16,
         pub count: u16, pub port: u16, pub id: u16, pub step: u16, pub number: u16, pub error: u16, pub clock: [u8; 8],
         pub kind: u8, pub flags: u8, pub together: u8, pub domain: u8, pub group: u8, pub what: u8, pub zero: [u8; 2] }
+#[repr(C)]
+pub struct ptpm_rollout { pub at: *mut c_void, pub live: bool, pub restored: bool }
+#[repr(C)] #[derive(Clone, Copy)]
+pub struct ptpm_rollout_event { pub time: u64, pub what: u32, pub number: u16, pub error: u16 }
+#[repr(C)] #[derive(Clone, Copy)]
+pub struct ptpm_rollout_action { pub what: u32, pub lane: u16, pub step: u16, pub domain: u8, pub ending: u8, pub why: u8,
+        pub zero: u8 }
 #[repr(C)] #[derive(Clone, Copy)]
 pub struct ptpm_source { pub clock: [u8; 8], pub port: u16 }
 #[repr(C)] #[derive(Clone, Copy)]
@@ -415,10 +435,13 @@ extern "C" {
     pub fn ptpm_journal_next(journal: *mut ptpm_journal, octets: *const u8, octet_count: usize, record: *mut ptpm_journal_record,
         size: *mut usize) -> ptpm_journaled;
     pub fn ptpm_journal_mark(journal: *const ptpm_journal, step: u16) -> u32;
-    pub fn ptpm_journal_next_step(journal: *const ptpm_journal) -> u16;
     pub fn ptpm_journal_stop(journal: *mut ptpm_journal);
-    pub fn ptpm_step_standing(begun: u32, id: u16, port: u16, octets: *const u8, size: usize, told: u32, image: *const u8,
-        image_size: usize) -> u32;
+    pub fn ptpm_rollout_open(rollout: *mut ptpm_rollout, journal: *const u8, size: usize, choice: u32,
+        whole: *mut usize) -> ptpm_rolled;
+    pub fn ptpm_rollout_turn(rollout: *mut ptpm_rollout, event: *const ptpm_rollout_event, octets: *const u8, size: usize,
+        action: *mut ptpm_rollout_action) -> ptpm_rolled;
+    pub fn ptpm_rollout_record(rollout: *const ptpm_rollout, octets: *mut u8, room: usize, size: *mut usize) -> ptpm_rolled;
+    pub fn ptpm_rollout_stop(rollout: *mut ptpm_rollout);
     pub fn ptpm_image_seal_in(octets: *mut u8, room: usize, size: usize, count: u64, sealed: *mut usize) -> ptpm_saved;
     pub fn ptpm_image_unseal(octets: *const u8, size: usize, count: *mut u64, image: *mut usize) -> ptpm_restored;
     pub fn ptpm_newest_image_in(octets: *const u8, size: usize, place: usize, count: *mut u64, image: *mut usize) -> usize;
@@ -446,11 +469,12 @@ extern "C" {
     pub fn ptpm_field_takes(id: u16, place: usize, text: *mut c_char, room: usize) -> usize;
 }
 
-const SIZES: [usize; 24] = [
+const SIZES: [usize; 27] = [
     size_of::<ptpm_clock>(), size_of::<ptpm_clock_settings>(), size_of::<ptpm_port_settings>(), size_of::<ptpm_observed_clock>(),
     size_of::<ptpm_observed_port>(), size_of::<ptpm_manager_settings>(), size_of::<ptpm_sent>(), size_of::<ptpm_changed>(),
     size_of::<ptpm_session>(), size_of::<ptpm_session_settings>(), size_of::<ptpm_survey>(), size_of::<ptpm_survey_settings>(),
     size_of::<ptpm_source>(), size_of::<ptpm_passed_on>(), size_of::<ptpm_rate>(), size_of::<ptpm_asker>(),
     size_of::<ptpm_asker_settings>(), size_of::<ptpm_handed>(), size_of::<ptpm_question>(), size_of::<ptpm_say>(),
-    size_of::<ptpm_limit>(), size_of::<ptpm_taken>(), size_of::<ptpm_journal>(), size_of::<ptpm_journal_record>()
+    size_of::<ptpm_limit>(), size_of::<ptpm_taken>(), size_of::<ptpm_journal>(), size_of::<ptpm_journal_record>(),
+    size_of::<ptpm_rollout>(), size_of::<ptpm_rollout_event>(), size_of::<ptpm_rollout_action>()
 ];

@@ -3,7 +3,7 @@
 use ptpm::{
     Action, AskError, Asker, AskerRestoreError, AskerSettings, Clock, ClockSettings, Earlier, Error, Handed, HandleError,
     Identity, ManagementId, Manager, Outbox, PortIdentity, PortSettings, QuestionError, Report, Request, Rights, Say,
-    SessionSettings, SetError, Standing, Step, DRAWN_OCTETS, MOST_DATA, MOST_OCTETS, SESSION_IMAGE_OCTETS,
+    SessionSettings, SetError, DRAWN_OCTETS, MOST_DATA, MOST_OCTETS, SESSION_IMAGE_OCTETS,
 };
 
 const CLOCK: Identity = Identity([2; 8]);
@@ -30,14 +30,11 @@ struct Host {
     sent: u32,
     answers: Vec<(u64, Vec<u8>)>,
     carried_out: u32,
-    /// The numbers that the journal has: of a request that is begun, and of the latest whose answer is noted.
-    begun: Option<u16>,
-    told: Option<u16>,
 }
 
 impl Host {
     fn new() -> Self {
-        Self { clock: clock(), file: None, now: 0, sent: 0, answers: Vec::new(), carried_out: 0, begun: None, told: None }
+        Self { clock: clock(), file: None, now: 0, sent: 0, answers: Vec::new(), carried_out: 0 }
     }
 
     fn asker(&self) -> Asker {
@@ -56,10 +53,7 @@ impl Host {
                 None => return Ok(()),
             };
             next = match next {
-                Handed::NoteBegun { tag: 5, number } => {
-                    self.begun = Some(number);
-                    asker.noted()?
-                }
+                Handed::NoteBegun { tag: 5, .. } => asker.noted()?,
                 Handed::SaveIt => {
                     self.file = Some(asker.image(&mut [0; SESSION_IMAGE_OCTETS])?.to_vec());
                     asker.saved(self.now)?
@@ -72,9 +66,9 @@ impl Host {
                     due = Some(wake);
                     Handed::Nothing
                 }
-                Handed::NoteAnswer { tag, number } => {
+                Handed::NoteAnswer { tag, .. } => {
                     due = None;
-                    self.note_answer(asker, tag, number)?
+                    self.note_answer(asker, tag)?
                 }
                 Handed::Nothing => match due {
                     Some(wake) => {
@@ -88,8 +82,7 @@ impl Host {
         }
     }
 
-    fn note_answer(&mut self, asker: &mut Asker, tag: u64, number: u16) -> Result<Handed, Error> {
-        (self.begun, self.told) = (None, Some(number));
+    fn note_answer(&mut self, asker: &mut Asker, tag: u64) -> Result<Handed, Error> {
         if let Report::Value(field) = asker.report(&mut [0; MOST_DATA])? {
             self.answers.push((tag, field.to_vec()));
         }
@@ -143,26 +136,6 @@ fn a_run_that_is_cut_off_is_settled_by_the_next() {
         }
         assert_eq!((&*host.answers, host.carried_out), (&[(5, vec![100, 0])][..], 1), "after {last} steps");
     }
-}
-
-#[test]
-fn a_journal_and_a_file_say_what_became_of_a_step() {
-    let mut found = Vec::new();
-    for last in 1..40 {
-        let (mut host, mut steps) = (Host::new(), last);
-        let mut asker = host.asker();
-        let next = asker.ask(host.now, 5, &set(&[100, 0])).expect("it asks");
-        host.run(&mut asker, next, &mut steps).expect("it is carried out");
-        let step = Step { begun: host.begun, id: ManagementId::PRIORITY1, port: 0, octets: &[100, 0], told: host.told };
-        let standing = step.standing(host.file.as_deref().unwrap_or_default());
-        if !found.contains(&standing) {
-            found.push(standing);
-        }
-        assert!(standing != Standing::UnderWay || host.answers.is_empty());
-    }
-    assert_eq!(found, [Standing::NoneLeft, Standing::NeverBegun, Standing::UnderWay, Standing::Told]);
-    let step = Step { begun: Some(7), id: ManagementId::PRIORITY1, port: 0, octets: &[100, 0], told: None };
-    assert_eq!(step.standing(&[]), Standing::Unknown);
 }
 
 #[test]

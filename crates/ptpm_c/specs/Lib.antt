@@ -13,3 +13,4 @@ pub mod Said
 pub mod Batching
 pub mod Changing
 pub mod JournalHeld
+pub mod RolloutHeld

@@ -9,13 +9,13 @@ use crate::handle::Handle;
 use ptpm_data::ChangedMembers;
 use ptpm_host::{
     AskerSettings, ClockSettings, Handed, Limit, ManagerSettings, OTHER_SIZES, ObservedClock,
-    ObservedPort, PassedOn, PortSettings, Question, Rate, Say, Sent, SessionSettings, Source,
+    ObservedPort, PassedOn, PortSettings, Question, Rate, RolloutAction, RolloutEvent, Say, Sent, SessionSettings, Source,
     SurveySettings, VERSION_NUMBER,
 };
 use ptpm_journal::PlainRecord;
 
 /// The sizes of the structs of the header, in its order.
-const SIZES: [usize; 24] = [
+const SIZES: [usize; 27] = [
     size_of::<Handle>(),
     size_of::<ClockSettings>(),
     size_of::<PortSettings>(),
@@ -40,6 +40,9 @@ const SIZES: [usize; 24] = [
     size_of::<Taken>(),
     size_of::<Handle>(),
     size_of::<PlainRecord>(),
+    size_of::<Handle>(),
+    size_of::<RolloutEvent>(),
+    size_of::<RolloutAction>(),
 ];
 
 /// The version of this library, as a number.

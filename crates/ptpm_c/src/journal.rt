@@ -1,10 +1,8 @@
 //! The calls of a journal for hosts in C, each one of `ptpm_journal`.
 
-ghost use Rattle.std.specs.Prelude.{◌≡◌, ◌≢◌, ◌≤◌, ◌<◌, ◌+◌, ℕ, [], IfNone, IfSome, IsSomeAnd, None, Some, false, length, slice_get, true};
+ghost use Rattle.std.specs.Prelude.{◌≡◌, ◌≢◌, ◌≤◌, ◌+◌, [], IfNone, IfSome, IsSomeAnd, None, Some, false, length, slice_get};
 ghost use Rattle.ptpm_journal.specs.declared.journal.Journal.{Journal};
 ghost use Rattle.ptpm_journal.specs.declared.reading.Next.{Next};
-ghost use Rattle.ptpm_journal.specs.Journal.{goes_on};
-ghost use Rattle.ptpm_journal.specs.Order.{MayBegin};
 ghost use Rattle.ptpm_journal.specs.Plain.{blank, plain_of};
 ghost use Rattle.ptpm_journal.specs.State.{state_of};
 ghost use Rattle.ptpm_journal.specs.Turns.{IsRead};
@@ -18,7 +16,7 @@ use crate::handle::{Handle, held};
 use crate::kept::Hosted;
 use ptpm_host::NO_MEMORY;
 use ptpm_host::journal_numbers::{
-    JOURNAL_IS_WHOLE, NO_JOURNAL, NO_RECORD, NO_STEP, add_number, mark_number, next_number,
+    JOURNAL_IS_WHOLE, NO_JOURNAL, NO_RECORD, add_number, mark_number, next_number,
 };
 use ptpm_journal::{Journal, PlainRecord};
 use std::alloc::Global;
@@ -119,23 +117,6 @@ pub extern "C" fn ptpm_journal_mark(handle: &mut Handle, step: u16) -> u32
 {
     held!(handle, Hosted::Journal(journal), mark_number(None));
     mark_number(journal.mark_of(step))
-}
-
-/// The first step that may be begun now, or 65,535. Takes no memory.
-#[unsafe(no_mangle)]
-pub extern "C" fn ptpm_journal_next_step(handle: &mut Handle) -> u16
-    ensures kept { held handle.new.keeping ≡ held handle.old.keeping }
-    ensures found { (j : Journal) → journal_held handle.old.keeping ≡ Some j → result < 65535
-        → (goes_on (state_of j) ≡ true) × MayBegin j.steps.items j.marks.items result }
-    ensures none { (j : Journal) (place : ℕ) → journal_held handle.old.keeping ≡ Some j → result ≡ 65535
-        → length j.steps.items ≤ 65535 → goes_on (state_of j) ≡ true → MayBegin j.steps.items j.marks.items place → ⊥ }
-    ensures empty { journal_held handle.old.keeping ≡ None → result ≡ 65535 }
-{
-    held!(handle, Hosted::Journal(journal), NO_STEP);
-    match journal.next_step() {
-        Some(step) => u16::try_from(step).unwrap_or(NO_STEP),
-        None => NO_STEP,
-    }
 }
 
 /// Ends what a handle holds, if it holds anything.

@@ -2,6 +2,7 @@
 
 ghost use Rattle.std.specs.Prelude.{◌≡◌};
 
+use ptpm_apply::Rollout;
 use ptpm_data::DataSets;
 use ptpm_host::{HostedAsker, HostedClock, HostedSession, HostedSurvey, SavingClock};
 use ptpm_journal::Journal;
@@ -19,6 +20,7 @@ pub enum Hosted {
     SavingClock(Box<SavingClock>),
     Asker(Box<HostedAsker>),
     Journal(Box<Journal>),
+    Rollout(Box<Rollout>),
 }
 
 impl Hosted {

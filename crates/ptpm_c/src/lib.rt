@@ -1,5 +1,5 @@
-//! A clock, and a manager's session, asker or survey, and a journal, for hosts in C: a static library of calls over `ptpm_host`. `hosts/ptpm.h` is
-//! its header.
+//! A clock, a manager's session, asker or survey, and a change of several clocks, for hosts in C: a static library. `hosts/ptpm.h` is its
+//! header.
 #![tactic(auto)]
 
 ghost use Rattle.std.specs.Prelude.{◌≡◌, ◌≢◌, ◌≤◌, IfNone, IfSome, IsSomeAnd, MatchResult, None, Ok, Some, drop, length, take, false};
@@ -35,11 +35,11 @@ mod kept;
 mod limits;
 mod names;
 mod network;
+mod rollout;
 mod saving;
 mod saving_clock;
 mod sealing;
 mod session;
-mod standing;
 mod survey;
 mod transit;
 

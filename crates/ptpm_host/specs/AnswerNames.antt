@@ -41,7 +41,8 @@ refusal_names =
     ∷ (113, codes "NOT_WORDS") ∷ (114, codes "UNKNOWN_ID") ∷ (115, codes "WORD_COUNT") ∷ (116, codes "OTHER_NAME")
     ∷ (117, codes "NO_VALUE") ∷ (118, codes "UNSAVED") ∷ (119, codes "OTHER_IMAGE") ∷ (120, codes "NO_ASKER")
     ∷ (121, codes "BAD_SAY") ∷ (123, codes "UNDER_WAY") ∷ (124, codes "NOTHING_UNDER_WAY") ∷ (126, codes "NO_JOURNAL")
-    ∷ (127, codes "NO_RECORD") ∷ (128, codes "NOT_ALLOWED") ∷ (129, codes "JOURNAL_WHOLE") ∷ []
+    ∷ (127, codes "NO_RECORD") ∷ (128, codes "NOT_ALLOWED") ∷ (129, codes "JOURNAL_WHOLE") ∷ (130, codes "NO_ROLLOUT")
+    ∷ (131, codes "HAS_ENDED") ∷ (132, codes "OUT_OF_TURN") ∷ []
 
 -- which member of a clock is out of its range
 abbrev pub clock_member_names : List (ℕ × List ℕ)

@@ -10,7 +10,6 @@ pub mod Session
 pub mod SurveySettings
 pub mod Survey
 pub mod Asker
-pub mod StepStanding
 pub mod Names
 pub mod MemberKinds
 pub mod Texts
@@ -38,3 +37,4 @@ pub mod Device
 pub mod Changing
 pub mod Limits
 pub mod JournalNumbers
+pub mod Rollout

@@ -54,7 +54,7 @@ fn datagram_name(number: u32) -> Option<&'static str>
     }
 }
 
-/// Why a call changed nothing, 32 to 57 and 104 to 129.
+/// Why a call changed nothing, 32 to 57 and 104 to 132.
 #[tactic(auto, unfolding(crate::specs::AnswerNames::name_in))]
 fn refusal_name(number: u32) -> Option<&'static str>
     ensures { option_map (λ name. name.now) result ≡ name_in refusal_names number }
@@ -109,6 +109,9 @@ fn refusal_name(number: u32) -> Option<&'static str>
         127 => Some("NO_RECORD"),
         128 => Some("NOT_ALLOWED"),
         129 => Some("JOURNAL_WHOLE"),
+        130 => Some("NO_ROLLOUT"),
+        131 => Some("HAS_ENDED"),
+        132 => Some("OUT_OF_TURN"),
         _ => None,
     }
 }

@@ -4,9 +4,10 @@
 #include "exchange.h"
 #include "journals.h"
 #include "marks.h"
+#include "members.h"
 #include "notices.h"
 #include "plan.h"
-#include "steps.h"
+#include "rollout.h"
 #include "stopping.h"
 #include "transport.h"
 #include <errno.h>
@@ -67,8 +68,9 @@ static int judge_left_out(const struct task *task, struct journal *journal) {
    of the apply is there, it also says what was left out. */
 static int carry_out(const struct task *task, struct journal *journal) {
     struct journal back_of = { 0 };
+    bool keeps_going = journal->keeps_going || task->plan.keeps_going;
     refuse_as(LEFT_OPEN);
-    int status = carry_out_steps(task, journal);
+    int status = carry_out_journal(task, journal, keeps_going ? PTPM_KEEP_GOING : PTPM_STOP_AT_FAILURE);
     if (status == ANSWERED) status = status_of(journal->ending);
     else if (status == NOT_ANSWERED) status = LEFT_OPEN;
     if (status == ANSWERED && journal->skipped != NULL) status = IN_PART;
@@ -114,6 +116,7 @@ static int apply_plan(const struct task *task, const struct plan *plan) {
     }
     give_steps(&journal, plan->steps, plan->count);
     name_journal(&journal, plan->id);
+    journal.keeps_going = task->plan.keeps_going;
     if (task->plan.check != NULL) snprintf(journal.check, sizeof journal.check, "%s", task->plan.check);
     if (is_with_skips) journal.skipped = strdup(plan->unreached);
     int status = begin(task, &journal);
@@ -165,7 +168,7 @@ static const struct task *as_manager(const struct task *task, const struct journ
 static void end_rolled_back(const struct journal *back) {
     struct journal journal;
     if (!find_rolled_back(&journal, back)) return;
-    bool is_ended = journal.ending != IS_OPEN || (continue_journal(&journal) && note_end(&journal, ROLLED_BACK, NO_STEP));
+    bool is_ended = journal.ending != IS_OPEN || (continue_journal(&journal) && note_end(&journal, ROLLED_BACK));
     if (!is_ended) refuse_storage("nothing was sent: %s: %s", journal.path, strerror(errno));
     leave_journal(&journal);
 }
@@ -179,18 +182,8 @@ static void take_up(const struct task *task, struct journal *journal) {
     mark_sessions();
 }
 
-/* Ends it without an answer to the uncertain step; ANSWERED, or the program's status. */
-static int end_given_up(struct journal *journal) {
-    if (!journal->is_let_go && !note_letting_go(journal)) return NOT_WRITTEN;
-    int status = let_go_of_steps(journal);
-    if (status != ANSWERED) return status;
-    if (!end_journal(journal, GIVEN_UP, journal->begun)) return NOT_WRITTEN;
-    if (journal->begun != NO_STEP) complain("step %ld may have been carried out", journal->begun + 1);
-    return ANSWERED;
-}
-
 static int give_up_apply(const struct task *task, struct journal *journal) {
-    int status = end_given_up(journal);
+    int status = carry_out_journal(task, journal, PTPM_GIVE_UP);
     if (status != ANSWERED) return status;
     print_apply(journal, &(struct journal){ 0 }, true, task->is_json);
     return IN_PART;
@@ -206,9 +199,9 @@ static int resume(const struct task *task) {
     }
     task = as_manager(task, &journal);
     take_up(task, &journal);
-    bool is_given_up = task->is_letting_go || journal.is_let_go;
-    if (!is_given_up) open_transport(task);
-    int status = is_given_up ? give_up_apply(task, &journal) : carry_out(task, &journal);
+    bool is_ending = task->is_letting_go || is_given_up(&journal);
+    if (!is_ending) open_transport(task);
+    int status = is_ending ? give_up_apply(task, &journal) : carry_out(task, &journal);
     leave_journal(&journal);
     return status;
 }
@@ -245,7 +238,7 @@ static void take_back(struct journal *back, const struct journal *journal) {
 /* The journal of the rollback is there before the apply has its end. So wherever a run ends, one of the two is open. */
 static int go_over_to(const struct task *task, struct journal *journal, struct journal *back) {
     make_journal_of(task, back);
-    if (!end_journal(journal, ROLLED_BACK, NO_STEP)) return NOT_WRITTEN;
+    if (!end_journal(journal, ROLLED_BACK)) return NOT_WRITTEN;
     leave_sessions();
     own_marks(back->path);
     take_sessions(task, back);
@@ -271,7 +264,7 @@ static int begin_back(const struct task *task, struct journal *journal, struct j
         name_journal(back, "rollback");
         return is_open ? go_over_to(task, journal, back) : begin(task, back);
     }
-    if (is_open && !end_journal(journal, ROLLED_BACK, NO_STEP)) return NOT_WRITTEN;
+    if (is_open && !end_journal(journal, ROLLED_BACK)) return NOT_WRITTEN;
     return end_without_steps(task, journal, back);
 }
 
@@ -279,7 +272,7 @@ static int begin_back(const struct task *task, struct journal *journal, struct j
 static int roll_back_by(const struct task *task, struct journal *journal, struct journal *back) {
     bool is_open = journal->ending == IS_OPEN;
     if (is_open) take_up(task, journal);
-    int status = !is_open ? ANSWERED : journal->is_let_go ? end_given_up(journal) : settle_begun_steps(journal);
+    int status = is_open ? carry_out_journal(task, journal, PTPM_SETTLE_ALONE) : ANSWERED;
     is_open = journal->ending == IS_OPEN;
     if (!is_open) leave_sessions();
     if (status == ANSWERED) {
@@ -299,8 +292,25 @@ static int roll_back(const struct task *task, struct journal *journal) {
     return status;
 }
 
+/* Says what a rollback would do. Only reads are sent, and nothing is made. */
+static int show_rollback(const struct task *task) {
+    struct journal journal, back = { 0 };
+    if (!find_journals()) refuse_storage("neither XDG_STATE_HOME nor HOME names a folder with applies");
+    find_journal(&journal, task->plan.word);
+    open_transport(task);
+    snprintf(back.rolls_back, sizeof back.rolls_back, "%s", journal.name);
+    take_back(&back, &journal);
+    int status = leave_needed_steps(task, &back);
+    if (status == ANSWERED || status == NOT_AS_ASKED) print_dry_run(&back, task->is_json);
+    if (status == ANSWERED) note_of_end(back.count > 0 ? CHANGES : NOTHING_TO_DO);
+    leave_journal(&back);
+    leave_journal(&journal);
+    return status;
+}
+
 static int rollback(const struct task *task) {
     struct journal journal, open;
+    if (task->plan.is_dry) return show_rollback(task);
     take_journals();
     find_journal(&journal, task->plan.word);
     if (find_open_journal(&open) && strcmp(open.name, journal.name) != 0) {

@@ -63,11 +63,6 @@ static void write_change(FILE *to, const struct step *step) {
 
 /* ---- text */
 
-/* Whether the step may have been carried out, and has no answer. */
-static bool is_uncertain(const struct journal *journal, size_t place) {
-    return journal->told[place].outcome == NOT_TOLD && journal->begun == (long)place && !journal->is_unsent;
-}
-
 static void write_state(FILE *to, const struct journal *journal, size_t place) {
     const struct told *told = &journal->told[place];
     const char *error = error_name(told->error);
@@ -81,7 +76,7 @@ static void write_state(FILE *to, const struct journal *journal, size_t place) {
         fputs("answered ", to);
         write_value(to, journal->steps[place].id, told->answer.octets, told->answer.size);
         break;
-    case NOT_TOLD: fputs(is_uncertain(journal, place) ? "may be: it was sent, and has no answer" : "not asked", to); break;
+    case NOT_TOLD: fputs(is_uncertain(journal, (long)place) ? "may be: it was sent, and has no answer" : "not asked", to); break;
     }
 }
 
@@ -156,7 +151,7 @@ static void print_state_as_json(const struct journal *journal, size_t place) {
     static const char *const names[] = { "notAsked", "done", "refused", "answered" };
     const struct told *told = &journal->told[place];
     const char *error = error_name(told->error);
-    printf(",\"state\":\"%s\"", is_uncertain(journal, place) ? "mayBe" : names[told->outcome]);
+    printf(",\"state\":\"%s\"", is_uncertain(journal, (long)place) ? "mayBe" : names[told->outcome]);
     if (told->time != 0) fputs(",\"time\":\"", stdout), print_time(told->time), putchar('"');
     if (told->outcome == OTHER_VALUE) print_value_as_json("answer", journal->steps[place].id, &told->answer);
     if (told->outcome != IS_REFUSED) return;
@@ -326,4 +321,21 @@ void print_apply(const struct journal *journal, const struct journal *back_of, b
     clear_progress();
     if (is_json) print_json_of(journal, back_of, end);
     else print_text_of(journal, end);
+}
+
+void print_dry_run(const struct journal *back, bool is_json) {
+    clear_progress();
+    if (is_json) {
+        begin_member();
+        printf("\"apply\":null,\"rollsBack\":\"%s\",\"end\":\"not begun\"", back->rolls_back);
+        print_steps_as_json("steps", back, false);
+        return;
+    }
+    printf("rollback %s: not begun: %zu step%s\n", back->rolls_back, back->count, back->count == 1 ? "" : "s");
+    for (size_t i = 0; i < back->count; i++) {
+        printf("  %zu ", i + 1);
+        write_member_name(stdout, &back->steps[i]);
+        write_change(stdout, &back->steps[i]);
+        putchar('\n');
+    }
 }

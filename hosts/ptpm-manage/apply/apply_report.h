@@ -23,6 +23,9 @@ void note_of_end(enum noted noted);
    that it takes back, if it is a rollback: JSON names the steps of that one that are left out. */
 void print_apply(const struct journal *journal, const struct journal *back_of, bool is_silent, bool is_json);
 
+/* Prints the steps of a rollback that is not begun. */
+void print_dry_run(const struct journal *back, bool is_json);
+
 /* Says on standard error what became of a step, if that is no terminal. */
 void say_step(const struct journal *journal, long place);
 

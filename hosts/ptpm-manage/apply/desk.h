@@ -1,5 +1,4 @@
-/* A clock that an apply changes: its session, held from the first use to the end. What becomes of a step is noted in the journal before it
-   leaves the session's file. */
+/* A clock that an apply changes: its session, held from the first use to the end, and what becomes of what is asked there. */
 #ifndef DESK_H
 #define DESK_H
 
@@ -13,35 +12,35 @@ struct desk {
     struct task task;                   /* what is asked of all clocks, with this one as the target */
     struct kept_session session;
     struct driver driver;
-    uint8_t domain;                     /* in which the latest request was asked */
-    bool is_seen_to;                    /* what an earlier run left there is, */
-    bool is_changed;                    /* and that was a request of another program that may have changed the clock */
+    long step;                          /* what it is asked, or NO_STEP: the request of another program */
+    uint8_t domain;                     /* in which that is asked */
+    bool is_begun_now;                  /* that is a step that this run has begun */
+    bool has_failed;                    /* it gave the latest request no answer */
 };
+
+/* What an action came to, for the rollout. */
+struct event { struct ptpm_rollout_event said; const uint8_t *octets; size_t size; };
+
+/* One that has only its name. */
+struct event plain_event(uint32_t what);
+
+/* What an answer says. */
+struct event event_of(const struct answer *answer);
 
 /* Takes the session of a task with the clock of its first step. A question that an earlier run left at another port than that step's is
    given up. Ends the program with status 2 if the session can't be taken. */
 void open_desk(struct desk *desk, const struct task *task, const struct step *first);
 
-/* Sees to what an earlier run left in the session, before anything else is asked there. ANSWERED, or the status with which the program
-   ends, and then it is said why. */
-int see_to_desk(struct desk *desk, struct journal *journal);
+/* What the session's file has. */
+struct event look_at_desk(const struct desk *desk);
 
-/* Notes that the step that was begun last is given up; or, if it was never sent, that. Nothing is sent. Whether it could, which is said
-   otherwise. */
-bool note_given_up(struct desk *desk, struct journal *journal);
+/* Each drives the asker until there is something for the rollout. What is missing or can't be written is said. */
+struct event ask_at_desk(struct desk *desk, struct journal *journal, long step);
+struct event settle_at_desk(struct desk *desk, struct journal *journal, long step, uint8_t domain);
+struct event go_on_at_desk(struct desk *desk, struct journal *journal);
 
-/* Gives up a step of the journal whose request is still in the session, and saves that. Nothing is sent. ANSWERED, or the program's
-   status. */
-int let_go_at_desk(struct desk *desk, const struct journal *journal);
-
-/* Asks a step until it is answered, and notes what the answer is. ANSWERED, or the program's status. */
-int ask_step(struct desk *desk, struct journal *journal, long step);
-
-/* Reads the member of a step in a domain, by nobody. ANSWERED, or the program's status. */
-int read_member(const struct task *task, const struct step *step, uint8_t domain, struct answer *answer);
-
-/* The same, and that DOMAIN is read in either domain of its step. The clock may have moved. */
-int read_moved(const struct task *task, const struct step *step, uint8_t domain, struct answer *answer);
+/* Gives up the request that is still in the session, and saves that. Nothing is sent. */
+struct event let_go_at_desk(struct desk *desk, struct journal *journal);
 
 void leave_desk(struct desk *desk);
 

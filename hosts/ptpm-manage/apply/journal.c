@@ -25,11 +25,9 @@ const char *ending_name(enum ending ending) {
 
 void give_steps(struct journal *journal, const struct step *steps, size_t count) {
     journal->count = count;
-    journal->begun = NO_STEP;
     journal->steps = calloc(count + 1, sizeof *journal->steps);
     journal->told = calloc(count + 1, sizeof *journal->told);
-    journal->numbers = calloc(count + 1, sizeof *journal->numbers);
-    if (journal->steps == NULL || journal->told == NULL || journal->numbers == NULL) give_up("the steps");
+    if (journal->steps == NULL || journal->told == NULL) give_up("the steps");
     if (steps != NULL) memcpy(journal->steps, steps, count * sizeof *steps);
 }
 
@@ -42,11 +40,16 @@ const struct step *next_clock(const struct step *steps, size_t count, const stru
     return next;
 }
 
-long failed_step(const struct journal *journal) {
+bool is_uncertain(const struct journal *journal, long step) {
+    uint32_t mark = ptpm_journal_mark(&journal->kept, (uint16_t)step);
+    return (mark == PTPM_MARK_BEGUN || mark == PTPM_MARK_LET_GO) && !journal->told[step].is_unsent;
+}
+
+bool is_given_up(const struct journal *journal) {
     for (size_t i = 0; i < journal->count; i++) {
-        if (journal->told[i].outcome > DONE) return (long)i;
+        if (ptpm_journal_mark(&journal->kept, (uint16_t)i) == PTPM_MARK_LET_GO) return true;
     }
-    return NO_STEP;
+    return false;
 }
 
 void leave_journal(struct journal *journal) {
@@ -54,7 +57,7 @@ void leave_journal(struct journal *journal) {
     if (journal->file > 0) close(journal->file);
     free(journal->steps);
     free(journal->told);
-    free(journal->numbers);
+    free(journal->octets);
     free(journal->skipped);
     *journal = (struct journal){ 0 };
 }
@@ -100,7 +103,8 @@ static void write_step(FILE *to, struct journal *journal, const struct step *ste
 /* The head, the steps, and the texts. */
 static void write_beginning(FILE *to, struct journal *journal) {
     struct ptpm_journal_record head = {
-        .kind = PTPM_RECORD_HEAD, .flags = PTPM_IN_ONE_ROW, .together = 1, .port = journal->manager_port, .count = (uint16_t)journal->count,
+        .kind = PTPM_RECORD_HEAD, .flags = journal->keeps_going ? PTPM_KEEPS_GOING : PTPM_IN_ONE_ROW, .together = 1,
+        .port = journal->manager_port, .count = (uint16_t)journal->count,
         .first_size = (uint16_t)strlen(journal->name), .second_size = (uint16_t)strlen(journal->rolls_back),
     };
     memcpy(head.clock, journal->manager, 8);
@@ -141,6 +145,7 @@ static bool take_text(struct journal *journal, const struct ptpm_journal_record 
 static bool take_head(struct journal *journal, const struct ptpm_journal_record *head, const uint8_t *octets) {
     memcpy(journal->manager, head->clock, 8);
     journal->manager_port = head->port;
+    journal->keeps_going = (head->flags & PTPM_KEEPS_GOING) != 0;
     give_steps(journal, NULL, head->count);
     journal->count = 0;
     return take_name(journal->name, sizeof journal->name, octets + head->first, head->first_size)
@@ -155,11 +160,11 @@ static bool take_step(struct journal *journal, const struct ptpm_journal_record 
            && take_value(&step->after, octets + record->second, record->second_size);
 }
 
+/* Of a long answer its beginning is shown. */
 static bool take_told(struct journal *journal, const struct ptpm_journal_record *record, const uint8_t *octets) {
     struct told *told = &journal->told[record->step];
     *told = (struct told){ .outcome = record->what, .error = record->error, .time = record->time };
-    journal->begun = NO_STEP;
-    return take_value(&told->answer, octets + record->first, record->first_size);
+    return take_value(&told->answer, octets + record->first, record->first_size < MOST_VALUE ? record->first_size : MOST_VALUE);
 }
 
 /* Takes a record that the library has taken; whether it is one of this program. */
@@ -170,12 +175,6 @@ static bool take_record(struct journal *journal, const struct ptpm_journal_recor
     case PTPM_RECORD_STEP: return take_step(journal, record, octets);
     case PTPM_RECORD_TEXT: return take_text(journal, record, octets);
     case PTPM_RECORD_TOLD: return take_told(journal, record, octets);
-    case PTPM_RECORD_BEGUN:
-        journal->begun = record->step;
-        journal->numbers[record->step] = record->number;
-        break;
-    case PTPM_RECORD_NOT_BEGUN: journal->begun = NO_STEP; break;
-    case PTPM_RECORD_LET_GO: journal->is_let_go = true; break;
     case PTPM_RECORD_END: journal->ending = record->what; break;
     default: break;
     }
@@ -198,9 +197,9 @@ bool make_journal(struct journal *journal) {
     if (to == NULL) give_up("the journal");
     write_beginning(to, journal);
     if (fclose(to)) give_up("the journal");
-    bool is_made = open_kept_folder(&file, journal->path) && replace_kept(&file, (const uint8_t *)octets, journal->size) == REPLACED;
+    journal->octets = (uint8_t *)octets;
+    bool is_made = open_kept_folder(&file, journal->path) && replace_kept(&file, journal->octets, journal->size) == REPLACED;
     int failure = errno;
-    free(octets);
     if (file.folder >= 0) close(file.folder);
     errno = failure;
     return is_made && open_notes(journal);
@@ -252,11 +251,9 @@ enum found_journal read_journal(struct journal *journal, const char *path) {
     size_t size;
     *journal = (struct journal){ 0 };
     snprintf(journal->path, sizeof journal->path, "%s", path);
-    uint8_t *octets = read_file(path, &size);
-    if (octets == NULL) return errno == ENOENT ? NO_JOURNAL : UNREADABLE_JOURNAL;
-    enum found_journal found = take_records(journal, octets, size);
-    free(octets);
-    return found;
+    journal->octets = read_file(path, &size);
+    if (journal->octets == NULL) return errno == ENOENT ? NO_JOURNAL : UNREADABLE_JOURNAL;
+    return take_records(journal, journal->octets, size);
 }
 
 bool may_be_open(const char *path) {
@@ -286,46 +283,32 @@ void say_not_noted(const struct journal *journal) {
     complain("%s: %s: %s", journal->path, why, journal_rest(journal));
 }
 
-/* Appends the record that was added, and synchronizes it. If it can't be, what there is of it is cut off. */
-static bool append(struct journal *journal) {
-    ssize_t written = write(journal->file, added, added_size);
-    if (written >= 0 && (size_t)written < added_size) errno = ENOSPC;
-    bool is_noted = written == (ssize_t)added_size && fsync(journal->file) == 0 && is_there(journal);
+/* Appends a record, and synchronizes it. If it can't be, what there is of it is cut off. */
+static bool append(struct journal *journal, const uint8_t *octets, size_t size) {
+    ssize_t written = write(journal->file, octets, size);
+    if (written >= 0 && (size_t)written < size) errno = ENOSPC;
+    bool is_noted = written == (ssize_t)size && fsync(journal->file) == 0 && is_there(journal);
     int failure = errno;
-    if (is_noted) journal->size += added_size;
+    if (is_noted) journal->size += size;
     else if (ftruncate(journal->file, (off_t)journal->size)) failure = errno;
     errno = failure;
     return is_noted;
 }
 
+bool note_record(struct journal *journal, const uint8_t *octets, size_t size, long *answered) {
+    struct ptpm_journal_record record;
+    size_t taken;
+    *answered = NO_STEP;
+    if (!append(journal, octets, size)) return false;
+    enum ptpm_journaled answer = ptpm_journal_next(&journal->kept, octets, size, &record, &taken);
+    if (answer != PTPM_JOURNALED) refuse_storage("%s: %s: no run notes that here", journal->path, answer_name(answer));
+    if (record.kind == PTPM_RECORD_TOLD) *answered = record.step;
+    return take_record(journal, &record, octets);
+}
+
 /* After a note that could not be written the run ends: the library has that already. */
-static bool note(struct journal *journal, struct ptpm_journal_record record, const struct value *answer) {
-    record.time = (uint64_t)time(NULL);
-    record.first_size = (uint16_t)answer->size;
-    add(journal, &record, answer->octets, answer->octets);
-    return append(journal) && take_record(journal, &record, answer->octets);
-}
-
-static bool note_step(struct journal *journal, uint8_t kind, long step, uint16_t number) {
-    static const struct value none;
-    return note(journal, (struct ptpm_journal_record){ .kind = kind, .step = (uint16_t)step, .number = number }, &none);
-}
-
-bool note_begun(struct journal *journal, long step, uint16_t number) { return note_step(journal, PTPM_RECORD_BEGUN, step, number); }
-
-bool note_not_begun(struct journal *journal) { return note_step(journal, PTPM_RECORD_NOT_BEGUN, journal->begun, 0); }
-
-bool note_let_go(struct journal *journal) { return note_step(journal, PTPM_RECORD_LET_GO, journal->begun, 0); }
-
-bool note_told(struct journal *journal, long step, const struct told *told) {
-    struct ptpm_journal_record record = {
-        .kind = PTPM_RECORD_TOLD, .step = (uint16_t)step, .what = (uint8_t)told->outcome, .error = told->error,
-    };
-    return note(journal, record, &told->answer);
-}
-
-bool note_end(struct journal *journal, enum ending ending, long step) {
-    static const struct value none;
-    struct ptpm_journal_record record = { .kind = PTPM_RECORD_END, .what = (uint8_t)ending, .step = (uint16_t)step };
-    return note(journal, record, &none);
+bool note_end(struct journal *journal, enum ending ending) {
+    struct ptpm_journal_record end = { .time = (uint64_t)time(NULL), .kind = PTPM_RECORD_END, .what = (uint8_t)ending, .step = NO_STEP };
+    add(journal, &end, added, added);
+    return append(journal, added, added_size) && take_record(journal, &end, added);
 }

@@ -29,13 +29,15 @@ struct told {
     uint16_t error;
     struct value answer;
     bool is_left_out;           /* by a rollback, and the member is not as before */
+    bool is_unsent;             /* it is begun, and this run knows that no message of it left */
     uint64_t time;              /* when that was noted, in seconds since 1970 */
 };
 
 /* How it ended. */
 enum ending {
     IS_OPEN, COMPLETE = PTPM_END_COMPLETE, ENDED_REFUSED = PTPM_END_REFUSED, ENDED_ANSWERED = PTPM_END_ANSWERED,
-    ENDED_CHANGED = PTPM_END_CHANGED, GIVEN_UP = PTPM_END_GIVEN_UP, ROLLED_BACK = PTPM_END_ROLLED_BACK, STOPPED = PTPM_END_STOPPED
+    ENDED_CHANGED = PTPM_END_CHANGED, GIVEN_UP = PTPM_END_GIVEN_UP, ROLLED_BACK = PTPM_END_ROLLED_BACK, STOPPED = PTPM_END_STOPPED,
+    ENDED_IN_PART = PTPM_END_IN_PART
 };
 
 struct journal {
@@ -48,14 +50,12 @@ struct journal {
     uint16_t manager_port;
     struct step *steps;
     struct told *told;
-    uint16_t *numbers;                      /* of each step that was begun, the latest sequenceId */
     size_t count;
-    long begun;                             /* the step that was begun and has no outcome, or NO_STEP, */
-    bool is_unsent;                         /* and this run knows that no message of it left, */
-    bool is_let_go;                         /* or it is given up: its request may still be in the session */
+    bool keeps_going;                       /* it goes on at other clocks if one fails */
     enum ending ending;
+    uint8_t *octets;                        /* of the file, as it was made or read, */
     int file;
-    size_t size;                            /* octets of whole records in the file */
+    size_t size;                            /* and how many octets of whole records it has by now */
     uint64_t latest;                        /* when the latest note was made, or 0 */
     bool shows_times;                       /* its report has them */
 };
@@ -82,18 +82,19 @@ bool continue_journal(struct journal *journal);
 /* Whether the journal at a path may be open: it is, or it can't be read. One that is not there is none. */
 bool may_be_open(const char *path);
 
-/* Each notes something, and synchronizes it; whether it could. Ends the program with status 4 if no run makes that note there. */
-bool note_begun(struct journal *journal, long step, uint16_t number);
-bool note_not_begun(struct journal *journal);
-bool note_told(struct journal *journal, long step, const struct told *told);
-bool note_let_go(struct journal *journal);
-bool note_end(struct journal *journal, enum ending ending, long step);
+/* Notes a record that the rollout made, and synchronizes it; whether it could. Ends the program with status 4 if no run makes that note
+   there. *answered is the step that it says is answered, or NO_STEP. */
+bool note_record(struct journal *journal, const uint8_t *octets, size_t size, long *answered);
+
+/* The same for an end at no step. */
+bool note_end(struct journal *journal, enum ending ending);
 
 /* Says that it could not, by errno. */
 void say_not_noted(const struct journal *journal);
 
-/* The step that was answered and is not done, or NO_STEP. */
-long failed_step(const struct journal *journal);
+/* Whether a step was sent, as far as is known, and has no answer; and whether one is given up. */
+bool is_uncertain(const struct journal *journal, long step);
+bool is_given_up(const struct journal *journal);
 
 /* What becomes of an apply that ends before its end is noted: it stays open. Without its file no later run finds it. */
 const char *journal_rest(const struct journal *journal);

@@ -2,7 +2,7 @@
 #include "plan.h"
 #include "apply_report.h"
 #include "collect.h"
-#include "desk.h"
+#include "members.h"
 #include "exchange.h"
 #include "in_session.h"
 #include "names.h"

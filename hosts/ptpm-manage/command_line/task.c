@@ -22,7 +22,8 @@
 #include <unistd.h>
 
 /* Options without a letter of their own, and a word that is none: getopt's for a string that begins with a hyphen. */
-enum { WORD = 1, UDP = 256, TEXT, VERSION, GIVE_UP, JSON, ANY_SOURCE, TTL_SECURITY, NAMES, EXPECT, PROBE, STATUS_IF_CHANGES, SKIP_UNREACHED, LIMIT, CHECK, KEEP };
+enum { WORD = 1, UDP = 256, TEXT, VERSION, GIVE_UP, JSON, ANY_SOURCE, TTL_SECURITY, NAMES, EXPECT, PROBE, STATUS_IF_CHANGES, SKIP_UNREACHED, LIMIT, CHECK, KEEP,
+    KEEP_GOING, DRY_RUN };
 
 /* The same, only for `collect` and `status`. */
 enum site_option {
@@ -50,7 +51,7 @@ static const struct option options[] = {
     { "names", required_argument, NULL, NAMES }, { "expect", required_argument, NULL, EXPECT }, { "probe", no_argument, NULL, PROBE },
     { "status-if-changes", no_argument, NULL, STATUS_IF_CHANGES }, { "skip-unreached", no_argument, NULL, SKIP_UNREACHED },
     { "limit", required_argument, NULL, LIMIT }, { "check", required_argument, NULL, CHECK },
-    { "keep", required_argument, NULL, KEEP },
+    { "keep", required_argument, NULL, KEEP }, { "keep-going", no_argument, NULL, KEEP_GOING }, { "dry-run", no_argument, NULL, DRY_RUN },
     { "draw", no_argument, NULL, DRAW }, { "html", no_argument, NULL, HTML },
     { "openmetrics", no_argument, NULL, OPENMETRICS }, { "nagios", no_argument, NULL, NAGIOS },
     { "output", required_argument, NULL, OUTPUT }, { "max-offset", required_argument, NULL, MAX_OFFSET },
@@ -292,6 +293,8 @@ static void take_option(struct task *task, struct words *words, int option, cons
     case LIMIT: read_limits(&task->plan, value); break;
     case CHECK: read_check(&task->plan, value); break;
     case KEEP: task->plan.kept = number("keep", value, 0, 1000000); break;
+    case KEEP_GOING: task->plan.keeps_going = true; break;
+    case DRY_RUN: task->plan.is_dry = true; break;
     case 'p': read_port(words, value); break;
     case 'd': take_domain(words, value); break;
     case 'b': words->hops = number("hops", value, 0, 255); break;
@@ -548,6 +551,18 @@ static void prepare_refusals(int argc, char **argv) {
     if (is_json && is_plan) begin_object(true);
 }
 
+/* Refuses options that what is changed does not take. */
+static void judge_plan_options(const struct plan_options *plan) {
+    bool is_of_apply = plan->skips_unreached || plan->check != NULL || plan->limit_count > 0;
+    bool may_keep = plan->verb == APPLY || plan->verb == RESUME || plan->verb == ROLLBACK;
+    if (plan->is_probed && plan->verb != PLAN && plan->verb != APPLY) refuse("--probe: it is of plan and apply alone");
+    if (plan->tells_changes && plan->verb != PLAN) refuse("--status-if-changes: it is of plan alone");
+    if (plan->kept >= 0 && !may_keep) refuse("--keep: it is of apply, resume and rollback alone");
+    if (is_of_apply && plan->verb != APPLY) refuse("--skip-unreached, --limit and --check: they are of apply alone");
+    if (plan->keeps_going && plan->verb != APPLY && plan->verb != RESUME) refuse("--keep-going: it is of apply and resume alone");
+    if (plan->is_dry && plan->verb != ROLLBACK) refuse("--dry-run: it is of rollback alone");
+}
+
 void read_task(struct task *task, int argc, char **argv) {
     struct words words = { .port = NOT_NAMED, .target_port = NOT_NAMED, .hops = NOT_NAMED, .attempts = NOT_NAMED };
     *task = (struct task){
@@ -569,12 +584,7 @@ void read_task(struct task *task, int argc, char **argv) {
     if (task->site.forget == 0) task->site.forget = (int64_t)DAY * SECOND;
     judge_json(task);
     judge_expected(task);
-    if (task->plan.is_probed && task->plan.verb != PLAN && task->plan.verb != APPLY) refuse("--probe: it is of plan and apply alone");
-    if (task->plan.tells_changes && task->plan.verb != PLAN) refuse("--status-if-changes: it is of plan alone");
-    bool is_of_apply = task->plan.skips_unreached || task->plan.check != NULL || task->plan.limit_count > 0;
-    bool may_keep = task->plan.verb == APPLY || task->plan.verb == RESUME || task->plan.verb == ROLLBACK;
-    if (task->plan.kept >= 0 && !may_keep) refuse("--keep: it is of apply, resume and rollback alone");
-    if (is_of_apply && task->plan.verb != APPLY) refuse("--skip-unreached, --limit and --check: they are of apply alone");
+    judge_plan_options(&task->plan);
     if (task->site.listen < 0) task->site.listen = task->site.is_every_domain || task->site.is_every_sdo ? LISTENED : 0;
     long port = words.port >= 0 ? words.port : words.target_port;
     task->port = port < 0 ? 0 : (uint16_t)port;

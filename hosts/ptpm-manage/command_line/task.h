@@ -42,6 +42,8 @@ struct plan_options {
     bool is_probed;                             /* each clock is asked whether it takes SETs of this manager */
     bool tells_changes;                         /* by a status of its own: there are some */
     bool skips_unreached;                       /* what is not reached is left out */
+    bool keeps_going;                           /* at other clocks if one fails */
+    bool is_dry;                                /* a rollback only says what it would do */
     const char *check;                          /* the path of a program that is run before it goes on at another clock, or NULL */
     uint8_t (*limits)[8];                       /* the only clocks that are changed, */
     size_t limit_count;                         /* and how many these are; 0 if all are changed */

@@ -89,17 +89,17 @@ static void leave_nothing(void) {
     for (const struct session_file *file = opened; file != NULL; file = file->next) leave_no_lock(&file->kept);
 }
 
-/* The lock is released when the program ends. Its time is that of this turn. */
+/* The lock is released when the file is left, or the program ends. Its time is that of this turn. */
 static void take_turn(struct session_file *file) {
     int64_t end = milliseconds() + TURN;
-    int lock = lock_until(file, end);
-    while (!is_kept_lock(&file->kept, lock)) {
-        if (milliseconds() >= end) refuse_turn(file, lock);
-        close(lock);
-        lock = lock_until(file, end);
+    file->lock = lock_until(file, end);
+    while (!is_kept_lock(&file->kept, file->lock)) {
+        if (milliseconds() >= end) refuse_turn(file, file->lock);
+        close(file->lock);
+        file->lock = lock_until(file, end);
     }
     clear_progress();
-    futimens(lock, NULL);
+    futimens(file->lock, NULL);
     if (opened == NULL && atexit(leave_nothing)) refuse_place(file);
     file->next = opened;
     named = opened = file;
@@ -147,6 +147,11 @@ enum found_session open_session_file(struct session_file **opened_file, const ch
     }
     see_to_room(file);
     return NO_SESSION_FILE;
+}
+
+void leave_session_file(struct session_file *file) {
+    close(file->lock);
+    file->lock = -1;
 }
 
 bool write_session_file(struct session_file *file, uint8_t octets[MOST_SESSION_OCTETS], size_t size) {

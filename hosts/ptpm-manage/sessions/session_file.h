@@ -11,11 +11,12 @@
 /* A file with a session has fewer octets, its seal among them; of a larger one these are read. */
 enum { MOST_SESSION_OCTETS = PTPM_SESSION_IMAGE_OCTETS + PTPM_SEAL_OCTETS + 1 };
 
-/* A file that this run has taken. It stays until the end of the program. */
+/* A file that this run has taken. This stays until the end of the program. */
 struct session_file {
     char *path;                         /* as it was named */
     bool is_named;                      /* by the command line */
     struct kept_file kept;
+    int lock;                           /* on it */
     uint64_t saves;                     /* by its seal */
     struct session_file *next;          /* the one that was opened before it */
 };
@@ -35,6 +36,9 @@ enum found_session open_session_file(struct session_file **opened_file, const ch
    for the seal. A new file takes the place of the old one, with its mode, and its owner if this user may give it that. Whether it
    could. If not, errno says why, and the old file stays. */
 bool write_session_file(struct session_file *file, uint8_t octets[MOST_SESSION_OCTETS], size_t size);
+
+/* From now on other runs may take it. */
+void leave_session_file(struct session_file *file);
 
 /* Ends the program, status 2: nothing can be kept there, as errno says, so the request was not sent. */
 _Noreturn void refuse_place(const struct session_file *file);

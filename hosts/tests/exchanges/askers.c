@@ -189,27 +189,9 @@ static void run_stop(char *words) {
     stop_asker();
 }
 
-static uint32_t number_or_none(char **words) {
-    return takes_word(words, "none") ? PTPM_NO_NUMBER : (uint32_t)next_number(words, 0);
-}
-
-/* `step BEGUN ID PORT FIELD TOLD OCTETS`: what became of a step. A number may be none. */
-static void run_step(char *words) {
-    static const char *const where[] = { "nothing left", "under way", "never begun", "number taken", "unknown", "told", "another's" };
-    static struct octets field, image;
-    uint32_t begun = number_or_none(&words);
-    uint16_t id = next_hex(&words), port = (uint16_t)next_number(&words, 0);
-    char *word = next_word(&words);
-    read_octets(&word, &field);
-    uint32_t told = number_or_none(&words);
-    read_octets(&words, &image);
-    uint32_t standing = ptpm_step_standing(begun, id, port, field.at, field.size, told, image.at, image.size);
-    say("%s\n", standing < 7 ? where[standing] : "?");
-}
-
 const struct command asker_commands[] = {
     { "asker", run_asker }, { "restore-asker", run_restore }, { "ask-clock", run_ask }, { "settle", run_settle },
     { "let-go", run_let_go }, { "hear", run_hear }, { "wake", run_wake }, { "unsent", run_unsent }, { "asker-saved", run_saved },
-    { "noted", run_noted }, { "asker-image", run_image }, { "earlier", run_earlier }, { "stop-asker", run_stop }, { "step", run_step },
+    { "noted", run_noted }, { "asker-image", run_image }, { "earlier", run_earlier }, { "stop-asker", run_stop },
     { NULL, NULL },
 };

@@ -9,7 +9,7 @@
 struct command { const char *name; void (*run)(char *words); };
 
 extern const struct command clock_commands[], device_commands[], damage_commands[], session_commands[], survey_commands[],
-    asker_commands[], seal_commands[], journal_commands[], text_commands[];
+    asker_commands[], seal_commands[], journal_commands[], rollout_commands[], text_commands[];
 
 /* The clock of the page, and how it started. */
 extern struct ptpm_clock clock_of_page;
@@ -25,6 +25,7 @@ void stop_session(void);
 void stop_survey(void);
 void stop_asker(void);
 void stop_journal(void);
+void stop_rollout(void);
 void stop_network(void);
 
 /* How many octets or messages the host has room for: N after the word room, and otherwise all that are ever needed. */

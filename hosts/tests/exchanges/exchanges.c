@@ -43,7 +43,7 @@ static const struct command own_commands[] = { { "name", run_name }, { NULL, NUL
 static void run_command(char *words) {
     static const struct command *const tables[] = {
         own_commands, clock_commands, device_commands, damage_commands, session_commands, survey_commands, asker_commands, seal_commands,
-        journal_commands, text_commands,
+        journal_commands, rollout_commands, text_commands,
     };
     const char *name = next_word(&words);
     for (size_t i = 0; name != NULL && i < sizeof tables / sizeof *tables; i++) {
@@ -264,6 +264,7 @@ static void run_page(const char *path, bool is_printed) {
     stop_survey();
     stop_asker();
     stop_journal();
+    stop_rollout();
     stop_network();
 }
 

@@ -21,12 +21,10 @@ static void run_journal(char *words) {
     say_outcome(refusing(start, NULL, NULL), "STARTED");
 }
 
-/* What a refused call may not change: a mark of each of the first steps, and which comes next. */
+/* What a refused call may not change: a mark of each of the first steps. */
 static size_t state(uint8_t *octets) {
-    uint16_t next = ptpm_journal_next_step(&journal);
     for (uint16_t step = 0; step < 8; step++) octets[step] = (uint8_t)ptpm_journal_mark(&journal, step);
-    octets[8] = (uint8_t)(next >> 8), octets[9] = (uint8_t)next;
-    return 10;
+    return 8;
 }
 
 static uint32_t add(void *given_room) {
@@ -88,17 +86,12 @@ static void run_mark(char *words) {
     say("%s\n", marks[ptpm_journal_mark(&journal, (uint16_t)next_number(&words, 0))]);
 }
 
-static void run_next_step(char *words) {
-    (void)words;
-    say("%u\n", ptpm_journal_next_step(&journal));
-}
-
 static void run_stop(char *words) {
     (void)words;
     stop_journal();
 }
 
 const struct command journal_commands[] = {
-    { "journal", run_journal }, { "add", run_add }, { "read-journal", run_read }, { "mark", run_mark }, { "next-step", run_next_step },
+    { "journal", run_journal }, { "add", run_add }, { "read-journal", run_read }, { "mark", run_mark },
     { "stop-journal", run_stop }, { NULL, NULL },
 };
