@@ -101,7 +101,7 @@ impl HostedClock {
     }
 
     /// One turn, with what the device says or as the owner's, at a port that the clock has, with places enough for whatever it
-    /// sends. It is inlined with `take_said`, so that a datagram of which the device says nothing pays for no call but its turn.
+    /// sends. It is inlined with `take_said`. So if the device says nothing, no call but the turn is paid for.
     #[inline(always)]
     pub(crate) fn carry_out(
         &mut self,
