@@ -1,11 +1,10 @@
 -- Each turn of a change of several clocks is a move that it may make.
-use Rattle.std.proofs.Common.{◌≡◌, ◌⊎◌, ◌+◌, ◌<◌, ℕ, Bool, true, false, List, [], length, refl, sym, ap, subst, inl, inr, Option, Some, None, nat_lt, if◌then◌else◌}
+use Rattle.std.proofs.Common.{◌≡◌, ◌+◌, ◌<◌, ℕ, Bool, true, false, List, [], length, refl, sym, subst, inl, inr, Option, Some, None, nat_lt, if◌then◌else◌}
 use Rattle.std.specs.Prelude.{◌&&◌, ◌==◌}
 use Rattle.std.proofs.lemmas.Bool.{and_parts, ltb-false}
-use Rattle.std.proofs.Common.{arith, eqb-true}
+use Rattle.std.proofs.Common.{arith}
 use Rattle.ptpm_journal.specs.declared.record.Ending.{Ending}
 use Rattle.ptpm_journal.specs.declared.record.Ending.TheVariants as endings
-use Rattle.ptpm_journal.specs.declared.record.Note.{Note}
 use Rattle.ptpm_journal.specs.declared.record.Note.TheVariants as notes
 use Rattle.ptpm_journal.specs.declared.record.Record.{Record}
 use Rattle.ptpm_journal.specs.declared.record.Record.TheVariants as records
@@ -26,9 +25,9 @@ use Rattle.ptpm_apply.specs.declared.stage.Then.TheVariants as thens
 use Rattle.ptpm_apply.specs.declared.standing.Standing.{Standing}
 use Rattle.ptpm_apply.specs.declared.standing.Standing.TheVariants as standings
 use Rattle.ptpm_apply.specs.Going.{AreDone, ChangingBy, EndsBy, FailingBy, Going, Looks, Checks, Reads, Leaves, Verifies, Ends, Waits, Settles}
-use Rattle.ptpm_apply.specs.Moves.{IsFit, IsMove, IsMoveTo, IsNoting, IsReadAll, IsVerified}
+use Rattle.ptpm_apply.specs.Moves.{IsFit, IsMove, IsMoveTo, IsReadAll, IsVerified}
 use Rattle.ptpm_apply.specs.Rollout.{Fits, IsBegun, RolloutValue, at, domain_of, ended, held, lane_of, noted_with, place_of}
-use Rattle.ptpm_apply.specs.Turning.{BegunAt, BegunIn, CheckedAt, DoneAt, Follows, Found, FoundAt, GivesUp, HeardAt, SeekingBy, SeekingIn, SeesBy, SeesTo, Turned, Yields, heard_value, is_wanted, is_wanted_at, numbered, seen_at, told, yielded}
+use Rattle.ptpm_apply.specs.Turning.{BegunAt, BegunIn, CheckedAt, DoneAt, Follows, FoundAt, GivesUp, HeardAt, SeekingBy, SeekingIn, SeesBy, SeesTo, Turned, Yields, heard_value, is_wanted, is_wanted_at, numbered, seen_at, told, yielded}
 
 -- another value with the same journal and the same steps
 record IsAlike (o x : RolloutValue) : Type 0 where

@@ -1,5 +1,5 @@
 -- A change that ends as complete has read each member.
-use Rattle.std.proofs.Common.{◌≡◌, ◌⊎◌, ◌+◌, ◌<◌, ℕ, true, List, [], ◌∷◌, length, refl, sym, ◌∙◌, subst, inl, inr, Option, arith}
+use Rattle.std.proofs.Common.{◌≡◌, ◌⊎◌, ◌+◌, ◌<◌, ℕ, List, [], ◌∷◌, length, refl, sym, subst, inl, inr, Option, arith}
 use Rattle.ptpm_journal.specs.declared.record.Ending.TheVariants as endings
 use Rattle.ptpm_journal.specs.Journal.{State}
 use Rattle.ptpm_apply.specs.declared.event.Event.{Event}
@@ -7,7 +7,7 @@ use Rattle.ptpm_apply.specs.declared.stage.Stage.{Stage}
 use Rattle.ptpm_apply.specs.declared.stage.Stage.TheVariants as stages
 use Rattle.ptpm_apply.specs.declared.stage.Then.TheVariants as thens
 use Rattle.ptpm_apply.specs.Going.{AreDone}
-use Rattle.ptpm_apply.specs.Moves.{IsLastRead, IsMove, IsMoveTo, IsReadBefore}
+use Rattle.ptpm_apply.specs.Moves.{IsMove, IsMoveTo}
 use Rattle.ptpm_apply.specs.Rollout.{RolloutValue}
 use Rattle.ptpm_apply.specs.Runs.{IsRun, Turn, WasRead}
 

@@ -1,5 +1,5 @@
 -- What comes next in a change of several clocks.
-use Rattle.std.specs.Prelude.{◌≡◌, ◌≢◌, ◌≤◌, ◌<◌, ◌⊎◌, ◌-◌, ℕ, Bool, true, false, length, Option, None, Some, slice_get, slice_set, List}
+use Rattle.std.specs.Prelude.{◌≡◌, ◌≢◌, ◌≤◌, ◌<◌, ◌⊎◌, ◌-◌, ℕ, true, false, length, Option, None, Some, slice_get, slice_set, List}
 use Rattle.ptpm_journal.specs.declared.record.Ending.{Ending}
 use Rattle.ptpm_journal.specs.declared.record.Ending.TheVariants as endings
 use Rattle.ptpm_journal.specs.declared.record.Mark.TheVariants as marks

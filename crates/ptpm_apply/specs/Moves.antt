@@ -1,5 +1,5 @@
 -- What a turn of a change of several clocks may do, by the stage that it comes to.
-use Rattle.std.specs.Prelude.{◌≡◌, ◌⊎◌, ◌+◌, ℕ, true, List, length, Option}
+use Rattle.std.specs.Prelude.{◌≡◌, ◌⊎◌, ◌+◌, ℕ, true, List, length}
 use Rattle.ptpm_journal.specs.declared.record.Ending.{Ending}
 use Rattle.ptpm_journal.specs.declared.record.Ending.TheVariants as endings
 use Rattle.ptpm_journal.specs.declared.record.Record.{Record}

@@ -2,7 +2,6 @@
 use Rattle.std.specs.Prelude.{◌≡◌, ◌≤◌, ◌<◌, ◌+◌, ◌==◌, ◌&&◌, ℕ, Bool, true, false, List, [], ◌∷◌, ◌++◌, length, take, Option, None, Some, slice_get, slice_set, if◌then◌else◌}
 use Rattle.std.specs.Option.{option_map}
 use Rattle.ptpm_journal.specs.declared.record.Ending.{Ending}
-use Rattle.ptpm_journal.specs.declared.record.Mark.TheVariants as marks
 use Rattle.ptpm_journal.specs.declared.record.Note.TheVariants as notes
 use Rattle.ptpm_journal.specs.declared.record.Record.{Record}
 use Rattle.ptpm_journal.specs.declared.record.Record.TheVariants as records

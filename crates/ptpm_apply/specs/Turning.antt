@@ -22,7 +22,6 @@ use Rattle.ptpm_apply.specs.declared.heard.Heard.{Heard}
 use Rattle.ptpm_apply.specs.declared.heard.Heard.TheVariants as hears
 use Rattle.ptpm_apply.specs.declared.in_file.InFile.{InFile}
 use Rattle.ptpm_apply.specs.declared.noted.Begun.{Begun}
-use Rattle.ptpm_apply.specs.declared.noted.Noted.{Noted}
 use Rattle.ptpm_apply.specs.declared.planned.Planned.{Planned}
 use Rattle.ptpm_apply.specs.declared.stage.Stage.{Stage}
 use Rattle.ptpm_apply.specs.declared.stage.Stage.TheVariants as stages

@@ -1,4 +1,4 @@
-use Rattle.std.proofs.Common.{◌≡◌, ◌+◌, ◌≤◌, ℕ, List, arith, length, subst, sym}
+use Rattle.std.proofs.Common.{ℕ, List, arith, subst, sym}
 use Rattle.ptpm_journal.specs.Journal.{State}
 use Rattle.ptpm_journal.specs.State.{state_of}
 use Rattle.ptpm_journal.specs.Turns.{IsRead}
