@@ -9,8 +9,8 @@ use crate::handle::Handle;
 use ptpm_data::ChangedMembers;
 use ptpm_host::{
     AskerSettings, ClockSettings, Handed, Limit, ManagerSettings, OTHER_SIZES, ObservedClock,
-    ObservedPort, PassedOn, PortSettings, Question, Rate, RolloutAction, RolloutEvent, Say, Sent, SessionSettings, Source,
-    SurveySettings, VERSION_NUMBER,
+    ObservedPort, PassedOn, PortSettings, Question, Rate, RolloutAction, RolloutEvent, Say, Sent,
+    SessionSettings, Source, SurveySettings, VERSION_NUMBER,
 };
 use ptpm_journal::PlainRecord;
 
