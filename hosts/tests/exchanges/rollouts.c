@@ -88,17 +88,11 @@ static void run_event(char *words) {
     else say_outcome(answer, "ROLLED");
 }
 
-static uint32_t take_record(void *given_room) {
-    size_t size;
-    uint32_t answer = ptpm_rollout_record(&rollout, room, *(size_t *)given_room, &size);
-    whole = size;
-    return answer;
-}
-
 static void run_record(char *words) {
-    size_t octets = next_room(&words, PTPM_RECORD_OCTETS);
+    size_t size = 1, octets = next_room(&words, PTPM_RECORD_OCTETS);
     clear_room();
-    say_written(take_record(&octets), "ROLLED", whole, say_octets);
+    uint32_t answer = ptpm_rollout_record(&rollout, room, octets, &size);
+    say_written(answer, "ROLLED", size, say_octets);
 }
 
 static void run_stop(char *words) {
