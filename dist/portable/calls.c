@@ -8,6 +8,7 @@
 #undef ptpm_survey_stop
 #undef ptpm_asker_stop
 #undef ptpm_journal_stop
+#undef ptpm_rollout_stop
 
 u64 portable_ptpm_answer_name(u32 a0, address a1, u64 a2);
 u32 portable_ptpm_asker_ask(address a0, u64 a1, u64 a2, u8 a3, u16 a4, u16 a5, address a6, u64 a7, u8 a8, address a9);
@@ -50,7 +51,6 @@ u32 portable_ptpm_image_unseal(address a0, u64 a1, address a2, address a3);
 u32 portable_ptpm_journal_add(address a0, address a1, address a2, u64 a3, address a4, u64 a5, address a6, u64 a7, address a8);
 u32 portable_ptpm_journal_mark(address a0, u16 a1);
 u32 portable_ptpm_journal_next(address a0, address a1, u64 a2, address a3, address a4);
-u16 portable_ptpm_journal_next_step(address a0);
 void portable_ptpm_journal_stop(address a0);
 void portable_ptpm_limit_range(address a0, u32 a1, u32 a2);
 u16 portable_ptpm_limits_say(address a0, u64 a1, address a2);
@@ -66,6 +66,9 @@ void portable_ptpm_port_defaults(address a0);
 u8 portable_ptpm_port_identity_parse(address a0, u64 a1, address a2, address a3);
 void portable_ptpm_rate_start(address a0, u64 a1, u64 a2);
 u8 portable_ptpm_rate_take(address a0, u64 a1);
+u32 portable_ptpm_rollout_record(address a0, address a1, u64 a2, address a3);
+void portable_ptpm_rollout_stop(address a0);
+u32 portable_ptpm_rollout_turn(address a0, address a1, address a2, u64 a3, address a4);
 u32 portable_ptpm_session_begin(address a0, u8 a1, u16 a2, u16 a3, address a4, u64 a5);
 u32 portable_ptpm_session_begin_at(address a0, u8 a1, u16 a2, u16 a3, address a4, u64 a5);
 u32 portable_ptpm_session_give_up(address a0);
@@ -78,7 +81,6 @@ u32 portable_ptpm_session_retune(address a0, u8 a1);
 u32 portable_ptpm_session_send(address a0, address a1, u64 a2, address a3);
 void portable_ptpm_session_stop(address a0);
 u32 portable_ptpm_sizes_agree(address a0, u64 a1);
-u32 portable_ptpm_step_standing(u32 a0, u16 a1, u16 a2, address a3, u64 a4, u32 a5, address a6, u64 a7);
 u32 portable_ptpm_survey_answer(address a0, u64 a1, address a2, address a3, u64 a4, address a5, address a6);
 u64 portable_ptpm_survey_count(address a0);
 u32 portable_ptpm_survey_receive(address a0, address a1, u64 a2);
@@ -90,6 +92,7 @@ u32 portable_ptpm_asker_start(address a0, address a1, address a2);
 u32 portable_ptpm_clock_restore(address a0, address a1, u64 a2, address a3, u64 a4, address a5, u64 a6, address a7);
 u32 portable_ptpm_clock_start(address a0, address a1, address a2, u64 a3, address a4, u64 a5);
 u32 portable_ptpm_journal_start(address a0);
+u32 portable_ptpm_rollout_open(address a0, address a1, u64 a2, u32 a3, address a4);
 u32 portable_ptpm_session_restore(address a0, address a1, address a2, u64 a3);
 u32 portable_ptpm_session_start(address a0, address a1);
 u32 portable_ptpm_survey_start(address a0, address a1);
@@ -137,6 +140,8 @@ static void fill(void) {
 #define swap_ptpm_asker_settings(at) ((void)0)
 #define swap_ptpm_handed(at) ((void)0)
 #define swap_ptpm_journal_record(at) ((void)0)
+#define swap_ptpm_rollout_event(at) ((void)0)
+#define swap_ptpm_rollout_action(at) ((void)0)
 #define swap_ptpm_source(at) ((void)0)
 #define swap_ptpm_rate(at) ((void)0)
 #else
@@ -232,6 +237,17 @@ static void swap_ptpm_journal_record(struct ptpm_journal_record *at) {
     at->step = (uint16_t)swap16((u16)at->step);
     at->number = (uint16_t)swap16((u16)at->number);
     at->error = (uint16_t)swap16((u16)at->error);
+}
+static void swap_ptpm_rollout_event(struct ptpm_rollout_event *at) {
+    at->time = (uint64_t)swap64((u64)at->time);
+    at->what = (uint32_t)swap32((u32)at->what);
+    at->number = (uint16_t)swap16((u16)at->number);
+    at->error = (uint16_t)swap16((u16)at->error);
+}
+static void swap_ptpm_rollout_action(struct ptpm_rollout_action *at) {
+    at->what = (uint32_t)swap32((u32)at->what);
+    at->lane = (uint16_t)swap16((u16)at->lane);
+    at->step = (uint16_t)swap16((u16)at->step);
 }
 static void swap_ptpm_source(struct ptpm_source *at) {
     at->port = (uint16_t)swap16((u16)at->port);
@@ -792,19 +808,43 @@ uint32_t ptpm_journal_mark(const struct ptpm_journal *journal, uint16_t step) {
     return (uint32_t)portable_ptpm_journal_mark(ADDRESS(journal), step);
 }
 
-uint16_t ptpm_journal_next_step(const struct ptpm_journal *journal) {
-    fill();
-    return (uint16_t)portable_ptpm_journal_next_step(ADDRESS(journal));
-}
-
 void ptpm_journal_stop(struct ptpm_journal *journal) {
     fill();
     portable_ptpm_journal_stop(ADDRESS(journal));
 }
 
-uint32_t ptpm_step_standing(uint32_t begun, uint16_t id, uint16_t port, const uint8_t *octets, size_t size, uint32_t told, const uint8_t *image, size_t image_size) {
+enum ptpm_rolled ptpm_rollout_open(struct ptpm_rollout *rollout, const uint8_t *journal, size_t size, uint32_t choice, size_t *whole) {
     fill();
-    return (uint32_t)portable_ptpm_step_standing(begun, id, port, ADDRESS(octets), size, told, ADDRESS(image), image_size);
+    u64 whole_out = 0;
+    enum ptpm_rolled answer = (enum ptpm_rolled)portable_ptpm_rollout_open(ADDRESS(rollout), ADDRESS(journal), size, choice, ADDRESS(&whole_out));
+    *whole = (size_t)load64(ADDRESS(&whole_out));
+    return answer;
+}
+
+enum ptpm_rolled ptpm_rollout_turn(struct ptpm_rollout *rollout, const struct ptpm_rollout_event *event, const uint8_t *octets, size_t size, struct ptpm_rollout_action *action) {
+    fill();
+#if !IS_LITTLE_ENDIAN
+    struct ptpm_rollout_event event_in = *event;
+    swap_ptpm_rollout_event(&event_in);
+    event = &event_in;
+#endif
+    swap_ptpm_rollout_action(action);
+    enum ptpm_rolled answer = (enum ptpm_rolled)portable_ptpm_rollout_turn(ADDRESS(rollout), ADDRESS(event), ADDRESS(octets), size, ADDRESS(action));
+    swap_ptpm_rollout_action(action);
+    return answer;
+}
+
+enum ptpm_rolled ptpm_rollout_record(const struct ptpm_rollout *rollout, uint8_t *octets, size_t room, size_t *size) {
+    fill();
+    u64 size_out = 0;
+    enum ptpm_rolled answer = (enum ptpm_rolled)portable_ptpm_rollout_record(ADDRESS(rollout), ADDRESS(octets), room, ADDRESS(&size_out));
+    *size = (size_t)load64(ADDRESS(&size_out));
+    return answer;
+}
+
+void ptpm_rollout_stop(struct ptpm_rollout *rollout) {
+    fill();
+    portable_ptpm_rollout_stop(ADDRESS(rollout));
 }
 
 enum ptpm_saved ptpm_image_seal_in(uint8_t *octets, size_t room, size_t size, uint64_t count, size_t *sealed) {
