@@ -365,7 +365,7 @@ fn a_request_at_a_port_is_given_up() {
     let mut session = Session::start(&settings).expect("it starts");
     let (mut room, mut outbox) = ([0; MOST_OCTETS], Outbox::boxed());
     assert_eq!(session.give_up(), Err(Error::Idle));
-    assert_eq!(session.begin_at(Action::Set, ManagementId::PRIORITY1, 9, &[100, 0]), Err(Error::NeedsPort));
+    assert_eq!(session.begin_at(Action::Set, ManagementId::PRIORITY1, 256, &[100, 0]), Err(Error::NeedsPort));
     assert_eq!(session.begin_at(Action::Set, ManagementId::PRIORITY1, 2, &[100, 0]), Ok(()));
     let message = session.send(&mut room).expect("it is made");
     assert_eq!(message, request(7, "aabbccfffeddee010002", 1, 1, "20056400"));
