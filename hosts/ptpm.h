@@ -18,12 +18,12 @@
      its size. No call is made from a signal handler, or in a forked child of a process with threads.
    - A call has the stack that it needs. As the library is built for x86-64 and aarch64, most calls take 600 octets. A start of a
      clock takes 5,300, its restore 3,900, and that of an asker 4,600. The message of a survey takes 1,700.
-     The calls ptpm_clock_take and ptpm_clock_decide take 10,000 each, and ptpm_clock_ask and ptpm_clock_undertake 4,700. The call
-     ptpm_journal_add takes 3,600, ptpm_clock_set 3,300, ptpm_clock_saving 2,800, and ptpm_field_parse 2,200. The calls
-     ptpm_clock_image_of and ptpm_clock_saved take 1,600 each. The images and the restore of a session take 1,100, and so do
-     ptpm_asker_ask and ptpm_asker_wake. The calls ptpm_clock_handle and ptpm_clock_observe take 800.
+     The call ptpm_clock_take takes 9,500, ptpm_clock_decide and ptpm_rollout_turn 5,300, and ptpm_journal_add 4,800. The calls
+     ptpm_clock_ask and ptpm_clock_undertake take 4,700 each, ptpm_clock_set 3,300, ptpm_clock_saving 2,800, and ptpm_field_parse
+     2,200. The calls ptpm_clock_image_of, ptpm_clock_saved and ptpm_rollout_open take 1,600 each. The images and the restore of a
+     session take 1,100, and so do ptpm_asker_ask and ptpm_asker_wake. The calls ptpm_clock_handle and ptpm_clock_observe take 800.
      As C it takes more (docs/embedding.md, "On any other processor"). Beyond that a call takes the stack of the host's malloc,
-     realloc, free, memcpy, memmove and memset. No call calls itself.
+     realloc, free, memcpy, memmove and memset. Only the sort of ptpm_rollout_open calls itself.
 
    A call that only reads takes a const handle, and leaves it as it is. If several errors apply, the first is returned. Only
    ptpm_clock_start may return PTPM_NO_MEMORY in its place. Every other call asks for memory only if no other error applies. */
