@@ -1,9 +1,9 @@
 -- The words with which a line begins, one after another.
-use Rattle.std.proofs.Common.{arith, ◌≡◌, ◌<◌, ◌≤◌, ◌∷◌, [], ◌+◌, ◌==◌, cond, true, false, ℕ, Bool, List, length, Option, Some, None, IfNone, IfSome, Bor, refl, sym, ap, ◌∙◌}
+use Rattle.std.proofs.Common.{arith, ◌≡◌, ◌<◌, ◌≤◌, ◌∷◌, [], ◌==◌, cond, ℕ, Bool, List, length, Option, Some, None, IfNone, IfSome, Bor, refl, ap, ◌∙◌}
 use Rattle.std.proofs.lemmas.List.Splits.{length-slice_split, slice_split_first, slice_split_none}
 use Rattle.std.proofs.lemmas.List.Sums.{fails_before_first}
 use Rattle.std.proofs.lemmas.Str.Pattern.{IsSplitOnceResult, split_once_first}
-use Rattle.std.specs.List.{after_first, before_first, count_by, position_or_len}
+use Rattle.std.specs.List.{after_first, before_first, position_or_len}
 use Rattle.ptpm_commands.specs.DatagramLine.{behind_all, is_word, texts}
 
 abbrev is_space : ℕ → Bool

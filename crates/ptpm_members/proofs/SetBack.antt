@@ -3,12 +3,11 @@ use Rattle.std.proofs.Common.{arith, ◌≡◌, ◌∙◌, ap, refl, ℕ, zero, 
 use Rattle.std.specs.Prelude.{bit_and, bit_or, decimal, if◌then◌else◌, nat_le, not}
 use Rattle.std.specs.Fmt.{signed_decimal}
 use Rattle.std.specs.List.{list_all, range_with_len}
-use Rattle.std.specs.Str.{all_ascii_digits, str_eq_ignore_ascii_case, str_to_ascii_lowercase}
+use Rattle.std.specs.Str.{all_ascii_digits}
 use Rattle.std.specs.Str.Parse.{digits_value}
 use Rattle.std.proofs.lemmas.Bool.{cases_lt, eqb-true, le-leb, le-ltb, lt-ltb, ne_eqb}
 use Rattle.std.proofs.lemmas.Fmt.{decimal_nonempty, digits_decimal, digits_value-decimal}
 use Rattle.std.proofs.lemmas.Int.{ints}
-use Rattle.std.proofs.lemmas.Slice.Eq.{bytes_eq-Decides}
 use Rattle.std.proofs.lemmas.Str.Parse.{not_in_digits}
 use Rattle.byteorder.specs.Endian.{big_bytes, big_number, twos_complement}
 use Rattle.ptpm_codec.specs.Layout.{octet}
@@ -84,9 +83,6 @@ signed_pair_back a b small_a small_b =
     word_back (big_number 2 (a ∷ b ∷ [])) (omega arith) ∙ ap (λ (xs : List ℕ). Some xs) (pair_is a b small_a small_b)
 
 -- ---- one octet and a reserved one
-
-same_name : (name : List ℕ) → str_eq_ignore_ascii_case name name ≡ true
-same_name name = (bytes_eq-Decides (str_to_ascii_lowercase name) (str_to_ascii_lowercase name)).1 refl
 
 by_two : (P : List ℕ → Type 0) → ((a b : ℕ) → P (a ∷ b ∷ [])) → (xs : List ℕ) → length xs ≡ 2 → P xs
 by_two P each [] n = absurd (omega arith)

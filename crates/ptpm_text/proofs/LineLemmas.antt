@@ -118,7 +118,3 @@ pub octet-none : (a b : Option (List ℕ)) (shown : List ℕ)
 octet-none None b shown h end kept = tt
 octet-none (Some xs) None shown h end kept = absurd kept
 octet-none (Some xs) (Some ys) shown h end kept = kept ∙ end (shown_none shown h)
-
-pub empty_is : (l : List ℕ) → length l ≡ 0 → l ≡ []
-empty_is [] h = refl
-empty_is (x ∷ xs) h = absurd (omega (arith, h))
