@@ -191,3 +191,7 @@ next-at-hand None b shown size stripped front first drops s short = tt
 next-at-hand (Some xs) b shown size stripped front first drops s short =
     let inside : size < length shown = first.0.high in
     let taken = (Consumes_shown (Some xs) (Some xs) b (Some (length shown)) shown (size + 1) (omega (arith, inside)) front (λ none. absurd (omega (arith, inside, none))) refl (omega arith) drops).0 in grind (arith, at_hand, no_feed_before, feed_taken, length-take)
+
+pub ruleset read_by_octets_laws = (next-none, next-line, long-line)
+
+pub ruleset take_line_laws = (left-whole, next-at-hand, shown_first)
