@@ -1,6 +1,6 @@
 -- The texts between the tabs of a line, one after another, and what a line has.
-use Rattle.std.proofs.Common.{arith, ◌≡◌, ◌⊎◌, inl, inr, true, false, ◌<◌, ◌++◌, ◌∷◌, [], ℕ, List, length, Option, Some, None, Result, Ok, Err, IfNone, IfSome, IsErr, Bor, refl, sym, ap, ◌∙◌}
-use Rattle.std.proofs.lemmas.Bool.{cond-false, cond-true}
+use Rattle.std.proofs.Common.{arith, ◌≡◌, ◌⊎◌, inl, inr, true, ◌<◌, ◌++◌, ◌∷◌, [], ℕ, List, length, Option, Some, None, Result, Ok, Err, IfNone, IfSome, IsErr, Bor, refl, sym, ap, ◌∙◌}
+use Rattle.std.proofs.lemmas.Bool.{cond-true}
 use Rattle.std.proofs.lemmas.List.Splits.{slice_split_first, slice_split_none}
 use Rattle.std.proofs.lemmas.List.Sums.{fails_before_first}
 use Rattle.std.proofs.lemmas.Str.Pattern.{IsSplitOnceResult, split_once_first}
@@ -14,7 +14,7 @@ use Rattle.ptpm_commands.specs.declared.faults.LineFault.TheVariants as bad
 use Rattle.ptpm_commands.specs.Columns.{HasNoDatagram, IsRow, cells, is_tab}
 use Rattle.ptpm_commands.specs.DatagramLine.{datagram_of}
 use Rattle.ptpm_commands.specs.Faults.{at_line, is_outside}
-use Rattle.ptpm_commands.specs.Lines.{beside, cells_apart, datagram_in, last_apart, numbered, of_text, row_in, row_of_cells}
+use Rattle.ptpm_commands.specs.Lines.{beside, cells_apart, datagram_in, last_apart, numbered, row_in, row_of_cells}
 
 one_cell : (line : List ℕ) → position_or_len is_tab line ≡ length line → cells line ≡ line ∷ []
 one_cell line none = slice_split_none is_tab line (λ k d h. fails_before_first is_tab line k d (rw none h))
@@ -107,9 +107,6 @@ pub datagram-fails : (n : ℕ) (line text : List ℕ) (e fault : Fault)
 datagram-fails n line text e fault same u (inl is) at = inl (ap is_outside (at ∙ ap (at_line n) is))
 datagram-fails n line text e fault same u (inr is) at = inr (datagram_err n line text same u is.1 ∙ ap Err (sym (at ∙ ap (at_line n) is.0)))
 
--- a line that is no text
-pub no-text : {A : Type 0} (n : ℕ) (line : List ℕ) (r : Result A Fault) (fault : Fault)
-    → is_utf8 line ≡ false
-    → fault ≡ faults.BadLine n bad.BadHex
-    → of_text n line r ≡ Err fault
-no-text n line r fault u is = cond-false _ _ _ u ∙ ap Err (sym is)
+pub ruleset datagram_laws = (datagram-ok, datagram-fails)
+
+pub ruleset row_laws = (row-ok, row-fails)

@@ -1,5 +1,5 @@
 -- The messages of lines that are shown one by one.
-use Rattle.std.proofs.Common.{◌≡◌, ◌⊎◌, inl, inr, ℕ, ◌+◌, ◌++◌, List, [], Bool, true, false, Some, Option, Result, Ok, Err, IfErr, IsErrAnd, refl, sym, ap, subst, ◌∙◌, append-nil, flat_map}
+use Rattle.std.proofs.Common.{◌≡◌, ℕ, ◌+◌, ◌++◌, List, [], true, Some, Option, Result, Ok, Err, IfErr, IsErrAnd, sym, ap, subst, ◌∙◌, append-nil, flat_map}
 use Rattle.std.proofs.KnownBytes.{Appends-kept, Appends-nil, Appends-trans}
 use Rattle.std.proofs.lemmas.Grind.{flat_map-append}
 use Rattle.std.specs.Io.KnownBytes.{Appends, Keeps}
@@ -9,7 +9,6 @@ use Rattle.ptpm_codec.specs.Reading.{reading}
 use Rattle.ptpm_commands.specs.declared.faults.Fault.{Fault}
 use Rattle.ptpm_commands.specs.declared.faults.Fault.TheVariants as faults
 use Rattle.ptpm_commands.specs.declared.show.Values.{Values}
-use Rattle.ptpm_commands.specs.Faults.{at_line, is_outside}
 use Rattle.ptpm_text.specs.Lines.{ReadsNext}
 use Rattle.ptpm_commands.specs.Lines.{row_in}
 use Rattle.ptpm_commands.specs.Show.{AreShown, IsShown, message_lines, read_as, row_lines}
@@ -32,24 +31,6 @@ shows-next form n left next before mid after line row read is shown kept = (
     Appends-kept before mid after _ shown.1.1 kept,
   ),
 )
-
--- a fault of the row is that of the line
-pub row-fault : (n : ℕ) (left next : Option (List ℕ)) (line : List ℕ) (e : Fault)
-    → ReadsNext left true line next
-    → (is_outside e ≡ true) ⊎ (row_in n line ≡ Err e)
-    → (is_outside e ≡ true) ⊎ IsNext line_message n left next (Err e)
-row-fault n left next line e read (inl out) = inl out
-row-fault n left next line e read (inr is) =
-    inr (next-has (λ k l. message_of_row k (row_in k l)) n left next line (Err e) read (ap (message_of_row n) is))
-
-pub message-fault : (n : ℕ) (left next : Option (List ℕ)) (line : List ℕ) (row : List (List ℕ) × Option (List ℕ)) (e : Fault)
-    → ReadsNext left true line next
-    → row_in n line ≡ Ok row
-    → (is_outside e ≡ true) ⊎ (message_of_row n (Ok row) ≡ Err e)
-    → (is_outside e ≡ true) ⊎ IsNext line_message n left next (Err e)
-message-fault n left next line row e read row_is (inl out) = inl out
-message-fault n left next line row e read row_is (inr is) =
-    inr (next-has (λ k l. message_of_row k (row_in k l)) n left next line (Err e) read (ap (message_of_row n) row_is ∙ is))
 
 -- ---- of the lines so far
 
@@ -110,12 +91,6 @@ passed-shown form n first left before after h = record { rows = h.rows; printed 
 
 -- ---- of one row
 
-outside_at : (n : ℕ) (e : Fault) → is_outside e ≡ true → is_outside (at_line n e) ≡ true
-outside_at n faults.ReadFault h = refl
-outside_at n faults.OutOfMemory h = refl
-outside_at n faults.WriteFault h = refl
-outside_at n _ h = absurd (cc)
-
 pub shows-row : (form : Values) (n : ℕ) (columns kept : List (List ℕ)) (datagram octets : List ℕ) (before after : Option (List ℕ))
     → columns ≡ kept
     → datagram ≡ octets
@@ -127,22 +102,6 @@ shows-row form n columns kept datagram octets before after same is shown =
       Some (columns, shown.0),
       (ap (with_columns n columns) shown.1.0, subst (Appends before after) (sym (append-nil (message_lines form columns shown.0))) shown.1.1),
     ))
-
-shown_fault_by : (n : ℕ) (columns : List (List ℕ)) (octets : List ℕ) (e : Fault) (out : Bool)
-    → is_outside e ≡ out
-    → (is_outside e ≡ false → read_as (reading octets) ≡ Err e)
-    → (is_outside (at_line n e) ≡ true) ⊎ (message_of_row n (Ok (columns, Some octets)) ≡ Err (at_line n e))
-shown_fault_by n columns octets e true is h = inl (outside_at n e is)
-shown_fault_by n columns octets e false is h = inr (ap (with_columns n columns) (h is))
-
-pub shown-fault : (n : ℕ) (columns : List (List ℕ)) (datagram octets : List ℕ) (e fault : Fault)
-    → datagram ≡ octets
-    → (is_outside e ≡ false → read_as (reading datagram) ≡ Err e)
-    → fault ≡ at_line n e
-    → (is_outside fault ≡ true) ⊎ (message_of_row n (Ok (columns, Some octets)) ≡ Err fault)
-shown-fault n columns datagram octets e fault is h at =
-    subst (λ f. (is_outside f ≡ true) ⊎ (message_of_row n (Ok (columns, Some octets)) ≡ Err f)) (sym at)
-    (shown_fault_by n columns octets e (is_outside e) refl (subst (λ o. is_outside e ≡ false → read_as (reading o) ≡ Err e) is h))
 
 -- an error that `?` hands on
 pub err-on : {A : Type 0} (r : Result A Fault) (e : Fault) (Q : Fault → Type 0) → IsErrAnd r (λ x. x ≡ e) → Q e → IfErr r Q

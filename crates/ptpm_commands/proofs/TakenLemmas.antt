@@ -1,13 +1,13 @@
 -- Lines that are taken one by one come to what they come to together.
 use Rattle.std.proofs.Common.{◌≡◌, ◌⊎◌, inl, inr, ℕ, ◌+◌, ◌-◌, ◌^◌, ◌≤◌, ◌++◌, List, [], ◌∷◌, length, true, false, None, Some, Option, Result, Ok, Err, IfSome, IsErrAnd, is_some, refl, sym, ap, subst, ◌∙◌, append_assoc, append-nil, arith}
-use Rattle.std.proofs.lemmas.Bool.{cond-false, cond-true, false≢true}
+use Rattle.std.proofs.lemmas.Bool.{cond-false, false≢true}
 use Rattle.std.specs.Io.KnownBytes.{Appends}
 use Rattle.std.specs.Option.{option_to_list}
-use Rattle.ptpm_text.specs.Lines.{BothKnown, LeavesLong, ReadsNext, begins_long, whole_lines}
+use Rattle.ptpm_text.specs.Lines.{BothKnown, ReadsNext, begins_long, whole_lines}
 use Rattle.ptpm_commands.specs.declared.faults.Fault.{Fault}
 use Rattle.ptpm_commands.specs.declared.faults.Fault.TheVariants as faults
 use Rattle.ptpm_commands.specs.Faults.{IsAtLine, is_of_line, is_outside}
-use Rattle.ptpm_commands.specs.Lines.{FailsNext, datagram_in}
+use Rattle.ptpm_commands.specs.Lines.{datagram_in}
 use Rattle.ptpm_commands.specs.Taken.{HasNumbers, HasTaken, IsLast, IsNext, Taken, good, good_first, line_datagram, taken, taken_first, unless_long}
 
 pub known-itself : (a : Option (List ℕ)) → IfSome a (λ xs. a ≡ Some xs)
@@ -29,20 +29,6 @@ pub next-last : (a b : Option (List ℕ)) (line : List ℕ) → ReadsNext a fals
 next-last None b line h = tt
 next-last (Some xs) None line h = absurd h
 next-last (Some xs) (Some ys) line h = h.1
-
-next_long : {A : Type 0} (f : ℕ → List ℕ → Result (Option A) Fault) (n : ℕ) (a b : Option (List ℕ)) (e : Fault)
-    → e ≡ faults.LineTooLong n
-    → LeavesLong a b
-    → IsNext (λ k l. unless_long k l.1 (f k l.0)) n a b (Err e)
-next_long f n None b e is h = tt
-next_long f n (Some xs) None e is h = absurd h
-next_long f n (Some xs) (Some ys) e is h = (h.0, (h.1.0, cond-true _ _ _ h.1.1 ∙ ap Err (sym is)))
-
-pub next-fails : {A : Type 0} (f : ℕ → List ℕ → Result (Option A) Fault) (n : ℕ) (a b : Option (List ℕ)) (e : Fault)
-    → FailsNext n a b e
-    → (is_outside e ≡ true) ⊎ IsNext (λ k l. unless_long k l.1 (f k l.0)) n a b (Err e)
-next-fails f n a b e (inl out) = inl out
-next-fails f n a b e (inr h) = inr (next_long f n a b e h.0 h.1)
 
 -- ---- from the first line on
 
@@ -183,14 +169,6 @@ first-fault has text values n (Some xs) first left next before mid after e known
     let is = fault_here has values n xs left next e (from_first has values n xs first left known h) fault inside in
     let end : Appends before after (text values) = subst (λ o. Appends before o (text values)) (sym (same (is_of_the_line n e at inside))) wrote in
     (ap fault_of is, subst (λ vs. Appends before after (text vs)) (sym (ap values_of is)) end)
-
--- the call that ended before a line was read
-pub failed-before : {A : Type 0} (has : ℕ → List ℕ × List ℕ → Result (Option A) Fault) (text : List A → List ℕ) (known before after : Option (List ℕ)) (e : Fault)
-    → is_outside e ≡ true
-    → IfSome known (λ xs. HasNumbers xs → is_outside e ≡ false
-    → ((taken has 1 (whole_lines xs)).fault ≡ Some e) × Appends before after (text (taken has 1 (whole_lines xs)).values))
-failed-before has text None before after e out = tt
-failed-before has text (Some xs) before after e out = λ few inside. absurd (false≢true (sym inside ∙ out))
 
 -- ---- where lines with a fault are passed over
 

@@ -1,7 +1,6 @@
 -- What is printed, one piece after another.
 use Rattle.std.proofs.Common.{◌≡◌, ◌==◌, ◌≤◌, ℕ, false, length, map, take, List, [], ◌∷◌, ◌++◌, ◌+◌, None, Some, Ok, Option, refl, sym, ap, ◌∙◌, subst, append_assoc, append-nil, codes, flat_map}
-use Rattle.std.proofs.KnownBytes.{Appends-kept, Appends-nil, Appends-trans}
-use Rattle.std.proofs.lemmas.Grind.{flat_map-append}
+use Rattle.std.proofs.KnownBytes.{Appends-kept, Appends-trans}
 use Rattle.std.proofs.lemmas.List.{take_all}
 use Rattle.std.proofs.lemmas.List.Folds.{flat_map-map}
 use Rattle.std.specs.Int.{to_be_bytes, w16}
@@ -9,16 +8,14 @@ use Rattle.std.specs.Io.KnownBytes.{Appends, Keeps}
 use Rattle.ptpm_agent.specs.Turn.{Clock, State, turn}
 use Rattle.arrayvec.specs.ArrayVec.{ArrayVec}
 use Rattle.ptpm_codec.specs.declared.message.Action.TheVariants as actions
-use Rattle.ptpm_codec.specs.declared.message.Message.{Message}
 use Rattle.ptpm_data.specs.ManagementId.{RowValue, has_action, id_table, row_of}
 use Rattle.ptpm_table.specs.Outbox.{sent}
 use Rattle.ptpm_commands.specs.Answer.{answered, answered_each, sent_line, sent_lines, state_behind}
 use Rattle.ptpm_commands.specs.Ids.{id_line, letter, row_line, scope_text, table_lines}
-use Rattle.ptpm_commands.specs.declared.show.Values.{Values}
-use Rattle.ptpm_commands.specs.Show.{AreShown, message_lines, named_line, row_lines}
+use Rattle.ptpm_commands.specs.Show.{named_line}
 use Rattle.ptpm_text.specs.OctetText.{text_of_octets}
 use Rattle.ptpm_commands.specs.Taken.{IsNext, line_datagram}
-use Rattle.ptpm_commands.proofs.TakenLemmas.{Reaches, reaches-first, reaches-next}
+use Rattle.ptpm_commands.proofs.TakenLemmas.{Reaches, reaches-next}
 
 -- ---- at a clock
 
@@ -40,14 +37,6 @@ pub record Answers (c : Clock) (first : State) (number : ℕ) (known left before
   pub reaches : Reaches line_datagram datagrams number known left
   pub printed : Appends before after (answered_each c first datagrams)
   pub stands : state_behind c first datagrams ≡ now
-
-pub answers-none : (c : Clock) (first : State) (known before : Option (List ℕ)) → Answers c first 1 known known before before first
-answers-none c first known before = record {
-  datagrams = [];
-  reaches = reaches-first line_datagram known;
-  printed = Appends-nil before;
-  stands = refl;
-}
 
 answers-more : (c : Clock) (first now next : State) (n : ℕ) (known left others before mid after : Option (List ℕ)) (d : List ℕ)
     → Answers c first n known left before mid now
@@ -142,23 +131,3 @@ unfolding row_of
 all-rows = refl
 
 -- ---- messages that are shown
-
-pub shown-none : (form : Values) (before : Option (List ℕ)) → AreShown form before before
-shown-none form before = record { rows = []; printed = Appends-nil before }
-
-pub shown-one : (form : Values) (before after : Option (List ℕ)) (columns : List (List ℕ)) (m : Message)
-    → Appends before after (message_lines form columns m)
-    → AreShown form before after
-shown-one form before after columns m wrote = record {
-  rows = (columns, m) ∷ [];
-  printed = subst (Appends before after) (sym (append-nil (message_lines form columns m))) wrote;
-}
-
-pub shown-both : (form : Values) (a b c : Option (List ℕ)) → AreShown form a b → AreShown form b c → AreShown form a c
-shown-both form a b c p q = record {
-  rows = p.rows ++ q.rows;
-  printed = subst (Appends a c) (sym (flat_map-append (row_lines form) p.rows q.rows)) (Appends-trans a b c _ _ p.printed q.printed);
-}
-
-pub shown-kept : (form : Values) (a b c : Option (List ℕ)) → AreShown form a b → Keeps b c → AreShown form a c
-shown-kept form a b c p kept = record { rows = p.rows; printed = Appends-kept a b c _ p.printed kept }

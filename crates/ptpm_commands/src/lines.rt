@@ -62,6 +62,7 @@ impl<R: Read + Drop> Lines<R> {
     }
 
     /// The columns and the datagram of the line that was read last, which has this number.
+    #[tactic(auto, using(crate::proofs::CellLemmas::row_laws))]
     pub(crate) fn row(&self, alloc: Global, number: u64) -> Result<Row<'_>, Fault>
         ensures row { IfOk result (λ row. row_in number (latest_line self.now) ≡ Ok (row_value row)) }
         ensures line { IfErr result (λ e. IsAtLine number e) }
@@ -75,6 +76,7 @@ impl<R: Read + Drop> Lines<R> {
     }
 
     /// The datagram of the line that was read last, which has this number; `None` if the line is `nothing`.
+    #[tactic(auto, using(crate::proofs::CellLemmas::datagram_laws))]
     pub fn datagram(&self, alloc: Global, number: u64) -> Result<Option<Vec<u8>>, Fault>
         ensures datagram { IfOk result (λ d. datagram_in number (latest_line self.now) ≡ Ok (option_map (λ v. v.items) d)) }
         ensures line { IfErr result (λ e. IsAtLine number e) }

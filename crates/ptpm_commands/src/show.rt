@@ -300,6 +300,7 @@ fn show_rest<O: Write>(message: &View<'_>, out: &mut O) -> io::Result<()>
 }
 
 /// sdoId, of 12 bits, in three hexadecimal digits.
+#[tactic(auto, using(std::proofs::lemmas::Fmt::hex_one_digit))]
 fn show_sdo<O: Write>(sdo: u16, out: &mut O) -> io::Result<()>
     requires { sdo ≤ 4095 }
     ensures { OnOk result (Appends (O.contents out.old) (O.contents out.new) (sdo_line sdo)) }

@@ -16,6 +16,7 @@ use Rattle.ptpm_data.specs.Changes.{applied, changed_at, changed_by, unless_refu
 use Rattle.ptpm_data.specs.Rights.{no_rights}
 use Rattle.ptpm_data.specs.DataField.{data_field_of, field_of_row}
 use Rattle.ptpm_data.specs.Replies.{answer, named_ports, outcome, reply_of, reply_to, is_get, read_reply_to}
+use Rattle.ptpm_data.proofs.AnswerCounts.{new_few, read_few}
 
 pub no_entry : {r : Option ManagementIdRow} {e : Option RowValue} → option_map row_value r ≡ e → r ≡ None → e ≡ None
 no_entry {r = None} is gone = sym is
@@ -130,3 +131,7 @@ pub read_reply_to-parts : (q : RequestValue) (d : DataSetsValue)
     → record { action = reply_action q.action; id = q.id; answers = (read_reply_to q d).answers } ≡ read_reply_to q d
 unfolding read_reply_to reply_of
 read_reply_to-parts q d = refl
+
+pub ruleset decide_laws = (reply_to-parts, new_few)
+
+pub ruleset read_laws = (read_reply_to-parts, read_few)

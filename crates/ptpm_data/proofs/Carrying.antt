@@ -49,3 +49,5 @@ applied-ports layout q _ d = refl
 pub none_from : {r s : Option ErrorId} {b : Bool} → r ≡ s → is_some r ≡ not b → b ≡ true → s ≡ None
 none_from {r = None} e is holds = cc
 none_from {r = Some x} e is holds = cc
+
+pub ruleset carry_out_laws = (suits_from, none_from, applied-ports)

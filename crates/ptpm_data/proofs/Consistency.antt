@@ -25,7 +25,7 @@ use Rattle.ptpm_data.specs.Observation.{observed}
 use Rattle.ptpm_data.specs.SetField.{octet}
 use Rattle.ptpm_data.proofs.Carrying.{Suits, length-named_changed}
 use Rattle.ptpm_data.proofs.Keeping.{changed_by-all}
-use Rattle.ptpm_data.proofs.Observed.{observed-all}
+use Rattle.ptpm_data.proofs.Observed.{observed-all, observed-exact, observed-stays, observed-refused, observed-identity, observed-ports, observed-disabled, observed-sized}
 use Rattle.ptpm_data.proofs.Observing.{consistent}
 use Rattle.ptpm_data.proofs.Ranging.{ports_changed, set_in_range}
 
@@ -168,3 +168,5 @@ pub observed-consistent : (o : ClockObservation) (ports : List PortObservation) 
     → IsConsistent d
     → IsConsistent (observed o ports d)
 observed-consistent o ports d before = observed-all IsConsistent o ports d before (λ accepted. consistent o ports d accepted before)
+
+pub ruleset observation_laws = (observed-exact, observed-stays, observed-refused, observed-identity, observed-ports, observed-disabled, observed-sized, observed-consistent)

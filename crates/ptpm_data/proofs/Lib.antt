@@ -10,9 +10,7 @@ pub mod FieldSizes
 pub mod ReplyLemmas
 pub mod Keeping
 pub mod AnswerCounts
-pub mod Getting
 pub mod Setting
-pub mod Following
 pub mod OwnFields
 pub mod OwnOctets
 pub mod PlainMap

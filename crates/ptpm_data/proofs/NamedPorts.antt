@@ -125,3 +125,5 @@ pub map_over_all : (change : PortDataSet → PortDataSet) (old new : List PortDa
     → new ≡ map change (take i old) ++ drop i old
     → new ≡ map change old
 map_over_all change old new i past e = e ∙ rw (take_all i old past, drop_all i old past, append-nil) refl
+
+pub ruleset named_ports_laws = (named_ports-every, named_ports-one)

@@ -10,7 +10,8 @@ use Rattle.ptpm_data.specs.Members.{DataSetsValue, IsConsistent, is_grandmaster}
 use Rattle.ptpm_data.specs.Observation.{accepted_observation, default_after, disables, disables_one, is_left_disabled, left_disabled, observation_refusal, parent_after, port_after, ports_after, time_after}
 use Rattle.ptpm_data.specs.Ranges.{is_clock_accuracy}
 use Rattle.ptpm_data.proofs.Ranging.{ports_observed}
-use Rattle.ptpm_data.proofs.StartLemmas.{passes, precedence_sound}
+use Rattle.ptpm_data.proofs.StartLemmas.{passes, precedence_sound, unless_ok}
+use Rattle.ptpm_codec.proofs.BufferLaws.{refilled}
 
 module _ (o : PortObservation) (p : PortDataSet) where
   disables_next : (os : List PortObservation) (ports : List PortDataSet) (i : ℕ)
@@ -134,3 +135,5 @@ module _ (o : ClockObservation) (ports : List PortObservation) (d : DataSetsValu
     ports = ports_observed ports d.ports before.ports;
     grandmaster = own_precedence;
   }
+
+pub ruleset observe_laws = (unless_ok, has_places, refilled, ports_after-length, consistent)

@@ -1,5 +1,5 @@
 -- An accepted SET is answered by its own octets.
-use Rattle.std.proofs.Common.{◌≡◌, ◌∙◌, arith, refl, ap, subst, ℕ, zero, suc, ◌+◌, ◌-◌, ◌<◌, ◌≤◌, ◌==◌, Bool, true, false, not, ◌||◌, if◌then◌else◌, List, [], ◌∷◌, length, map, slice_get, Option, Some, None}
+use Rattle.std.proofs.Common.{◌≡◌, ◌∙◌, arith, refl, ap, subst, ℕ, zero, suc, ◌+◌, ◌-◌, ◌<◌, ◌≤◌, ◌==◌, Bool, true, false, if◌then◌else◌, List, [], ◌∷◌, length, map, slice_get, Option, Some, None}
 use Rattle.std.specs.Prelude.{⊤}
 use Rattle.std.specs.List.{All, enumerate_from, filter, range_with_len}
 use Rattle.std.specs.Option.{option_map}
@@ -90,9 +90,6 @@ is_settable layouts.NullPtpManagement = true
 is_settable layouts.UserDescription = true
 is_settable layouts.UtcProperties = true
 is_settable layout = has_one_number layout
-
-abbrev sets_what_it_holds : RowValue → Bool
-sets_what_it_holds e = not (has_action actions.Set e.actions) || is_settable e.layout
 
 settable : (id : ℕ) (e : RowValue)
     → row_of id ≡ Some e

@@ -42,9 +42,6 @@ get_accepted q rights a = grind (arith, found, table_gets, then_get, permitted)
 
 -- ---- the same answers as a GET's
 
-abbrev as_set : RequestValue → RequestValue
-as_set q = record { action = actions.Set; id = q.id; port = q.port; octets = q.octets }
-
 pub set_read_back : (q : RequestValue) (rights : Rights) (d : DataSetsValue)
     → IsAcceptedSet q rights
     → reply_to q rights d ≡ read_reply_to (get_of q) (changed_by q rights d)

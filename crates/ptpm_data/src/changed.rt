@@ -246,6 +246,7 @@ impl DataSets {
     }
 
     /// The members of a port whose values were others before.
+    #[tactic(auto, using(crate::proofs::Differing::of_neither, crate::proofs::Differing::none_told, crate::proofs::Differing::of_the_former, crate::proofs::Differing::some_told, crate::proofs::Differing::of_the_latter))]
     fn port_changed_since(&self, before: &DataSets, port: u16) -> PortMembers
         ensures { result ≡ port_changed before.now self.now port }
     {

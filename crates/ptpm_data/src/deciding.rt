@@ -25,6 +25,7 @@ impl DataSets {
     /// 3. NOT_SUPPORTED: the manager lacks the right that the request needs.
     /// 4. WRONG_LENGTH: the dataField of a SET or COMMAND has not the size of the id's.
     /// 5. WRONG_VALUE: a SET's value is out of range.
+    #[tactic(auto, using(crate::proofs::Answering::decide_laws))]
     pub fn decide(&mut self, request: &Request<'_>, rights: Rights) -> Reply
         requires action { IsRequestAction request.now.action }
         requires port { IsTargetPort request.now.port self.old }

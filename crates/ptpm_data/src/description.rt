@@ -47,6 +47,7 @@ impl Description {
     }
 
     /// The text.
+    #[tactic(auto, using(crate::proofs::DescriptionLaws::text_laws))]
     pub(crate) fn text(&self) -> &[u8]
         ensures value { result.now ≡ self.now }
         ensures small { length result.now ≤ 128 }

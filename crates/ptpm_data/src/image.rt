@@ -122,6 +122,7 @@ fn put_time_properties_data_set(image: &mut Image, set: &TimePropertiesDataSet)
     );
 }
 
+#[tactic(auto, using(crate::proofs::ImageLemmas::ports_more, std::proofs::lemmas::List::take_all), unfolding(crate::specs::Image::ports_image))]
 fn put_ports(image: &mut Image, ports: &[PortDataSet])
     requires { array_vec_len image.old + 15 * length ports.now ≤ DATA_SETS_OCTETS }
     ensures { image.new.items ≡ image.old.items ++ ports_image ports.now }

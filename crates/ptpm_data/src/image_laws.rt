@@ -12,6 +12,7 @@ use crate::laws::{identity_law, port_identity_law};
 use crate::port_settings::settings_law;
 
 /// No two data sets have the same octets, whatever comes after them.
+#[tactic(auto, using(crate::proofs::OneImage::one_image))]
 pub fn image_law()
     ensures { (d e : DataSetsValue) (r s : List ℕ) → IsConsistent d → IsConsistent e → DataSetsFit d → DataSetsFit e
         → data_sets_octets d ++ r ≡ data_sets_octets e ++ s

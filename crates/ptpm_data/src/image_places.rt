@@ -54,7 +54,7 @@ pub(crate) fn i32_at(octets: &[u8], place: usize) -> i32
     BigEndian::read_i32(&octets[place..])
 }
 
-#[tactic(auto, unfolding(crate::specs::ImageReading::i64_at))]
+#[tactic(auto, using(crate::proofs::DescriptionLaws::i64_at_laws), unfolding(crate::specs::ImageReading::i64_at))]
 pub(crate) fn i64_at(octets: &[u8], place: usize) -> i64
     requires { place + 8 ≤ length octets.now }
     ensures { result ≡ i64_at place octets.now }

@@ -44,6 +44,7 @@ pub fn id_table_law()
 /// A clock has one to eight ports, and identities of eight octets. Its own identity is not all ones. It has a text of at most
 /// 128 octets of UTF-8. Its accuracy, and what a SET can change at each port, is in its range, and not both leaps are
 /// announced. If it is its own grandmaster, its parent data set shows its own priorities and quality.
+#[tactic(auto, using(crate::proofs::StartLemmas::description_small))]
 pub fn data_sets_law(sets: &DataSets)
     ensures consistent { IsConsistent sets.now }
     ensures sized { IsSized sets.now }
@@ -54,6 +55,7 @@ pub fn data_sets_law(sets: &DataSets)
 }
 
 /// Data sets are no more than their map of members: two that have the same value at every place are equal.
+#[tactic(auto, using(crate::proofs::MapLemmas::map_decides))]
 pub fn member_map_law()
     ensures { (a : DataSetsValue)
         → (b : DataSetsValue)
@@ -62,6 +64,7 @@ pub fn member_map_law()
 {}
 
 /// The same of two clocks' data sets, whose members are only whole numbers and lists of octets.
+#[tactic(auto, using(crate::proofs::PlainMap::plain_map_decides))]
 pub fn plain_map_law(a: &DataSets, b: &DataSets)
     ensures { ((place : Place)
         → option_map plain (value_of place a.now) ≡ option_map plain (value_of place b.now))
@@ -156,6 +159,7 @@ pub fn change_law()
 /// An accepted SET is answered by the dataFields as they are after it. The reply has what a GET of the same id and target port
 /// would be answered right after it. Each answer is the SET's own octets, with reserved octets, unused flags and a text's pad
 /// as the standard has them.
+#[tactic(auto, using(crate::proofs::Setting::set_read_back, crate::proofs::OwnOctets::own_octets))]
 pub fn set_law()
     ensures read_back { (q : RequestValue) (rights : Rights) (d : DataSetsValue)
         → IsAcceptedSet q rights
@@ -191,6 +195,7 @@ pub fn grandmaster_law()
 /// What an observation changes, in terms of the map of members. A member that is observed has the observed value afterwards,
 /// and every other one stays. If the observation is refused, each stays. The clock's identity and the number of its ports stay,
 /// and so does which of its ports are disabled.
+#[tactic(auto, using(crate::proofs::Consistency::observation_laws))]
 pub fn observation_law()
     ensures observed { (o : ClockObservation) (ports : List PortObservation) (d : DataSetsValue) (place : Place)
         → observation_refusal o ports d ≡ None
@@ -218,6 +223,7 @@ pub fn observation_law()
 
 /// Take any number of observations, and then one of all the members that data sets had before. It brings these data sets back:
 /// a disabled port stayed disabled, and every member that no host observes stayed as it was.
+#[tactic(auto, using(crate::proofs::ObservingBack::observed_back))]
 pub fn observation_back_law()
     ensures { (observations : List Observation) (d : DataSetsValue)
         → IsConsistent d

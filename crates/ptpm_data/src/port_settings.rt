@@ -97,6 +97,7 @@ impl PortSettings {
 }
 
 /// An octet says each of a port's settings.
+#[tactic(auto, using(crate::proofs::SettingLemmas::said_back))]
 pub(crate) fn settings_law(settings: &PortSettings)
     ensures { (s : PortSetting) → said_of s (octet_of (settings.now s)) ≡ settings.now s }
 {

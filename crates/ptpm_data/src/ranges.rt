@@ -31,6 +31,7 @@ pub(crate) enum SetForm {
 }
 
 /// Whether the octets are UTF-8.
+#[tactic(auto, using(crate::proofs::DescriptionLaws::is_utf8_laws))]
 fn is_utf8(octets: &[u8]) -> bool
     ensures { result ≡ is_utf8 octets.now }
 {

@@ -438,6 +438,7 @@ fn judge_grandmaster(default: &DefaultDataSet, parent: &ParentDataSet) -> Result
 /// The data sets of the ports of a clock that starts so, or the first fault of the start. It is never inlined: so the stack has no
 /// room for its work when the data sets are put together.
 #[inline(never)]
+#[tactic(auto, using(crate::proofs::StartLemmas::count_sound, crate::proofs::StartLemmas::unless_ok))]
 fn judged_ports(
     clock: &ClockStart,
     ports: &[PortStart],
@@ -460,7 +461,7 @@ impl DataSets {
     /// The data sets of a clock that starts with these values, its ports numbered from 1.
     ///
     /// Refused with the first `StartError` that holds.
-    #[tactic(auto, unfolding(crate::specs::Start::start_of))]
+    #[tactic(auto, using(crate::proofs::Starting::text_fits, crate::proofs::Starting::starts_consistent), unfolding(crate::specs::Start::start_of))]
     pub fn new(clock: &ClockStart, ports: &[PortStart]) -> Result<DataSets, StartError>
         ensures { result ≡ start_of clock.now ports.now }
     {
@@ -476,7 +477,7 @@ impl DataSets {
     }
 
     /// Does what `new` does, in place. If it is refused, nothing changes.
-    #[tactic(auto, unfolding(crate::specs::Start::start_of))]
+    #[tactic(auto, using(crate::proofs::Starting::text_fits, crate::proofs::Starting::starts_consistent), unfolding(crate::specs::Start::start_of))]
     pub(crate) fn start(
         &mut self,
         clock: &ClockStart,
@@ -499,6 +500,7 @@ impl DataSets {
     /// The data sets of a clock of one port whose identity is all zeros, with this profile's defaults. They are room for others,
     /// which `restore` puts in their place.
     #[inline(never)]
+    #[tactic(auto, using(crate::proofs::Starting::blank_starts))]
     pub fn blank() -> DataSets
         ensures { result ≡ started (default_clock no_identity 0) (default_port ∷ []) }
     {

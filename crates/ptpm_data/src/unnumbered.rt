@@ -24,6 +24,7 @@ impl DataSets {
     /// Takes no memory.
     ///
     /// The conditions are those of `decide`.
+    #[tactic(auto, using(crate::proofs::Answering::read_laws))]
     pub fn read(&self, request: &Request<'_>) -> Reply
         requires action { IsRequestAction request.now.action }
         requires port { IsTargetPort request.now.port self.now }

@@ -1,5 +1,5 @@
 -- Lines that are chosen, and the parts that are written of them.
-use Rattle.ptpm_world.proofs.Common.{◌≡◌, ℕ, ◌+◌, ◌++◌, ◌<◌, Bool, true, false, List, [], ◌∷◌, Option, refl, sym, ap, subst, ◌∙◌, append_assoc, append-nil, filter, get_or, length, map, map-append, take, take_more, Appends, Appends-nil, Appends-trans, Keeps, Network, RunningNetwork, Names, NetworkValue, placed, after, described, names_of, started}
+use Rattle.ptpm_world.proofs.Common.{◌≡◌, ℕ, ◌+◌, ◌++◌, ◌<◌, Bool, true, false, List, [], ◌∷◌, Option, refl, sym, ap, subst, ◌∙◌, append_assoc, append-nil, filter, get_or, length, map, map-append, take, take_more, Appends, Appends-trans, Keeps, Network, RunningNetwork, Names, NetworkValue, placed, after, described, names_of, started}
 use Rattle.std.proofs.KnownBytes.{Appends-kept}
 use Rattle.std.specs.Prelude.{codes, cond}
 use Rattle.ptpm_draw.specs.Chosen.{chosen_of, is_chosen}
@@ -59,9 +59,6 @@ parts-more [] line text rest is =
 parts-more (l ∷ ls) line text rest (own, (others, (is, more))) =
     let next = opening line ++ rest in
     (own, (others ++ next, (ap (λ t. t ++ next) is ∙ append_assoc (opening l ++ own) others next, parts-more ls line others rest more)))
-
-pub parts-none : (a : Option (List ℕ)) → AddsParts [] a a
-parts-none a = ([], (refl, Appends-nil a))
 
 -- that of the row at a place comes after those of the rows before it
 pub parts-row : (rows : List EventRow) (place : ℕ) (row : EventRow) (a b c : Option (List ℕ)) (text : List ℕ)

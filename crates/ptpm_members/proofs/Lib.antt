@@ -3,13 +3,10 @@ pub mod Placing
 pub mod Answered
 pub mod Placed
 pub mod LineLemmas
-pub mod Clocks
 pub mod Numerals
 pub mod ParsingLemmas
 pub mod Meant
 pub mod Naming
 pub mod OneOctet
-pub mod TextBack
 pub mod SetBack
 pub mod IdNames
-pub mod IdentityLemmas

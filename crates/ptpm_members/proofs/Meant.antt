@@ -7,6 +7,7 @@ use Rattle.std.proofs.lemmas.List.{append-nil}
 use Rattle.ptpm_data.specs.ManagementId.{set_of}
 use Rattle.ptpm_data.specs.Ranges.{is_description}
 use Rattle.ptpm_members.specs.Typed.{described, escaped, if_description, meant, meant_after}
+use Rattle.std.proofs.lemmas.Str.{is_utf8-from_IsUtf8, IsUtf8-from_is_utf8}
 
 pub meant_plain : (text : List ℕ) → 0 < length text → escaped text ≡ None → meant text ≡ get_or text 0 0 ∷ meant (drop 1 text)
 unfolding meant_after
@@ -41,3 +42,7 @@ described_all f v text is = rw (← is) (described_by f (is_description (f v)) v
 pub meant_end : (text done rest : List ℕ) → rest ≡ [] → done ++ meant rest ≡ meant text → done ≡ meant text
 unfolding meant_after
 meant_end text done rest none is = sym (append-nil done) ∙ ap (λ (xs : List ℕ). done ++ meant xs) (sym none) ∙ is
+
+pub ruleset is_utf8_laws = (is_utf8-from_IsUtf8, IsUtf8-from_is_utf8)
+
+pub ruleset other_id_named_laws = (IsUtf8-from_is_utf8)

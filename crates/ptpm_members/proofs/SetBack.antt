@@ -1,38 +1,92 @@
--- What a SET may have comes back from its text.
-use Rattle.std.proofs.Common.{arith, ◌≡◌, ◌∙◌, ap, refl, ℕ, zero, suc, ◌+◌, ◌-◌, ◌*◌, ◌/◌, ◌%◌, ◌^◌, ◌<◌, ◌≤◌, ◌==◌, true, false, List, [], ◌∷◌, length, get_or, replicate, take, pos, negsuc, Some, Ok, inl, inr}
-use Rattle.std.specs.Prelude.{bit_and, bit_or, decimal, if◌then◌else◌, nat_le, not}
-use Rattle.std.specs.Fmt.{signed_decimal}
+-- A text is read back from what is shown of it.
+use Rattle.std.proofs.Common.{◌≡◌, ◌∙◌, ap, refl, ℕ, suc, ◌<◌, ◌==◌, Bool, true, false, List, [], ◌∷◌, ◌++◌, get_or, Option, Some, None, arith, zero, ◌+◌, ◌-◌, ◌*◌, ◌/◌, ◌%◌, ◌^◌, ◌≤◌, length, replicate, take, pos, negsuc, Ok, inl, inr}
+use Rattle.std.specs.Prelude.{◌&&◌, flat_map, if◌then◌else◌, nat_le, not, bit_and, bit_or, decimal}
 use Rattle.std.specs.List.{list_all, range_with_len}
-use Rattle.std.specs.Str.{all_ascii_digits, str_eq_ignore_ascii_case, str_to_ascii_lowercase}
+use Rattle.std.proofs.lemmas.Bool.{and_parts, eqb-true, cases_lt, le-leb, le-ltb, lt-ltb, ne_eqb}
+use Rattle.std.specs.Fmt.{signed_decimal}
+use Rattle.std.specs.Str.{all_ascii_digits}
 use Rattle.std.specs.Str.Parse.{digits_value}
-use Rattle.std.proofs.lemmas.Bool.{cases_lt, eqb-true, le-leb, le-ltb, lt-ltb, ne_eqb}
 use Rattle.std.proofs.lemmas.Fmt.{decimal_nonempty, digits_decimal, digits_value-decimal}
 use Rattle.std.proofs.lemmas.Int.{ints}
-use Rattle.std.proofs.lemmas.Slice.Eq.{bytes_eq-Decides}
 use Rattle.std.proofs.lemmas.Str.Parse.{not_in_digits}
+use Rattle.hex.proofs.OnLiterals.{hex_on_literals}
+use Rattle.ptpm_data.specs.Ranges.{is_description}
+use Rattle.ptpm_members.specs.Typed.{described, escaped, meant, meant_after, number_up_to, signed_number, typed}
+use Rattle.ptpm_members.specs.ValueText.{escape, is_plain, shown_octet, shown_text, value_text}
+use Rattle.ptpm_members.proofs.OneOctet.{tried, flag_back, hexadecimal_back, mechanism_back, signed_octet_back, unsigned_back}
 use Rattle.byteorder.specs.Endian.{big_bytes, big_number, twos_complement}
 use Rattle.ptpm_codec.specs.Layout.{octet}
 use Rattle.ptpm_codec.specs.PtpText.{is_ptp_text, ptp_text}
 use Rattle.ptpm_data.specs.declared.management_id.Layout.{Layout}
-use Rattle.ptpm_data.specs.declared.management_id.Layout.TheVariants as layouts
-use Rattle.ptpm_data.specs.declared.port_setting.PortSetting.TheVariants as settings
 use Rattle.ptpm_data.specs.DataField.{i16_octets}
 use Rattle.ptpm_data.specs.ManagementId.{set_of}
-use Rattle.ptpm_data.specs.Ranges.{is_description}
 use Rattle.ptpm_data.specs.Refusals.{is_set_length, is_set_value}
 use Rattle.ptpm_data.specs.SetLaws.{AreOctets, standard_field}
 use Rattle.ptpm_data.proofs.OwnFields.{text_back as field_of_text}
-use Rattle.ptpm_members.specs.declared.forms.Form.TheVariants as forms
 use Rattle.ptpm_members.specs.Names.{member_name}
 use Rattle.ptpm_members.specs.Parsed.{each_named, laid, overlay, with_all, with_named, with_value, with_words}
 use Rattle.ptpm_members.specs.RoundTrip.{IsInRange, words_of}
 use Rattle.ptpm_members.specs.Tables.{field_size, fields_of}
-use Rattle.ptpm_members.specs.Typed.{number_up_to, signed_number, typed}
-use Rattle.ptpm_members.specs.ValueText.{value_text}
 use Rattle.ptpm_members.proofs.Numerals.{own}
-use Rattle.ptpm_members.proofs.OneOctet.{flag_back, hexadecimal_back, mechanism_back, signed_octet_back, tried, unsigned_back}
-use Rattle.ptpm_members.proofs.TextBack.{text_back}
+use Rattle.ptpm_data.specs.declared.management_id.Layout.TheVariants as layouts
+use Rattle.ptpm_data.specs.declared.port_setting.PortSetting.TheVariants as settings
+use Rattle.ptpm_members.specs.declared.forms.Form.TheVariants as forms
 
+-- ---- a plain octet stands for itself, and an escape for its octet, whatever follows
+
+plain_meant : (c : ℕ) (rest : List ℕ) → (c == 0x5c) ≡ false → meant (c ∷ rest) ≡ c ∷ meant rest
+unfolding meant_after escaped
+plain_meant c rest other = rw other refl
+
+abbrev is_number : ℕ → Option ℕ → Bool
+is_number a None = false
+is_number a (Some n) = n == a
+
+number_is : (a : ℕ) (o : Option ℕ) → is_number a o ≡ true → o ≡ Some a
+number_is a None h = cc
+number_is a (Some n) h = ap (λ (x : ℕ). Some x) (eqb-true n a h)
+
+all_escapes : list_all (λ a. is_number a (escaped (escape a))) (range_with_len 0 256) ≡ true
+unfolding escaped hex_on_literals
+all_escapes = refl
+
+escape_read : (a : ℕ) (rest : List ℕ) → a < 256 → escaped (escape a ++ rest) ≡ Some a
+unfolding escaped
+escape_read a rest small = number_is a _ (tried (λ c. is_number c (escaped (escape c))) 256 a all_escapes small)
+
+escape_meant : (a : ℕ) (rest : List ℕ) → a < 256 → meant (escape a ++ rest) ≡ a ∷ meant rest
+unfolding meant_after
+escape_meant a rest small = rw (escape_read a rest small) refl
+
+-- ---- the text
+
+flipped : (b : Bool) → not b ≡ true → b ≡ false
+flipped true h = cc
+flipped false h = refl
+
+shown_by : (b : Bool) (c : ℕ) (rest : List ℕ) → is_plain c ≡ b → c < 256
+    → meant ((if b then c ∷ [] else escape c) ++ rest) ≡ c ∷ meant rest
+shown_by true c rest is small =
+    let p = and_parts (nat_le 0x20 c && nat_le c 0x7e) (not (c == 0x5c)) is in
+    plain_meant c rest (flipped _ p.1)
+shown_by false c rest is small = escape_meant c rest small
+
+octet_meant : (c : ℕ) (rest : List ℕ) → c < 256 → meant (shown_octet c ++ rest) ≡ c ∷ meant rest
+octet_meant c rest small = shown_by (is_plain c) c rest refl small
+
+text_meant : (text : List ℕ) → ((i : ℕ) → get_or text i 0 < 256) → meant (shown_text text) ≡ text
+unfolding shown_text meant_after
+text_meant [] small = refl
+text_meant (c ∷ cs) small =
+    octet_meant c (flat_map shown_octet cs) (small 0)
+    ∙ ap (λ (xs : List ℕ). c ∷ xs) (text_meant cs (λ i. small (suc i)))
+
+text_back : (text : List ℕ) → ((i : ℕ) → get_or text i 0 < 256) → is_description text ≡ true
+    → described (shown_text text) ≡ Some text
+unfolding described
+text_back text small is = rw (text_meant text small, is) refl
+
+-- What a SET may have comes back from its text.
 -- ---- numbers of two octets
 
 decimal_back : (most n : ℕ) → n ≤ most → most < 2 ^ 64 → number_up_to most (decimal n) ≡ Some n
@@ -84,9 +138,6 @@ signed_pair_back a b small_a small_b =
     word_back (big_number 2 (a ∷ b ∷ [])) (omega arith) ∙ ap (λ (xs : List ℕ). Some xs) (pair_is a b small_a small_b)
 
 -- ---- one octet and a reserved one
-
-same_name : (name : List ℕ) → str_eq_ignore_ascii_case name name ≡ true
-same_name name = (bytes_eq-Decides (str_to_ascii_lowercase name) (str_to_ascii_lowercase name)).1 refl
 
 by_two : (P : List ℕ → Type 0) → ((a b : ℕ) → P (a ∷ b ∷ [])) → (xs : List ℕ) → length xs ≡ 2 → P xs
 by_two P each [] n = absurd (omega arith)

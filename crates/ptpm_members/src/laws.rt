@@ -16,6 +16,7 @@ ghost use Rattle.ptpm_members.specs.Tables.{IsSaid, fields_of_id, is_whole_of_id
 /// whatever these are. It has as many octets as its members take, and a reserved one if that number is odd.
 ///
 /// For an id of a port, the port is one of the clock's; and the clock's members are numbers of their types.
+#[tactic(auto, using(crate::proofs::Answered::members_of, crate::proofs::Answered::whole_of))]
 pub fn member_law()
     ensures members { (id port : ℕ) (d : DataSetsValue) → IsSized d → DataSetsFit d
         → (is_of_port id ≡ true → HasPort port d)
@@ -27,6 +28,7 @@ pub fn member_law()
 
 /// Whatever a SET of an id may have comes back from its text. The words of its lines are taken for the same dataField, in which
 /// reserved octets and bits are 0.
+#[tactic(auto, using(crate::proofs::SetBack::set_back), unfolding(crate::specs::Parsed::parsed))]
 pub fn typed_again_law()
     ensures { (id : ℕ) (row : RowValue) (octets : List ℕ) → row_of id ≡ Some row
         → IsInRange row.layout octets

@@ -1,5 +1,3 @@
-pub mod TextArray
 pub mod Tellable
 pub mod Naming
 pub mod NoFloat
-pub mod Clocks

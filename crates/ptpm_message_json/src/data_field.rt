@@ -15,7 +15,7 @@ use std::alloc::{AllocError, Global};
 
 /// Puts the dataField of an id. That is `members`, an object of them by the standard's names. If the octets are no dataField of
 /// that id, or have no member, it is `dataField`, the octets in hexadecimal.
-#[tactic(auto, unfolding(crate::specs::DataField::put_data_field))]
+#[tactic(auto, using(crate::proofs::Tellable::all_tellable), unfolding(crate::specs::DataField::put_data_field))]
 pub(crate) fn put_data_field(
     alloc: Global,
     id: u16,
@@ -40,6 +40,7 @@ pub(crate) fn put_data_field(
 
 /// The members of an id's dataField, as an object by the standard's names. It is empty if the octets are no dataField of that id, or
 /// have no member.
+#[tactic(auto, using(crate::proofs::Tellable::all_tellable))]
 pub fn members_value(alloc: Global, id: u16, octets: &[u8]) -> Result<Value, AllocError>
     ensures { IfOk result (λ v. view v ≡ object (members_data octets.now (members_in id octets.now))) }
 {

@@ -5,7 +5,7 @@ use Rattle.std.specs.List.{filter_map, find}
 use Rattle.std.proofs.lemmas.List.{drop_more, drop_all}
 use Rattle.toml.specs.Data.{Data}
 use Rattle.toml.specs.View.{items_of}
-use Rattle.ptpm_plan.specs.FileText.{ClockValue, Gathers, all_of, clock_value, first_of, has_alias, list_of, numbered}
+use Rattle.ptpm_plan.specs.FileText.{ClockValue, Gathers, all_of, clock_value, first_of, has_alias, list_of}
 use Rattle.ptpm_plan.specs.declared.wish.ClockWishes.{ClockWishes}
 
 pub list_items : (ds : List Data) → list_of (items_of ds) ≡ ds
@@ -54,36 +54,6 @@ gather_first of items ds made e none =
 -- the value at a place, and those after it
 at_place : {A : Type 0} (xs : List A) (i : ℕ) (x : A) → i < length xs → x ≡ get_or xs i x → drop i xs ≡ x ∷ drop (i + 1) xs
 at_place xs i x below is = drop_more xs i x below ∙ ap (λ z. z ∷ drop (i + 1) xs) (sym is)
-
--- of each value
-pub gather_each : {A D B C : Type 0} (seen : A → D) (f : D → Option C) (value : B → C) (made : List B) (xs : List A) (i : ℕ) (x : A) (y : B)
-    → i < length xs → x ≡ get_or xs i x → f (seen x) ≡ Some (value y)
-    → before_all (map value made) (map f (map seen (drop i xs)))
-    ≡ before_all (map value (made ++ y ∷ [])) (map f (map seen (drop (i + 1) xs)))
-gather_each seen f value made xs i x y below is e =
-    ap (λ ys. before_all (map value made) (map f (map seen ys))) (at_place xs i x below is)
-    ∙ gather (map value made) (f (seen x)) (map f (map seen (drop (i + 1) xs))) (value y) e
-    ∙ ap (λ ys. before_all ys (map f (map seen (drop (i + 1) xs)))) (sym (map_push value made y))
-
-pub gathered : {A D B C : Type 0} (seen : A → D) (f : D → Option C) (value : B → C) (made : List B) (xs : List A) (i : ℕ) → length xs ≤ i
-    → before_all (map value made) (map f (map seen (drop i xs))) ≡ Some (map value made)
-gathered seen f value made xs i past =
-    ap (λ ys. before_all (map value made) (map f (map seen ys))) (drop_all i xs past) ∙ ap Some (append-nil (map value made))
-
--- of each value, by its place
-pub gather_numbered : {A D B C : Type 0} (seen : A → D) (f : ℕ → D → Option C) (value : B → C) (made : List B) (xs : List A) (i : ℕ) (x : A) (y : B)
-    → i < length xs → x ≡ get_or xs i x → f i (seen x) ≡ Some (value y)
-    → before_all (map value made) (numbered f i (map seen (drop i xs)))
-    ≡ before_all (map value (made ++ y ∷ [])) (numbered f (i + 1) (map seen (drop (i + 1) xs)))
-gather_numbered seen f value made xs i x y below is e =
-    ap (λ ys. before_all (map value made) (numbered f i (map seen ys))) (at_place xs i x below is)
-    ∙ gather (map value made) (f i (seen x)) (numbered f (i + 1) (map seen (drop (i + 1) xs))) (value y) e
-    ∙ ap (λ ys. before_all ys (numbered f (i + 1) (map seen (drop (i + 1) xs)))) (sym (map_push value made y))
-
-pub all_numbered : {A D B C : Type 0} (seen : A → D) (f : ℕ → D → Option C) (value : B → C) (made : List B) (xs : List A) (i : ℕ) → length xs ≤ i
-    → before_all (map value made) (numbered f i (map seen (drop i xs))) ≡ Some (map value made)
-all_numbered seen f value made xs i past =
-    ap (λ ys. before_all (map value made) (numbered f i (map seen ys))) (drop_all i xs past) ∙ ap Some (append-nil (map value made))
 
 -- of those values of which there is something
 found_more : {A B : Type 0} (g : A → Option (Option B)) (made more : List B) (x : A) (xs : List A) (o : Option (Option B))

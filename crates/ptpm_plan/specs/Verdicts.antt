@@ -1,5 +1,5 @@
 -- What becomes of a member that a plan asks for.
-use Rattle.std.specs.Prelude.{ℕ, ◌==◌, nat_lt, Bool, true, false, ◌&&◌, not, if◌then◌else◌, bytes_eq, List, [], Option, Some, None, Result, Ok, Err}
+use Rattle.std.specs.Prelude.{ℕ, ◌==◌, nat_lt, Bool, true, false, if◌then◌else◌, bytes_eq, List, [], Option, Some, None, Result, Ok, Err}
 use Rattle.ptpm_members.specs.FieldText.{field_text}
 use Rattle.ptpm_members.specs.declared.parsing.ParseFault.{ParseFault}
 use Rattle.ptpm_plan.specs.After.{after}

@@ -31,9 +31,6 @@ not_both : (p q : PortIdentity) → identity_cmp p q ≡ Less → identity_cmp q
 not_both p q a b =
     let back : identity_cmp p q ≡ Greater = identities_total.antisymm p q ∙ ap ordering_reverse b in absurd (cc)
 
-not_itself : (p : PortIdentity) → identity_cmp p p ≡ Less → ⊥
-not_itself p h = let e = tied_itself identities_total p in absurd (cc)
-
 true_of : (b : Bool) → T b → b ≡ true
 true_of true h = refl
 true_of false h = absurd h

@@ -17,7 +17,7 @@ use Rattle.ptpm_codec.specs.Identity.{identity_cmp}
 use Rattle.ptpm_codec.specs.Message.{IsRequestAction, PortIdentityFits, action_code, error_number, reply_action}
 use Rattle.ptpm_data.specs.ManagementId.{is_of_port}
 use Rattle.ptpm_data.specs.Reply as reply
-use Rattle.ptpm_data.specs.Reply.{Answer, Outcome, ReplyValue}
+use Rattle.ptpm_data.specs.Reply.{Answer, Outcome}
 use Rattle.ptpm_data.specs.Request.{RequestValue}
 use Rattle.ptpm_data.proofs.OneImage.{one_image}
 use Rattle.ptpm_data.proofs.PlainMap.{same_front}

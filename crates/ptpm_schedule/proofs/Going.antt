@@ -1,5 +1,5 @@
 -- What a schedule goes through, one part after another.
-use Rattle.std.proofs.Common.{◌≡◌, ◌≢◌, ◌≤◌, ◌⊎◌, inl, inr, ℕ, ◌+◌, Bool, true, false, List, [], ◌∷◌, ◌++◌, Option, ◌||◌, if◌then◌else◌, None, Some, Ok, Err, Result, codes, refl, sym, ap, ◌∙◌, subst, append_assoc, append-nil, get_or, is_none, length, length-append, map, take, ◌<◌, IfOk, IsErrAnd, OnErr, arith, option_map}
+use Rattle.std.proofs.Common.{◌≡◌, ◌≢◌, ◌≤◌, inl, inr, ℕ, ◌+◌, Bool, true, false, List, [], ◌∷◌, ◌++◌, Option, ◌||◌, if◌then◌else◌, None, Some, Ok, Err, Result, codes, refl, sym, ap, ◌∙◌, subst, append_assoc, append-nil, get_or, is_none, length, length-append, map, take, ◌<◌, IfOk, IsErrAnd, OnErr, arith, option_map}
 use Rattle.std.proofs.KnownBytes.{Appends-nil, Appends-trans}
 use Rattle.std.proofs.lemmas.Bool.{cond-true}
 use Rattle.std.proofs.lemmas.Grind.{flat_map-append}

@@ -1,12 +1,12 @@
 -- A schedule of a script that was read.
-use Rattle.std.proofs.Common.{◌≡◌, ◌≢◌, ◌≤◌, Bool, inl, inr, ℕ, ◌+◌, ◌==◌, true, false, List, [], ◌∷◌, ◌++◌, Option, None, Some, Ok, Err, Result, codes, refl, sym, ap, ◌∙◌, subst, length, map, string_bytes, IfSome, IsErrAnd, arith, count_by, if◌then◌else◌}
+use Rattle.std.proofs.Common.{◌≡◌, ◌≢◌, ◌≤◌, Bool, inl, inr, ℕ, ◌+◌, ◌==◌, true, false, List, [], ◌∷◌, ◌++◌, Option, None, Some, Err, Result, codes, refl, sym, ap, ◌∙◌, subst, map, string_bytes, IfSome, IsErrAnd, arith, count_by, if◌then◌else◌}
 use Rattle.std.proofs.KnownBytes.{Appends-trans}
 use Rattle.std.specs.Io.KnownBytes.{Appends, Keeps}
 use Rattle.std.specs.Option.{option_or}
 use Rattle.std.specs.Result.{result_err}
 use Rattle.ptpm_network.specs.Stands.{StandsAfter}
-use Rattle.ptpm_schedule.specs.Going.{Goes, HasStopped, WentOn, Wrote, asked_by, asked_in}
-use Rattle.ptpm_schedule.specs.Scheduled.{AreAsked, HasEnded, HasScheduled, IsBegun, IsScheduleOf, event_lines, fault_in, is_asked, lines_of, unasked}
+use Rattle.ptpm_schedule.specs.Going.{Goes, HasStopped, WentOn, Wrote, asked_in}
+use Rattle.ptpm_schedule.specs.Scheduled.{AreAsked, HasEnded, HasScheduled, IsBegun, IsScheduleOf, event_lines, fault_in, is_asked, unasked}
 use Rattle.ptpm_script.specs.declared.event.Event.{Event}
 use Rattle.ptpm_script.specs.declared.event.EventError.TheVariants as words
 use Rattle.ptpm_script.specs.NetworkValue.{NetworkValue}

@@ -1,5 +1,5 @@
 -- How a network goes on while a schedule is written.
-use Rattle.std.specs.Prelude.{◌≡◌, ◌≢◌, ◌≤◌, ℕ, ◌+◌, false, true, if◌then◌else◌, List, [], ◌∷◌, ◌++◌, None, Some, Ok, Err, Option, Result, flat_map, length, map, option_map}
+use Rattle.std.specs.Prelude.{◌≡◌, ◌≢◌, ◌≤◌, ℕ, ◌+◌, false, true, if◌then◌else◌, List, [], ◌∷◌, ◌++◌, None, Ok, Err, Option, Result, flat_map, length, map}
 use Rattle.std.specs.Io.KnownBytes.{Appends}
 use Rattle.ptpm_network.specs.Events as machine
 use Rattle.ptpm_network.specs.Events.{refusal}

@@ -12,10 +12,6 @@ use Rattle.ptpm_script.specs.NetworkValue.{AreDistinct}
 
 -- ---- each element
 
-pub all-of : {A : Type 0} (P : A → Type 0) → ((x : A) → P x) → (xs : List A) → AllByRecursion P xs
-all-of P f [] = tt
-all-of P f (x ∷ xs) = (f x, all-of P f xs)
-
 pub all-weaker : {A : Type 0} (P Q : A → Type 0) → ((x : A) → P x → Q x) → (xs : List A) → AllByRecursion P xs → AllByRecursion Q xs
 all-weaker P Q f [] a = tt
 all-weaker P Q f (x ∷ xs) a = (f x a.0, all-weaker P Q f xs a.1)
@@ -45,10 +41,6 @@ pub map-at : {A B : Type 0} (make : A → B) (xs : List A) (i : ℕ) (y : B) →
 map-at make [] i y e = cc
 map-at make (x ∷ xs) zero y e = (x, refl, same_Some (make x) y e)
 map-at make (x ∷ xs) (suc i) y e = map-at make xs i y e
-
-pub any-false : {A : Type 0} (test : A → Bool) (xs : List A) → list_any test xs ≡ false → AllByRecursion (λ x. test x ≡ false) xs
-any-false test [] h = tt
-any-false test (x ∷ xs) h = let both = or_parts (test x) (list_any test xs) h in (both.0, any-false test xs both.1)
 
 -- ---- nothing is brought
 

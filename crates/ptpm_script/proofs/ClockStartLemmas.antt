@@ -336,3 +336,5 @@ first-start-fault ms shape repeats names =
     let ends = flat_map (end_name_marks cs ss) (ends_of ms) in
     let past = append-none ports targets (append-none (ports ++ targets) ends names).0 in
     starts_tell cs (numbered cs (shape-sound ms shape).clocks (repeat-parts cs ss (ends_of ms) repeats).0 past.0)
+
+pub ruleset clock_start_faults_laws = (first-start-fault)

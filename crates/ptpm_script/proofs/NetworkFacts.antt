@@ -36,3 +36,5 @@ IsAccepted-prop n = hlevel (props, IsEndOf-prop)
 
 pub of_text-accepted : (n : NetworkValue) → ∥ IsOfText n ∥₁ → IsAccepted n
 of_text-accepted n t = ∥∥₁_elim t (IsAccepted-prop n) (λ s. accepted s.0 n s.1)
+
+pub ruleset network_laws = (of_text-accepted)

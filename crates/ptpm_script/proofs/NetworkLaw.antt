@@ -168,3 +168,5 @@ first_if false d = first_of d
 pub faults-found : (text : List ℕ) → first_refusal (text_marks text) ≡ result_err (network_of text)
 unfolding text_marks network_of
 faults-found text = first_if (nat_lt 262144 (length text)) (parse_document text)
+
+pub ruleset faults_found_laws = (faults-found)

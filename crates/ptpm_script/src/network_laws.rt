@@ -20,11 +20,13 @@ use crate::network::Network;
 /// A network that a text is keeps its limits. Each clock can start, with 1 to 8 ports and an identity that is not all ones.
 /// No two clocks and no two sessions have one name or one identity. No session has a clock's name or clockIdentity, and each
 /// has a target that is there. The ends of links are there, and no end is given twice.
+#[tactic(auto, using(crate::proofs::NetworkLaw::accepted))]
 pub fn accepted_networks()
     ensures { (text : List ℕ) (n : NetworkValue) → network_of text ≡ Ok n → IsAccepted n }
 {}
 
 /// Every `Network` is one that some text is, and keeps those limits.
+#[tactic(auto, using(crate::proofs::NetworkFacts::network_laws))]
 pub fn network_law(network: &Network)
     ensures of_text { ∥ IsOfText (network_value network.now) ∥₁ }
     ensures accepted { IsAccepted (network_value network.now) }
@@ -33,11 +35,13 @@ pub fn network_law(network: &Network)
 }
 
 /// A text is refused as the first fault in it says, and is a network exactly if none is found.
+#[tactic(auto, using(crate::proofs::NetworkLaw::faults_found_laws))]
 pub fn faults_found()
     ensures { (text : List ℕ) → first_refusal (text_marks text) ≡ result_err (network_of text) }
 {}
 
 /// If only starts of clocks are at fault in a file, it is refused for what the first of these starts is refused for.
+#[tactic(auto, using(crate::proofs::ClockStartLemmas::clock_start_faults_laws))]
 pub fn clock_start_faults()
     ensures { (ms : Members)
         → shape_marks ms ≡ []

@@ -11,6 +11,7 @@ use ptpm_codec::{ClockIdentity, PortIdentity};
 use toml::{Table, Value};
 
 /// The value at a key.
+#[tactic(auto, using(toml::proofs::Views::table_get))]
 pub(crate) fn value_at<'a>(table: &'a Table, key: &str) -> Option<&'a Value>
     ensures { option_map (λ v. view v.now) result ≡ get_member key.now (table_view table.now) }
 {

@@ -18,12 +18,6 @@ pub record AreMarked (f : List (Option ℕ)) (P : List ℕ) (marks : List Bool) 
   pub sound : (p : ℕ) → get_or marks p false ≡ true → is_least f p ≡ true
   pub whole : (k : ℕ) → k < length P → get_or marks (get_or P k 0) false ≡ false → is_least f (get_or P k 0) ≡ false
 
-pub AreMarked-none : (f : List (Option ℕ)) (P : List ℕ) (marks : List Bool) → length P ≡ 0 → ((p : ℕ) → get_or marks p false ≡ false) → AreMarked f P marks
-AreMarked-none f P marks none unmarked = record {
-  sound = λ p e. absurd (false≢true (sym (unmarked p) ∙ e));
-  whole = λ k lt e. absurd (omega arith);
-}
-
 -- ---- what is passed
 
 among_passed : (indices : List (Option ℕ)) (P : List ℕ) (p : ℕ) (o : Option ℕ) → AreNumbered indices P → get_or indices p None ≡ o → is_some o ≡ true → IsAmong P p

@@ -45,9 +45,6 @@ IsGrown-clock marks rows p depth h within none q =
     ∙ sym (ap (λ b. cond b 1 0) (get_or-set_other marks p q true false other)))
     (cases_eq p q)
 
-pub IsGrown-not_seen : (marks : List Bool) (rows : List TreeRow) (domain : Domain) (parent : PortIdentity) → IsGrown marks rows → IsGrown marks (rows ++ row.NotSeen domain parent ∷ [])
-IsGrown-not_seen marks rows domain parent h q = rows_at-not_seen rows domain parent q ∙ h q
-
 -- the same, with the marks covered first
 pub IsGrown-more : (old_marks covered marks : List Bool) (old_rows rows : List TreeRow) (p depth : ℕ)
     → IsGrown old_marks old_rows

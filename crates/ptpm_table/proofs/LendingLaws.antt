@@ -20,7 +20,7 @@ use Rattle.ptpm_codec.specs.Identity.{identity_cmp, same_identity}
 use Rattle.ptpm_codec.specs.Message.{BodyFits, PortIdentityFits, error_number}
 use Rattle.ptpm_codec.specs.declared.message.Action.{Action}
 use Rattle.ptpm_data.specs.Reply as reply
-use Rattle.ptpm_data.specs.Reply.{Answer, Outcome, ReplyValue}
+use Rattle.ptpm_data.specs.Reply.{Outcome, ReplyValue}
 use Rattle.ptpm_data.specs.Request.{RequestValue}
 use Rattle.ptpm_table.specs.declared.heard.Heard.{Heard}
 use Rattle.ptpm_table.specs.Sending.{IsSentReply}
@@ -34,6 +34,7 @@ use Rattle.ptpm_table.specs.declared.slot.Slot.{Slot}
 use Rattle.ptpm_table.proofs.Identities.{identities_total, same_identity-comm, same_identity-refl}
 use Rattle.ptpm_table.proofs.Maps.{get_entry}
 use Rattle.ptpm_table.proofs.Slots.{found_manager, get_used, known_slot, none_used}
+use Rattle.std.proofs.lemmas.List.Sums.{count_by-le-length}
 
 -- ---- the first slot
 
@@ -354,3 +355,5 @@ pub used_count : (ss : List Slot)
     → has_twice (identities (configured ss)) ≡ false
     → len (from_entries {R = identity_cmp} (used ss)) ≡ count_by (λ s. s.taken) ss
 used_count ss distinct = len_used ss distinct ∙ used_length ss
+
+pub ruleset count_used_laws = (used_count, count_by-le-length)

@@ -4,9 +4,7 @@ pub mod Identities
 pub mod Maps
 pub mod Fitting
 pub mod Slots
-pub mod FewAnswers
 pub mod KeptMessageLaws
 pub mod SentLaws
 pub mod LendingLaws
-pub mod IdentityOrder
 pub mod InOrderLaws

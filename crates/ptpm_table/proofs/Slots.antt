@@ -172,11 +172,6 @@ clock_at clock (s ∷ ss) (suc i) d inside own = clock_at clock ss i d (omega ar
 
 -- ---- making
 
--- a table without managers has no slot in use
-pub none_configured : (ss : List Slot) → identities (configured ss) ≡ [] → ss ≡ []
-none_configured [] none = refl
-none_configured (s ∷ ss) none = absurd (cc)
-
 -- one more slot without an entry
 pub used_more : (ss : List Slot) (s : Slot)
     → s.taken ≡ false

@@ -43,6 +43,7 @@ impl<'a> Model for LentEntries<'a> {
 
 impl<'a> LentEntries<'a> {
     /// How many there are.
+    #[tactic(auto, using(crate::proofs::InOrderLaws::count_at))]
     pub fn count(&self) -> usize
         ensures count { result ≡ length self.now }
         ensures few { result ≤ 16 }

@@ -82,6 +82,7 @@ pub(crate) fn resend_each<O: Outgoing>(
 }
 
 /// Appends the canonical spelling of a draft, and its size.
+#[tactic(auto, using(crate::proofs::KeptMessageLaws::canonical_length))]
 fn append_message(draft: &Draft<'_>, sizes: &mut Sizes, messages: &mut Messages)
     requires valid { IsValid draft.now }
     requires small { 48 + length (tlv_octets draft.now.body) ≤ 184 }

@@ -97,6 +97,7 @@ impl PlainTable {
         }
     }
 
+    #[tactic(auto, using(crate::proofs::Maps::get_entry))]
     fn find(&self, who: &PortIdentity) -> Option<&Kept>
         ensures { option_copied result
             ≡ fin.get (fin.from_entries {R = identity_cmp} self.now.kept.entries) who.now }
@@ -135,6 +136,7 @@ impl ReplyTable for PlainTable {
         }
     }
 
+    #[tactic(auto, using(crate::proofs::Maps::one_entry))]
     fn keep(
         &mut self,
         who: &PortIdentity,
@@ -159,6 +161,7 @@ impl ReplyTable for PlainTable {
         }
     }
 
+    #[tactic(auto, using(crate::proofs::Fitting::fitting_action, crate::proofs::Fitting::fitting_even))]
     fn resend(&self, heard: &Heard, ingress: u16, out: &mut Outbox) {
         match self.find(&heard.source) {
             Some(kept) => render(&self.clock, heard, &kept.reply, ingress, out),

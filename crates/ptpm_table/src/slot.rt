@@ -172,6 +172,7 @@ impl Kept {
     }
 
     /// The request, with its dataField lent. The reply to it has eight messages at most.
+    #[tactic(auto, using(crate::proofs::KeptMessageLaws::length_answers))]
     pub(crate) fn request(&self) -> Request<'_>
         ensures request { result ≡ self.now.entry.request }
         ensures few { length self.now.entry.reply.answers ≤ 8 }
@@ -196,6 +197,7 @@ impl Kept {
     }
 
     /// How many answers the reply has.
+    #[tactic(auto, using(crate::proofs::KeptMessageLaws::length_answers))]
     pub(crate) fn answer_count(&self) -> usize
         ensures { result ≡ length self.now.entry.reply.answers }
     {

@@ -152,6 +152,7 @@ pub(crate) fn put_sent<O: Outgoing>(
 }
 
 /// How many slots are in use.
+#[tactic(auto, using(crate::proofs::LendingLaws::count_used_laws))]
 pub(crate) fn count_used(slots: &[Slot]) -> usize
     requires { has_twice (identities (configured slots.now)) ≡ false }
     ensures count { result ≡ fin.len (fin.from_entries {R = identity_cmp} (used slots.now)) }

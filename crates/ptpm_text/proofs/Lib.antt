@@ -1,4 +1,2 @@
-mod WordLemmas
-mod OctetTextLemmas
 mod LineLemmas
 pub mod NextLine

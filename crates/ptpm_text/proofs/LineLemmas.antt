@@ -9,6 +9,8 @@ use Rattle.ptpm_text.specs.Lines.{BothKnown, given}
 use Rattle.std.specs.Io.{StartsWith}
 use Rattle.std.specs.Io.BufRead.{DropsConsumable}
 use Rattle.std.proofs.BufReadLemmas.{Consumes_shown}
+use Rattle.std.proofs.lemmas.Str.{is_utf8-from_IsUtf8, IsUtf8-from_is_utf8}
+use Rattle.std.proofs.KnownBytes.{Consumes-kept, Consumes-nil}
 
 pub some_there : {X : Type 0} (x : X) → ◌≡◌ {A = Option X} (Some x) None → ⊥
 some_there x h = cc
@@ -119,6 +121,6 @@ octet-none None b shown h end kept = tt
 octet-none (Some xs) None shown h end kept = absurd kept
 octet-none (Some xs) (Some ys) shown h end kept = kept ∙ end (shown_none shown h)
 
-pub empty_is : (l : List ℕ) → length l ≡ 0 → l ≡ []
-empty_is [] h = refl
-empty_is (x ∷ xs) h = absurd (omega (arith, h))
+pub ruleset text_laws = (is_utf8-from_IsUtf8, IsUtf8-from_is_utf8)
+
+pub ruleset next_octet_laws = (Consumes-kept, Consumes-nil, octet-none, octet-some)

@@ -1,14 +1,14 @@
 -- The next line of what a reader has left.
-use Rattle.std.proofs.Common.{◌≡◌, ℕ, ◌<◌, ◌≤◌, ◌+◌, ◌++◌, List, [], ◌∷◌, suc, zero, length, length-append, Bool, true, false, None, Some, refl, sym, ap, subst, ◌∙◌, append_assoc, append-nil, arith, Option, cond, get_or, option_map, take, ◌==◌}
+use Rattle.std.proofs.Common.{◌≡◌, ℕ, ◌<◌, ◌≤◌, ◌+◌, ◌++◌, List, [], ◌∷◌, suc, zero, length, length-append, Bool, true, false, None, Some, refl, sym, ap, ◌∙◌, append_assoc, append-nil, arith, Option, cond, get_or, option_map, take, ◌==◌}
 use Rattle.std.proofs.lemmas.Bool.{cond-false, cond-true, eqb-true, lt-ltb}
 use Rattle.std.proofs.lemmas.List.{length-take, take_all, take-append-le, take_more}
-use Rattle.std.specs.Io.KnownBytes.{Consumes, IsAtEnd, Keeps, prepend_known}
+use Rattle.std.specs.Io.KnownBytes.{Consumes, IsAtEnd, prepend_known}
 use Rattle.std.specs.Prelude.{IfSome, OnSome, zip}
 use Rattle.std.specs.Str.Lines.{strip_carriage_return}
 use Rattle.ptpm_text.specs.Lines.{whole_lines, LeavesLong, ReadsNext, begins_long, is_long, left_of}
 use Rattle.memchr.specs.Find.{IsFirstByte, is_byte}
 use Rattle.std.specs.Io.{StartsWith}
-use Rattle.std.specs.Io.BufRead.{DropsConsumable, DropsThrough, drop_through}
+use Rattle.std.specs.Io.BufRead.{DropsConsumable, drop_through}
 use Rattle.std.proofs.BufReadLemmas.{Consumes_shown}
 use Rattle.std.proofs.lemmas.Bool.Decides.{nat_tests}
 use Rattle.ptpm_text.proofs.LineLemmas.{IsRead, NoFeed, last_line, line_ends, no_feed-more, one_part, part_ends}
@@ -130,26 +130,11 @@ leaves-long (Some xs) (Some ys) first octet line h e free long =
     let w = behind ys l (no_feed-more line octet free e) (omega arith) in
     (w.0, (ap whole_lines (h ∙ sym (append_assoc line (octet ∷ []) ys)) ∙ w.1.0, is_longer l w.0.1 over w.1.1))
 
--- octets are some line
-pub some-whole : (x : ℕ) (xs : List ℕ)
-    → (line : List ℕ × List ℕ) × ((rest : List (List ℕ × List ℕ)) × (whole_lines (x ∷ xs) ≡ line ∷ rest))
-some-whole x xs =
-    elim (x == 10) as (λ b. (x == 10) ≡ b → (line : List ℕ × List ℕ) × ((rest : List (List ℕ × List ℕ)) × (whole_lines (x ∷ xs) ≡ line ∷ rest))) [
-      | true ↦ λ e. let w = behind_feed [] x xs e tt in (w.0, (whole_lines (drop_through 10 (x ∷ xs)), w.1.0))
-      | false ↦ λ e. let w = behind xs (x ∷ []) (e, tt) (omega arith) in (w.0, (whole_lines (drop_through 10 xs), w.1.0))
-    ] refl
-
 -- ---- a reader that is not within a line that is too long
 
 pub left-whole : (cut : Bool) (known : Option (List ℕ)) → cut ≡ false → left_of cut known ≡ known
 left-whole true known h = absurd (cc)
 left-whole false known h = refl
-
--- the rest of that line is read over
-pub left-over : (cut : Bool) (a b : Option (List ℕ)) → cut ≡ true → DropsThrough a b 10 → Keeps (left_of cut a) b
-left-over true None b h drops = tt
-left-over true (Some xs) b h drops = subst (λ o. Keeps (Some (drop_through 10 xs)) o) (sym drops) refl
-left-over false a b h drops = absurd (cc)
 
 -- ---- a line that a reader has at hand
 
@@ -206,3 +191,7 @@ next-at-hand None b shown size stripped front first drops s short = tt
 next-at-hand (Some xs) b shown size stripped front first drops s short =
     let inside : size < length shown = first.0.high in
     let taken = (Consumes_shown (Some xs) (Some xs) b (Some (length shown)) shown (size + 1) (omega (arith, inside)) front (λ none. absurd (omega (arith, inside, none))) refl (omega arith) drops).0 in grind (arith, at_hand, no_feed_before, feed_taken, length-take)
+
+pub ruleset read_by_octets_laws = (next-none, next-line, long-line)
+
+pub ruleset take_line_laws = (left-whole, next-at-hand, shown_first)

@@ -79,6 +79,7 @@ impl<R: Read + Drop> LineReader<R> {
     }
 
     /// The text of the line that was read last; none if its octets are no UTF-8.
+    #[tactic(auto, using(crate::proofs::LineLemmas::text_laws))]
     pub fn text(&self) -> Option<&str>
         ensures text { IfSome result (λ text. text.now ≡ reader_line self.now) }
         ensures utf8 { is_utf8 (reader_line self.now) ≡ is_some result }
@@ -103,6 +104,7 @@ impl<R: Read + Drop> LineReader<R> {
     }
 
     /// Takes the next line, which is at hand, with this many octets before its line feed.
+    #[tactic(auto, using(crate::proofs::NextLine::take_line_laws))]
     fn take_line(&mut self, size: usize) -> Result<bool, LineReadError>
         requires feed { IsFirstByte (is_byte 10) (reader_buffer self.old.reader) (Some size) }
         requires short { size ≤ 4096 }
@@ -124,6 +126,7 @@ impl<R: Read + Drop> LineReader<R> {
     }
 
     /// What `read` does, octet by octet, however much is at hand.
+    #[tactic(auto, using(crate::proofs::NextLine::read_by_octets_laws))]
     fn read_by_octets(&mut self) -> Result<bool, LineReadError>
         ensures next { IfOk result
             (λ more.
@@ -223,6 +226,7 @@ impl<R: Read + Drop> LineReader<R> {
 }
 
 /// The next octet of a reader that shows what it has read ahead; none at its end. What fails is not tried again.
+#[tactic(auto, using(crate::proofs::LineLemmas::next_octet_laws))]
 fn next_octet<B: BufRead>(reader: &mut B) -> Result<Option<u8>, LineReadError>
     ensures octet { IfOk result
         (λ o. Consumes (B.remaining reader.old) (B.remaining reader.new) (given o)) }

@@ -1,9 +1,8 @@
 -- The first fault of a script, line by line.
-use Rattle.ptpm_world.proofs.Common.{◌≡◌, ℕ, ◌<◌, ◌≤◌, List, [], ◌∷◌, Bool, true, false, None, Some, Ok, Err, refl, sym, ap, subst, ◌∙◌, arith, IfErr, IfOk, IsErrAnd, Option, Result, nat_lt, cond-false, cond-true, lt-ltb, whole_lines, HasNextFault, ReadsWhole, is_of_writing, is_outside, next_fault, size_fault}
-use Rattle.std.proofs.lemmas.Bool.Decides.{nat_tests}
+use Rattle.ptpm_world.proofs.Common.{◌≡◌, ℕ, ◌<◌, List, true, false, None, Some, Ok, Err, sym, ap, subst, ◌∙◌, arith, IfErr, IfOk, IsErrAnd, Option, Result, cond-true, lt-ltb, HasNextFault, ReadsWhole, is_of_writing, is_outside, next_fault, size_fault}
 use Rattle.ptpm_world.specs.declared.script_error.ScriptError.{ScriptError}
 use Rattle.ptpm_world.specs.declared.script_error.ScriptError.TheVariants as faults
-use Rattle.ptpm_text.specs.Lines.{LeavesLong, ReadsNext, begins_long, is_long}
+use Rattle.ptpm_text.specs.Lines.{LeavesLong, ReadsNext}
 
 -- what fails outside the script is none of its faults
 pub outside : {P : Type 0} (e : ScriptError) → is_outside e ≡ true → is_outside e ≡ false → P
@@ -37,36 +36,10 @@ on-err (Err e) P Q h k = k e h
 
 -- ---- sizes
 
-few_lines : (n : ℕ) → n ≤ 2000000 → nat_lt 2000000 n ≡ false
-few_lines n h = grind (arith, nat_tests)
-
-next_fits : (n : ℕ) (lines : List (List ℕ × List ℕ)) → n ≤ 2000000 → begins_long lines ≡ false → next_fault n lines ≡ None
-next_fits n [] few short = refl
-next_fits n (line ∷ lines) few short = cond-false _ _ _ (few_lines n few) ∙ cond-false _ _ _ short
-
-size_long : (n : ℕ) (octets : List ℕ) → n ≤ 2000000 → is_long octets ≡ true → size_fault n octets ≡ Some (faults.LineTooLong n)
-size_long n octets few long = cond-false _ _ _ (few_lines n few) ∙ cond-true _ _ _ long
-
 size_many : (n : ℕ) (octets : List ℕ) → 2000000 < n → size_fault n octets ≡ Some faults.TooManyLines
 size_many n octets many = grind (arith, cond-true, lt-ltb)
 
 -- ---- the next line of a reader
-
-pub whole-next : (n : ℕ) (a b : Option (List ℕ)) (more : Bool) (line : List ℕ)
-    → ReadsNext a more line b
-    → n ≤ 2000000
-    → ReadsWhole n a more line b
-whole-next n None b more line h few = tt
-whole-next n (Some xs) None more line h few = absurd h
-whole-next n (Some xs) (Some ys) more line h few = (next_fits n (whole_lines xs) few h.0, h.1)
-
-pub fault-long : (n : ℕ) (a b : Option (List ℕ))
-    → LeavesLong a b
-    → n ≤ 2000000
-    → HasNextFault n a (faults.LineTooLong n)
-fault-long n None b h few = tt
-fault-long n (Some xs) None h few = absurd h
-fault-long n (Some xs) (Some ys) h few = ap (next_fault n) h.1.0 ∙ size_long n h.0.1 few h.1.1
 
 -- ---- past the last line that may be
 

@@ -2,7 +2,7 @@
 use Rattle.ptpm_world.proofs.Common.{arith, ◌≡◌, ◌∙◌, ℕ, ◌<◌, ◌+◌, ◌++◌, ◌⊎◌, inl, inr, Bool, false, List, [], ◌∷◌, length, map, None, Some, Ok, Err, Option, Result, refl, sym, ap, subst, append_assoc, append-nil, length-append, length-map, same_Some, eq-eqb, option_map, result_err, AllByRecursion, Report, Deliver, IsInRange, Refusal, Retune, frame_at, no_room, refusal, AreInTime, is_late_delivery, step, AtSession, HasEnd, Network, Happened, Held, RunningNetwork, held, network_after, network_event, StandsAfter, Frame, NetworkState, initial_state, Names, placed, placed_all, Played, event_of, played, played_by, unless_fault, line_fault, after, answer, answer_of, error_of, took_of, event_line, event_text}
 use Rattle.std.specs.Prelude.{IfOk, ◌↔◌}
 use Rattle.ptpm_network.specs.Events as machine
-use Rattle.ptpm_network.specs.Events.{Replay, forged, no_end, no_session}
+use Rattle.ptpm_network.specs.Events.{Replay, no_end, no_session}
 use Rattle.ptpm_network.specs.Machine.{state_after}
 use Rattle.ptpm_network.specs.Network.{End}
 use Rattle.ptpm_network.specs.RunningNetwork.{replays}

@@ -1,11 +1,17 @@
-use Rattle.std.proofs.Common.{◌≡◌, ◌∙◌, ap, codes, subst, sym}
+-- An error without a name.
+use Rattle.std.proofs.Common.{◌≡◌, ℕ, ap, ◌∙◌, codes, subst, sym}
 use Rattle.std.proofs.lemmas.Option.{none-some}
 use Rattle.std.proofs.lemmas.Result.{on_ok_weaker}
 use Rattle.std.specs.Io.KnownBytes.{Appends}
-use Rattle.ptpm_commands.proofs.Naming.{unnamed}
+use Rattle.ptpm_codec.specs.declared.error.ErrorId.{ErrorId}
+use Rattle.ptpm_codec.specs.Message.{error_number}
+use Rattle.ptpm_message_json.proofs.Naming.{no_name}
+use Rattle.ptpm_commands.specs.Show.{dash, error_named, name_of_error, named_line}
 use Rattle.ptpm_commands.proofs.Telling.{named-line}
-use Rattle.ptpm_commands.specs.Show.{dash, error_named, named_line}
 use Rattle.ptpm_commands.proofs.show.show_error.Goals as goal
+
+unnamed : (n : ℕ) → ((e : ErrorId) → error_number e ≡ n → ⊥) → error_named n ≡ dash
+unnamed n none = ap name_of_error (no_name n none)
 
 pub returns-in-None : goal.returns-in-None
 returns-in-None g c =

@@ -1,5 +1,5 @@
 -- The row of the port is there already, or is the last one now.
-use Rattle.std.proofs.Common.{◌≡◌, ◌<◌, [], length, refl, true, Option, Some, None, get_or, inr, subst, sym, ap, ◌∙◌, arith}
+use Rattle.std.proofs.Common.{◌≡◌, [], true, Option, Some, None, get_or, inr, subst, sym, ap, ◌∙◌, arith}
 use Rattle.std.proofs.lemmas.Bool.{not-false}
 use Rattle.std.proofs.lemmas.Option.{same_Some}
 use Rattle.std.specs.List.{Contains}
@@ -7,7 +7,6 @@ use Rattle.std.specs.Option.{option_eq}
 use Rattle.ptpm_codec.specs.Identity.{same_identity}
 use Rattle.ptpm_codec.proofs.IdentityLaws.{same_identity-true}
 use Rattle.ptpm_codec.specs.declared.identity.PortIdentity.{PortIdentity}
-use Rattle.ptpm_site.specs.declared.reading.domain.Domain.{Domain}
 use Rattle.ptpm_site.specs.declared.tree.forest.Lost.{Lost}
 use Rattle.ptpm_site.specs.declared.tree.TreeRow.{TreeRow}
 use Rattle.ptpm_site.specs.declared.tree.TreeRow.TheVariants as row

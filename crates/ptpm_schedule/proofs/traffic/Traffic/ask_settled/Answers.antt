@@ -1,4 +1,3 @@
-use Rattle.std.proofs.Common.{[]}
 use Rattle.ptpm_schedule.specs.Going.{asked_by}
 use Rattle.ptpm_schedule.proofs.Going.{goes_on, no_memory, stopped_then, went_err}
 use Rattle.ptpm_schedule.proofs.traffic.Traffic.ask_settled.Goals as goal

@@ -1,5 +1,5 @@
-use Rattle.std.proofs.Common.{ℕ, ◌+◌, arith, subst, sym}
-use Rattle.ptpm_schedule.proofs.Going.{goes_once, no_memory, no_write, stays_late, stays_refused, stays_still, too_many, went_err}
+use Rattle.std.proofs.Common.{ℕ, subst, sym}
+use Rattle.ptpm_schedule.proofs.Going.{goes_once, no_memory, no_write, stays_late, stays_refused, stays_still, went_err}
 use Rattle.ptpm_schedule.specs.Going.{Became, Goes, asked_by}
 use Rattle.ptpm_schedule.proofs.traffic.Traffic.happen.Goals as goal
 use Rattle.ptpm_world.specs.declared.script_error.ScriptError.TheVariants as faults

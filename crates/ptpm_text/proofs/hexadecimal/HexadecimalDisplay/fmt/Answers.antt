@@ -1,11 +1,24 @@
-use Rattle.std.proofs.Common.{arith, rules, false, ◌≡◌, ◌+◌, ◌++◌, ℕ, [], List, get_or, take, sym, ap, ◌∙◌}
+-- Octets as text, if there are none and if there are some.
+use Rattle.std.proofs.Common.{arith, ◌≡◌, ◌<◌, ℕ, List, [], ◌∷◌, length, refl, rules, false, ◌+◌, ◌++◌, get_or, take, sym, ap, ◌∙◌}
+use Rattle.std.specs.Prelude.{codes, flat_map}
 use Rattle.std.proofs.Output.{has_written_append, has_written_of_eq}
 use Rattle.std.proofs.lemmas.Fmt.{hex_byte}
 use Rattle.std.proofs.lemmas.List.{flat_map_more, take_all, take_more}
-use Rattle.std.specs.Prelude.{flat_map}
 use Rattle.ptpm_codec.specs.Identity.{octet_text}
-use Rattle.ptpm_text.proofs.OctetTextLemmas.{text_of_none, text_of_some}
+use Rattle.ptpm_text.specs.OctetText.{text_of_octets}
 use Rattle.ptpm_text.proofs.hexadecimal.HexadecimalDisplay.fmt.Goals as goal
+
+text_of_none : (octets : List ℕ) → length octets ≡ 0 → codes "-" ≡ text_of_octets octets
+unfolding text_of_octets
+text_of_none [] h = refl
+text_of_none (x ∷ xs) h = absurd (omega arith)
+
+text_of_some : (octets : List ℕ)
+    → 0 < length octets
+    → flat_map octet_text octets ≡ text_of_octets octets
+unfolding text_of_octets
+text_of_some [] h = absurd (omega arith)
+text_of_some (x ∷ xs) h = refl
 
 pub returns-then-is_empty-clause-writes : goal.returns-then-is_empty-clause-writes
 returns-then-is_empty-clause-writes g c = grind (arith, has_written_of_eq, text_of_none)

@@ -1,5 +1,0 @@
-use Rattle.ptpm_script.proofs.NetworkLaw.{accepted}
-use Rattle.ptpm_script.proofs.network_laws.accepted_networks.Goals as goal
-
-pub returns : goal.returns
-returns c = accepted
