@@ -9,5 +9,3 @@ pub All-unmap : {X Y : Type 0} (P : Y → Type 0) (f : X → Y) (xs : List X)
     → All (λ x. P (f x)) xs
 All-unmap {X} {Y} P f xs h = λ k d inside.
     subst P (get_or-map f xs k d) (h k (f d) (omega (arith, length-map xs f)))
-
-pub ruleset render_laws = (All-unmap)

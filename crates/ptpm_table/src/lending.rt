@@ -271,7 +271,6 @@ fn what_in<'a>(message: &View<'a>) -> LentWhat<'a>
     }
 }
 
-#[tactic(auto, using(crate::proofs::LendingLaws::error_named))]
 fn error_of_number(number: u16) -> ErrorId
     ensures { result ≡ error_of_number number }
 {

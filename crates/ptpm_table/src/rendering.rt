@@ -16,7 +16,6 @@ use ptpm_data::{Answers, PortAnswer, Reply, Request, What};
 /// was heard at the ingress port, and each goes out there (15.4.1). Each message is encoded in its place in the outbox.
 /// Takes no memory.
 #[inline(always)]
-#[tactic(auto, using(crate::proofs::ListLemmas::render_laws))]
 pub fn render(me: &ClockIdentity, heard: &Heard, reply: &Reply, ingress: u16, out: &mut Outbox)
     requires action { IsReplyAction reply.now.action }
     requires even { All (λ a. IsEvenOutcome a.outcome) reply.now.answers }
