@@ -409,7 +409,7 @@ impl<T: SureTable + Drop> Agent<T> {
         ensures clock { clock_of T.owner self.new ≡ clock_of T.owner self.old }
     {
         data_sets_law(&self.sets);
-        self.table.eight_answers();
+        self.table.few_answers();
         out.clear();
         self.handle_into(ingress, datagram, out)
     }

@@ -53,7 +53,7 @@ pub precedence_stays : (d : DataSetsValue) (change : PrecedenceChange)
     → IsConsistent (with_precedence d change)
 precedence_stays d change is before = record {
   some_port = before.some_port;
-  at_most_eight = before.at_most_eight;
+  few_ports = before.few_ports;
   identity = before.identity;
   description = before.description;
   accuracy = accuracy_after change d.default.precedence is before.accuracy;
@@ -72,7 +72,7 @@ ports_stay port d change is before =
     let size = length-named_changed port (port_after change) d.ports in
     record {
       some_port = rw size before.some_port;
-      at_most_eight = rw size before.at_most_eight;
+      few_ports = rw size before.few_ports;
       identity = before.identity;
       description = before.description;
       accuracy = before.accuracy;
@@ -89,7 +89,7 @@ description_stays : (d : DataSetsValue) (text : List ℕ)
     → IsConsistent (record d { description = text })
 description_stays d text is before = record {
   some_port = before.some_port;
-  at_most_eight = before.at_most_eight;
+  few_ports = before.few_ports;
   identity = before.identity;
   description = is;
   accuracy = before.accuracy;
@@ -103,7 +103,7 @@ domain_stays : (d : DataSetsValue) (domain : ℕ)
     → IsConsistent (record d { default = record d.default { domain = domain } })
 domain_stays d domain before = record {
   some_port = before.some_port;
-  at_most_eight = before.at_most_eight;
+  few_ports = before.few_ports;
   identity = before.identity;
   description = before.description;
   accuracy = before.accuracy;
@@ -124,7 +124,7 @@ set_stays layouts.ClockAccuracy port octets d is before = precedence_stays d (Cl
 set_stays layouts.Domain port octets d is before = domain_stays d _ before
 set_stays layouts.UtcProperties port octets d is before = record {
   some_port = before.some_port;
-  at_most_eight = before.at_most_eight;
+  few_ports = before.few_ports;
   identity = before.identity;
   description = before.description;
   accuracy = before.accuracy;

@@ -2,17 +2,19 @@
 use Rattle.std.proofs.lemmas.Grind.{common_steps}
 use mathlib.Core.Bool.{beq}
 use mir.Val.{bool_byte}
-use Rattle.std.proofs.Common.{arith, ◌≡◌, ◌∙◌, ap, refl, sym, ℕ, zero, suc, ◌+◌, ◌*◌, ◌-◌, ◌<◌, ◌^◌, Bool, true, false, not, nat_eq, pos, nat_abs, int_eq, if◌then◌else◌, List, [], ◌∷◌, map, length, drop, get_or, Option, Some, None, option_map, bytes_eq, eq-eqb}
+use Rattle.std.proofs.Common.{arith, ◌≡◌, ◌∙◌, ap, refl, sym, ℕ, zero, suc, ◌+◌, ◌*◌, ◌-◌, ◌<◌, ◌^◌, Bool, true, false, not, nat_eq, pos, nat_abs, int_eq, if◌then◌else◌, List, [], ◌∷◌, map, length, drop, get_or, Option, Some, None, option_map, bytes_eq, eq-eqb, replicate}
 use Rattle.std.proofs.Math.Nat.{pow-suc}
+use Rattle.std.specs.List.{range_with_len}
 use Rattle.std.proofs.lemmas.Slice.Eq.{bytes_eq-Decides}
 use Rattle.std.proofs.lemmas.Bool.Decides.{Decides-eqb, Decides-int_eq, same_from_decides}
 use Rattle.ptpm_data.specs.declared.changed.ClockMembers.{ClockMembers}
 use Rattle.ptpm_data.specs.declared.changed.PortMembers.{PortMembers}
 use Rattle.ptpm_data.specs.declared.data_sets.PortDataSet.{PortDataSet}
 use Rattle.ptpm_data.specs.declared.members.Member.{Member}
-use Rattle.ptpm_data.specs.Changed.{changed, clock_changed, clock_members, differ, member_of, members_changed, no_members, number_of, port_members}
+use Rattle.ptpm_data.specs.declared.ports.TheConstants.{PORTS}
+use Rattle.ptpm_data.specs.Changed.{changed, clock_changed, clock_members, differ, member_of, members_changed, no_members, number_of, port_changed, port_members}
 use Rattle.ptpm_data.specs.MemberMap.{MemberValue, Octets, clock_member, flag, natural}
-use Rattle.ptpm_data.specs.Members.{DataSetsValue}
+use Rattle.ptpm_data.specs.Members.{DataSetsValue, port_of}
 
 -- ---- tests of values
 
@@ -128,5 +130,9 @@ no_port_member p = ap (λ n. let m : PortMembers = record { 0 = n } in m) (no_di
 no_clock_member : (d : DataSetsValue) → clock_changed d d ≡ record { 0 = 0 }
 no_clock_member d = ap (λ n. let m : ClockMembers = record { 0 = n } in m) (no_digit (λ m. clock_member m d) clock_members)
 
+no_ports : (d : DataSetsValue) (a n : ℕ) → replicate n (record { 0 = 0 }) ≡ map (port_changed d d) (range_with_len a n)
+no_ports d a zero = refl
+no_ports d a (suc n) = λ i. sym (no_port_member (port_of a d)) i ∷ no_ports d (a + 1) n i
+
 pub nothing_changed : (d : DataSetsValue) → no_members ≡ changed d d
-nothing_changed d = grind (arith, no_port_member, no_clock_member)
+nothing_changed d = λ i. record { clock = sym (no_clock_member d) i; ports = no_ports d 1 PORTS i }

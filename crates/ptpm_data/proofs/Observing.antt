@@ -127,7 +127,7 @@ module _ (o : ClockObservation) (ports : List PortObservation) (d : DataSetsValu
   pub consistent : IsConsistent d → IsConsistent (accepted_observation o ports d)
   consistent before = record {
     some_port = grind (arith, ports_after-length);
-    at_most_eight = grind (arith, ports_after-length);
+    few_ports = grind (arith, ports_after-length);
     identity = before.identity;
     description = before.description;
     accuracy = in_range;

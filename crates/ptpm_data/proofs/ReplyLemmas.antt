@@ -8,6 +8,7 @@ use Rattle.ptpm_codec.specs.Message.{IsRequestAction}
 use Rattle.ptpm_codec.specs.declared.message.Action.{Action}
 use Rattle.ptpm_codec.specs.declared.message.Action.TheVariants as actions
 use Rattle.ptpm_codec.specs.declared.error.ErrorId.{ErrorId}
+use Rattle.ptpm_data.specs.declared.ports.TheConstants.{PORTS}
 use Rattle.ptpm_data.specs.ManagementId.{is_of_port}
 use Rattle.ptpm_data.specs.Request.{RequestValue}
 use Rattle.ptpm_data.specs.Reply.{Outcome, Answer}
@@ -53,38 +54,38 @@ abbrev pub answers_of : Bool → RequestValue → Option ErrorId → DataSetsVal
 answers_of b q refusal d = map (answer q refusal d) (if b then map Some (named_ports q.port (length d.ports)) else None ∷ [])
 
 one_of : (b : Bool) (q : RequestValue) (refusal : Option ErrorId) (d : DataSetsValue)
-    → (b ≡ true → HasPort q.port d) → length d.ports ≤ 8
+    → (b ≡ true → HasPort q.port d) → length d.ports ≤ PORTS
     → (o : Outcome)
     × (answers_of b q refusal d
     ≡ record { port = if b then Some q.port else None; outcome = o } ∷ [])
 unfolding answer
-one_of true q refusal d has eight =
+one_of true q refusal d has few =
     let own = has refl in
     let low = own.0 in
     let high = own.1 in
     let one : q.port + 1 - q.port ≡ 1 = omega arith in
     let named : named_ports q.port (length d.ports) ≡ q.port ∷ [] = grind (arith, named_ports-one) in
     (outcome refusal q.action (data_field_at q.id (Some q.port) d), rw named refl)
-one_of false q refusal d has eight = (outcome refusal q.action (data_field_at q.id None d), refl)
+one_of false q refusal d has few = (outcome refusal q.action (data_field_at q.id None d), refl)
 
 pub reply_of-one : (q : RequestValue) (refusal : Option ErrorId) (d : DataSetsValue)
     → IsForOne q d
-    → length d.ports ≤ 8
+    → length d.ports ≤ PORTS
     → IsOneAnswer (answerer q) (reply_of q refusal d)
 unfolding reply_of
-reply_of-one q refusal d has eight = one_of (is_of_port q.id) q refusal d has eight
+reply_of-one q refusal d has few = one_of (is_of_port q.id) q refusal d has few
 
 -- ---- how many answers
 
 count_of : (b : Bool) (q : RequestValue) (refusal : Option ErrorId) (d : DataSetsValue)
     → IsTargetPort q.port d → IsSized d
-    → (1 ≤ length (answers_of b q refusal d)) × (length (answers_of b q refusal d) ≤ 8)
+    → (1 ≤ length (answers_of b q refusal d)) × (length (answers_of b q refusal d) ≤ PORTS)
 count_of true q refusal d target s = grind (arith, length-map, named_ports-every, length-range_with_len, named_ports-one)
 count_of false q refusal d target s = (omega arith, omega arith)
 
 pub reply_of-count : (q : RequestValue) (refusal : Option ErrorId) (d : DataSetsValue)
     → IsTargetPort q.port d
     → IsSized d
-    → (1 ≤ length (reply_of q refusal d).answers) × (length (reply_of q refusal d).answers ≤ 8)
+    → (1 ≤ length (reply_of q refusal d).answers) × (length (reply_of q refusal d).answers ≤ PORTS)
 unfolding reply_of
 reply_of-count q refusal d target s = count_of (is_of_port q.id) q refusal d target s

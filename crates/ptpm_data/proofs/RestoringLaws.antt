@@ -13,6 +13,7 @@ use Rattle.ptpm_data.specs.declared.members.Member.{Member}
 use Rattle.ptpm_data.specs.declared.members.Member.TheVariants as members
 use Rattle.ptpm_data.specs.declared.port_state.PortState.{PortState}
 use Rattle.ptpm_data.specs.declared.port_state.PortState.TheVariants as states
+use Rattle.ptpm_data.specs.declared.ports.TheConstants.{PORTS}
 use Rattle.ptpm_data.specs.declared.start.ClockStart.{ClockStart}
 use Rattle.ptpm_data.specs.declared.start.PortStart.{PortStart}
 use Rattle.ptpm_data.specs.Image.{DataSetsFit}
@@ -73,7 +74,7 @@ ports_faultless (p ∷ ports) ranges =
 
 -- ---- the clock
 
-count_faultless : (n : ℕ) → 1 ≤ n → n ≤ 8 → count_fault n ≡ None
+count_faultless : (n : ℕ) → 1 ≤ n → n ≤ PORTS → count_fault n ≡ None
 unfolding count_fault
 count_faultless n some few = grind (arith, nat_lt, nat_tests)
 
@@ -106,7 +107,7 @@ pub restarts : (d : DataSetsValue) → IsConsistent d → start_of (start_of_set
 unfolding start_of
 restarts d c =
     let size : length (map port_start d.ports) ≡ length d.ports = length-map d.ports port_start in
-    let count : count_fault (length (map port_start d.ports)) ≡ None = ap count_fault size ∙ count_faultless _ c.some_port c.at_most_eight in
+    let count : count_fault (length (map port_start d.ports)) ≡ None = ap count_fault size ∙ count_faultless _ c.some_port c.few_ports in
     let clock = clock_faultless d c in
     let ports = ports_faultless d.ports c.ports in
     let grandmaster = grandmaster_faultless d.default d.parent c.grandmaster in

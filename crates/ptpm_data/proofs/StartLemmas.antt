@@ -6,6 +6,7 @@ use Rattle.std.proofs.lemmas.List.{take_more, map-append}
 use Rattle.std.specs.Option.{option_or}
 use Rattle.ptpm_data.specs.declared.members.Member.{Member}
 use Rattle.ptpm_data.specs.declared.members.Member.TheVariants as members
+use Rattle.ptpm_data.specs.declared.ports.TheConstants.{PORTS}
 use Rattle.ptpm_data.specs.declared.start.StartError.{StartError}
 use Rattle.ptpm_data.specs.declared.start.StartError.TheVariants.{BadValue}
 use Rattle.ptpm_data.specs.declared.start.PortStart.{PortStart}
@@ -95,7 +96,7 @@ pub passes : {E : Type 0} (b : Bool) (e : E) (o : Option E)
 passes true e o h = cc
 passes false e o h = (refl, h)
 
-pub count_sound : (n : ℕ) → count_fault n ≡ None → (1 ≤ n) × (n ≤ 8)
+pub count_sound : (n : ℕ) → count_fault n ≡ None → (1 ≤ n) × (n ≤ PORTS)
 unfolding count_fault
 count_sound n h = grind (arith, passes, nat_lt, nat_tests)
 

@@ -24,7 +24,7 @@ starts_consistent c ports none =
     let size = count_sound (length ports) count.0 in
     record {
       some_port = grind (arith, length-map);
-      at_most_eight = grind (arith, length-map);
+      few_ports = grind (arith, length-map);
       identity = identity_sound c clock.0;
       description = description_sound c clock.0;
       accuracy = accuracy_sound c clock.0;

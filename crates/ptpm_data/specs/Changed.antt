@@ -1,4 +1,5 @@
 -- Which members have another value in one data sets value than in another (this project's profile).
+use Rattle.std.specs.List.{range_with_len}
 use Rattle.std.specs.Ordering.{int_eq}
 use Rattle.std.specs.Prelude.{ℕ, ◌+◌, ◌*◌, ◌==◌, ◌&&◌, Bool, true, false, not, if◌then◌else◌, List, [], ◌∷◌, map, Option, Some, None, bytes_eq, option_and_then, replicate}
 use Rattle.ptpm_data.specs.declared.changed.ChangedMembers.{ChangedMembers}
@@ -7,6 +8,7 @@ use Rattle.ptpm_data.specs.declared.changed.PortMembers.{PortMembers}
 use Rattle.ptpm_data.specs.declared.members.Member.{Member}
 use Rattle.ptpm_data.specs.declared.members.Member.TheVariants as members
 use Rattle.ptpm_data.specs.declared.data_sets.PortDataSet.{PortDataSet}
+use Rattle.ptpm_data.specs.declared.ports.TheConstants.{PORTS}
 use Rattle.ptpm_data.specs.MemberMap.{MemberValue, Number, Octets, PortOf, clock_member, port_member}
 use Rattle.ptpm_data.specs.Members.{DataSetsValue, port_of}
 use Rattle.ptpm_data.specs.PortSetting.{port_settings}
@@ -65,9 +67,9 @@ port_changed before after port = members_changed (port_of port before) (port_of 
 abbrev pub changed : DataSetsValue → DataSetsValue → ChangedMembers
 changed before after = record {
   clock = clock_changed before after;
-  ports = map (port_changed before after) (1 ∷ 2 ∷ 3 ∷ 4 ∷ 5 ∷ 6 ∷ 7 ∷ 8 ∷ []);
+  ports = map (port_changed before after) (range_with_len 1 PORTS);
 }
 
 -- nothing differs
 abbrev pub no_members : ChangedMembers
-no_members = record { clock = record { 0 = 0 }; ports = replicate 8 (record { 0 = 0 }) }
+no_members = record { clock = record { 0 = 0 }; ports = replicate PORTS (record { 0 = 0 }) }

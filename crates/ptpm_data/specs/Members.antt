@@ -9,6 +9,7 @@ use Rattle.ptpm_data.specs.declared.data_sets.TimePropertiesDataSet.{TimePropert
 use Rattle.ptpm_data.specs.declared.data_sets.PortDataSet.{PortDataSet}
 use Rattle.ptpm_data.specs.declared.data_sets.DataSets.TheInside.{Inside}
 use Rattle.ptpm_data.specs.declared.port_setting.PortSetting.{PortSetting}
+use Rattle.ptpm_data.specs.declared.ports.TheConstants.{PORTS}
 use Rattle.ptpm_data.specs.Ranges.{all_ones, is_clock_accuracy, is_description, is_in_range}
 use Rattle.ptpm_data.specs.PortState.{is_forwarding}
 
@@ -73,11 +74,11 @@ is_same_precedence a b =
 pub record IsPortInRange (p : PortDataSet) : Type 0 where
   pub settings : (s : PortSetting) → is_in_range s (p.settings s) ≡ true
 
--- A clock has one to eight ports, an identity that is not all ones, and its members, and those of its ports, in their ranges.
+-- A clock has 1 to PORTS ports, an identity that is not all ones, and its members, and those of its ports, in their ranges.
 -- One that is its own grandmaster shows its own priorities and quality in its parent data set (9.3.5, table 30).
 pub record IsConsistent (d : DataSetsValue) : Type 0 where
   pub some_port : 1 ≤ length d.ports
-  pub at_most_eight : length d.ports ≤ 8
+  pub few_ports : length d.ports ≤ PORTS
   pub identity : bytes_eq d.default.identity.0 all_ones ≡ false
   pub description : is_description d.description ≡ true
   pub accuracy : is_clock_accuracy d.default.precedence.accuracy ≡ true

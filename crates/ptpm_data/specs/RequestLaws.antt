@@ -2,16 +2,17 @@
 use Rattle.std.specs.Prelude.{◌≡◌, ℕ, ◌%◌, ◌≤◌, ⊤, Bool, true, false, List, [], ◌∷◌, length, Option}
 use Rattle.ptpm_codec.specs.declared.message.Action.{Action}
 use Rattle.ptpm_codec.specs.declared.message.Action.TheVariants as actions
+use Rattle.ptpm_data.specs.declared.ports.TheConstants.{PORTS}
 use Rattle.ptpm_data.specs.ManagementId.{is_of_port}
 use Rattle.ptpm_data.specs.Request.{RequestValue}
 use Rattle.ptpm_data.specs.Reply.{Outcome, Value, Done, Refused, ReplyValue}
 use Rattle.ptpm_data.specs.Members.{DataSetsValue, HasPort}
 use Rattle.ptpm_data.specs.DataField.{port_shown}
 
--- data sets of one to eight ports, whose identities and text have their sizes, as those of every clock have
+-- data sets of 1 to PORTS ports, whose identities and text have their sizes, as those of every clock have
 pub record IsSized (d : DataSetsValue) : Type 0 where
   pub some_port : 1 ≤ length d.ports
-  pub at_most_eight : length d.ports ≤ 8
+  pub few_ports : length d.ports ≤ PORTS
   pub text : length d.description ≤ 128
   pub identity : length d.default.identity.0 ≡ 8
   pub parent : length d.parent.parent_port.clock.0 ≡ 8

@@ -9,6 +9,7 @@ use Rattle.ptpm_data.specs.declared.members.Member.TheVariants as members
 use Rattle.ptpm_data.specs.declared.port_state.PortState.TheVariants as states
 use Rattle.ptpm_data.specs.declared.port_setting.PortSetting.{PortSetting}
 use Rattle.ptpm_data.specs.declared.port_setting.PortSetting.TheVariants.{LogAnnounceInterval, AnnounceReceiptTimeout, LogSyncInterval, DelayMechanism, LogMinPdelayReqInterval}
+use Rattle.ptpm_data.specs.declared.ports.TheConstants.{PORTS}
 use Rattle.ptpm_data.specs.declared.start.ClockStart.{ClockStart}
 use Rattle.ptpm_data.specs.declared.start.PortStart.{PortStart}
 use Rattle.ptpm_data.specs.declared.start.StartError.{StartError}
@@ -165,7 +166,7 @@ started c ports = record {
 
 -- of the number of ports
 unfoldable pub count_fault : ℕ → Option StartError
-count_fault count = first_of ((count == 0, NoPorts) ∷ (nat_lt 8 count, TooManyPorts) ∷ [])
+count_fault count = first_of ((count == 0, NoPorts) ∷ (nat_lt PORTS count, TooManyPorts) ∷ [])
 
 -- the members that a start judges, in this order; the others may have every value of their types
 abbrev pub judged_of_clock : List Member

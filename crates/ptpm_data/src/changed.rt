@@ -7,6 +7,7 @@ ghost use Rattle.ptpm_data.specs.MemberMap.{port_identity};
 use crate::data_sets::{DataSets, PortDataSet};
 use crate::port_setting::PortSetting;
 use crate::port_settings::PortSettings;
+use crate::ports::PORTS;
 use bitflags::{Flag, Flags, bitflag_items};
 use ptpm_codec::PortIdentity;
 
@@ -142,16 +143,16 @@ impl Flags for PortMembers {
 pub struct ChangedMembers {
     pub clock: ClockMembers,
     /// Those of port 1, port 2 and so on.
-    pub ports: [PortMembers; 8],
+    pub ports: [PortMembers; PORTS],
 }
 
-const _: () = prove!(size_of::<ChangedMembers>() == 12);
+const _: () = prove!(size_of::<ChangedMembers>() == 4 + PORTS);
 
 impl ChangedMembers {
     /// No member.
     pub const NONE: ChangedMembers = ChangedMembers {
         clock: ClockMembers::NONE,
-        ports: [PortMembers::NONE; 8],
+        ports: [PortMembers::NONE; PORTS],
     };
 }
 
@@ -230,18 +231,13 @@ impl DataSets {
     pub fn changed_since(&self, before: &DataSets) -> ChangedMembers
         ensures { result ≡ changed before.now self.now }
     {
+        let mut ports = [PortMembers::NONE; PORTS];
+        for place in 0..PORTS {
+            ports[place] = self.port_changed_since(before, place as u16 + 1);
+        }
         ChangedMembers {
             clock: self.clock_changed_since(before),
-            ports: [
-                self.port_changed_since(before, 1),
-                self.port_changed_since(before, 2),
-                self.port_changed_since(before, 3),
-                self.port_changed_since(before, 4),
-                self.port_changed_since(before, 5),
-                self.port_changed_since(before, 6),
-                self.port_changed_since(before, 7),
-                self.port_changed_since(before, 8),
-            ],
+            ports,
         }
     }
 

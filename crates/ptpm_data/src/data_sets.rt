@@ -5,6 +5,7 @@ ghost use Rattle.std.specs.Prelude.{◌≡◌};
 use crate::description::Description;
 use crate::port_settings::PortSettings;
 use crate::port_state::PortState;
+use crate::ports::PORTS;
 use arrayvec::ArrayVec;
 use ptpm_codec::{ClockIdentity, PortIdentity};
 use std::marker::Model;
@@ -99,7 +100,7 @@ impl Default for PortDataSet {
     }
 }
 
-/// The data sets of a clock of one to eight ports. Contracts see them as `DataSetsValue`.
+/// The data sets of a clock of 1 to `PORTS` ports. Contracts see them as `DataSetsValue`.
 #[derive(Debug, Drop)]
 pub struct DataSets {
     pub(crate) default: DefaultDataSet,
@@ -108,7 +109,7 @@ pub struct DataSets {
     pub(crate) current: CurrentDataSet,
     pub(crate) parent: ParentDataSet,
     pub(crate) time: TimePropertiesDataSet,
-    pub(crate) ports: ArrayVec<PortDataSet, 8>,
+    pub(crate) ports: ArrayVec<PortDataSet, PORTS>,
 }
 
 impl Model for DataSets {
@@ -159,10 +160,10 @@ impl DataSets {
         self.default.domain
     }
 
-    /// numberPorts, 1 to 8.
+    /// numberPorts, 1 to `PORTS`.
     pub fn port_count(&self) -> u16
         ensures count { result ≡ length self.now.ports }
-        ensures range { (1 ≤ result) × (result ≤ 8) }
+        ensures range { (1 ≤ result) × (result ≤ PORTS) }
     {
         self.ports.len() as u16
     }

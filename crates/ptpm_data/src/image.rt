@@ -11,18 +11,18 @@ use crate::data_sets::{
     DataSets, DefaultDataSet, ParentDataSet, PortDataSet, TimePropertiesDataSet,
 };
 use crate::image_laws::fits_law;
+use crate::ports::PORTS;
 use arrayvec::ArrayVec;
 use ptpm_codec::{put, put_u16};
-
-/// How many octets an image has at most. They are 74 of the clock, a text of at most 128, eight ports of 15, and the two
-/// octets that count them.
-pub const DATA_SETS_OCTETS: usize = 324;
 
 /// How many octets it has of the clock, before its text.
 pub(crate) const CLOCK_OCTETS: usize = 74;
 
 /// How many it has of each port.
 pub(crate) const PORT_OCTETS: usize = 15;
+
+/// How many octets an image has at most: also a text of at most 128, and two octets that count the text and the ports.
+pub const DATA_SETS_OCTETS: usize = CLOCK_OCTETS + 1 + 128 + 1 + PORT_OCTETS * PORTS;
 
 /// Room for an image.
 pub(crate) type Image = ArrayVec<u8, DATA_SETS_OCTETS>;
@@ -38,7 +38,7 @@ impl DataSets {
         CLOCK_OCTETS + 1 + self.description.text().len() + 1 + PORT_OCTETS * self.ports.len()
     }
 
-    /// Writes the image over the first octets of a place, and answers how many there are: 91 to 324. The others stay. `None`,
+    /// Writes the image over the first octets of a place, and answers how many there are, at most `DATA_SETS_OCTETS`. The others stay. `None`,
     /// and nothing is written, if the place has too few. Takes no memory.
     pub fn image_into(&self, place: &mut [u8]) -> Option<usize>
         ensures room { IsSome result ↔ (length (data_sets_octets self.now) ≤ length place.old) }

@@ -30,6 +30,7 @@ ghost use Rattle.ptpm_data.specs.SetLaws.{AreOctets, get_of, IsAcceptedSet, Move
 use crate::data_sets::DataSets;
 use crate::management_id::MANAGEMENT_IDS;
 use crate::observation::{ClockObservation, ObservedGrandmaster};
+use crate::ports::PORTS;
 use ptpm_codec::{ClockIdentity, PortIdentity};
 
 /// Each entry of the table is found by its id and by its name: so ids are distinct, and so are names. `MANAGEMENT_IDS` are
@@ -41,7 +42,7 @@ pub fn id_table_law()
     ensures ids { map (λ e. e.id) id_table ≡ MANAGEMENT_IDS }
 {}
 
-/// A clock has one to eight ports, and identities of eight octets. Its own identity is not all ones. It has a text of at most
+/// A clock has 1 to `PORTS` ports, and identities of eight octets. Its own identity is not all ones. It has a text of at most
 /// 128 octets of UTF-8. Its accuracy, and what a SET can change at each port, is in its range, and not both leaps are
 /// announced. If it is its own grandmaster, its parent data set shows its own priorities and quality.
 #[tactic(auto, using(crate::proofs::StartLemmas::description_small))]
@@ -102,10 +103,10 @@ pub fn read_reply_law()
         → All (λ a. IsOutcomeOf q a.outcome) (read_reply_to q d).answers }
     ensures some_answer { (q : RequestValue) (d : DataSetsValue) → IsSized d → IsTargetPort q.port d
         → 1 ≤ length (read_reply_to q d).answers }
-    ensures at_most_eight_answers { (q : RequestValue) (d : DataSetsValue)
+    ensures few_answers { (q : RequestValue) (d : DataSetsValue)
         → IsSized d
         → IsTargetPort q.port d
-        → length (read_reply_to q d).answers ≤ 8 }
+        → length (read_reply_to q d).answers ≤ PORTS }
     ensures get { (q : RequestValue) (rights : Rights) (d : DataSetsValue) → q.action ≡ Get
         → read_reply_to q d ≡ reply_to q rights d }
 {}
@@ -128,10 +129,10 @@ pub fn reply_law()
         → IsSized d
         → IsTargetPort q.port d
         → 1 ≤ length (reply_to q rights d).answers }
-    ensures at_most_eight_answers { (q : RequestValue) (rights : Rights) (d : DataSetsValue)
+    ensures few_answers { (q : RequestValue) (rights : Rights) (d : DataSetsValue)
         → IsSized d
         → IsTargetPort q.port d
-        → length (reply_to q rights d).answers ≤ 8 }
+        → length (reply_to q rights d).answers ≤ PORTS }
 {}
 
 /// What every request keeps, and which requests change nothing: a GET, and a request with an error among its answers.

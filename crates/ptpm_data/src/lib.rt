@@ -21,6 +21,7 @@ mod port_change;
 mod port_setting;
 mod port_settings;
 mod port_state;
+mod ports;
 mod precedence_change;
 mod ranges;
 mod refusals;
@@ -55,6 +56,7 @@ pub use observation::{
 pub use port_setting::{PortSetting, SettingRange};
 pub use port_settings::PortSettings;
 pub use port_state::{DelayMechanism, PortState};
+pub use ports::{INLINE_PORTS, PORTS};
 pub use reply::{PortAnswer, Reply, Value, What};
 pub use request::Request;
 pub use restoring::image_end;

@@ -12,6 +12,7 @@ use crate::data_sets::{
 use crate::management_id::{Layout, set_of};
 use crate::members::Member;
 use crate::port_state::PortState;
+use crate::ports::PORTS;
 use arrayvec::ArrayVec;
 use ptpm_codec::{ClockIdentity, PortIdentity};
 use std::fmt;
@@ -122,7 +123,7 @@ impl fmt::Display for ObservationError {
 /// truth value for each place of the observation.
 #[derive(Debug, Drop)]
 pub struct PortsLeftDisabled {
-    by_place: ArrayVec<bool, 8>,
+    by_place: ArrayVec<bool, PORTS>,
 }
 
 impl Model for PortsLeftDisabled {
@@ -295,7 +296,7 @@ fn disables_one(observed: &[PortObservation], ports: &[PortDataSet]) -> bool
 #[tactic(auto, using(crate::proofs::Observing::left_more), unfolding(crate::specs::Observation::left_disabled))]
 fn left_disabled(observed: &[PortObservation], ports: &[PortDataSet]) -> PortsLeftDisabled
     requires fit { length observed.now ≤ length ports.now }
-    requires few { length ports.now ≤ 8 }
+    requires few { length ports.now ≤ PORTS }
     ensures { result ≡ left_disabled observed.now ports.now }
 {
     let mut by_place = ArrayVec::new();

@@ -1,6 +1,7 @@
 //! What a clock answers to a request.
 
 use crate::answers::Answers;
+use crate::ports::INLINE_PORTS;
 use crate::request::Request;
 use arrayvec::ArrayVec;
 use ptpm_codec::{Action, ErrorId, put};
@@ -53,7 +54,7 @@ pub struct Reply {
     pub action: Action,
     /// managementId.
     pub id: u16,
-    pub answers: ArrayVec<PortAnswer, 8>,
+    pub answers: ArrayVec<PortAnswer, INLINE_PORTS>,
 }
 
 impl Model for Reply {
@@ -66,9 +67,10 @@ impl Model for Reply {
 
 impl Answers for Reply {
     ghost use Rattle.std.specs.Prelude.{◌≡◌, length};
+    ghost use Rattle.ptpm_data.specs.declared.ports.TheConstants.{INLINE_PORTS};
     ghost use Rattle.ptpm_data.specs.AnswerLaws.{answered_count, answered_more, answered_none, answered_twice};
 
-    ghost most = { λ r. 8 };
+    ghost most = { λ r. INLINE_PORTS };
 
     ghost count = { λ r. length r.answers };
 
@@ -80,7 +82,7 @@ impl Answers for Reply {
 
     ghost counted = { answered_count };
 
-    ghost as_many = { λ a b xs is i. 8 };
+    ghost as_many = { λ a b xs is i. INLINE_PORTS };
 
     fn take_value(&mut self, port: Option<u16>, octets: &[u8]) {
         let mut value = Value::new();
@@ -127,7 +129,7 @@ impl Reply {
     }
 
     fn push(&mut self, port: Option<u16>, what: What)
-        requires { length self.old.answers < 8 }
+        requires { length self.old.answers < INLINE_PORTS }
         ensures { self.new
             ≡ answered_more self.old (record { port = port; outcome = outcome_of what } ∷ []) }
     {

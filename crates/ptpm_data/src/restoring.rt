@@ -15,6 +15,7 @@ use crate::image::{CLOCK_OCTETS, PORT_OCTETS};
 use crate::image_laws::fits_law;
 use crate::image_places::{flag_at, i8_at, i16_at, i32_at, i64_at, precedence_at};
 use crate::laws::data_sets_law;
+use crate::ports::PORTS;
 use crate::start::{ClockStart, PortStart};
 use arrayvec::ArrayVec;
 use ptpm_codec::{clock_identity_at, port_identity_at, put, u16_at};
@@ -79,7 +80,7 @@ impl DataSets {
     /// Starts with these values and the ports whose octets in an image these are.
     #[inline(never)]
     fn start_with_ports(&mut self, clock: &ClockStart, ports: &[u8]) -> bool
-        ensures { (sets : List PortDataSet) (d : DataSetsValue) → length sets ≤ 8 → All PortFits sets
+        ensures { (sets : List PortDataSet) (d : DataSetsValue) → length sets ≤ PORTS → All PortFits sets
             → ports.now ≡ ports_image sets
             → start_of clock.now (map port_start sets) ≡ Ok d
             → IsTrue result × (self.new ≡ d) }
@@ -259,14 +260,14 @@ fn read_time_properties_data_set(octets: &[u8]) -> TimePropertiesDataSet
     }
 }
 
-/// The start values of an image's octets of the ports; none if there are more than eight ports.
-fn read_ports(octets: &[u8]) -> Option<ArrayVec<PortStart, 8>>
-    ensures { (ports : List PortDataSet) → length ports ≤ 8 → All PortFits ports
+/// The start values of an image's octets of the ports; none if there are more than a clock has.
+fn read_ports(octets: &[u8]) -> Option<ArrayVec<PortStart, PORTS>>
+    ensures { (ports : List PortDataSet) → length ports ≤ PORTS → All PortFits ports
         → octets.now ≡ ports_image ports
         → IsSomeAnd result (λ starts. starts.items ≡ map port_start ports) }
 {
     let count = octets.len() / PORT_OCTETS;
-    if 8 < count {
+    if PORTS < count {
         return None;
     }
     let mut starts = ArrayVec::new();

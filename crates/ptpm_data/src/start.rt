@@ -18,6 +18,7 @@ use crate::observation::grandmaster_differs;
 use crate::port_setting::PortSetting;
 use crate::port_settings::PortSettings;
 use crate::port_state::PortState;
+use crate::ports::PORTS;
 use arrayvec::ArrayVec;
 use ptpm_codec::{ClockIdentity, PortIdentity};
 use std::{array, fmt};
@@ -95,7 +96,7 @@ pub struct PortStart {
 pub enum StartError {
     /// A clock has a port at least.
     NoPorts,
-    /// A clock has eight ports at most.
+    /// A clock has `PORTS` ports at most.
     TooManyPorts,
     /// A member is out of its range: the first such of the clock, else of the first port that has one.
     BadValue(Member),
@@ -398,8 +399,8 @@ fn none_out(first: Option<Member>) -> Result<(), StartError>
 }
 
 /// The data sets of ports that start, or the first fault.
-fn port_data_sets(ports: &[PortStart]) -> Result<ArrayVec<PortDataSet, 8>, StartError>
-    requires { length ports.now ≤ 8 }
+fn port_data_sets(ports: &[PortStart]) -> Result<ArrayVec<PortDataSet, PORTS>, StartError>
+    requires { length ports.now ≤ PORTS }
     ensures { MatchResult result
         (λ sets. (ports_fault ports.now ≡ None) × (sets.items ≡ map port_data_set ports.now))
         (λ fault. ports_fault ports.now ≡ Some fault) }
@@ -418,7 +419,7 @@ fn count_ports(count: usize) -> Result<(), StartError>
 {
     match count {
         0 => Err(StartError::NoPorts),
-        1..=8 => Ok(()),
+        1..=PORTS => Ok(()),
         _ => Err(StartError::TooManyPorts),
     }
 }
@@ -442,7 +443,7 @@ fn judge_grandmaster(default: &DefaultDataSet, parent: &ParentDataSet) -> Result
 fn judged_ports(
     clock: &ClockStart,
     ports: &[PortStart],
-) -> Result<ArrayVec<PortDataSet, 8>, StartError>
+) -> Result<ArrayVec<PortDataSet, PORTS>, StartError>
     ensures { MatchResult result
         (λ sets. (start_fault clock.now ports.now ≡ None) × (sets.items ≡ map port_data_set ports.now))
         (λ fault. start_fault clock.now ports.now ≡ Some fault) }

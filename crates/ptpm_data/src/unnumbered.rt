@@ -37,7 +37,7 @@ impl DataSets {
         reply
     }
 
-    /// Does what `read` does, and puts the answers in place: one of the clock, or up to eight of ports. It is never
+    /// Does what `read` does, and puts the answers in place: one of the clock, or one of each named port. It is never
     /// inlined, so that a datagram without an answer pays nothing for its frame.
     #[inline(never)]
     pub fn read_into<A: Answers>(&self, request: &Request<'_>, answers: &mut A)

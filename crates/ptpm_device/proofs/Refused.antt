@@ -6,6 +6,7 @@ use Rattle.ptpm_codec.specs.declared.error.ErrorId.{ErrorId}
 use Rattle.ptpm_codec.specs.declared.message.Action.{Action}
 use Rattle.ptpm_codec.specs.declared.message.Action.TheVariants as actions
 use Rattle.ptpm_codec.specs.Message.{reply_action}
+use Rattle.ptpm_data.specs.declared.ports.TheConstants.{PORTS}
 use Rattle.ptpm_data.specs.declared.rights.Rights.{Rights}
 use Rattle.ptpm_data.specs.AnswerLaws.{answered_more}
 use Rattle.ptpm_data.specs.Changes.{IsTargetPort, changed_by}
@@ -115,7 +116,7 @@ answers_fit false q error d =
     All-cons (FitsAnswer false q.action) (answer q (Some error) d None) [] (refl, tt) (All-nil (FitsAnswer false q.action))
 
 count_fits : (b : Bool) (q : RequestValue) (error : ErrorId) (d : DataSetsValue)
-    → (1 ≤ length (answers_of b q (Some error) d)) × (length (answers_of b q (Some error) d) ≤ 8)
+    → (1 ≤ length (answers_of b q (Some error) d)) × (length (answers_of b q (Some error) d) ≤ PORTS)
     → FitsCount b (length (answers_of b q (Some error) d))
 count_fits true q error d count = count
 count_fits false q error d count = refl

@@ -1,7 +1,7 @@
 //! A reply whose every answer is one refusal.
 
 use ptpm_codec::ErrorId;
-use ptpm_data::{Answers, Reply};
+use ptpm_data::{Answers, INLINE_PORTS, Reply};
 
 /// A reply that takes each answer as this refusal, of the clock or port that answers.
 #[derive(Drop)]
@@ -12,9 +12,10 @@ pub(crate) struct Refusing {
 
 impl Answers for Refusing {
     ghost use Rattle.std.specs.Prelude.{◌≡◌, length};
+    ghost use Rattle.ptpm_data.specs.declared.ports.TheConstants.{INLINE_PORTS};
     ghost use Rattle.ptpm_device.specs.Refusing.{TakesAsRefused, refused_count, refused_none, refused_twice};
 
-    ghost most = { λ r. 8 };
+    ghost most = { λ r. INLINE_PORTS };
 
     ghost count = { λ r. length r.reply.answers };
 
@@ -26,7 +27,7 @@ impl Answers for Refusing {
 
     ghost counted = { λ a b xs. refused_count a.error b.error a.reply b.reply xs };
 
-    ghost as_many = { λ a b xs is i. 8 };
+    ghost as_many = { λ a b xs is i. INLINE_PORTS };
 
     fn take_value(&mut self, port: Option<u16>, _octets: &[u8]) {
         self.reply.take_refusal(port, self.error);

@@ -8,6 +8,7 @@ use Rattle.ptpm_codec.specs.declared.identity.PortIdentity.{PortIdentity}
 use Rattle.ptpm_codec.specs.declared.message.Message.{Message}
 use Rattle.ptpm_codec.specs.Identity.{identity_cmp}
 use Rattle.ptpm_codec.specs.Reading.{message_of, reading}
+use Rattle.ptpm_data.specs.declared.ports.TheConstants.{PORTS}
 use Rattle.ptpm_data.specs.Members.{HasPort}
 use Rattle.ptpm_data.specs.Replies.{reply_of}
 use Rattle.ptpm_data.specs.Reply.{ReplyValue}
@@ -25,6 +26,7 @@ use Rattle.ptpm_agent.proofs.Turns.{reading-message_of}
 use Rattle.ptpm_device.specs.Asking.{is_lacked, is_permitted}
 use Rattle.ptpm_device.specs.Saying as says
 use Rattle.ptpm_device.specs.Saying.{Say, new_said, reply_given, reply_said, reply_told, said_at, said_by, turn_said, unnumbered_said}
+use Rattle.ptpm_host.specs.declared.clock.TheConstants.{MOST_SENT}
 use Rattle.ptpm_host.specs.Changing.{owner_clock}
 use Rattle.ptpm_host.specs.MostSent.{SendsNoMore, SendsNoMoreAlone, SendsNoMoreHere, most_answers, most_sent}
 use Rattle.ptpm_host.proofs.ComingLaws.{owner_turn-each}
@@ -59,9 +61,9 @@ most_at es place e is =
     let here : get_or es place e ≡ e = cc in
     ap most_answers (take_more es place e inside ∙ ap (λ (x : PortIdentity × Entry). take place es ++ x ∷ []) here) ∙ most_more (take place es) e
 
--- a clock of no more than eight ports, none of whose kept replies has more than eight answers
-pub most_fifteen : (s : State) → IsSized s.sets → HaveAnswers 8 (entries s.entries) → most_sent s ≤ 15
-most_fifteen s sized kept = omega (arith, sized.at_most_eight, kept_most (entries s.entries) 8 kept)
+-- a clock none of whose kept replies has more than PORTS answers
+pub most_few : (s : State) → IsSized s.sets → HaveAnswers PORTS (entries s.entries) → most_sent s ≤ MOST_SENT
+most_few s sized kept = omega (arith, sized.few_ports, kept_most (entries s.entries) PORTS kept)
 
 module _ (c : Clock) (s : State) (ingress : ℕ) (datagram : List ℕ) (most : ℕ) (sized : IsSized s.sets) (port : HasPort ingress s.sets) (ports : 2 * length s.sets.ports - 1 ≤ most) (kept : HaveAnswers most (entries s.entries)) where
   turn_here : length (outbox_of (turn c s ingress datagram)) ≤ most

@@ -24,12 +24,12 @@ use crate::taken::Taken;
 use crate::under_way::UnderWay;
 use ptpm_agent::{Agent, Verdict};
 use ptpm_codec::OutOfMemory;
-use ptpm_data::{DataSets, ObservationError, PortsLeftDisabled};
+use ptpm_data::{DataSets, ObservationError, PORTS, PortsLeftDisabled};
 use ptpm_table::{HeapTable, Outgoing, ReplyTable};
 use std::alloc::Global;
 
-/// How many messages a clock sends at most for a datagram: seven copies that it passes on, and eight replies.
-pub const MOST_SENT: usize = 15;
+/// How many messages a clock sends at most for a datagram: a copy at each port but one, and a reply of each.
+pub const MOST_SENT: usize = 2 * PORTS - 1;
 
 /// A clock. It has a block of memory with a slot of 2,136 octets for each of its managers, from its start or its restore on.
 /// What it sends is written right into places of its host.

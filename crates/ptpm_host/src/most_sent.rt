@@ -29,7 +29,7 @@ impl HostedClock {
         most
     }
 
-    /// Whether this many places are enough for what the clock sends for a datagram, or after a save. Fifteen always are.
+    /// Whether this many places are enough for what the clock sends for a datagram, or after a save. `MOST_SENT` always are.
     pub(crate) fn has_room(&self, places: usize) -> bool
         ensures { result ≡ nat_le (most_sent (state_in self.now)) places }
     {
@@ -37,13 +37,13 @@ impl HostedClock {
         places >= MOST_SENT || places >= self.most_sent()
     }
 
-    /// Its data sets have their sizes, and it sends no more than fifteen messages: a law, and nothing is done.
+    /// Its data sets have their sizes, and it sends no more than `MOST_SENT` messages: a law, and nothing is done.
     #[inline(always)]
     pub(crate) fn sent_law(&self)
         ensures sized { IsSized self.now.agent.sets }
-        ensures most { most_sent (state_in self.now) ≤ 15 }
+        ensures most { most_sent (state_in self.now) ≤ MOST_SENT }
     {
         data_sets_law(self.agent.sets());
-        self.agent.table().eight_answers();
+        self.agent.table().few_answers();
     }
 }

@@ -9,8 +9,8 @@ use crate::settings::given;
 use arrayvec::ArrayVec;
 use ptpm_codec::{ClockIdentity, PortIdentity};
 use ptpm_data::{
-    AnnouncedGrandmaster, ClockObservation, ClockPrecedence, ObservedGrandmaster, PortObservation,
-    PortState, PortsLeftDisabled,
+    AnnouncedGrandmaster, ClockObservation, ClockPrecedence, ObservedGrandmaster, PORTS,
+    PortObservation, PortState, PortsLeftDisabled,
 };
 
 /// What is observed of a clock, those with the strictest alignment first. A flag is set if it is not 0. A flag `has_..` says
@@ -165,8 +165,8 @@ impl ObservedPort {
 }
 
 /// The observations of ports.
-pub(crate) fn port_observations(ports: &[ObservedPort]) -> ArrayVec<PortObservation, 8>
-    requires { length ports.now ≤ 8 }
+pub(crate) fn port_observations(ports: &[ObservedPort]) -> ArrayVec<PortObservation, PORTS>
+    requires { length ports.now ≤ PORTS }
     ensures { result.items ≡ port_observations ports.now }
 {
     let mut observations = ArrayVec::new();

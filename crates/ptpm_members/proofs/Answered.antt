@@ -65,7 +65,7 @@ module _ (port : ℕ) (d : DataSetsValue) (sized : IsSized d) (fits : DataSetsFi
       → AreSaid (Some port) d (data_field_of layout (Some port) d) (fields_of layout)
   at_port has layout at =
       let there = port_there port d has fits.ports in
-      let few = sized.at_most_eight in
+      let few = sized.few_ports in
       let small : port < 2 ^ 16 = let h = has.1 in omega arith in
       let P : Option PortDataSet → Type 0 = λ o. AreSaidWith o layout port d in
       same_claims layout port d (subst P (sym there.1) (port_said d sized.identity port small there.0 there.2 layout at))

@@ -75,7 +75,7 @@ module _ (d : DataSetsValue) (sized : IsSized d) (fits : DataSetsFit d) where
   default_said : AreSaid None d (default_data_field d.default (length d.ports)) DEFAULT_DATA_SET
   unfolding default_data_field precedence_octets
   default_said =
-      let few : length d.ports < 2 ^ 16 = let h = sized.at_most_eight in omega arith in
+      let few : length d.ports < 2 ^ 16 = let h = sized.few_ports in omega arith in
       let p = d.default.precedence in
       let two_step = natural_is _ _ (sym (one_flag d.default.two_step)) in
       let slave_only = natural_is _ _ (sym (no_flag d.default.two_step)) in

@@ -1,5 +1,5 @@
 -- The frames that a clock makes of one that comes in keep the invariant.
-use Rattle.ptpm_network.proofs.Common.{by_test, arith, ◌≡◌, ℕ, ◌<◌, ◌≤◌, ◌^◌, List, [], ◌∷◌, Option, Some, None, true, refl, sym, ap, subst, and_from, cond-true, cond-false, eq-eqb, same_Some, map, AllByRecursion, ClockIdentity, Message, canonical, Fits, action_of, is_reply, heard_of, RequestValue, Answers, HasOneAnswer, IsMessage, number_of, all_weaker, Answer, ReplyValue, Heard, hops_passed, rendered, reply_message, due_messages, Accepted, History, RequestCopy, accepted_from, after_copy, copy_of, due_reply, joins, kept_for, kept_reply, Clock, same_identity-refl, IsSendable, IsFrame, IsOfOrigin, IsReached, arrives, delivery, reply_frames, reply_origin, AtPort, HasEnd, IsNetwork, Network, manager, ports, Frame, NetworkState, Origin, ReplyTo, accepted_at_target, history, all_flat, all_made}
+use Rattle.ptpm_network.proofs.Common.{PORTS, by_test, arith, ◌≡◌, ℕ, ◌<◌, ◌≤◌, ◌^◌, List, [], ◌∷◌, Option, Some, None, true, refl, sym, ap, subst, and_from, cond-true, cond-false, eq-eqb, same_Some, map, AllByRecursion, ClockIdentity, Message, canonical, Fits, action_of, is_reply, heard_of, RequestValue, Answers, HasOneAnswer, IsMessage, number_of, all_weaker, Answer, ReplyValue, Heard, hops_passed, rendered, reply_message, due_messages, Accepted, History, RequestCopy, accepted_from, after_copy, copy_of, due_reply, joins, kept_for, kept_reply, Clock, same_identity-refl, IsSendable, IsFrame, IsOfOrigin, IsReached, arrives, delivery, reply_frames, reply_origin, AtPort, HasEnd, IsNetwork, Network, manager, ports, Frame, NetworkState, Origin, ReplyTo, accepted_at_target, history, all_flat, all_made}
 use Rattle.ptpm_network.specs.Invariant.{IsReplyFrame}
 use Rattle.ptpm_network.proofs.Arriving.{IsCopyOf, history-here}
 use Rattle.ptpm_network.proofs.Frames.{SaysKept, says_kept}
@@ -46,7 +46,7 @@ pub rendered-one : (me : ClockIdentity) (heard : Heard) (r : ReplyValue) (ingres
 unfolding rendered
 rendered-one me heard r ingress a e = ap (map (λ (b : Answer). (ingress, canonical (reply_message me heard r.action r.id ingress b)))) e
 
-pub small : (p n : ℕ) → p ≤ n → n ≤ 8 → p < 2 ^ 16
+pub small : (p n : ℕ) → p ≤ n → n ≤ PORTS → p < 2 ^ 16
 small p n a b = omega arith
 
 pub reply-message : (N : Network) (c port : ℕ) (v : Message) (q : RequestValue) (r : ReplyValue) (a : Answer)
@@ -59,7 +59,7 @@ reply-message N c port v q r a n end fits id answers s =
     canonical-message (reply_at me (heard_of v) r port (hops_passed (heard_of v)) a)
     (reply-valid me (heard_of v) q r port (hops_passed (heard_of v)) a answers s)
     (reply-fits me (heard_of v) q r port (hops_passed (heard_of v)) a clock.identity fits.source.clock fits.source.port fits.number
-    (small port (ports N c) end.2 clock.at_most_eight) id answers s)
+    (small port (ports N c) end.2 clock.few_ports) id answers s)
 
 -- each message of a reply: this holds of it
 pub rendered-says : (P : List ℕ → Type 0) (N : Network) (c port : ℕ) (v : Message) (q : RequestValue) (r : ReplyValue)

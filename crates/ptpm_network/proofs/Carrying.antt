@@ -2,7 +2,7 @@
 use Rattle.std.proofs.Math.Nat.{mul-le-mul_left}
 use Rattle.std.proofs.lemmas.List.FromFn.{get_or-range_with_len, length-range_with_len}
 use Rattle.std.proofs.lemmas.Option.{slice_get-get_or}
-use Rattle.ptpm_network.proofs.Common.{by_test, suc, zero, arith, ◌≡◌, ℕ, ◌<◌, ◌≤◌, ◌+◌, ◌-◌, ◌*◌, ◌/◌, ◌==◌, ◌&&◌, ◌||◌, Bool, List, [], ◌∷◌, ◌++◌, Some, None, true, refl, sym, ◌∙◌, ap, subst, ⊎_elim, length, length-append, and_from, and_left, and_parts, and_right, cond-false, cond-true, eq-eqb, eqb-false, eqb-true, false≢true, lt-ltb, ne_eqb, or_cases, or_from, append-nil, slice_get_within, flat_map, map, not, slice_get, AllByRecursion, filter, list_any, range_with_len, ClockIdentity, PortIdentity, Message, every_clock, same_clock, boundary_hops, domain_number, Fits, message_of, DataSetsValue, may_forward, egress_ports, forwarded, with_less_hop, copy_of, is_addressed, is_for_this_clock, is_own, names_port, Clock, AreDataSets, IsOfOrigin, IsReached, delivered_at_clock, delivery, forwarded_frames, made_frames, read_messages, AtPort, AtSession, End, IsNetwork, Network, manager, peers, ports, same_end, Frame, NetworkState, RequestOf, ReplyTo, frames_to, history, LinksHaveAtMost, passed_at_most, get_append, le_trans, filter-few, length-range_with_len, length-map, flat-few, slice_get-map, option_map}
+use Rattle.ptpm_network.proofs.Common.{PORTS, by_test, suc, zero, arith, ◌≡◌, ℕ, ◌<◌, ◌≤◌, ◌+◌, ◌-◌, ◌*◌, ◌/◌, ◌==◌, ◌&&◌, ◌||◌, Bool, List, [], ◌∷◌, ◌++◌, Some, None, true, refl, sym, ◌∙◌, ap, subst, ⊎_elim, length, length-append, and_from, and_left, and_parts, and_right, cond-false, cond-true, eq-eqb, eqb-false, eqb-true, false≢true, lt-ltb, ne_eqb, or_cases, or_from, append-nil, slice_get_within, flat_map, map, not, slice_get, AllByRecursion, filter, list_any, range_with_len, ClockIdentity, PortIdentity, Message, every_clock, same_clock, boundary_hops, domain_number, Fits, message_of, DataSetsValue, may_forward, egress_ports, forwarded, with_less_hop, copy_of, is_addressed, is_for_this_clock, is_own, names_port, Clock, AreDataSets, IsOfOrigin, IsReached, delivered_at_clock, delivery, forwarded_frames, made_frames, read_messages, AtPort, AtSession, End, IsNetwork, Network, manager, peers, ports, same_end, Frame, NetworkState, RequestOf, ReplyTo, frames_to, history, LinksHaveAtMost, passed_at_most, get_append, le_trans, filter-few, length-range_with_len, length-map, flat-few, slice_get-map, option_map}
 use Rattle.ptpm_network.proofs.Arriving.{history-elsewhere, history-here}
 use Rattle.ptpm_network.proofs.Exchanging.{clocks_apart, message-domain}
 use Rattle.ptpm_network.proofs.Frames.{says_reply, says_request}
@@ -81,9 +81,9 @@ egress-in p q d ne y =
 
 -- ---- how many frames a message makes at most
 
--- each end has so few others that eight of them make no more frames than this
+-- each end has so few others that a clock with all of them at each port makes no more frames than this
 abbrev pub MakesAtMost : Network → ℕ → Type 0
-MakesAtMost N most = (e : End) → 8 * length (peers N.links e) ≤ most
+MakesAtMost N most = (e : End) → PORTS * length (peers N.links e) ≤ most
 
 few-peers : (ends : ℕ) (links : List (List End)) (e : End)
     → AllByRecursion (λ link. length link ≤ ends) links
@@ -99,12 +99,12 @@ pub few-made : (N : Network) (ends : ℕ)
 few-made N ends all e = let few = few-peers ends N.links e all in omega (arith, few)
 
 pub few-forwarded : (N : Network) (most c : ℕ) (f : Frame) (sent : List (ℕ × List ℕ))
-    → MakesAtMost N most → length sent ≤ 8
+    → MakesAtMost N most → length sent ≤ PORTS
     → length (forwarded_frames N c f sent) ≤ most
 few-forwarded N most c f sent few le =
-    let each = flat-few (λ (m : ℕ × List ℕ). frames_to (peers N.links (AtPort c m.0)) m.1 f.origin f.first_hops (f.forwardings + 1)) (most / 8)
+    let each = flat-few (λ (m : ℕ × List ℕ). frames_to (peers N.links (AtPort c m.0)) m.1 f.origin f.first_hops (f.forwardings + 1)) (most / PORTS)
     (λ m. rw length-map (omega (arith, few (AtPort c m.0)))) sent in
-    omega (arith, each, mul-le-mul_left (most / 8) le)
+    omega (arith, each, mul-le-mul_left (most / PORTS) le)
 
 -- ---- a message on its way is for neither this clock nor every clock
 
@@ -193,7 +193,7 @@ pub passing-few : (N : Network) (w : NetworkState) (most c p q : ℕ) (f : Frame
 passing-few N w most c p q f few sets v may =
     let d = (history N w c).sets in
     let sent : List (ℕ × List ℕ) = map (λ port. (port, with_less_hop f.octets)) (egress_ports p d) in
-    let size : length sent ≤ 8 = grind (arith, length-map, filter-few, length-range_with_len) in
+    let size : length sent ≤ PORTS = grind (arith, length-map, filter-few, length-range_with_len) in
     let made : length (made_frames N c (history N w c) p f) ≤ most = grind (arith, made-passing, few-forwarded) in
     omega (arith, made, length-append w.frames (made_frames N c (history N w c) p f))
 

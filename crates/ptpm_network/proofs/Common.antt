@@ -34,6 +34,7 @@ pub use Rattle.ptpm_codec.proofs.MessageLaws.{reply_action-is_reply}
 pub use Rattle.ptpm_codec.proofs.OrderedLaws.{first_of-none, option_or-none}
 pub use Rattle.ptpm_codec.proofs.PlaceLaws.{number-take, number_at-octets, octet-take}
 pub use Rattle.ptpm_codec.proofs.ReadingLaws.{IsOctets, message_of-some, message_of-spells, message_size, octets-take, spells-message_of}
+pub use Rattle.ptpm_data.specs.declared.ports.TheConstants.{PORTS}
 pub use Rattle.ptpm_data.specs.Changes.{is_named}
 unfoldable pub use Rattle.ptpm_data.specs.Changes.{changed_by, set_members}
 pub use Rattle.ptpm_data.specs.DataField.{data_field_at}

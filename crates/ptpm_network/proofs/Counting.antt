@@ -1,5 +1,5 @@
 -- How many frames an event makes.
-use Rattle.ptpm_network.proofs.Common.{Replay, no_end, to_end, by_test, arith, ◌≡◌, ℕ, ◌+◌, ◌<◌, ◌≤◌, List, [], ◌∷◌, ◌++◌, Option, Some, None, refl, subst, length, length-append, ltb-false, length-map, nat_lt, AllByRecursion, list_any, first_of-none, option_or-none, ClockIdentity, Message, canonical, boundary_hops, message_of, DataSetsValue, ReplyValue, Heard, rendered, forwarded, forwarded_by, is_forwarded, due_messages, RequestCopy, copy_of, due_reply, Deliver, Event, FramesAtMaximum, IsInRange, Send, Stranger, forged, frame_at, frames_limit, no_frame, no_port, no_room, no_session, refusal, send_refused, IsReached, answer_messages, answer_origin, answering_frames, arrives, delivery, forwarded_frames, happens, made_frames, run, sent_frames, step, strange_frame, AtPort, AtSession, End, HasEnd, IsLink, IsNetwork, Network, peers, ports, same_end, Frame, NetworkState, Origin, frames_to, history, filter-fewer, flat-few}
+use Rattle.ptpm_network.proofs.Common.{PORTS, Replay, no_end, to_end, by_test, arith, ◌≡◌, ℕ, ◌+◌, ◌<◌, ◌≤◌, List, [], ◌∷◌, ◌++◌, Option, Some, None, refl, subst, length, length-append, ltb-false, length-map, nat_lt, AllByRecursion, list_any, first_of-none, option_or-none, ClockIdentity, Message, canonical, boundary_hops, message_of, DataSetsValue, ReplyValue, Heard, rendered, forwarded, forwarded_by, is_forwarded, due_messages, RequestCopy, copy_of, due_reply, Deliver, Event, FramesAtMaximum, IsInRange, Send, Stranger, forged, frame_at, frames_limit, no_frame, no_port, no_room, no_session, refusal, send_refused, IsReached, answer_messages, answer_origin, answering_frames, arrives, delivery, forwarded_frames, happens, made_frames, run, sent_frames, step, strange_frame, AtPort, AtSession, End, HasEnd, IsLink, IsNetwork, Network, peers, ports, same_end, Frame, NetworkState, Origin, frames_to, history, filter-fewer, flat-few}
 use Rattle.ptpm_agent.proofs.Egress.{copies_up_to-all, length-copies_up_to_but_one}
 use Rattle.ptpm_network.proofs.Answering.{keeps_due}
 use Rattle.ptpm_network.proofs.Arriving.{IsCopyOf, arrives-reached, is_copy_of}
@@ -31,15 +31,15 @@ module _ (N : Network) (n : IsNetwork N) where
 
 -- ---- one turn of a clock
 
-module _ (me : ClockIdentity) (port : ℕ) (d : DataSetsValue) (octets : List ℕ) (low : 1 ≤ port) (high : port ≤ length d.ports) (eight : length d.ports ≤ 8) where
-  -- at most seven copies are passed on
-  forwarded_by-few : (o : Option Message) → length (forwarded_by me port d octets o) ≤ 7
+module _ (me : ClockIdentity) (port : ℕ) (d : DataSetsValue) (octets : List ℕ) (low : 1 ≤ port) (high : port ≤ length d.ports) (few : length d.ports ≤ PORTS) where
+  -- a copy is passed on at each port but one, at most
+  forwarded_by-few : (o : Option Message) → length (forwarded_by me port d octets o) ≤ PORTS - 1
   forwarded_by-few None = omega arith
   forwarded_by-few (Some v) = by_test (is_forwarded me port d v)
       (λ y. rw (y, ← (copies_up_to-all port d octets)) (omega (arith, length-copies_up_to_but_one port d octets (length d.ports) low high)))
       (λ n. rw n (omega arith))
 
-  forwarded-few : length (forwarded me port d octets) ≤ 7
+  forwarded-few : length (forwarded me port d octets) ≤ PORTS - 1
   unfolding forwarded
   forwarded-few = forwarded_by-few (message_of octets)
 
@@ -54,7 +54,7 @@ due-few : (N : Network) (w : NetworkState) (c port : ℕ) (f : Frame) (copy : Re
     → IsReached N (arrives w c (delivery port f)) → IsCopyOf N w c port f copy
     → copy_of (N.clock c) (ports N c) (delivery port f) ≡ Some copy
     → due_reply (N.clock c) (history N w c) copy ≡ o
-    → length (due_messages (N.clock c) copy o) ≤ 8
+    → length (due_messages (N.clock c) copy o) ≤ PORTS
 due-few N w c port f copy None reached of e d = omega arith
 due-few N w c port f copy (Some r) reached of e d =
     let keeps = keeps_due N w c port f copy r reached of e d in
@@ -63,10 +63,10 @@ due-few N w c port f copy (Some r) reached of e d =
 
 answers-few : (N : Network) (w : NetworkState) (c port : ℕ) (f : Frame) (o : Option RequestCopy)
     → IsNetwork N → IsReached N w → c < N.clocks → IsHeard N w f.octets f.origin
-    → length (history N w c).sets.ports ≤ 8 → copy_of (N.clock c) (ports N c) (delivery port f) ≡ o
-    → length (answer_messages (N.clock c) (history N w c) port f.octets o) ≤ 8
-answers-few N w c port f None n r place i eight e = grind (arith, length-rendered, read_few)
-answers-few N w c port f (Some copy) n r place i eight e =
+    → length (history N w c).sets.ports ≤ PORTS → copy_of (N.clock c) (ports N c) (delivery port f) ≡ o
+    → length (answer_messages (N.clock c) (history N w c) port f.octets o) ≤ PORTS
+answers-few N w c port f None n r place i few e = grind (arith, length-rendered, read_few)
+answers-few N w c port f (Some copy) n r place i few e =
     due-few N w c port f copy (due_reply (N.clock c) (history N w c) copy) (arrives-reached N w c port f n r place i) (is_copy_of N w c port f copy n r place i e) e refl
 
 made-few : (N : Network) (w : NetworkState) (c port : ℕ) (f : Frame)
@@ -76,7 +76,7 @@ made-few N w c port f n r end i =
     let h = history N w c in
     let sets = r.clocks c end.0 in
     let has : port ≤ length h.sets.ports = rw sets.ports_are end.2 in
-    let eight : length h.sets.ports ≤ 8 = rw sets.ports_are sets.at_most_eight in
+    let few : length h.sets.ports ≤ PORTS = rw sets.ports_are sets.few_ports in
     let copy = copy_of (N.clock c) (ports N c) (delivery port f) in
     let sent = forwarded (N.clock c).identity port h.sets f.octets in
     let told = answer_messages (N.clock c) h port f.octets copy in
@@ -85,8 +85,8 @@ made-few N w c port f n r end i =
       length-append (forwarded_frames N c f sent) (answering_frames N c h port f copy),
       flat-few _ 15 (λ m. frames_to-few N n (AtPort c m.0) m.1 f.origin f.first_hops (f.forwardings + 1)) sent,
       flat-few _ 15 (λ m. frames_to-few N n (AtPort c m.0) m.1 (answer_origin f.origin copy) (boundary_hops m.1) 0) told,
-      forwarded-few (N.clock c).identity port h.sets f.octets end.1 has eight,
-      answers-few N w c port f copy n r end.0 i eight refl,
+      forwarded-few (N.clock c).identity port h.sets f.octets end.1 has few,
+      answers-few N w c port f copy n r end.0 i few refl,
     )
 
 -- ---- any event

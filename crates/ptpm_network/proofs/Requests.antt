@@ -1,5 +1,5 @@
 -- What a request keeps of the data sets, and what its reply says.
-use Rattle.ptpm_network.proofs.Common.{◌∙◌, or_cases, ⊎_elim, and_parts, names_port, every_port, eqb-true, ◌==◌, ◌&&◌, nat_le, leb-true, arith, ◌≡◌, refl, ℕ, zero, suc, ◌+◌, ◌<◌, ◌≤◌, ◌^◌, Bool, true, false, List, length, map, Option, Some, None, cond-true, cond-false, length-map, AllByRecursion, filter, range_with_len, ErrorId, Action, IsDataField, changed_by, is_named, data_field_at, is_of_port, DataSetsValue, refusal_of, answer, named_ports, outcome, read_refusal, read_reply_to, reply_of, reply_to, RequestValue, changed_by-ports, changed_by-sized, Answers, AreDataSets, HasOneAnswer, IsForOne, IsSendable, IsSendableOutcome, all_made, filter-few, length-range_with_len}
+use Rattle.ptpm_network.proofs.Common.{PORTS, ◌∙◌, or_cases, ⊎_elim, and_parts, names_port, every_port, eqb-true, ◌==◌, ◌&&◌, nat_le, leb-true, arith, ◌≡◌, refl, ℕ, zero, suc, ◌+◌, ◌<◌, ◌≤◌, ◌^◌, Bool, true, false, List, length, map, Option, Some, None, cond-true, cond-false, length-map, AllByRecursion, filter, range_with_len, ErrorId, Action, IsDataField, changed_by, is_named, data_field_at, is_of_port, DataSetsValue, refusal_of, answer, named_ports, outcome, read_refusal, read_reply_to, reply_of, reply_to, RequestValue, changed_by-ports, changed_by-sized, Answers, AreDataSets, HasOneAnswer, IsForOne, IsSendable, IsSendableOutcome, all_made, filter-few, length-range_with_len}
 use Rattle.ptpm_codec.specs.declared.message.Action.TheVariants as actions
 use Rattle.ptpm_data.specs.declared.rights.Rights.{Rights}
 use Rattle.ptpm_data.specs.Observation.{observed}
@@ -35,7 +35,7 @@ observed-kept o ports d fits s =
       description = after.text;
       ports_are = count;
       some_port = s.some_port;
-      at_most_eight = s.at_most_eight;
+      few_ports = s.few_ports;
     }
 
 -- ---- what an answer says
@@ -77,7 +77,7 @@ answers-sendable true q refusal d s =
     all_made P IsSendable (answer q refusal d) (λ own fits. fits) (map Some named)
     (all_made (λ k. k < 2 ^ 16) P (λ k. Some k)
     (λ k small. grind (arith, outcome-sendable, shown))
-    named (named-small q.port 1 (length d.ports) (omega (arith, s.at_most_eight))))
+    named (named-small q.port 1 (length d.ports) (omega (arith, s.few_ports))))
 answers-sendable false q refusal d s = (record { port = tt; outcome = outcome-sendable refusal q.action _ (shown q.id None d s) }, tt)
 
 reply_of-answers : (q : RequestValue) (refusal : Option ErrorId) (d : DataSetsValue)
@@ -116,12 +116,12 @@ unfolding reply_to
 once q r ports d s one =
     let after = kept q r ports d s in
     let has : is_of_port q.id ≡ true → (1 ≤ q.port) × (q.port ≤ length (changed_by q r d).ports) = grind arith in
-    let one' = reply_of-one q (refusal_of q r) (changed_by q r d) has (sized ports (changed_by q r d) after).at_most_eight in grind arith
+    let one' = reply_of-one q (refusal_of q r) (changed_by q r d) has (sized ports (changed_by q r d) after).few_ports in grind arith
 
--- ---- at most eight
+-- ---- at most as many as a clock has ports
 
 pub read_few : (q : RequestValue) (d : DataSetsValue)
-    → length d.ports ≤ 8
-    → length (read_reply_to q d).answers ≤ 8
+    → length d.ports ≤ PORTS
+    → length (read_reply_to q d).answers ≤ PORTS
 unfolding named_ports read_reply_to reply_of
-read_few q d eight = grind (arith, length-map, filter-few, length-range_with_len)
+read_few q d few = grind (arith, length-map, filter-few, length-range_with_len)

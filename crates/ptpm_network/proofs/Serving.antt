@@ -203,7 +203,7 @@ module _ (N : Network) (n : IsNetwork N) (s : ℕ) (place : s < N.sessions) (r :
       (λ (nil : (turn (N.clock c) st port f.octets).replies ≡ []). subst (AllByRecursion P) (sym nil) tt)
       (λ (told : Replied (manager N s) (N.clock c) st port f.octets v by.k new). subst (AllByRecursion P) (sym told.is)
       (kept-frame N s by.k port new (N.clock c).identity (heard_of v) told.entry (sym (n.are_sessions s place).target) o.positive told.kept
-      (kept_says N s by.k new a.begun told.entry keeps o.positive told.kept).one o.source o.number (small port (ports N c) end.2 (n.are_clocks c end.0).at_most_eight)))
+      (kept_says N s by.k new a.begun told.entry keeps o.positive told.kept).one o.source o.number (small port (ports N c) end.2 (n.are_clocks c end.0).few_ports)))
       t.replies)))))
       (λ (ne : by.session ≡ s → ⊥).
       let other : same_identity (manager N s) v.source ≡ false = grind (arith, false_from_ne_true, same_identity-true) in

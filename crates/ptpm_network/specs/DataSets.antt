@@ -2,6 +2,7 @@
 use Rattle.std.specs.Prelude.{◌≡◌, ℕ, ◌<◌, ◌≤◌, ◌^◌, true, [], ◌∷◌, length, Option, Some, None}
 use Rattle.std.specs.List.{AllByRecursion}
 use Rattle.ptpm_codec.specs.Message.{IsDataField}
+use Rattle.ptpm_data.specs.declared.ports.TheConstants.{PORTS}
 use Rattle.ptpm_data.specs.ManagementId.{is_of_port}
 use Rattle.ptpm_data.specs.Members.{DataSetsValue}
 use Rattle.ptpm_data.specs.Reply as reply
@@ -9,7 +10,7 @@ use Rattle.ptpm_data.specs.Reply.{Answer, Outcome, ReplyValue}
 use Rattle.ptpm_data.specs.Request.{RequestValue}
 use Rattle.ptpm_codec.specs.Message.{reply_action}
 
--- the data sets of a clock of this many ports, one to eight: identities have eight octets, and the description fits
+-- the data sets of a clock of this many ports, 1 to PORTS: identities have eight octets, and the description fits
 pub record AreDataSets (ports : ℕ) (d : DataSetsValue) : Type 0 where
   pub identity : length d.default.identity.0 ≡ 8
   pub parent : length d.parent.parent_port.clock.0 ≡ 8
@@ -17,7 +18,7 @@ pub record AreDataSets (ports : ℕ) (d : DataSetsValue) : Type 0 where
   pub description : length d.description ≤ 128
   pub ports_are : length d.ports ≡ ports
   pub some_port : 1 ≤ ports
-  pub at_most_eight : ports ≤ 8
+  pub few_ports : ports ≤ PORTS
 
 -- ---- replies that can be sent
 

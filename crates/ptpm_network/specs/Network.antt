@@ -4,6 +4,7 @@ use Rattle.std.specs.List.{AllByRecursion, filter, list_any}
 use Rattle.ptpm_codec.specs.declared.identity.PortIdentity.{PortIdentity}
 use Rattle.ptpm_codec.specs.Identity.{every_clock}
 use Rattle.ptpm_codec.specs.Message.{PortIdentityFits}
+use Rattle.ptpm_data.specs.declared.ports.TheConstants.{PORTS}
 use Rattle.ptpm_data.specs.Members.{DataSetsValue}
 use Rattle.ptpm_table.specs.Entries.{is_known}
 use Rattle.ptpm_agent.specs.Turn.{Clock}
@@ -62,12 +63,12 @@ HasEnd N (AtSession s) = s < N.sessions
 
 -- ---- what holds of the network of every accepted file
 
--- a clock of one to eight ports, whose identity is not the one that means every clock
+-- a clock of 1 to PORTS ports, whose identity is not the one that means every clock
 pub record IsClock (N : Network) (c : ℕ) : Type 0 where
   pub identity : length (N.clock c).identity.0 ≡ 8
   pub is_one : (N.clock c).identity ≢ every_clock
   pub some_port : 1 ≤ ports N c
-  pub at_most_eight : ports N c ≤ 8
+  pub few_ports : ports N c ≤ PORTS
   pub start : AreDataSets (ports N c) (N.start c)
 
 -- A session with one of the clocks for its target, set up with that clock's identity. It takes the clock to have 1 to 255 ports,

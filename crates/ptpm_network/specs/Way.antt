@@ -1,6 +1,7 @@
 -- A way from a session to its target over other clocks, and what it takes for one copy each way to come through.
 use Rattle.std.specs.Prelude.{◌≡◌, ◌≢◌, ℕ, ◌+◌, ◌*◌, ◌≤◌, true, false, List, [], ◌∷◌, ◌++◌, length, Some, None, ◌⊎◌}
 use Rattle.std.specs.List.{AllByRecursion, list_any}
+use Rattle.ptpm_data.specs.declared.ports.TheConstants.{PORTS}
 use Rattle.ptpm_data.specs.Members.{may_forward}
 use Rattle.ptpm_manager.specs.declared.report.Report.{Report}
 use Rattle.ptpm_manager.specs.Session.{is_waiting}
@@ -60,9 +61,9 @@ IsWay N w s hops port = IsWayIn N w s (w.session s).domain hops port
 abbrev pub LinksHaveAtMost : Network → ℕ → Type 0
 LinksHaveAtMost N ends = AllByRecursion (λ link. length link ≤ ends) N.links
 
--- a clock of eight ports makes at most this many frames of one message that it passes on
+-- a clock makes at most this many frames of one message that it passes on
 abbrev pub passed_at_most : ℕ → ℕ
-passed_at_most ends = 8 * ends
+passed_at_most ends = PORTS * ends
 
 -- the frames that are made at most, if one message makes this many: at the target, and twice at each clock on the way
 abbrev pub made_along : ℕ → List Hop → ℕ

@@ -8,6 +8,8 @@ use Rattle.std.proofs.lemmas.List.Concat.{flat_map-append}
 use Rattle.ptpm_codec.specs.declared.message.Action.{Action}
 use Rattle.byteorder.specs.Endian.{big_bytes}
 use Rattle.ptpm_codec.specs.Canonical.{port_identity_octets}
+use Rattle.ptpm_data.specs.declared.image.TheConstants.{DATA_SETS_OCTETS}
+use Rattle.ptpm_data.specs.declared.ports.TheConstants.{PORTS}
 use Rattle.ptpm_data.specs.Image.{DataSetsFit, clock_image as clock_members, data_sets_octets, ports_image}
 use Rattle.ptpm_data.specs.Members.{DataSetsValue}
 use Rattle.ptpm_data.specs.RequestLaws.{IsSized}
@@ -22,6 +24,7 @@ use Rattle.ptpm_table.specs.Entries.{Entries, Entry, FitsAnswer, FitsCount, Fits
 use Rattle.ptpm_table.specs.Lending.{EntryFits, IsKeepable, IsNext, ManagerEntry}
 use Rattle.ptpm_codec.specs.declared.identity.PortIdentity.{PortIdentity}
 use Rattle.ptpm_saved.specs.Image.{answer_image, answers_image, body_image, clock_image, entries_image, entry_image, front_image, outcome_image, port_octets, saved_image, saved_of}
+use Rattle.ptpm_saved.specs.declared.image.TheConstants.{ANSWERS_OCTETS, CLOCK_OCTETS, ENTRY_OCTETS}
 use Rattle.ptpm_saved.proofs.EntryOrder.{after_at, after_next, next_is}
 
 -- ---- one after the other
@@ -48,11 +51,11 @@ next_place i = omega arith
 
 -- ---- answers
 
-few_answers : (b : Bool) (n : ℕ) → FitsCount b n → n ≤ 8
+few_answers : (b : Bool) (n : ℕ) → FitsCount b n → n ≤ PORTS
 few_answers false n fits = omega (arith, fits)
 few_answers true n fits = fits.1
 
-pub reply_few : (q : RequestValue) (r : ReplyValue) → FitsRequest q r → length r.answers ≤ 8
+pub reply_few : (q : RequestValue) (r : ReplyValue) → FitsRequest q r → length r.answers ≤ PORTS
 reply_few q r fits = few_answers (is_of_port q.id) (length r.answers) fits.count
 
 outcome_small : (action : Action) (most : ℕ) (o : Outcome)
@@ -96,9 +99,9 @@ each_small action (a ∷ xs) fits =
 answers_small : (b : Bool) (action : Action) (xs : List Answer)
     → FitsCount b (length xs)
     → All (FitsAnswer b action) xs
-    → length (answers_image xs) ≤ 240
+    → length (answers_image xs) ≤ ANSWERS_OCTETS
 unfolding answers_image
-answers_small true action xs count fits = let few : length xs ≤ 8 = count.1 in omega (arith, each_small action xs fits)
+answers_small true action xs count fits = let few : length xs ≤ PORTS = count.1 in omega (arith, each_small action xs fits)
 answers_small false action [] count fits = omega arith
 answers_small false action (a ∷ []) count fits =
     omega (arith, length-append (answer_image a) [], of_clock_size action a (All-head (FitsAnswer false action) a [] fits))
@@ -278,7 +281,7 @@ front_length p n q eight =
       eight,
     )
 
-pub entry_small : (x : ManagerEntry) → IsKeepable x.entry → EntryFits x → length (entry_image (x.manager, x.entry)) ≤ 1678
+pub entry_small : (x : ManagerEntry) → IsKeepable x.entry → EntryFits x → length (entry_image (x.manager, x.entry)) ≤ ENTRY_OCTETS
 entry_small x keepable fits =
     let small : length x.entry.request.octets ≤ 1418 = keepable.octets.small in
     omega (
@@ -310,10 +313,10 @@ image_length s =
       body_length s,
     )
 
-pub sets_small : (d : DataSetsValue) → IsSized d → DataSetsFit d → length (data_sets_octets d) ≤ 324
+pub sets_small : (d : DataSetsValue) → IsSized d → DataSetsFit d → length (data_sets_octets d) ≤ DATA_SETS_OCTETS
 unfolding data_sets_octets
 sets_small d sized fits =
-    let few : length d.ports ≤ 8 = sized.at_most_eight in
+    let few : length d.ports ≤ PORTS = sized.few_ports in
     let text : length d.description ≤ 128 = sized.text in
     omega (
       arith,
@@ -340,7 +343,7 @@ parts s size whole =
 -- what a place has room for: these octets of the data sets, one more, and these of the entries, or those of any entries
 pub record HasRoomFor (sets entries : List ℕ) (len : ℕ) : Type 0 where
   pub before : 12 + length sets + 1 ≤ len
-  pub behind : (12 + length sets + 1 + 16 * 1678 ≤ len) ⊎ (12 + length sets + 1 + length entries ≤ len)
+  pub behind : (12 + length sets + 1 + 16 * ENTRY_OCTETS ≤ len) ⊎ (12 + length sets + 1 + length entries ≤ len)
 
 -- so has one that has room for every clock, or for this one
 module _ (s : State) (d : DataSetsValue) (m : Entries) (of_sets : d ≡ s.sets) (of_entries : m ≡ s.entries) where
@@ -349,12 +352,12 @@ module _ (s : State) (d : DataSetsValue) (m : Entries) (of_sets : d ≡ s.sets) 
       image_length s
       ∙ (λ i. 12 + length (data_sets_octets (sym of_sets i)) + 1 + length (entries_image (entries (sym of_entries i))))
 
-  pub has_room : (len : ℕ) → IsSized d → DataSetsFit d → (27185 ≤ len) ⊎ (length (clock_image s) ≤ len)
+  pub has_room : (len : ℕ) → IsSized d → DataSetsFit d → (CLOCK_OCTETS ≤ len) ⊎ (length (clock_image s) ≤ len)
       → HasRoomFor (data_sets_octets d) (entries_image (entries m)) len
   has_room len sized fits =
       let small = sets_small d sized fits in
       ⊎_elim
-      (λ (every : 27185 ≤ len). record { before = omega (arith, every, small); behind = inl (omega (arith, every, small)) })
+      (λ (every : CLOCK_OCTETS ≤ len). record { before = omega (arith, every, small); behind = inl (omega (arith, every, small)) })
       (λ (own : length (clock_image s) ≤ len). record { before = omega (arith, own, size_is); behind = inr (omega (arith, own, size_is)) })
 
   -- the parts, one after the other

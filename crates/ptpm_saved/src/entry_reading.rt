@@ -17,7 +17,7 @@ ghost use Rattle.ptpm_saved.specs.EntryReading.{IsOfPort, RequestFits, IsSmall, 
 use crate::keepable::{fit_answers, fits_count, is_of_port};
 use arrayvec::ArrayVec;
 use ptpm_codec::{Action, ErrorId, PortIdentity, clock_identity_at, is_data_field, put};
-use ptpm_data::{PortAnswer, Reply, Request, Value, What};
+use ptpm_data::{INLINE_PORTS, PortAnswer, Reply, Request, Value, What};
 
 /// An entry without its reply.
 #[derive(Drop)]
@@ -87,9 +87,9 @@ fn read_answers<'a>(
     count: usize,
     of_port: bool,
     octets: &'a [u8],
-    answers: &mut ArrayVec<PortAnswer, 8>,
+    answers: &mut ArrayVec<PortAnswer, INLINE_PORTS>,
 ) -> Option<&'a [u8]>
-    requires { count ≤ 8 }
+    requires { count ≤ INLINE_PORTS }
     ensures count { IfSome result (λ rest. length answers.new.items ≡ count) }
     ensures sound { IfSome result
         (λ rest. octets.now ≡ answers_image (map answer_of answers.new.items) ++ rest.now) }

@@ -16,7 +16,7 @@ ghost use Rattle.ptpm_saved.specs.Written.{over};
 use arrayvec::ArrayVec;
 use ptpm_agent::Agent;
 use ptpm_codec::{DATA_FIELD_OCTETS, put, put_u16};
-use ptpm_data::{DATA_SETS_OCTETS, DataSets, Request, data_sets_law, fits_law};
+use ptpm_data::{DATA_SETS_OCTETS, DataSets, PORTS, Request, data_sets_law, fits_law};
 use ptpm_table::{LendingTable, LentAnswer, LentEntry, LentWhat};
 
 /// How many octets an image has before the clock.
@@ -25,8 +25,8 @@ pub(crate) const HEAD_OCTETS: usize = 12;
 /// How many octets the image of an entry has before the request's dataField.
 const FRONT_OCTETS: usize = 19;
 
-/// How many octets the images of a reply's answers have at most: eight of 30.
-const ANSWERS_OCTETS: usize = 240;
+/// How many octets the images of a reply's answers have at most: 30 each.
+const ANSWERS_OCTETS: usize = 30 * PORTS;
 
 /// How many octets the image of an entry has at most: those before the dataField, the dataField, one that counts the answers, and
 /// the answers.

@@ -7,7 +7,7 @@ ghost use Rattle.ptpm_data.specs.Reply.{answer_of, outcome_of};
 ghost use Rattle.ptpm_table.specs.Entries.{FitsAnswer, FitsCount, FitsOutcome};
 
 use ptpm_codec::Action;
-use ptpm_data::{PortAnswer, Scope, What, row};
+use ptpm_data::{PORTS, PortAnswer, Scope, What, row};
 
 /// Whether the members of an id belong to the ports.
 pub(crate) fn is_of_port(id: u16) -> bool
@@ -24,7 +24,7 @@ pub(crate) fn fits_count(of_port: bool, count: usize) -> bool
     ensures { IsTrue result ↔ FitsCount of_port count }
 {
     if of_port {
-        1 <= count && count <= 8
+        1 <= count && count <= PORTS
     } else {
         count == 1
     }

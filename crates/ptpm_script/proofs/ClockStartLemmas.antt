@@ -20,6 +20,7 @@ use Rattle.ptpm_data.specs.declared.start.ClockStart.{ClockStart}
 use Rattle.ptpm_data.specs.declared.start.PortStart.{PortStart}
 use Rattle.ptpm_data.specs.declared.start.StartError.{StartError}
 use Rattle.ptpm_data.specs.declared.start.StartError.TheVariants.{GrandmasterDiffers, NoPorts, TooManyPorts}
+use Rattle.ptpm_script.specs.declared.limits.TheConstants.{CLOCK_PORTS}
 use Rattle.ptpm_script.specs.declared.net_error.NetError.TheVariants.{BadClock}
 use Rattle.ptpm_script.specs.declared.rules.Kind.TheVariants as kinds
 use Rattle.ptpm_script.specs.Faults.{first_refusal}
@@ -57,21 +58,21 @@ tells_else false x o xs ys h k = tells-append None o xs ys h (λ i. k)
 
 count_tells_at : (n : ℕ) (spot : Spot) (ms : Members) → is_some (get_member (codes "ports") ms) ≡ true
     → Tells (count_fault n)
-    (start_mark_if (n == 0) NoPorts spot (codes "ports") ms ++ start_mark_if (nat_lt 8 n) TooManyPorts spot (codes "ports") ms)
+    (start_mark_if (n == 0) NoPorts spot (codes "ports") ms ++ start_mark_if (nat_lt CLOCK_PORTS n) TooManyPorts spot (codes "ports") ms)
 unfolding count_fault
 count_tells_at n spot ms there =
     let key = codes "ports" in
-    tells_else (n == 0) NoPorts (fault_if (nat_lt 8 n) TooManyPorts)
-    (start_mark_if (n == 0) NoPorts spot key ms) (start_mark_if (nat_lt 8 n) TooManyPorts spot key ms)
+    tells_else (n == 0) NoPorts (fault_if (nat_lt CLOCK_PORTS n) TooManyPorts)
+    (start_mark_if (n == 0) NoPorts spot key ms) (start_mark_if (nat_lt CLOCK_PORTS n) TooManyPorts spot key ms)
     (tells-value (n == 0) NoPorts spot key ms (never_absent (n == 0) (get_member key ms) there))
-    (tells-value (nat_lt 8 n) TooManyPorts spot key ms (never_absent (nat_lt 8 n) (get_member key ms) there))
+    (tells-value (nat_lt CLOCK_PORTS n) TooManyPorts spot key ms (never_absent (nat_lt CLOCK_PORTS n) (get_member key ms) there))
 
 count_tells : (c : ClockHeadValue) (k : SoundClock c) → Tells (count_fault k.count) (count_start_marks c)
 unfolding count_start_marks
 count_tells c k =
     let key = codes "ports" in
     subst (λ o. Tells (count_fault k.count) (start_mark_if (passes (λ n. n == 0) o) NoPorts c.spot key c.table
-    ++ start_mark_if (passes (λ n. nat_lt 8 n) o) TooManyPorts c.spot key c.table)) (sym k.count_is)
+    ++ start_mark_if (passes (λ n. nat_lt CLOCK_PORTS n) o) TooManyPorts c.spot key c.table)) (sym k.count_is)
     (count_tells_at k.count c.spot c.table (key-there clock_rules c.table key k.keeps refl))
 
 -- ---- a clock's members
@@ -197,14 +198,14 @@ passes_none : (b : Bool) (e : StartError) (o : Option StartError) → (if b then
 passes_none true e o h = cc
 passes_none false e o h = (refl, h)
 
-count_within : (n : ℕ) → count_fault n ≡ None → (nat_le 1 n && nat_le n 8) ≡ true
+count_within : (n : ℕ) → count_fault n ≡ None → (nat_le 1 n && nat_le n CLOCK_PORTS) ≡ true
 unfolding count_fault
 count_within n h = grind (arith, nat_tests, passes_none)
 
-within : (n : ℕ) → (nat_le 1 n && nat_le n 8) ≡ true → (1 ≤ n) × (n ≤ 8)
+within : (n : ℕ) → (nat_le 1 n && nat_le n CLOCK_PORTS) ≡ true → (1 ≤ n) × (n ≤ CLOCK_PORTS)
 within n h = (grind (arith, nat_tests), grind (arith, nat_tests))
 
-none_past : (c : ClockHeadValue) (k : SoundClock c) → clock_past_ports c ≡ [] → (nat_le 1 k.count && nat_le k.count 8) ≡ true
+none_past : (c : ClockHeadValue) (k : SoundClock c) → clock_past_ports c ≡ [] → (nat_le 1 k.count && nat_le k.count CLOCK_PORTS) ≡ true
     → each (past_port c.number k.count) 1 (items_at (codes "port") c.table) ≡ []
 unfolding clock_past_ports
 none_past c k none few =
@@ -230,7 +231,7 @@ tells_of c k domain once past =
     let own : Tells (fault_of_grandmaster s) (grandmaster_marks c) =
     subst (λ o. Tells (fault_of_grandmaster s) (own_marks_if c.spot c.table o)) (sym k.identity_is)
     (grandmaster_tells c.spot k.identity domain c.table k.keeps) in
-    let found = ports_start_marks 9 c.number (items_at (codes "port") c.table) in
+    let found = ports_start_marks (CLOCK_PORTS + 1) c.number (items_at (codes "port") c.table) in
     let of_ports = λ (none : count_fault (length ports) ≡ None).
     let few = count_within k.count (sym (ap count_fault long) ∙ none) in
     ports-tell c.number k.count (items_at (codes "port") c.table) k.ports once (none_past c k past few) (within k.count few).1 in
@@ -285,7 +286,7 @@ can-start c k once past none =
     let fault = no_fault (start_fault s ports) (sym (ap first_refusal none) ∙ start-tells c k once past) in
     let few = within (length ports) (count_within (length ports)
     (or_none (count_fault (length ports)) (option_or (clock_fault s) (option_or (ports_fault ports) (fault_of_grandmaster s))) fault)) in
-    record { starts = starts s ports fault; some_port = few.0; at_most_eight = few.1; is_one = not_every c k }
+    record { starts = starts s ports fault; some_port = few.0; few_ports = few.1; is_one = not_every c k }
 
 -- a sound clock whose ports' numbers are there, each once
 pub record Numbered (c : ClockHeadValue) : Type 0 where

@@ -11,6 +11,7 @@ use Rattle.std.proofs.lemmas.List.Sums.{sum_by-cons}
 use Rattle.std.proofs.lemmas.Option.{same_Some, slice_get-map, slice_get_within}
 use Rattle.std.proofs.lemmas.Slice.Eq.{bytes_eq-Decides}
 use Rattle.toml.specs.Data.{Data, Members, as_str}
+use Rattle.ptpm_script.specs.declared.limits.TheConstants.{CLOCK_PORTS}
 use Rattle.ptpm_script.specs.declared.net_error.NetError.TheVariants.{NoSuchName, Twice}
 use Rattle.ptpm_script.specs.declared.network.End.{End}
 use Rattle.ptpm_script.specs.declared.place.Array.TheVariants as arrays
@@ -232,12 +233,12 @@ one-place cs ss an bn (Some p) (Some q) a b e =
 -- a number of ports that a clock can start with
 port-within : (o : Option ℕ) (port : ℕ)
     → 1 ≤ unwrap_or o 0
-    → unwrap_or o 0 ≤ 8
+    → unwrap_or o 0 ≤ CLOCK_PORTS
     → passes (λ count. is_past count port) (option_and_then if_ports o) ≡ false
     → (1 ≤ port) × (port ≤ unwrap_or o 0)
 port-within None port low high has = absurd (omega arith)
 port-within (Some n) port low high has =
-    let between : is_between 1 8 n ≡ true = grind (arith, nat_tests) in
+    let between : is_between 1 CLOCK_PORTS n ≡ true = grind (arith, nat_tests) in
     let past : is_past n port ≡ false = sym (ap (λ b. passes (λ count. is_past count port) (if b then Some n else None)) between) ∙ has in
     let parts = or_parts (port == 0) (nat_lt n port) past in
     grind (arith, nat_tests)
@@ -248,7 +249,7 @@ unfolding clock_of ports_of_clock
 has-port c port start has =
     let count = length-map-range_with_len (start_of_port (items_at (codes "port") c.table)) 1 (unwrap_or c.count 0) in
     let low = start.some_port in
-    let high = start.at_most_eight in
+    let high = start.few_ports in
     let within = port-within c.count port (omega arith) (omega arith) has in
     (within.0, omega arith)
 

@@ -15,6 +15,7 @@ use Rattle.ptpm_data.specs.declared.members.Member.{Member}
 use Rattle.ptpm_data.specs.declared.members.Member.TheVariants as members
 use Rattle.ptpm_data.specs.declared.port_setting.PortSetting.{PortSetting}
 use Rattle.ptpm_data.specs.declared.port_setting.PortSetting.TheVariants as settings
+use Rattle.ptpm_script.specs.declared.limits.TheConstants.{CLOCK_PORTS}
 use Rattle.ptpm_script.specs.declared.net_error.NetError.TheVariants.{NoSuchName, Twice}
 use Rattle.ptpm_script.specs.Heads.{members_number, number_in}
 use Rattle.ptpm_script.specs.Marks.{Mark, Spot, each, each_after, in_port}
@@ -85,10 +86,10 @@ number_there d p = key-there port_rules p.table (codes "number") p.keeps refl
 not_past : (n count : ℕ) → is_past count n ≡ false → n ≤ count
 not_past n count h = grind (arith, nat_tests)
 
-within_eight : (n count : ℕ) → is_past count n ≡ false → count ≤ 8 → (nat_le 1 n && nat_le n 8) ≡ true
-within_eight n count h few = grind (arith, nat_tests)
+within_few : (n count : ℕ) → is_past count n ≡ false → count ≤ CLOCK_PORTS → (nat_le 1 n && nat_le n CLOCK_PORTS) ≡ true
+within_few n count h few = grind (arith, nat_tests)
 
-is_there : (clock n count : ℕ) (d : Data) (p : SoundPort d) → past_port clock count n d ≡ [] → count ≤ 8 → IsThere count d
+is_there : (clock n count : ℕ) (d : Data) (p : SoundPort d) → past_port clock count n d ≡ [] → count ≤ CLOCK_PORTS → IsThere count d
 is_there clock n count d p none few =
     let shown : number_in d ≡ Some p.number = ap members_number p.is ∙ p.number_is in
     let marks : past_members (in_port clock n) count (Some p.table) ≡ [] = subst (λ o. past_members (in_port clock n) count o ≡ []) p.is none in
@@ -99,7 +100,7 @@ is_there clock n count d p none few =
       port = p;
       shown = shown;
       high = not_past p.number count there;
-      own = ap rank_of_number shown ∙ ap (λ b. if b then p.number else 9) (within_eight p.number count there few);
+      own = ap rank_of_number shown ∙ ap (λ b. if b then p.number else CLOCK_PORTS + 1) (within_few p.number count there few);
     }
 
 -- ---- no number is given twice
@@ -227,10 +228,10 @@ ports_tell_from clock first (suc len) (suc most) count ds there once few past =
 pub ports-tell : (clock count : ℕ) (ds : List Data) → AllByRecursion SoundPort ds
     → each_after (port_repeats clock) [] ds ≡ []
     → each (past_port clock count) 1 ds ≡ []
-    → count ≤ 8
-    → Tells (ports_fault (map (start_of_port ds) (range_with_len 1 count))) (ports_start_marks 9 clock ds)
+    → count ≤ CLOCK_PORTS
+    → Tells (ports_fault (map (start_of_port ds) (range_with_len 1 count))) (ports_start_marks (CLOCK_PORTS + 1) clock ds)
 unfolding ports_start_marks
 ports-tell clock count ds sound once none few =
     let there = all-both SoundPort (λ d. (k : ℕ) × (past_port clock count k d ≡ [])) (IsThere count)
     (λ d p past. is_there clock past.0 count d p past.1 few) ds sound (each-none (past_port clock count) 1 ds none) in
-    ports_tell_from clock 1 count 9 count ds there once (omega arith) (omega arith)
+    ports_tell_from clock 1 count (CLOCK_PORTS + 1) count ds there once (omega arith) (omega arith)

@@ -12,6 +12,7 @@ use Rattle.ptpm_data.specs.Start.{clock_fault, port_data_set, start_of}
 use Rattle.ptpm_data.specs.declared.start.ClockStart.{ClockStart}
 use Rattle.ptpm_data.specs.declared.start.PortStart.{PortStart}
 use Rattle.ptpm_data.proofs.StartLemmas.{description_small, description_sound}
+use Rattle.ptpm_script.specs.declared.limits.TheConstants.{CLOCK_PORTS}
 use Rattle.ptpm_script.specs.Heads.{ClockHeadValue, SessionHeadValue, clocks_of, sessions_of}
 use Rattle.ptpm_script.specs.NetworkText.{clock_of, network_in, network_of, session_of, some_port}
 use Rattle.ptpm_script.specs.NetworkValue.{AreSized, CanStart, IsAccepted, NetworkValue, first_sets}
@@ -41,7 +42,7 @@ clock_sized c sound can =
     let identity : length start.identity.0 ≡ 8 = subst (λ o. length (unwrap_or o some_clock).0 ≡ 8) (sym sound.identity_is) sound.identity_size in
     record {
       some_port = subst (λ n. 1 ≤ n) (sym (length-map ports port_data_set)) can.some_port;
-      at_most_eight = subst (λ n. n ≤ 8) (sym (length-map ports port_data_set)) can.at_most_eight;
+      few_ports = subst (λ n. n ≤ CLOCK_PORTS) (sym (length-map ports port_data_set)) can.few_ports;
       text = description_small start.user_description.items (description_sound start (faultless start ports can.starts));
       identity = identity;
       parent = either (λ p. length p.clock.0 ≡ 8) (port_at (codes "parent_port") c.table) (record { clock = start.identity; port = 0 })

@@ -3,6 +3,7 @@ use Rattle.std.specs.Prelude.{ℕ, ◌==◌, nat_lt, Bool, true, not, ◌||◌, 
 use Rattle.toml.specs.Data.{Data, as_table, Members}
 use Rattle.ptpm_script.specs.Spellings.{is_between, passes}
 use Rattle.ptpm_script.specs.Values.{natural_at}
+use Rattle.ptpm_script.specs.declared.limits.TheConstants.{CLOCK_PORTS}
 use Rattle.ptpm_script.specs.declared.net_error.NetError.TheVariants.{NoSuchName}
 use Rattle.ptpm_script.specs.Heads.{ClockHeadValue, EndHeadValue, SessionHeadValue, items_at}
 use Rattle.ptpm_script.specs.Marks.{Mark, Spot, at_item, each, in_port, mark_if, value_mark_if}
@@ -11,7 +12,7 @@ use Rattle.ptpm_script.specs.RepeatFaults.{is_clock_name, is_session_name}
 -- ---- ports: of a clock that can start with its number of ports, and of no other
 
 abbrev pub if_ports : ℕ → Option ℕ
-if_ports count = if is_between 1 8 count then Some count else None
+if_ports count = if is_between 1 CLOCK_PORTS count then Some count else None
 
 abbrev pub ports_of : ClockHeadValue → Option ℕ
 ports_of c = option_and_then if_ports c.count

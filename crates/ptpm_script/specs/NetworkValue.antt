@@ -8,6 +8,7 @@ use Rattle.ptpm_data.specs.RequestLaws.{IsSized}
 use Rattle.ptpm_data.specs.Start.{start_of, started}
 use Rattle.ptpm_data.specs.declared.start.ClockStart.{ClockStart}
 use Rattle.ptpm_data.specs.declared.start.PortStart.{PortStart}
+use Rattle.ptpm_script.specs.declared.limits.TheConstants.{CLOCK_PORTS}
 use Rattle.ptpm_script.specs.declared.network.End.{End}
 use Rattle.ptpm_script.specs.declared.network.End.TheVariants as ends
 use Rattle.ptpm_script.specs.declared.network.NetworkClock.{NetworkClock}
@@ -56,7 +57,7 @@ IsEndOf n (ends.Session place) = place < length n.sessions
 pub record CanStart (c : ClockValue) : Type 0 where
   pub starts : IsOk (start_of c.start c.ports)
   pub some_port : 1 ≤ length c.ports
-  pub at_most_eight : length c.ports ≤ 8
+  pub few_ports : length c.ports ≤ CLOCK_PORTS
   pub is_one : c.start.identity ≢ every_clock
 
 -- a session of one manager, which is no clock, at a clock that is there

@@ -1,5 +1,5 @@
 -- With what a clock of a network file can't start (this project's profile).
-use Rattle.std.specs.Prelude.{ℕ, ◌==◌, nat_le, nat_lt, Bool, true, not, ◌&&◌, if◌then◌else◌, List, [], ◌∷◌, ◌++◌, codes, flat_map, Option, Some, None}
+use Rattle.std.specs.Prelude.{ℕ, ◌+◌, ◌==◌, nat_le, nat_lt, Bool, true, not, ◌&&◌, if◌then◌else◌, List, [], ◌∷◌, ◌++◌, codes, flat_map, Option, Some, None}
 use Rattle.std.specs.List.{range_with_len}
 use Rattle.toml.specs.Data.{Data, as_table, Members}
 use Rattle.ptpm_codec.specs.Identity.{same_clock}
@@ -12,6 +12,7 @@ use Rattle.ptpm_data.specs.declared.start.StartError.{StartError}
 use Rattle.ptpm_data.specs.declared.start.StartError.TheVariants.{NoPorts, TooManyPorts, BadValue, GrandmasterDiffers}
 use Rattle.ptpm_script.specs.Spellings.{passes}
 use Rattle.ptpm_script.specs.Starts.{clock_start, port_start}
+use Rattle.ptpm_script.specs.declared.limits.TheConstants.{CLOCK_PORTS}
 use Rattle.ptpm_script.specs.declared.net_error.NetError.TheVariants.{BadClock}
 use Rattle.ptpm_script.specs.Heads.{ClockHeadValue, items_at, number_in}
 use Rattle.ptpm_script.specs.Marks.{Mark, Spot, each, in_port, value_mark_if}
@@ -32,7 +33,7 @@ out_marks is_in spot ms judged = flat_map (λ member. member_mark_if (not (is_in
 unfoldable pub count_start_marks : ClockHeadValue → List Mark
 count_start_marks c =
     start_mark_if (passes (λ n. n == 0) c.count) NoPorts c.spot (codes "ports") c.table
-    ++ start_mark_if (passes (λ n. nat_lt 8 n) c.count) TooManyPorts c.spot (codes "ports") c.table
+    ++ start_mark_if (passes (λ n. nat_lt CLOCK_PORTS n) c.count) TooManyPorts c.spot (codes "ports") c.table
 
 -- ---- a clock's members
 
@@ -53,10 +54,10 @@ port_start_members spot (Some ms) = port_member_marks spot ms
 
 -- ---- the ports of a clock, in the order in which a start judges them
 
--- a port that a clock can have, from 1 to 8, or 9 for a table that is of none
+-- a port that a clock can have, from 1 on, or one more than each of them for a table that is of none
 abbrev pub rank_of_number : Option ℕ → ℕ
-rank_of_number None = 9
-rank_of_number (Some n) = if nat_le 1 n && nat_le n 8 then n else 9
+rank_of_number None = CLOCK_PORTS + 1
+rank_of_number (Some n) = if nat_le 1 n && nat_le n CLOCK_PORTS then n else CLOCK_PORTS + 1
 
 abbrev pub rank : Data → ℕ
 rank d = rank_of_number (number_in d)
@@ -109,7 +110,7 @@ unfoldable pub clock_start_marks : ClockHeadValue → List Mark
 clock_start_marks c =
     count_start_marks c
     ++ member_marks c.spot c.table
-    ++ ports_start_marks 9 c.number (items_at (codes "port") c.table)
+    ++ ports_start_marks (CLOCK_PORTS + 1) c.number (items_at (codes "port") c.table)
     ++ grandmaster_marks c
 
 unfoldable pub start_marks : List ClockHeadValue → List Mark

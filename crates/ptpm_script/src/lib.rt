@@ -37,7 +37,9 @@ pub use event::{Event, EventError};
 pub use event_line::{read_event, read_line};
 pub use event_lines::{EventFault, event_fault};
 pub use fault::{Fault, Found, Names, Wanted};
-pub use limits::{CLOCKS, LEAST_ENDS, LINKS, MANAGERS, MOST_ENDS, SESSIONS, TEXT_OCTETS};
+pub use limits::{
+    CLOCK_PORTS, CLOCKS, LEAST_ENDS, LINKS, MANAGERS, MOST_ENDS, SESSIONS, TEXT_OCTETS,
+};
 pub use line_fault::{Expected, LineError, LineFault, Verb};
 pub use names::{Name, is_name};
 pub use net_error::NetError;

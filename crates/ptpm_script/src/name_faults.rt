@@ -11,6 +11,7 @@ ghost use Rattle.ptpm_script.specs.NameFaults.{clock_named, clock_past_ports, en
 use crate::fault::{Found, Names, Wanted};
 use crate::faults::{Added, Faults};
 use crate::heads::{ClockHead, EndHead, Heads, SessionHead};
+use crate::limits::CLOCK_PORTS;
 use crate::nearest::nearest;
 use crate::net_error::NetError;
 use crate::place::{Place, TableAt};
@@ -98,7 +99,9 @@ impl<'a> Faults<'a> {
 fn ports_of(clock: &ClockHead<'_>) -> Option<u16>
     ensures { result ≡ ports_of (clock_value clock.now) }
 {
-    clock.count.filter(|count| 1 <= *count && *count <= 8)
+    clock
+        .count
+        .filter(|count| 1 <= *count && *count <= CLOCK_PORTS)
 }
 
 /// What a port's number may be, if it is none of a clock with this many ports.

@@ -17,7 +17,7 @@ ghost use Rattle.ptpm_script.specs.StartFaults.{start_marks};
 
 use crate::network::Network;
 
-/// A network that a text is keeps its limits. Each clock can start, with 1 to 8 ports and an identity that is not all ones.
+/// A network that a text is keeps its limits. Each clock can start, with 1 to `CLOCK_PORTS` ports and an identity that is not all ones.
 /// No two clocks and no two sessions have one name or one identity. No session has a clock's name or clockIdentity, and each
 /// has a target that is there. The ends of links are there, and no end is given twice.
 #[tactic(auto, using(crate::proofs::NetworkLaw::accepted))]

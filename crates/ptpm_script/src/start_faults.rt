@@ -9,6 +9,7 @@ ghost use Rattle.ptpm_script.specs.StartFaults.{clock_start_marks, count_start_m
 use crate::fault::Wanted;
 use crate::faults::{Added, Faults};
 use crate::heads::{ClockHead, number_in};
+use crate::limits::CLOCK_PORTS;
 use crate::net_error::NetError;
 use crate::place::{Place, TableAt};
 use crate::starts::{SOME_CLOCK, clock_start, port_start};
@@ -17,8 +18,8 @@ use ptpm_codec::ClockIdentity;
 use ptpm_data::{ClockStart, Member, PortStart, StartError};
 use toml::Value;
 
-/// The rank of a port's table that is of no port from 1 to 8.
-const LAST_RANK: u16 = 9;
+/// The rank of a port's table that is of no port that a clock can have.
+const LAST_RANK: u16 = CLOCK_PORTS + 1;
 
 impl<'a> Faults<'a> {
     /// Adds a fault for each number of ports, member of a clock and member of a port with which a clock can't start.
@@ -41,7 +42,7 @@ impl<'a> Faults<'a> {
     {
         let fault = match clock.count {
             Some(0) => StartError::NoPorts,
-            Some(count) if 8 < count => StartError::TooManyPorts,
+            Some(count) if CLOCK_PORTS < count => StartError::TooManyPorts,
             _ => return Ok(()),
         };
         let class = NetError::BadClock(fault);
@@ -73,7 +74,7 @@ impl<'a> Faults<'a> {
     /// Adds a fault for each member of a clock's ports that is out of its range, in the order of the ports.
     #[tactic(auto, unfolding(crate::specs::StartFaults::ports_start_marks))]
     fn add_port_starts(&mut self, clock: &ClockHead<'a>, ports: &'a [Value]) -> Added
-        ensures { Adds result self.old self.new (ports_start_marks 9 clock.now.number (map view ports.now)) }
+        ensures { Adds result self.old self.new (ports_start_marks LAST_RANK clock.now.number (map view ports.now)) }
     {
         for place in 0..LAST_RANK {
             self.add_rank(clock, ports, place + 1)?;
@@ -149,12 +150,12 @@ impl<'a> Faults<'a> {
     }
 }
 
-/// The port that a table is of, from 1 to 8; 9 if it is of none that a clock can have.
+/// The port that a table is of; the last rank if it is of none that a clock can have.
 fn rank(port: &Value) -> u16
     ensures { result ≡ rank (view port.now) }
 {
     match number_in(port) {
-        Some(number) if 1 <= number && number <= 8 => number,
+        Some(number) if 1 <= number && number <= CLOCK_PORTS => number,
         _ => LAST_RANK,
     }
 }

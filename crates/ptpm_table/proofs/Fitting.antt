@@ -2,6 +2,7 @@
 use Rattle.std.proofs.Common.{◌≤◌, ℕ, Bool, true, false, ap, ◌∙◌, arith, All}
 use Rattle.ptpm_codec.specs.Message.{IsReplyAction, is_reply}
 use Rattle.ptpm_codec.proofs.MessageLaws.{reply_action-is_reply}
+use Rattle.ptpm_data.specs.declared.ports.TheConstants.{PORTS}
 use Rattle.ptpm_data.specs.Reply.{ReplyValue}
 use Rattle.ptpm_data.specs.Request.{RequestValue}
 use Rattle.ptpm_table.specs.Entries.{FitsCount, FitsRequest}
@@ -15,7 +16,7 @@ pub fitting_even : (q : RequestValue) (r : ReplyValue)
     → All (λ a. IsEvenOutcome a.outcome) r.answers
 fitting_even q r fits = grind arith
 
-few : (of_port : Bool) (count : ℕ) → FitsCount of_port count → count ≤ 8
+few : (of_port : Bool) (count : ℕ) → FitsCount of_port count → count ≤ PORTS
 few false count fits = omega (arith, fits)
 few true count fits = fits.1
 

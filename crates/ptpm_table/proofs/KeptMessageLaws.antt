@@ -16,8 +16,10 @@ use Rattle.ptpm_codec.proofs.RewritingLaws.{set_all, set_domain, set_hops, set_s
 use Rattle.std.proofs.lemmas.List.{append-nil, drop-append-le, length-append, length-map, map-append, take_more, length-drop, take-append-le, take_all}
 use Rattle.ptpm_data.specs.Reply as reply
 use Rattle.ptpm_data.specs.Reply.{Answer, Outcome, ReplyValue, answer_of}
+use Rattle.ptpm_data.specs.declared.ports.TheConstants.{PORTS}
 use Rattle.ptpm_data.specs.declared.reply.PortAnswer.{PortAnswer}
 use Rattle.ptpm_table.specs.declared.heard.Heard.{Heard}
+use Rattle.ptpm_table.specs.declared.kept_messages.TheConstants.{INLINE_OCTETS}
 use Rattle.ptpm_data.specs.ManagementId.{is_of_port}
 use Rattle.ptpm_data.specs.Request.{RequestValue}
 use Rattle.std.specs.Prelude.{is_some}
@@ -272,9 +274,9 @@ pub has_room : (of_port : Bool) (count done filled size : ℕ)
     → FitsCount of_port count
     → done < count
     → filled ≤ done * most_octets of_port
-    → size ≤ most_octets of_port → filled + size ≤ 640
+    → size ≤ most_octets of_port → filled + size ≤ INLINE_OCTETS
 has_room false count done filled size fits more full small = omega (arith, fits)
-has_room true count done filled size fits more full small = let few : count ≤ 8 = fits.1 in omega arith
+has_room true count done filled size fits more full small = let few : count ≤ PORTS = fits.1 in omega arith
 
 pub filled_more : (of_port : Bool) (done filled size : ℕ)
     → filled ≤ done * most_octets of_port

@@ -6,10 +6,12 @@ use Rattle.ptpm_codec.specs.declared.message.Action.{Action}
 use Rattle.ptpm_codec.specs.Canonical.{canonical}
 use Rattle.ptpm_codec.specs.Message.{Fits, IsReplyAction, IsRequestAction, IsValid, IsValidBody, is_reply, reply_action}
 use Rattle.ptpm_codec.proofs.MessageLaws.{reply_action-is_reply}
+use Rattle.ptpm_data.specs.declared.ports.TheConstants.{INLINE_PORTS, PORTS}
 use Rattle.ptpm_data.specs.Reply as reply
 use Rattle.ptpm_data.specs.Reply.{Answer, Outcome, ReplyValue}
 use Rattle.ptpm_table.specs.declared.heard.Heard.{Heard}
 use Rattle.ptpm_table.specs.declared.kept_messages.Exchange.{Exchange}
+use Rattle.ptpm_table.specs.declared.kept_messages.TheConstants.{INLINE_OCTETS}
 use Rattle.ptpm_table.specs.Entries.{FitsAnswer, FitsCount, FitsOutcome}
 use Rattle.ptpm_table.specs.KeptMessages.{AreSizes, EachKept, Envelope, IsCopyOf, IsKeptReply, answer_in, envelope_of, pieces, sent_message}
 use Rattle.ptpm_table.specs.Rendering.{answer_body, rendered, reply_message}
@@ -158,9 +160,9 @@ each_room true e first at (a ∷ xs) each =
 pub all_room : (of_port : Bool) (count size : ℕ)
     → FitsCount of_port count
     → size ≤ count * most_octets of_port
-    → (size ≤ 640) × (count ≤ 8)
+    → (size ≤ INLINE_OCTETS) × (count ≤ INLINE_PORTS)
 all_room false count size fits full = (omega (arith, fits), omega (arith, fits))
-all_room true count size fits full = let few : count ≤ 8 = fits.1 in (omega arith, few)
+all_room true count size fits full = let few : count ≤ PORTS = fits.1 in (omega arith, few)
 
 -- ---- as they were sent
 

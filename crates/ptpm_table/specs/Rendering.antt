@@ -7,6 +7,7 @@ use Rattle.ptpm_codec.specs.declared.message.Body.TheVariants as bodies
 use Rattle.ptpm_codec.specs.declared.message.Message.{Message}
 use Rattle.ptpm_codec.specs.Canonical.{canonical}
 use Rattle.ptpm_codec.specs.Message.{IsReplyAction, error_number}
+use Rattle.ptpm_data.specs.declared.ports.TheConstants.{PORTS}
 use Rattle.ptpm_data.specs.Reply as reply
 use Rattle.ptpm_data.specs.Reply.{Answer, Outcome, ReplyValue}
 use Rattle.ptpm_table.specs.declared.heard.Heard.{Heard}
@@ -40,11 +41,11 @@ IsEvenOutcome (reply.Value octets) = length octets % 2 ≡ 0
 IsEvenOutcome reply.Done = Unit {0}
 IsEvenOutcome (reply.Refused error) = Unit {0}
 
--- a reply of RESPONSE or ACKNOWLEDGE, of at most eight answers, with dataFields of even size
+-- a reply of RESPONSE or ACKNOWLEDGE, of at most PORTS answers, with dataFields of even size
 pub record IsSendable (r : ReplyValue) : Type 0 where
   pub action : IsReplyAction r.action
   pub even : All (λ a. IsEvenOutcome a.outcome) r.answers
-  pub few : length r.answers ≤ 8
+  pub few : length r.answers ≤ PORTS
 
 -- one message for each answer, in their order, each sent at the ingress port
 unfoldable pub rendered : ClockIdentity → Heard → ReplyValue → ℕ → List (ℕ × List ℕ)

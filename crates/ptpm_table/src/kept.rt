@@ -7,7 +7,7 @@ ghost use Rattle.ptpm_table.specs.Serial.{serial_of};
 use crate::reply_table::Look;
 use crate::serial::{Serial, compare};
 use arrayvec::ArrayVec;
-use ptpm_data::{PortAnswer, Reply, Request, Value, What};
+use ptpm_data::{INLINE_PORTS, PortAnswer, Reply, Request, Value, What};
 
 /// What a request of this number is. `kept` is the latest accepted request, and `latest` its number.
 pub(crate) fn judge(latest: u16, kept: &Request<'_>, number: u16, request: &Request<'_>) -> Look
@@ -40,8 +40,8 @@ pub(crate) fn copy_reply(reply: &Reply, copy: &mut Reply)
     copy_answers(reply.answers.as_slice(), &mut copy.answers);
 }
 
-fn copy_answers(answers: &[PortAnswer], copies: &mut ArrayVec<PortAnswer, 8>)
-    requires { length answers.now ≤ 8 }
+fn copy_answers(answers: &[PortAnswer], copies: &mut ArrayVec<PortAnswer, INLINE_PORTS>)
+    requires { length answers.now ≤ INLINE_PORTS }
     ensures { copies.new.items ≡ answers.now }
 {
     copies.clear();

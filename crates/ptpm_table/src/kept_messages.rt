@@ -19,13 +19,16 @@ use arrayvec::ArrayVec;
 use ptpm_codec::{
     Action, ClockIdentity, Draft, PortIdentity, encode_behind, overwrite_message, put_message,
 };
-use ptpm_data::PortAnswer;
+use ptpm_data::{INLINE_PORTS, PortAnswer};
 
 /// Room for the sizes of a reply's messages.
-pub(crate) type Sizes = ArrayVec<u8, 8>;
+pub(crate) type Sizes = ArrayVec<u8, INLINE_PORTS>;
 
-/// Room for a reply's messages: one of at most 184 octets, or eight of at most 80.
-pub(crate) type Messages = ArrayVec<u8, 640>;
+/// How many octets the messages of a reply have at most: those of the ports 80 each, and the one of the clock 184.
+pub(crate) const INLINE_OCTETS: usize = 80 * INLINE_PORTS;
+
+/// Room for a reply's messages.
+pub(crate) type Messages = ArrayVec<u8, INLINE_OCTETS>;
 
 /// Which request of whom is answered, and by which clock.
 #[derive(Clone, Copy)]
@@ -86,8 +89,8 @@ pub(crate) fn resend_each<O: Outgoing>(
 fn append_message(draft: &Draft<'_>, sizes: &mut Sizes, messages: &mut Messages)
     requires valid { IsValid draft.now }
     requires small { 48 + length (tlv_octets draft.now.body) ≤ 184 }
-    requires count { array_vec_len sizes.old < 8 }
-    requires room { array_vec_len messages.old + 48 + length (tlv_octets draft.now.body) ≤ 640 }
+    requires count { array_vec_len sizes.old < INLINE_PORTS }
+    requires room { array_vec_len messages.old + 48 + length (tlv_octets draft.now.body) ≤ INLINE_OCTETS }
     ensures sizes { sizes.new.items ≡ sizes.old.items ++ length (canonical draft.now) ∷ [] }
     ensures messages { messages.new.items ≡ messages.old.items ++ canonical draft.now }
     ensures fits { Fits draft.now }
@@ -164,9 +167,9 @@ pub(crate) fn keep_each<O: Outgoing>(
 /// former.
 #[inline(always)]
 fn copy_all<O: Outgoing>(out: &O, sizes: &mut Sizes, messages: &mut Messages)
-    requires few { length (O.sent out.now) ≤ 8 }
+    requires few { length (O.sent out.now) ≤ INLINE_PORTS }
     requires small { AreSmall (messages_of (O.sent out.now)) }
-    requires room { length (all_octets (messages_of (O.sent out.now))) ≤ 640 }
+    requires room { length (all_octets (messages_of (O.sent out.now))) ≤ INLINE_OCTETS }
     ensures sizes { sizes.new.items ≡ map length (messages_of (O.sent out.now)) }
     ensures messages { messages.new.items ≡ all_octets (messages_of (O.sent out.now)) }
 {
@@ -186,9 +189,9 @@ fn copy_all<O: Outgoing>(out: &O, sizes: &mut Sizes, messages: &mut Messages)
 fn copy_each<O: Outgoing>(out: &O, sizes: &mut Sizes, messages: &mut Messages)
     requires no_sizes { sizes.old.items ≡ [] }
     requires none { messages.old.items ≡ [] }
-    requires few { length (O.sent out.now) ≤ 8 }
+    requires few { length (O.sent out.now) ≤ INLINE_PORTS }
     requires small { AreSmall (messages_of (O.sent out.now)) }
-    requires room { length (all_octets (messages_of (O.sent out.now))) ≤ 640 }
+    requires room { length (all_octets (messages_of (O.sent out.now))) ≤ INLINE_OCTETS }
     ensures sizes { sizes.new.items ≡ map length (messages_of (O.sent out.now)) }
     ensures messages { messages.new.items ≡ all_octets (messages_of (O.sent out.now)) }
 {

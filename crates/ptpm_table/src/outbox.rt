@@ -8,14 +8,19 @@ ghost use Rattle.ptpm_table.specs.Outbox.{sent};
 use crate::outgoing::Outgoing;
 use crate::renewal::{Renewal, renew};
 use ptpm_codec::{Buffer, Draft, Envelope, encode, less_hop, overwrite_message};
+use ptpm_data::INLINE_PORTS;
 use std::marker::Model;
 
-/// At most fifteen messages, each with the port that it is sent at: seven forwarded copies and eight replies. All fifteen
-/// buffers are in the value, which has 22,328 octets, and are written over and over. Each message is written in place,
-/// and emptying the outbox touches none of them. Takes no memory. Contracts see it as the list of pairs.
+/// How many messages an outbox holds. A clock of `INLINE_PORTS` ports sends no more in a turn: a copy at each port but one, and
+/// a reply of each.
+pub const OUTBOX_MESSAGES: usize = 2 * INLINE_PORTS - 1;
+
+/// At most `OUTBOX_MESSAGES` messages, each with the port that it is sent at. All buffers are in the value, which has 22,328
+/// octets, and are written over and over. Each message is written in place, and emptying the outbox touches none of them. Takes
+/// no memory. Contracts see it as the list of pairs.
 #[derive(Drop)]
 pub struct Outbox {
-    places: [(u16, Buffer); 15],
+    places: [(u16, Buffer); OUTBOX_MESSAGES],
     /// How many places hold a message, from the first on.
     count: usize,
 }
@@ -24,13 +29,14 @@ const _: () = prove!(size_of::<Outbox>() == 22_328);
 
 impl Model for Outbox {
     ghost use Rattle.std.specs.Prelude.{List, ℕ, ◌≡◌, ◌≤◌, length, take};
+    ghost use Rattle.ptpm_table.specs.declared.outbox.TheConstants.{OUTBOX_MESSAGES};
     ghost use Rattle.ptpm_table.specs.Outbox.{sent};
 
     ghost Value = { List (ℕ × List ℕ) };
 
     ghost view = { λ o. sent (take o.count o.places) };
 
-    ghost invariant = { λ o. (o.count ≤ 15) × (length o.places ≡ 15) };
+    ghost invariant = { λ o. (o.count ≤ OUTBOX_MESSAGES) × (length o.places ≡ OUTBOX_MESSAGES) };
 }
 
 impl Outbox {
@@ -47,7 +53,7 @@ impl Outbox {
     /// The messages in the order in which they were put in, each with its port.
     pub fn entries(&self) -> &[(u16, Buffer)]
         ensures messages { sent result.now ≡ self.now }
-        ensures few { length result.now ≤ 15 }
+        ensures few { length result.now ≤ OUTBOX_MESSAGES }
     {
         &self.places[..self.count]
     }
@@ -59,9 +65,9 @@ impl Outbox {
         self.count = 0;
     }
 
-    /// Appends the canonical spelling of a valid draft for a port, if the outbox has fewer than fifteen messages.
+    /// Appends the canonical spelling of a valid draft for a port, if the outbox has room.
     pub fn push_draft(&mut self, port: u16, draft: &Draft<'_>)
-        requires room { length self.old < 15 }
+        requires room { length self.old < OUTBOX_MESSAGES }
         requires valid { IsValid draft.now }
         ensures { self.new ≡ self.old ++ (port, canonical draft.now) ∷ [] }
     {
@@ -74,10 +80,11 @@ impl Outbox {
 
 impl Outgoing for Outbox {
     ghost use Rattle.std.specs.Prelude.{⊤};
+    ghost use Rattle.ptpm_table.specs.declared.outbox.TheConstants.{OUTBOX_MESSAGES};
 
     ghost sent = { λ o. o };
 
-    ghost most = { λ o. 15 };
+    ghost most = { λ o. OUTBOX_MESSAGES };
 
     ghost grown = { λ a b. ⊤ };
 
@@ -85,7 +92,7 @@ impl Outgoing for Outbox {
 
     ghost grown_twice = { λ a b c first second. tt };
 
-    ghost as_many = { λ a b grown i. 15 };
+    ghost as_many = { λ a b grown i. OUTBOX_MESSAGES };
 
     fn count(&self) -> usize {
         self.count

@@ -7,7 +7,7 @@ ghost use Rattle.ptpm_data.specs.Reply.{answer_of, outcome_of};
 ghost use Rattle.ptpm_table.specs.Rendering.{IsEvenOutcome, answer_body, hops_passed, rendered, reply_message};
 
 use crate::heard::Heard;
-use crate::outbox::Outbox;
+use crate::outbox::{OUTBOX_MESSAGES, Outbox};
 use crate::outgoing::Outgoing;
 use ptpm_codec::{Action, ClockIdentity, Draft, DraftBody, Envelope, ErrorId, PortIdentity};
 use ptpm_data::{Answers, PortAnswer, Reply, Request, What};
@@ -19,7 +19,7 @@ use ptpm_data::{Answers, PortAnswer, Reply, Request, What};
 pub fn render(me: &ClockIdentity, heard: &Heard, reply: &Reply, ingress: u16, out: &mut Outbox)
     requires action { IsReplyAction reply.now.action }
     requires even { All (λ a. IsEvenOutcome a.outcome) reply.now.answers }
-    requires room { length out.old + length reply.now.answers ≤ 15 }
+    requires room { length out.old + length reply.now.answers ≤ OUTBOX_MESSAGES }
     ensures { out.new ≡ out.old ++ rendered me.now heard.now reply.now ingress }
 {
     let answers = reply.answers.as_slice();
@@ -38,7 +38,7 @@ fn render_answers(
 )
     requires action { IsReplyAction action }
     requires even { All (λ a. IsEvenOutcome (outcome_of a.what)) answers.now }
-    requires room { length out.old + length answers.now ≤ 15 }
+    requires room { length out.old + length answers.now ≤ OUTBOX_MESSAGES }
     ensures { out.new
         ≡ out.old
         ++ rendered me.now heard.now

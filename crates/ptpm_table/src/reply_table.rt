@@ -10,10 +10,10 @@ ghost use Rattle.ptpm_table.specs.Rendering.{rendered};
 ghost use Rattle.ptpm_table.specs.Sending.{IsSentReply};
 
 use crate::heard::Heard;
-use crate::outbox::Outbox;
+use crate::outbox::{OUTBOX_MESSAGES, Outbox};
 use crate::outgoing::Outgoing;
 use ptpm_codec::{ClockIdentity, OutOfMemory, PortIdentity};
-use ptpm_data::{Reply, Request, Rights};
+use ptpm_data::{PORTS, Reply, Request, Rights};
 
 /// What a request is to the table.
 #[derive(Clone, Copy, Debug, PartialEq, Eq)]
@@ -78,7 +78,7 @@ pub trait ReplyTable {
     /// Puts number, request and reply in place of what is kept of the manager. What is kept of other managers stays. If memory is
     /// refused, nothing changes. The manager is known. The request is a GET, SET or COMMAND with an even number of octets, 1,418
     /// at most. The reply fits it, with the answering action and the id. It has one answer without a port for an id of the clock
-    /// or of no row, and otherwise one to eight with ports. An answer may be a refusal. For a COMMAND it may be `Done`. For
+    /// or of no row, and otherwise 1 to `PORTS` with ports. An answer may be a refusal. For a COMMAND it may be `Done`. For
     /// another request it may be a value of even size, 130 octets at most, or 26 from a port.
     fn keep(
         &mut self,
@@ -97,10 +97,10 @@ pub trait ReplyTable {
         ensures owner { owner self.new ≡ owner self.old };
 
     /// Appends the messages of the kept reply for the copy that was heard, and changes no entry. The outbox has room for
-    /// them, one for each answer: of its fifteen places, seven and fewer that are taken always leave enough.
+    /// them, one for each answer.
     fn resend(&self, heard: &Heard, ingress: u16, out: &mut Outbox)
         requires kept { HasEntry (entries self.now) heard.now.source heard.now.number }
-        requires room { HasRoom (entries self.now) heard.now.source (length out.old) 15 }
+        requires room { HasRoom (entries self.now) heard.now.source (length out.old) OUTBOX_MESSAGES }
         ensures { (e : Entry) → fin.get (entries self.now) heard.now.source ≡ Some e →
             out.new ≡ out.old ++ rendered (owner self.now).identity heard.now e.reply ingress };
 }
@@ -149,7 +149,7 @@ pub trait SureTable: ReplyTable {
             ≡ O.sent out.old ++ rendered (Self.owner self.now).identity heard.now e.reply ingress }
         ensures grown { O.grown out.old out.new };
 
-    /// No kept reply has more than eight answers: a law, and nothing is done.
-    fn eight_answers(&self)
-        ensures { HaveAnswers 8 (fin.entries (Self.entries self.now)) };
+    /// No kept reply has more than `PORTS` answers: a law, and nothing is done.
+    fn few_answers(&self)
+        ensures { HaveAnswers PORTS (fin.entries (Self.entries self.now)) };
 }

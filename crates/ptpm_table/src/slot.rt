@@ -21,7 +21,7 @@ use crate::rendering::hops_passed;
 use crate::renewal::Renewal;
 use arrayvec::ArrayVec;
 use ptpm_codec::{Action, ClockIdentity, DATA_FIELD_OCTETS, PortIdentity, overwrite};
-use ptpm_data::{Reply, Request, Rights};
+use ptpm_data::{INLINE_PORTS, Reply, Request, Rights};
 use std::marker::Model;
 
 /// A manager's rights, and its latest accepted request, if one is kept. In it and in `Kept` the large members come first, so
@@ -171,13 +171,13 @@ impl Kept {
         self.number
     }
 
-    /// The request, with its dataField lent. The reply to it has eight messages at most.
+    /// The request, with its dataField lent. The reply to it has `INLINE_PORTS` messages at most.
     #[tactic(auto, using(crate::proofs::KeptMessageLaws::length_answers))]
     pub(crate) fn request(&self) -> Request<'_>
         ensures request { result ≡ self.now.entry.request }
-        ensures few { length self.now.entry.reply.answers ≤ 8 }
+        ensures few { length self.now.entry.reply.answers ≤ INLINE_PORTS }
     {
-        prove!(self.sizes.len() <= 8);
+        prove!(self.sizes.len() <= INLINE_PORTS);
         Request {
             action: self.action,
             id: self.id,

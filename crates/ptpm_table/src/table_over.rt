@@ -125,7 +125,7 @@ impl<M: SlotMemory + Drop> SureTable for TableOver<M> {
         }
     }
 
-    fn eight_answers(&self) {}
+    fn few_answers(&self) {}
 }
 
 impl<M: SlotMemory + Drop> LendingTable for TableOver<M> {

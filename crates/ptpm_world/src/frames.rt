@@ -6,17 +6,18 @@ ghost use Rattle.std.specs.Option.{option_copied};
 ghost use Rattle.ptpm_world.specs.Stored.{IsShort, IsWithin, at_end, is_same, others};
 
 use ptpm_codec::{MESSAGE_OCTETS, OutOfMemory};
-use ptpm_script::{End, NetworkLink};
+use ptpm_script::{End, MOST_ENDS, NetworkLink};
+use ptpm_table::OUTBOX_MESSAGES;
 use std::alloc::Global;
 
-/// While more frames than this are held, nothing is sent or delivered. One event makes at most 225 frames, so that there are
-/// never over 400,000 (this project's profile).
+/// While more frames than this are held, nothing is sent or delivered. One event makes at most `FRAMES_OF_AN_EVENT`, so that
+/// there are never over 400,000 (this project's profile).
 pub(crate) const FRAMES_LIMIT: usize = 399_775;
 
-/// A clock sends at most 15 messages in a turn, each to at most 15 other ends of a link.
-const FRAMES_OF_AN_EVENT: usize = 225;
+/// A clock sends at most these messages in a turn, each to all other ends of a link.
+const FRAMES_OF_AN_EVENT: usize = OUTBOX_MESSAGES * (MOST_ENDS - 1);
 
-const OCTETS_OF_AN_EVENT: usize = 15 * 1472;
+const OCTETS_OF_AN_EVENT: usize = OUTBOX_MESSAGES * MESSAGE_OCTETS;
 
 /// What a frame belongs to.
 #[derive(Clone, Copy, Debug, PartialEq, Eq)]
@@ -130,7 +131,7 @@ impl Frames {
     pub(crate) fn make_room(&mut self) -> Result<(), OutOfMemory>
         ensures frames { held_in self.new ≡ held_in self.old }
         ensures stored { self.new.stored.items ≡ self.old.stored.items }
-        ensures room { OnOk result (length (held_in self.old) ≤ FRAMES_LIMIT → HasRoom 15 self.new) }
+        ensures room { OnOk result (length (held_in self.old) ≤ FRAMES_LIMIT → HasRoom OUTBOX_MESSAGES self.new) }
     {
         if self.is_full() {
             return Ok(());

@@ -34,7 +34,7 @@ use ptpm_agent::Verdict;
 use ptpm_codec::{Buffer, PortIdentity, source_port_identity};
 use ptpm_manager::{Ask, Received};
 use ptpm_script::{End, Event, NetworkLink};
-use ptpm_table::{Outbox, ReplyTable};
+use ptpm_table::{OUTBOX_MESSAGES, Outbox, ReplyTable};
 
 impl World {
     /// Lets an event happen. An event is refused for the first reason that holds, and then the network stays as it was.
@@ -371,8 +371,8 @@ fn post_turn(
     verdict: Verdict,
     entries: &[(u16, Buffer)],
 )
-    requires room { HasRoom 15 frames.old }
-    requires few { length entries.now ≤ 15 }
+    requires room { HasRoom OUTBOX_MESSAGES frames.old }
+    requires few { length entries.now ≤ OUTBOX_MESSAGES }
     requires links { (counts : List ℕ) × (sessions : ℕ) × AreLinks counts sessions links.now }
     ensures frames { held_in frames.new
         ≡ held_in frames.old

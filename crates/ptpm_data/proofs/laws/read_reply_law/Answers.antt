@@ -34,7 +34,7 @@ returns-clause-id c = λ q d. refl
 
 pub returns-clause-one_answer : goal.returns-clause-one_answer
 unfolding read_reply_to
-returns-clause-one_answer c = λ q d s one. reply_of-one q (read_refusal q) d one s.at_most_eight
+returns-clause-one_answer c = λ q d s one. reply_of-one q (read_refusal q) d one s.few_ports
 
 pub returns-clause-outcomes : goal.returns-clause-outcomes
 unfolding read_reply_to
@@ -44,9 +44,9 @@ pub returns-clause-some_answer : goal.returns-clause-some_answer
 unfolding read_reply_to
 returns-clause-some_answer c = λ q d s target. (reply_of-count q (read_refusal q) d target s).0
 
-pub returns-clause-at_most_eight_answers : goal.returns-clause-at_most_eight_answers
+pub returns-clause-few_answers : goal.returns-clause-few_answers
 unfolding read_reply_to
-returns-clause-at_most_eight_answers c = λ q d s target. (reply_of-count q (read_refusal q) d target s).1
+returns-clause-few_answers c = λ q d s target. (reply_of-count q (read_refusal q) d target s).1
 
 pub returns-clause-get : goal.returns-clause-get
 returns-clause-get c = read-as-numbered

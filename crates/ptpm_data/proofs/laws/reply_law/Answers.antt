@@ -24,6 +24,6 @@ pub returns-clause-some_answer : goal.returns-clause-some_answer
 unfolding reply_to
 returns-clause-some_answer c = grind (arith, reply_of-count, changed_by-ports, changed_by-sized)
 
-pub returns-clause-at_most_eight_answers : goal.returns-clause-at_most_eight_answers
+pub returns-clause-few_answers : goal.returns-clause-few_answers
 unfolding reply_to
-returns-clause-at_most_eight_answers c = grind (arith, reply_of-count, changed_by-ports, changed_by-sized)
+returns-clause-few_answers c = grind (arith, reply_of-count, changed_by-ports, changed_by-sized)

@@ -1,6 +1,7 @@
 use Rattle.std.proofs.Common.{◌≡◌, ◌+◌, ◌*◌, ◌<◌, ◌≤◌, ◌⊎◌, ℕ, ◌∙◌, ⊎_elim, ap, arith, length, sym, take}
 use Rattle.std.proofs.lemmas.List.{take_all}
 use Rattle.std.specs.FinMap.{entries}
+use Rattle.ptpm_saved.specs.declared.image.TheConstants.{ENTRY_OCTETS}
 use Rattle.ptpm_saved.specs.Image.{entries_image, entry_image}
 use Rattle.ptpm_saved.specs.Written.{over}
 use Rattle.ptpm_saved.proofs.ImageLemmas.{entry_given, entry_small, no_entries}
@@ -10,14 +11,14 @@ use Rattle.ptpm_saved.proofs.image.write_entries.Goals as goal
 room_for_one : (at end i count len one all done : ℕ)
     → i < count
     → count ≤ 16
-    → one ≤ 1678
-    → end ≤ at + i * 1678
+    → one ≤ ENTRY_OCTETS
+    → end ≤ at + i * ENTRY_OCTETS
     → end ≡ at + done
     → done + one ≤ all
-    → (at + 16 * 1678 ≤ len) ⊎ (at + all ≤ len)
+    → (at + 16 * ENTRY_OCTETS ≤ len) ⊎ (at + all ≤ len)
     → end + one ≤ len
 room_for_one at end i count len one all done inside few small so_far ends fits =
-    ⊎_elim (λ (every : at + 16 * 1678 ≤ len). omega (arith, inside, few, small, so_far, every)) (λ (own : at + all ≤ len). omega (arith, ends, fits, own))
+    ⊎_elim (λ (every : at + 16 * ENTRY_OCTETS ≤ len). omega (arith, inside, few, small, so_far, every)) (λ (own : at + all ≤ len). omega (arith, ends, fits, own))
 
 pub loop-index-init : goal.loop-index-init
 loop-index-init g c = record {

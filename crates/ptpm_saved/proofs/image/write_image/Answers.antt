@@ -3,6 +3,7 @@ use Rattle.std.specs.FinMap.{entries, len-entries}
 use Rattle.ptpm_data.specs.Image.{data_sets_octets}
 use Rattle.ptpm_agent.specs.Agent.{state_of}
 use Rattle.ptpm_manager.specs.Image.{image_head}
+use Rattle.ptpm_saved.specs.declared.image.TheConstants.{CLOCK_OCTETS, ENTRY_OCTETS}
 use Rattle.ptpm_saved.specs.Image.{clock_image, entries_image}
 use Rattle.ptpm_saved.specs.Written.{over}
 use Rattle.ptpm_saved.proofs.ImageLemmas.{has_room, head_length, put_together, sets_small, size_is}
@@ -34,7 +35,7 @@ write_entries-end-requires g c =
     let room = has_room s c.sets-sets.result.now m c.sets-sets.ensures (ap g.T.ReplyTable.entries c.table-table.ensures)
     (length c.args.place.now) c.data_sets_law.ensures.sized c.fits_law.ensures c.requires in
     ⊎_elim
-    (λ (every : 12 + length sets + 1 + 16 * 1678 ≤ length c.args.place.now).
+    (λ (every : 12 + length sets + 1 + 16 * ENTRY_OCTETS ≤ length c.args.place.now).
     inl (omega (arith, every, c.write_sets-end.ensures.end, c.write_sets-end.auto.place, c.write-end.ensures.end, c.write-end.auto.place)))
     (λ (own : 12 + length sets + 1 + length es ≤ length c.args.place.now).
     inr (omega (arith, own, c.write_sets-end.ensures.end, c.write_sets-end.auto.place, c.write-end.ensures.end, c.write-end.auto.place)))
@@ -113,7 +114,7 @@ returns-clause-room g c =
     let small = sets_small d c.data_sets_law.ensures.sized c.fits_law.ensures in
     let size = size_is s d m c.sets-sets.ensures (ap g.T.ReplyTable.entries c.table-table.ensures) in
     ⊎_elim
-    (λ (every : 27185 ≤ length c.args.place.now).
+    (λ (every : CLOCK_OCTETS ≤ length c.args.place.now).
     omega (arith, every, small, c.write_sets-end.ensures.end, c.write-end.ensures.end, c.write_entries-end.ensures.small))
     (λ (own : length (clock_image s) ≤ length c.args.place.now).
     omega (arith, own, size, c.write_sets-end.ensures.end, c.write-end.ensures.end, c.write_entries-end.ensures.end))

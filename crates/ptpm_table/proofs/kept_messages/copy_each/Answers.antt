@@ -1,6 +1,7 @@
 use Rattle.std.proofs.Common.{◌≤◌, ◌+◌, [], ap, arith, get_or, length, take}
 use Rattle.std.proofs.lemmas.List.{length-append, length-map, length-take-le}
 use Rattle.arrayvec.specs.ArrayVec.{array_vec_len}
+use Rattle.ptpm_table.specs.declared.kept_messages.TheConstants.{INLINE_OCTETS}
 use Rattle.ptpm_table.specs.Sending.{all_octets, messages_of}
 use Rattle.ptpm_table.proofs.SentLaws.{count_of, octets_more, octets_within, sizes_more, small_at}
 use Rattle.ptpm_table.proofs.kept_messages.copy_each.Goals as goal
@@ -15,7 +16,7 @@ pub put_message-requires : goal.put_message-requires
 put_message-requires g c =
     let all = g.O.Outgoing.sent c.args.out.now in
     let more = ap length (octets_more all c.loop-place.place (omega (arith, c.loop-place-test.true, c.count-place-end.ensures))) in
-    let room : array_vec_len c.loop-place.messages + length c.message-message.result.now ≤ 640 =
+    let room : array_vec_len c.loop-place.messages + length c.message-message.result.now ≤ INLINE_OCTETS =
     omega (
       arith,
       more,

@@ -45,7 +45,7 @@ bounds-clocks-session c =
 
 pub overflow_cast-len : goal.overflow_cast-len
 overflow_cast-len c =
-    omega (arith, (starts (goal.at.overflow_cast-len c).After-index-clocks-session).at_most_eight, c.len.ensures, c.index-clocks-session.result.ports.ok.0)
+    omega (arith, (starts (goal.at.overflow_cast-len c).After-index-clocks-session).few_ports, c.len.ensures, c.index-clocks-session.result.ports.ok.0)
 
 pub new-requires-clause-clocks : goal.new-requires-clause-clocks
 new-requires-clause-clocks c =
@@ -63,7 +63,7 @@ new-requires-clause-some_port c =
 
 pub new-requires-clause-few_ports : goal.new-requires-clause-few_ports
 new-requires-clause-few_ports c =
-    omega (arith, (starts (goal.at.new-requires-clause-few_ports c).After-index-clocks-session).at_most_eight, c.len.ensures, c.index-clocks-session.result.ports.ok.0)
+    omega (arith, (starts (goal.at.new-requires-clause-few_ports c).After-index-clocks-session).few_ports, c.len.ensures, c.index-clocks-session.result.ports.ok.0)
 
 pub returns : goal.returns
 returns c =

@@ -1,4 +1,5 @@
 use Rattle.ptpm_world.proofs.Common.{◌≡◌, ℕ, ◌+◌, ◌-◌, ◌<◌, ◌==◌, arith, ap, length, subst, sym, ◌∙◌, if◌then◌else◌, cond-false, cond-true, eq-eqb, ne_eqb, IsOfSession, HasRoom, held_in, link_ends, origin_of}
+use Rattle.ptpm_table.specs.declared.outbox.TheConstants.{OUTBOX_MESSAGES}
 use Rattle.ptpm_world.proofs.PostingTurn.{posted-more}
 use Rattle.ptpm_world.proofs.stepping.post_turn.Goals as goal
 use Rattle.ptpm_world.proofs.stepping.post_turn.Goals.{else-port-ingress, then-port-ingress}
@@ -9,7 +10,7 @@ loop-port-preserved c =
     let e = c.loop-port-item.result in
     let reply = c.reply_origin-reply.result in
     let within : i < length c.args.entries.now = omega arith in
-    let few : i < 15 = omega (arith, c.requires.few) in
+    let few : i < OUTBOX_MESSAGES = omega (arith, c.requires.few) in
     let belongs : origin_of c.if-port-ingress.origin ≡ (if e.0 == c.args.ingress then origin_of reply else origin_of c.args.origin) =
     elim c.if-port-ingress.branch [
       | then-port-ingress w ↦ ap origin_of w.origin-is ∙ sym (cond-true _ _ _ (eq-eqb _ _ w.if-port-ingress.true))
@@ -20,9 +21,9 @@ loop-port-preserved c =
       | then-port-ingress w ↦ subst (IsOfSession sessions) (sym w.origin-is) (c.reply_origin-reply.ensures.session sessions of)
       | else-port-ingress w ↦ subst (IsOfSession sessions) (sym w.origin-is) of
     ] in
-    let before : HasRoom (14 - i + 1) c.loop-port.frames = subst (λ n. HasRoom n c.loop-port.frames) (omega arith) c.loop-port.invariant.room in
+    let before : HasRoom (OUTBOX_MESSAGES - 1 - i + 1) c.loop-port.frames = subst (λ n. HasRoom n c.loop-port.frames) (omega arith) c.loop-port.invariant.room in
     record {
-      room = subst (λ n. HasRoom n c.post.new.self) (omega arith) (c.post.ensures.room (14 - i) before);
+      room = subst (λ n. HasRoom n c.post.new.self) (omega arith) (c.post.ensures.room (OUTBOX_MESSAGES - 1 - i) before);
       frames = posted-more c.args.entries.now (λ x. (x.0, x.1.items)) (link_ends c.args.links.now) c.args.place c.args.ingress (origin_of c.args.origin) (origin_of reply) i e _ (held_in c.loop-port.frames) _ c.as_slice.result.now _
           within c.loop-port-item.is c.loop-port.invariant.frames c.post.ensures.frames c.as_slice.ensures.value belongs;
       stored = λ counts sessions all links of. c.post.ensures.stored counts sessions (c.loop-port.invariant.stored counts sessions all links of) links (of_session sessions of);

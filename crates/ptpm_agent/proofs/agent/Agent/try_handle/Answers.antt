@@ -2,6 +2,7 @@ use Rattle.std.proofs.Common.{arith, ◌≡◌, ◌++◌, ap, refl, sym, ◌∙�
 use Rattle.std.specs.FinMap.{get}
 use Rattle.ptpm_table.specs.Rendering.{rendered}
 use Rattle.ptpm_table.specs.declared.heard.Heard.{Heard}
+use Rattle.ptpm_table.specs.declared.outbox.TheConstants.{OUTBOX_MESSAGES}
 use Rattle.ptpm_agent.specs.Agent.{state_of}
 use Rattle.ptpm_agent.specs.Addressing.{heard_of}
 use Rattle.ptpm_agent.proofs.MostSent.{verdict_few}
@@ -50,6 +51,6 @@ returns-in_err-reply-in-AnsweredNew-clause-only_new g c = grind arith
 pub answer-requires-clause-room : goal.answer-requires-clause-room
 answer-requires-clause-room g c =
     let sized = c.data_sets_law.ensures.sized in
-    verdict_few (g.T.ReplyTable.owner c.args.self.now.table) (state_of g.T.ReplyTable.entries c.args.self.now) c.args.ingress c.args.datagram.now 15
-    sized c.requires.port (omega (arith, sized.at_most_eight)) c.in-Ok.message c.judge-verdict.result.0
+    verdict_few (g.T.ReplyTable.owner c.args.self.now.table) (state_of g.T.ReplyTable.entries c.args.self.now) c.args.ingress c.args.datagram.now OUTBOX_MESSAGES
+    sized c.requires.port (omega (arith, sized.few_ports)) c.in-Ok.message c.judge-verdict.result.0
     (sym c.view.ensures.exact ∙ c.in-Ok.is) (sym c.judge-verdict.ensures.verdict) (λ repeat. absurd (c.in_default.not-AnsweredRepeat repeat))

@@ -11,5 +11,5 @@ pub returns : goal.returns
 returns c =
     λ d rest consistent fits is. let split = c.in-Some.ensures.parts d rest fits is in
     let start = c.in-Some-read_clock.ensures (text_small d _ _ _ consistent split) in
-    c.start_with_ports.ensures d.ports d consistent.at_most_eight fits.ports split.by_port
+    c.start_with_ports.ensures d.ports d consistent.few_ports fits.ports split.by_port
     (reads_back d _ _ _ _ _ consistent fits split start refl)
