@@ -11,7 +11,7 @@ ghost use Rattle.ptpm_data.specs.Changed.{changed};
 ghost use Rattle.ptpm_data.specs.Changes.{IsTargetPort, changed_by};
 ghost use Rattle.ptpm_data.specs.Members.{HasPort};
 ghost use Rattle.ptpm_data.specs.Observation.{left_disabled, observation_refusal};
-ghost use Rattle.ptpm_data.specs.Replies.{reply_to};
+ghost use Rattle.ptpm_data.specs.Refusals.{refusal_of};
 ghost use Rattle.ptpm_data.specs.Rights.{all_rights};
 ghost use Rattle.ptpm_data.specs.Start.{unless};
 ghost use Rattle.ptpm_table.specs.Entries.{CanResend, FitsRequest, is_known};
@@ -28,7 +28,7 @@ ghost use Rattle.ptpm_agent.specs.Turn.{carried_out, is_accepted_repeat, judged,
 
 use crate::forwarding::forward;
 use crate::verdict::Verdict;
-use ptpm_codec::{Action, ClockIdentity, Octets, OutOfMemory, PortIdentity, View, view};
+use ptpm_codec::{Action, ClockIdentity, ErrorId, Octets, OutOfMemory, PortIdentity, View, view};
 use ptpm_data::{
     ChangedMembers, ClockObservation, DataSets, ObservationError, PortObservation,
     PortsLeftDisabled, Reply, Request, Rights, data_sets_law,
@@ -138,17 +138,15 @@ impl<T: ReplyTable + Drop> Agent<T> {
     }
 
     /// Carries out a request of the clock's owner, as one of a manager with every right. It may come by a command line, or by
-    /// another protocol. The reply is the one that this manager would get. What is kept of each manager stays. So a copy of
+    /// another protocol. The answer is why this manager would be refused. What is kept of each manager stays. So a copy of
     /// its latest request still gets the reply of its time. Takes no memory.
-    pub fn carry_out_here(&mut self, request: &Request<'_>) -> Reply
-        requires action { IsRequestAction request.now.action }
-        requires port { IsTargetPort request.now.port self.old.sets }
-        requires octets { IsDataField request.now.octets }
-        ensures reply { result ≡ reply_to request.now all_rights self.old.sets }
+    pub fn carry_out_here(&mut self, request: &Request<'_>) -> Option<ErrorId>
+        requires { IsTargetPort request.now.port self.old.sets }
+        ensures refusal { result ≡ refusal_of request.now all_rights }
         ensures changed { self.new.sets ≡ changed_by request.now all_rights self.old.sets }
         ensures table { self.new.table ≡ self.old.table }
     {
-        self.sets.decide(request, Rights::ALL)
+        self.sets.change(request, Rights::ALL)
     }
 
     /// Exchanges the data sets for these. What is kept of each manager stays. Takes no memory.

@@ -11,7 +11,7 @@ use Rattle.ptpm_data.specs.ManagementId.{RowValue, row_value, row_of}
 use Rattle.ptpm_data.specs.Members.{DataSetsValue}
 use Rattle.ptpm_data.specs.Request.{RequestValue}
 use Rattle.ptpm_data.specs.Reply.{Refused, ReplyValue}
-use Rattle.ptpm_data.specs.Refusals.{row_refusal, refusal_at}
+use Rattle.ptpm_data.specs.Refusals.{row_refusal, refusal_at, refusal_of}
 use Rattle.ptpm_data.specs.Changes.{applied, changed_at, changed_by, unless_refused}
 use Rattle.ptpm_data.specs.Rights.{no_rights}
 use Rattle.ptpm_data.specs.DataField.{data_field_of, field_of_row}
@@ -82,6 +82,14 @@ pub changed_by-listed : (q : RequestValue) (rights : Rights) (d : DataSetsValue)
     ≡ changed_by q rights d
 unfolding changed_by
 changed_by-listed q rights d e is = ap (λ (o : Option RowValue). changed_at o q rights d) (sym is)
+
+pub refusal_of-unlisted : (q : RequestValue) (rights : Rights) → row_of q.id ≡ None → Some NoSuchId ≡ refusal_of q rights
+refusal_of-unlisted q rights e = ap (λ (o : Option RowValue). refusal_at o q rights) (sym e)
+
+pub refusal_of-listed : (q : RequestValue) (rights : Rights) (e : RowValue)
+    → row_of q.id ≡ Some e
+    → row_refusal e q rights ≡ refusal_of q rights
+refusal_of-listed q rights e is = ap (λ (o : Option RowValue). refusal_at o q rights) (sym is)
 
 -- ---- requests that are not numbered
 

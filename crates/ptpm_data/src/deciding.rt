@@ -1,16 +1,20 @@
 //! What a numbered request changes and is answered (clause 15).
 
+ghost use Rattle.std.specs.Prelude.{◌≡◌};
+ghost use Rattle.ptpm_data.specs.Refusals.{refusal_of};
+
 use crate::answers::Answers;
 use crate::data_sets::DataSets;
 use crate::laws::data_sets_law;
 use crate::management_id::by_id;
+use crate::refusals::refusal;
 use crate::reply::Reply;
 use crate::request::Request;
 use crate::rights::Rights;
 use ptpm_codec::ErrorId;
 
 impl DataSets {
-    ghost use Rattle.std.specs.Prelude.{◌≡◌, ◌≤◌, ◌+◌, length};
+    ghost use Rattle.std.specs.Prelude.{◌≤◌, ◌+◌, length};
     ghost use Rattle.ptpm_codec.specs.Message.{IsDataField, IsRequestAction};
     ghost use Rattle.ptpm_data.specs.Changes.{changed_by, IsTargetPort};
     ghost use Rattle.ptpm_data.specs.Replies.{reply_to};
@@ -62,5 +66,27 @@ impl DataSets {
         };
         let refusal = self.carry_out(&row, request, rights);
         self.put_reply(&row, request, refusal, answers);
+    }
+
+    /// Carries out a numbered request as `decide` does, and answers only why it is refused. Takes no memory.
+    pub fn change(&mut self, request: &Request<'_>, rights: Rights) -> Option<ErrorId>
+        requires { IsTargetPort request.now.port self.old }
+        ensures refusal { result ≡ refusal_of request.now rights }
+        ensures changed { self.new ≡ changed_by request.now rights self.old }
+    {
+        let Some(row) = by_id(request.id) else {
+            return Some(ErrorId::NoSuchId);
+        };
+        self.carry_out(&row, request, rights)
+    }
+}
+
+/// Why a request of a manager with these rights is refused, whatever the data sets are; `None` if it is carried out.
+pub fn refusal_of(request: &Request<'_>, rights: Rights) -> Option<ErrorId>
+    ensures { result ≡ refusal_of request.now rights }
+{
+    match by_id(request.id) {
+        Some(row) => refusal(&row, request, rights),
+        None => Some(ErrorId::NoSuchId),
     }
 }

@@ -41,6 +41,7 @@ pub use data_sets::{
     ClockPrecedence, CurrentDataSet, DataSets, DefaultDataSet, ParentDataSet, PortDataSet,
     TimePropertiesDataSet,
 };
+pub use deciding::refusal_of;
 pub use image::DATA_SETS_OCTETS;
 pub use image_laws::{fits_law, image_law};
 pub use laws::{

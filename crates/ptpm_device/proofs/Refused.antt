@@ -20,59 +20,7 @@ use Rattle.ptpm_data.specs.RequestLaws.{IsSized}
 use Rattle.ptpm_data.proofs.Keeping.{changed_by-ports, changed_by-sized}
 use Rattle.ptpm_data.proofs.ReplyLemmas.{answers_of, reply_of-all, reply_of-count}
 use Rattle.ptpm_table.specs.Entries.{FitsAnswer, FitsCount, FitsRequest}
-use Rattle.ptpm_device.specs.Changing.{error_of, first_error}
 use Rattle.ptpm_device.specs.Refusing.{refused_answer}
-
--- ---- each answer of a refusal is one
-
-error_of-outcome : (refusal : Option ErrorId) (action : Action) (octets : List ℕ)
-    → error_of (outcome refusal action octets) ≡ refusal
-error_of-outcome (Some error) action octets = refl
-error_of-outcome None actions.Command octets = refl
-error_of-outcome None _ octets = refl
-
-reply_of-errors : (q : RequestValue) (refusal : Option ErrorId) (d : DataSetsValue)
-    → All (λ a. error_of a.outcome ≡ refusal) (reply_of q refusal d).answers
-unfolding answer
-reply_of-errors q refusal d =
-    reply_of-all (λ a. error_of a.outcome ≡ refusal) q refusal d (λ port. error_of-outcome refusal q.action _)
-
-first_of_all : (refusal : Option ErrorId) (answers : List Answer)
-    → 1 ≤ length answers
-    → All (λ a. error_of a.outcome ≡ refusal) answers
-    → first_error answers ≡ refusal
-first_of_all refusal [] some all = absurd (omega arith)
-first_of_all refusal (a ∷ answers) some all =
-    All-get_or (λ x. error_of x.outcome ≡ refusal) (a ∷ answers) 0 a (omega arith) all
-
-reply_to-some : (q : RequestValue) (rights : Rights) (d : DataSetsValue)
-    → IsTargetPort q.port d
-    → IsSized d
-    → 1 ≤ length (reply_to q rights d).answers
-unfolding reply_to
-reply_to-some q rights d port sized =
-    (reply_of-count q (refusal_of q rights) (changed_by q rights d) (grind (arith, changed_by-ports)) (changed_by-sized q rights d sized)).0
-
--- the first answer tells why the request is refused
-first_error-refusal : (q : RequestValue) (rights : Rights) (d : DataSetsValue)
-    → IsTargetPort q.port d
-    → IsSized d
-    → first_error (reply_to q rights d).answers ≡ refusal_of q rights
-unfolding reply_to
-first_error-refusal q rights d port sized =
-    first_of_all (refusal_of q rights) (reply_to q rights d).answers (reply_to-some q rights d port sized)
-    (reply_of-errors q (refusal_of q rights) (changed_by q rights d))
-
--- as code reads it
-pub refusal-read : (q : RequestValue) (rights : Rights) (d e : DataSetsValue) (reply : ReplyValue) (o : Option ErrorId)
-    → IsTargetPort q.port d
-    → IsSized e
-    → e ≡ d
-    → reply ≡ reply_to q rights d
-    → o ≡ first_error reply.answers
-    → refusal_of q rights ≡ o
-refusal-read q rights d e reply o port sized same is read =
-    sym (first_error-refusal q rights d port (subst IsSized same sized)) ∙ (sym (ap (λ (r : ReplyValue). first_error r.answers) is) ∙ sym read)
 
 -- ---- its answers, made of those of another reply
 

@@ -1,8 +1,5 @@
 -- A change at the device itself: what its owner asks of it by a command line, or by another protocol (this project's profile).
-use Rattle.std.specs.Prelude.{List, [], ◌∷◌, Option, Some, None}
-use Rattle.ptpm_codec.specs.declared.error.ErrorId.{ErrorId}
 use Rattle.ptpm_data.specs.Changes.{changed_by}
-use Rattle.ptpm_data.specs.Reply.{Answer, Done, Outcome, Refused, Value}
 use Rattle.ptpm_data.specs.Request.{RequestValue}
 use Rattle.ptpm_data.specs.Rights.{all_rights}
 use Rattle.ptpm_agent.specs.Once.{History}
@@ -15,16 +12,3 @@ changed_state q s = record { sets = changed_by q all_rights s.sets; entries = s.
 -- it leaves what was accepted, with the replies
 abbrev pub changed_history : RequestValue → History → History
 changed_history q h = record { sets = changed_by q all_rights h.sets; accepted = h.accepted }
-
--- ---- what the answers say
-
--- why an answer is a refusal, if it is
-abbrev pub error_of : Outcome → Option ErrorId
-error_of (Value octets) = None
-error_of Done = None
-error_of (Refused error) = Some error
-
--- why the first answer is one
-abbrev pub first_error : List Answer → Option ErrorId
-first_error [] = None
-first_error (a ∷ answers) = error_of a.outcome

@@ -1,18 +1,15 @@
 //! What a datagram would have a clock's device do.
 
-ghost use Rattle.std.specs.Prelude.{◌≡◌, ◌<◌, ◌^◌, IfSome, is_none};
-ghost use Rattle.ptpm_codec.specs.Message.{IsDataField, IsRequestAction, IsValid};
-ghost use Rattle.ptpm_data.specs.Changes.{IsTargetPort};
-ghost use Rattle.ptpm_data.specs.Refusals.{refusal_of};
+ghost use Rattle.std.specs.Prelude.{◌≡◌, ◌<◌, ◌^◌, IfSome};
+ghost use Rattle.ptpm_codec.specs.Message.{IsDataField, IsValid};
 ghost use Rattle.ptpm_agent.specs.Addressing.{request_of};
 ghost use Rattle.ptpm_agent.specs.Agent.{clock_of, state_of};
 ghost use Rattle.ptpm_agent.specs.Turn.{look, numbered_from};
 ghost use Rattle.ptpm_device.specs.Asking.{asked, is_asked, is_change, is_here, is_lacked, is_reached, is_wanted, wanted};
 
-use crate::changing::first_refusal;
 use ptpm_agent::Agent;
 use ptpm_codec::{Action, ClockIdentity, PortIdentity, View, view};
-use ptpm_data::{DataSets, Request, Rights, data_sets_law, row};
+use ptpm_data::{Request, refusal_of, row};
 use ptpm_table::{Look, ReplyTable};
 use std::marker::Model;
 
@@ -103,7 +100,7 @@ fn is_asked<T: ReplyTable + Drop>(agent: &Agent<T>, message: &View<'_>) -> bool
         .table()
         .look_with_rights(&source, message.number(), &request);
     match look {
-        Look::New => is_permitted(agent.sets(), &request, rights),
+        Look::New => refusal_of(&request, rights).is_none(),
         _ => false,
     }
 }
@@ -183,19 +180,6 @@ pub(crate) fn look<T: ReplyTable + Drop>(agent: &Agent<T>, message: &View<'_>) -
         .table()
         .look_with_rights(&source, message.number(), &request_of(message));
     look
-}
-
-/// Whether a clock with these data sets carries out a manager's request. It is tried on a copy of them.
-fn is_permitted(sets: &DataSets, request: &Request<'_>, rights: Rights) -> bool
-    requires action { IsRequestAction request.now.action }
-    requires port { IsTargetPort request.now.port sets.now }
-    requires octets { IsDataField request.now.octets }
-    ensures { result ≡ is_none (refusal_of request.now rights) }
-{
-    data_sets_law(sets);
-    let mut copy = sets.copy();
-    let reply = copy.decide(request, rights);
-    first_refusal(&reply).is_none()
 }
 
 /// What a request asks.

@@ -7,11 +7,11 @@ ghost use Rattle.ptpm_data.specs.Changes.{IsTargetPort};
 ghost use Rattle.ptpm_data.specs.Refusals.{refusal_of};
 ghost use Rattle.ptpm_data.specs.Rights.{all_rights};
 ghost use Rattle.ptpm_agent.specs.Agent.{state_of};
-ghost use Rattle.ptpm_device.specs.Changing.{changed_state, first_error};
+ghost use Rattle.ptpm_device.specs.Changing.{changed_state};
 
 use ptpm_agent::Agent;
 use ptpm_codec::ErrorId;
-use ptpm_data::{Reply, Request, What, data_sets_law};
+use ptpm_data::Request;
 use ptpm_table::ReplyTable;
 
 /// Carries out a request of the device's owner, as one of a manager with every right: by a command line, or by another protocol.
@@ -32,21 +32,8 @@ pub fn change_here<T: ReplyTable + Drop>(
     ensures table { agent.new.table ≡ agent.old.table }
     ensures unchanged { OnErr result (agent.new ≡ agent.old) }
 {
-    data_sets_law(agent.sets());
-    let reply = agent.carry_out_here(request);
-    match first_refusal(&reply) {
+    match agent.carry_out_here(request) {
         Some(error) => Err(error),
         None => Ok(()),
-    }
-}
-
-/// Why the first answer of a reply is a refusal, if it is. A request is refused with the same error by all that answer.
-pub(crate) fn first_refusal(reply: &Reply) -> Option<ErrorId>
-    ensures { result ≡ first_error reply.now.answers }
-{
-    let answer = reply.answers.first()?;
-    match answer.what {
-        What::Refused(error) => Some(error),
-        _ => None,
     }
 }

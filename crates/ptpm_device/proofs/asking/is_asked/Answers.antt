@@ -1,17 +1,14 @@
-use Rattle.std.proofs.Common.{arith, ◌≡◌, ◌&&◌, is_none, Bool, true, false, sym, ◌∙◌, ap, subst}
+use Rattle.std.proofs.Common.{arith, ◌≡◌, ◌&&◌, is_none, Bool, true, false, sym, ◌∙◌, ap}
 use Rattle.std.specs.FinMap.{get}
 use Rattle.ptpm_codec.specs.Message.{action_of}
-use Rattle.ptpm_data.specs.Changes.{IsTargetPort}
-use Rattle.ptpm_data.specs.Members.{DataSetsValue}
 use Rattle.ptpm_data.specs.Refusals.{refusal_of}
 use Rattle.ptpm_table.specs.declared.reply_table.Look.TheVariants as looks
 use Rattle.ptpm_table.specs.Entries.{is_known}
 use Rattle.ptpm_table.specs.Numbering.{look_of}
 use Rattle.ptpm_agent.specs.Addressing.{request_of}
 use Rattle.ptpm_agent.specs.Agent.{clock_of, state_of}
-use Rattle.ptpm_agent.proofs.Fitting.{may_judge_port}
 use Rattle.ptpm_device.specs.Asking.{is_asked, is_change, is_here}
-use Rattle.ptpm_device.proofs.WhenAsked.{away-not_asked, here_parts, is_asked-here, is_new_look-other, unchanging-not_asked}
+use Rattle.ptpm_device.proofs.WhenAsked.{away-not_asked, is_asked-here, is_new_look-other, unchanging-not_asked}
 use Rattle.ptpm_device.proofs.asking.is_asked.Goals as goal
 
 pub returns-then-not-is_change : goal.returns-then-not-is_change
@@ -26,15 +23,6 @@ returns-then-not-is_here g c =
     let e : is_here clock state c.args.message.now ≡ false = cc in
     sym (away-not_asked clock state c.args.message.now e)
 
-pub is_permitted-requires-clause-port : goal.is_permitted-requires-clause-port
-is_permitted-requires-clause-port g c =
-    let clock = clock_of g.T.ReplyTable.owner c.args.agent.now in
-    let state = state_of g.T.ReplyTable.entries c.args.agent.now in
-    let v = c.args.message.now in
-    let here : is_here clock state v ≡ true = cc in
-    subst (λ (d : DataSetsValue). IsTargetPort c.request_of-request.result.port d) (sym c.sets.ensures)
-    (may_judge_port c.request_of-request.result state.sets v c.request_of-request.ensures (here_parts clock state v here).port)
-
 pub returns-in-New : goal.returns-in-New
 returns-in-New g c =
     let clock = clock_of g.T.ReplyTable.owner c.args.agent.now in
@@ -44,7 +32,7 @@ returns-in-New g c =
     let change : is_change (action_of v.body) ≡ true = grind arith in
     let look : looks.New ≡ look_of (is_known v.source clock.managers) (get state.entries v.source) v.number (request_of v) = grind arith in
     let e : is_asked clock state v ≡ is_none (refusal_of (request_of v) (clock.rights v.source)) = is_asked-here clock state v looks.New here change look in
-    let own : c.is_permitted.result ≡ is_none (refusal_of (request_of v) (clock.rights v.source)) = grind arith in
+    let own : c.is_none.result ≡ is_none (refusal_of (request_of v) (clock.rights v.source)) = grind arith in
     own ∙ sym e
 
 pub returns-in_default : goal.returns-in_default
