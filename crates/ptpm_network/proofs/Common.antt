@@ -34,7 +34,7 @@ pub use Rattle.ptpm_codec.proofs.MessageLaws.{reply_action-is_reply}
 pub use Rattle.ptpm_codec.proofs.OrderedLaws.{first_of-none, option_or-none}
 pub use Rattle.ptpm_codec.proofs.PlaceLaws.{number-take, number_at-octets, octet-take}
 pub use Rattle.ptpm_codec.proofs.ReadingLaws.{IsOctets, message_of-some, message_of-spells, message_size, octets-take, spells-message_of}
-pub use Rattle.ptpm_data.specs.declared.ports.TheConstants.{PORTS}
+pub use Rattle.ptpm_data.specs.declared.ports.TheConstants.{INLINE_PORTS, PORTS}
 pub use Rattle.ptpm_data.specs.Changes.{is_named}
 unfoldable pub use Rattle.ptpm_data.specs.Changes.{changed_by, set_members}
 pub use Rattle.ptpm_data.specs.DataField.{data_field_at}
@@ -80,14 +80,14 @@ pub use Rattle.ptpm_manager.specs.Session.{answered, begun, count_limit, due_mes
 unfoldable pub use Rattle.ptpm_manager.specs.Session.{begin_refusal, send_refusal}
 pub use Rattle.ptpm_manager.specs.Setup.{request_message}
 pub use Rattle.ptpm_network.specs.DataSets.{Answers, AreDataSets, HasOneAnswer, IsForOne, IsPort, IsSendable, IsSendableOutcome}
-pub use Rattle.ptpm_network.specs.Events.{Begin, Replay, no_end, begin_refused, BeginRefused, Deliver, Event, Forged, forged, frame_at, frames_limit, FramesAtMaximum, is_forged, is_taken, IsInRange, no_frame, no_port, no_room, no_session, NoSuchFrame, NoSuchName, Refusal, Resume, resume_refused, Retune, Send, send_refused, SendRefused, Stranger}
+pub use Rattle.ptpm_network.specs.Events.{Begin, Replay, no_end, begin_refused, BeginRefused, Deliver, Event, Forged, forged, frame_at, frames_limit, frames_of_event, FramesAtMaximum, is_forged, is_taken, IsInRange, no_frame, no_port, no_room, no_session, NoSuchFrame, NoSuchName, Refusal, Resume, resume_refused, Retune, Send, send_refused, SendRefused, Stranger}
 unfoldable pub use Rattle.ptpm_network.specs.Events.{refusal}
 pub use Rattle.ptpm_network.specs.Exchange.{HasReplied, HasReported, HasRoom, IsHeardBy, LastIsForOne}
 pub use Rattle.ptpm_network.specs.Headline.{Headline, IsPromised}
 pub use Rattle.ptpm_network.specs.Invariant.{IsAsked, IsForeign, IsForeignFrame, IsFrame, IsInStep, IsMessage, IsOfOrigin, IsReached, WasAccepted}
 pub use Rattle.ptpm_network.specs.Machine.{to_end, answer_messages, answer_origin, answering_frames, AreInTime, arrives, begun_in, delivered, delivered_at, delivered_at_clock, delivery, forwarded_frames, index_of, is_answer, is_late_delivery, is_late_frame, is_read, made_frames, read_messages, reply_frames, reply_origin, report_from, reported, run, sends, sent_frames, step, step_by, strange_frame, taken, told_by, with_frames, with_place, with_session}
 unfoldable pub use Rattle.ptpm_network.specs.Machine.{happens}
-pub use Rattle.ptpm_network.specs.Network.{AtPort, AtSession, End, HasEnd, expected_ports, IsLink, IsNetwork, manager, Network, peers, ports, same_end, SessionStart}
+pub use Rattle.ptpm_network.specs.Network.{AtPort, AtSession, ClocksHaveAtMost, End, HasEnd, expected_ports, IsLink, IsNetwork, manager, Network, peers, ports, same_end, SessionStart}
 pub use Rattle.ptpm_network.specs.Replying.{origin_by, posted_by}
 pub use Rattle.ptpm_network.specs.RunningNetwork.{replays, after_turn, delivers, goes_on, Happened, hears, Held, held, initial_network, network_run, nothing_to_resume, posted, reaches, RunningNetwork, seen, sends_in, sent_posted, turn_frames, unless_refused, with_session_value}
 unfoldable pub use Rattle.ptpm_network.specs.RunningNetwork.{network_event}

@@ -1,5 +1,5 @@
 -- What may happen in a network, and which events its state refuses.
-use Rattle.std.specs.Prelude.{ℕ, ◌<◌, ◌-◌, ◌^◌, ◌==◌, ◌&&◌, ◌||◌, nat_lt, nat_le, not, Bool, List, [], ◌∷◌, length, slice_get, Option, Some, None, option_map, if◌then◌else◌}
+use Rattle.std.specs.Prelude.{ℕ, ◌<◌, ◌*◌, ◌-◌, ◌^◌, ◌==◌, ◌&&◌, ◌||◌, nat_lt, nat_le, not, Bool, List, [], ◌∷◌, length, slice_get, Option, Some, None, option_map, if◌then◌else◌}
 use Rattle.std.specs.List.{list_any, range_with_len}
 use Rattle.std.specs.Option.{option_or}
 use Rattle.ptpm_codec.specs.declared.identity.PortIdentity.{PortIdentity}
@@ -71,6 +71,11 @@ is_forged N datagram = nat_le 30 (length datagram) && is_taken N (source_port_id
 
 abbrev pub forged : Network → List ℕ → Option Refusal
 forged N datagram = first_of ((is_forged N datagram, Forged) ∷ [])
+
+-- The frames that an event makes at most, if no clock has more ports than this. A clock sends a copy at each port but one, and an
+-- answer of each. A link takes each of these messages to at most fifteen other ends.
+abbrev pub frames_of_event : ℕ → ℕ
+frames_of_event most = 15 * (2 * most - 1)
 
 -- over this many frames held, nothing is sent or delivered
 abbrev pub frames_limit : ℕ

@@ -61,6 +61,10 @@ abbrev pub HasEnd : Network → End → Type 0
 HasEnd N (AtPort c p) = (c < N.clocks) × (1 ≤ p) × (p ≤ ports N c)
 HasEnd N (AtSession s) = s < N.sessions
 
+-- no clock has more ports than this
+abbrev pub ClocksHaveAtMost : Network → ℕ → Type 0
+ClocksHaveAtMost N most = (c : ℕ) → c < N.clocks → ports N c ≤ most
+
 -- ---- what holds of the network of every accepted file
 
 -- a clock of 1 to PORTS ports, whose identity is not the one that means every clock

@@ -6,6 +6,7 @@ ghost use Rattle.std.specs.Result.{result_err};
 ghost use Rattle.std.specs.List.{AllByRecursion};
 ghost use Rattle.ptpm_codec.specs.declared.identity.PortIdentity.{PortIdentity};
 ghost use Rattle.ptpm_codec.specs.Layout.{boundary_hops};
+ghost use Rattle.ptpm_data.specs.declared.ports.TheConstants.{INLINE_PORTS};
 ghost use Rattle.ptpm_agent.specs.Forwarding.{forwarded};
 ghost use Rattle.ptpm_agent.specs.Laws.{StandsAt, initial_clock_state, turns};
 ghost use Rattle.ptpm_agent.specs.Once.{Accepted, History, RequestCopy, initial_history, copy_of, kept_reply};
@@ -14,11 +15,11 @@ ghost use Rattle.ptpm_agent.specs.Window.{AreNumbered, IsInTime, KeepsWindow};
 ghost use Rattle.ptpm_manager.specs.declared.receiving.Received.TheVariants as received;
 ghost use Rattle.ptpm_manager.specs.declared.report.Report.{Report};
 ghost use Rattle.ptpm_manager.specs.Receiving.{received_of};
-ghost use Rattle.ptpm_network.specs.Events.{Event, IsInRange, frame_at, refusal};
+ghost use Rattle.ptpm_network.specs.Events.{Event, IsInRange, frame_at, frames_of_event, refusal};
 ghost use Rattle.ptpm_network.specs.RunningNetwork.{Happened, RunningNetwork, after_turn, initial_network, network_event, network_run};
 ghost use Rattle.ptpm_network.specs.Invariant.{IsReached};
 ghost use Rattle.ptpm_network.specs.Machine.{AreInTime, answer_messages, delivered_at_clock, delivery, happens, is_late_delivery, report_from, run, state_after, taken};
-ghost use Rattle.ptpm_network.specs.Network.{AtPort, AtSession, IsNetwork, Network, manager, ports};
+ghost use Rattle.ptpm_network.specs.Network.{AtPort, AtSession, ClocksHaveAtMost, IsNetwork, Network, manager, ports};
 ghost use Rattle.ptpm_network.specs.Stands.{AreFirsts, Stands};
 ghost use Rattle.ptpm_network.specs.State.{Frame, NetworkState, accepted_at_target, copies_at, greatest_accepted, history, initial_state, is_late, issued, outcomes_kept, session_value};
 
@@ -71,16 +72,18 @@ pub fn hops_lost()
         frame_at (state_after N es).frames n ≡ Some f → f.forwardings ≤ f.first_hops }
 {}
 
-/// An event makes at most 225 frames. At most 15 messages leave a clock in a turn: seven copies that are passed on and eight
-/// answers. A link takes each of them to at most 15 other ends. So there are never over 400,000 frames.
-#[tactic(auto, using(crate::proofs::Schedule::reached, crate::proofs::Counting::at_most_225_frames_laws))]
-pub fn at_most_225_frames()
-    ensures event { (N : Network) (es : List Event) (e : Event) →
-        IsNetwork N → AllByRecursion IsInRange es →
+/// An event makes at most as many frames as the ports of a clock let it. So there are never over 400,000 frames where no clock has
+/// more than eight ports, like those of a network file.
+#[tactic(auto, using(crate::proofs::Schedule::reached, crate::proofs::Counting::few_frames_laws))]
+pub fn few_frames()
+    ensures event { (N : Network) (most : ℕ) (es : List Event) (e : Event) →
+        IsNetwork N → ClocksHaveAtMost N most → 1 ≤ most → AllByRecursion IsInRange es →
         IsInRange e → refusal N (state_after N es) e ≡ None →
-        length (happens N (state_after N es) e).frames ≤ length (state_after N es).frames + 225 }
+        length (happens N (state_after N es) e).frames
+        ≤ length (state_after N es).frames + frames_of_event most }
     ensures ever { (N : Network) (es : List Event) →
-        IsNetwork N → AllByRecursion IsInRange es → length (state_after N es).frames ≤ 400000 }
+        IsNetwork N → ClocksHaveAtMost N INLINE_PORTS → AllByRecursion IsInRange es →
+        length (state_after N es).frames ≤ 400000 }
 {}
 
 /// The window of 65,536 sequenceIds in which a clock distinguishes new requests from old is never left:

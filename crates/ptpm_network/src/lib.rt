@@ -18,9 +18,8 @@ pub use headline_laws::{
     sessions_ignore_strangers, stands_after, strangers_change_nothing,
 };
 pub use laws::{
-    answers_by_octets, at_most_225_frames, clocks_stand, events_appended, events_taken,
-    every_schedule, hops_lost, in_the_window, one_request_at_a_time, outbox_of_turns,
-    running_networks_stand,
+    answers_by_octets, clocks_stand, events_appended, events_taken, every_schedule, few_frames,
+    hops_lost, in_the_window, one_request_at_a_time, outbox_of_turns, running_networks_stand,
 };
 pub use lowered_laws::lowered_hops_answer_the_same;
 pub use manager_laws::{managers_in_time_are_served, served_so_far};
