@@ -16,7 +16,7 @@ use Rattle.ptpm_codec.proofs.RewritingLaws.{set_all, set_domain, set_hops, set_s
 use Rattle.std.proofs.lemmas.List.{append-nil, drop-append-le, length-append, length-map, map-append, take_more, length-drop, take-append-le, take_all}
 use Rattle.ptpm_data.specs.Reply as reply
 use Rattle.ptpm_data.specs.Reply.{Answer, Outcome, ReplyValue, answer_of}
-use Rattle.ptpm_data.specs.declared.ports.TheConstants.{PORTS}
+use Rattle.ptpm_data.specs.declared.ports.TheConstants.{INLINE_PORTS}
 use Rattle.ptpm_data.specs.declared.reply.PortAnswer.{PortAnswer}
 use Rattle.ptpm_table.specs.declared.heard.Heard.{Heard}
 use Rattle.ptpm_table.specs.declared.kept_messages.TheConstants.{INLINE_OCTETS}
@@ -272,11 +272,12 @@ kept_least e first at a valid fits = (canonical_size (sent_message e first at a)
 -- there is room for one more
 pub has_room : (of_port : Bool) (count done filled size : ℕ)
     → FitsCount of_port count
+    → count ≤ INLINE_PORTS
     → done < count
     → filled ≤ done * most_octets of_port
     → size ≤ most_octets of_port → filled + size ≤ INLINE_OCTETS
-has_room false count done filled size fits more full small = omega (arith, fits)
-has_room true count done filled size fits more full small = let few : count ≤ PORTS = fits.1 in omega arith
+has_room false count done filled size fits few more full small = omega (arith, fits)
+has_room true count done filled size fits few more full small = omega (arith, few)
 
 pub filled_more : (of_port : Bool) (done filled size : ℕ)
     → filled ≤ done * most_octets of_port

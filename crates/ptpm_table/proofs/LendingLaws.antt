@@ -5,6 +5,7 @@ use Rattle.std.proofs.lemmas.Option.{get_or_from_slice_get, slice_get_read, slic
 use Rattle.std.specs.Ordering.{is_lt}
 use Rattle.std.specs.declared.cmp.Ordering.{Ordering}
 use Rattle.std.proofs.lemmas.List.Folds.{find_at}
+use Rattle.std.proofs.lemmas.List.{length-map}
 use Rattle.std.proofs.lemmas.List.Recursion.{is_count_by}
 use Rattle.std.proofs.lemmas.List.Elements.{All-cons, All-nil, All-push, All-set}
 use Rattle.std.proofs.lemmas.Cmp.{tied_itself}
@@ -28,8 +29,8 @@ use Rattle.ptpm_table.specs.Entries.{Entry, FitsAnswer, FitsCount, FitsRequest, 
 use Rattle.ptpm_table.specs.KeptMessages.{EachKept, Envelope, IsKeptMessage, answer_in, error_of_number}
 use Rattle.ptpm_table.specs.Lending.{AnswerFits, HasNoneAfter, IsAfter, IsKeepable, IsNext}
 use Rattle.ptpm_table.specs.Managers.{has_twice, identities}
-use Rattle.ptpm_table.specs.Rendering.{answer_body}
-use Rattle.ptpm_table.specs.Slots.{AreKeepable, IsSooner, IsUsedAfter, configured, entry_in, slot_of, used}
+use Rattle.ptpm_table.specs.Rendering.{answer_body, rendered}
+use Rattle.ptpm_table.specs.Slots.{AreKeepable, HaveFew, IsSooner, IsUsedAfter, configured, entry_in, slot_of, used}
 use Rattle.ptpm_table.specs.declared.slot.Slot.{Slot}
 use Rattle.ptpm_table.proofs.Identities.{identities_total, same_identity-comm, same_identity-refl}
 use Rattle.ptpm_table.proofs.Maps.{get_entry}
@@ -302,6 +303,28 @@ pub keepable_more : (ss : List Slot) (s : Slot)
     → AreKeepable (ss ++ s ∷ [])
 keepable_more ss s all free =
     All-push (λ t. t.taken ≡ true → IsKeepable t.kept.entry) ss s all (λ taken. absurd (false≢true (sym free ∙ taken)))
+
+-- the same of how many answers they have
+pub few_set : (most : ℕ) (ss : List Slot) (i : ℕ) (new : Slot)
+    → length new.kept.entry.reply.answers ≤ most
+    → HaveFew most ss
+    → HaveFew most (set ss i new)
+few_set most ss i new few all =
+    All-set (λ s. s.taken ≡ true → length s.kept.entry.reply.answers ≤ most) ss i new (λ taken. few) all
+
+pub few_more : (most : ℕ) (ss : List Slot) (s : Slot)
+    → HaveFew most ss
+    → s.taken ≡ false
+    → HaveFew most (ss ++ s ∷ [])
+few_more most ss s all free =
+    All-push (λ t. t.taken ≡ true → length t.kept.entry.reply.answers ≤ most) ss s all (λ taken. absurd (false≢true (sym free ∙ taken)))
+
+-- a reply that was sent has an answer for each message
+pub sent_count : (clock : ClockIdentity) (heard : Heard) (q : RequestValue) (of_port : Bool) (messages : List (ℕ × List ℕ)) (r : ReplyValue)
+    → IsSentReply clock heard q.action q.id of_port messages r
+    → length messages ≡ length r.answers
+unfolding rendered
+sent_count clock heard q of_port messages r sent = ap length sent.messages_are ∙ length-map r.answers _
 
 -- a reply that was sent fits its request
 pub sent_fits : (clock : ClockIdentity) (heard : Heard) (q : RequestValue) (of_port : Bool) (messages : List (ℕ × List ℕ)) (r : ReplyValue)

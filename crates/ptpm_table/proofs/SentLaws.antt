@@ -6,7 +6,7 @@ use Rattle.ptpm_codec.specs.declared.message.Action.{Action}
 use Rattle.ptpm_codec.specs.Canonical.{canonical}
 use Rattle.ptpm_codec.specs.Message.{Fits, IsReplyAction, IsRequestAction, IsValid, IsValidBody, is_reply, reply_action}
 use Rattle.ptpm_codec.proofs.MessageLaws.{reply_action-is_reply}
-use Rattle.ptpm_data.specs.declared.ports.TheConstants.{INLINE_PORTS, PORTS}
+use Rattle.ptpm_data.specs.declared.ports.TheConstants.{INLINE_PORTS}
 use Rattle.ptpm_data.specs.Reply as reply
 use Rattle.ptpm_data.specs.Reply.{Answer, Outcome, ReplyValue}
 use Rattle.ptpm_table.specs.declared.heard.Heard.{Heard}
@@ -159,10 +159,11 @@ each_room true e first at (a ∷ xs) each =
 
 pub all_room : (of_port : Bool) (count size : ℕ)
     → FitsCount of_port count
+    → count ≤ INLINE_PORTS
     → size ≤ count * most_octets of_port
-    → (size ≤ INLINE_OCTETS) × (count ≤ INLINE_PORTS)
-all_room false count size fits full = (omega (arith, fits), omega (arith, fits))
-all_room true count size fits full = let few : count ≤ PORTS = fits.1 in (omega arith, few)
+    → size ≤ INLINE_OCTETS
+all_room false count size fits few full = omega (arith, fits)
+all_room true count size fits few full = omega (arith, few)
 
 -- ---- as they were sent
 

@@ -1,18 +1,17 @@
 -- What is kept of each configured manager: the latest accepted request, with its number and its reply.
-use Rattle.std.specs.Prelude.{◌≡◌, ℕ, ◌+◌, ◌-◌, ◌≤◌, ◌%◌, Bool, true, false, List, length, Some, None, All}
+use Rattle.std.specs.Prelude.{◌≡◌, ℕ, ◌+◌, ◌≤◌, ◌%◌, Bool, true, false, List, length, Some, None, All}
 use Rattle.std.specs.List.{list_any}
 use Rattle.std.specs.FinMap.{FinMap, get}
 use Rattle.ptpm_codec.specs.declared.identity.PortIdentity.{PortIdentity}
 use Rattle.ptpm_codec.specs.declared.message.Action.{Action}
 use Rattle.ptpm_codec.specs.declared.message.Action.TheVariants as actions
 use Rattle.ptpm_codec.specs.Identity.{identity_cmp, same_identity}
-use Rattle.ptpm_data.specs.declared.ports.TheConstants.{INLINE_PORTS, PORTS}
+use Rattle.ptpm_data.specs.declared.ports.TheConstants.{PORTS}
 use Rattle.ptpm_data.specs.ManagementId.{is_of_port}
 use Rattle.ptpm_data.specs.Request.{RequestValue}
 use Rattle.ptpm_data.specs.Reply as reply
 use Rattle.ptpm_data.specs.Reply.{Answer, Outcome, ReplyValue}
 use Rattle.ptpm_codec.specs.Message.{reply_action}
-use Rattle.ptpm_table.specs.declared.outbox.TheConstants.{OUTBOX_MESSAGES}
 
 pub record Entry : Type 0 where
   pub number : ℕ
@@ -42,11 +41,11 @@ HasRoom entries who held most = (e : Entry) → get entries who ≡ Some e → h
 abbrev pub HaveAnswers : ℕ → List (PortIdentity × Entry) → Type 0
 HaveAnswers most es = All (λ e. length e.1.reply.answers ≤ most) es
 
--- The manager has an entry of this number, and its reply can be sent again. An `Outbox` has room for it after the copies of a
--- message that a clock of INLINE_PORTS ports passes on. So it has room after fewer.
-pub record CanResend (entries : Entries) (who : PortIdentity) (n : ℕ) : Type 0 where
+-- The manager has an entry of this number, whose reply has this many answers at most. An empty place for as many messages has
+-- room for it.
+pub record CanResend (most : ℕ) (entries : Entries) (who : PortIdentity) (n : ℕ) : Type 0 where
   pub kept : HasEntry entries who n
-  pub room : HasRoom entries who (INLINE_PORTS - 1) OUTBOX_MESSAGES
+  pub room : HasRoom entries who 0 most
 
 -- ---- which replies may be kept for a request
 

@@ -4,7 +4,7 @@ use Rattle.std.proofs.Common.{ap, sym, ◌∙◌}
 use Rattle.std.specs.declared.cmp.Ordering.TheVariants.{Less}
 use Rattle.std.specs.Coded.{×_prop, Π_prop, →_prop, Unit-prop, le_prop, Coded-set, coded_option, coded_ℕ}
 use mathlib.Core.HLevel.{Σ_prop_path}
-use Rattle.std.specs.Prelude.{◌≡◌, ℕ, Bool, true, false, unwrap_or, slice_get, All, List, [], ◌∷◌, map, Option, Some, None, find, if◌then◌else◌}
+use Rattle.std.specs.Prelude.{◌≡◌, ◌≤◌, ℕ, Bool, true, false, unwrap_or, slice_get, All, List, [], ◌∷◌, length, map, Option, Some, None, find, if◌then◌else◌}
 use Rattle.ptpm_codec.specs.declared.identity.ClockIdentity.{ClockIdentity}
 use Rattle.ptpm_codec.specs.declared.identity.PortIdentity.{PortIdentity}
 use Rattle.ptpm_codec.specs.Identity.{identity_cmp, same_identity}
@@ -41,7 +41,11 @@ rights_at (Some s) = s.rights
 abbrev pub AreKeepable : List Slot → Type 0
 AreKeepable slots = All (λ s. s.taken ≡ true → IsKeepable s.kept.entry) slots
 
--- ---- this holds in one way at most
+-- the reply of each slot that has one has this many answers at most
+abbrev pub HaveFew : ℕ → List Slot → Type 0
+HaveFew most slots = All (λ s. s.taken ≡ true → length s.kept.entry.reply.answers ≤ most) slots
+
+-- ---- that they can be kept holds in one way at most
 
 FitsCount-prop : (of_port : Bool) (count : ℕ) → IsProp (FitsCount of_port count)
 FitsCount-prop false count = Coded-set coded_ℕ count 1

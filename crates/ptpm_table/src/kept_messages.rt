@@ -110,6 +110,7 @@ pub(crate) fn encode_each(
     requires asks { IsRequestAction exchange.now.action }
     requires count { FitsCount of_port (length answers.now) }
     requires suits { All (λ a. FitsAnswer of_port exchange.now.action (answer_of a)) answers.now }
+    requires few { length answers.now ≤ INLINE_PORTS }
     ensures kept { IsKeptReply (envelope_of exchange.now) of_port sizes.new.items
         messages.new.items }
     ensures answers { map (answer_in of_port) (pieces sizes.new.items messages.new.items)
@@ -154,6 +155,7 @@ pub(crate) fn keep_each<O: Outgoing>(
     requires copy { IsCopyOf (envelope_of exchange.now) heard.now }
     requires sent { (r : ReplyValue) × IsSentReply exchange.now.clock heard.now
         exchange.now.action exchange.now.id of_port (O.sent out.now) r }
+    requires few { length (O.sent out.now) ≤ INLINE_PORTS }
     ensures kept { IsKeptReply (envelope_of exchange.now) of_port sizes.new.items
         messages.new.items }
     ensures answers { (r : ReplyValue) → IsSentReply exchange.now.clock heard.now

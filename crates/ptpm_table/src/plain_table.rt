@@ -15,7 +15,7 @@ use crate::rendering::render;
 use crate::reply_table::{Look, ReplyTable};
 use indexmap::IndexMap;
 use ptpm_codec::{Action, ClockIdentity, Octets, OutOfMemory, PortIdentity};
-use ptpm_data::{Reply, Request, Rights};
+use ptpm_data::{INLINE_PORTS, Reply, Request, Rights};
 use std::alloc::Global;
 use std::marker::Model;
 
@@ -107,12 +107,15 @@ impl PlainTable {
 }
 
 impl ReplyTable for PlainTable {
+    ghost use Rattle.ptpm_data.specs.declared.ports.TheConstants.{INLINE_PORTS};
     ghost use Rattle.std.specs.FinMap as fin;
     ghost use Rattle.ptpm_table.specs.Managers.{clock_with};
 
     ghost owner = { λ t. clock_with t.clock t.managers.items };
 
     ghost entries = { λ t. fin.from_entries t.kept.entries };
+
+    ghost most = { λ t. INLINE_PORTS };
 
     fn clock(&self) -> ClockIdentity {
         self.clock

@@ -13,7 +13,7 @@ use crate::heard::Heard;
 use crate::outbox::{OUTBOX_MESSAGES, Outbox};
 use crate::outgoing::Outgoing;
 use ptpm_codec::{ClockIdentity, OutOfMemory, PortIdentity};
-use ptpm_data::{PORTS, Reply, Request, Rights};
+use ptpm_data::{Reply, Request, Rights};
 
 /// What a request is to the table.
 #[derive(Clone, Copy, Debug, PartialEq, Eq)]
@@ -33,6 +33,7 @@ pub enum Look {
 /// The latest accepted request of each configured manager, with its number and reply, however they are kept. Contracts
 /// see a finite map from managers to entries.
 pub trait ReplyTable {
+    ghost use Rattle.std.specs.Prelude.{ℕ};
     ghost use Rattle.ptpm_table.specs.Entries.{Entries};
     ghost use Rattle.ptpm_table.specs.Managers.{Clock};
 
@@ -41,6 +42,9 @@ pub trait ReplyTable {
 
     /// What is kept.
     ghost entries: { Self → Entries };
+
+    /// How many answers of a reply it keeps at most. No call changes it.
+    ghost most: { Self → ℕ };
 
     /// The clock's identity.
     fn clock(&self) -> ClockIdentity
@@ -58,7 +62,7 @@ pub trait ReplyTable {
     fn look(&self, who: &PortIdentity, number: u16, request: &Request<'_>) -> Look
         ensures look { result ≡ look_of (is_known who.now (owner self.now).managers)
             (fin.get (entries self.now) who.now) number request.now }
-        ensures repeat { result ≡ Look.Repeat → CanResend (entries self.now) who.now number };
+        ensures repeat { result ≡ Look.Repeat → CanResend (most self.now) (entries self.now) who.now number };
 
     /// What `look` and `rights` answer. A table that finds its manager once for both has a body of its own.
     fn look_with_rights(
@@ -69,7 +73,7 @@ pub trait ReplyTable {
     ) -> (Look, Rights)
         ensures look { result.0 ≡ look_of (is_known who.now (owner self.now).managers)
             (fin.get (entries self.now) who.now) number request.now }
-        ensures repeat { result.0 ≡ Look.Repeat → CanResend (entries self.now) who.now number }
+        ensures repeat { result.0 ≡ Look.Repeat → CanResend (most self.now) (entries self.now) who.now number }
         ensures rights { result.1 ≡ (owner self.now).rights who.now }
     {
         (self.look(who, number, request), self.rights(who))
@@ -78,8 +82,9 @@ pub trait ReplyTable {
     /// Puts number, request and reply in place of what is kept of the manager. What is kept of other managers stays. If memory is
     /// refused, nothing changes. The manager is known. The request is a GET, SET or COMMAND with an even number of octets, 1,418
     /// at most. The reply fits it, with the answering action and the id. It has one answer without a port for an id of the clock
-    /// or of no row, and otherwise 1 to `PORTS` with ports. An answer may be a refusal. For a COMMAND it may be `Done`. For
-    /// another request it may be a value of even size, 130 octets at most, or 26 from a port.
+    /// or of no row, and otherwise 1 to `PORTS` with ports. It has no more answers than the table keeps. An answer may be a
+    /// refusal. For a COMMAND it may be `Done`. For another request it may be a value of even size, 130 octets at most, or 26 from
+    /// a port.
     fn keep(
         &mut self,
         who: &PortIdentity,
@@ -91,10 +96,12 @@ pub trait ReplyTable {
         requires action { IsRequestAction request.now.action }
         requires octets { IsDataField request.now.octets }
         requires fits { FitsRequest request.now reply.now }
+        requires few { length reply.now.answers ≤ most self.old }
         ensures ok { OnOk result (entries self.new ≡ fin.insert (entries self.old) who.now
             (record { number = number; request = request.now; reply = reply.now })) }
         ensures err { OnErr result (entries self.new ≡ entries self.old) }
-        ensures owner { owner self.new ≡ owner self.old };
+        ensures owner { owner self.new ≡ owner self.old }
+        ensures most { most self.new ≡ most self.old };
 
     /// Appends the messages of the kept reply for the copy that was heard, and changes no entry. The outbox has room for
     /// them, one for each answer.
@@ -115,9 +122,11 @@ pub trait SureTable: ReplyTable {
         requires action { IsRequestAction request.now.action }
         requires octets { IsDataField request.now.octets }
         requires fits { FitsRequest request.now reply.now }
+        requires few { length reply.now.answers ≤ Self.most self.old }
         ensures kept { Self.entries self.new ≡ fin.insert (Self.entries self.old) who.now
             (record { number = number; request = request.now; reply = reply.now }) }
-        ensures owner { Self.owner self.new ≡ Self.owner self.old };
+        ensures owner { Self.owner self.new ≡ Self.owner self.old }
+        ensures most { Self.most self.new ≡ Self.most self.old };
 
     /// Keeps number and request with the reply that was sent for the copy that was heard. The messages of the reply are those
     /// that went out, and no others did. `of_port` says whether its answers are of ports. If not, its one answer is of the clock.
@@ -133,11 +142,13 @@ pub trait SureTable: ReplyTable {
         requires octets { IsDataField request.now.octets }
         requires sent { (r : ReplyValue) × IsSentReply (Self.owner self.old).identity heard.now
             request.now.action request.now.id of_port (O.sent out.now) r }
+        requires few { length (O.sent out.now) ≤ Self.most self.old }
         ensures kept { (r : ReplyValue) → IsSentReply (Self.owner self.old).identity heard.now
             request.now.action request.now.id of_port (O.sent out.now) r →
             Self.entries self.new ≡ fin.insert (Self.entries self.old) heard.now.source
             (record { number = heard.now.number; request = request.now; reply = r }) }
-        ensures owner { Self.owner self.new ≡ Self.owner self.old };
+        ensures owner { Self.owner self.new ≡ Self.owner self.old }
+        ensures most { Self.most self.new ≡ Self.most self.old };
 
     /// What `resend` does, wherever the messages go.
     fn send_again<O: Outgoing>(&self, heard: &Heard, ingress: u16, out: &mut O)
@@ -149,7 +160,7 @@ pub trait SureTable: ReplyTable {
             ≡ O.sent out.old ++ rendered (Self.owner self.now).identity heard.now e.reply ingress }
         ensures grown { O.grown out.old out.new };
 
-    /// No kept reply has more than `PORTS` answers: a law, and nothing is done.
+    /// No kept reply has more answers than the table keeps: a law, and nothing is done.
     fn few_answers(&self)
-        ensures { HaveAnswers PORTS (fin.entries (Self.entries self.now)) };
+        ensures { HaveAnswers (Self.most self.now) (fin.entries (Self.entries self.now)) };
 }

@@ -229,6 +229,7 @@ impl Kept {
         requires action { IsRequestAction request.now.action }
         requires octets { IsDataField request.now.octets }
         requires fits { FitsRequest request.now reply.now }
+        requires few { length reply.now.answers ≤ INLINE_PORTS }
         ensures { self.new ≡ record { clock = self.old.clock; manager = self.old.manager; entry = record { number = number; request = request.now; reply = reply.now } } }
     {
         self.number = number;
@@ -264,6 +265,7 @@ impl Kept {
         requires manager { heard.now.source ≡ self.old.manager }
         requires sent { (r : ReplyValue) × IsSentReply self.old.clock heard.now
             request.now.action request.now.id of_port (O.sent out.now) r }
+        requires few { length (O.sent out.now) ≤ INLINE_PORTS }
         ensures { (r : ReplyValue) → IsSentReply self.old.clock heard.now
             request.now.action request.now.id of_port (O.sent out.now) r →
             self.new ≡ record { clock = self.old.clock; manager = self.old.manager; entry = record { number = heard.now.number; request = request.now; reply = r } } }

@@ -1,11 +1,11 @@
 //! The memory that the slots of a table lie in.
 
 ghost use Rattle.std.specs.Prelude.{◌≡◌, ◌≤◌, [], All, length};
-ghost use Rattle.ptpm_table.specs.Slots.{AreKeepable, clocks, configured, used};
+ghost use Rattle.ptpm_table.specs.Slots.{AreKeepable, HaveFew, clocks, configured, used};
 
 use crate::slot::Slot;
 use ptpm_codec::{ClockIdentity, PortIdentity};
-use ptpm_data::Rights;
+use ptpm_data::{INLINE_PORTS, Rights};
 
 /// Memory with slots in it, one for each manager of a table: an array in the value, or a block on the heap. It lends them.
 pub trait SlotMemory {
@@ -56,6 +56,7 @@ pub(crate) fn assign<M: SlotMemory>(
     requires room { length managers.now ≤ M.room memory.old }
     ensures own { All (λ c. c ≡ clock.now) (clocks (M.slots memory.new)) }
     ensures keepable { AreKeepable (M.slots memory.new) }
+    ensures few { HaveFew INLINE_PORTS (M.slots memory.new) }
     ensures configured { configured (M.slots memory.new) ≡ managers.now }
     ensures used { used (M.slots memory.new) ≡ [] }
     ensures room { M.room memory.new ≡ M.room memory.old }

@@ -3,9 +3,10 @@
 ghost use Rattle.std.specs.Prelude.{◌≡◌, ◌≤◌, false, IsOk, IsTrue, OnErr, OnOk, All, length};
 ghost use Rattle.std.specs.FinMap as fin;
 ghost use Rattle.ptpm_codec.specs.Message.{IsDataField, IsRequestAction};
+ghost use Rattle.ptpm_data.specs.declared.ports.TheConstants.{INLINE_PORTS};
 ghost use Rattle.ptpm_table.specs.Entries.{FitsRequest, is_known};
 ghost use Rattle.ptpm_table.specs.Managers.{has_twice, identities};
-ghost use Rattle.ptpm_table.specs.Slots.{AreKeepable, AreKeepable-prop, clocks, configured};
+ghost use Rattle.ptpm_table.specs.Slots.{AreKeepable, AreKeepable-prop, HaveFew, clocks, configured};
 
 use crate::heard::Heard;
 use crate::in_order::{LentEntries, in_order};
@@ -16,7 +17,7 @@ use crate::reply_table::{Look, ReplyTable, SureTable};
 use crate::slot_list::{count_used, look_at, next_slot, put, put_sent, rights_of, slot_at};
 use crate::slot_memory::SlotMemory;
 use ptpm_codec::{ClockIdentity, OutOfMemory, PortIdentity};
-use ptpm_data::{Reply, Request, Rights};
+use ptpm_data::{INLINE_PORTS, Reply, Request, Rights};
 
 /// The latest accepted requests, in slots of some memory, one for each manager. A slot has 2,136 octets. Replies are kept as octets:
 /// `keep_sent` copies the messages as they were sent, and `keep` encodes them. `resend` copies them and writes over what depends
@@ -29,10 +30,12 @@ pub struct TableOver<M: SlotMemory + Drop> {
     ghost own: { All (λ c. c ≡ clock) (clocks (M.slots slots)) },
     ghost few: { length (M.slots slots) ≤ 16 },
     ghost keepable: { AreKeepable (M.slots slots) } by { AreKeepable-prop (M.slots slots) },
+    ghost have_few: { HaveFew INLINE_PORTS (M.slots slots) },
     ghost no_spare: { M.spare slots ≡ 0 },
 }
 
 impl<M: SlotMemory + Drop> ReplyTable for TableOver<M> {
+    ghost use Rattle.ptpm_data.specs.declared.ports.TheConstants.{INLINE_PORTS};
     ghost use Rattle.std.specs.FinMap as fin;
     ghost use Rattle.ptpm_table.specs.Managers.{clock_with};
     ghost use Rattle.ptpm_table.specs.Slots.{configured, used};
@@ -40,6 +43,8 @@ impl<M: SlotMemory + Drop> ReplyTable for TableOver<M> {
     ghost owner = { λ t. clock_with t.clock (configured (M.slots t.slots)) };
 
     ghost entries = { λ t. fin.from_entries (used (M.slots t.slots)) };
+
+    ghost most = { λ t. INLINE_PORTS };
 
     fn clock(&self) -> ClockIdentity {
         self.clock
@@ -79,6 +84,7 @@ impl<M: SlotMemory + Drop> ReplyTable for TableOver<M> {
         requires action { IsRequestAction request.now.action }
         requires octets { IsDataField request.now.octets }
         requires fits { FitsRequest request.now reply.now }
+        requires few { length reply.now.answers ≤ ⟦<TableOver<M> as ReplyTable>⟧.most self.old }
         ensures never_refused { IsOk result }
         ensures ok { OnOk result
             (⟦<TableOver<M> as ReplyTable>⟧.entries self.new
@@ -89,6 +95,8 @@ impl<M: SlotMemory + Drop> ReplyTable for TableOver<M> {
             ≡ ⟦<TableOver<M> as ReplyTable>⟧.entries self.old) }
         ensures owner { ⟦<TableOver<M> as ReplyTable>⟧.owner self.new
             ≡ ⟦<TableOver<M> as ReplyTable>⟧.owner self.old }
+        ensures most { ⟦<TableOver<M> as ReplyTable>⟧.most self.new
+            ≡ ⟦<TableOver<M> as ReplyTable>⟧.most self.old }
     {
         self.replace(who, number, request, reply);
         Ok(())

@@ -18,7 +18,7 @@ pub append_message-requires-clause-room : goal.append_message-requires-clause-ro
 append_message-requires-clause-room c =
     omega (
       arith,
-      has_room c.args.of_port _ _ _ _ c.requires.count c.loop-answer-test.true c.loop-answer.invariant.room
+      has_room c.args.of_port _ _ _ _ c.requires.count c.requires.few c.loop-answer-test.true c.loop-answer.invariant.room
           (made_small c.args.of_port (envelope_of c.args.exchange.now) c.args.exchange.now.action (reply_action c.args.exchange.now.action) c.args.answers.now
           c.loop-answer.answer-index c.answer-item.result c.draft-draft.result c.answer-item.is c.loop-answer-test.true c.requires.suits
           c.draft-draft.ensures.message),

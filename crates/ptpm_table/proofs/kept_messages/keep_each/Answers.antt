@@ -1,24 +1,10 @@
-use Rattle.std.proofs.Common.{◌∙◌, ap, arith, length, map, subst, sym}
+use Rattle.std.proofs.Common.{◌∙◌, ◌≤◌, ap, arith, length, map, subst, sym}
 use Rattle.std.proofs.lemmas.List.{length-map}
+use Rattle.ptpm_data.specs.declared.ports.TheConstants.{INLINE_PORTS}
 use Rattle.ptpm_table.specs.KeptMessages.{envelope_of}
 use Rattle.ptpm_table.specs.Sending.{AreSmall, all_octets}
 use Rattle.ptpm_table.proofs.SentLaws.{all_room, count_of, each_room, each_small, message_at, sent_back, sent_encoded, sent_kept, sent_messages}
 use Rattle.ptpm_table.proofs.kept_messages.keep_each.Goals as goal
-
-pub copy_all-requires-clause-few : goal.copy_all-requires-clause-few
-copy_all-requires-clause-few g c =
-    let x = c.args.exchange.now in
-    let s = c.requires.sent.1 in
-    let each = sent_encoded x c.args.heard.now c.args.of_port _ c.requires.sent.0 c.requires.asks c.requires.copy s in
-    let room = all_room c.args.of_port _ _ s.count (each_room c.args.of_port (envelope_of x) c.args.heard.now s.ingress c.requires.sent.0.answers each) in
-    let same = ap length (sent_messages x c.args.heard.now c.args.of_port _ c.requires.sent.0 s) in
-    omega (
-      arith,
-      room.1,
-      same,
-      count_of (g.O.Outgoing.sent c.args.out.now),
-      length-map c.requires.sent.0.answers (message_at (envelope_of x) c.args.heard.now s.ingress),
-    )
 
 pub copy_all-requires-clause-small : goal.copy_all-requires-clause-small
 copy_all-requires-clause-small g c =
@@ -32,10 +18,18 @@ pub copy_all-requires-clause-room : goal.copy_all-requires-clause-room
 copy_all-requires-clause-room g c =
     let x = c.args.exchange.now in
     let s = c.requires.sent.1 in
-    let room = all_room c.args.of_port _ _ s.count (each_room c.args.of_port (envelope_of x) c.args.heard.now s.ingress c.requires.sent.0.answers
+    let same = ap length (sent_messages x c.args.heard.now c.args.of_port _ c.requires.sent.0 s) in
+    let few : length c.requires.sent.0.answers ≤ INLINE_PORTS = omega (
+      arith,
+      c.requires.few,
+      same,
+      count_of (g.O.Outgoing.sent c.args.out.now),
+      length-map c.requires.sent.0.answers (message_at (envelope_of x) c.args.heard.now s.ingress),
+    ) in
+    let room = all_room c.args.of_port _ _ s.count few (each_room c.args.of_port (envelope_of x) c.args.heard.now s.ingress c.requires.sent.0.answers
     (sent_encoded x c.args.heard.now c.args.of_port _ c.requires.sent.0 c.requires.asks c.requires.copy s)) in
-    let same = ap (λ ms. length (all_octets ms)) (sent_messages x c.args.heard.now c.args.of_port _ c.requires.sent.0 s) in
-    omega (arith, room.0, same)
+    let octets = ap (λ ms. length (all_octets ms)) (sent_messages x c.args.heard.now c.args.of_port _ c.requires.sent.0 s) in
+    omega (arith, room, octets)
 
 pub returns-clause-kept : goal.returns-clause-kept
 returns-clause-kept g c =

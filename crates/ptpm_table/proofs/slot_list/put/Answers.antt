@@ -1,12 +1,13 @@
-use Rattle.std.proofs.Common.{arith, sym, ◌∙◌, ap, refl, true, get_or}
+use Rattle.std.proofs.Common.{arith, sym, ◌∙◌, ◌≤◌, ap, length, refl, subst, true, get_or}
 use Rattle.std.specs.FinMap.{from_entries, insert}
 use Rattle.std.proofs.lemmas.List.Quantifiers.{position-Some}
 use Rattle.ptpm_codec.specs.Identity.{identity_cmp, same_identity}
+use Rattle.ptpm_data.specs.declared.ports.TheConstants.{INLINE_PORTS}
 use Rattle.ptpm_table.specs.KeptMessages.{KeptValue}
 use Rattle.ptpm_table.specs.Slots.{used}
 use Rattle.ptpm_table.specs.declared.slot.Slot.{Slot}
 use Rattle.ptpm_table.specs.Entries.{Entry}
-use Rattle.ptpm_table.proofs.LendingLaws.{keepable_set}
+use Rattle.ptpm_table.proofs.LendingLaws.{few_set, keepable_set}
 use Rattle.ptpm_table.proofs.Slots.{clocks_set, configured_set, entries_set, has_place}
 use Rattle.ptpm_table.proofs.slot_list.put.Goals as goal
 
@@ -32,6 +33,12 @@ returns-in-Some-clause-keepable c =
     (record { rights = (get_or c.args.slots.now c.in-Some.place c.index-slots-place.result).rights; taken = true; kept = c.replace.new.self }) e
     (ap (λ (k : KeptValue). k.entry) c.replace.ensures)
     (record { action = c.requires.action; octets = c.requires.octets; fits = c.requires.fits })
+
+pub returns-in-Some-clause-few : goal.returns-in-Some-clause-few
+returns-in-Some-clause-few c =
+    few_set INLINE_PORTS c.args.slots.now c.in-Some.place
+    (record { rights = (get_or c.args.slots.now c.in-Some.place c.index-slots-place.result).rights; taken = true; kept = c.replace.new.self })
+    (subst (λ (k : KeptValue). length k.entry.reply.answers ≤ INLINE_PORTS) (sym c.replace.ensures) c.requires.few)
 
 pub returns-in_default-clause-entries : goal.returns-in_default-clause-entries
 returns-in_default-clause-entries c = absurd (has_place c.args.who.now c.args.slots.now c.requires.known (sym c.in_default.ensures))
