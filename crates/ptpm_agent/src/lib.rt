@@ -5,6 +5,7 @@
 mod agent;
 mod forwarding;
 mod laws;
+mod turning;
 mod verdict;
 
 pub use agent::Agent;

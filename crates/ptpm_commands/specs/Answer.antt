@@ -7,17 +7,18 @@ use Rattle.ptpm_agent.specs.Agent.{clock_of, state_of}
 use Rattle.ptpm_agent.specs.declared.agent.Agent.{Agent}
 use Rattle.ptpm_agent.specs.Laws.{initial_clock_state}
 use Rattle.ptpm_agent.specs.Turn.{Clock, State, outbox_of, turn}
+use Rattle.ptpm_table.specs.declared.reply_table.ReplyTable.{Ghosts}
 use Rattle.ptpm_table.specs.Tables.{OfSixteen, entries_of_sixteen, owner_of_sixteen}
 use Rattle.ptpm_table.specs.Managers.{clock_with}
 use Rattle.ptpm_text.specs.OctetText.{text_of_octets}
 use Rattle.ptpm_commands.specs.FreshClock.{fresh_sets, managers, shown}
 
 -- its identity, and its managers with their rights: `ReplyTable`'s owner
-abbrev pub clock_shown : Agent OfSixteen → Clock
+abbrev pub clock_shown : {g : Ghosts OfSixteen} → Agent OfSixteen g → Clock
 clock_shown a = clock_of owner_of_sixteen a
 
 -- its data sets, and what it keeps of its managers: `ReplyTable`'s entries
-abbrev pub state_shown : Agent OfSixteen → State
+abbrev pub state_shown : {g : Ghosts OfSixteen} → Agent OfSixteen g → State
 state_shown a = state_of entries_of_sixteen a
 
 -- ---- what is printed

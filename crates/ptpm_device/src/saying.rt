@@ -235,6 +235,7 @@ fn keep<T: SureTable + Drop>(agent: &mut Agent<T>, get: &Asked<'_>, octets: &[u8
     ensures sets { agent.new.sets ≡ agent.old.sets }
     ensures clock { clock_of T.owner agent.new ≡ clock_of T.owner agent.old }
 {
+    data_sets_law(agent.sets());
     let reply = reply_given(&get.request, octets);
     agent.keep_again(&get.manager, get.number, &get.request, &reply);
 }

@@ -1,6 +1,7 @@
 -- A world as the network's definitions see it: clocks and sessions by their places, and all frames.
 use Rattle.std.specs.Prelude.{◌≡◌, ℕ, List, [], Bool, false, bytes_eq, find, length, slice_get, Option, Some, None, option_map}
 use Rattle.ptpm_data.specs.Members.{DataSetsValue}
+use Rattle.ptpm_table.specs.declared.reply_table.ReplyTable.{Ghosts}
 use Rattle.ptpm_table.specs.Entries.{Entries}
 use Rattle.ptpm_table.specs.Tables.{OfSixteen, entries_of_sixteen, owner_of_sixteen}
 use Rattle.ptpm_agent.specs.Agent as agent
@@ -30,11 +31,11 @@ abbrev pub table_entries : OfSixteen → Entries
 table_entries t = entries_of_sixteen t
 
 -- its identity, its managers, and what each of them may change: `ReplyTable`'s owner
-abbrev pub agent_clock : Agent OfSixteen → Clock
+abbrev pub agent_clock : {g : Ghosts OfSixteen} → Agent OfSixteen g → Clock
 agent_clock a = clock_of owner_of_sixteen a
 
 -- its data sets, and what is kept of each manager
-abbrev pub agent_state : Agent OfSixteen → State
+abbrev pub agent_state : {g : Ghosts OfSixteen} → Agent OfSixteen g → State
 agent_state a = agent.state_of table_entries a
 
 -- ---- what is at a place; past the last, something that no definition looks at

@@ -8,4 +8,4 @@ pub handle_into-requires-clause-room : goal.handle_into-requires-clause-room
 handle_into-requires-clause-room g c =
     let sized = c.data_sets_law.ensures.sized in
     turn_few (g.T.ReplyTable.owner c.args.self.now.table) (state_of g.T.ReplyTable.entries c.args.self.now) c.args.ingress c.args.datagram.now OUTBOX_MESSAGES
-    sized c.requires.port (omega (arith, sized.few_ports)) (λ k e inside. omega (arith, c.few_answers.ensures k e inside))
+    sized c.requires.port (omega (arith, c.args.self.now.room, c.requires.small)) (λ k e inside. omega (arith, c.few_answers.ensures k e inside, c.requires.small))

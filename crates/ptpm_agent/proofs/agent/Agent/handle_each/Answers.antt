@@ -11,10 +11,13 @@ use Rattle.ptpm_agent.proofs.TurnKeeps.{turn-ports}
 use Rattle.ptpm_agent.proofs.agent.Agent.handle_each.Goals as goal
 
 pub loop-place-init : goal.loop-place-init
-loop-place-init g c = record { clock = refl; ports = refl; turned = refl; sent = refl }
+loop-place-init g c = record { clock = refl; most = refl; ports = refl; turned = refl; sent = refl }
 
-pub handle-requires : goal.handle-requires
-handle-requires g c =
+pub handle-requires-clause-small : goal.handle-requires-clause-small
+handle-requires-clause-small g c = omega (arith, c.loop-place.invariant.most, c.requires.small)
+
+pub handle-requires-clause-port : goal.handle-requires-clause-port
+handle-requires-clause-port g c =
     let item = c.index-datagrams-place.result in
     let within : c.loop-place.place < length c.args.datagrams.now = omega arith in
     let port : HasPort item.0 c.args.self.now.sets = grind arith in grind arith

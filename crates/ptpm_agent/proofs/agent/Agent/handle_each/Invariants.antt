@@ -7,6 +7,7 @@ use Rattle.ptpm_agent.proofs.agent.Agent.handle_each.Given as goal
 abbrev pub invariant-loop-place : goal.invariant-loop-place
 invariant-loop-place g l = record {
   clock : g.T.ReplyTable.owner l.self.table ≡ g.T.ReplyTable.owner l.fn.self.table;
+  most : g.T.ReplyTable.most l.self.table ≡ g.T.ReplyTable.most l.fn.self.table;
   ports : length l.self.sets.ports ≡ length l.fn.self.sets.ports;
   turned : state_of g.T.ReplyTable.entries l.self
       ≡ after_each (g.T.ReplyTable.owner l.fn.self.table)

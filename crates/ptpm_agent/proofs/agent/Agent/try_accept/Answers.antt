@@ -1,5 +1,7 @@
-use Rattle.std.proofs.Common.{arith, ◌∙◌, ap}
+use Rattle.std.proofs.Common.{arith, ◌∙◌, ap, length}
 use Rattle.ptpm_data.specs.Replies.{reply_to}
+use Rattle.ptpm_data.specs.Reply.{ReplyValue}
+use Rattle.ptpm_data.proofs.AnswerCounts.{new_few}
 use Rattle.ptpm_table.proofs.Fitting.{fitting_sendable}
 use Rattle.ptpm_agent.proofs.Fitting.{fits_numbered}
 use Rattle.ptpm_agent.proofs.Turns.{new_parts}
@@ -23,6 +25,16 @@ keep-requires-clause-fits g c =
     fits_numbered c.request_of-request.result c.args.rights c.args.self.now.sets c.args.message.now c.decide-reply.result
     c.request_of-request.ensures c.data_sets_law.ensures.sized p.request p.port c.requires.valid
     (c.decide-reply.ensures.reply ∙ ap (reply_to c.request_of-request.result c.args.rights) c.copy-sets.ensures)
+
+pub keep-requires-clause-few : goal.keep-requires-clause-few
+keep-requires-clause-few g c =
+    let reply = c.decide-reply.ensures.reply ∙ ap (reply_to c.request_of-request.result c.args.rights) c.copy-sets.ensures in
+    omega (
+      arith,
+      ap (λ (r : ReplyValue). length r.answers) reply,
+      new_few c.request_of-request.result c.args.rights c.args.self.now.sets c.data_sets_law.ensures.sized,
+      c.args.self.now.room,
+    )
 
 pub returns-clause-sendable : goal.returns-clause-sendable
 returns-clause-sendable g c =

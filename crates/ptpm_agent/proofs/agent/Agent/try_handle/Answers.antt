@@ -1,4 +1,4 @@
-use Rattle.std.proofs.Common.{arith, ◌≡◌, ◌++◌, ap, refl, sym, ◌∙◌}
+use Rattle.std.proofs.Common.{arith, ◌≡◌, ◌++◌, ℕ, List, ap, length, refl, sym, ◌∙◌}
 use Rattle.std.specs.FinMap.{get}
 use Rattle.ptpm_table.specs.Rendering.{rendered}
 use Rattle.ptpm_table.specs.declared.heard.Heard.{Heard}
@@ -48,9 +48,15 @@ returns-in_default-clause-turned g c =
 pub returns-in_err-reply-in-AnsweredNew-clause-only_new : goal.returns-in_err-reply-in-AnsweredNew-clause-only_new
 returns-in_err-reply-in-AnsweredNew-clause-only_new g c = grind arith
 
+pub resend-requires-clause-room : goal.resend-requires-clause-room
+resend-requires-clause-room g c = λ e is.
+    let source : c.heard_of.result.source ≡ c.in-Ok.message.source = ap (λ (h : Heard). h.source) c.heard_of.ensures in
+    let few = (c.judge-verdict.ensures.repeat c.in-AnsweredRepeat.is).room e (ap (get (g.T.ReplyTable.entries c.args.self.now.table)) (sym source) ∙ is) in
+    omega (arith, few, c.requires.small, ap (λ (xs : List (ℕ × List ℕ)). length xs) c.clear-in-AnsweredRepeat.ensures)
+
 pub answer-requires-clause-room : goal.answer-requires-clause-room
 answer-requires-clause-room g c =
     let sized = c.data_sets_law.ensures.sized in
     verdict_few (g.T.ReplyTable.owner c.args.self.now.table) (state_of g.T.ReplyTable.entries c.args.self.now) c.args.ingress c.args.datagram.now OUTBOX_MESSAGES
-    sized c.requires.port (omega (arith, sized.few_ports)) c.in-Ok.message c.judge-verdict.result.0
+    sized c.requires.port (omega (arith, c.args.self.now.room, c.requires.small)) c.in-Ok.message c.judge-verdict.result.0
     (sym c.view.ensures.exact ∙ c.in-Ok.is) (sym c.judge-verdict.ensures.verdict) (λ repeat. absurd (c.in_default.not-AnsweredRepeat repeat))
