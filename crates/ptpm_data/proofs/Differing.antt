@@ -2,8 +2,10 @@
 use Rattle.std.proofs.lemmas.Grind.{common_steps}
 use mathlib.Core.Bool.{beq}
 use mir.Val.{bool_byte}
-use Rattle.std.proofs.Common.{arith, ◌≡◌, ◌∙◌, ap, refl, sym, ℕ, zero, suc, ◌+◌, ◌*◌, ◌-◌, ◌<◌, ◌^◌, Bool, true, false, not, nat_eq, pos, nat_abs, int_eq, if◌then◌else◌, List, [], ◌∷◌, map, length, drop, get_or, Option, Some, None, option_map, bytes_eq, eq-eqb, replicate}
+use Rattle.std.proofs.Common.{arith, ◌≡◌, ◌∙◌, ap, refl, sym, ℕ, zero, suc, ◌+◌, ◌*◌, ◌-◌, ◌<◌, ◌^◌, Bool, true, false, not, nat_eq, pos, nat_abs, int_eq, if◌then◌else◌, List, [], ◌∷◌, map, length, drop, get_or, Option, Some, None, option_map, bytes_eq, eq-eqb, replicate, set, slice_get, ◌≤◌, ◌++◌}
 use Rattle.std.proofs.Math.Nat.{pow-suc}
+use Rattle.std.proofs.lemmas.List.{length-map, map-append}
+use Rattle.std.proofs.lemmas.List.FromFn.{length-range_with_len, map-range_with_len_more}
 use Rattle.std.specs.List.{range_with_len}
 use Rattle.std.proofs.lemmas.Slice.Eq.{bytes_eq-Decides}
 use Rattle.std.proofs.lemmas.Bool.Decides.{Decides-eqb, Decides-int_eq, same_from_decides}
@@ -14,7 +16,7 @@ use Rattle.ptpm_data.specs.declared.members.Member.{Member}
 use Rattle.ptpm_data.specs.declared.ports.TheConstants.{PORTS}
 use Rattle.ptpm_data.specs.Changed.{changed, clock_changed, clock_members, differ, member_of, members_changed, no_members, number_of, port_changed, port_members}
 use Rattle.ptpm_data.specs.MemberMap.{MemberValue, Octets, clock_member, flag, natural}
-use Rattle.ptpm_data.specs.Members.{DataSetsValue, port_of}
+use Rattle.ptpm_data.specs.Members.{DataSetsValue, port_among, port_of}
 
 -- ---- tests of values
 
@@ -130,7 +132,73 @@ no_port_member p = ap (λ n. let m : PortMembers = record { 0 = n } in m) (no_di
 no_clock_member : (d : DataSetsValue) → clock_changed d d ≡ record { 0 = 0 }
 no_clock_member d = ap (λ n. let m : ClockMembers = record { 0 = n } in m) (no_digit (λ m. clock_member m d) clock_members)
 
-no_ports : (d : DataSetsValue) (a n : ℕ) → replicate n (record { 0 = 0 }) ≡ map (port_changed d d) (range_with_len a n)
+-- no member
+abbrev untold : PortMembers
+untold = record { 0 = 0 }
+
+-- of ports that neither has
+none_past : (ports : List PortDataSet) (place : ℕ) → length ports ≤ place → slice_get ports place ≡ None
+none_past [] place past = refl
+none_past (p ∷ ports) zero past = absurd (omega arith)
+none_past (p ∷ ports) (suc place) past = none_past ports place (omega (arith, past))
+
+no_port : (ports : List PortDataSet) (port : ℕ) → length ports < port → port_among port ports ≡ None
+no_port ports zero past = refl
+no_port ports (suc place) past = none_past ports place (omega (arith, past))
+
+-- one more port is told in the place of one that is not yet
+set_behind : {X : Type 0} (xs : List X) (n : ℕ) (none x : X) → set (xs ++ replicate (suc n) none) (length xs) x ≡ (xs ++ x ∷ []) ++ replicate n none
+set_behind [] n none x = refl
+set_behind (y ∷ ys) n none x = ap (λ zs. y ∷ zs) (set_behind ys n none x)
+
+pub one_more_told : (f : ℕ → PortMembers) (place most : ℕ) (ports : List PortMembers) (x : PortMembers)
+    → ports ≡ map f (range_with_len 1 place) ++ replicate (most - place) untold
+    → place < most
+    → x ≡ f (place + 1)
+    → set ports place x ≡ map f (range_with_len 1 (place + 1)) ++ replicate (most - (place + 1)) untold
+one_more_told f place most ports x told below is =
+    let before = map f (range_with_len 1 place) in
+    let left : most - place ≡ suc (most - (place + 1)) = omega arith in
+    let size : place ≡ length before = sym (length-map (range_with_len 1 place) f ∙ length-range_with_len 1 place) in
+    ap (λ ps. set ps place x) (told ∙ ap (λ n. before ++ replicate n untold) left)
+    ∙ ap (λ n. set (before ++ replicate (suc (most - (place + 1))) untold) n x) size
+    ∙ set_behind before (most - (place + 1)) untold x
+    ∙ ap (λ ps. ps ++ replicate (most - (place + 1)) untold)
+    (ap (λ y. before ++ y ∷ []) is ∙ sym (map-range_with_len_more f 1 place (place + 1) (omega arith)))
+
+-- the others are those that neither has
+others_told : (f : ℕ → PortMembers) (a n : ℕ) → ((port : ℕ) → a ≤ port → untold ≡ f port)
+    → replicate n untold ≡ map f (range_with_len a n)
+others_told f a zero none = refl
+others_told f a (suc n) none = λ i. none a (omega arith) i ∷ others_told f (a + 1) n (λ port past. none port (omega (arith, past))) i
+
+ranges_join : (a m n : ℕ) → range_with_len a m ++ range_with_len (a + m) n ≡ range_with_len a (m + n)
+ranges_join a zero n =
+    let from : a + 0 ≡ a = omega arith in
+    let total : n ≡ 0 + n = omega arith in
+    ap (λ k. range_with_len k n) from ∙ ap (range_with_len a) total
+ranges_join a (suc m) n =
+    let from : a + suc m ≡ a + 1 + m = omega arith in
+    let total : suc (m + n) ≡ suc m + n = omega arith in
+    ap (λ ks. a ∷ ks) (ap (λ k. range_with_len (a + 1) m ++ range_with_len k n) from ∙ ranges_join (a + 1) m n) ∙ ap (range_with_len a) total
+
+pub all_told : (before after : DataSetsValue) (count most : ℕ) (ports : List PortMembers)
+    → ports ≡ map (port_changed before after) (range_with_len 1 count) ++ replicate (most - count) untold
+    → length before.ports ≤ count
+    → length after.ports ≤ count
+    → count ≤ most
+    → ports ≡ map (port_changed before after) (range_with_len 1 most)
+all_told before after count most ports told few few_too within =
+    let f = port_changed before after in
+    let none : (port : ℕ) → 1 + count ≤ port → untold ≡ f port =
+    λ port past. of_neither (port_of port before) (port_of port after)
+    (no_port before.ports port (omega (arith, past, few))) (no_port after.ports port (omega (arith, past, few_too))) in
+    let all : count + (most - count) ≡ most = omega arith in
+    told ∙ ap (λ ms. map f (range_with_len 1 count) ++ ms) (others_told f (1 + count) (most - count) none)
+    ∙ sym (map-append f (range_with_len 1 count) (range_with_len (1 + count) (most - count)))
+    ∙ ap (map f) (ranges_join 1 count (most - count) ∙ ap (range_with_len 1) all)
+
+no_ports : (d : DataSetsValue) (a n : ℕ) → replicate n untold ≡ map (port_changed d d) (range_with_len a n)
 no_ports d a zero = refl
 no_ports d a (suc n) = λ i. sym (no_port_member (port_of a d)) i ∷ no_ports d (a + 1) n i
 

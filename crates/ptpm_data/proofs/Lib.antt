@@ -16,6 +16,7 @@ pub mod OwnOctets
 pub mod PlainMap
 pub mod MapLemmas
 pub mod Observing
+pub mod PortLists
 pub mod Observed
 pub mod Differing
 pub mod Consistency

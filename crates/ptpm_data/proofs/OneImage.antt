@@ -3,10 +3,11 @@ use Rattle.std.proofs.Common.{arith, ◌≡◌, ◌∙◌, ap, refl, sym, ℕ, �
 use Rattle.std.specs.List.{All, flat_map}
 use Rattle.std.proofs.lemmas.List.Elements.{All-head, All-tail}
 use Rattle.ptpm_data.specs.declared.data_sets.PortDataSet.{PortDataSet}
+use Rattle.ptpm_data.specs.declared.ports.TheConstants.{PORTS}
 use Rattle.ptpm_data.specs.Image.{DataSetsFit, PortFits, clock_image, data_sets_octets, port_image, ports_image}
 use Rattle.ptpm_data.specs.ImageReading.{clock_read, port_read, port_start, start_of_sets}
 use Rattle.ptpm_data.specs.Members.{DataSetsValue, IsConsistent}
-use Rattle.ptpm_data.specs.Start.{start_of}
+use Rattle.ptpm_data.specs.Start.{start_within}
 use Rattle.ptpm_data.proofs.ImageLemmas.{clock_back, clock_length, image_parts, port_back, port_length, ports_length}
 use Rattle.ptpm_data.proofs.PlainMap.{same_front}
 use Rattle.ptpm_data.proofs.RestoringLaws.{restarts}
@@ -38,10 +39,10 @@ same_sets : (d e : DataSetsValue)
     → map port_start d.ports ≡ map port_start e.ports
     → d ≡ e
 same_sets d e left right clock ports =
-    let starts : start_of (start_of_sets d) (map port_start d.ports) ≡ start_of (start_of_sets e) (map port_start e.ports) =
-    λ i. start_of (clock i) (ports i) in
-    let before = restarts d left in
-    let after = restarts e right in
+    let starts : start_within PORTS (start_of_sets d) (map port_start d.ports) ≡ start_within PORTS (start_of_sets e) (map port_start e.ports) =
+    λ i. start_within PORTS (clock i) (ports i) in
+    let before = restarts PORTS d left left.few_ports in
+    let after = restarts PORTS e right right.few_ports in
     let both : Ok d ≡ Ok e = sym before ∙ starts ∙ after in cc
 
 module _ (d e : DataSetsValue) (left : IsConsistent d) (right : IsConsistent e) (fits : DataSetsFit d) (fits' : DataSetsFit e) where

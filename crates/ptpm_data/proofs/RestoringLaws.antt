@@ -13,7 +13,6 @@ use Rattle.ptpm_data.specs.declared.members.Member.{Member}
 use Rattle.ptpm_data.specs.declared.members.Member.TheVariants as members
 use Rattle.ptpm_data.specs.declared.port_state.PortState.{PortState}
 use Rattle.ptpm_data.specs.declared.port_state.PortState.TheVariants as states
-use Rattle.ptpm_data.specs.declared.ports.TheConstants.{PORTS}
 use Rattle.ptpm_data.specs.declared.start.ClockStart.{ClockStart}
 use Rattle.ptpm_data.specs.declared.start.PortStart.{PortStart}
 use Rattle.ptpm_data.specs.Image.{DataSetsFit}
@@ -21,7 +20,7 @@ use Rattle.ptpm_data.specs.ImageReading.{IsSplit, clock_read, port_start, start_
 use Rattle.ptpm_data.specs.Members.{DataSetsValue, IsConsistent, IsPortInRange, is_grandmaster, is_same_precedence}
 use Rattle.ptpm_data.specs.PortState.{state_number, state_of}
 use Rattle.ptpm_data.specs.Ranges.{is_in_range}
-use Rattle.ptpm_data.specs.Start.{clock_fault, count_fault, grandmaster_fault, is_in_port_range, judged_of_port, port_data_set, port_fault, ports_fault, start_of, start_settings}
+use Rattle.ptpm_data.specs.Start.{clock_fault, count_fault, grandmaster_fault, is_in_port_range, judged_of_port, port_data_set, port_fault, ports_fault, start_settings, start_within}
 use Rattle.ptpm_data.proofs.ImageLemmas.{clock_back}
 use Rattle.ptpm_data.proofs.SettingLemmas.{settings_restart}
 use Rattle.ptpm_data.proofs.StartLemmas.{description_small, none_out}
@@ -74,9 +73,9 @@ ports_faultless (p ∷ ports) ranges =
 
 -- ---- the clock
 
-count_faultless : (n : ℕ) → 1 ≤ n → n ≤ PORTS → count_fault n ≡ None
+count_faultless : (most n : ℕ) → 1 ≤ n → n ≤ most → count_fault most n ≡ None
 unfolding count_fault
-count_faultless n some few = grind (arith, nat_lt, nat_tests)
+count_faultless most n some few = grind (arith, nat_lt, nat_tests)
 
 clock_faultless : (d : DataSetsValue) → IsConsistent d → clock_fault (start_of_sets d) ≡ None
 unfolding clock_fault
@@ -103,11 +102,12 @@ grandmaster_faultless default parent own = grandmaster_by (is_grandmaster defaul
 
 -- ---- the whole
 
-pub restarts : (d : DataSetsValue) → IsConsistent d → start_of (start_of_sets d) (map port_start d.ports) ≡ Ok d
-unfolding start_of
-restarts d c =
+pub restarts : (most : ℕ) (d : DataSetsValue) → IsConsistent d → length d.ports ≤ most
+    → start_within most (start_of_sets d) (map port_start d.ports) ≡ Ok d
+unfolding start_within
+restarts most d c few =
     let size : length (map port_start d.ports) ≡ length d.ports = length-map d.ports port_start in
-    let count : count_fault (length (map port_start d.ports)) ≡ None = ap count_fault size ∙ count_faultless _ c.some_port c.few_ports in
+    let count : count_fault most (length (map port_start d.ports)) ≡ None = ap (count_fault most) size ∙ count_faultless most _ c.some_port few in
     let clock = clock_faultless d c in
     let ports = ports_faultless d.ports c.ports in
     let grandmaster = grandmaster_faultless d.default d.parent c.grandmaster in
@@ -124,14 +124,15 @@ text_small d octets text ports c split =
     let small = description_small d.description c.description in
     let size = ap length split.description in omega arith
 
-pub reads_back : (d : DataSetsValue) (octets text ports : List ℕ) (start : ClockStart) (starts : List PortStart)
+pub reads_back : (most : ℕ) (d : DataSetsValue) (octets text ports : List ℕ) (start : ClockStart) (starts : List PortStart)
     → IsConsistent d
     → DataSetsFit d
     → IsSplit d octets text ports
     → Some start ≡ Some (clock_read octets text)
     → starts ≡ map port_start d.ports
-    → start_of start starts ≡ Ok d
-reads_back d octets text ports start starts c fits split made by_port =
+    → length d.ports ≤ most
+    → start_within most start starts ≡ Ok d
+reads_back most d octets text ports start starts c fits split made by_port few =
     let read : start ≡ clock_read octets text = cc in
     let clock : start ≡ start_of_sets d = read ∙ (λ i. clock_read (split.clock i) (split.description i)) ∙ clock_back d d.description fits in
-    (λ i. start_of (clock i) (by_port i)) ∙ restarts d c
+    (λ i. start_within most (clock i) (by_port i)) ∙ restarts most d c few

@@ -33,6 +33,10 @@ pub unless_ok : {A E : Type 0} (o : Option E) (a b : A) → unless o a ≡ Ok b 
 unless_ok None a b h = (refl, cc)
 unless_ok (Some e) a b h = cc
 
+pub unless_err : {A E : Type 0} (o : Option E) (a : A) (e : E) → unless o a ≡ Err e → o ≡ Some e
+unless_err None a e h = cc
+unless_err (Some x) a e h = cc
+
 pub started_ok : (p : PortStart) (s : PortDataSet)
     → port_start_of p ≡ Ok s
     → (port_fault p ≡ None) × (s ≡ port_data_set p)
@@ -59,6 +63,21 @@ pub stops : (ps : List PortStart) (i : ℕ) (p : PortStart) (m : StartError)
 stops ps i p m below here err =
     here ∙ ports_fault_step ps i p below ∙ ap (λ o. option_or o (ports_fault (drop (i + 1) ps))) (started_err _ m err)
 
+-- the same of ports that are only judged
+pub judged_on : (ps : List PortStart) (i : ℕ) (p : PortStart)
+    → i < length ps
+    → ports_fault ps ≡ ports_fault (drop i ps)
+    → port_fault (get_or ps i p) ≡ None
+    → ports_fault ps ≡ ports_fault (drop (i + 1) ps)
+judged_on ps i p below here none = here ∙ ports_fault_step ps i p below ∙ ap (λ o. option_or o (ports_fault (drop (i + 1) ps))) none
+
+pub judged_out : (ps : List PortStart) (i : ℕ) (p : PortStart) (e : StartError)
+    → i < length ps
+    → ports_fault ps ≡ ports_fault (drop i ps)
+    → port_fault (get_or ps i p) ≡ Some e
+    → ports_fault ps ≡ Some e
+judged_out ps i p e below here fault = here ∙ ports_fault_step ps i p below ∙ ap (λ o. option_or o (ports_fault (drop (i + 1) ps))) fault
+
 pub no_more : (ps : List PortStart) (i : ℕ)
     → length ps ≤ i
     → ports_fault ps ≡ ports_fault (drop i ps)
@@ -73,6 +92,14 @@ pub made_on : (ps : List PortStart) (i : ℕ) (p : PortStart) (s : PortDataSet)
     → sets ++ s ∷ [] ≡ map port_data_set (take (i + 1) ps)
 made_on ps i p s sets below made ok = grind (arith, common_steps, take_more, map-append, get_or, started_ok)
 
+-- the same of ports without a fault
+pub made_so : (ps : List PortStart) (i : ℕ) (p : PortStart) (s : PortDataSet) (sets : List PortDataSet)
+    → i < length ps
+    → sets ≡ map port_data_set (take i ps)
+    → s ≡ port_data_set (get_or ps i p)
+    → sets ++ s ∷ [] ≡ map port_data_set (take (i + 1) ps)
+made_so ps i p s sets below made is = grind (arith, common_steps, take_more, map-append, get_or)
+
 -- an error that `?` hands on
 pub handed_on : {A E : Type 0} (r : Result A E) (e : E) (P : A → Type 0) (Q : E → Type 0)
     → IsErrAnd r (λ x. x ≡ e)
@@ -81,12 +108,19 @@ pub handed_on : {A E : Type 0} (r : Result A E) (e : E) (P : A → Type 0) (Q : 
 handed_on (Ok a) e P Q h q = absurd h
 handed_on (Err x) e P Q h q = subst Q (sym h) q
 
+pub handed_whole : {A E : Type 0} (r : Result A E) (e : E) (o : Option E) (a : A)
+    → IsErrAnd r (λ x. x ≡ e)
+    → o ≡ Some e
+    → r ≡ unless o a
+handed_whole (Ok b) e o a h fault = absurd h
+handed_whole (Err x) e o a h fault = cc
+
 -- the data sets of a clock that starts
-pub started_by : (c : ClockStart) (ports : List PortStart) (sets : DataSetsValue)
-    → Ok sets ≡ start_of c ports
+pub started_by : (most : ℕ) (c : ClockStart) (ports : List PortStart) (sets : DataSetsValue)
+    → Ok sets ≡ start_within most c ports
     → sets ≡ started c ports
-unfolding start_of
-started_by c ports sets h = (unless_ok _ _ _ (sym h)).1
+unfolding start_within
+started_by most c ports sets h = (unless_ok _ _ _ (sym h)).1
 
 -- ---- what follows if there is no fault
 
@@ -96,9 +130,9 @@ pub passes : {E : Type 0} (b : Bool) (e : E) (o : Option E)
 passes true e o h = cc
 passes false e o h = (refl, h)
 
-pub count_sound : (n : ℕ) → count_fault n ≡ None → (1 ≤ n) × (n ≤ PORTS)
+pub count_sound : (most n : ℕ) → count_fault most n ≡ None → (1 ≤ n) × (n ≤ most)
 unfolding count_fault
-count_sound n h = grind (arith, passes, nat_lt, nat_tests)
+count_sound most n h = grind (arith, passes, nat_lt, nat_tests)
 
 -- of these members none is out of its range
 head_in : (b : Bool) (m : Member) (o : Option Member)

@@ -9,7 +9,9 @@ pub mod Reply
 pub mod AnswerLaws
 pub mod MemberNames
 pub mod Description
+pub mod PortList
 pub mod Members
+pub mod Snapshot
 pub mod DataField
 pub mod SetField
 pub mod Rights

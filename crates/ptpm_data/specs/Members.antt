@@ -11,6 +11,7 @@ use Rattle.ptpm_data.specs.declared.data_sets.DataSets.TheInside.{Inside}
 use Rattle.ptpm_data.specs.declared.port_setting.PortSetting.{PortSetting}
 use Rattle.ptpm_data.specs.declared.ports.TheConstants.{PORTS}
 use Rattle.ptpm_data.specs.Ranges.{all_ones, is_clock_accuracy, is_description, is_in_range}
+use Rattle.ptpm_data.specs.PortList.{ports_in}
 use Rattle.ptpm_data.specs.PortState.{is_forwarding}
 
 -- port n is at place n - 1
@@ -29,7 +30,7 @@ data_sets_value d = record {
   current = d.current;
   parent = d.parent;
   time = d.time;
-  ports = d.ports.items;
+  ports = ports_in d.ports;
 }
 
 -- ---- ports
@@ -42,9 +43,13 @@ HasPort port d = (1 ≤ port) × (port ≤ length d.ports)
 abbrev pub has_port : ℕ → DataSetsValue → Bool
 has_port port d = nat_le 1 port && nat_le port (length d.ports)
 
+-- the data set of port n among those of all ports; none if it is not among them
+abbrev pub port_among : ℕ → List PortDataSet → Option PortDataSet
+port_among port ports = if port == 0 then None else slice_get ports (port - 1)
+
 -- the data set of a port; none if the clock lacks it
 abbrev pub port_of : ℕ → DataSetsValue → Option PortDataSet
-port_of port d = if port == 0 then None else slice_get d.ports (port - 1)
+port_of port d = port_among port d.ports
 
 abbrev pub is_forwarding_port : Option PortDataSet → Bool
 is_forwarding_port None = false

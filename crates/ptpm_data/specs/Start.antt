@@ -1,5 +1,5 @@
 -- The data sets that a clock starts with (IEEE 1588-2019, clause 8; ranges, defaults and faults are this project's profile).
-use Rattle.std.specs.Prelude.{ℕ, ◌==◌, nat_lt, ℤ, pos, nat_abs, Bool, true, false, not, ◌&&◌, List, [], ◌∷◌, length, map, Option, Some, None, is_some, unwrap_or, option_map, Result, Ok, Err, bytes_eq}
+use Rattle.std.specs.Prelude.{◌≡◌, ℕ, ◌==◌, nat_lt, ℤ, pos, nat_abs, Bool, true, false, not, ◌&&◌, List, [], ◌∷◌, length, map, Option, Some, None, is_some, unwrap_or, option_map, Result, Ok, Err, IsOk, bytes_eq}
 use Rattle.std.specs.List.{find}
 use Rattle.std.specs.Option.{option_or}
 use Rattle.ptpm_codec.specs.declared.identity.ClockIdentity.{ClockIdentity}
@@ -9,10 +9,12 @@ use Rattle.ptpm_data.specs.declared.members.Member.TheVariants as members
 use Rattle.ptpm_data.specs.declared.port_state.PortState.TheVariants as states
 use Rattle.ptpm_data.specs.declared.port_setting.PortSetting.{PortSetting}
 use Rattle.ptpm_data.specs.declared.port_setting.PortSetting.TheVariants.{LogAnnounceInterval, AnnounceReceiptTimeout, LogSyncInterval, DelayMechanism, LogMinPdelayReqInterval}
-use Rattle.ptpm_data.specs.declared.ports.TheConstants.{PORTS}
+use Rattle.ptpm_data.specs.declared.ports.TheConstants.{INLINE_PORTS}
 use Rattle.ptpm_data.specs.declared.start.ClockStart.{ClockStart}
 use Rattle.ptpm_data.specs.declared.start.PortStart.{PortStart}
 use Rattle.ptpm_data.specs.declared.start.StartError.{StartError}
+use Rattle.ptpm_data.specs.declared.start.StartFault.{StartFault}
+use Rattle.ptpm_data.specs.declared.start.StartFault.TheVariants as faults
 use Rattle.ptpm_data.specs.declared.start.StartError.TheVariants.{NoPorts, TooManyPorts, BadValue, GrandmasterDiffers}
 use Rattle.ptpm_data.specs.declared.data_sets.ClockPrecedence.{ClockPrecedence}
 use Rattle.ptpm_data.specs.declared.data_sets.DefaultDataSet.{DefaultDataSet}
@@ -164,9 +166,9 @@ started c ports = record {
 
 -- ---- faults: the first that holds
 
--- of the number of ports
-unfoldable pub count_fault : ℕ → Option StartError
-count_fault count = first_of ((count == 0, NoPorts) ∷ (nat_lt PORTS count, TooManyPorts) ∷ [])
+-- of the number of ports, if at most that many have room
+unfoldable pub count_fault : ℕ → ℕ → Option StartError
+count_fault most count = first_of ((count == 0, NoPorts) ∷ (nat_lt most count, TooManyPorts) ∷ [])
 
 -- the members that a start judges, in this order; the others may have every value of their types
 abbrev pub judged_of_clock : List Member
@@ -209,9 +211,9 @@ grandmaster_fault default parent = first_of (
     (grandmaster_differs default parent, GrandmasterDiffers) ∷ [])
 
 -- in this order
-abbrev pub start_fault : ClockStart → List PortStart → Option StartError
-start_fault c ports =
-    option_or (count_fault (length ports))
+abbrev pub start_fault : ℕ → ClockStart → List PortStart → Option StartError
+start_fault most c ports =
+    option_or (count_fault most (length ports))
     (option_or (clock_fault c)
     (option_or (ports_fault ports)
     (grandmaster_fault (default_data_set c) (parent_data_set c))))
@@ -225,5 +227,15 @@ unless (Some e) a = Err e
 unfoldable pub port_start_of : PortStart → Result PortDataSet StartError
 port_start_of p = unless (port_fault p) (port_data_set p)
 
-unfoldable pub start_of : ClockStart → List PortStart → Result DataSetsValue StartError
-start_of c ports = unless (start_fault c ports) (started c ports)
+-- of a clock, if at most that many ports have room
+unfoldable pub start_within : ℕ → ClockStart → List PortStart → Result DataSetsValue StartError
+start_within most c ports = unless (start_fault most c ports) (started c ports)
+
+-- of a clock that takes no memory
+abbrev pub start_of : ClockStart → List PortStart → Result DataSetsValue StartError
+start_of c ports = start_within INLINE_PORTS c ports
+
+-- why a clock does not start in memory, which is asked for last
+abbrev pub IsWhyNot : StartFault → Result DataSetsValue StartError → Type 0
+IsWhyNot (faults.Refused error) start = start ≡ Err error
+IsWhyNot faults.OutOfMemory start = IsOk start

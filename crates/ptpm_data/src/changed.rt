@@ -1,6 +1,6 @@
 //! Which members of a clock and of its ports have another value than before (this project's profile).
 
-ghost use Rattle.std.specs.Prelude.{◌≡◌, ◌≤◌, ◌<◌, ◌^◌, length, ⊤, ◌∷◌, [], bytes_eq, codes, not};
+ghost use Rattle.std.specs.Prelude.{◌≡◌, ◌≤◌, ◌<◌, ◌^◌, ℕ, length, ⊤, ◌∷◌, [], bytes_eq, codes, not};
 ghost use Rattle.ptpm_data.specs.Changed.{differ, number_of};
 ghost use Rattle.ptpm_data.specs.MemberMap.{port_identity};
 
@@ -8,6 +8,7 @@ use crate::data_sets::{DataSets, PortDataSet};
 use crate::port_setting::PortSetting;
 use crate::port_settings::PortSettings;
 use crate::ports::PORTS;
+use crate::snapshot::Snapshot;
 use bitflags::{Flag, Flags, bitflag_items};
 use ptpm_codec::PortIdentity;
 
@@ -146,7 +147,7 @@ pub struct ChangedMembers {
     pub ports: [PortMembers; PORTS],
 }
 
-const _: () = prove!(size_of::<ChangedMembers>() == 4 + PORTS);
+const _: () = prove!(size_of::<ChangedMembers>() == 68);
 
 impl ChangedMembers {
     /// No member.
@@ -167,6 +168,15 @@ fn number_of(digits: &[bool]) -> u32
         number = 2 * number + u32::from(digits[digits.len() - 1 - place]);
     }
     number
+}
+
+/// The greater of two numbers.
+fn greater(a: u16, b: u16) -> u16
+    ensures at_least_a { a ≤ result }
+    ensures at_least_b { b ≤ result }
+    ensures most { (n : ℕ) → a ≤ n → b ≤ n → result ≤ n }
+{
+    if a < b { b } else { a }
 }
 
 /// Whether two values differ.
@@ -228,12 +238,12 @@ impl DataSets {
 
     /// The members whose values were others before. A port that only one of the two has differs in each member. Takes no
     /// memory.
-    pub fn changed_since(&self, before: &DataSets) -> ChangedMembers
+    pub fn changed_since(&self, before: &Snapshot) -> ChangedMembers
         ensures { result ≡ changed before.now self.now }
     {
         let mut ports = [PortMembers::NONE; PORTS];
-        for place in 0..PORTS {
-            ports[place] = self.port_changed_since(before, place as u16 + 1);
+        for place in 0..greater(self.port_count(), before.port_count()) {
+            ports[place as usize] = self.port_changed_since(before, place + 1);
         }
         ChangedMembers {
             clock: self.clock_changed_since(before),
@@ -243,7 +253,7 @@ impl DataSets {
 
     /// The members of a port whose values were others before.
     #[tactic(auto, using(crate::proofs::Differing::of_neither, crate::proofs::Differing::none_told, crate::proofs::Differing::of_the_former, crate::proofs::Differing::some_told, crate::proofs::Differing::of_the_latter))]
-    fn port_changed_since(&self, before: &DataSets, port: u16) -> PortMembers
+    fn port_changed_since(&self, before: &Snapshot, port: u16) -> PortMembers
         ensures { result ≡ port_changed before.now self.now port }
     {
         match (before.port(port), self.port(port)) {
@@ -255,7 +265,7 @@ impl DataSets {
     }
 
     /// The members of the clock whose values were others before.
-    fn clock_changed_since(&self, before: &DataSets) -> ClockMembers
+    fn clock_changed_since(&self, before: &Snapshot) -> ClockMembers
         ensures { result ≡ clock_changed before.now self.now }
     {
         let own = &before.default.precedence;

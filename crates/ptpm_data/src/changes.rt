@@ -117,7 +117,7 @@ impl DataSets {
         requires range { is_change_in_range change ≡ true }
         ensures { self.new ≡ with_ports port self.old change }
     {
-        change_named(self.ports.as_mut_slice(), port, change);
+        self.ports.change(port, change);
     }
 }
 
@@ -133,7 +133,7 @@ fn set_utc_properties(time: &mut TimePropertiesDataSet, octets: &[u8])
 }
 
 /// Changes one port, or for 0xFFFF every port.
-fn change_named(ports: &mut [PortDataSet], port: u16, change: PortChange)
+pub(crate) fn change_named(ports: &mut [PortDataSet], port: u16, change: PortChange)
     requires { IsTargetOf port (length ports.old) }
     ensures { ports.new ≡ named_changed port (port_after change) ports.old }
 {

@@ -12,6 +12,7 @@ use crate::data_sets::{
     TimePropertiesDataSet,
 };
 use crate::management_id::{Layout, Scope, by_id};
+use crate::port_list::port_at;
 use crate::reply::Value;
 use arrayvec::ArrayVec;
 use byteorder::{BigEndian, ByteOrder};
@@ -50,7 +51,7 @@ impl DataSets {
             Layout::DefaultDataSet => put_default_data_set(
                 buffer,
                 &self.default,
-                self.ports.len() as u16,
+                self.port_count(),
             ),
             Layout::CurrentDataSet => put_current_data_set(buffer, &self.current),
             Layout::ParentDataSet => put_parent_data_set(buffer, &self.parent),
@@ -120,10 +121,7 @@ impl DataSets {
     pub(crate) fn port(&self, port: u16) -> Option<&PortDataSet>
         ensures { option_map (λ p. p.now) result ≡ port_of port self.now }
     {
-        if port == 0 {
-            return None;
-        }
-        self.ports.get(port as usize - 1)
+        port_at(self.ports.as_slice(), port)
     }
 }
 

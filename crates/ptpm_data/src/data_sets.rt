@@ -3,9 +3,10 @@
 ghost use Rattle.std.specs.Prelude.{◌≡◌};
 
 use crate::description::Description;
+use crate::port_list::PortList;
 use crate::port_settings::PortSettings;
 use crate::port_state::PortState;
-use crate::ports::PORTS;
+use crate::ports::{INLINE_PORTS, PORTS};
 use arrayvec::ArrayVec;
 use ptpm_codec::{ClockIdentity, PortIdentity};
 use std::marker::Model;
@@ -74,14 +75,16 @@ pub struct TimePropertiesDataSet {
 /// portDS (8.2.15), except its portIdentity, which is the clock's identity and the port's place.
 #[derive(Clone, Copy, Debug, PartialEq, Eq)]
 pub struct PortDataSet {
+    /// meanLinkDelay: a TimeInterval, in nanoseconds times 2^16. It comes first: so no octet between two members is lost.
+    pub peer_delay: i64,
     pub state: PortState,
     /// logMinDelayReqInterval, log2 of seconds.
     pub log_min_delay_req: i8,
-    /// meanLinkDelay: a TimeInterval, in nanoseconds times 2^16.
-    pub peer_delay: i64,
     /// What a SET changes.
     pub settings: PortSettings,
 }
+
+const _: () = prove!(size_of::<PortDataSet>() == 16);
 
 impl Default for PortDataSet {
     ghost use Rattle.std.specs.Prelude.{◌≡◌};
@@ -92,9 +95,9 @@ impl Default for PortDataSet {
         ensures { result ≡ port_data_set default_port }
     {
         PortDataSet {
+            peer_delay: 0,
             state: PortState::Master,
             log_min_delay_req: 0,
-            peer_delay: 0,
             settings: PortSettings::default(),
         }
     }
@@ -109,7 +112,7 @@ pub struct DataSets {
     pub(crate) current: CurrentDataSet,
     pub(crate) parent: ParentDataSet,
     pub(crate) time: TimePropertiesDataSet,
-    pub(crate) ports: ArrayVec<PortDataSet, PORTS>,
+    pub(crate) ports: PortList,
 }
 
 impl Model for DataSets {
@@ -130,8 +133,9 @@ impl DataSets {
     ghost use Rattle.std.specs.Prelude.{◌≡◌, ◌≤◌, ◌↔◌, IsTrue, length};
     ghost use Rattle.ptpm_data.specs.Members.{HasPort, has_port, may_forward};
 
-    /// An equal one.
+    /// An equal one, if the ports lie in the value.
     pub fn copy(&self) -> DataSets
+        requires few { length self.now.ports ≤ INLINE_PORTS }
         ensures { result ≡ self.now }
     {
         let mut ports = ArrayVec::new();
@@ -142,7 +146,7 @@ impl DataSets {
             current: self.current,
             parent: self.parent,
             time: self.time,
-            ports,
+            ports: PortList::Few(ports),
         }
     }
 
@@ -165,7 +169,7 @@ impl DataSets {
         ensures count { result ≡ length self.now.ports }
         ensures range { (1 ≤ result) × (result ≤ PORTS) }
     {
-        self.ports.len() as u16
+        self.ports.as_slice().len() as u16
     }
 
     /// Whether it is one of the clock's ports.
@@ -183,7 +187,7 @@ impl DataSets {
     {
         match port
             .checked_sub(1)
-            .and_then(|place| self.ports.get(place as usize))
+            .and_then(|place| self.ports.as_slice().get(place as usize))
         {
             Some(port) => port.state.is_forwarding(),
             None => false,

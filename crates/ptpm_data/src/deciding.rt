@@ -7,6 +7,7 @@ use crate::answers::Answers;
 use crate::data_sets::DataSets;
 use crate::laws::data_sets_law;
 use crate::management_id::by_id;
+use crate::ports::INLINE_PORTS;
 use crate::refusals::refusal;
 use crate::reply::Reply;
 use crate::request::Request;
@@ -29,11 +30,14 @@ impl DataSets {
     /// 3. NOT_SUPPORTED: the manager lacks the right that the request needs.
     /// 4. WRONG_LENGTH: the dataField of a SET or COMMAND has not the size of the id's.
     /// 5. WRONG_VALUE: a SET's value is out of range.
+    ///
+    /// A clock of more than `INLINE_PORTS` ports has more answers than a `Reply`: `decide_into` puts them in place.
     #[tactic(auto, using(crate::proofs::Answering::decide_laws))]
     pub fn decide(&mut self, request: &Request<'_>, rights: Rights) -> Reply
         requires action { IsRequestAction request.now.action }
         requires port { IsTargetPort request.now.port self.old }
         requires octets { IsDataField request.now.octets }
+        requires few { length self.old.ports ≤ INLINE_PORTS }
         ensures reply { result ≡ reply_to request.now rights self.old }
         ensures changed { self.new ≡ changed_by request.now rights self.old }
     {

@@ -35,7 +35,11 @@ impl DataSets {
         ensures small { result ≤ DATA_SETS_OCTETS }
     {
         fits_law(self);
-        CLOCK_OCTETS + 1 + self.description.text().len() + 1 + PORT_OCTETS * self.ports.len()
+        CLOCK_OCTETS
+            + 1
+            + self.description.text().len()
+            + 1
+            + PORT_OCTETS * self.ports.as_slice().len()
     }
 
     /// Writes the image over the first octets of a place, and answers how many there are, at most `DATA_SETS_OCTETS`. The others stay. `None`,
@@ -69,7 +73,7 @@ impl DataSets {
         let text = self.description.text();
         put(&mut image, &[text.len() as u8]);
         put(&mut image, text);
-        put(&mut image, &[self.ports.len() as u8]);
+        put(&mut image, &[self.ports.as_slice().len() as u8]);
         put_ports(&mut image, self.ports.as_slice());
         image
     }

@@ -306,7 +306,7 @@ fn left_disabled(observed: &[PortObservation], ports: &[PortDataSet]) -> PortsLe
     PortsLeftDisabled { by_place }
 }
 
-fn move_ports(observed: &[PortObservation], ports: &mut [PortDataSet])
+pub(crate) fn move_ports(observed: &[PortObservation], ports: &mut [PortDataSet])
     requires { length observed.now ≤ length ports.old }
     ensures { ports.new ≡ ports_after observed.now ports.old }
 {
@@ -338,7 +338,7 @@ impl DataSets {
     {
         let default = clock.default_after(&self.default);
         let time = clock.time_after(&self.time);
-        if self.ports.len() < ports.len() {
+        if self.ports.as_slice().len() < ports.len() {
             Err(ObservationError::NoPort)
         } else if !set_of(Layout::ClockAccuracy).allows_octet(default.precedence.accuracy) {
             Err(ObservationError::BadValue(Member::ClockAccuracy))
@@ -375,7 +375,7 @@ impl DataSets {
         self.default = clock.default_after(&self.default);
         self.current = clock.current_after(&self.current);
         self.time = clock.time_after(&self.time);
-        move_ports(ports, self.ports.as_mut_slice());
+        self.ports.observe(ports);
         Ok(left)
     }
 }

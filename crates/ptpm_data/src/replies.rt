@@ -174,7 +174,7 @@ impl DataSets {
         ensures ordered { result.0 ≤ result.1 }
     {
         if port == PortIdentity::EVERY_PORT {
-            (1, self.ports.len() as u16 + 1)
+            (1, self.port_count() + 1)
         } else {
             (port, port + 1)
         }

@@ -1,12 +1,12 @@
 //! Data sets back from their image (this project's profile).
 
-ghost use Rattle.std.specs.Prelude.{◌≡◌, ◌≤◌, ◌+◌, ◌*◌, ◌∷◌, ◌++◌, ◌↔◌, ℕ, List, length, map, IfSome, IsSomeAnd, IsTrue, Ok, Some};
+ghost use Rattle.std.specs.Prelude.{◌≡◌, ◌≤◌, ◌+◌, ◌*◌, ◌∷◌, ◌++◌, ◌↔◌, ℕ, List, length, map, IfOk, IfSome, IsSomeAnd, IsTrue, Ok, Some};
 ghost use Rattle.std.specs.List.{All};
 ghost use Rattle.ptpm_data.specs.declared.data_sets.PortDataSet.{PortDataSet};
 ghost use Rattle.ptpm_data.specs.Image.{BeginsWithImage, DataSetsFit, PortFits, data_sets_octets, ports_image};
 ghost use Rattle.ptpm_data.specs.ImageReading.{IsSplit, clock_read, clock_start, current_read, default_read, parent_read, port_read, port_start, time_read};
 ghost use Rattle.ptpm_data.specs.Members.{DataSetsValue, IsConsistent};
-ghost use Rattle.ptpm_data.specs.Start.{start_of};
+ghost use Rattle.ptpm_data.specs.Start.{start_of, start_within};
 
 use crate::data_sets::{
     CurrentDataSet, DataSets, DefaultDataSet, ParentDataSet, TimePropertiesDataSet,
@@ -15,42 +15,47 @@ use crate::image::{CLOCK_OCTETS, PORT_OCTETS};
 use crate::image_laws::fits_law;
 use crate::image_places::{flag_at, i8_at, i16_at, i32_at, i64_at, precedence_at};
 use crate::laws::data_sets_law;
-use crate::ports::PORTS;
-use crate::start::{ClockStart, PortStart};
+use crate::ports::{INLINE_PORTS, PORTS};
+use crate::start::{ClockStart, PortStart, StartFault};
 use arrayvec::ArrayVec;
-use ptpm_codec::{clock_identity_at, port_identity_at, put, u16_at};
+use ptpm_codec::{OutOfMemory, clock_identity_at, port_identity_at, put, u16_at};
+use std::alloc::Global;
+
+/// How many octets an image has of the ports for which a value has room.
+const INLINE_PORTS_OCTETS: usize = PORT_OCTETS * INLINE_PORTS;
 
 impl DataSets {
     /// The data sets whose image comes first; octets after it are not looked at. `None` if no image is there. The octets then end
-    /// within it, a value is one that no start takes, or a flag is neither 0 nor 1. Takes no memory.
-    pub fn restored(octets: &[u8]) -> Option<DataSets>
-        ensures image { IfSome result (λ d. BeginsWithImage d octets.now) }
+    /// within it, a value is one that no start takes, or a flag is neither 0 nor 1. Takes memory for more than `INLINE_PORTS` ports
+    /// alone.
+    pub fn restored(alloc: Global, octets: &[u8]) -> Result<Option<DataSets>, OutOfMemory>
+        ensures image { IfOk result (λ found. IfSome found (λ d. BeginsWithImage d octets.now)) }
         ensures found { (d : DataSetsValue) → IsConsistent d → DataSetsFit d → BeginsWithImage d octets.now
-            → result ≡ Some d }
-        ensures consistent { IfSome result (λ d. IsConsistent d) }
-        ensures fits { IfSome result (λ d. DataSetsFit d) }
+            → IfOk result (λ found. found ≡ Some d) }
+        ensures consistent { IfOk result (λ found. IfSome found (λ d. IsConsistent d)) }
+        ensures fits { IfOk result (λ found. IfSome found (λ d. DataSetsFit d)) }
     {
         let mut sets = DataSets::blank();
-        if sets.restore(octets) {
-            Some(sets)
+        if sets.restore(alloc, octets)? {
+            Ok(Some(sets))
         } else {
-            None
+            Ok(None)
         }
     }
 
-    /// Does what `restored` does, in place: whether an image comes first, and then these are its data sets. If none does, they are
-    /// any data sets. So the stack has room for no others.
-    pub fn restore(&mut self, octets: &[u8]) -> bool
-        ensures image { IsTrue result → BeginsWithImage self.new octets.now }
+    /// Does what `restored` does, in place: whether an image comes first, and then these are its data sets. If none does, or if memory
+    /// is refused, they are any data sets. So the stack has room for no others.
+    pub fn restore(&mut self, alloc: Global, octets: &[u8]) -> Result<bool, OutOfMemory>
+        ensures image { IfOk result (λ is. IsTrue is → BeginsWithImage self.new octets.now) }
         ensures found { (d : DataSetsValue) → IsConsistent d → DataSetsFit d → BeginsWithImage d octets.now
-            → IsTrue result × (self.new ≡ d) }
+            → IfOk result (λ is. IsTrue is × (self.new ≡ d)) }
         ensures consistent { IsConsistent self.new }
         ensures fits { DataSetsFit self.new }
     {
-        let read = self.read_image(octets);
+        let read = self.read_image(alloc, octets);
         data_sets_law(self);
         fits_law(self);
-        read && self.is_first_in(octets)
+        Ok(read? && self.is_first_in(octets))
     }
 
     /// Whether the image comes first. It is never inlined, nor is `read_image`: so the stack has room for one of them at a time.
@@ -63,24 +68,28 @@ impl DataSets {
 
     /// Gives these data sets the values of an image that comes first; if none is there, any or none.
     #[inline(never)]
-    fn read_image(&mut self, octets: &[u8]) -> bool
+    fn read_image(&mut self, alloc: Global, octets: &[u8]) -> Result<bool, OutOfMemory>
         ensures { (d : DataSetsValue) (rest : List ℕ) → IsConsistent d → DataSetsFit d
             → octets.now ≡ data_sets_octets d ++ rest
-            → IsTrue result × (self.new ≡ d) }
+            → IfOk result (λ is. IsTrue is × (self.new ≡ d)) }
     {
         let Some((clock, text, ports)) = split_image(octets) else {
-            return false;
+            return Ok(false);
         };
         let Some(start) = read_clock(clock, text) else {
-            return false;
+            return Ok(false);
         };
-        self.start_with_ports(&start, ports)
+        if ports.len() <= INLINE_PORTS_OCTETS {
+            Ok(self.start_with_few(&start, ports))
+        } else {
+            self.start_with_many(alloc, &start, ports)
+        }
     }
 
     /// Starts with these values and the ports whose octets in an image these are.
     #[inline(never)]
-    fn start_with_ports(&mut self, clock: &ClockStart, ports: &[u8]) -> bool
-        ensures { (sets : List PortDataSet) (d : DataSetsValue) → length sets ≤ PORTS → All PortFits sets
+    fn start_with_few(&mut self, clock: &ClockStart, ports: &[u8]) -> bool
+        ensures { (sets : List PortDataSet) (d : DataSetsValue) → length sets ≤ INLINE_PORTS → All PortFits sets
             → ports.now ≡ ports_image sets
             → start_of clock.now (map port_start sets) ≡ Ok d
             → IsTrue result × (self.new ≡ d) }
@@ -88,6 +97,30 @@ impl DataSets {
         match read_ports(ports) {
             Some(ports) => self.start(clock, ports.as_slice()).is_ok(),
             None => false,
+        }
+    }
+
+    /// Starts with these values and the ports whose octets in an image these are, in a block of memory.
+    #[inline(never)]
+    fn start_with_many(
+        &mut self,
+        alloc: Global,
+        clock: &ClockStart,
+        ports: &[u8],
+    ) -> Result<bool, OutOfMemory>
+        ensures { (sets : List PortDataSet) (d : DataSetsValue) → All PortFits sets
+            → ports.now ≡ ports_image sets
+            → start_within PORTS clock.now (map port_start sets) ≡ Ok d
+            → IfOk result (λ is. IsTrue is × (self.new ≡ d)) }
+    {
+        let starts = read_ports_in(alloc, ports)?;
+        match DataSets::new_many(alloc, clock, starts.as_slice()) {
+            Ok(sets) => {
+                *self = sets;
+                Ok(true)
+            }
+            Err(StartFault::Refused(_)) => Ok(false),
+            Err(StartFault::OutOfMemory) => Err(OutOfMemory),
         }
     }
 }
@@ -260,14 +293,14 @@ fn read_time_properties_data_set(octets: &[u8]) -> TimePropertiesDataSet
     }
 }
 
-/// The start values of an image's octets of the ports; none if there are more than a clock has.
-fn read_ports(octets: &[u8]) -> Option<ArrayVec<PortStart, PORTS>>
-    ensures { (ports : List PortDataSet) → length ports ≤ PORTS → All PortFits ports
+/// The start values of an image's octets of the ports; none if there are more than have room.
+fn read_ports(octets: &[u8]) -> Option<ArrayVec<PortStart, INLINE_PORTS>>
+    ensures { (ports : List PortDataSet) → length ports ≤ INLINE_PORTS → All PortFits ports
         → octets.now ≡ ports_image ports
         → IsSomeAnd result (λ starts. starts.items ≡ map port_start ports) }
 {
     let count = octets.len() / PORT_OCTETS;
-    if PORTS < count {
+    if INLINE_PORTS < count {
         return None;
     }
     let mut starts = ArrayVec::new();
@@ -276,6 +309,23 @@ fn read_ports(octets: &[u8]) -> Option<ArrayVec<PortStart, PORTS>>
         starts.push(read_port(&octets[first..first + PORT_OCTETS]));
     }
     Some(starts)
+}
+
+/// The start values of an image's octets of the ports, in a block of memory.
+fn read_ports_in(alloc: Global, octets: &[u8]) -> Result<Vec<PortStart>, OutOfMemory>
+    ensures { (ports : List PortDataSet) → All PortFits ports
+        → octets.now ≡ ports_image ports
+        → IfOk result (λ starts. starts.items ≡ map port_start ports) }
+{
+    let count = octets.len() / PORT_OCTETS;
+    let Ok(mut starts) = Vec::with_capacity(alloc, count) else {
+        return Err(OutOfMemory);
+    };
+    for place in 0..count {
+        let first = PORT_OCTETS * place;
+        starts.push_reserved(read_port(&octets[first..first + PORT_OCTETS]));
+    }
+    Ok(starts)
 }
 
 #[tactic(auto, unfolding(crate::specs::ImageReading::port_read))]

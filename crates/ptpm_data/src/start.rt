@@ -1,6 +1,6 @@
 //! The values that a clock starts with (clause 8; ranges and defaults are this project's profile).
 
-ghost use Rattle.std.specs.Prelude.{◌≡◌, ◌≤◌, find, length, map, MatchResult, not, option_map, Some, None};
+ghost use Rattle.std.specs.Prelude.{◌≡◌, ◌≤◌, find, length, map, IfOk, MatchResult, not, option_map, Some, None};
 ghost use Rattle.std.specs.Option.{option_copied};
 ghost use Rattle.ptpm_data.specs.declared.start.StartError.TheVariants.{BadValue};
 ghost use Rattle.ptpm_data.specs.Start.{port_data_set, ports_fault, count_fault, grandmaster_fault, start_fault, unless};
@@ -15,12 +15,14 @@ use crate::image_places::i8_at;
 use crate::management_id::{Layout, set_of};
 use crate::members::Member;
 use crate::observation::grandmaster_differs;
+use crate::port_list::PortList;
 use crate::port_setting::PortSetting;
 use crate::port_settings::PortSettings;
 use crate::port_state::PortState;
-use crate::ports::PORTS;
+use crate::ports::{INLINE_PORTS, PORTS};
 use arrayvec::ArrayVec;
-use ptpm_codec::{ClockIdentity, PortIdentity};
+use ptpm_codec::{ClockIdentity, OutOfMemory, PortIdentity};
+use std::alloc::Global;
 use std::{array, fmt};
 use thiserror::Error;
 
@@ -96,12 +98,20 @@ pub struct PortStart {
 pub enum StartError {
     /// A clock has a port at least.
     NoPorts,
-    /// A clock has `PORTS` ports at most.
+    /// A clock has `PORTS` ports at most, and one that takes no memory `INLINE_PORTS`.
     TooManyPorts,
     /// A member is out of its range: the first such of the clock, else of the first port that has one.
     BadValue(Member),
     /// The clock is its own grandmaster, and a priority or quality of its grandmaster is not its own.
     GrandmasterDiffers,
+}
+
+/// Why a clock can't start with memory of its own.
+#[derive(Clone, Copy, Debug, PartialEq, Eq)]
+pub enum StartFault {
+    Refused(StartError),
+    /// The memory of its ports was refused. It is asked for last.
+    OutOfMemory,
 }
 
 /// The name, and after `BadValue` that of the member.
@@ -363,16 +373,23 @@ impl PortStart {
 
     /// The data set of such a port, or the first member that is out of its range.
     #[tactic(auto, unfolding(crate::specs::Start::port_start_of))]
-    fn data_set(&self) -> Result<PortDataSet, StartError>
+    fn judged_data_set(&self) -> Result<PortDataSet, StartError>
         ensures { result ≡ port_start_of self.now }
     {
         self.judge()?;
-        Ok(PortDataSet {
+        Ok(self.data_set())
+    }
+
+    /// The data set of such a port, if its members are in their ranges.
+    fn data_set(&self) -> PortDataSet
+        ensures { result ≡ port_data_set self.now }
+    {
+        PortDataSet {
+            peer_delay: self.peer_delay,
             state: PortState::from_number(self.state).unwrap_or(PortState::Initializing),
             log_min_delay_req: self.log_min_delay_req,
-            peer_delay: self.peer_delay,
             settings: self.settings(),
-        })
+        }
     }
 }
 
@@ -399,29 +416,66 @@ fn none_out(first: Option<Member>) -> Result<(), StartError>
 }
 
 /// The data sets of ports that start, or the first fault.
-fn port_data_sets(ports: &[PortStart]) -> Result<ArrayVec<PortDataSet, PORTS>, StartError>
-    requires { length ports.now ≤ PORTS }
+fn port_data_sets(ports: &[PortStart]) -> Result<ArrayVec<PortDataSet, INLINE_PORTS>, StartError>
+    requires { length ports.now ≤ INLINE_PORTS }
     ensures { MatchResult result
         (λ sets. (ports_fault ports.now ≡ None) × (sets.items ≡ map port_data_set ports.now))
         (λ fault. ports_fault ports.now ≡ Some fault) }
 {
     let mut sets = ArrayVec::new();
     for port in ports {
-        sets.push(port.data_set()?);
+        sets.push(port.judged_data_set()?);
     }
     Ok(sets)
 }
 
-/// Whether a clock can have this number of ports.
+/// Whether a clock can have this number of ports, if at most that many have room.
 #[tactic(auto, unfolding(crate::specs::Start::count_fault))]
-fn count_ports(count: usize) -> Result<(), StartError>
-    ensures { result ≡ unless (count_fault count) tt }
+fn count_ports(count: usize, most: usize) -> Result<(), StartError>
+    ensures { result ≡ unless (count_fault most count) tt }
 {
-    match count {
-        0 => Err(StartError::NoPorts),
-        1..=PORTS => Ok(()),
-        _ => Err(StartError::TooManyPorts),
+    if count == 0 {
+        Err(StartError::NoPorts)
+    } else if most < count {
+        Err(StartError::TooManyPorts)
+    } else {
+        Ok(())
     }
+}
+
+/// Whether each port can start; if not, the first fault.
+fn judge_ports(ports: &[PortStart]) -> Result<(), StartError>
+    ensures { result ≡ unless (ports_fault ports.now) tt }
+{
+    for port in ports {
+        port.judge()?;
+    }
+    Ok(())
+}
+
+/// Whether a clock of any number of ports can start so; if not, the first fault.
+#[tactic(auto, using(crate::proofs::StartLemmas::unless_ok, crate::proofs::StartLemmas::unless_err))]
+fn judge_start(clock: &ClockStart, ports: &[PortStart]) -> Result<(), StartError>
+    ensures { result ≡ unless (start_fault PORTS clock.now ports.now) tt }
+{
+    count_ports(ports.len(), PORTS)?;
+    clock.judge()?;
+    judge_ports(ports)?;
+    judge_grandmaster(&clock.default_data_set(), &clock.parent_data_set())
+}
+
+/// The data sets of ports that can start, in a block of memory.
+#[tactic(auto, using(crate::proofs::StartLemmas::made_so, std::proofs::lemmas::List::take_all))]
+fn data_sets_in(alloc: Global, ports: &[PortStart]) -> Result<Vec<PortDataSet>, OutOfMemory>
+    ensures { IfOk result (λ sets. sets.items ≡ map port_data_set ports.now) }
+{
+    let Ok(mut sets) = Vec::with_capacity(alloc, ports.len()) else {
+        return Err(OutOfMemory);
+    };
+    for port in ports {
+        sets.push_reserved(port.data_set());
+    }
+    Ok(sets)
 }
 
 /// Whether a clock that is its own grandmaster shows its own priorities and quality (9.3.5).
@@ -443,12 +497,12 @@ fn judge_grandmaster(default: &DefaultDataSet, parent: &ParentDataSet) -> Result
 fn judged_ports(
     clock: &ClockStart,
     ports: &[PortStart],
-) -> Result<ArrayVec<PortDataSet, PORTS>, StartError>
+) -> Result<ArrayVec<PortDataSet, INLINE_PORTS>, StartError>
     ensures { MatchResult result
-        (λ sets. (start_fault clock.now ports.now ≡ None) × (sets.items ≡ map port_data_set ports.now))
-        (λ fault. start_fault clock.now ports.now ≡ Some fault) }
+        (λ sets. (start_fault INLINE_PORTS clock.now ports.now ≡ None) × (sets.items ≡ map port_data_set ports.now))
+        (λ fault. start_fault INLINE_PORTS clock.now ports.now ≡ Some fault) }
 {
-    count_ports(ports.len())?;
+    count_ports(ports.len(), INLINE_PORTS)?;
     clock.judge()?;
     let sets = port_data_sets(ports)?;
     judge_grandmaster(&clock.default_data_set(), &clock.parent_data_set())?;
@@ -457,12 +511,12 @@ fn judged_ports(
 
 impl DataSets {
     ghost use Rattle.std.specs.Prelude.{◌≡◌, [], ◌∷◌, Err, MatchResult, Ok, OnErr};
-    ghost use Rattle.ptpm_data.specs.Start.{default_clock, default_port, no_identity, start_of, started};
+    ghost use Rattle.ptpm_data.specs.Start.{IsWhyNot, default_clock, default_port, no_identity, start_of, start_within, started};
 
     /// The data sets of a clock that starts with these values, its ports numbered from 1.
     ///
-    /// Refused with the first `StartError` that holds.
-    #[tactic(auto, using(crate::proofs::Starting::text_fits, crate::proofs::Starting::starts_consistent), unfolding(crate::specs::Start::start_of))]
+    /// Refused with the first `StartError` that holds. TooManyPorts above `INLINE_PORTS`: `new_in` takes more.
+    #[tactic(auto, using(crate::proofs::Starting::text_fits, crate::proofs::Starting::few_consistent), unfolding(crate::specs::Start::start_within))]
     pub fn new(clock: &ClockStart, ports: &[PortStart]) -> Result<DataSets, StartError>
         ensures { result ≡ start_of clock.now ports.now }
     {
@@ -473,12 +527,63 @@ impl DataSets {
             current: clock.current_data_set(),
             parent: clock.parent_data_set(),
             time: clock.time_data_set(),
-            ports,
+            ports: PortList::Few(ports),
+        })
+    }
+
+    /// Does what `new` does, for up to `PORTS` ports. Those of more than `INLINE_PORTS` lie in a block of memory, which is taken now
+    /// and never again.
+    ///
+    /// Refused with the first `StartError` that holds, or if memory is.
+    pub fn new_in(
+        alloc: Global,
+        clock: &ClockStart,
+        ports: &[PortStart],
+    ) -> Result<DataSets, StartFault>
+        ensures { MatchResult result
+            (λ sets. start_within PORTS clock.now ports.now ≡ Ok sets)
+            (λ fault. IsWhyNot fault (start_within PORTS clock.now ports.now)) }
+    {
+        if ports.len() <= INLINE_PORTS {
+            match DataSets::new(clock, ports) {
+                Ok(sets) => Ok(sets),
+                Err(error) => Err(StartFault::Refused(error)),
+            }
+        } else {
+            DataSets::new_many(alloc, clock, ports)
+        }
+    }
+
+    /// Does what `new_in` does, with the ports in a block of memory.
+    #[inline(never)]
+    #[tactic(auto, using(crate::proofs::Starting::text_fits, crate::proofs::Starting::many_consistent, crate::proofs::StartLemmas::unless_ok, crate::proofs::StartLemmas::unless_err), unfolding(crate::specs::Start::start_within))]
+    pub(crate) fn new_many(
+        alloc: Global,
+        clock: &ClockStart,
+        ports: &[PortStart],
+    ) -> Result<DataSets, StartFault>
+        ensures { MatchResult result
+            (λ sets. start_within PORTS clock.now ports.now ≡ Ok sets)
+            (λ fault. IsWhyNot fault (start_within PORTS clock.now ports.now)) }
+    {
+        if let Err(error) = judge_start(clock, ports) {
+            return Err(StartFault::Refused(error));
+        }
+        let Ok(ports) = data_sets_in(alloc, ports) else {
+            return Err(StartFault::OutOfMemory);
+        };
+        Ok(DataSets {
+            default: clock.default_data_set(),
+            description: Description::of(clock.user_description.as_slice()),
+            current: clock.current_data_set(),
+            parent: clock.parent_data_set(),
+            time: clock.time_data_set(),
+            ports: PortList::Many(ports),
         })
     }
 
     /// Does what `new` does, in place. If it is refused, nothing changes.
-    #[tactic(auto, using(crate::proofs::Starting::text_fits, crate::proofs::Starting::starts_consistent), unfolding(crate::specs::Start::start_of))]
+    #[tactic(auto, using(crate::proofs::Starting::text_fits, crate::proofs::Starting::few_consistent), unfolding(crate::specs::Start::start_within))]
     pub(crate) fn start(
         &mut self,
         clock: &ClockStart,
@@ -489,7 +594,7 @@ impl DataSets {
             (λ fault. start_of clock.now ports.now ≡ Err fault) }
         ensures unchanged { OnErr result (self.new ≡ self.old) }
     {
-        self.ports = judged_ports(clock, ports)?;
+        self.ports = PortList::Few(judged_ports(clock, ports)?);
         self.default = clock.default_data_set();
         self.description = Description::of(clock.user_description.as_slice());
         self.current = clock.current_data_set();

@@ -7,6 +7,7 @@ use crate::answers::Answers;
 use crate::data_sets::DataSets;
 use crate::laws::data_sets_law;
 use crate::management_id::by_id;
+use crate::ports::INLINE_PORTS;
 use crate::refusals::refusal;
 use crate::reply::Reply;
 use crate::request::Request;
@@ -29,6 +30,7 @@ impl DataSets {
         requires action { IsRequestAction request.now.action }
         requires port { IsTargetPort request.now.port self.now }
         requires octets { IsDataField request.now.octets }
+        requires few { length self.now.ports ≤ INLINE_PORTS }
         ensures { result ≡ read_reply_to request.now self.now }
     {
         data_sets_law(self);

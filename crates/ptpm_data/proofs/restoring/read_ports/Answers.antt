@@ -5,8 +5,8 @@ use Rattle.ptpm_data.specs.Start.{default_port, port_data_set}
 use Rattle.ptpm_data.proofs.ImageLemmas.{ports_length, starts_more}
 use Rattle.ptpm_data.proofs.restoring.read_ports.Goals as goal
 
-pub returns-then-count-gt-PORTS : goal.returns-then-count-gt-PORTS
-returns-then-count-gt-PORTS c = λ ports few fits is. let size = ap length is in let each = ports_length ports in omega arith
+pub returns-then-count-gt-INLINE_PORTS : goal.returns-then-count-gt-INLINE_PORTS
+returns-then-count-gt-INLINE_PORTS c = λ ports few fits is. let size = ap length is in let each = ports_length ports in omega arith
 
 pub loop-place-preserved : goal.loop-place-preserved
 loop-place-preserved c = record {

@@ -1,11 +1,9 @@
-use Rattle.std.proofs.Common.{◌≡◌, length, map, take}
+use Rattle.std.proofs.Common.{◌≡◌, ◌-◌, ◌++◌, map, replicate}
 use Rattle.std.specs.List.{range_with_len}
 use Rattle.ptpm_data.specs.declared.ports.TheConstants.{PORTS}
 use Rattle.ptpm_data.specs.Changed.{port_changed}
 use Rattle.ptpm_data.proofs.data_sets.DataSets.changed_since.Given as goal
 
 abbrev pub invariant-loop-place : goal.invariant-loop-place
-invariant-loop-place l = record {
-  long : length l.ports ≡ PORTS;
-  told : take l.place l.ports ≡ map (port_changed l.before l.self) (range_with_len 1 l.place);
-}
+invariant-loop-place l =
+    l.ports ≡ map (port_changed l.before l.self) (range_with_len 1 l.place) ++ replicate (PORTS - l.place) (record { 0 = 0 })

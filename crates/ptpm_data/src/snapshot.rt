@@ -1,0 +1,73 @@
+//! What data sets were, to be compared with.
+
+ghost use Rattle.std.specs.Prelude.{◌≡◌};
+
+use crate::data_sets::{
+    CurrentDataSet, DataSets, DefaultDataSet, ParentDataSet, PortDataSet, TimePropertiesDataSet,
+};
+use crate::description::Description;
+use crate::port_list::port_at;
+use crate::ports::PORTS;
+use arrayvec::ArrayVec;
+use std::marker::Model;
+
+/// A copy of data sets in the value, for any number of ports. Contracts see it as `DataSetsValue`.
+#[derive(Drop)]
+pub struct Snapshot {
+    pub(crate) default: DefaultDataSet,
+    pub(crate) description: Description,
+    pub(crate) current: CurrentDataSet,
+    pub(crate) parent: ParentDataSet,
+    pub(crate) time: TimePropertiesDataSet,
+    pub(crate) ports: ArrayVec<PortDataSet, PORTS>,
+}
+
+impl Model for Snapshot {
+    ghost use Rattle.std.specs.Coded.{codes};
+    ghost use Rattle.ptpm_data.specs.Members.{DataSetsValue};
+    ghost use Rattle.ptpm_data.specs.Snapshot.{snapshot_value};
+    ghost use Rattle.ptpm_data.specs.contracts.port_settings.PortSettings as settings;
+
+    ghost Value = { DataSetsValue };
+
+    ghost coded = { Prim.hlevel (codes, settings.the_row.coded) };
+
+    ghost view = { snapshot_value };
+}
+
+impl DataSets {
+    /// What they are now. Takes no memory.
+    pub fn snapshot(&self) -> Snapshot
+        ensures { result ≡ self.now }
+    {
+        let mut ports = ArrayVec::new();
+        let _ = ports.try_extend_from_slice(self.ports.as_slice());
+        Snapshot {
+            default: self.default,
+            description: Description::of(self.description.text()),
+            current: self.current,
+            parent: self.parent,
+            time: self.time,
+            ports,
+        }
+    }
+}
+
+impl Snapshot {
+    ghost use Rattle.std.specs.Prelude.{◌≤◌, length, option_map};
+    ghost use Rattle.ptpm_data.specs.Members.{port_of};
+
+    pub(crate) fn port_count(&self) -> u16
+        ensures count { result ≡ length self.now.ports }
+        ensures most { result ≤ PORTS }
+    {
+        self.ports.len() as u16
+    }
+
+    /// The data set of a port; none if the clock lacks it.
+    pub(crate) fn port(&self, port: u16) -> Option<&PortDataSet>
+        ensures { option_map (λ p. p.now) result ≡ port_of port self.now }
+    {
+        port_at(self.ports.as_slice(), port)
+    }
+}
