@@ -311,6 +311,7 @@ impl<T: ReplyTable + Drop> Agent<T> {
     /// Leaves the messages of a reply in the outbox, and nothing else.
     fn send(&self, reply: &Reply, ingress: u16, message: &View<'_>, out: &mut Outbox)
         requires sendable { IsSendable reply.now }
+        requires few { length reply.now.answers ≤ INLINE_PORTS }
         ensures { out.new ≡ rendered (clock_of T.owner self.now).identity
             (heard_of message.now) reply.now ingress }
     {
@@ -330,6 +331,7 @@ impl<T: ReplyTable + Drop> Agent<T> {
         ensures reply { IfOk result (λ r. r ≡ new_reply
             (clock_of T.owner self.old) (state_of T.entries self.old) message.now) }
         ensures sendable { IfOk result (λ r. IsSendable r) }
+        ensures few { IfOk result (λ r. length r.answers ≤ INLINE_PORTS) }
         ensures accepted { OnOk result (state_of T.entries self.new ≡ carried_out
             (clock_of T.owner self.old) (state_of T.entries self.old) message.now) }
         ensures refused { OnErr result
@@ -349,7 +351,7 @@ impl<T: ReplyTable + Drop> Agent<T> {
     }
 }
 
-const _: () = prove!(size_of::<Agent<SlotTable<1>>>() == 2_592);
+const _: () = prove!(size_of::<Agent<SlotTable<1>>>() == 2_536);
 
 impl<const SLOTS: usize> Agent<SlotTable<SLOTS>> {
     /// A clock that has heard nothing yet and has no managers. It is never inlined: it is made in the place where it is
@@ -649,7 +651,7 @@ impl<T: SureTable + Drop> Agent<T> {
         ensures clock { clock_of T.owner self.new ≡ clock_of T.owner self.old }
         ensures most { T.most self.new.table ≡ T.most self.old.table }
     {
-        let before = self.sets.copy();
+        let before = self.sets.snapshot();
         self.accept(ingress, message, rights, out);
         self.sets.changed_since(&before)
     }

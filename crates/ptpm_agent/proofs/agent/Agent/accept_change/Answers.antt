@@ -5,4 +5,4 @@ use Rattle.ptpm_agent.proofs.agent.Agent.accept_change.Goals as goal
 
 pub returns-clause-members : goal.returns-clause-members
 returns-clause-members g c =
-    c.changed_since.ensures ∙ ap (λ (d : DataSetsValue). changed d c.accept.new.self.sets) c.copy-before.ensures
+    c.changed_since.ensures ∙ ap (λ (d : DataSetsValue). changed d c.accept.new.self.sets) c.snapshot-before.ensures

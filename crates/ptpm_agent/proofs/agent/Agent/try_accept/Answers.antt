@@ -1,4 +1,5 @@
 use Rattle.std.proofs.Common.{arith, ◌∙◌, ap, length}
+use Rattle.ptpm_data.specs.Members.{DataSetsValue}
 use Rattle.ptpm_data.specs.Replies.{reply_to}
 use Rattle.ptpm_data.specs.Reply.{ReplyValue}
 use Rattle.ptpm_data.proofs.AnswerCounts.{new_few}
@@ -6,6 +7,12 @@ use Rattle.ptpm_table.proofs.Fitting.{fitting_sendable}
 use Rattle.ptpm_agent.proofs.Fitting.{fits_numbered}
 use Rattle.ptpm_agent.proofs.Turns.{new_parts}
 use Rattle.ptpm_agent.proofs.agent.Agent.try_accept.Goals as goal
+
+pub copy-sets-requires : goal.copy-sets-requires
+copy-sets-requires g c = omega (arith, c.args.self.now.room, c.requires.small)
+
+pub decide-reply-requires-clause-few : goal.decide-reply-requires-clause-few
+decide-reply-requires-clause-few g c = omega (arith, c.args.self.now.room, c.requires.small, ap (λ (d : DataSetsValue). length d.ports) c.copy-sets.ensures)
 
 pub decide-reply-requires-clause-action : goal.decide-reply-requires-clause-action
 decide-reply-requires-clause-action g c = grind (arith, new_parts)
@@ -34,6 +41,17 @@ keep-requires-clause-few g c =
       ap (λ (r : ReplyValue). length r.answers) reply,
       new_few c.request_of-request.result c.args.rights c.args.self.now.sets c.data_sets_law.ensures.sized,
       c.args.self.now.room,
+    )
+
+pub returns-clause-few : goal.returns-clause-few
+returns-clause-few g c =
+    let reply = c.decide-reply.ensures.reply ∙ ap (reply_to c.request_of-request.result c.args.rights) c.copy-sets.ensures in
+    omega (
+      arith,
+      ap (λ (r : ReplyValue). length r.answers) reply,
+      new_few c.request_of-request.result c.args.rights c.args.self.now.sets c.data_sets_law.ensures.sized,
+      c.args.self.now.room,
+      c.requires.small,
     )
 
 pub returns-clause-sendable : goal.returns-clause-sendable
