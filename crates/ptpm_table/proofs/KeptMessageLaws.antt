@@ -19,7 +19,7 @@ use Rattle.ptpm_data.specs.Reply.{Answer, Outcome, ReplyValue, answer_of}
 use Rattle.ptpm_data.specs.declared.ports.TheConstants.{INLINE_PORTS}
 use Rattle.ptpm_data.specs.declared.reply.PortAnswer.{PortAnswer}
 use Rattle.ptpm_table.specs.declared.heard.Heard.{Heard}
-use Rattle.ptpm_table.specs.declared.kept_messages.TheConstants.{INLINE_OCTETS}
+use Rattle.ptpm_table.specs.declared.kept_octets.TheConstants.{MESSAGE_OCTETS, PORT_MESSAGE_OCTETS}
 use Rattle.ptpm_data.specs.ManagementId.{is_of_port}
 use Rattle.ptpm_data.specs.Request.{RequestValue}
 use Rattle.std.specs.Prelude.{is_some}
@@ -251,8 +251,8 @@ body_length request action id most (reply.Refused error) least fits = omega arit
 
 -- a message of an answer of the clock has at most 184 octets, one of a port at most 80
 abbrev pub most_octets : Bool → ℕ
-most_octets false = 184
-most_octets true = 80
+most_octets false = MESSAGE_OCTETS
+most_octets true = PORT_MESSAGE_OCTETS
 
 pub kept_length : (of_port : Bool) (e : Envelope) (first : Heard) (at : ℕ) (request : Action) (a : Answer)
     → FitsAnswer of_port request a
@@ -270,14 +270,15 @@ pub kept_least : (e : Envelope) (first : Heard) (at : ℕ) (a : Answer)
 kept_least e first at a valid fits = (canonical_size (sent_message e first at a) valid fits).at_least
 
 -- there is room for one more
-pub has_room : (of_port : Bool) (count done filled size : ℕ)
+pub has_room : (of_port : Bool) (most count done filled size : ℕ)
     → FitsCount of_port count
-    → count ≤ INLINE_PORTS
+    → INLINE_PORTS ≤ most
+    → count ≤ most
     → done < count
     → filled ≤ done * most_octets of_port
-    → size ≤ most_octets of_port → filled + size ≤ INLINE_OCTETS
-has_room false count done filled size fits few more full small = omega (arith, fits)
-has_room true count done filled size fits few more full small = omega (arith, few)
+    → size ≤ most_octets of_port → filled + size ≤ PORT_MESSAGE_OCTETS * most
+has_room false most count done filled size fits least few more full small = omega (arith, fits, least)
+has_room true most count done filled size fits least few more full small = omega (arith, few)
 
 pub filled_more : (of_port : Bool) (done filled size : ℕ)
     → filled ≤ done * most_octets of_port

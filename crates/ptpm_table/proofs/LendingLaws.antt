@@ -7,7 +7,7 @@ use Rattle.std.specs.declared.cmp.Ordering.{Ordering}
 use Rattle.std.proofs.lemmas.List.Folds.{find_at}
 use Rattle.std.proofs.lemmas.List.{length-map}
 use Rattle.std.proofs.lemmas.List.Recursion.{is_count_by}
-use Rattle.std.proofs.lemmas.List.Elements.{All-cons, All-nil, All-push, All-set}
+use Rattle.std.proofs.lemmas.List.Elements.{All-cons, All-get_or, All-nil, All-push, All-set}
 use Rattle.std.proofs.lemmas.Cmp.{tied_itself}
 use Rattle.std.specs.Prelude.{◌↔◌, IfSome, IsTrue, MatchOption, ⊤, count_by, is_some}
 use Rattle.std.specs.List.{position_or_len}
@@ -30,7 +30,7 @@ use Rattle.ptpm_table.specs.KeptMessages.{EachKept, Envelope, IsKeptMessage, ans
 use Rattle.ptpm_table.specs.Lending.{AnswerFits, HasNoneAfter, IsAfter, IsKeepable, IsNext}
 use Rattle.ptpm_table.specs.Managers.{has_twice, identities}
 use Rattle.ptpm_table.specs.Rendering.{answer_body, rendered}
-use Rattle.ptpm_table.specs.Slots.{AreKeepable, HaveFew, IsSooner, IsUsedAfter, configured, entry_in, slot_of, used}
+use Rattle.ptpm_table.specs.Slots.{AreKeepable, HaveFew, HaveRoom, IsSooner, IsUsedAfter, configured, entry_in, slot_of, used}
 use Rattle.ptpm_table.specs.declared.slot.Slot.{Slot}
 use Rattle.ptpm_table.proofs.Identities.{identities_total, same_identity-comm, same_identity-refl}
 use Rattle.ptpm_table.proofs.Maps.{get_entry}
@@ -318,6 +318,20 @@ pub few_more : (most : ℕ) (ss : List Slot) (s : Slot)
     → HaveFew most (ss ++ s ∷ [])
 few_more most ss s all free =
     All-push (λ t. t.taken ≡ true → length t.kept.entry.reply.answers ≤ most) ss s all (λ taken. absurd (false≢true (sym free ∙ taken)))
+
+-- the same of the answers for which they have room
+pub room_set : (most : ℕ) (ss : List Slot) (i : ℕ) (new : Slot)
+    → most ≤ new.kept.most
+    → HaveRoom most ss
+    → HaveRoom most (set ss i new)
+room_set most ss i new room all = All-set (λ s. most ≤ s.kept.most) ss i new room all
+
+pub room_more : (most : ℕ) (ss : List Slot) (s : Slot) → HaveRoom most ss → most ≤ s.kept.most → HaveRoom most (ss ++ s ∷ [])
+room_more most ss s all room = All-push (λ t. most ≤ t.kept.most) ss s all room
+
+-- the slot at a place has it
+pub room_at : (most : ℕ) (ss : List Slot) (i : ℕ) (s : Slot) → HaveRoom most ss → i < length ss → most ≤ (get_or ss i s).kept.most
+room_at most ss i s all inside = All-get_or (λ t. most ≤ t.kept.most) ss i s inside all
 
 -- a reply that was sent has an answer for each message
 pub sent_count : (clock : ClockIdentity) (heard : Heard) (q : RequestValue) (of_port : Bool) (messages : List (ℕ × List ℕ)) (r : ReplyValue)

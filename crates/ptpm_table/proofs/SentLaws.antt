@@ -11,7 +11,7 @@ use Rattle.ptpm_data.specs.Reply as reply
 use Rattle.ptpm_data.specs.Reply.{Answer, Outcome, ReplyValue}
 use Rattle.ptpm_table.specs.declared.heard.Heard.{Heard}
 use Rattle.ptpm_table.specs.declared.kept_messages.Exchange.{Exchange}
-use Rattle.ptpm_table.specs.declared.kept_messages.TheConstants.{INLINE_OCTETS}
+use Rattle.ptpm_table.specs.declared.kept_octets.TheConstants.{PORT_MESSAGE_OCTETS}
 use Rattle.ptpm_table.specs.Entries.{FitsAnswer, FitsCount, FitsOutcome}
 use Rattle.ptpm_table.specs.KeptMessages.{AreSizes, EachKept, Envelope, IsCopyOf, IsKeptReply, answer_in, envelope_of, pieces, sent_message}
 use Rattle.ptpm_table.specs.Rendering.{answer_body, rendered, reply_message}
@@ -157,13 +157,14 @@ each_room false e first at (a ∷ xs) each =
 each_room true e first at (a ∷ xs) each =
     omega (arith, each.0.small, each_room true e first at xs each.1, length-append (message_at e first at a) (all_octets (map (message_at e first at) xs)))
 
-pub all_room : (of_port : Bool) (count size : ℕ)
+pub all_room : (of_port : Bool) (most count size : ℕ)
     → FitsCount of_port count
-    → count ≤ INLINE_PORTS
+    → INLINE_PORTS ≤ most
+    → count ≤ most
     → size ≤ count * most_octets of_port
-    → size ≤ INLINE_OCTETS
-all_room false count size fits few full = omega (arith, fits)
-all_room true count size fits few full = omega (arith, few)
+    → size ≤ PORT_MESSAGE_OCTETS * most
+all_room false most count size fits least few full = omega (arith, fits, least)
+all_room true most count size fits least few full = omega (arith, few)
 
 -- ---- as they were sent
 

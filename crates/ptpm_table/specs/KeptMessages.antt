@@ -129,11 +129,12 @@ abbrev pub port_for : Bool → ℕ → Option ℕ
 port_for false ingress = Some ingress
 port_for true ingress = None
 
--- what a slot keeps: an entry, of a manager, with the clock that replied
+-- what a slot keeps: an entry, of a manager, with the clock that replied, and for how many answers it has room
 pub record KeptValue : Type 0 where
   pub clock : ClockIdentity
   pub manager : PortIdentity
   pub entry : Entry
+  pub most : ℕ
 
 -- the first answer is of a port
 abbrev pub has_port : List PortAnswer → Bool

@@ -8,6 +8,7 @@ pub mod ErrorText
 pub mod Slots
 pub mod SlotMemory
 pub mod Tables
+pub mod KeptOctets
 pub mod KeptMessages
 pub mod Sending
 pub mod SendingLaws

@@ -45,6 +45,10 @@ AreKeepable slots = All (λ s. s.taken ≡ true → IsKeepable s.kept.entry) slo
 abbrev pub HaveFew : ℕ → List Slot → Type 0
 HaveFew most slots = All (λ s. s.taken ≡ true → length s.kept.entry.reply.answers ≤ most) slots
 
+-- each slot has room for this many answers
+abbrev pub HaveRoom : ℕ → List Slot → Type 0
+HaveRoom most slots = All (λ s. most ≤ s.kept.most) slots
+
 -- ---- that they can be kept holds in one way at most
 
 FitsCount-prop : (of_port : Bool) (count : ℕ) → IsProp (FitsCount of_port count)

@@ -1,10 +1,9 @@
 //! A kept reply as octets: encoded, or copied as it was sent. It is sent again with those fields written over that depend
 //! on the copy of the request.
 
-ghost use Rattle.std.specs.Prelude.{All, ◌≡◌, ◌+◌, ◌∷◌, ◌++◌, ◌≤◌, ◌<◌, [], length, map};
-ghost use Rattle.arrayvec.specs.ArrayVec.{array_vec_len};
-ghost use Rattle.ptpm_codec.specs.Canonical.{canonical, tlv_octets};
-ghost use Rattle.ptpm_codec.specs.Message.{Fits, IsRequestAction, IsValid};
+ghost use Rattle.std.specs.Prelude.{All, ◌≡◌, ◌+◌, ◌*◌, ◌++◌, ◌≤◌, [], length, map};
+ghost use Rattle.ptpm_codec.specs.Canonical.{canonical};
+ghost use Rattle.ptpm_codec.specs.Message.{IsRequestAction, IsValid};
 ghost use Rattle.ptpm_data.specs.Reply.{ReplyValue, answer_of, outcome_of};
 ghost use Rattle.ptpm_table.specs.Sending.{AreSmall, IsSentReply, all_octets, messages_of};
 ghost use Rattle.ptpm_table.specs.Entries.{FitsAnswer, FitsCount};
@@ -12,23 +11,12 @@ ghost use Rattle.ptpm_table.specs.Rendering.{IsEvenOutcome};
 ghost use Rattle.ptpm_table.specs.KeptMessages.{AreSizes, IsCopyOf, IsKeptReply, answer_in, envelope_of, has_port, kept_message, pieces, port_for, renewed};
 
 use crate::heard::Heard;
+use crate::kept_octets::{KeptOctets, PORT_MESSAGE_OCTETS};
 use crate::outgoing::Outgoing;
 use crate::rendering::draft_of;
 use crate::renewal::Renewal;
-use arrayvec::ArrayVec;
-use ptpm_codec::{
-    Action, ClockIdentity, Draft, PortIdentity, encode_behind, overwrite_message, put_message,
-};
+use ptpm_codec::{Action, ClockIdentity, Draft, PortIdentity};
 use ptpm_data::{INLINE_PORTS, PortAnswer};
-
-/// Room for the sizes of a reply's messages.
-pub(crate) type Sizes = ArrayVec<u8, INLINE_PORTS>;
-
-/// How many octets the messages of a reply have at most: those of the ports 80 each, and the one of the clock 184.
-pub(crate) const INLINE_OCTETS: usize = 80 * INLINE_PORTS;
-
-/// Room for a reply's messages.
-pub(crate) type Messages = ArrayVec<u8, INLINE_OCTETS>;
 
 /// Which request of whom is answered, and by which clock.
 #[derive(Clone, Copy)]
@@ -84,43 +72,27 @@ pub(crate) fn resend_each<O: Outgoing>(
     }
 }
 
-/// Appends the canonical spelling of a draft, and its size.
-#[tactic(auto, using(crate::proofs::KeptMessageLaws::canonical_length))]
-fn append_message(draft: &Draft<'_>, sizes: &mut Sizes, messages: &mut Messages)
-    requires valid { IsValid draft.now }
-    requires small { 48 + length (tlv_octets draft.now.body) ≤ 184 }
-    requires count { array_vec_len sizes.old < INLINE_PORTS }
-    requires room { array_vec_len messages.old + 48 + length (tlv_octets draft.now.body) ≤ INLINE_OCTETS }
-    ensures sizes { sizes.new.items ≡ sizes.old.items ++ length (canonical draft.now) ∷ [] }
-    ensures messages { messages.new.items ≡ messages.old.items ++ canonical draft.now }
-    ensures fits { Fits draft.now }
-{
-    let size = encode_behind(draft, messages);
-    sizes.push(size as u8);
-}
-
 /// Leaves the messages of a reply's answers, and nothing else.
 pub(crate) fn encode_each(
     exchange: &Exchange,
     of_port: bool,
     answers: &[PortAnswer],
-    sizes: &mut Sizes,
-    messages: &mut Messages,
+    kept: &mut KeptOctets,
 )
     requires asks { IsRequestAction exchange.now.action }
     requires count { FitsCount of_port (length answers.now) }
     requires suits { All (λ a. FitsAnswer of_port exchange.now.action (answer_of a)) answers.now }
-    requires few { length answers.now ≤ INLINE_PORTS }
-    ensures kept { IsKeptReply (envelope_of exchange.now) of_port sizes.new.items
-        messages.new.items }
-    ensures answers { map (answer_in of_port) (pieces sizes.new.items messages.new.items)
+    requires few { length answers.now ≤ kept.old.most }
+    requires least { INLINE_PORTS ≤ kept.old.most }
+    ensures kept { IsKeptReply (envelope_of exchange.now) of_port kept.new.sizes kept.new.octets }
+    ensures answers { map (answer_in of_port) (pieces kept.new.sizes kept.new.octets)
         ≡ map answer_of answers.now }
+    ensures most { kept.new.most ≡ kept.old.most }
 {
-    *sizes = Sizes::new();
-    messages.clear();
+    kept.clear();
     for answer in answers {
         let draft = exchange.draft(answer);
-        append_message(&draft, sizes, messages);
+        kept.encode(&draft);
     }
 }
 
@@ -148,58 +120,54 @@ pub(crate) fn keep_each<O: Outgoing>(
     heard: &Heard,
     of_port: bool,
     out: &O,
-    sizes: &mut Sizes,
-    messages: &mut Messages,
+    kept: &mut KeptOctets,
 )
     requires asks { IsRequestAction exchange.now.action }
     requires copy { IsCopyOf (envelope_of exchange.now) heard.now }
     requires sent { (r : ReplyValue) × IsSentReply exchange.now.clock heard.now
         exchange.now.action exchange.now.id of_port (O.sent out.now) r }
-    requires few { length (O.sent out.now) ≤ INLINE_PORTS }
-    ensures kept { IsKeptReply (envelope_of exchange.now) of_port sizes.new.items
-        messages.new.items }
+    requires few { length (O.sent out.now) ≤ kept.old.most }
+    requires least { INLINE_PORTS ≤ kept.old.most }
+    ensures kept { IsKeptReply (envelope_of exchange.now) of_port kept.new.sizes kept.new.octets }
     ensures answers { (r : ReplyValue) → IsSentReply exchange.now.clock heard.now
         exchange.now.action exchange.now.id of_port (O.sent out.now) r →
-        map (answer_in of_port) (pieces sizes.new.items messages.new.items) ≡ r.answers }
+        map (answer_in of_port) (pieces kept.new.sizes kept.new.octets) ≡ r.answers }
+    ensures most { kept.new.most ≡ kept.old.most }
 {
-    copy_all(out, sizes, messages);
+    copy_all(out, kept);
 }
 
-/// Leaves copies of messages, and their sizes, and nothing else. Most replies are one message, which is written over the
-/// former.
+/// Leaves copies of messages, and nothing else. Most replies are one message, which is written over the former.
 #[inline(always)]
-fn copy_all<O: Outgoing>(out: &O, sizes: &mut Sizes, messages: &mut Messages)
-    requires few { length (O.sent out.now) ≤ INLINE_PORTS }
+fn copy_all<O: Outgoing>(out: &O, kept: &mut KeptOctets)
+    requires few { length (O.sent out.now) ≤ kept.old.most }
     requires small { AreSmall (messages_of (O.sent out.now)) }
-    requires room { length (all_octets (messages_of (O.sent out.now))) ≤ INLINE_OCTETS }
-    ensures sizes { sizes.new.items ≡ map length (messages_of (O.sent out.now)) }
-    ensures messages { messages.new.items ≡ all_octets (messages_of (O.sent out.now)) }
+    requires room { length (all_octets (messages_of (O.sent out.now))) ≤ PORT_MESSAGE_OCTETS * kept.old.most }
+    ensures sizes { kept.new.sizes ≡ map length (messages_of (O.sent out.now)) }
+    ensures messages { kept.new.octets ≡ all_octets (messages_of (O.sent out.now)) }
+    ensures most { kept.new.most ≡ kept.old.most }
 {
-    *sizes = Sizes::new();
     if out.count() == 1 {
-        let message = out.message(0);
-        sizes.push(message.len() as u8);
-        overwrite_message(messages, message);
+        kept.set(out.message(0));
     } else {
-        messages.clear();
-        copy_each(out, sizes, messages);
+        kept.clear();
+        copy_each(out, kept);
     }
 }
 
-/// Appends copies of the messages, and their sizes, if there were none. It is never inlined: most replies are one message.
+/// Appends copies of the messages, if there were none. It is never inlined: most replies are one message.
 #[inline(never)]
-fn copy_each<O: Outgoing>(out: &O, sizes: &mut Sizes, messages: &mut Messages)
-    requires no_sizes { sizes.old.items ≡ [] }
-    requires none { messages.old.items ≡ [] }
-    requires few { length (O.sent out.now) ≤ INLINE_PORTS }
+fn copy_each<O: Outgoing>(out: &O, kept: &mut KeptOctets)
+    requires no_sizes { kept.old.sizes ≡ [] }
+    requires none { kept.old.octets ≡ [] }
+    requires few { length (O.sent out.now) ≤ kept.old.most }
     requires small { AreSmall (messages_of (O.sent out.now)) }
-    requires room { length (all_octets (messages_of (O.sent out.now))) ≤ INLINE_OCTETS }
-    ensures sizes { sizes.new.items ≡ map length (messages_of (O.sent out.now)) }
-    ensures messages { messages.new.items ≡ all_octets (messages_of (O.sent out.now)) }
+    requires room { length (all_octets (messages_of (O.sent out.now))) ≤ PORT_MESSAGE_OCTETS * kept.old.most }
+    ensures sizes { kept.new.sizes ≡ map length (messages_of (O.sent out.now)) }
+    ensures messages { kept.new.octets ≡ all_octets (messages_of (O.sent out.now)) }
+    ensures most { kept.new.most ≡ kept.old.most }
 {
     for place in 0..out.count() {
-        let message = out.message(place);
-        sizes.push(message.len() as u8);
-        put_message(messages, message);
+        kept.push(out.message(place));
     }
 }

@@ -7,6 +7,7 @@ mod heard;
 mod in_order;
 mod kept;
 mod kept_messages;
+mod kept_octets;
 pub mod laws;
 mod lending;
 mod managers;

@@ -12,9 +12,8 @@ ghost use Rattle.ptpm_table.specs.Sending.{IsSentReply};
 ghost use Rattle.ptpm_table.specs.Rendering.{rendered};
 
 use crate::heard::Heard;
-use crate::kept_messages::{
-    Exchange, Messages, Sizes, encode_each, has_port, keep_each, port_for, resend_each,
-};
+use crate::kept_messages::{Exchange, encode_each, has_port, keep_each, port_for, resend_each};
+use crate::kept_octets::KeptOctets;
 use crate::lending::{LentAnswer, LentAnswers, LentEntry, answer_in, message_at};
 use crate::outgoing::Outgoing;
 use crate::rendering::hops_passed;
@@ -38,7 +37,11 @@ impl Default for Slot {
     /// A slot of nobody.
     fn default() -> Slot {
         let clock = ClockIdentity([0; 8]);
-        Slot::unused(&clock, &(PortIdentity { clock, port: 0 }, Rights::NONE))
+        Slot::unused(
+            &clock,
+            &(PortIdentity { clock, port: 0 }, Rights::NONE),
+            KeptOctets::new(),
+        )
     }
 }
 
@@ -48,14 +51,20 @@ impl Slot {
 
     /// A slot of a manager of this clock, in which no request is kept yet.
     #[inline(always)]
-    pub(crate) fn unused(clock: &ClockIdentity, manager: &(PortIdentity, Rights)) -> Slot
+    pub(crate) fn unused(
+        clock: &ClockIdentity,
+        manager: &(PortIdentity, Rights),
+        reply: KeptOctets,
+    ) -> Slot
+        requires { INLINE_PORTS ≤ reply.most }
         ensures clock { result.kept.clock ≡ clock.now }
         ensures manager { result.kept.manager ≡ manager.now.0 }
         ensures rights { result.rights ≡ manager.now.1 }
+        ensures most { result.kept.most ≡ reply.most }
         ensures empty { result.taken ≡ false }
     {
         Slot {
-            kept: Kept::nothing(clock, &manager.0),
+            kept: Kept::nothing(clock, &manager.0, reply),
             rights: manager.1,
             taken: false,
         }
@@ -97,10 +106,8 @@ fn number_of(octets: [u8; 8]) -> u64
 #[derive(Drop)]
 pub(crate) struct Kept {
     octets: ArrayVec<u8, DATA_FIELD_OCTETS>,
-    /// How many octets each message of the reply has.
-    sizes: Sizes,
-    /// The messages of the reply, one after the other.
-    messages: Messages,
+    /// The messages of the reply.
+    reply: KeptOctets,
     clock: ClockIdentity,
     manager: PortIdentity,
     number: u16,
@@ -114,6 +121,8 @@ pub(crate) struct Kept {
 impl Model for Kept {
     ghost use Rattle.std.specs.Prelude.{map};
     ghost use Rattle.ptpm_codec.specs.Message.{reply_action};
+    ghost use Rattle.std.specs.Prelude.{◌≤◌};
+    ghost use Rattle.ptpm_data.specs.declared.ports.TheConstants.{INLINE_PORTS};
     ghost use Rattle.ptpm_table.specs.KeptMessages.{IsKeptReply, KeptValue, answer_in, pieces};
 
     ghost Value = { KeptValue };
@@ -127,26 +136,29 @@ impl Model for Kept {
         reply = record {
           action = reply_action k.action;
           id = k.id;
-          answers = map (answer_in k.of_port) (pieces k.sizes.items k.messages.items);
+          answers = map (answer_in k.of_port) (pieces k.reply.sizes k.reply.octets);
         };
       };
+      most = k.reply.most;
     } };
 
     ghost invariant = { λ k. IsKeptReply
         (record { clock = k.clock; manager = k.manager; number = k.number; action = reply_action k.action; id = k.id })
-        k.of_port k.sizes.items k.messages.items };
+        k.of_port k.reply.sizes k.reply.octets
+        × (INLINE_PORTS ≤ k.reply.most) };
 }
 
 impl Kept {
     /// The content of a slot that was not used yet.
-    pub(crate) fn nothing(clock: &ClockIdentity, manager: &PortIdentity) -> Kept
+    pub(crate) fn nothing(clock: &ClockIdentity, manager: &PortIdentity, reply: KeptOctets) -> Kept
+        requires { INLINE_PORTS ≤ reply.most }
         ensures clock { result.clock ≡ clock.now }
         ensures manager { result.manager ≡ manager.now }
+        ensures most { result.most ≡ reply.most }
     {
         Kept {
             octets: ArrayVec::new(),
-            sizes: ArrayVec::new(),
-            messages: ArrayVec::new(),
+            reply,
             clock: *clock,
             manager: *manager,
             number: 0,
@@ -171,13 +183,13 @@ impl Kept {
         self.number
     }
 
-    /// The request, with its dataField lent. The reply to it has `INLINE_PORTS` messages at most.
+    /// The request, with its dataField lent. The reply to it has no more messages than have room.
     #[tactic(auto, using(crate::proofs::KeptMessageLaws::length_answers))]
     pub(crate) fn request(&self) -> Request<'_>
         ensures request { result ≡ self.now.entry.request }
-        ensures few { length self.now.entry.reply.answers ≤ INLINE_PORTS }
+        ensures few { length self.now.entry.reply.answers ≤ self.now.most }
     {
-        prove!(self.sizes.len() <= INLINE_PORTS);
+        let _sizes = self.reply.sizes();
         Request {
             action: self.action,
             id: self.id,
@@ -201,7 +213,7 @@ impl Kept {
     pub(crate) fn answer_count(&self) -> usize
         ensures { result ≡ length self.now.entry.reply.answers }
     {
-        self.sizes.len()
+        self.reply.sizes().len()
     }
 
     /// An answer of the reply, by its place from 0 on.
@@ -209,7 +221,7 @@ impl Kept {
         requires { place < length self.now.entry.reply.answers }
         ensures { slice_get self.now.entry.reply.answers place ≡ Some (lent_answer result) }
     {
-        let (sizes, messages) = (self.sizes.as_slice(), self.messages.as_slice());
+        let (sizes, messages) = (self.reply.sizes(), self.reply.octets());
         answer_in(self.of_port, message_at(sizes, messages, place))
     }
 
@@ -219,8 +231,8 @@ impl Kept {
     {
         LentAnswers {
             of_port: self.of_port,
-            sizes: self.sizes.as_slice(),
-            messages: self.messages.as_slice(),
+            sizes: self.reply.sizes(),
+            messages: self.reply.octets(),
         }
     }
 
@@ -229,8 +241,8 @@ impl Kept {
         requires action { IsRequestAction request.now.action }
         requires octets { IsDataField request.now.octets }
         requires fits { FitsRequest request.now reply.now }
-        requires few { length reply.now.answers ≤ INLINE_PORTS }
-        ensures { self.new ≡ record { clock = self.old.clock; manager = self.old.manager; entry = record { number = number; request = request.now; reply = reply.now } } }
+        requires few { length reply.now.answers ≤ self.old.most }
+        ensures { self.new ≡ record { clock = self.old.clock; manager = self.old.manager; entry = record { number = number; request = request.now; reply = reply.now }; most = self.old.most } }
     {
         self.number = number;
         self.action = request.action;
@@ -246,8 +258,7 @@ impl Kept {
             action: request.action,
             id: request.id,
         };
-        let (sizes, messages) = (&mut self.sizes, &mut self.messages);
-        encode_each(&exchange, self.of_port, answers, sizes, messages);
+        encode_each(&exchange, self.of_port, answers, &mut self.reply);
     }
 
     /// Keeps another request, with its number, in place of this one. Keeps the messages of the reply to it as they were sent for
@@ -265,10 +276,10 @@ impl Kept {
         requires manager { heard.now.source ≡ self.old.manager }
         requires sent { (r : ReplyValue) × IsSentReply self.old.clock heard.now
             request.now.action request.now.id of_port (O.sent out.now) r }
-        requires few { length (O.sent out.now) ≤ INLINE_PORTS }
+        requires few { length (O.sent out.now) ≤ self.old.most }
         ensures { (r : ReplyValue) → IsSentReply self.old.clock heard.now
             request.now.action request.now.id of_port (O.sent out.now) r →
-            self.new ≡ record { clock = self.old.clock; manager = self.old.manager; entry = record { number = heard.now.number; request = request.now; reply = r } } }
+            self.new ≡ record { clock = self.old.clock; manager = self.old.manager; entry = record { number = heard.now.number; request = request.now; reply = r }; most = self.old.most } }
     {
         self.number = heard.number;
         self.action = request.action;
@@ -283,8 +294,7 @@ impl Kept {
             action: request.action,
             id: request.id,
         };
-        let (sizes, messages) = (&mut self.sizes, &mut self.messages);
-        keep_each(&exchange, heard, of_port, out, sizes, messages);
+        keep_each(&exchange, heard, of_port, out, &mut self.reply);
     }
 
     /// Appends the messages of the reply, for the copy of the request that was heard.
@@ -302,8 +312,8 @@ impl Kept {
             port: port_for(self.of_port, ingress),
             hops: hops_passed(heard),
         };
-        let sizes = self.sizes.as_slice();
-        resend_each(sizes, self.messages.as_slice(), &renewal, ingress, out);
+        let (sizes, messages) = (self.reply.sizes(), self.reply.octets());
+        resend_each(sizes, messages, &renewal, ingress, out);
     }
 }
 

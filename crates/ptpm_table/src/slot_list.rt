@@ -1,6 +1,6 @@
 //! What is found and kept in slots, one for each manager, wherever they lie.
 
-ghost use Rattle.std.specs.Prelude.{◌≡◌, ◌↔◌, ◌≤◌, ◌<◌, false, MatchOption, count_by, slice_get, IfSome, IsTrue, All, Some, is_some, length, position};
+ghost use Rattle.std.specs.Prelude.{◌≡◌, ◌↔◌, ◌≤◌, ℕ, ◌<◌, false, MatchOption, count_by, slice_get, IfSome, IsTrue, All, Some, is_some, length, position};
 ghost use Rattle.std.specs.FinMap as fin;
 ghost use Rattle.std.specs.Option.{option_copied};
 ghost use Rattle.ptpm_codec.specs.declared.identity.ClockIdentity.{ClockIdentity};
@@ -13,7 +13,7 @@ ghost use Rattle.ptpm_table.specs.declared.slot.Slot.{Slot};
 ghost use Rattle.ptpm_data.specs.Reply.{ReplyValue};
 ghost use Rattle.ptpm_table.specs.Sending.{IsSentReply};
 ghost use Rattle.ptpm_table.specs.Managers.{has_twice, identities, rights_in};
-ghost use Rattle.ptpm_table.specs.Slots.{AreKeepable, HaveFew, IsSooner, clocks, configured, entry_in, rights_at, slot_of, used};
+ghost use Rattle.ptpm_table.specs.Slots.{AreKeepable, HaveFew, HaveRoom, IsSooner, clocks, configured, entry_in, rights_at, slot_of, used};
 
 use crate::heard::Heard;
 use crate::kept::judge;
@@ -21,7 +21,7 @@ use crate::outgoing::Outgoing;
 use crate::reply_table::Look;
 use crate::slot::{Slot, is_before};
 use ptpm_codec::PortIdentity;
-use ptpm_data::{INLINE_PORTS, Reply, Request, Rights};
+use ptpm_data::{Reply, Request, Rights};
 
 /// A manager's slot.
 pub(crate) fn slot_at<'a>(slots: &'a [Slot], who: &PortIdentity) -> Option<&'a Slot>
@@ -62,8 +62,9 @@ pub(crate) fn look_at(
     requires { has_twice (identities (configured slots.now)) ≡ false }
     ensures look { result.0 ≡ look_of (is_known who.now (identities (configured slots.now)))
         (fin.get (fin.from_entries {R = identity_cmp} (used slots.now)) who.now) number request.now }
-    ensures repeat { result.0 ≡ Look.Repeat
-        → CanResend INLINE_PORTS (fin.from_entries {R = identity_cmp} (used slots.now)) who.now number }
+    ensures repeat { (most : ℕ) → HaveFew most slots.now
+        → result.0 ≡ Look.Repeat
+        → CanResend most (fin.from_entries {R = identity_cmp} (used slots.now)) who.now number }
     ensures rights { result.1 ≡ rights_in (configured slots.now) who.now }
 {
     match slot_at(slots, who) {
@@ -103,14 +104,15 @@ pub(crate) fn put(
     requires distinct { has_twice (identities (configured slots.old)) ≡ false }
     requires octets { IsDataField request.now.octets }
     requires fits { FitsRequest request.now reply.now }
-    requires few { length reply.now.answers ≤ INLINE_PORTS }
+    requires few { (most : ℕ) × HaveRoom most slots.old × (length reply.now.answers ≤ most) }
     ensures entries { fin.from_entries {R = identity_cmp} (used slots.new)
         ≡ fin.insert (fin.from_entries (used slots.old)) who.now
         (record { number = number; request = request.now; reply = reply.now }) }
     ensures configured { configured slots.new ≡ configured slots.old }
     ensures clocks { clocks slots.new ≡ clocks slots.old }
     ensures keepable { AreKeepable slots.old → AreKeepable slots.new }
-    ensures few { HaveFew INLINE_PORTS slots.old → HaveFew INLINE_PORTS slots.new }
+    ensures few { (most : ℕ) → length reply.now.answers ≤ most → HaveFew most slots.old → HaveFew most slots.new }
+    ensures rooms { (most : ℕ) → HaveRoom most slots.old → HaveRoom most slots.new }
 {
     if let Some(place) = place_of(slots, who) {
         let slot = &mut slots[place];
@@ -135,7 +137,7 @@ pub(crate) fn put_sent<O: Outgoing>(
     requires sent { (clock : ClockIdentity) × (r : ReplyValue)
         × All (λ c. c ≡ clock) (clocks slots.old) × IsSentReply clock heard.now
         request.now.action request.now.id of_port (O.sent out.now) r }
-    requires few { length (O.sent out.now) ≤ INLINE_PORTS }
+    requires few { (most : ℕ) × HaveRoom most slots.old × (length (O.sent out.now) ≤ most) }
     ensures entries { (clock : ClockIdentity) (r : ReplyValue)
         → All (λ c. c ≡ clock) (clocks slots.old)
         → IsSentReply clock heard.now request.now.action request.now.id of_port
@@ -146,7 +148,8 @@ pub(crate) fn put_sent<O: Outgoing>(
     ensures configured { configured slots.new ≡ configured slots.old }
     ensures clocks { clocks slots.new ≡ clocks slots.old }
     ensures keepable { AreKeepable slots.old → AreKeepable slots.new }
-    ensures few { HaveFew INLINE_PORTS slots.old → HaveFew INLINE_PORTS slots.new }
+    ensures few { (most : ℕ) → length (O.sent out.now) ≤ most → HaveFew most slots.old → HaveFew most slots.new }
+    ensures rooms { (most : ℕ) → HaveRoom most slots.old → HaveRoom most slots.new }
 {
     if let Some(place) = place_of(slots, &heard.source) {
         let slot = &mut slots[place];

@@ -11,18 +11,18 @@ use crate::slot_memory::{SlotMemory, assign};
 use crate::table_over::TableOver;
 use arrayvec::ArrayVec;
 use ptpm_codec::{ClockIdentity, PortIdentity};
-use ptpm_data::Rights;
+use ptpm_data::{INLINE_PORTS, Rights};
 
 /// A reply table with this many slots inside the value. A clock has sixteen managers at most (this project's profile), so slots past
-/// the sixteenth stay empty. The table has 16 octets besides. It takes no memory.
+/// the sixteenth stay empty. The table has 24 octets besides. It takes no memory.
 pub type SlotTable<const SLOTS: usize> = TableOver<ArrayVec<Slot, SLOTS>>;
 
 /// A table of sixteen slots, as many as a clock has managers at most.
 pub type BoundTable = SlotTable<MANAGERS>;
 
-const _: () = prove!(size_of::<BoundTable>() == 34_192);
+const _: () = prove!(size_of::<BoundTable>() == 34_328);
 
-const _: () = prove!(size_of::<SlotTable<1>>() == 2_152);
+const _: () = prove!(size_of::<SlotTable<1>>() == 2_168);
 
 impl SlotTable<MANAGERS> {
     /// A table without entries, of this clock and these managers. At most sixteen managers, and each identity once.
@@ -42,8 +42,8 @@ impl SlotTable<MANAGERS> {
 
 impl<const SLOTS: usize> SlotTable<SLOTS> {
     /// A table without entries, of this clock and these managers. `TooMany` if they are more than the slots, or more than
-    /// sixteen however many slots there are; then `Twice` if an identity is listed twice. Takes no memory: the table has 16
-    /// octets, and 2,136 for each slot, used or not.
+    /// sixteen however many slots there are; then `Twice` if an identity is listed twice. Takes no memory: the table has 24
+    /// octets, and 2,144 for each slot, used or not.
     pub fn of_size(
         clock: ClockIdentity,
         managers: &[(PortIdentity, Rights)],
@@ -67,12 +67,14 @@ impl<const SLOTS: usize> SlotTable<SLOTS> {
     /// A table of this clock that has no managers yet.
     #[inline(always)]
     pub fn without_managers(clock: ClockIdentity) -> SlotTable<SLOTS>
-        ensures { IsFresh clock [] (⟦<SlotTable<SLOTS> as ReplyTable>⟧.owner result)
+        ensures most { ⟦<SlotTable<SLOTS> as ReplyTable>⟧.most result ≡ INLINE_PORTS }
+        ensures fresh { IsFresh clock [] (⟦<SlotTable<SLOTS> as ReplyTable>⟧.owner result)
             (⟦<SlotTable<SLOTS> as ReplyTable>⟧.entries result) }
     {
         TableOver {
             clock,
             slots: ArrayVec::new(),
+            answers: INLINE_PORTS as u16,
         }
     }
 
@@ -82,7 +84,9 @@ impl<const SLOTS: usize> SlotTable<SLOTS> {
         requires none { (⟦<SlotTable<SLOTS> as ReplyTable>⟧.owner self.old).managers ≡ [] }
         requires few { length managers.now ≤ most_managers SLOTS }
         requires distinct { has_twice (identities managers.now) ≡ false }
-        ensures { IsFresh (⟦<SlotTable<SLOTS> as ReplyTable>⟧.owner self.old).identity managers.now
+        requires most { ⟦<SlotTable<SLOTS> as ReplyTable>⟧.most self.old ≡ INLINE_PORTS }
+        ensures most { ⟦<SlotTable<SLOTS> as ReplyTable>⟧.most self.new ≡ INLINE_PORTS }
+        ensures fresh { IsFresh (⟦<SlotTable<SLOTS> as ReplyTable>⟧.owner self.old).identity managers.now
             (⟦<SlotTable<SLOTS> as ReplyTable>⟧.owner self.new)
             (⟦<SlotTable<SLOTS> as ReplyTable>⟧.entries self.new) }
     {

@@ -3,10 +3,9 @@
 ghost use Rattle.std.specs.Prelude.{◌≡◌, ◌≤◌, false, IsOk, IsTrue, OnErr, OnOk, All, length};
 ghost use Rattle.std.specs.FinMap as fin;
 ghost use Rattle.ptpm_codec.specs.Message.{IsDataField, IsRequestAction};
-ghost use Rattle.ptpm_data.specs.declared.ports.TheConstants.{INLINE_PORTS};
 ghost use Rattle.ptpm_table.specs.Entries.{FitsRequest, is_known};
 ghost use Rattle.ptpm_table.specs.Managers.{has_twice, identities};
-ghost use Rattle.ptpm_table.specs.Slots.{AreKeepable, AreKeepable-prop, HaveFew, clocks, configured};
+ghost use Rattle.ptpm_table.specs.Slots.{AreKeepable, AreKeepable-prop, HaveFew, HaveRoom, clocks, configured};
 
 use crate::heard::Heard;
 use crate::in_order::{LentEntries, in_order};
@@ -17,25 +16,27 @@ use crate::reply_table::{Look, ReplyTable, SureTable};
 use crate::slot_list::{count_used, look_at, next_slot, put, put_sent, rights_of, slot_at};
 use crate::slot_memory::SlotMemory;
 use ptpm_codec::{ClockIdentity, OutOfMemory, PortIdentity};
-use ptpm_data::{INLINE_PORTS, Reply, Request, Rights};
+use ptpm_data::{Reply, Request, Rights};
 
-/// The latest accepted requests, in slots of some memory, one for each manager. A slot has 2,136 octets. Replies are kept as octets:
+/// The latest accepted requests, in slots of some memory, one for each manager. A slot has 2,144 octets, and blocks of memory for the messages of more than `INLINE_PORTS` answers. Replies are kept as octets:
 /// `keep_sent` copies the messages as they were sent, and `keep` encodes them. `resend` copies them and writes over what depends
 /// on the copy that is answered. Once it is made, a table takes no memory, and `keep` is never refused.
 #[derive(Drop)]
 pub struct TableOver<M: SlotMemory + Drop> {
     pub(crate) clock: ClockIdentity,
     pub(crate) slots: M,
+    /// How many answers of a reply it keeps.
+    pub(crate) answers: u16,
     ghost distinct: { has_twice (identities (configured (M.slots slots))) ≡ false },
     ghost own: { All (λ c. c ≡ clock) (clocks (M.slots slots)) },
     ghost few: { length (M.slots slots) ≤ 16 },
     ghost keepable: { AreKeepable (M.slots slots) } by { AreKeepable-prop (M.slots slots) },
-    ghost have_few: { HaveFew INLINE_PORTS (M.slots slots) },
+    ghost have_room: { HaveRoom answers (M.slots slots) },
+    ghost have_few: { HaveFew answers (M.slots slots) },
     ghost no_spare: { M.spare slots ≡ 0 },
 }
 
 impl<M: SlotMemory + Drop> ReplyTable for TableOver<M> {
-    ghost use Rattle.ptpm_data.specs.declared.ports.TheConstants.{INLINE_PORTS};
     ghost use Rattle.std.specs.FinMap as fin;
     ghost use Rattle.ptpm_table.specs.Managers.{clock_with};
     ghost use Rattle.ptpm_table.specs.Slots.{configured, used};
@@ -44,7 +45,7 @@ impl<M: SlotMemory + Drop> ReplyTable for TableOver<M> {
 
     ghost entries = { λ t. fin.from_entries (used (M.slots t.slots)) };
 
-    ghost most = { λ t. INLINE_PORTS };
+    ghost most = { λ t. t.answers };
 
     fn clock(&self) -> ClockIdentity {
         self.clock

@@ -1,6 +1,5 @@
 use Rattle.std.proofs.Common.{◌∙◌, ◌≤◌, ap, arith, length, map, subst, sym}
 use Rattle.std.proofs.lemmas.List.{length-map}
-use Rattle.ptpm_data.specs.declared.ports.TheConstants.{INLINE_PORTS}
 use Rattle.ptpm_table.specs.KeptMessages.{envelope_of}
 use Rattle.ptpm_table.specs.Sending.{AreSmall, all_octets}
 use Rattle.ptpm_table.proofs.SentLaws.{all_room, count_of, each_room, each_small, message_at, sent_back, sent_encoded, sent_kept, sent_messages}
@@ -19,14 +18,14 @@ copy_all-requires-clause-room g c =
     let x = c.args.exchange.now in
     let s = c.requires.sent.1 in
     let same = ap length (sent_messages x c.args.heard.now c.args.of_port _ c.requires.sent.0 s) in
-    let few : length c.requires.sent.0.answers ≤ INLINE_PORTS = omega (
+    let few : length c.requires.sent.0.answers ≤ c.args.kept.now.most = omega (
       arith,
       c.requires.few,
       same,
       count_of (g.O.Outgoing.sent c.args.out.now),
       length-map c.requires.sent.0.answers (message_at (envelope_of x) c.args.heard.now s.ingress),
     ) in
-    let room = all_room c.args.of_port _ _ s.count few (each_room c.args.of_port (envelope_of x) c.args.heard.now s.ingress c.requires.sent.0.answers
+    let room = all_room c.args.of_port _ _ _ s.count c.requires.least few (each_room c.args.of_port (envelope_of x) c.args.heard.now s.ingress c.requires.sent.0.answers
     (sent_encoded x c.args.heard.now c.args.of_port _ c.requires.sent.0 c.requires.asks c.requires.copy s)) in
     let octets = ap (λ ms. length (all_octets ms)) (sent_messages x c.args.heard.now c.args.of_port _ c.requires.sent.0 s) in
     omega (arith, room, octets)

@@ -2,12 +2,11 @@ use Rattle.std.proofs.Common.{arith, sym, ◌∙◌, ◌≤◌, ap, length, refl
 use Rattle.std.specs.FinMap.{from_entries, insert}
 use Rattle.std.proofs.lemmas.List.Quantifiers.{position-Some}
 use Rattle.ptpm_codec.specs.Identity.{identity_cmp, same_identity}
-use Rattle.ptpm_data.specs.declared.ports.TheConstants.{INLINE_PORTS}
 use Rattle.ptpm_table.specs.KeptMessages.{KeptValue}
 use Rattle.ptpm_table.specs.Slots.{used}
 use Rattle.ptpm_table.specs.declared.slot.Slot.{Slot}
 use Rattle.ptpm_table.specs.Entries.{Entry}
-use Rattle.ptpm_table.proofs.LendingLaws.{few_set, keepable_set}
+use Rattle.ptpm_table.proofs.LendingLaws.{few_set, keepable_set, room_at, room_set}
 use Rattle.ptpm_table.proofs.Slots.{clocks_set, configured_set, entries_set, has_place}
 use Rattle.ptpm_table.proofs.slot_list.put.Goals as goal
 
@@ -34,11 +33,24 @@ returns-in-Some-clause-keepable c =
     (ap (λ (k : KeptValue). k.entry) c.replace.ensures)
     (record { action = c.requires.action; octets = c.requires.octets; fits = c.requires.fits })
 
+pub replace-requires-clause-few : goal.replace-requires-clause-few
+replace-requires-clause-few c =
+    let p = position-Some (λ (s : Slot). same_identity c.args.who.now s.kept.manager) c.args.slots.now c.in-Some.place c.index-slots-place.result (sym c.in-Some.ensures) in
+    omega (arith, c.requires.few.2, room_at c.requires.few.0 c.args.slots.now c.in-Some.place c.index-slots-place.result c.requires.few.1 p.0)
+
 pub returns-in-Some-clause-few : goal.returns-in-Some-clause-few
-returns-in-Some-clause-few c =
-    few_set INLINE_PORTS c.args.slots.now c.in-Some.place
+returns-in-Some-clause-few c = λ most few.
+    few_set most c.args.slots.now c.in-Some.place
     (record { rights = (get_or c.args.slots.now c.in-Some.place c.index-slots-place.result).rights; taken = true; kept = c.replace.new.self })
-    (subst (λ (k : KeptValue). length k.entry.reply.answers ≤ INLINE_PORTS) (sym c.replace.ensures) c.requires.few)
+    (subst (λ (k : KeptValue). length k.entry.reply.answers ≤ most) (sym c.replace.ensures) few)
+
+pub returns-in-Some-clause-rooms : goal.returns-in-Some-clause-rooms
+returns-in-Some-clause-rooms c = λ most rooms.
+    let p = position-Some (λ (s : Slot). same_identity c.args.who.now s.kept.manager) c.args.slots.now c.in-Some.place c.index-slots-place.result (sym c.in-Some.ensures) in
+    room_set most c.args.slots.now c.in-Some.place
+    (record { rights = (get_or c.args.slots.now c.in-Some.place c.index-slots-place.result).rights; taken = true; kept = c.replace.new.self })
+    (subst (λ n. most ≤ n) (sym (ap (λ (k : KeptValue). k.most) c.replace.ensures)) (room_at most c.args.slots.now c.in-Some.place c.index-slots-place.result rooms p.0))
+    rooms
 
 pub returns-in_default-clause-entries : goal.returns-in_default-clause-entries
 returns-in_default-clause-entries c = absurd (has_place c.args.who.now c.args.slots.now c.requires.known (sym c.in_default.ensures))

@@ -3,14 +3,13 @@ use Rattle.std.specs.FinMap.{from_entries, insert}
 use Rattle.std.proofs.lemmas.List.Quantifiers.{position-Some}
 use Rattle.ptpm_codec.specs.declared.identity.ClockIdentity.{ClockIdentity}
 use Rattle.ptpm_codec.specs.Identity.{identity_cmp, same_identity}
-use Rattle.ptpm_data.specs.declared.ports.TheConstants.{INLINE_PORTS}
 use Rattle.ptpm_table.specs.KeptMessages.{KeptValue}
 use Rattle.ptpm_table.specs.Sending.{IsSentReply}
 use Rattle.ptpm_table.specs.Slots.{used}
 use Rattle.ptpm_table.specs.declared.slot.Slot.{Slot}
 use Rattle.ptpm_codec.proofs.IdentityLaws.{same_identity-true}
 use Rattle.ptpm_table.specs.Entries.{Entry}
-use Rattle.ptpm_table.proofs.LendingLaws.{few_set, keepable_set, sent_count, sent_fits}
+use Rattle.ptpm_table.proofs.LendingLaws.{few_set, keepable_set, room_at, room_set, sent_count, sent_fits}
 use Rattle.ptpm_table.proofs.Slots.{clock_at, clocks_set, configured_set, entries_set, has_place}
 use Rattle.ptpm_table.proofs.slot_list.put_sent.Goals as goal
 
@@ -65,8 +64,13 @@ returns-in-Some-clause-keepable g c =
       fits = sent_fits c.requires.sent.0 c.args.heard.now c.args.request.now c.args.of_port (g.O.Outgoing.sent c.args.out.now) r own;
     })
 
+pub keep_sent-requires-clause-few : goal.keep_sent-requires-clause-few
+keep_sent-requires-clause-few g c =
+    let p = position-Some (λ (s : Slot). same_identity c.args.heard.now.source s.kept.manager) c.args.slots.now c.in-Some.place c.index-slots-place.result (sym c.in-Some.ensures) in
+    omega (arith, c.requires.few.2, room_at c.requires.few.0 c.args.slots.now c.in-Some.place c.index-slots-place.result c.requires.few.1 p.0)
+
 pub returns-in-Some-clause-few : goal.returns-in-Some-clause-few
-returns-in-Some-clause-few g c =
+returns-in-Some-clause-few g c = λ most few.
     let r = c.requires.sent.1 in
     let own = c.requires.sent.3 in
     let p = position-Some (λ (s : Slot). same_identity c.args.heard.now.source s.kept.manager) c.args.slots.now c.in-Some.place c.index-slots-place.result (sym c.in-Some.ensures) in
@@ -74,8 +78,18 @@ returns-in-Some-clause-few g c =
     let kept = c.keep_sent.ensures r (subst (λ (k : ClockIdentity). IsSentReply k c.args.heard.now c.args.request.now.action c.args.request.now.id c.args.of_port (g.O.Outgoing.sent c.args.out.now) r)
     (sym (clock_at c.requires.sent.0 c.args.slots.now c.in-Some.place c.index-slots-place.result p.0 c.requires.sent.2)) own) in
     let count = sent_count c.requires.sent.0 c.args.heard.now c.args.request.now c.args.of_port (g.O.Outgoing.sent c.args.out.now) r own in
-    few_set INLINE_PORTS c.args.slots.now c.in-Some.place new
-    (subst (λ (k : KeptValue). length k.entry.reply.answers ≤ INLINE_PORTS) (sym kept) (omega (arith, count, c.requires.few)))
+    few_set most c.args.slots.now c.in-Some.place new
+    (subst (λ (k : KeptValue). length k.entry.reply.answers ≤ most) (sym kept) (omega (arith, count, few)))
+
+pub returns-in-Some-clause-rooms : goal.returns-in-Some-clause-rooms
+returns-in-Some-clause-rooms g c = λ most rooms.
+    let p = position-Some (λ (s : Slot). same_identity c.args.heard.now.source s.kept.manager) c.args.slots.now c.in-Some.place c.index-slots-place.result (sym c.in-Some.ensures) in
+    let new : Slot = record { rights = (get_or c.args.slots.now c.in-Some.place c.index-slots-place.result).rights; taken = true; kept = c.keep_sent.new.self } in
+    let kept = c.keep_sent.ensures c.requires.sent.1 (subst (λ (k : ClockIdentity). IsSentReply k c.args.heard.now c.args.request.now.action c.args.request.now.id c.args.of_port (g.O.Outgoing.sent c.args.out.now) c.requires.sent.1)
+    (sym (clock_at c.requires.sent.0 c.args.slots.now c.in-Some.place c.index-slots-place.result p.0 c.requires.sent.2)) c.requires.sent.3) in
+    room_set most c.args.slots.now c.in-Some.place new
+    (subst (λ n. most ≤ n) (sym (ap (λ (k : KeptValue). k.most) kept)) (room_at most c.args.slots.now c.in-Some.place c.index-slots-place.result rooms p.0))
+    rooms
 
 pub returns-in_default-clause-entries : goal.returns-in_default-clause-entries
 returns-in_default-clause-entries g c = absurd (has_place c.args.heard.now.source c.args.slots.now c.requires.known (sym c.in_default.ensures))

@@ -1,8 +1,9 @@
-use Rattle.std.proofs.Common.{arith, subst, sym}
+use Rattle.std.proofs.Common.{ap, arith, subst, sym}
 use Rattle.std.proofs.lemmas.Grind.{common_steps}
 use Rattle.ptpm_data.specs.declared.ports.TheConstants.{INLINE_PORTS}
-use Rattle.ptpm_table.specs.Slots.{AreKeepable, HaveFew}
-use Rattle.ptpm_table.proofs.LendingLaws.{few_more, keepable_more}
+use Rattle.ptpm_table.specs.KeptOctets.{OctetsValue}
+use Rattle.ptpm_table.specs.Slots.{AreKeepable, HaveFew, HaveRoom}
+use Rattle.ptpm_table.proofs.LendingLaws.{few_more, keepable_more, room_more}
 use Rattle.ptpm_table.proofs.Slots.{configured_more, own_more, used_more}
 use Rattle.ptpm_table.proofs.slot_memory.assign.Goals as goal
 
@@ -11,7 +12,8 @@ loop-manager-preserved g c = record {
   configured = grind (arith, configured_more, common_steps);
   own = grind (arith, own_more);
   keepable = subst AreKeepable (sym c.add.ensures.slots) (keepable_more _ _ c.loop-manager.invariant.keepable c.unused.ensures.empty);
-  few = subst (HaveFew INLINE_PORTS) (sym c.add.ensures.slots) (few_more INLINE_PORTS _ _ c.loop-manager.invariant.few c.unused.ensures.empty);
+  few = λ most. subst (HaveFew most) (sym c.add.ensures.slots) (few_more most _ _ (c.loop-manager.invariant.few most) c.unused.ensures.empty);
+  rooms = subst (HaveRoom INLINE_PORTS) (sym c.add.ensures.slots) (room_more INLINE_PORTS _ _ c.loop-manager.invariant.rooms (omega (arith, c.unused.ensures.most, ap (λ (k : OctetsValue). k.most) c.new.ensures)));
   used = grind (arith, used_more);
   count = grind (arith, common_steps);
   room = grind arith;

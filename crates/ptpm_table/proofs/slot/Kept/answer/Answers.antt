@@ -11,8 +11,8 @@ message_at-requires-clause-place c = grind (arith, length_answers)
 pub returns : goal.returns
 returns c =
     let k = c.self.inside in
-    let ms = pieces k.sizes.items k.messages.items in
+    let ms = pieces k.reply.sizes k.reply.octets in
     ap (λ (v : KeptValue). slice_get v.entry.reply.answers c.args.place) (sym c.self.view_is)
     ∙ slice_get-map (answer_in k.of_port) ms c.args.place
-    ∙ ap (option_map (answer_in k.of_port)) ((λ i. slice_get (pieces (sym c.as_slice-sizes.ensures.value i) (sym c.as_slice-messages.ensures.value i)) c.args.place) ∙ c.message_at.ensures)
+    ∙ ap (option_map (answer_in k.of_port)) ((λ i. slice_get (pieces (sym c.sizes-sizes.ensures.value i) (sym c.octets-messages.ensures i)) c.args.place) ∙ c.message_at.ensures)
     ∙ ap Some (sym c.answer_in.ensures)

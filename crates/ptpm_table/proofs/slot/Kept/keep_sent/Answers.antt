@@ -18,10 +18,11 @@ returns g c = λ r s.
     let answers = c.keep_each.ensures.answers r here in
     let request : ◌≡◌ {A = RequestValue} (record { action = c.request.inside.action; id = c.request.inside.id; port = c.request.inside.port; octets = c.keep_octets.new.kept.items }) c.args.request.now =
     ap (λ o. record { action = c.request.inside.action; id = c.request.inside.id; port = c.request.inside.port; octets = o }) c.keep_octets.ensures ∙ c.request.view_is in
-    let reply : ◌≡◌ {A = ReplyValue} (record { action = reply_action c.request.inside.action; id = c.request.inside.id; answers = map (answer_in c.args.of_port) (pieces c.keep_each.new.sizes.items c.keep_each.new.messages.items) }) r =
+    let reply : ◌≡◌ {A = ReplyValue} (record { action = reply_action c.request.inside.action; id = c.request.inside.id; answers = map (answer_in c.args.of_port) (pieces c.keep_each.new.kept.sizes c.keep_each.new.kept.octets) }) r =
     (λ i. record { action = (ap reply_action (sym action) ∙ sym s.action_is) i; id = (sym id ∙ sym s.id_is) i; answers = answers i }) in
     (λ i. record {
       clock = (c.self.view_is i).clock;
       manager = (c.self.view_is i).manager;
       entry = record { number = c.args.heard.now.number; request = request i; reply = reply i };
+      most = (c.keep_each.ensures.most ∙ ap (λ (k : KeptValue). k.most) c.self.view_is) i;
     })

@@ -1,7 +1,6 @@
 use Rattle.std.proofs.Common.{◌≡◌, ◌≤◌, ◌∙◌, All, List, ap, arith, length, subst, sym}
 use Rattle.ptpm_codec.specs.declared.identity.ClockIdentity.{ClockIdentity}
-use Rattle.ptpm_data.specs.declared.ports.TheConstants.{INLINE_PORTS}
-use Rattle.ptpm_table.specs.Slots.{AreKeepable, HaveFew, clocks}
+use Rattle.ptpm_table.specs.Slots.{AreKeepable, HaveFew, HaveRoom, clocks}
 use Rattle.ptpm_table.specs.declared.slot.Slot.{Slot}
 use Rattle.ptpm_table.proofs.table_over.TableOverSureTable.replace.Goals as goal
 
@@ -28,12 +27,25 @@ invariant_of-self-clause-keepable g c =
     let same = g.met.M.SlotMemory.written_slots c.args.self.now.slots c.put.new.slots (omega (arith, size, c.put.auto.slots)) in
     subst AreKeepable (sym same) (c.put.ensures.keepable (subst AreKeepable (sym lent) c.args.self.now.keepable))
 
+pub put-requires-clause-few : goal.put-requires-clause-few
+put-requires-clause-few g c =
+    (c.args.self.now.answers, subst (HaveRoom c.args.self.now.answers) (sym c.slots_mut-slots.ensures.value) c.args.self.now.have_room, c.requires.few)
+
+pub invariant_of-self-clause-have_room : goal.invariant_of-self-clause-have_room
+invariant_of-self-clause-have_room g c =
+    let lent = c.slots_mut-slots.ensures.value in
+    let size = ap length lent in
+    let most = c.args.self.now.answers in
+    let same = g.met.M.SlotMemory.written_slots c.args.self.now.slots c.put.new.slots (omega (arith, size, c.put.auto.slots)) in
+    subst (HaveRoom most) (sym same) (c.put.ensures.rooms most (subst (HaveRoom most) (sym lent) c.args.self.now.have_room))
+
 pub invariant_of-self-clause-have_few : goal.invariant_of-self-clause-have_few
 invariant_of-self-clause-have_few g c =
     let lent = c.slots_mut-slots.ensures.value in
     let size = ap length lent in
+    let most = c.args.self.now.answers in
     let same = g.met.M.SlotMemory.written_slots c.args.self.now.slots c.put.new.slots (omega (arith, size, c.put.auto.slots)) in
-    subst (HaveFew INLINE_PORTS) (sym same) (c.put.ensures.few (subst (HaveFew INLINE_PORTS) (sym lent) c.args.self.now.have_few))
+    subst (HaveFew most) (sym same) (c.put.ensures.few most c.requires.few (subst (HaveFew most) (sym lent) c.args.self.now.have_few))
 
 pub invariant_of-self-clause-no_spare : goal.invariant_of-self-clause-no_spare
 invariant_of-self-clause-no_spare g c =
