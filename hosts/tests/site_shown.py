@@ -146,9 +146,9 @@ def waits():
     begin, first, listened, second = [int(reply[place]) for reply, place in zip(ran.replies, (1, 2, 1, 2))]
     check("it listens for as long as is said, and says when that is over", begin < first and 1500 <= listened - first < 2500 and listened < second)
     for seconds in "3600", "-3600":
-        ran = told(["look 7", "look 7"], "status", around=["env", f"SET_BY={seconds}", f"LD_PRELOAD={HOME}/set_clock.so"])
-        steps = [round(int(reply[3]) / 1e9) for reply in ran.replies[1:3]]
-        check(f"by how much the clock was set is said: {steps}", abs(steps[1]) >= 3600 and steps[0] == 0)
+        ran = told(["look 7", "listen 8000", "look 7"], "status", around=["env", f"SET_BY={seconds}", "SET_AFTER=8", f"LD_PRELOAD={HOME}/set_clock.so"])
+        steps = [round(int(ran.replies[place][3]) / 1e9) for place in (1, 3)]
+        check(f"by how much the clock was set is said: {steps}", steps == [0, int(seconds)])
 
 
 def goes_meanwhile(clocks):
@@ -177,19 +177,24 @@ def unread():
         check("a watch that nobody reads ends", False)
 
 
+def wait_for(lines, start):
+    """The next line that starts so."""
+    return next((line for line in lines if line.startswith(start)), "")
+
+
 def shown_by_ptpm(clocks):
     """With `ptpm` itself: a site, and then what comes and goes."""
     done = run(*AT_NEAR, MANAGE, "-i", "near0", "status", "--ignore", "gm_free_running,two_grandmasters", env=WITH_OWN)
-    check("a site is shown", done.returncode == 0 and done.stdout.splitlines()[-1] == "findings: none" and ONE in done.stdout and OTHER in done.stdout)
+    check("a site is shown", done.returncode == 0 and "\nfindings: none\n" in done.stdout and ONE in done.stdout and OTHER in done.stdout)
     check("and its object", json.loads(run(*AT_NEAR, MANAGE, "-i", "near0", "status", "--json", env=WITH_OWN).stdout)["leftOut"] == {"clocks": 0, "ports": 0})
     process = subprocess.Popen([*AT_NEAR, MANAGE, "-i", "near0", "status", "--watch", "1", "--ignore", "gm_free_running,two_grandmasters"],
                                env=WITH_OWN, stdout=subprocess.PIPE, text=True)
-    while not process.stdout.readline().startswith("findings: none"):
-        continue
+    lines = iter(process.stdout.readline, "")
+    wait_for(lines, "findings: none")
     stop(clocks[:1])
-    went = process.stdout.readline()
+    went = wait_for(lines, "20")
     clocks[:1] = [start_clock(ONE, "far0")]
-    came = [process.stdout.readline() for _ in range(2)]
+    came = [wait_for(lines, "20") for _ in range(2)]
     process.send_signal(signal.SIGTERM)
     check(f"a clock goes, and comes: {went}{came}", went[20:] == f" + 0 {ONE} gone answers no more\n"
           and [line[20:] for line in came] == [f" + 0 {ONE} answers\n", f" - 0 {ONE} gone answers no more\n"])

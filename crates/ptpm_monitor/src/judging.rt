@@ -74,10 +74,22 @@ fn judged_by(
     inventory: Option<&Inventory>,
     shown: Shown<'_>,
 ) -> Result<Judged, Fault> {
-    let before = match shown.before {
-        Some(lines) => Some(Before::read(alloc, lines.as_bytes())?),
-        None => None,
-    };
+    match shown.before {
+        Some(lines) => {
+            let before = Before::read(alloc, lines.as_bytes())?;
+            judged_beside(alloc, judging, inventory, Some(&before), shown)
+        }
+        None => judged_beside(alloc, judging, inventory, None, shown),
+    }
+}
+
+fn judged_beside(
+    alloc: Global,
+    judging: &Judging<'_>,
+    inventory: Option<&Inventory>,
+    before: Option<&Before>,
+    shown: Shown<'_>,
+) -> Result<Judged, Fault> {
     let ignored = if shown.has_changes {
         &judging.ignored
     } else {
@@ -87,7 +99,7 @@ fn judged_by(
         names: &judging.names,
         ignored,
         is_all: judging.is_all,
-        before: before.as_ref(),
+        before,
         tells_momentary: false,
     };
     let expectations = Expectations {
@@ -99,14 +111,8 @@ fn judged_by(
         limits: judging.options.limits,
     };
     let mut text = Vec::new(alloc);
-    let came = report(
-        alloc,
-        options,
-        &expectations,
-        viewing,
-        shown.lines.as_bytes(),
-        &mut text,
-    )?;
+    let lines = shown.lines.as_bytes();
+    let came = report(alloc, options, &expectations, viewing, lines, &mut text)?;
     let status = status_of(shown.form, &came);
     Ok(Judged {
         text,

@@ -176,6 +176,9 @@ impl<F: Files, R: Read + Drop, W: Write + Drop, E: Write> Monitor<'_, F, R, W, E
             return Ok(());
         }
         let text = self.difference(look, before, is_json)?;
+        if text.is_empty() {
+            return Ok(());
+        }
         let printed = if is_json {
             Printed::Json
         } else {
