@@ -245,7 +245,7 @@ static MONITOR: [Argument; 8] = [
     Argument(
         "as-far-as-named",
         Nothing,
-        "It is passed on by no more, even if a clock may be behind the last one",
+        "It is passed on by no more, even if a clock may be after the last one",
     ),
     Argument(
         "once",
@@ -383,7 +383,7 @@ impl Subcommand {
             Subcommand::Site =>
                 "Shows a site at a glance, by the answers of its clocks on standard input, a datagram a line",
             Subcommand::Monitor =>
-                "Looks at a site for a host program, which it tells on standard output what to do",
+                "Looks at a site by a host program, to which it says on standard output what to do",
             Subcommand::Findings => "Prints the table of what site may find",
             Subcommand::Plan =>
                 "Shows what a file would change at the clocks whose answers are on standard input, a datagram a line",

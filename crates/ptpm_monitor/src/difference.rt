@@ -113,7 +113,7 @@ impl Manner<'_> {
     }
 }
 
-/// Adds a text of which so many lines after the heading of the findings are in red.
+/// Adds a text with the lines of its findings in red, which come after their heading.
 pub(crate) fn write_in_red(
     report: &str,
     findings: usize,

@@ -22,8 +22,8 @@ struct Answered {
     answer: Vec<u8>,
 }
 
-/// How worthy of its room a clock is: those of the latest look, then those that answered for the longest time, then those that did
-/// so last. The least comes first.
+/// How worthy of its room a clock is. The most worthy are those of the latest look, then those that answered for the longest time,
+/// then those that did so last. The least comes first.
 type Worth = (Reverse<bool>, Reverse<u64>, Reverse<u64>, Source);
 
 /// The clocks that answered.

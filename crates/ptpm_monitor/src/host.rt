@@ -1,4 +1,4 @@
-//! The program that asks the clocks, prints and waits: what it is told, and what it answers, a line each.
+//! The program that asks the clocks, prints and waits: what it is to do, and what it answers, a line each.
 
 use crate::collected::{Collected, number};
 use crate::ended::Ended;
@@ -7,13 +7,13 @@ use std::alloc::Global;
 use std::fmt;
 use std::io::{Read, Write};
 
-/// The version of what is told and answered.
+/// The version of these lines.
 const VERSION: &str = "1";
 
 /// A line has this if it ends what a host collected.
 const END: &str = "end";
 
-/// How what is printed is made fit for a terminal: as lines of text, as JSON, or not at all.
+/// Whether what is printed is text or JSON, which is made fit for a terminal, or neither.
 #[derive(Clone, Copy)]
 pub(crate) enum Printed {
     Text,
@@ -66,7 +66,7 @@ impl<R: Read + Drop, W: Write + Drop> Host<R, W> {
         Ok(self.lines.text(self.number)?)
     }
 
-    /// Has it look: ask every clock, over so many boundary hops.
+    /// Has it look: ask every clock, over this many boundary hops.
     pub(crate) fn look(&mut self, alloc: Global, hops: u8) -> Result<Collected, Ended> {
         writeln!(self.out, "look {hops}")?;
         let mut collected = match self.answer()?.split_once(' ') {
@@ -83,7 +83,7 @@ impl<R: Read + Drop, W: Write + Drop> Host<R, W> {
         Ok(collected)
     }
 
-    /// Has it hear what comes in for so many milliseconds. When that is over.
+    /// Has it hear what comes in for this many milliseconds. When that is over.
     pub(crate) fn listen(&mut self, milliseconds: u64) -> Result<u64, Ended> {
         writeln!(self.out, "listen {milliseconds}")?;
         match self.answer()?.split_once(' ') {

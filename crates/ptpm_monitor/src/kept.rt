@@ -9,11 +9,11 @@ use ptpm_site::reading::domain::Domain;
 use std::alloc::{AllocError, Global};
 use std::collections::{BTreeMap, BTreeSet};
 
-/// Of a port that stays in a state so many answers to different requests are kept. A site needs the first, and of a port in SLAVE
+/// How many answers of a port that stays in a state are kept, to different requests. A site needs the first, and of a port in SLAVE
 /// three, with that of the look itself (this project's profile).
 const MOST_OF_PORT: usize = 2;
 
-/// Of the answers of a clock with the same offset the first is kept, and so many of the last (this project's profile).
+/// How many of the last answers of a clock with the same offset are kept beside the first (this project's profile).
 const LAST_EQUAL: usize = 11;
 
 /// Whose answers these are.

@@ -1,5 +1,5 @@
 //! What `ptpm monitor` does. It looks at a site, once or again and again, and decides when a look is judged, made again and printed.
-//! A host program asks the clocks: it is told what to do, and answers, a line each.
+//! A host program asks the clocks: it reads what is to be done, and answers, a line each.
 #![tactic(auto)]
 
 mod change_time;

@@ -73,8 +73,8 @@ impl Basis {
         Ok(())
     }
 
-    /// Makes it one after which another look is judged. The GETs to one clock or port are left out: in their own look an answer with
-    /// the number of one shows that its clock is there, whatever came after it, and in a later one it does not.
+    /// Makes it one after which another look is judged. The GETs to one clock or port are left out. In their own look an answer with the
+    /// number of one shows that its clock is there, whatever came after it. In a later look it does not.
     pub(crate) fn make_earlier(&mut self, step: Option<i64>) {
         make_lines_earlier(&mut self.earlier, step);
         make_lines_earlier(&mut self.own.lines, step);

@@ -25,7 +25,7 @@ const BETWEEN_OPEN: u64 = 2_000;
 
 const MOST_OPEN: u64 = 30_000;
 
-/// If so many looks each have what the one before lacks, the site is never at rest (this project's profile).
+/// If this many looks each have what the one before lacks, the site is never at rest (this project's profile).
 const MOST_UNLIKE: u8 = 4;
 
 /// The times of an earlier look are set too if the clock of the host was set by more than these nanoseconds.
@@ -50,7 +50,7 @@ pub(crate) struct Monitor<'a, F, R, W, E> {
     pub(crate) page: String,
 }
 
-/// Looks at a site, and prints what it finds; the exit status. It tells a host on `out` what to do, and reads its answers.
+/// Looks at a site, and prints what it finds; the exit status. It writes on `out` what a host is to do, and reads its answers.
 pub fn monitor_site<'a, F: Files, R: Read + Drop, W: Write + Drop, E: Write>(
     alloc: Global,
     files: &'a F,

@@ -52,7 +52,7 @@ impl Head {
     }
 }
 
-/// The dataField of an answer that has this managementId and so many octets at least.
+/// The dataField of an answer to this managementId, if it has as many octets as the `least`.
 pub(crate) fn field_of(octets: &[u8], id: u16, least: usize) -> Option<(Head, &[u8])> {
     let head = Head::of_answer(octets)?;
     let (_, tlv) = octets.split_at_checked(52)?;

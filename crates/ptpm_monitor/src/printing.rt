@@ -255,7 +255,7 @@ fn add_members(object: &str, left_out: &LeftOut, text: &mut String) -> Result<()
     }
 }
 
-/// What is to be said above a page, as HTML has it.
+/// What is to be said above a page, in HTML.
 fn notice_of(alloc: Global, look: &Look) -> Result<String, AllocError> {
     let mut notice = String::new(alloc);
     let silent = look.basis.own.silent_way();

@@ -12,7 +12,7 @@ pub struct Settings<'a> {
     pub times: Times,
     /// How many boundary clocks pass on what is asked, at first.
     pub hops: u8,
-    /// No more are asked for, even if a clock may be behind the last one.
+    /// No more are asked for, even if a clock may be after the last one.
     pub is_as_far_as_named: bool,
     /// What may pass is not looked at a second time.
     pub is_once: bool,

@@ -86,7 +86,7 @@ static void write_known(FILE *to, int status, int64_t step) {
     }
 }
 
-/* Collects the lines of a look, over so many boundary clocks, and hands them on. */
+/* Collects the lines of a look and hands them on. */
 static bool look(const struct task *task, const struct domains *domains, unsigned long hops) {
     struct task as_far = *task;
     char *lines = NULL, *known = NULL;
