@@ -20,6 +20,9 @@ use std::rt::Files;
 /// The status of a look for which nothing was asked.
 const NOT_ASKED: u8 = 2;
 
+/// The status if the host says no more.
+const FAILED: u8 = 1;
+
 /// What is open is looked at again as often, and as long as this, in milliseconds (this project's profile).
 const BETWEEN_OPEN: u64 = 2_000;
 
@@ -61,7 +64,7 @@ pub fn monitor_site<'a, F: Files, R: Read + Drop, W: Write + Drop, E: Write>(
 ) -> Result<u8, Fault> {
     match run(alloc, files, settings, reader, out, err) {
         Ok(status) => Ok(status),
-        Err(Ended::Host) => Ok(0),
+        Err(Ended::Host) => Ok(FAILED),
         Err(Ended::Fault(fault)) => Err(fault),
     }
 }
