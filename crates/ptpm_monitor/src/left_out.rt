@@ -162,12 +162,24 @@ impl LeftOut {
         }
         let mut before = "";
         for name in &NEEDING {
-            if self.needs(name) {
-                write!(f, "{before}{name}")?;
-                before = between;
-            }
+            before = self.write_needed(name, before, between, f)?;
         }
         Ok(())
+    }
+
+    /// Writes a name after what comes before it, if its findings need something of it. What comes before the next one.
+    fn write_needed<'a, W: fmt::Write>(
+        &self,
+        name: &str,
+        before: &'a str,
+        between: &'a str,
+        f: &mut fmt::Formatter<W>,
+    ) -> Result<&'a str, fmt::Error> {
+        if !self.needs(name) {
+            return Ok(before);
+        }
+        write!(f, "{before}{name}")?;
+        Ok(between)
     }
 }
 
