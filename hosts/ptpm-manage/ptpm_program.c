@@ -8,6 +8,7 @@
 #include <limits.h>
 #include <spawn.h>
 #include <stdbool.h>
+#include <stdio.h>
 #include <stdlib.h>
 #include <string.h>
 #include <sys/mman.h>
@@ -163,4 +164,22 @@ int run_ptpm_program(char **arguments, const struct given *given, struct printed
     }
     close_end(&output);
     return status;
+}
+
+bool start_ptpm_program(char **arguments, struct running *running) {
+    int input[2] = { -1, -1 }, output[2] = { -1, -1 };
+    arguments[0] = ptpm_program;
+    bool has_started = pipe2(input, O_CLOEXEC) == 0 && pipe2(output, O_CLOEXEC) == 0
+                       && start_program(&running->process, arguments, &(struct ends){ input[0], output[1], -1 });
+    running->to = input[1];
+    running->from = output[0];
+    close_end(&input[0]);
+    close_end(&output[1]);
+    return has_started;
+}
+
+int end_ptpm_program(struct running *running) {
+    close_end(&running->to);
+    close_end(&running->from);
+    return status_at_end(running->process);
 }

@@ -1,4 +1,4 @@
-"""Command lines of manage.c that are refused, for hosts/tests/try_site: by itself, or by `ptpm site` before anything is asked."""
+"""Command lines of manage.c that are refused, for hosts/tests/try_site: by itself, or by `ptpm monitor` before anything is asked."""
 import os
 import select
 import socket
@@ -8,7 +8,7 @@ import tempfile
 from site_network import PROGRAM, WITH_OWN, identity, manage, text_in, work, write
 from trying import MANAGE, check, run
 
-NOT_ASKED = "nothing was asked: ptpm site refuses these options"
+NOT_ASKED = "nothing was asked: ptpm monitor refuses these options"
 
 REFUSED = """-d 256 collect|--domain 256: it takes a number from 0 to 255, two as 0-7, or all
 -d 7-3 collect|--domain 7-3: it takes

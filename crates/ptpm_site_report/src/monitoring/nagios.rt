@@ -74,8 +74,8 @@ pub(crate) fn print_plugin<O: Write>(
     let report = FindingReport::of(alloc, look)?;
     print_head(look, limit, report.sum.lines, out)?;
     let mut lines: Vec<u8> = Vec::new(alloc);
-    match report.print(look, &mut lines) {
-        Ok(()) => print_without_bars(lines.as_slice(), out)?,
+    match report.print(alloc, look, &mut lines) {
+        Ok(_) => print_without_bars(lines.as_slice(), out)?,
         Err(_) => return Err(Fault::OutOfMemory),
     }
     Ok(())
