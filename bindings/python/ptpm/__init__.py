@@ -36,7 +36,8 @@ from .seal import newest_image, sealed, unsealed
 from .session import Session
 from .session_file import DamagedFileError, OpenApplyError, SessionFile, SessionFileError, usual_path
 from .settings import ClockSettings, DelayMechanism, Manager, PortSettings, PortState, Rights, TimeSource
-from .site import AskedDomain, Domain, Finding, Grandmaster, Lack, Site, SiteClock, SiteError, read_site, site
+from .site import AskedDomain, Domain, Finding, Grandmaster, Lack, Site, SiteClock, read_site
+from .site_programs import SiteError, site
 from .survey import SURVEY_PORT, Survey, SurveySettings, survey
 from .time_interval import TimeInterval, time_interval
 from .transport import Transport, UdpTransport, UnixTransport
