@@ -39,7 +39,7 @@ from .settings import ClockSettings, DelayMechanism, Manager, PortSettings, Port
 from .site import AskedDomain, Domain, Finding, Grandmaster, Lack, Site, SiteClock, read_site
 from .site_programs import SiteError, site
 from .survey import SURVEY_PORT, Survey, SurveySettings, survey
-from .time_interval import TimeInterval, time_interval
+from .time_interval import TimeInterval
 from .transport import Transport, UdpTransport, UnixTransport
 
 __all__ = [
@@ -51,6 +51,6 @@ __all__ = [
     "ObservedGrandmaster", "ObservedPort", "OpenApplyError", "ParentDataSet", "PassedOn", "PortDataSet", "PortIdentity",
     "PortMembers", "PortSettings", "PortState", "PtpmError", "Rate", "read_site", "Report", "Requests", "Rights", "Rollout", "Saved", "SavingClock",
     "Say", "sealed", "Session", "SessionAnswer", "SessionFile", "SessionFileError", "SessionSettings", "Site", "site",
-    "SiteClock", "SiteError", "Survey", "survey", "SURVEY_PORT", "SurveyAnswer", "SurveySettings", "time_interval", "TimeInterval",
+    "SiteClock", "SiteError", "Survey", "survey", "SURVEY_PORT", "SurveyAnswer", "SurveySettings", "TimeInterval",
     "TimePropertiesDataSet", "TimeSource", "Transport", "UdpTransport", "UnixTransport", "unsealed", "usual_path",
 ]

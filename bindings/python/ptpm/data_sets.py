@@ -44,16 +44,6 @@ class CurrentDataSet:
     offset_from_master: Decimal
     mean_delay: Decimal
 
-    @property
-    def offset_from_master_ns(self) -> Decimal:
-        """The same in a name that says that it is in nanoseconds."""
-        return self.offset_from_master
-
-    @property
-    def mean_delay_ns(self) -> Decimal:
-        """As above."""
-        return self.mean_delay
-
 
 @dataclass(frozen=True)
 class ParentDataSet:
@@ -93,11 +83,6 @@ class PortDataSet:
     delay_mechanism: str
     log_min_pdelay_req_interval: int
     version_number: int
-
-    @property
-    def mean_link_delay_ns(self) -> Decimal:
-        """The same in a name that says that it is in nanoseconds."""
-        return self.mean_link_delay
 
 
 def number_of(value: Any) -> int:
