@@ -40,6 +40,7 @@ collect --target aabbccfffeddee01|collect asks every clock: it takes no --target
 --tai-utc 32768 status|--tai-utc 32768: it takes a number of seconds from -32768 to 32767
 --settle 4294967296 status|--settle 4294967296: it takes a number of seconds from 0 to 4294967295
 --tai-utc 37 collect|--tai-utc: it is of status alone
+--lines hall collect|--lines: it is of status alone
 --json --draw status|--json excludes --draw, --html, --openmetrics and --nagios
 --draw --html status|--draw, --html, --openmetrics and --nagios exclude each other
 --expect hall1 --expect hall2 status|--expect hall2: --expect hall1 is there already

@@ -129,6 +129,16 @@ def writes():
     check("a folder is the one that has the name by then", os.listdir(f"{work}/pages") == os.listdir(f"{work}/moved") == ["page"])
 
 
+def keeps_lines():
+    """The lines of a look go into a file too."""
+    ran = told(["look 7", "look 15"], "status", "--lines", f"{work}/lines")
+    check("a file has the lines of the latest look", text_in(f"{work}/lines").splitlines() == ran.lines(1) != ran.lines(0))
+    takes_place = f"(until rmdir {work}/place 2> /dev/null; do :; done; touch {work}/place) & exec \"$@\""
+    ran = told(["look 7"], "status", "--lines", f"{work}/place/lines", around=["sh", "-c", takes_place, "sh"])
+    check("that they could not be written is said", ran.done.returncode == 4
+          and ran.done.stderr == f"ptpm-manage: --lines {work}/place/lines: Not a directory\n")
+
+
 def descriptions():
     """Texts of clocks that could control a terminal."""
     for locale, printed in (("C.UTF-8", "Û é 日"), ("C", "\\xc3\\x9b é \\xe6\\x97\\xa5")):
@@ -205,7 +215,7 @@ def shown_by_ptpm(clocks):
 def shows():
     clocks = [start_clock(clock, "far0") for clock in (ONE, OTHER)]
     time.sleep(1)
-    for trial in (given_options, writes, descriptions, waits, unread):
+    for trial in (given_options, writes, keeps_lines, descriptions, waits, unread):
         trial()
     shown_by_ptpm(clocks)
     goes_meanwhile(clocks)

@@ -21,7 +21,6 @@ from .report import Report
 from .requests import Requests, SessionSettings, begin_request
 from .session import Session
 from .session_file import SessionFile, SessionFileError, usual_path
-from .site_command import main as show_site
 from .streams import NOT_AS_ASKED, NOT_WRITTEN, NotWritten, complain, flush, hold_streams, parsed
 from .survey import survey
 from .transport import Transport, UdpTransport, UnixTransport
@@ -56,7 +55,7 @@ def _parser() -> argparse.ArgumentParser:
     parser = argparse.ArgumentParser(
         prog="python -m ptpm",
         description="Reads and changes the settings of PTP clocks (IEEE 1588-2019, clause 15).",
-        epilog="ptpm-manage has the same options, and more of them. `python -m ptpm site` shows a whole site.",
+        epilog="ptpm-manage has the same options, and more of them. Its status shows a whole site.",
     )
     add = parser.add_argument
     add("verb", choices=["get", "set", "command", "survey"])
@@ -328,9 +327,8 @@ def _run(given: List[str]) -> int:
 def main(arguments: Optional[List[str]] = None) -> int:
     """Asks what a command line says; its status."""
     hold_streams()
-    given = sys.argv[1:] if arguments is None else arguments
     try:
-        return show_site(given[1:]) if given[:1] == ["site"] else _run(given)
+        return _run(sys.argv[1:] if arguments is None else arguments)
     except KeyboardInterrupt:
         return BY_SIGNAL + signal.SIGINT
     except NotWritten as error:

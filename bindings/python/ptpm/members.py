@@ -20,8 +20,6 @@ Member = Union[int, bool, str, bytes, Decimal, Identity, PortIdentity, Tuple[Ide
 Value = Union[int, bool, str]
 DataField = Union[bytes, Value, Mapping[str, Value], None]
 
-MOST_TEXT = 128
-
 _ESCAPE = re.compile(rb"\\x(..)")
 
 
@@ -202,8 +200,6 @@ def data_field(named: IdLike, value: DataField) -> bytes:
         return value or b""
     if isinstance(value, Mapping):
         return parse(number, list(_in_order(number, value)))
-    if number == ManagementId.USER_DESCRIPTION and isinstance(value, str) and len(value.encode()) > MOST_TEXT:
-        raise ValueError(f"the text has over {MOST_TEXT} octets")
     return parse(number, [_word(value)])
 
 

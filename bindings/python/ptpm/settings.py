@@ -13,7 +13,6 @@ from ._header import PortState as PortState
 from ._library import library
 from .enumeration import Enumeration
 from .identity import Identity, IdentityLike, PortIdentity, PortIdentityLike
-from .time_interval import time_interval as time_interval
 
 # The members that are TimeIntervals.
 TIME_INTERVALS = ("offset_from_master", "mean_path_delay", "peer_delay")

@@ -613,8 +613,8 @@ class Asking(Folder):
 
     def test_a_command_line_whose_help_is_not_read(self) -> None:
         for streams, words, status in (
-            (">&-", ["--version"], 4), ("> /dev/full", ["--help"], 4), (">&-", ["site", "--help"], 4), (">&-", ["get"], 2),
-            ("2>&-", ["get"], 2), ("2> /dev/full", ["site", "-x"], 2), ("2>&-", ["--version"], 0),
+            (">&-", ["--version"], 4), ("> /dev/full", ["--help"], 4), (">&-", ["get", "--help"], 4), (">&-", ["get"], 2),
+            ("2>&-", ["get"], 2), ("2> /dev/full", ["get", "-y"], 2), ("2>&-", ["--version"], 0),
         ):
             self.assertEqual((streams, words, self.run_with(streams, *words)), (streams, words, status))
 

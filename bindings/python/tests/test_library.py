@@ -134,7 +134,7 @@ class Clocks(unittest.TestCase):
     def test_observations_have_their_places(self) -> None:
         grandmaster = ptpm.ObservedGrandmaster("c0c1c2c3c4c5c6c7", 0x53, 6, 0x21, 0x6162, 0x56, "b0b1b2b3b4b5b6b7-29042")
         observed = ptpm.ObservedClock(
-            steps_removed=2, offset_from_master=-2, mean_path_delay=ptpm.time_interval(1), parent_stats=True,
+            steps_removed=2, offset_from_master=-2, mean_path_delay=ptpm.TimeInterval.from_nanoseconds(1), parent_stats=True,
             observed_variance=0x5152, observed_rate=0x21222324, grandmaster=grandmaster, utc_offset=37, leap59=True,
             ptp_timescale=True, time_traceable=True, time_source=0x20,
         )

@@ -27,7 +27,7 @@ enum { WORD = 1, UDP = 256, TEXT, VERSION, GIVE_UP, JSON, ANY_SOURCE, TTL_SECURI
 
 /* The same, only for `collect` and `status`. */
 enum site_option {
-    LISTEN = 512, SDO, DRAW, HTML, OPENMETRICS, NAGIOS, OUTPUT, MAX_OFFSET, MAX_DELAY, TAI_UTC, SETTLE, PROFILE, IGNORE, ALL, ONCE, WATCH, FOR, FORGET
+    LISTEN = 512, SDO, DRAW, HTML, OPENMETRICS, NAGIOS, OUTPUT, LINES, MAX_OFFSET, MAX_DELAY, TAI_UTC, SETTLE, PROFILE, IGNORE, ALL, ONCE, WATCH, FOR, FORGET
 };
 
 enum { MOST_WORDS = 2 + MOST_FIELD_WORDS, MOST_FIELD = 1418, NOT_NAMED = -1 };
@@ -54,10 +54,10 @@ static const struct option options[] = {
     { "keep", required_argument, NULL, KEEP }, { "keep-going", no_argument, NULL, KEEP_GOING }, { "dry-run", no_argument, NULL, DRY_RUN },
     { "draw", no_argument, NULL, DRAW }, { "html", no_argument, NULL, HTML },
     { "openmetrics", no_argument, NULL, OPENMETRICS }, { "nagios", no_argument, NULL, NAGIOS },
-    { "output", required_argument, NULL, OUTPUT }, { "max-offset", required_argument, NULL, MAX_OFFSET },
-    { "max-delay", required_argument, NULL, MAX_DELAY }, { "tai-utc", required_argument, NULL, TAI_UTC },
-    { "settle", required_argument, NULL, SETTLE }, { "profile", required_argument, NULL, PROFILE },
-    { "ignore", required_argument, NULL, IGNORE }, { "all", no_argument, NULL, ALL },
+    { "output", required_argument, NULL, OUTPUT }, { "lines", required_argument, NULL, LINES },
+    { "max-offset", required_argument, NULL, MAX_OFFSET }, { "max-delay", required_argument, NULL, MAX_DELAY },
+    { "tai-utc", required_argument, NULL, TAI_UTC }, { "settle", required_argument, NULL, SETTLE },
+    { "profile", required_argument, NULL, PROFILE }, { "ignore", required_argument, NULL, IGNORE }, { "all", no_argument, NULL, ALL },
     { "once", no_argument, NULL, ONCE }, { "watch", required_argument, NULL, WATCH },
     { "for", required_argument, NULL, FOR }, { "forget", required_argument, NULL, FORGET },
     { "hexadecimal", no_argument, NULL, 'x' }, { "text", no_argument, NULL, TEXT }, { "quiet", no_argument, NULL, 'q' },
@@ -129,8 +129,8 @@ static void add_ignored(struct site_options *site, const char *names) {
 /* Takes an option of `collect` and `status`; whether it is one of these. */
 static bool take_site_option(struct site_options *site, int option, const char *value) {
     static const char *const names[] = {
-        "--listen", "--sdo", "--draw", "--html", "--openmetrics", "--nagios", "--output", "--max-offset", "--max-delay", "--tai-utc",
-        "--settle", "--profile", "--ignore", "--all", "--once", "--watch", "--for", "--forget",
+        "--listen", "--sdo", "--draw", "--html", "--openmetrics", "--nagios", "--output", "--lines", "--max-offset", "--max-delay",
+        "--tai-utc", "--settle", "--profile", "--ignore", "--all", "--once", "--watch", "--for", "--forget",
     };
     static const char or_none[] = "none, or a number of nanoseconds";
     if (option < LISTEN || option > FORGET) return false;
@@ -153,6 +153,7 @@ static bool take_site_option(struct site_options *site, int option, const char *
     case OPENMETRICS: take_form(site, AS_NUMBERS); break;
     case NAGIOS: take_form(site, AS_PLUGIN); break;
     case OUTPUT: site->output = value; break;
+    case LINES: site->lines = value; break;
     case ONCE: site->is_once = true; break;
     }
     if (option > SDO) site->given = name;

@@ -24,7 +24,7 @@ struct site_options {
     int64_t forget;                             /* how long a clock is gone */
     enum shown_as form;                         /* how it is shown, except by `--json` */
     bool is_once, is_as_far_as_named;           /* it does not look a second time; nor any further than by the hops that were named */
-    const char *output;                         /* the file that gets what is printed, or NULL */
+    const char *output, *lines;                 /* the files that get what is printed, and the lines of the latest look, or NULL */
     const char *max_offset, *max_delay, *tai_utc, *settle, *profile, *inventory;               /* as they are written, or NULL */
     char *ignored;                              /* the names of all --ignore, or NULL */
     bool is_all;                                /* the text has what follows from a finding too */

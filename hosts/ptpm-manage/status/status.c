@@ -33,6 +33,9 @@ enum { TIME_TEXT = 32 };
 /* Memory of this many octets or more goes back to the system at once: a look takes megabytes again and again. */
 enum { RETURNED = 131072 };
 
+static struct output_file printed_file, lines_file;
+static bool has_lost_lines;
+
 /* The clocks of the look before, and after them those that the first of two looks has beside them. */
 static struct seen_clock clocks_before[MOST_EXPECTED];
 static size_t count_before;
@@ -86,6 +89,11 @@ static void write_known(FILE *to, int status, int64_t step) {
     }
 }
 
+/* Replaces the file of --lines by those of a look. */
+static void keep_lines(const struct task *task, const char *lines, size_t size) {
+    has_lost_lines = task->site.lines != NULL && !write_output_file(&lines_file, lines, size);
+}
+
 /* Collects the lines of a look and hands them on. */
 static bool look(const struct task *task, const struct domains *domains, unsigned long hops) {
     struct task as_far = *task;
@@ -96,6 +104,8 @@ static bool look(const struct task *task, const struct domains *domains, unsigne
     if (to == NULL || about == NULL) give_up("the answers");
     as_far.settings.hops = (uint8_t)hops;
     int status = collect_answers(&as_far, &of_site, domains, to);
+    if (fflush(to) != 0) give_up("the answers");
+    keep_lines(task, lines, size);
     fputs("end\n", to);
     write_known(about, status, step);
     if (fclose(to) != 0 || fclose(about) != 0 || lines == NULL || known == NULL) give_up("the answers");
@@ -165,7 +175,7 @@ static bool print(const struct task *task, const char *kind, const char *octets,
     size_t printed_size = 0;
     FILE *to = open_memstream(&printed, &printed_size);
     if (to != NULL) write_printed(to, kind, octets, size);
-    bool is_written = to != NULL && fclose(to) == 0 && write_output_file(printed, printed_size);
+    bool is_written = to != NULL && fclose(to) == 0 && write_output_file(&printed_file, printed, printed_size);
     free(printed);
     return answer(is_written ? "printed" : "unwritten");
 }
@@ -210,12 +220,14 @@ int show_status(const struct task *task) {
     mallopt(M_MMAP_THRESHOLD, RETURNED);
 #endif
     find_ptpm_program();
-    if (task->site.output != NULL) find_output_file(task->site.output);
+    if (task->site.output != NULL) find_output_file(&printed_file, "--output", task->site.output);
+    if (task->site.lines != NULL) find_output_file(&lines_file, "--lines", task->site.lines);
     start_monitor(task);
     widen_transport();
     find_domains(&domains, task);
     if (!stopped) answer_time("host");
     while (!stopped && (line = read_from_monitor()) != NULL && carry_out(line, task, &domains)) continue;
     int status = end_monitor();
+    if (has_lost_lines) status = NOT_WRITTEN;
     return stopped ? BY_SIGNAL + stopped : status;
 }
