@@ -17,6 +17,9 @@
 #include <sys/un.h>
 #include <unistd.h>
 
+/* The first managementId that makers may use as they like. A `ptp4l` uses some. */
+enum { IDS_OF_MAKERS = 0xc000 };
+
 enum { SECOND = 1000, HOPS_AT_FIRST = 8, RATE_AT_FIRST = 1000, MANAGER_RATE_AT_FIRST = 100, MOST_RATE = 1000000, MODE_AT_FIRST = 0660,
        ASK_TIME_AT_FIRST = 10, MOST_ASK_TIME = 3600, DIVERTED_AT_FIRST = 10320, LEAST_DIVERTED = 1024 };
 
@@ -192,6 +195,7 @@ static struct value value_named(void) {
     long id = read_id_named(name), port = slash == NULL ? 0 : decimal(slash + 1, PORTS);
     if (id < 0) refuse_command_line("--give %s: it takes a managementId, such as CLOCK_DESCRIPTION", optarg);
     if (id_name((uint16_t)id) != NULL) refuse_command_line("--give %s: the clock has a value of its own", optarg);
+    if (id >= IDS_OF_MAKERS && read_id_name((uint16_t)id) != NULL) refuse_command_line("--give %s: it is an id of ptp4l: take another one", optarg);
     if (slash != NULL && port < 1) refuse_command_line("--give %s: a port has a number from 1 to 8", optarg);
     return (struct value){ .id = (uint16_t)id, .port = (uint16_t)port };
 }

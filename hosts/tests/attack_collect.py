@@ -43,13 +43,15 @@ class Site:
     """Whoever answers at a Unix socket: each request is handed to a function, which has a list of datagrams for it. More than
     `most` requests are not read."""
 
-    def __init__(self, answers, *words, idle=lambda: [], most=1 << 30, most_seconds=100, **streams):
+    MOST_SECONDS = 1000                 # a busy machine takes its time
+
+    def __init__(self, answers, *words, idle=lambda: [], most=1 << 30, **streams):
         self.peer = Peer("socket")
         self.output = [open(os.path.join(work, name), "w+b") for name in ("printed", "said")]
         self.process = start("manage", "-u", path, *words, stdout=self.output[0], stderr=self.output[1], **streams)
         began = time.monotonic()
         self.requests, self.asker = [], None
-        while self.process.poll() is None and time.monotonic() < began + most_seconds:
+        while self.process.poll() is None and time.monotonic() < began + self.MOST_SECONDS:
             if select.select([self.peer.socket][:most - len(self.requests)], [], [], 0.02)[0]:
                 request, self.asker = self.peer.socket.recvfrom(2048)
                 self.requests.append(request)
@@ -146,7 +148,7 @@ class Strangers:
         self.latest, self.looks, self.seen, self.most = None, 0, [], 0
         self.written = os.path.join(work, "written")
         environment = dict(os.environ, PATH=os.path.dirname(HOME) + ":" + os.environ["PATH"])
-        Site(self.answers, *words, "--output", self.written, "-t", "500", "-a", "1", "--once", "--watch", "1", "status", most_seconds=300, env=environment)
+        Site(self.answers, *words, "--output", self.written, "-t", "500", "-a", "1", "--once", "--watch", "1", "status", env=environment)
 
     def answers(self, request):
         to_all = request[34:42] == bytes([255]) * 8

@@ -10,7 +10,7 @@ import time
 
 from attack_numbers import next_number
 from attack_saves import Calls
-from attacking import (CLOCK, HAS_STRACE, MANAGE, MANAGER, ME, OTHER, TRACED, Clock, Peer, check, clear, fill_disk, flips, get, image_in, manage,
+from attacking import (CLOCK, HAS_STRACE, MANAGE, MANAGER, ME, OTHER, SLOW, TRACED, Clock, Peer, check, clear, fill_disk, flips, get, image_in, manage,
                        octets, path, run, saves_in, sealed, wait_until, work, write_octets)
 
 NOBODY = 65534
@@ -251,6 +251,7 @@ def calls_that_fail():
     clock, number = Clock(*WORDS), next_number("session")
     os.unlink(state), os.mkdir(state + ".new")
     peer = Peer("peer")
+    peer.socket.settimeout(2 * SLOW)
     check("a clock whose file is gone answers no manager", not peer.is_answered(number))
     os.rmdir(state + ".new")
     check("and then it has a file again", wait_until(lambda: os.path.exists(state)) and clock.end()[0] == 0 and image_in(octets(state)) is not None)

@@ -28,7 +28,8 @@ enum { SLOW = 2000 };
 
 /* Every clock is asked again whether it is there. That ends if QUIET_ROUNDS brought nothing new, and a clock is missed less than once in
    MOST_MISSED collections. Round N of one census does not end before N times 300 ms. So a clock is found that was silent for half a second.
-   For a plan it is 500 ms. If answers are lost a round has several censuses, and what is lacking is asked again between them. */
+   For a plan it is 500 ms, unless the round is the last one and every clock has answered its census. If answers are lost a round has several
+   censuses, and what is lacking is asked again between them. */
 enum { QUIET_ROUNDS = 2, MOST_MISSED = 1000, ROUND = 300, ROUND_OF_PLAN = 500, MOST_ROUNDS = 10, CENSUSES_OF_LOSSY = 3 };
 
 /* A socket without room is tried again this often, this many milliseconds apart. A silence that never comes is waited for this
@@ -70,7 +71,7 @@ static size_t request_count;
 static FILE *output;
 static long sent;                       /* messages that went out */
 static int64_t latest;                  /* when an answer came that is no copy */
-static size_t news;                     /* how many of these came */
+static size_t news;                     /* how many answers had something new */
 static size_t let_go;                   /* clocks that are asked no more */
 static struct sureness sureness;
 static bool has_no_transport;
@@ -140,15 +141,12 @@ static void note_distance(uint8_t hops, uint16_t port_count) {
     if (port_count > 1 && hops > farthest_switch) farthest_switch = hops;
 }
 
-static void note_news(void) {
-    latest = milliseconds();
-    news++;
-}
-
 /* A clock that a census finds lacks all that is collected. */
 static void take_present(const struct request *request, const uint8_t *message) {
+    size_t before = seen_count();
     note_way();
-    if (see_present(request->domain, message + SOURCE_AT, request->id)) note_news();
+    if (see_present(request->domain, message + SOURCE_AT, request->id)) latest = milliseconds();
+    news += seen_count() > before;
 }
 
 /* Records an answer that the library accepted, and prints it unless it is a copy. Octets may follow the message. */
@@ -172,7 +170,8 @@ static void take_answer(const struct request *request, const uint8_t *message) {
     note_distance(message[STARTING_HOPS_AT], answer.port_count);
     enum seen seen = see_answer(&answer);
     if (seen == SEEN_BEFORE || seen == NO_PLACE) return;
-    note_news();
+    latest = milliseconds();
+    news++;
     if (output == NULL) return;
     clear_progress();
     write_line(output, &(struct message_line){ .at = nanoseconds(), .from = sender_text(), .on = came_in_at(), .message = message, .size = size });
@@ -416,6 +415,12 @@ static bool is_sure(const struct rounds *rounds) {
     return rounds->quiet >= QUIET_ROUNDS && missed < 1;
 }
 
+/* Whether this round of a plan is the last one, since it brought nothing new, and no answer to it is lacking. What clocks send by themselves
+   is heard for a whole round. */
+static bool is_last(const struct rounds *rounds, bool has_news) {
+    return !is_site() && seen_count() > 0 && !has_news && rounds->quiet + 1 >= QUIET_ROUNDS && lost_share() <= 0 && are_all_present();
+}
+
 /* Starts the requests of this many censuses; whether the library would ask them. */
 static bool start_censuses(const struct task *task, const struct rounds *rounds, unsigned censuses) {
     for (unsigned census = 0; census < censuses; census++) {
@@ -458,7 +463,7 @@ static bool ask_again(const struct task *task, struct rounds *rounds) {
     if (lacks > 0 && !is_found) hear_until(milliseconds() + STEP);
     unsigned censuses = is_found ? 0 : take_census(task, rounds);
     hear_until_quiet(task);
-    if (censuses == 1) hear_until(least_end(rounds));
+    if (censuses == 1 && !is_last(rounds, news > before)) hear_until(least_end(rounds));
     end_round(censuses);
     stop_requests(base);
     let_go += let_go_of_silent(MOST_SILENT);

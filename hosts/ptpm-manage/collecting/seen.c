@@ -187,11 +187,14 @@ void end_round(unsigned censuses) {
 }
 
 bool see_present(struct domain domain, const uint8_t clock[8], unsigned census) {
-    size_t count_before = clock_count;
     uint32_t number = number_of_clock(domain, clock);
-    if (number == 0) not_kept++;
-    else clocks[number - 1].in_round |= (uint8_t)(1 << census);
-    return clock_count > count_before;
+    if (number == 0) {
+        not_kept++;
+        return false;
+    }
+    uint8_t before = clocks[number - 1].in_round;
+    clocks[number - 1].in_round |= (uint8_t)(1 << census);
+    return clocks[number - 1].in_round != before;
 }
 
 size_t late_answers(void) {
@@ -203,6 +206,14 @@ size_t late_answers(void) {
 /* Whether it heeds what every clock is asked, as far as is known: some heed only requests to one clock. */
 static bool answers_all(const struct seen_clock *clock) {
     return !clock->is_let_go && (clock->in_censuses > 0 || clock->censuses < LEAST_CENSUSES);
+}
+
+bool are_all_present(void) {
+    for (size_t place = first_of_rounds; place < clock_count; place++) {
+        const struct seen_clock *clock = &clocks[place];
+        if (clock->is_expected && answers_all(clock) && clock->in_round == 0) return false;
+    }
+    return true;
 }
 
 double lost_share(void) {
