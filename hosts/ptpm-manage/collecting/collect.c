@@ -423,7 +423,7 @@ static bool is_last(const struct rounds *rounds, bool has_news) {
     return !is_site() && seen_count() > 0 && !has_news && rounds->quiet + 1 >= QUIET_ROUNDS && lost_share() <= 0 && are_all_present();
 }
 
-/* Hears what still comes in a round, until it may end. There was so much news before it. */
+/* Hears what still comes in a round, until it may end. `before` is the news before it. */
 static void hear_rest(const struct rounds *rounds, size_t before) {
     int64_t end = least_end(rounds);
     while (!stopped && milliseconds() < end && !is_last(rounds, news > before)) hear_until(milliseconds() + STEP < end ? milliseconds() + STEP : end);
