@@ -41,17 +41,15 @@ void find_ptpm_program(void) {
 }
 
 /* A file without a name that has the lines, and is read from its beginning. -1 if there is no room for it. */
-static int file_of(const struct piece *lines, size_t count) {
+static int file_of(const struct piece *lines) {
     int opened = memfd_create("lines", MFD_CLOEXEC);
-    for (size_t i = 0; opened >= 0 && i < count; i++) {
-        for (size_t done = 0; done < lines[i].size;) {
-            ssize_t written = write(opened, lines[i].at + done, lines[i].size - done);
-            if (written <= 0) {
-                close(opened);
-                return -1;
-            }
-            done += (size_t)written;
+    for (size_t done = 0; opened >= 0 && done < lines->size;) {
+        ssize_t written = write(opened, lines->at + done, lines->size - done);
+        if (written <= 0) {
+            close(opened);
+            return -1;
         }
+        done += (size_t)written;
     }
     if (opened >= 0) lseek(opened, 0, SEEK_SET);
     return opened;
@@ -121,8 +119,8 @@ static void close_end(int *end) {
 /* Opens what the program is started with, and a pipe from which its output is read; whether there is room for all. */
 static bool open_ends(struct ends *ends, int *output, const struct given *given) {
     int both[2];
-    ends->from = file_of(given->lines, given->count);
-    if (given->beside != NULL) ends->beside = file_of(given->beside, given->count);
+    ends->from = file_of(given->lines);
+    if (given->beside != NULL) ends->beside = file_of(given->beside);
     if (ends->from < 0 || (given->beside != NULL && ends->beside < 0) || pipe2(both, O_CLOEXEC)) return false;
     *output = both[0];
     ends->to = both[1];

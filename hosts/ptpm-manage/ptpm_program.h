@@ -15,9 +15,9 @@ struct printed { char *text; size_t size; };
 /* Finds the program: beside this one, or else in the PATH. Ends the program with status 2 if it is nowhere. */
 void find_ptpm_program(void);
 
-/* What it is given to read: lines on standard input, and others in a file of this name, unless they are NULL. Both have as many parts. */
+/* What it is given to read: lines on standard input, and others in a file of this name, unless they are NULL. */
 #define FILE_BESIDE "/proc/self/fd/3"
-struct given { const struct piece *lines, *beside; size_t count; };
+struct given { const struct piece *lines, *beside; };
 
 /* Has it read this. Its words are `arguments`, whose first is left for its path, and whose last is NULL. Its status, or 1 if it did not end
    normally, which is said. */

@@ -1,5 +1,8 @@
 //! What a host collected for a look.
 
+ghost use Rattle.std.specs.Prelude.{◌≡◌};
+ghost use Rattle.std.specs.List.{list_all};
+
 use crate::ended::Ended;
 use crate::left_out::LeftOut;
 use crate::line::Line;
@@ -81,6 +84,13 @@ impl Collected {
             self.lines.push(Line::of(alloc, line)?)?;
         }
         Ok(())
+    }
+
+    /// Whether a clock answered at each of several ways.
+    pub(crate) fn is_answered_everywhere(&self) -> bool
+        ensures { result ≡ list_all (λ way. way.is_answered) self.now.ways.items }
+    {
+        self.ways.iter().all(|way| way.is_answered)
     }
 
     /// The first of several ways at which no clock answered.

@@ -2,18 +2,14 @@
 
 use crate::inventory::inventory_at;
 use crate::settings::Judging;
+use crate::status::{FAILED, REFUSED, status_of};
 use ptpm_commands::{Fault, tell};
 use ptpm_expected::expectations::Expectations;
 use ptpm_expected::inventory::Inventory;
-use ptpm_site_report::{Before, Came, Form, Options, Told, Viewing, report};
+use ptpm_site_report::{Before, Form, Options, Told, Viewing, report};
 use std::alloc::Global;
 use std::io::Write;
 use std::rt::Files;
-
-/// The status if an inventory is refused, and if something failed.
-const REFUSED: u8 = 2;
-
-const FAILED: u8 = 1;
 
 /// A site that is shown: its text, and what is known of it.
 #[derive(Drop)]
@@ -59,28 +55,19 @@ fn judge_with<F: Files, E: Write>(
     shown: Shown<'_>,
     err: &mut E,
 ) -> Result<Option<Judged>, Fault> {
-    let Some(path) = judging.expect else {
-        return Ok(Some(judged_by(alloc, judging, None, shown)?));
-    };
-    match inventory_at(alloc, files, path, err)? {
-        Some(inventory) => Ok(Some(judged_by(alloc, judging, Some(&inventory), shown)?)),
-        None => Ok(None),
-    }
-}
-
-fn judged_by(
-    alloc: Global,
-    judging: &Judging<'_>,
-    inventory: Option<&Inventory>,
-    shown: Shown<'_>,
-) -> Result<Judged, Fault> {
-    match shown.before {
-        Some(lines) => {
-            let before = Before::read(alloc, lines.as_bytes())?;
-            judged_beside(alloc, judging, inventory, Some(&before), shown)
+    let mut inventory = None;
+    if let Some(path) = judging.expect {
+        inventory = inventory_at(alloc, files, path, err)?;
+        if inventory.is_none() {
+            return Ok(None);
         }
-        None => judged_beside(alloc, judging, inventory, None, shown),
     }
+    let mut before = None;
+    if let Some(lines) = shown.before {
+        before = Some(Before::read(alloc, lines.as_bytes())?);
+    }
+    let judged = judged_beside(alloc, judging, inventory.as_ref(), before.as_ref(), shown)?;
+    Ok(Some(judged))
 }
 
 fn judged_beside(
@@ -119,13 +106,4 @@ fn judged_beside(
         told: came.told,
         status,
     })
-}
-
-/// The exit status of a form.
-fn status_of(form: Form, came: &Came) -> u8 {
-    match form {
-        Form::Plugin => came.standing.status(),
-        Form::OpenMetrics => came.conclusion.status_of_numbers(),
-        _ => came.conclusion.status(),
-    }
 }

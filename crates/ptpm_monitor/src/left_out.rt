@@ -1,5 +1,8 @@
 //! What a look left out for want of room, so that findings may be missing.
 
+ghost use Rattle.std.specs.Prelude.{◌≡◌};
+ghost use Rattle.ptpm_monitor.specs.Status.{is_nothing};
+
 use std::fmt;
 
 /// What may be left out: answers, messages that clocks send by themselves, clocks that are gone, and what a site leaves out.
@@ -125,8 +128,12 @@ impl LeftOut {
             .any(|(one, count)| *one == what && 0 < *count)
     }
 
-    pub(crate) fn is_none(&self) -> bool {
-        self.counts().iter().all(|(_, count)| *count == 0)
+    pub(crate) fn is_none(&self) -> bool
+        ensures { result ≡ is_nothing self.now }
+    {
+        let is_heard = self.announces == 0 && self.syncs == 0 && self.follow_ups == 0;
+        let is_asked = self.answers == 0 && self.delay_reqs == 0;
+        is_heard && is_asked && self.gone == 0 && self.clocks == 0 && self.ports == 0
     }
 
     /// How many there are of all.

@@ -20,6 +20,7 @@ mod page;
 mod printing;
 mod seen;
 mod settings;
+mod status;
 mod watching;
 mod way;
 

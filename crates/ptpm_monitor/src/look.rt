@@ -1,17 +1,16 @@
 //! A look at a site: the lines by which it is judged, and what they show.
 
+ghost use Rattle.std.specs.Prelude.{◌≡◌};
+ghost use Rattle.ptpm_monitor.specs.Status.{is_known};
+
 use crate::collected::{Asked, Collected};
 use crate::judging::Judged;
 use crate::left_out::LeftOut;
 use crate::line::Line;
 use crate::message::Head;
+use crate::status::NOT_KNOWN;
 use ptpm_causes::{Course, Kind};
 use std::alloc::{AllocError, Global};
-
-/// What a look found, as the status of a program.
-pub(crate) const FINDINGS: u8 = 1;
-
-pub(crate) const NO_CLOCK: u8 = 3;
 
 /// The lines by which a look is judged: those of clocks that are gone, those of looks before, and its own.
 #[derive(Drop)]
@@ -117,7 +116,7 @@ impl Look {
     pub(crate) fn of(alloc: Global, own: Collected, first: Option<Basis>) -> Look {
         let status = match own.asked {
             Asked::Answered => 0,
-            Asked::NoClock => NO_CLOCK,
+            Asked::NoClock => NOT_KNOWN,
             Asked::Not(status) => status,
         };
         let left_out = own.left_out;
@@ -198,7 +197,9 @@ impl Look {
     }
 
     /// Whether each way has a clock that answered, and nothing was left out.
-    pub(crate) fn is_known(&self) -> bool {
-        self.basis.own.silent_way().is_none() && self.left_out.is_none()
+    pub(crate) fn is_known(&self) -> bool
+        ensures { result ≡ is_known self.now }
+    {
+        self.basis.own.is_answered_everywhere() && self.left_out.is_none()
     }
 }

@@ -7,21 +7,16 @@ use crate::host::Host;
 use crate::inventory::inventory_at;
 use crate::judging::{Judged, Shown, judge};
 use crate::kept::keep_needed;
-use crate::look::{Basis, FINDINGS, Look, NO_CLOCK};
+use crate::look::{Basis, Look};
 use crate::seen::Seen;
 use crate::settings::Settings;
+use crate::status::{FAILED, NOT_KNOWN, REFUSED, status_at_end};
 use ptpm_causes::Kind;
 use ptpm_commands::Fault;
 use ptpm_site_report::Form;
 use std::alloc::Global;
 use std::io::{Read, Write};
 use std::rt::Files;
-
-/// The status of a look for which nothing was asked.
-const NOT_ASKED: u8 = 2;
-
-/// The status if the host says no more.
-const FAILED: u8 = 1;
 
 /// What is open is looked at again as often, and as long as this, in milliseconds (this project's profile).
 const BETWEEN_OPEN: u64 = 2_000;
@@ -79,7 +74,7 @@ fn run<'a, F: Files, R: Read + Drop, W: Write + Drop, E: Write>(
 ) -> Result<u8, Ended> {
     if let Some(path) = settings.judging.expect {
         if inventory_at(alloc, files, path, err)?.is_none() {
-            return Ok(NOT_ASKED);
+            return Ok(REFUSED);
         }
     }
     let (host, now) = Host::greet(alloc, reader, out)?;
@@ -96,13 +91,11 @@ fn run<'a, F: Files, R: Read + Drop, W: Write + Drop, E: Write>(
         page: String::new(alloc),
     };
     let look = monitor.look_until_decided(now)?;
-    let mut status = monitor.print_look(&look, None)?;
+    let printed = monitor.print_look(&look, None)?;
     monitor.host.tell_own()?;
-    if status == 0 && !matches!(monitor.form(), Form::OpenMetrics) && !look.is_known() {
-        status = NO_CLOCK;
-    }
+    let status = status_at_end(monitor.form(), &look, printed);
     match settings.times.watch {
-        Some(milliseconds) if status != NOT_ASKED || matches!(monitor.form(), Form::Plugin) =>
+        Some(milliseconds) if status != REFUSED || matches!(monitor.form(), Form::Plugin) =>
             monitor.watch(look, milliseconds),
         _ => Ok(status),
     }
@@ -250,7 +243,7 @@ impl<F: Files, R: Read + Drop, W: Write + Drop, E: Write> Monitor<'_, F, R, W, E
     /// of such findings only those are left that both looks have. If no clock answers, a second look would show no more.
     pub(crate) fn look_twice(&mut self, mut after: Option<&mut Basis>) -> Result<Look, Ended> {
         let mut look = self.look_at_site(None, after.as_deref_mut())?;
-        if look.status == NO_CLOCK && 0 < look.momentary() {
+        if look.status == NOT_KNOWN && 0 < look.momentary() {
             self.judge(&mut look, after.as_deref(), false)?;
         }
         if look.momentary() == 0 {
@@ -303,7 +296,7 @@ impl<F: Files, R: Read + Drop, W: Write + Drop, E: Write> Monitor<'_, F, R, W, E
             return false;
         }
         let spent = look.basis.own.now.saturating_sub(begin);
-        let has_time = look.status != NOT_ASKED && spent < self.settings.times.duration;
+        let has_time = look.status != REFUSED && spent < self.settings.times.duration;
         let is_open = look.has_open() && spent < MOST_OPEN;
         has_time || is_open || 0 < unlike && unlike < MOST_UNLIKE
     }

@@ -9,19 +9,9 @@ const BODY: &str = "<body>\n";
 const WITHOUT_SITE: &str =
     "<!DOCTYPE html>\n<html lang=\"en\">\n<head>\n<meta charset=\"utf-8\">\n<title>PTP site</title>\n</head>\n<body>\n</body>\n</html>\n";
 
-/// A page with a notice above all else. The title says it too, since a browser shows that of each page.
+/// A page with a notice above all else, also without a site. The title says it too, since a browser shows that of each page.
 pub(crate) fn page_with(alloc: Global, page: &str, notice: &str) -> Result<String, AllocError> {
-    let Some((head, title, body)) = parts(page) else {
-        return page_without_site(alloc, notice);
-    };
-    format!(in alloc;
-        "{head}{TITLE}not known, {title}{BODY}<p class=\"sum critical\">{notice}</p>\n{body}"
-    )
-}
-
-/// The same without a site.
-fn page_without_site(alloc: Global, notice: &str) -> Result<String, AllocError> {
-    let (head, title, body) = parts(WITHOUT_SITE).unwrap_or(("", "", ""));
+    let (head, title, body) = parts(page).or(parts(WITHOUT_SITE)).unwrap_or(("", "", ""));
     format!(in alloc;
         "{head}{TITLE}not known, {title}{BODY}<p class=\"sum critical\">{notice}</p>\n{body}"
     )

@@ -5,23 +5,16 @@ use crate::ended::Ended;
 use crate::host::Printed;
 use crate::judging::Judged;
 use crate::left_out::{LeftOut, Members};
-use crate::look::{Basis, FINDINGS, Look, NO_CLOCK};
+use crate::look::{Basis, Look};
 use crate::looking::Monitor;
 use crate::page::page_with;
+use crate::status::{CRITICAL, NOT_KNOWN, NOT_WRITTEN, plugin_status};
 use crate::way::{HtmlName, LabelName, Way};
 use ptpm_site_report::Form;
 use std::alloc::{AllocError, Global};
 use std::io::{Read, Write};
 use std::rt::Files;
 use std::str;
-
-/// The status if what is printed was not written.
-const NOT_WRITTEN: u8 = 4;
-
-/// The status of a plugin that says critical, and that does not know.
-const CRITICAL: u8 = 2;
-
-const UNKNOWN: u8 = 3;
 
 /// What is printed, and the status for it.
 #[derive(Drop)]
@@ -35,10 +28,10 @@ impl<F: Files, R: Read + Drop, W: Write + Drop, E: Write> Monitor<'_, F, R, W, E
     /// Prints a look, which was judged after another if there is one; the status. If nothing is to be shown, most files stay as they
     /// were: on a plugin's or a page the site would be well for good.
     pub(crate) fn print_look(&mut self, look: &Look, after: Option<&Basis>) -> Result<u8, Ended> {
-        if self.settings.replaces && look.judged.is_none() && !self.tells_failures() {
-            return Ok(look.status);
-        }
         let page = self.page_of(look, after)?;
+        if self.settings.replaces && page.octets.is_empty() {
+            return Ok(page.status);
+        }
         let is_written = self.host.print(page.printed, page.octets.as_slice())?;
         Ok(if is_written { page.status } else { NOT_WRITTEN })
     }
@@ -49,25 +42,23 @@ impl<F: Files, R: Read + Drop, W: Write + Drop, E: Write> Monitor<'_, F, R, W, E
     }
 
     fn page_of(&mut self, look: &Look, after: Option<&Basis>) -> Result<Page, Ended> {
-        let form = self.form();
-        let status = look.status;
         let Some(judged) = &look.judged else {
-            return self.page_of_failure(look);
+            return self.page_of_failure(look, look.status);
         };
-        match form {
+        match self.form() {
             Form::Text | Form::Json => self.report_of(look, judged),
-            Form::Drawing if status == NO_CLOCK => self.report_of(look, judged),
+            Form::Drawing if look.status == NOT_KNOWN => self.report_of(look, judged),
             _ => self.page_in_form(look, after),
         }
     }
 
-    fn page_of_failure(&mut self, look: &Look) -> Result<Page, Ended> {
+    /// What is printed if nothing is to be shown.
+    fn page_of_failure(&self, look: &Look, mut status: u8) -> Result<Page, Ended> {
         let mut octets = Vec::new(self.alloc);
-        let mut status = look.status;
         match self.form() {
             Form::Plugin => {
                 writeln!(octets, "PTP UNKNOWN - the site could not be shown")?;
-                status = UNKNOWN;
+                status = NOT_KNOWN;
             }
             Form::Page if self.settings.replaces => {
                 let time = look.basis.own.time.as_str();
@@ -112,17 +103,15 @@ impl<F: Files, R: Read + Drop, W: Write + Drop, E: Write> Monitor<'_, F, R, W, E
         })
     }
 
-    /// Another form. The status of numbers and of a plugin is their own.
+    /// Another form.
     fn page_in_form(&mut self, look: &Look, after: Option<&Basis>) -> Result<Page, Ended> {
         let form = self.form();
-        let mut octets = Vec::new(self.alloc);
-        let mut status = match self.judged_in(form, look, after, after.is_some())? {
-            Ok(judged) => self.write_form(look, &judged, &mut octets)?,
-            Err(status) => status,
+        let judged = match self.judged_in(form, look, after, after.is_some())? {
+            Ok(judged) => judged,
+            Err(status) => return self.page_of_failure(look, status),
         };
-        if status <= FINDINGS && !matches!(form, Form::OpenMetrics | Form::Plugin) {
-            status = look.status;
-        }
+        let mut octets = Vec::new(self.alloc);
+        let status = self.write_form(look, &judged, &mut octets)?;
         Ok(Page {
             printed: Printed::Octets,
             octets,
@@ -130,7 +119,7 @@ impl<F: Files, R: Read + Drop, W: Write + Drop, E: Write> Monitor<'_, F, R, W, E
         })
     }
 
-    /// Writes what is shown in a form, and what is to be said beside it; the status of a plugin.
+    /// Writes what is shown in a form, and what is to be said beside it; the status.
     fn write_form(
         &mut self,
         look: &Look,
@@ -261,7 +250,7 @@ fn notice_of(alloc: Global, look: &Look) -> Result<String, AllocError> {
     let silent = look.basis.own.silent_way();
     if let Some(way) = silent {
         write!(notice, "No clock answered at {}.", HtmlName(way))?;
-    } else if look.status == NO_CLOCK {
+    } else if look.status == NOT_KNOWN {
         notice.push_str("No clock answered.")?;
     }
     if !look.left_out.is_none() {
@@ -271,31 +260,35 @@ fn notice_of(alloc: Global, look: &Look) -> Result<String, AllocError> {
     Ok(notice)
 }
 
-/// Writes the line of a plugin; its status. If something was left out, nothing less than critical is known.
+/// Writes the lines of a plugin; its status.
 fn write_plugin(look: &Look, judged: &Judged, octets: &mut Vec<u8>) -> Result<u8, Ended> {
     let (text, left_out) = (text_of(judged), &look.left_out);
-    if let (0, Some(way)) = (judged.status, look.basis.own.silent_way()) {
-        octets.extend_from_slice(b"PTP UNKNOWN - no clock answered at ")?;
-        octets.extend_from_slice(way)?;
-        octets.extend_from_slice(b"\n")?;
-        return Ok(UNKNOWN);
+    let status = plugin_status(look, judged.status);
+    match (judged.status, look.basis.own.silent_way()) {
+        (0, Some(way)) => {
+            octets.extend_from_slice(b"PTP UNKNOWN - no clock answered at ")?;
+            octets.extend_from_slice(way)?;
+            octets.extend_from_slice(b"\n")?;
+        }
+        _ if left_out.is_none() => octets.extend_from_slice(text.as_bytes())?,
+        _ => write_incomplete(text, status, left_out, octets)?,
     }
-    let Some((line, rest)) = text.split_once('\n') else {
-        octets.extend_from_slice(text.as_bytes())?;
-        return Ok(judged.status);
-    };
-    let Some((_, words)) = line.split_once(" - ") else {
-        octets.extend_from_slice(text.as_bytes())?;
-        return Ok(judged.status);
-    };
-    if left_out.is_none() {
-        octets.extend_from_slice(text.as_bytes())?;
-        return Ok(judged.status);
-    }
-    let (word, status) = if judged.status == CRITICAL {
-        ("CRITICAL", CRITICAL)
+    Ok(status)
+}
+
+/// Writes the lines of a plugin with what was left out.
+fn write_incomplete(
+    text: &str,
+    status: u8,
+    left_out: &LeftOut,
+    octets: &mut Vec<u8>,
+) -> Result<(), Ended> {
+    let (line, rest) = text.split_once('\n').unwrap_or((text, ""));
+    let (_, words) = line.split_once(" - ").unwrap_or(("", line));
+    let word = if status == CRITICAL {
+        "CRITICAL"
     } else {
-        ("UNKNOWN", UNKNOWN)
+        "UNKNOWN"
     };
     let bar = if line.as_bytes().contains(&b'|') {
         ""
@@ -307,7 +300,7 @@ fn write_plugin(look: &Look, judged: &Judged, octets: &mut Vec<u8>) -> Result<u8
         octets,
         "PTP {word} - {left_out}; {words}{bar} left_out={count};;;0\n{rest}"
     )?;
-    Ok(status)
+    Ok(())
 }
 
 /// Writes in OpenMetrics 1.0 at which of several ways a clock answered, what was left out, and then the numbers of a site.

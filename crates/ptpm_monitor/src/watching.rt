@@ -3,11 +3,9 @@
 use crate::ended::Ended;
 use crate::look::Look;
 use crate::looking::Monitor;
+use crate::status::NOT_WRITTEN;
 use std::io::{Read, Write};
 use std::rt::Files;
-
-/// The status if nobody reads what is printed.
-const NOT_WRITTEN: u8 = 4;
 
 impl<F: Files, R: Read + Drop, W: Write + Drop, E: Write> Monitor<'_, F, R, W, E> {
     /// Looks again and again, until nobody reads what is printed; the status.

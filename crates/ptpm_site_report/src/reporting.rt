@@ -5,7 +5,7 @@ ghost use Rattle.ptpm_causes.specs.Roots.{IsRoot};
 ghost use Rattle.ptpm_site.specs.declared.judging.finding.Finding.{Finding};
 ghost use Rattle.ptpm_site.specs.declared.picture.Picture.{Picture};
 ghost use Rattle.ptpm_site.specs.declared.reading.site.Site.{Site};
-ghost use Rattle.ptpm_site_report.specs.Reporting.{AreConcluded, IsShown, outcome, status};
+ghost use Rattle.ptpm_site_report.specs.Reporting.{AreConcluded, IsShown, outcome, status, status_of_numbers};
 
 use crate::finding::found_line::FoundLine;
 use crate::ignored::Ignored;
@@ -66,7 +66,9 @@ pub enum Conclusion {
 
 impl Conclusion {
     /// The exit status of a form whose numbers have the findings: these change no status.
-    pub fn status_of_numbers(self) -> u8 {
+    pub fn status_of_numbers(self) -> u8
+        ensures { result ≡ status_of_numbers self }
+    {
         match self {
             Conclusion::Sound | Conclusion::Findings => 0,
             Conclusion::NoClock => self.status(),
