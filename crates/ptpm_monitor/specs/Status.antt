@@ -3,21 +3,20 @@ use Rattle.std.specs.Prelude.{◌≡◌, ℕ, Bool, true, false, ◌&&◌, ◌==
 use Rattle.std.specs.List.{list_all}
 use Rattle.ptpm_monitor.specs.declared.left_out.LeftOut.{LeftOut}
 use Rattle.ptpm_monitor.specs.declared.look.Look.{Look}
-use Rattle.ptpm_site_report.specs.declared.reporting.Conclusion.{Conclusion}
-use Rattle.ptpm_site_report.specs.declared.reporting.Conclusion.TheVariants as outcomes
+use Rattle.ptpm_site_report.specs.declared.reporting.Came.{Came}
 use Rattle.ptpm_site_report.specs.declared.reporting.Form.{Form}
 use Rattle.ptpm_site_report.specs.declared.reporting.Form.TheVariants as forms
-use Rattle.ptpm_site_report.specs.Reporting.{status_of_numbers}
+use Rattle.ptpm_site_report.specs.Reporting.{plugin_status, status, status_of_numbers}
+
+abbrev pub status_in : Form → Came → ℕ
+status_in forms.Plugin came = plugin_status came.standing
+status_in forms.OpenMetrics came = status_of_numbers came.conclusion
+status_in _ came = status came.conclusion
 
 -- numbers say themselves what is wrong
 abbrev pub tells_findings : Form → Bool
 tells_findings forms.OpenMetrics = false
 tells_findings _ = true
-
--- 0 exactly if a clock answered and no finding is shown
-abbrev pub IsStatusOf : Form → Conclusion → ℕ → Type 0
-IsStatusOf forms.OpenMetrics came status = status ≡ status_of_numbers came
-IsStatusOf _ came status = (status ≡ 0 → came ≡ outcomes.Sound) × (came ≡ outcomes.Sound → status ≡ 0)
 
 abbrev pub is_nothing : LeftOut → Bool
 is_nothing l = l.answers == 0 && (l.announces == 0 && (l.syncs == 0 && (l.follow_ups == 0

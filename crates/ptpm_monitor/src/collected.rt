@@ -88,7 +88,7 @@ impl Collected {
 
     /// Whether a clock answered at each of several ways.
     pub(crate) fn is_answered_everywhere(&self) -> bool
-        ensures { result ≡ list_all (λ way. way.is_answered) self.now.ways.items }
+        ensures { result ≡ list_all (λ way. way.is_answered) self.entry.now.ways.items }
     {
         self.ways.iter().all(|way| way.is_answered)
     }

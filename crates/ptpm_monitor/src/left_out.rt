@@ -131,9 +131,14 @@ impl LeftOut {
     pub(crate) fn is_none(&self) -> bool
         ensures { result ≡ is_nothing self.now }
     {
-        let is_heard = self.announces == 0 && self.syncs == 0 && self.follow_ups == 0;
-        let is_asked = self.answers == 0 && self.delay_reqs == 0;
-        is_heard && is_asked && self.gone == 0 && self.clocks == 0 && self.ports == 0
+        self.answers == 0
+            && self.announces == 0
+            && self.syncs == 0
+            && self.follow_ups == 0
+            && self.delay_reqs == 0
+            && self.gone == 0
+            && self.clocks == 0
+            && self.ports == 0
     }
 
     /// How many there are of all.

@@ -1,8 +1,7 @@
 //! The exit status of a look.
 
-ghost use Rattle.std.specs.Prelude.{◌≡◌, ◌×◌, true};
-ghost use Rattle.ptpm_site_report.specs.Reporting.{concluded};
-ghost use Rattle.ptpm_monitor.specs.Status.{IsStatusOf, is_known, tells_findings};
+ghost use Rattle.std.specs.Prelude.{◌≡◌, true};
+ghost use Rattle.ptpm_monitor.specs.Status.{is_known, status_in, tells_findings};
 
 use crate::look::Look;
 use ptpm_site_report::{Came, Form};
@@ -24,13 +23,12 @@ pub(crate) const NOT_WRITTEN: u8 = 4;
 
 /// That of a site that was judged, in a form.
 pub(crate) fn status_of(form: Form, came: &Came) -> u8
-    requires { concluded came.now.standing ≡ came.now.conclusion }
-    ensures { IsStatusOf form came.now.conclusion result }
+    ensures { result ≡ status_in form came.now }
 {
     match form {
         Form::Plugin => came.standing.status(),
         Form::OpenMetrics => came.conclusion.status_of_numbers(),
-        _ => came.conclusion.status(),
+        Form::Text | Form::Json | Form::Drawing | Form::Page => came.conclusion.status(),
     }
 }
 

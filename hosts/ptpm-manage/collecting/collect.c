@@ -71,7 +71,7 @@ static size_t request_count;
 static FILE *output;
 static long sent;                       /* messages that went out */
 static int64_t latest;                  /* when an answer came that is no copy */
-static size_t news;                     /* how many answers had something new */
+static size_t news;                     /* how many of these came */
 static size_t let_go;                   /* clocks that are asked no more */
 static struct sureness sureness;
 static bool has_no_transport;
@@ -141,12 +141,15 @@ static void note_distance(uint8_t hops, uint16_t port_count) {
     if (port_count > 1 && hops > farthest_switch) farthest_switch = hops;
 }
 
+static void note_news(void) {
+    latest = milliseconds();
+    news++;
+}
+
 /* A clock that a census finds lacks all that is collected. */
 static void take_present(const struct request *request, const uint8_t *message) {
-    size_t before = seen_count();
     note_way();
-    if (see_present(request->domain, message + SOURCE_AT, request->id)) latest = milliseconds();
-    news += seen_count() > before;
+    if (see_present(request->domain, message + SOURCE_AT, request->id)) note_news();
 }
 
 /* Records an answer that the library accepted, and prints it unless it is a copy. Octets may follow the message. */
@@ -170,8 +173,7 @@ static void take_answer(const struct request *request, const uint8_t *message) {
     note_distance(message[STARTING_HOPS_AT], answer.port_count);
     enum seen seen = see_answer(&answer);
     if (seen == SEEN_BEFORE || seen == NO_PLACE) return;
-    latest = milliseconds();
-    news++;
+    note_news();
     if (output == NULL) return;
     clear_progress();
     write_line(output, &(struct message_line){ .at = nanoseconds(), .from = sender_text(), .on = came_in_at(), .message = message, .size = size });
@@ -415,10 +417,16 @@ static bool is_sure(const struct rounds *rounds) {
     return rounds->quiet >= QUIET_ROUNDS && missed < 1;
 }
 
-/* Whether this round of a plan is the last one, since it brought nothing new, and no answer to it is lacking. What clocks send by themselves
-   is heard for a whole round. */
+/* Whether this round of a plan is the last one, since it brought nothing new, and no answer to its census is lacking. What clocks send by
+   themselves is heard for a whole round. */
 static bool is_last(const struct rounds *rounds, bool has_news) {
     return !is_site() && seen_count() > 0 && !has_news && rounds->quiet + 1 >= QUIET_ROUNDS && lost_share() <= 0 && are_all_present();
+}
+
+/* Hears what still comes in a round, until it may end. `before` is the news before it. */
+static void hear_rest(const struct rounds *rounds, size_t before) {
+    int64_t end = least_end(rounds);
+    while (!stopped && milliseconds() < end && !is_last(rounds, news > before)) hear_until(milliseconds() + STEP < end ? milliseconds() + STEP : end);
 }
 
 /* Starts the requests of this many censuses; whether the library would ask them. */
@@ -463,7 +471,7 @@ static bool ask_again(const struct task *task, struct rounds *rounds) {
     if (lacks > 0 && !is_found) hear_until(milliseconds() + STEP);
     unsigned censuses = is_found ? 0 : take_census(task, rounds);
     hear_until_quiet(task);
-    if (censuses == 1 && !is_last(rounds, news > before)) hear_until(least_end(rounds));
+    if (censuses == 1) hear_rest(rounds, before);
     end_round(censuses);
     stop_requests(base);
     let_go += let_go_of_silent(MOST_SILENT);

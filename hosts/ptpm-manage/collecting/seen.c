@@ -187,14 +187,11 @@ void end_round(unsigned censuses) {
 }
 
 bool see_present(struct domain domain, const uint8_t clock[8], unsigned census) {
+    size_t count_before = clock_count;
     uint32_t number = number_of_clock(domain, clock);
-    if (number == 0) {
-        not_kept++;
-        return false;
-    }
-    uint8_t before = clocks[number - 1].in_round;
-    clocks[number - 1].in_round |= (uint8_t)(1 << census);
-    return clocks[number - 1].in_round != before;
+    if (number == 0) not_kept++;
+    else clocks[number - 1].in_round |= (uint8_t)(1 << census);
+    return clock_count > count_before;
 }
 
 size_t late_answers(void) {

@@ -76,7 +76,7 @@ void begin_rounds(void);
 void begin_round(void);
 void end_round(unsigned censuses);
 
-/* Notes that a clock answered this census of the round; whether it had not yet. */
+/* Notes that a clock answered this census of the round; whether it was not seen before. */
 bool see_present(struct domain domain, const uint8_t clock[8], unsigned census);
 
 /* Whether each clock that was seen before this round has answered a census of it, unless it heeds none. */
