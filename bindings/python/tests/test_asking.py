@@ -34,7 +34,7 @@ END = bytes.fromhex("08 05 0000 0000000069559b00")
 
 
 def journal_of(*records: bytes) -> bytes:
-    """The octets of the journal of an apply (docs/changing-a-site.md)."""
+    """The octets of the journal of an apply (crates/ptpm_journal/specs)."""
     octets, crc = b"PTPJ", bytes(4)
     for record in records:
         record = len(record).to_bytes(2, "big") + record
