@@ -138,7 +138,7 @@ static size_t restore(struct ptpm_clock *clock, size_t size) {
 
 static void tell_gone(size_t gone) {
     if (gone == 0) return;
-    say("%s: %zu manager%s of it %s not configured any more, and what was kept of %s is let go", options->state, gone,
+    say("%s: %zu manager%s of it %s not configured any more, and what was kept of %s is forgotten", options->state, gone,
         gone == 1 ? "" : "s", gone == 1 ? "is" : "are", gone == 1 ? "its requests" : "their requests");
 }
 

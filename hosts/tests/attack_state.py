@@ -98,7 +98,7 @@ def configurations():
     check("and at no later one, which is said", f"{state}: -d 3 counts at the first start alone: the clock is in domain 7\n" in said
           and " in domain 7: " in said)
     check("nor is the same domain reported", "counts" not in begins("-d", "7", *WORDS)[1])
-    gone = f"{state}: 1 manager of it is not configured any more, and what was kept of its requests is let go\n"
+    gone = f"{state}: 1 manager of it is not configured any more, and what was kept of its requests is forgotten\n"
     check("a manager that is gone loses its entry", gone in begins("-s", state, "-u", path, ME)[1])
     check("which is said once", "configured any more" not in begins("-s", state, "-u", path, ME)[1])
     whole = octets(state)

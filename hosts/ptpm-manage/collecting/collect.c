@@ -574,7 +574,7 @@ void tell_lacking(void) {
 static int end_of_collection(const struct task *task, const struct domains *domains) {
     clear_progress();
     tell_sureness();
-    if (let_go > 0) complain("%zu clocks gave no new answer when they were asked alone: they were let go", let_go);
+    if (let_go > 0) complain("%zu clocks gave no new answer when they were asked one by one: they are asked no more", let_go);
     if (has_no_transport) complain("nothing was sent: %s: %s", transport_name(), strerror(errno));
     else if (stopped && task->site.watch == 0) complain("ended by a signal: more may answer");
     else if (sent == 0 && !stopped) complain("nothing was sent: no message is taken at %s", transport_name());
