@@ -148,7 +148,7 @@ static void tell_domain(const struct ptpm_clock *clock) {
     size_t size;
     if (!options->has_domain || ptpm_clock_read(clock, PTPM_ID_DOMAIN, 0, field, sizeof field, &size) != PTPM_READ) return;
     if (*field == options->settings.domain) return;
-    say("%s: -d %u counts at the first start alone: the clock is in domain %u", options->state, options->settings.domain, *field);
+    say("%s: -d %u counts only at the first start: the clock is in domain %u", options->state, options->settings.domain, *field);
 }
 
 bool restore_clock(struct ptpm_clock *clock, const struct options *given) {

@@ -324,11 +324,11 @@ static char passed_on[INET6_ADDRSTRLEN];
 
 void tell_deaf_port(void) {
     if (*passed_on != '\0') {
-        complain("what came from %s to UDP port 320 of this host alone is not taken: another machine sent it, or nobody is there",
+        complain("what came from %s only to UDP port 320 of this host is ignored: another machine sent it, or nobody is there",
                  passed_on);
     }
     if (copies >= 0 || is_ethernet || ends[0].interface == NULL) return;
-    complain("a clock that answers to UDP port 320 of this host alone isn't heard: it takes root, or the capability CAP_NET_RAW");
+    complain("a clock that answers only to UDP port 320 of this host isn't heard: it takes root, or the capability CAP_NET_RAW");
 }
 
 static void close_events(struct end *end) {
@@ -532,7 +532,7 @@ static bool is_near(const struct arrival *arrival, const struct end *end, struct
     const struct sockaddr *sender = (const struct sockaddr *)&from->sender;
     bool is_unicast = arrival->end == NULL || arrival->socket == end->asking;
     if (is_near_alone && is_unicast && from->ttl != FULL_TTL) {
-        tell_stranger(end, sender, "since a router may have passed it on: --ttl-security takes TTL 255 alone");
+        tell_stranger(end, sender, "since a router may have passed it on: --ttl-security takes only TTL 255");
         return false;
     }
     if (arrival->end != NULL || is_any_source || is_of_neighbour(packets, from->index, sender, octets, found)) return true;

@@ -95,7 +95,7 @@ def configurations():
     peer.close()
     clock.end()
     said = begins("-d", "3", *WORDS)[1]
-    check("and at no later one, which is said", f"{state}: -d 3 counts at the first start alone: the clock is in domain 7\n" in said
+    check("and at no later one, which is said", f"{state}: -d 3 counts only at the first start: the clock is in domain 7\n" in said
           and " in domain 7: " in said)
     check("nor is the same domain reported", "counts" not in begins("-d", "7", *WORDS)[1])
     gone = f"{state}: 1 manager of it is not configured any more, and what was kept of its requests is forgotten\n"

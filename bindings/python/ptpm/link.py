@@ -185,7 +185,7 @@ class Link:
         interface without an address has no link that is known."""
         address = ipaddress.ip_address(sender.split("%")[0])
         if self._ttl_security and is_unicast and ttl != FULL_TTL:
-            return self._refuse(sender, "since a router may have passed it on: --ttl-security takes TTL 255 alone")
+            return self._refuse(sender, "since a router may have passed it on: --ttl-security takes only TTL 255")
         if self._any_source or address == self._asked or self._is_on(address) or not self._has_address(address.version == 6):
             return True
         return self._refuse(sender, "which is not on the link: --any-source takes it")

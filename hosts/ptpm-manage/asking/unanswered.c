@@ -54,11 +54,11 @@ static void say_reason(const struct task *task, enum unanswered what, uint16_t n
 /* A request goes over one of three, and clocks hear only theirs. */
 static void advise_on_way(const struct task *task) {
     if (task->address != NULL) return;
-    if (task->is_ethernet) complain("clocks over Ethernet alone were asked, and none over UDP");
+    if (task->is_ethernet) complain("only clocks over Ethernet were asked, and none over UDP");
     else if (task->is_six) {
-        complain("clocks over IPv6 alone were asked, and none over IPv4, or over Ethernet (--ethernet)");
-        complain("clocks of the group ff0e::181 alone were asked: --udp ff02::181 asks those whose scope is the link");
-    } else complain("clocks over IPv4 alone were asked, and none over IPv6 (--ipv6), or over Ethernet (--ethernet)");
+        complain("only clocks over IPv6 were asked, and none over IPv4, or over Ethernet (--ethernet)");
+        complain("only clocks of the group ff0e::181 were asked: --udp ff02::181 asks those whose scope is the link");
+    } else complain("only clocks over IPv4 were asked, and none over IPv6 (--ipv6), or over Ethernet (--ethernet)");
 }
 
 /* A request to every clock or every port waits for the time of a few answers. An answer that takes longer is not heard. */

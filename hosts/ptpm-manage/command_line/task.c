@@ -175,11 +175,11 @@ static void read_domains(struct site_options *site, const char *text) {
 
 /* Refuses options that exclude each other, or that what is asked does not take. */
 static void judge_site_options(const struct site_options *site) {
-    if (site->given != NULL && !site->is_shown) refuse("%s: it is of status alone", site->given);
-    if (site->is_sdo_named && !site->is_collected) refuse("--sdo: it is of collect and status alone");
-    if (site->listen >= 0 && !site->is_collected) refuse("--listen: it is of collect and status alone");
+    if (site->given != NULL && !site->is_shown) refuse("%s: only status takes it", site->given);
+    if (site->is_sdo_named && !site->is_collected) refuse("--sdo: only collect and status take it");
+    if (site->listen >= 0 && !site->is_collected) refuse("--listen: only collect and status take it");
     if (site->duration > 0 && (site->is_once || site->watch > 0)) refuse("--for excludes --once and --watch");
-    if (site->forget > 0 && site->watch == 0) refuse("--forget: it goes with --watch alone");
+    if (site->forget > 0 && site->watch == 0) refuse("--forget: it takes --watch");
     if (site->form != AS_TEXT && site->watch > 0 && site->output == NULL) {
         refuse("--watch excludes --draw, --html, --openmetrics and --nagios, unless there is a file for them: --output FILE");
     }
@@ -247,7 +247,7 @@ static void judge_expected(struct task *task) {
         task->plan.expected = NULL;
         return;
     }
-    if (task->plan.verb != APPLY) refuse("--expect: it is of apply and status alone");
+    if (task->plan.verb != APPLY) refuse("--expect: only apply and status take it");
     bool is_id = strlen(text) == PLAN_DIGITS && strspn(text, "0123456789abcdef") == PLAN_DIGITS;
     if (!is_id) refuse("--expect %s: it takes the eight digits of a plan", text);
 }
@@ -379,7 +379,7 @@ static void read_verb(struct task *task, const char *verb) {
    to it. */
 static void read_every_port(struct task *task, const struct words *words) {
     if (!words->is_every_port) return;
-    if (task->is_survey || task->action != PTPM_GET) refuse("--port all goes with get alone");
+    if (task->is_survey || task->action != PTPM_GET) refuse("--port all: only get takes it");
     if (task->has_manager || task->numbers != NULL) {
         refuse("--port all asks by no manager: it takes no --manager and no --numbers");
     }
@@ -425,7 +425,7 @@ static void read_value(struct task *task, const struct words *words) {
     size_t count = words->count > 2 ? (size_t)words->count - 2 : 0;
     bool is_set = !task->is_survey && task->action == PTPM_SET;
     bool is_read_only = is_set && can_only_be_read(task->id);
-    if (words->is_text && !is_set) refuse("--text: it is of set alone");
+    if (words->is_text && !is_set) refuse("--text: only set takes it");
     if (is_read_only && (count != 1 || is_member(task->id, value[0]))) refuse("set %s: the id can only be read", id);
     if (count == 0 && is_set && !has_no_member(task->id)) refuse("set %s: it takes a value after it", id);
     if (count == 0) return;
@@ -458,7 +458,7 @@ static void judge(const struct task *task, const struct words *words) {
     bool asks_one = (!task->is_survey || task->is_of_clock) && task->plan.verb == NO_PLAN;
     if (!asks_one && words->target != NULL) refuse("%s asks every clock: it takes no --target", words->at[0]);
     if (asks_one && words->target == NULL) refuse("--target is missing: the clock that is asked; survey asks every clock");
-    if (words->has_names && !asks_one && !task->site.is_shown) refuse("--names: it is of status and --target alone");
+    if (words->has_names && !asks_one && !task->site.is_shown) refuse("--names: only status and --target take it");
     if (task->is_survey && task->numbers != NULL) refuse("--numbers: no session is kept of what every port is asked");
     if (task->is_survey && task->times > 1) refuse("--times: what every port is asked is asked once");
     if (words->is_every_port && words->target_port >= 0) refuse("--port all names every port, and --target names one");
@@ -555,12 +555,12 @@ static void prepare_refusals(int argc, char **argv) {
 static void judge_plan_options(const struct plan_options *plan) {
     bool is_of_apply = plan->skips_unreached || plan->check != NULL || plan->limit_count > 0;
     bool may_keep = plan->verb == APPLY || plan->verb == RESUME || plan->verb == ROLLBACK;
-    if (plan->is_probed && plan->verb != PLAN && plan->verb != APPLY) refuse("--probe: it is of plan and apply alone");
-    if (plan->tells_changes && plan->verb != PLAN) refuse("--status-if-changes: it is of plan alone");
-    if (plan->kept >= 0 && !may_keep) refuse("--keep: it is of apply, resume and rollback alone");
-    if (is_of_apply && plan->verb != APPLY) refuse("--skip-unreached, --limit and --check: they are of apply alone");
-    if (plan->keeps_going && plan->verb != APPLY && plan->verb != RESUME) refuse("--keep-going: it is of apply and resume alone");
-    if (plan->is_dry && plan->verb != ROLLBACK) refuse("--dry-run: it is of rollback alone");
+    if (plan->is_probed && plan->verb != PLAN && plan->verb != APPLY) refuse("--probe: only plan and apply take it");
+    if (plan->tells_changes && plan->verb != PLAN) refuse("--status-if-changes: only plan takes it");
+    if (plan->kept >= 0 && !may_keep) refuse("--keep: only apply, resume and rollback take it");
+    if (is_of_apply && plan->verb != APPLY) refuse("--skip-unreached, --limit and --check: only apply takes them");
+    if (plan->keeps_going && plan->verb != APPLY && plan->verb != RESUME) refuse("--keep-going: only apply and resume take it");
+    if (plan->is_dry && plan->verb != ROLLBACK) refuse("--dry-run: only rollback takes it");
 }
 
 void read_task(struct task *task, int argc, char **argv) {
@@ -592,7 +592,7 @@ void read_task(struct task *task, int argc, char **argv) {
     if (is_beyond && task->numbers != NULL) refuse("--numbers: no session is kept of a port above %d, which no clock of ptpm has", SESSION_PORTS);
     task->is_kept = is_by_one_manager(task) && !is_beyond;
     bool is_asked = task->plan.verb == NO_PLAN;
-    if (task->is_letting_go && !is_asked && task->plan.verb != RESUME) refuse("--give-up: of a plan it is of resume alone");
+    if (task->is_letting_go && !is_asked && task->plan.verb != RESUME) refuse("--give-up: of these only resume takes it");
     if (task->is_letting_go && is_asked && !task->is_kept) refuse("--give-up: no session is kept of what is asked");
 }
 

@@ -32,10 +32,10 @@ $to_utc -32769 leap61 0 leap59 0 currentUtcOffsetValid 1|currentUtcOffset -32769
 -i near0 --names $work/names --target $identity get PORT_DATA_SET|nothing was asked: NEEDS_PORT
 -i near0 --names $work/names --target none get PRIORITY1|after it -1 for port 1, or a name of --names
 -i near0 --names /dev/zero --target $to get PRIORITY1|--names /dev/zero: it is no file
--i near0 --names $work/names survey PRIORITY1|--names: it is of status and --target alone
--i near0 --names $work/names collect|--names: it is of status and --target alone
--i near0 --names $work/names plan $work/names|--names: it is of status and --target alone
--i near0 --target $to --text get USER_DESCRIPTION|--text: it is of set alone
+-i near0 --names $work/names survey PRIORITY1|--names: only status and --target take it
+-i near0 --names $work/names collect|--names: only status and --target take it
+-i near0 --names $work/names plan $work/names|--names: only status and --target take it
+-i near0 --target $to --text get USER_DESCRIPTION|--text: only set takes it
 -i near0 -k $work/number survey PRIORITY1|--numbers: no session is kept of what every port is asked
 -i near0 --target $to-1 -p 2 get PRIORITY1|name two ports
 -i near0 get PRIORITY1|--target is missing
@@ -59,12 +59,12 @@ $to_utc -32769 leap61 0 leap59 0 currentUtcOffsetValid 1|currentUtcOffset -32769
 -u $work/nowhere --target $to set PRIORITY1 1|nothing was sent: $work/nowhere: No such file or directory
 -i near0 --target ffffffffffffffff get PRIORITY1|nothing was asked: TARGET_IS_EVERY
 -i near0 --give-up --target $to get PRIORITY1|--give-up: no session is kept of what is asked
--i near0 --give-up apply $work/site.toml|--give-up: of a plan it is of resume alone
+-i near0 --give-up apply $work/site.toml|--give-up: of these only resume takes it
 -i near0 --target $to get PORT_DATA_SET|nothing was asked: NEEDS_PORT
 -i near0 --target $to -p 256 -k $work/other get PRIORITY1|no session is kept of a port above 255
 -i near0 --target $to get PRIORITY1 PRIORITY2|get takes one managementId: PRIORITY2 is asked for by a run of its own
--i near0 --target $to -p all set PRIORITY1 1|--port all goes with get alone
--i near0 -p all survey PRIORITY1|--port all goes with get alone
+-i near0 --target $to -p all set PRIORITY1 1|--port all: only get takes it
+-i near0 -p all survey PRIORITY1|--port all: only get takes it
 -i near0 --target $to-1 -p all get PRIORITY1|--port all names every port, and --target names one
 -i near0 --target $to -m $other/1 -p all get PRIORITY1|--port all asks by no manager
 -i near0 --target ffffffffffffffff -p all get PRIORITY1|nothing was asked: TARGET_IS_EVERY
