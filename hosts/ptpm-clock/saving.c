@@ -97,7 +97,7 @@ static bool read_state(size_t *size) {
     case KEPT_FILE: return true;
     case KEPT_NONE: return false;
     case KEPT_LINK: refuse_file("it is a link");
-    case KEPT_OTHER: refuse_file("it is no file");
+    case KEPT_OTHER: refuse_file("it is not a regular file");
     case KEPT_UNREADABLE: break;
     }
     refuse_file(NULL);

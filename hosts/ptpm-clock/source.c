@@ -86,7 +86,7 @@ int open_source(struct source *source, const char *path) {
 }
 
 int open_file_source(struct source *source, const char *path) {
-    if (!S_ISREG(start_source(source, path))) refuse(source, "it is no file");
+    if (!S_ISREG(start_source(source, path))) refuse(source, "it is not a regular file");
     return watch_file(source);
 }
 

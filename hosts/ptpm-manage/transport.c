@@ -65,7 +65,7 @@ const char *transport_name(void) { return name; }
 static void read_address(const char *text) {
     static const struct addrinfo wanted = { .ai_flags = AI_NUMERICHOST | AI_NUMERICSERV, .ai_socktype = SOCK_DGRAM };
     struct addrinfo *found;
-    if (getaddrinfo(text, "320", &wanted, &found) != 0) refuse("--udp %s: it is no address of IPv4 or IPv6", text);
+    if (getaddrinfo(text, "320", &wanted, &found) != 0) refuse("--udp %s: not an address of IPv4 or IPv6", text);
     is_six = found->ai_family == AF_INET6;
     memcpy(&clock_address, found->ai_addr, found->ai_addrlen);
     clock_size = found->ai_addrlen;

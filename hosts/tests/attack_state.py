@@ -140,9 +140,9 @@ def files_in_the_way():
     os.symlink("nothing", state)
     check("a link is refused", is_refused(2, f"{state}: it is a link", *WORDS) and os.readlink(state) == "nothing")
     os.unlink(state), os.mkdir(state)
-    check("a folder is refused", is_refused(2, f"{state}: it is no file", *WORDS))
+    check("a folder is refused", is_refused(2, f"{state}: it is not a regular file", *WORDS))
     os.rmdir(state), os.mkfifo(state)
-    check("a pipe is refused", is_refused(2, f"{state}: it is no file", *WORDS))
+    check("a pipe is refused", is_refused(2, f"{state}: it is not a regular file", *WORDS))
     os.unlink(state)
     not_made = f"its folder can't be made: mkdir -p {folder}/no makes the one above it"
     for name, why in [(folder + "/", "no name of a file"), (folder + "/no/no/state", not_made), ("/proc/state", "")]:

@@ -136,7 +136,7 @@ class Task:
         if words.text:
             return data_field(self.id, value[0])
         if not re.fullmatch("([0-9a-fA-F]{4})*", value[0]):
-            raise ValueError(f"{value[0]}: it is no even number of octets in hexadecimal")
+            raise ValueError(f"{value[0]}: not an even number of octets in hexadecimal")
         return bytes.fromhex(value[0])
 
     def _judge(self) -> None:

@@ -199,7 +199,7 @@ static void read_target(struct task *task, struct words *words, const char *text
         return;
     }
     if (find_named_clock(text, clock)) return;
-    if (ptpm_identity_parse(text, clock_size, clock)) refuse("--target %s: %s is no port", text, text + clock_size);
+    if (ptpm_identity_parse(text, clock_size, clock)) refuse("--target %s: %s is not a port", text, text + clock_size);
     const char *also = clock_name_count() > 0 ? ", or a name of --names" : "";
     refuse("--target %s: it takes aabbccfffeddee01 or aabbcc.fffe.ddee01, and after it -1 for port 1%s", text, also);
 }
@@ -213,7 +213,7 @@ static void read_manager(struct task *task, const char *text) {
     uint16_t *port = &task->settings.port;
     bool is_named = ptpm_port_identity_parse(text, strlen(text), task->settings.clock, port);
     if (!is_named) refuse("--manager %s: it takes aabbccfffeddee01/1 or aabbcc.fffe.ddee01-1", text);
-    if (*port >= FIRST_OF_NOBODY) refuse("--manager %s: a port from %d on is of no manager", text, FIRST_OF_NOBODY);
+    if (*port >= FIRST_OF_NOBODY) refuse("--manager %s: the port has to be below %d", text, FIRST_OF_NOBODY);
     task->has_manager = true;
 }
 
@@ -372,7 +372,7 @@ static void read_verb(struct task *task, const char *verb) {
         task->action = actions[i].action;
         return;
     }
-    if (!task->is_survey) refuse("%s: it is none of get, set, command, survey, collect, status, plan, apply, resume, rollback and applies", verb);
+    if (!task->is_survey) refuse("%s: it is not one of get, set, command, survey, collect, status, plan, apply, resume, rollback and applies", verb);
 }
 
 /* A get of every port is a survey of one clock. It asks as nobody, since a clock numbers the requests that its managers send only
@@ -406,7 +406,7 @@ static void read_octets_of(struct task *task, const char *text) {
     task->size = read_octets(&rest, task->octets, sizeof task->octets);
     if (*rest == '\0' && task->size % 2 == 0) return;
     if (task->action == PTPM_GET && read_id_named(text) >= 0) refuse("get takes one managementId: %s is asked for by a run of its own", text);
-    refuse("%s: it is no even number of octets in hexadecimal%s", text, hint(task));
+    refuse("%s: not an even number of octets in hexadecimal%s", text, hint(task));
 }
 
 /* Whether the words of a value are what an answer prints, or the value of the one member, and no dataField in hexadecimal. */

@@ -141,7 +141,7 @@ enum found_session open_session_file(struct session_file **opened_file, const ch
         if (fsync(file->kept.folder)) refuse_place(file);       /* a run that was killed may not have come to it */
         return take_seal(octets, size, &file->saves) == PTPM_DAMAGED ? BROKEN_SESSION_FILE : SESSION_FILE;
     case KEPT_LINK: refuse_session_file(file, "it is a link");
-    case KEPT_OTHER: refuse_session_file(file, "it is no file");
+    case KEPT_OTHER: refuse_session_file(file, "it is not a regular file");
     case KEPT_UNREADABLE: refuse_place(file);
     case KEPT_NONE: break;
     }
