@@ -567,7 +567,7 @@ void tell_lacking(void) {
         if (!write_lacking(names, sizeof names, clock)) continue;
         write_identity(identity, clock->identity);
         write_domain(domain, clock->domain);
-        complain("no answer of %s in domain %s to a read of %s", identity, domain, names);
+        complain("no answer from %s in domain %s to a read of %s", identity, domain, names);
     }
 }
 
