@@ -515,7 +515,7 @@ static void tell_stranger(const struct end *end, const struct sockaddr *sender, 
     }
     if (count == MOST_STRANGERS) return;
     strcpy(told[count++], address);
-    complain("%s: what came from %s is not taken, %s", end->interface, address, why);
+    complain("%s: what came from %s is ignored, %s", end->interface, address, why);
 }
 
 /* Whether a datagram comes from the link, or from the address that is asked. An interface without an address has no link that is
@@ -686,7 +686,7 @@ static bool is_of_namesake(const struct arrival *arrival, const uint8_t *message
     if (arrival->end == &own_clock || size < SOURCE_PORT_AT || is_request || memcmp(asker, nobody, sizeof asker) == 0) return false;
     if (memcmp(message + SOURCE_AT, asker, sizeof asker) != 0) return false;
     write_identity(identity, asker);
-    if (!is_told) complain("a clock has this manager's identity %s: what it sends is not taken, and -m names another manager", identity);
+    if (!is_told) complain("a clock has this manager's identity %s: what it sends is ignored, and -m names another manager", identity);
     return is_told = true;
 }
 
