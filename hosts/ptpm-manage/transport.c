@@ -354,7 +354,7 @@ void renew_transport(void) {
         if (ends[i].asking >= 0) close(ends[i].asking);
         close_events(&ends[i]);
         ends[i] = other;
-        complain("%s: the interface was made anew", other.interface);
+        complain("%s: the interface was created again", other.interface);
     }
     widen_transport();
 }

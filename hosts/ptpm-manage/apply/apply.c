@@ -107,7 +107,7 @@ static int apply_plan(const struct task *task, const struct plan *plan) {
     struct journal journal = { 0 };
     bool is_with_skips = plan->unreached != NULL && *plan->unreached != '\0';
     if (!is_expected(task, plan)) {
-        complain("nothing was sent: the plan is another one by now");
+        complain("nothing was sent: the plan has changed by now");
         return NOT_AS_ASKED;
     }
     if (plan->count == 0) {
