@@ -12,7 +12,7 @@ done << END
 -i near0 --target $to set LOG_SYNC_INTERVAL 128|it takes a number from -128 to 127
 -i near0 --target $to set PRIORITY1|set PRIORITY1: it takes a value
 -i near0 --target $to set PRIORITY1 100 7|7: there is a word too many
--i near0 --target $to set UTC_PROPERTIES 37|no even number of octets in hexadecimal; each of its members takes its name and its value
+-i near0 --target $to set UTC_PROPERTIES 37|not an even number of octets in hexadecimal; each of its members takes its name and its value
 -i near0 --target $to set UTC_PROPERTIES leap61 1|set UTC_PROPERTIES: it takes currentUtcOffset VALUE leap61 VALUE leap59 VALUE
 $to_utc 37 leap59 0 leap61 0 currentUtcOffsetValid 1|set UTC_PROPERTIES leap59: the member that comes next is leap61
 $to_utc 37 leap61 0 leap59 no currentUtcOffsetValid 1|set UTC_PROPERTIES leap59 no: it takes true or false
@@ -22,7 +22,7 @@ $to_utc -32769 leap61 0 leap59 0 currentUtcOffsetValid 1|currentUtcOffset -32769
 -i near0 --target $to set DEFAULT_DATA_SET 300|300: not an even number of octets in hexadecimal; the id can only be read
 -i near0 --target $to set DEFAULT_DATA_SET|set DEFAULT_DATA_SET: the id can only be read
 -i near0 --target $to --json -n 2 get PRIORITY1|--json and --times exclude each other
--i near0 --target $to set USER_DESCRIPTION rack|no even number of octets in hexadecimal; a text takes --text
+-i near0 --target $to set USER_DESCRIPTION rack|not an even number of octets in hexadecimal; a text takes --text
 -i near0 --target $to -k $work/no/folder/number set PRIORITY1 1|the request was not sent: --numbers $work/no/folder/number: No such file or directory
 -i near0 --target $to set PRIORITY1 --text 7|PRIORITY1 has no text
 -i near0 --target $to get PRIORITY|PRIORITY: it is neither a managementId
