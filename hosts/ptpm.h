@@ -561,7 +561,7 @@ enum { PTPM_MOST_ANSWERS = 16384, PTPM_SURVEY_PORT = 65534 };
 
 /* What calls return. 0 says that the call was done. 1 to 31 say what became of a datagram or of a request. From 32 on the call was
    refused (ptpm_is_refusal). 48 to 63 say why nothing starts, or an observation is refused. 64 to 101 say which member is out of
-   its range. 104 to 110 say why a restore is refused. 112 says that a request can't be given up. 113 to 117 say why words are no
+   its range. 104 to 110 say why a restore is refused. 112 says that a request can't be given up. 113 to 117 say why words are not a
    dataField. 118 and 119 say that something is not saved. 120 says that a handle holds no asker. 121 and 122 say
    that what a device says is not taken. 123 and 124 say that a change of the device is under way, or none. 126 to 132 say why a
    record of a journal, or an event of a rollout, is not taken.
@@ -592,7 +592,7 @@ enum { PTPM_MOST_ANSWERS = 16384, PTPM_SURVEY_PORT = 65534 };
 #define PTPM_BAD_ACTION 20              /* its actionField is over 4 */
 #define PTPM_BAD_TLV_TYPE 21            /* its tlvType is not MANAGEMENT, nor MANAGEMENT_ERROR_STATUS in an answer */
 #define PTPM_BAD_TLV_LENGTH 22          /* its lengthField is odd or too small, or its TLV ends before or after the message */
-#define PTPM_BAD_TEXT 23                /* the displayData of its error status is no PTPText */
+#define PTPM_BAD_TEXT 23                /* the displayData of its error status is not a PTPText */
 
 /* Why nothing changed. */
 #define PTPM_NO_CLOCK 32                /* the handle holds none */
@@ -870,11 +870,11 @@ __extension__ enum PTPM_FOUR_OCTETS(ptpm_restored) {
 __extension__ enum PTPM_FOUR_OCTETS(ptpm_parsed) {
     PTPM_PARSED = 0,
     PTPM_PARSE_NO_ROOM = PTPM_NO_ROOM,  /* for fewer octets than the dataField has */
-    PTPM_NOT_WORDS = 113,               /* there are octets and the last is no zero, a word is no UTF-8, or there are over 20 words */
+    PTPM_NOT_WORDS = 113,               /* there are octets and the last is not a zero, a word is not UTF-8, or there are over 20 words */
     PTPM_UNKNOWN_ID = 114,              /* this profile lacks the id */
     PTPM_WORD_COUNT = 115,              /* more or fewer words than a name and a value for each member */
     PTPM_OTHER_NAME = 116,              /* a word is not the name of the member that comes next */
-    PTPM_NO_VALUE = 117                 /* a word is no value of the member, or no SET has the member */
+    PTPM_NO_VALUE = 117                 /* a word is not a value of the member, or no SET has the member */
 };
 
 /* ptpm_asker_restore. */
@@ -916,7 +916,7 @@ __extension__ enum PTPM_FOUR_OCTETS(ptpm_journaled) {
     PTPM_JOURNAL_NO_ROOM = PTPM_NO_ROOM,
     PTPM_JOURNAL_NO_MEMORY = PTPM_NO_MEMORY,
     PTPM_JOURNAL_OTHER_VERSION = PTPM_OTHER_VERSION,    /* ptpm_journal_next */
-    PTPM_JOURNAL_DAMAGED = PTPM_DAMAGED,                /* ptpm_journal_next: these octets are no record that may come here */
+    PTPM_JOURNAL_DAMAGED = PTPM_DAMAGED,                /* ptpm_journal_next: these octets are not a record that may come here */
     PTPM_JOURNAL_NO_JOURNAL = PTPM_NO_JOURNAL,
     PTPM_NO_RECORD = 127,               /* ptpm_journal_add: it has no such kind, outcome or ending, or too many octets */
     PTPM_NOT_ALLOWED = 128,             /* ptpm_journal_add: no run makes this record here */
@@ -1653,7 +1653,7 @@ static inline size_t ptpm_newest_image(const uint8_t *octets, size_t place, size
    sourcePortIdentity, sequenceId, targetPortIdentity, actionField and managementId, and there is a place to record it. So a
    message that circulates is forwarded once. One that keeps coming is forwarded once in each such time.
    Takes:   the message, of size octets; a time; and for how long it is recorded, in the unit of that time. Both are the host's.
-   Returns: whether it is to be forwarded; false too for what is no management message, read or not (ptpm_clock_transit).
+   Returns: whether it is to be forwarded; false too for what is not a management message, read or not (ptpm_clock_transit).
    Writes:  one of the places of *table, if it returns true. */
 bool ptpm_passed_on_is_first(struct ptpm_passed_on *table, const uint8_t *message, size_t size, uint64_t now, uint64_t time);
 
@@ -1749,7 +1749,7 @@ bool ptpm_port_identity_parse(const char *text, size_t size, uint8_t clock[8], u
 enum { PTPM_MOST_FIELD_TEXT = 5034 };
 
 /* Gives the members of a dataField as text, one per line: its name in the standard (15.5.3), a space and its value, such as
-   "priority1 128". How each kind of value is written is in docs/ptpm.md. There is only one line if the octets are no dataField
+   "priority1 128". How each kind of value is written is in docs/ptpm.md. There is only one line if the octets are not a dataField
    of the id, or it has no member. That is "value" and the octets in hexadecimal, or "value -" for none. The id may be one of
    ptpm_other_id_at too.
    Takes:   the managementId; a dataField of size octets; and room octets, for which PTPM_MOST_FIELD_TEXT is enough.

@@ -228,7 +228,7 @@ static bool take_parent_port(struct observation *observation, const char *text) 
     return true;
 }
 
-/* A line that ptpm-manage prints, of what is no member of the clock's struct. */
+/* A line that ptpm-manage prints, of what is not a member of the clock's struct. */
 static bool take_printed(struct observation *observation, char **words, size_t count) {
     const char *name = words[0];
     bool is_port = strcmp(name, "portIdentity") == 0, is_parent = strcmp(name, "parentPortIdentity") == 0;

@@ -174,7 +174,7 @@ int read_source(struct source *source) {
     if (source->is_pipe) read_pipe(source);
     else if (read_events(source) || is_other(source)) read_file(source);
     for (size_t k = before; k < source->size; k++) {
-        if (source->held[k] == '\0') source->held[k] = 1;       /* which is no text either */
+        if (source->held[k] == '\0') source->held[k] = 1;       /* which is not a text either */
     }
     return source->polled;
 }

@@ -25,12 +25,12 @@ class NoAnswer(PtpmError, TimeoutError):
 
 
 def judge_seconds(name: str, seconds: float) -> None:
-    """Refuses a time below 0, or one that is no number, as the sockets of Python do."""
+    """Refuses a time below 0, or one that is not a number, as the sockets of Python do."""
     if not seconds >= 0:
         raise ValueError(f"{name} {seconds}: it takes seconds, not below 0")
 
 
-# More answers than this with numbers that were not asked are no late ones: somebody guesses.
+# More answers than this with numbers that were not asked are not late ones: somebody guesses.
 _FEW = 16
 
 # The places of portIdentities, of the number and of the action in a message (13.3, 15.4), and the actions of a RESPONSE and an ACKNOWLEDGE.

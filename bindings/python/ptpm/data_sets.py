@@ -101,23 +101,23 @@ class PortDataSet:
 
 
 def number_of(value: Any) -> int:
-    """A whole number of JSON, which is no flag."""
+    """A whole number of JSON, which is not a flag."""
     if not isinstance(value, int) or isinstance(value, bool):
-        raise ValueError(f"{value!r} is no whole number")
+        raise ValueError(f"{value!r} is not a whole number")
     return value
 
 
 def flag_of(value: Any) -> bool:
     """A flag of JSON."""
     if not isinstance(value, bool):
-        raise ValueError(f"{value!r} is no flag")
+        raise ValueError(f"{value!r} is not a flag")
     return value
 
 
 def text_of(value: Any) -> str:
     """A text of JSON."""
     if not isinstance(value, str):
-        raise ValueError(f"{value!r} is no text")
+        raise ValueError(f"{value!r} is not a text")
     return value
 
 
@@ -182,7 +182,7 @@ _IDS: Dict[type, ManagementId] = {
 def id_of_data_set(kind: type) -> ManagementId:
     """The id that is asked for a data set."""
     if kind not in _IDS:
-        raise TypeError(f"{kind!r} is no data set")
+        raise TypeError(f"{kind!r} is not a data set")
     return _IDS[kind]
 
 
@@ -206,5 +206,5 @@ _OF_MEMBERS = {
 
 
 def member_of(name: str, value: Any) -> Any:
-    """The value of a member in JSON, as its data set has it; what is no member of one, or not there, as it is."""
+    """The value of a member in JSON, as its data set has it. Any other value, and None, stays as it is."""
     return value if value is None else _OF_MEMBERS.get(name, lambda same: same)(value)

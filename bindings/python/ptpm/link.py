@@ -61,7 +61,7 @@ def _attributes(octets: bytes) -> Iterator[Tuple[int, bytes]]:
 
 
 def _is_routed_to_link(index: int, address: bytes) -> bool:
-    """Whether a route that is no default route leads to an address over the interface without a gateway."""
+    """Whether a route that is not a default route leads to an address over the interface without a gateway."""
     family = socket.AF_INET if len(address) == 4 else socket.AF_INET6
     head = struct.pack("=BBBBBBBBI", family, 8 * len(address), 0, 0, 0, 0, 0, 0, _FIB_MATCH)
     over, to = _attribute(_OVER, struct.pack("=i", index)), _attribute(_DESTINATION, address)
@@ -157,7 +157,7 @@ class Link:
     """The link at an interface, from which answers are taken."""
 
     def __init__(self, interface: str, asked: Optional[str], any_source: bool, ttl_security: bool) -> None:
-        """`asked` is the one address that is asked, if it is no group."""
+        """`asked` is the one address that is asked, if it is not a group."""
         self._interface, self._index = interface, socket.if_nametoindex(interface)
         self._asked = None if asked is None else ipaddress.ip_address(asked.split("%")[0])
         self._any_source, self._ttl_security = any_source, ttl_security

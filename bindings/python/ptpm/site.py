@@ -392,7 +392,7 @@ def site(
     Or `lines` are answers that were collected before, a datagram in hexadecimal each. `domains` is one, a range such as "0-7", or
     "all", and `sdo` their sdoId, such as 0x100, or "all". A DomainIdentity is one domain of its own sdoId. In seconds, `timeout` is
     how long a clock has for an answer, and `listen` how long clocks are listened for. `limit` is how long a collection may take. An
-    offset or a delay above `max_offset` or `max_delay`, in nanoseconds, is a finding; a `max_offset` of "none" is no limit.
+    offset or a delay above `max_offset` or `max_delay`, in nanoseconds, is a finding; a `max_offset` of "none" means no limit.
     `tai_utc` is how many seconds TAI is ahead of UTC, and `settle` how many a port may take to settle. The site is held to a `profile`, such as
     "aes67", and to the inventory in the file `expect`. Findings whose names `ignore` has are left out. What is None is the programs'. Like
     `ptpm-manage status` it looks again if a finding may pass, and until two looks have the same ones, unless `once` is set.

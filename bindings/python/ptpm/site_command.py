@@ -32,7 +32,7 @@ def _parser() -> argparse.ArgumentParser:
     add("-a", "--attempts", type=int, help="how often a clock is asked for what it lacks")
     add("-t", "--timeout", type=int, help="milliseconds for each answer")
     add("--listen", type=int, help="seconds to listen for clocks first")
-    add("--max-offset", metavar="NS", help="an offset above this many nanoseconds is a finding; none is no limit")
+    add("--max-offset", metavar="NS", help="an offset above this many nanoseconds is a finding; none means no limit")
     add("--max-delay", type=int, metavar="NS", help="a delay above this many nanoseconds is a finding")
     add("--tai-utc", type=int, metavar="S", help="how many seconds TAI is ahead of UTC")
     add("--settle", type=int, metavar="S", help="how many seconds a port may take to settle")

@@ -143,7 +143,7 @@ int no_answer(const struct task *task, enum unanswered what, uint16_t number, lo
     return NOT_ANSWERED;
 }
 
-/* Whether the library gives this name to what is no message by its rules, whatever was asked. */
+/* Whether the library gives this name to what is not a message by its rules, whatever was asked. */
 static bool is_of_form(uint32_t refusal) {
     switch (refusal) {
     case PTPM_BAD_VERSION:

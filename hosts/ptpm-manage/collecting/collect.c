@@ -52,7 +52,7 @@ static const uint16_t of_ports[] = {
     PTPM_ID_DELAY_MECHANISM, PTPM_ID_LOG_MIN_PDELAY_REQ_INTERVAL,
 };
 
-/* A request to every clock of a domain. A census only shows who is there: its answer is no line. It has a number of its own, so that a clock
+/* A request to every clock of a domain. A census only shows who is there: its answer is not a line. It has a number of its own, so that a clock
    passes it on which does not pass the same message on again. */
 struct request {
     struct ptpm_survey survey;
@@ -69,7 +69,7 @@ static struct request requests[DOMAINS_AT_ONCE * (MOST_COLLECTED + CENSUSES_OF_L
 static size_t request_count;
 static FILE *output;
 static long sent;                       /* messages that went out */
-static int64_t latest;                  /* when an answer came that is no copy */
+static int64_t latest;                  /* when an answer came that is not a copy */
 static size_t news;                     /* how many of these came */
 static size_t let_go;                   /* clocks that are asked no more */
 static struct sureness sureness;
@@ -166,7 +166,7 @@ static void take_answer(const struct request *request, const uint8_t *message) {
     }
     if (has_field && id == PTPM_ID_PORT_DATA_SET && size == FIELD_AT + PORT_SIZE) {
         bool is_own = memcmp(message + FIELD_AT, answer.clock, 8) == 0;
-        answer.port = is_own ? (uint16_t)two_octets(message + FIELD_PORT_AT) : 0;       /* 0 is no port, and none is answered */
+        answer.port = is_own ? (uint16_t)two_octets(message + FIELD_PORT_AT) : 0;       /* 0 is not a port, and none is answered */
     }
     note_way();
     note_distance(message[STARTING_HOPS_AT], answer.port_count);

@@ -89,7 +89,7 @@ static _Noreturn void refuse_count(const struct typed *typed) {
     refuse("set %s: it takes%s", typed->named, names);
 }
 
-/* Says what is wrong with words that are no dataField. */
+/* Says what is wrong with words that are not a dataField. */
 static _Noreturn void refuse_words(const struct typed *typed, enum ptpm_parsed why, size_t place) {
     struct field_lines lines;
     struct member member = { "", "" };

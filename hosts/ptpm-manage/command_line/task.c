@@ -192,7 +192,7 @@ static void read_target(struct task *task, struct words *words, const char *text
     size_t size = strlen(text), clock_size = strnlen(text, strcspn(text, ".") == 6 ? DOTTED : PLAIN);
     uint16_t port;
     words->target_port = NOT_NAMED;
-    /* An identity is no name, even if a clock has another one's as its name. */
+    /* An identity is not a name, even if a clock has another one's as its name. */
     if (ptpm_identity_parse(text, size, clock)) return;
     if (ptpm_port_identity_parse(text, size, clock, &port)) {
         words->target_port = port;
@@ -320,7 +320,7 @@ static void take_word(struct words *words, const char *word) {
     words->at[words->count++] = word;
 }
 
-/* After `set ID`, and after the name of one of its members, comes a value. It may be below 0: it is no option there. */
+/* After `set ID`, and after the name of one of its members, comes a value. It may be below 0: it is not an option there. */
 static bool is_value(const struct words *words, const char *word) {
     if (word[0] != '-' || word[1] < '0' || word[1] > '9') return false;
     if (words->count < 2 || strcasecmp(words->at[0], "set") != 0) return false;
@@ -393,7 +393,7 @@ static void read_id(struct task *task, const char *text) {
     task->id = (uint16_t)id;
 }
 
-/* What else is said about a value that is no dataField. */
+/* What else is said about a value that is not a dataField. */
 static const char *hint(const struct task *task) {
     if (has_text(task->id)) return "; a text takes --text";
     if (task->action == PTPM_SET && takes_names(task->id)) return "; each of its members takes its name and its value";

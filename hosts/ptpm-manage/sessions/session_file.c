@@ -163,7 +163,7 @@ bool write_session_file(struct session_file *file, uint8_t octets[MOST_SESSION_O
 /* The path of the file that is taken if the command line names none. */
 static char usual_path[PATH_MAX];
 
-/* A variable of the environment that names a folder; NULL if it is not set, or is no absolute path. */
+/* A variable of the environment that names a folder; NULL if it is not set, or is not an absolute path. */
 static const char *folder_in(const char *variable) {
     const char *folder = getenv(variable);
     return folder != NULL && folder[0] == '/' ? folder : NULL;

@@ -13,7 +13,7 @@ struct lines { char *at; size_t size; };
 /* The end of a line, after its line feed. */
 const char *end_of_line(const char *at, const char *end);
 
-/* Reads the first octets of a line's message, at most `most`; how many. 0 if it is no answer. */
+/* Reads the first octets of a line's message, at most `most`; how many. 0 if it is not an answer. */
 size_t read_answer(uint8_t *octets, size_t most, const char *line, const char *end);
 
 /* Adds the lines of an earlier look, but no answer of a clock that did not answer in the latest one. */
