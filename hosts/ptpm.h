@@ -253,7 +253,7 @@ enum {
 struct ptpm_taken {
     PTPM_AT_EIGHT uint64_t count;       /* how many messages were written */
     uint64_t waiting;                   /* how many more wait until the clock is saved (ptpm_clock_next) */
-    struct ptpm_changed changed;        /* the members that have another value than before */
+    struct ptpm_changed changed;        /* the members that have a different value than before */
 };
 
 /* What a device is asked (ptpm_clock_ask): to carry out a SET or a COMMAND, or for the value of a GET. All zeros if it is nothing. */
@@ -567,7 +567,7 @@ enum { PTPM_MOST_ANSWERS = 16384, PTPM_SURVEY_PORT = 65534 };
    record of a journal, or an event of a rollout, is not taken.
 
    Each kind of call has a type for its answers. With -Wenum-compare gcc, g++ and clang++ warn if an answer is compared with a
-   name of another kind. A name that several kinds of calls return is a plain number, and compares with each type. Each type has
+   name of a different kind. A name that several kinds of calls return is a plain number, and compares with each type. Each type has
    it again with the kind in front, such as PTPM_HANDLE_NO_CLOCK for PTPM_NO_CLOCK, so that -Wswitch and debuggers know it. A
    uint32_t holds any answer. */
 
@@ -580,7 +580,7 @@ enum { PTPM_MOST_ANSWERS = 16384, PTPM_SURVEY_PORT = 65534 };
 /* Why a session or a survey ignores a datagram. It also ignores other domains, and what is not a management message. */
 #define PTPM_NOT_A_REPLY 10             /* its action is neither RESPONSE nor ACKNOWLEDGE */
 #define PTPM_OTHER_TARGET 11            /* its targetPortIdentity is not that of the manager */
-#define PTPM_OTHER_SOURCE 12            /* it is of another clock, or of another port than is asked */
+#define PTPM_OTHER_SOURCE 12            /* it is of another clock, or of a different port than is asked */
 #define PTPM_OTHER_NUMBER 14            /* its sequenceId is not that of the request */
 #define PTPM_OTHER_CONTENT 15           /* it has another managementId, or its action answers no request of this action */
 
@@ -605,7 +605,7 @@ enum { PTPM_MOST_ANSWERS = 16384, PTPM_SURVEY_PORT = 65534 };
 #define PTPM_NO_ASKER 120               /* the handle holds none */
 #define PTPM_NO_JOURNAL 126             /* the handle holds none */
 #define PTPM_NO_ROLLOUT 130             /* the handle holds none */
-#define PTPM_OTHER_SIZES 47             /* a struct of the caller has another size than the library's */
+#define PTPM_OTHER_SIZES 47             /* a struct of the caller has a different size than the library's */
 #define PTPM_GRANDMASTER_DIFFERS 50     /* a clock is its own grandmaster, with another priority or quality */
 #define PTPM_TOO_MANY_MANAGERS 51       /* over sixteen */
 #define PTPM_MANAGER_TWICE 52           /* or `nobody` of an asker is its manager's port */
@@ -693,7 +693,7 @@ __extension__ enum PTPM_FOUR_OCTETS(ptpm_handled) {
     PTPM_HANDLE_NO_ROOM = PTPM_NO_ROOM, /* for fewer than ptpm_clock_most_sent messages */
     PTPM_HANDLE_NO_MEMORY = PTPM_NO_MEMORY,
     PTPM_HANDLE_UNSAVED = PTPM_UNSAVED,
-    PTPM_BAD_SAY = 121,                 /* it is of another kind, has an error that no device gives, or gives what can't be a dataField */
+    PTPM_BAD_SAY = 121,                 /* it is of a different kind, has an error that no device gives, or gives what can't be a dataField */
     PTPM_HANDLE_UNDER_WAY = PTPM_UNDER_WAY, /* ptpm_clock_take */
     PTPM_NOTHING_UNDER_WAY = 124        /* ptpm_clock_decide */
 };
@@ -861,8 +861,8 @@ __extension__ enum PTPM_FOUR_OCTETS(ptpm_restored) {
     PTPM_OTHER_VERSION = 105,           /* an image of another version */
     PTPM_OTHER_KIND = 106,              /* an image of something else: of a session for a clock's, of a clock for a session's */
     PTPM_DAMAGED = 107,                 /* octets are missing, further ones follow, or one has a value that no image has */
-    PTPM_OTHER_CLOCK = 108,             /* of a clock of another identity */
-    PTPM_OTHER_PORTS = 109,             /* of a clock with another number of ports */
+    PTPM_OTHER_CLOCK = 108,             /* of a clock of a different identity */
+    PTPM_OTHER_PORTS = 109,             /* of a clock with a different number of ports */
     PTPM_OTHER_SESSION = 110            /* another manager or clock, another number of ports, or another first number */
 };
 
@@ -1373,7 +1373,7 @@ static inline enum ptpm_started ptpm_survey_start_sized(struct ptpm_survey *hand
    as a numbered request, like one of a session. And a session of the same manager may treat an answer as its own. So the
    survey's manager is not one of the clock's, and has no session. It is another port of the same identity: with port 0
    PTPM_SURVEY_PORT.
-   Takes:   the identity of the clock: another one than the manager's, and neither all ones nor all zeros.
+   Takes:   the identity of the clock: a different one than the manager's, and neither all ones nor all zeros.
    Returns: PTPM_STARTED; or why not, and then the handle holds nothing.
    Memory:  the survey, until it is stopped.
    Caller:  stops the survey. */
