@@ -123,7 +123,7 @@ static void try_options(const struct task *task) {
     struct report dropped;
     struct stat found;
     if (options.inventory != NULL && stat(options.inventory, &found) == 0 && !S_ISREG(found.st_mode)) {
-        refuse("--expect %s: it is read at each look, so it has to be a file, and not a pipe", options.inventory);
+        refuse("--expect %s: it is read at each look, so it has to be a file, and no pipe", options.inventory);
     }
     int status = run_site_program(&options, AS_TEXT, &(struct shown_lines){ 0 }, &dropped);
     free_report(&dropped);
