@@ -171,8 +171,8 @@ static struct ptpm_manager_settings read_manager(const char *text) {
     if (!ptpm_port_identity_parse(text, strlen(text), manager.clock, &manager.port)) {
         refuse_command_line("-m %s: it takes aabbccfffeddee01/1 or aabbcc.fffe.ddee01-1", text);
     }
-    if (manager.port == UINT16_MAX) refuse_command_line("-m %s: port 65535 means every port, and is of no manager", text);
-    if (memcmp(manager.clock, every, sizeof every) == 0) refuse_command_line("-m %s: it means every clock, and is no manager", text);
+    if (manager.port == UINT16_MAX) refuse_command_line("-m %s: port 65535 means every port", text);
+    if (memcmp(manager.clock, every, sizeof every) == 0) refuse_command_line("-m %s: it means every clock", text);
     return manager;
 }
 

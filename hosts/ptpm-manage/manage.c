@@ -3,7 +3,7 @@
    docs/ptpm-manage.md. The library decides which answer is a request's, and what is wrong with a site is found by `ptpm`.
    What is here and in the files below it is not proved. It reads words, moves octets, measures time and prints. It chooses the
    number of a session's first request, and when a request goes out again. It judges which answers of a site are copies of others.
-   docs/architecture.md has more of that ("What the hosts decide"). */
+   docs/architecture.md has more of that ("Decisions of the hosts"). */
 #include "apply.h"
 #include "asking.h"
 #include "collect.h"

@@ -103,11 +103,11 @@ def limits_that_are_wrong():
                        ("PRIORITY1", "PRIORITY1: it takes values, or never"), ("PRIORITY1 never 1", "PRIORITY1 never 1: nothing goes with never"),
                        ("PRIORITY 1", "PRIORITY: no such id of the profile"), ("2ffe 1", "2ffe: no such id of the profile"),
                        ("port 2 PRIORITY1 1", "port 2: it takes a number from 1 to 1, of a port of the clock"), ("port 1", "it takes port PORT ID VALUE.."),
-                       ("DOMAIN 1..4", "DOMAIN: line 1 has it already"), ("PRIORITY1 \x07", "it has an octet that is no ASCII text")]:
+                       ("DOMAIN 1..4", "DOMAIN: line 1 has it already"), ("PRIORITY1 \x07", "it has an octet that is not ASCII")]:
         clock = device_clock("--limits", write("limits", f"DOMAIN 0 7\n{line}\n"))
         check(f"limits with {line} are refused", clock.end(None)[0] == 2 and f"limits: line 2: {said}" in clock.text())
     os.mkfifo(os.path.join(work, "pipe"))
-    for name, said in [("none", "No such file or directory"), ("pipe", "it is no file"), (".", "it is no file")]:
+    for name, said in [("none", "No such file or directory"), ("pipe", "it is not a regular file"), (".", "it is not a regular file")]:
         holder = os.open(os.path.join(work, "pipe"), os.O_RDWR)
         clock = device_clock("--limits", os.path.join(work, name))
         check(f"limits that are no file are refused: {name}", clock.end(None)[0] == 2 and f"{name}: {said}\n" in clock.text())

@@ -109,7 +109,7 @@ def sessions():
         lead = "ptpm-manage: set PRIORITY2 of an earlier run, number "
         wanted = {77: [lead + "101, had no answer yet, and was sent again:", "ptpm-manage: priority2 77"],
                   79: [lead + "20171, had no answer yet, and was sent again:", "ptpm-manage: priority2 79"],
-                  78: [lead + "20201, is let go: a get shows whether it was carried out"]}
+                  78: [lead + "20201, is given up: a get shows whether it was carried out"]}
         value = content[-2] if len(content) > 53 else 0
         check("what was under way is reported", told == wanted.get(value, []))
     number = next_number("number")
@@ -328,7 +328,7 @@ def old_files():
         is_true = two.other_sets() and two.is_honest()
         check(f"an older copy of the file, {content.hex()}, is dropped by the clock", is_true and two.last == 3)
     check("which is reported", all(part in two.said for part in [
-        "this one was not sent", f"set PRIORITY2 of an earlier run, number {number - 2}, comes before it; --give-up lets it go",
+        "this one was not sent", f"set PRIORITY2 of an earlier run, number {number - 2}, comes before it; --give-up gives it up",
         "and has by now", "priority2 60", " since another file or a copy of the manager is ahead", two.number]))
     write_octets("number", newer)
     copies = [two.number, os.path.join(work, "copy")]

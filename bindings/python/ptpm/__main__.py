@@ -135,7 +135,7 @@ class Task:
         if words.text:
             return data_field(self.id, value[0])
         if not re.fullmatch("([0-9a-fA-F]{4})*", value[0]):
-            raise ValueError(f"{value[0]}: it is no even number of octets in hexadecimal")
+            raise ValueError(f"{value[0]}: not an even number of octets in hexadecimal")
         return bytes.fromhex(value[0])
 
     def _judge(self) -> None:
@@ -251,7 +251,7 @@ class Task:
         where = "" if domain == words.domain else f" in domain {domain}"
         if words.give_up and session.is_under_way:
             session.let_go()
-            complain(f"the request of an earlier run is let go: a get{where} shows whether it was carried out")
+            complain(f"the request of an earlier run is given up: a get{where} shows whether it was carried out")
         if session.is_under_way:
             earlier = self._finish_in(session, way)
             said = complain(f"a request of an earlier run{where} had no answer yet, and was sent again:") and complain(earlier)
@@ -310,7 +310,7 @@ def _run(given: List[str]) -> int:
         may_be = error.was_sent and words.verb in ("set", "command")
         complain(f"{error}{': the request may have been carried out' if may_be else ''}")
         if error.was_sent and task.is_numbered:
-            complain("the next run sends it again before its own; --give-up lets it go")
+            complain("the next run sends it again before its own; --give-up gives it up")
         return NOT_ANSWERED
     except KeyboardInterrupt:
         changes = words.verb in ("set", "command")

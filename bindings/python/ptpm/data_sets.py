@@ -86,23 +86,23 @@ class PortDataSet:
 
 
 def number_of(value: Any) -> int:
-    """A whole number of JSON, which is no flag."""
+    """A whole number of JSON, which is not a flag."""
     if not isinstance(value, int) or isinstance(value, bool):
-        raise ValueError(f"{value!r} is no whole number")
+        raise ValueError(f"{value!r} is not a whole number")
     return value
 
 
 def flag_of(value: Any) -> bool:
     """A flag of JSON."""
     if not isinstance(value, bool):
-        raise ValueError(f"{value!r} is no flag")
+        raise ValueError(f"{value!r} is not a flag")
     return value
 
 
 def text_of(value: Any) -> str:
     """A text of JSON."""
     if not isinstance(value, str):
-        raise ValueError(f"{value!r} is no text")
+        raise ValueError(f"{value!r} is not a text")
     return value
 
 
@@ -157,7 +157,7 @@ _IDS: Dict[type, ManagementId] = {
 def id_of_data_set(kind: type) -> ManagementId:
     """The id that is asked for a data set."""
     if kind not in _IDS:
-        raise TypeError(f"{kind!r} is no data set")
+        raise TypeError(f"{kind!r} is not a data set")
     return _IDS[kind]
 
 

@@ -53,7 +53,7 @@ static const uint16_t of_ports[] = {
     PTPM_ID_DELAY_MECHANISM, PTPM_ID_LOG_MIN_PDELAY_REQ_INTERVAL,
 };
 
-/* A request to every clock of a domain. A census only shows who is there: its answer is no line. It has a number of its own, so that a clock
+/* A request to every clock of a domain. A census only shows who is there: its answer is not a line. It has a number of its own, so that a clock
    passes it on which does not pass the same message on again. */
 struct request {
     struct ptpm_survey survey;
@@ -70,7 +70,7 @@ static struct request requests[DOMAINS_AT_ONCE * (MOST_COLLECTED + CENSUSES_OF_L
 static size_t request_count;
 static FILE *output;
 static long sent;                       /* messages that went out */
-static int64_t latest;                  /* when an answer came that is no copy */
+static int64_t latest;                  /* when an answer came that is not a copy */
 static size_t news;                     /* how many of these came */
 static size_t let_go;                   /* clocks that are asked no more */
 static struct sureness sureness;
@@ -167,7 +167,7 @@ static void take_answer(const struct request *request, const uint8_t *message) {
     }
     if (has_field && id == PTPM_ID_PORT_DATA_SET && size == FIELD_AT + PORT_SIZE) {
         bool is_own = memcmp(message + FIELD_AT, answer.clock, 8) == 0;
-        answer.port = is_own ? (uint16_t)two_octets(message + FIELD_PORT_AT) : 0;       /* 0 is no port, and none is answered */
+        answer.port = is_own ? (uint16_t)two_octets(message + FIELD_PORT_AT) : 0;       /* 0 is not a port, and none is answered */
     }
     note_way();
     note_distance(message[STARTING_HOPS_AT], answer.port_count);
@@ -580,14 +580,14 @@ void tell_lacking(void) {
         if (!write_lacking(names, sizeof names, clock)) continue;
         write_identity(identity, clock->identity);
         write_domain(domain, clock->domain);
-        complain("no answer of %s in domain %s to a read of %s", identity, domain, names);
+        complain("no answer from %s in domain %s to a read of %s", identity, domain, names);
     }
 }
 
 static int end_of_collection(const struct task *task, const struct domains *domains) {
     clear_progress();
     tell_sureness();
-    if (let_go > 0) complain("%zu clocks gave no new answer when they were asked alone: they were let go", let_go);
+    if (let_go > 0) complain("%zu clocks gave no new answer when they were asked one by one: they are asked no more", let_go);
     if (has_no_transport) complain("nothing was sent: %s: %s", transport_name(), strerror(errno));
     else if (stopped && task->site.watch == 0) complain("ended by a signal: more may answer");
     else if (sent == 0 && !stopped) complain("nothing was sent: no message is taken at %s", transport_name());

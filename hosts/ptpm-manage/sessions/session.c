@@ -191,19 +191,19 @@ int say_settled(const struct earlier *earlier, const struct task *task, const st
 }
 
 void say_before_steps(const struct earlier *earlier, const struct task *task) {
-    complain("%s, comes before it: once resume --give-up has ended the apply, any other run lets it go by --give-up",
+    complain("%s, comes before it: once resume --give-up has ended the apply, any other run gives it up by --give-up",
              earlier_words(earlier, task));
 }
 
 void say_let_go(const struct earlier *earlier, const struct task *task) {
     const char *where = earlier->task.settings.domain == task->settings.domain ? "" : " there";
     const char *words = earlier_words(earlier, task);
-    if (earlier->task.action == PTPM_GET) complain("%s, is let go", words);
-    else complain("%s, is let go: a get%s shows whether it was carried out", words, where);
+    if (earlier->task.action == PTPM_GET) complain("%s, is given up", words);
+    else complain("%s, is given up: a get%s shows whether it was carried out", words, where);
 }
 
 /* The clock might treat a number further ahead as an old one. */
 _Noreturn void refuse_to_let_go(uint32_t refusal, const struct earlier *earlier, const struct task *task) {
-    refuse("nothing was sent: %s: %s, is not let go: too many before it had no answer. Without --give-up it is sent again",
+    refuse("nothing was sent: %s: %s, is not given up: too many before it had no answer. Without --give-up it is sent again",
            answer_name(refusal), earlier_words(earlier, task));
 }
