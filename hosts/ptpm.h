@@ -23,7 +23,7 @@
      2,200. The calls ptpm_clock_image_of, ptpm_clock_saved and ptpm_rollout_open take 1,600 each. The images and the restore of a
      session take 1,100, and so do ptpm_asker_ask and ptpm_asker_wake. The calls ptpm_clock_handle and ptpm_clock_observe take 800.
      As C it takes more (docs/embedding.md, "On any other processor"). Beyond that a call takes the stack of the host's malloc,
-     realloc, free, memcpy, memmove and memset. Only the sort of ptpm_rollout_open calls itself.
+     realloc, free, memcpy, memmove and memset. No call calls itself.
 
    A call that only reads takes a const handle, and leaves it as it is. If several errors apply, the first is returned. Only
    ptpm_clock_start may return PTPM_NO_MEMORY in its place. Every other call asks for memory only if no other error applies. */

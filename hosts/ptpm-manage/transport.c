@@ -127,12 +127,6 @@ static bool write_own_identity(uint8_t identity[8], const char *interface) {
    the clockIdentity of a clock. */
 static void turn_local_bit(uint8_t identity[8]) { identity[0] ^= 0x02; }
 
-bool former_identity(uint8_t identity[8]) {
-    if (ends[0].interface == NULL) return false;
-    turn_local_bit(identity);
-    return true;
-}
-
 bool own_identity(size_t place, uint8_t identity[8]) {
     return place < end_count && ends[place].interface != NULL && write_own_identity(identity, ends[place].interface);
 }

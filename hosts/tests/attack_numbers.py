@@ -99,8 +99,6 @@ def sessions():
             (image(200, 999999), (), image((200 + 999999) % 65536, 2, attempts=3)),
             (image(20000, 2, hops=4, attempts=1), (), image(20002, 2, attempts=3)),
             (image(20100, 2, domain=5), (), image(20100, 4)),
-            (image(20150, 2, ports=8), (), image(20150, 4)),        # of an earlier version
-            (image(20170, 2, set_of(79), ports=8), (), image(20170, 4)),
             (image(20200, 2, set_of(78)), ("--give-up",), image(20200, 4))]:
         write_session(content)
         done = two.is_honest(*words)
@@ -108,7 +106,6 @@ def sessions():
         told = [line for line in two.said.splitlines() if "of an earlier run" in line or "priority2 7" in line]
         lead = "ptpm-manage: set PRIORITY2 of an earlier run, number "
         wanted = {77: [lead + "101, had no answer yet, and was sent again:", "ptpm-manage: priority2 77"],
-                  79: [lead + "20171, had no answer yet, and was sent again:", "ptpm-manage: priority2 79"],
                   78: [lead + "20201, is given up: a get shows whether it was carried out"]}
         value = content[-2] if len(content) > 53 else 0
         check("what was under way is reported", told == wanted.get(value, []))

@@ -243,11 +243,6 @@ static void images(void) {
     octets[52] = 0;
     check(!read_image(octets, 53).is_under_way && read_image(octets, 53).first == 7, "a session at rest");
     check(read_image(octets, 52).first == 0, "fewer octets are no session");
-    take_former_image(octets, 53);
-    check(octets[30] == 2, "a session of two ports keeps them");
-    octets[30] = 8;
-    take_former_image(octets, 53);
-    check(octets[30] == 255, "one of an earlier version has more ports from now on");
 }
 
 /* The octets of digits in hexadecimal; how many there are. */

@@ -3,7 +3,6 @@
 from __future__ import annotations
 
 import argparse
-import os
 import re
 import signal
 import sys
@@ -20,7 +19,7 @@ from .nobody import ask_as_nobody, ask_in_no_session, nobody, refuse_nobody
 from .report import Report
 from .requests import Requests, SessionSettings, begin_request
 from .session import Session
-from .session_file import SessionFile, SessionFileError, usual_path
+from .session_file import SessionFile, SessionFileError
 from .streams import NOT_AS_ASKED, NOT_WRITTEN, NotWritten, complain, flush, hold_streams, parsed
 from .survey import survey
 from .transport import Transport, UdpTransport, UnixTransport
@@ -194,8 +193,6 @@ class Task:
         if self.is_numbered:
             # An answer to this host alone comes in at the latest socket, so who waits for its turn has none yet.
             with SessionFile(settings.manager, self.target, words.numbers) as file, self.way() as way:
-                if file.octets is None and self._is_unnamed:
-                    self._tell_former_session(PortIdentity.of(settings.manager))
                 return self._ask_by(file, settings, way)
         is_managers = words.manager is not None and self.action != Action.GET
         ask = ask_in_no_session if is_managers else ask_as_nobody
@@ -206,14 +203,6 @@ class Task:
     def _is_unnamed(self) -> bool:
         """Whether the manager has the name of its interface."""
         return self.words.manager is None and self.words.numbers is None and self.words.unix is None
-
-    def _tell_former_session(self, manager: PortIdentity) -> None:
-        """Says how the session goes on that earlier versions kept under the identity of a clock of this host."""
-        assert self.target is not None
-        former = PortIdentity(manager.clock.turned, manager.port)
-        path = usual_path(former, self.target)
-        if os.path.exists(path):
-            complain(f"{path} has the session of an earlier version: -m {former} goes on with it")
 
     def _ask_by(self, file: SessionFile, settings: SessionSettings, way: Transport) -> int:
         words = self.words
