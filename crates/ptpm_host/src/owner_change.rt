@@ -13,7 +13,7 @@ ghost use Rattle.ptpm_host.specs.Changing.{IsChangedHere, change_refusal, is_tar
 ghost use Rattle.ptpm_host.specs.Clock.{IsWhole, KeepsBehind, clock_in, messages_in, state_in};
 ghost use Rattle.ptpm_host.specs.MostSent.{most_sent};
 
-use crate::clock::{Handled, HostedClock};
+use crate::clock::HostedClock;
 use crate::outbox::Outbox;
 use crate::refusal::ChangeRefusal;
 use crate::sent::Sent;
@@ -110,7 +110,7 @@ impl HostedClock {
             verdict: owner_verdict(handled.verdict, message.action()),
             count: handled.count,
             waiting: 0,
-            changed: self.agent.sets().changed_since(&sets),
+            changed: handled.changed,
         }
     }
 }
@@ -123,7 +123,7 @@ fn take_owned(
     port: u16,
     datagram: &[u8],
     room: &mut [Sent],
-) -> Handled
+) -> Taken
     requires port { HasPort port owned.old.sets }
     requires room { length (outbox_of (turn
         (clock_of ⟦<SlotTable<1> as ReplyTable>⟧.owner owned.old)
@@ -138,12 +138,15 @@ fn take_owned(
     ensures whole { All IsWhole (take result.count room.new) }
     ensures places { drop result.count room.new ≡ drop result.count room.old }
     ensures behind { AllZip KeepsBehind room.old room.new }
+    ensures members { result.changed ≡ changed owned.old.sets owned.new.sets }
 {
     let mut outbox = Outbox::new(room);
-    let verdict = owned.handle_into(port, datagram, &mut outbox);
-    Handled {
+    let (verdict, changed) = owned.change_into(port, datagram, &mut outbox);
+    Taken {
         verdict,
         count: outbox.count(),
+        waiting: 0,
+        changed,
     }
 }
 

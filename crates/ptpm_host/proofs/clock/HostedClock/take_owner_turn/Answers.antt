@@ -50,6 +50,6 @@ returns-clause-turned c =
 
 pub returns-clause-members : goal.returns-clause-members
 returns-clause-members c =
-    let before : c.swap_sets-2.new.sets ≡ c.args.self.now.agent.sets = first_of (search rules, cc) in
-    let after : c.sets-3.result.now ≡ c.swap_sets-2.new.self.sets = first_of (search rules, cc) in
-    c.changed_since.ensures ∙ (λ i. changed (before i) (after i))
+    let sets : c.admit.new.self.sets ≡ c.args.self.now.agent.sets = first_of (search rules, cc) in
+    let left : c.take_owned-handled.new.owned.sets ≡ c.swap_sets-2.new.self.sets = first_of (search rules, cc) in
+    c.take_owned-handled.ensures.members ∙ (λ i. changed (sets i) (left i))
