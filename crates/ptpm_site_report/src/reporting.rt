@@ -218,7 +218,6 @@ fn told_of(alloc: Global, look: &Look<'_, '_>, lines: Vec<FoundLine>) -> Result<
 }
 
 /// What came of a site that is shown.
-#[tactic(auto, using(crate::proofs::Shown::agree))]
 fn came_of(look: &Look<'_, '_>, told: Told) -> Came
     requires findings { map (λ r. r.finding.now) look.now.found.items ≡ look.now.picture.now.findings.items }
     requires printed { 0 < length look.now.found.items → (place : ℕ) × IsRoot (map (λ r. r.cause) look.now.found.items) place }
